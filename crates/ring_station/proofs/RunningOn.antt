@@ -117,28 +117,30 @@ handed_more first old new segments segment before more =
 -- ---- the runs so far
 
 -- the pieces before this place were run, and their segments handed out and kept
-pub record HasComeTo {W B R D : ℕ} (begin asks : ℕ) (scripts : List (Vec Ask)) (old new : Station W B R D) (kept kept' : List Segment)
-    : Type 0
+pub record HasComeTo {W B R D : ℕ} (begin asks : ℕ) (scripts : List (Vec Ask)) (old new : Station W B R D)
+    (kept : List Segment → Type 0) : Type 0
   where
     pub segments : List Segment
     pub begin_is : begin ≡ length segments * asks
-    pub kept_is : kept' ≡ kept ++ segments
+    pub kept_is : kept segments
     pub ran : HaveRunPieces asks scripts old.ports.items new.ports.items segments
     pub handed_out : earlier_of new.cache ≡ earlier_of old.cache ++ journals_of segments
 
 module _ {W B R D : ℕ} (asks : ℕ) (scripts : List (Vec Ask)) where
-  pub come_nowhere : (station : Station W B R D) (kept : List Segment) → HasComeTo 0 asks scripts station station kept kept
-  come_nowhere station kept = record {
+  pub come_nowhere : (station : Station W B R D) (kept : List Segment → Type 0) → kept [] → HasComeTo 0 asks scripts station station kept
+  come_nowhere station kept none = record {
     segments = [];
     begin_is = sym (zero-mul asks);
-    kept_is = sym (append-nil kept);
+    kept_is = none;
     ran = have_run_none asks scripts station.ports.items;
     handed_out = sym (append-nil (earlier_of station.cache));
   }
 
-  module _ (begin : ℕ) (first old new : Station W B R D) (kept kept' kept'' : List Segment)
+  -- what was kept before, since then, and in all
+  module _ (begin : ℕ) (first old new : Station W B R D) (before since all : List Segment → Type 0)
+      (both : (xs ys : List Segment) → before xs → since ys → all (xs ++ ys))
       (same : map port_id old.ports.items ≡ map port_id first.ports.items)
-      (so_far : HasComeTo begin asks scripts first old kept kept') where
+      (so_far : HasComeTo begin asks scripts first old before) where
     count : length old.ports.items ≡ length first.ports.items
     count = long_alike port_id old.ports.items first.ports.items same
 
@@ -154,18 +156,17 @@ module _ {W B R D : ℕ} (asks : ℕ) (scripts : List (Vec Ask)) where
         handed_more (earlier_of first.cache) (earlier_of old.cache) (earlier_of new.cache) so_far.segments segment so_far.handed_out
         next.journal.earlier
 
-    kept_more : (segment : Segment) → kept'' ≡ kept' ++ segment ∷ [] → kept'' ≡ kept ++ (so_far.segments ++ segment ∷ [])
-    kept_more segment more =
-        more ∙ ap (λ l. l ++ segment ∷ []) so_far.kept_is ∙ append_assoc kept so_far.segments (segment ∷ [])
+    kept_still : since [] → all so_far.segments
+    kept_still none = subst all (append-nil so_far.segments) (both so_far.segments [] so_far.kept_is none)
 
-    pub come_further : RunsNext begin asks scripts old new kept' kept'' → HasComeTo (begin + asks) asks scripts first new kept kept''
+    pub come_further : RunsNext begin asks scripts old new since → HasComeTo (begin + asks) asks scripts first new all
     come_further next = record {
       segments = so_far.segments ++ next.segment ∷ [];
       begin_is =
           let place = so_far.begin_is in
           let more = length-snoc so_far.segments next.segment in
           ap (λ b. b + asks) place ∙ sym (suc-mul (length so_far.segments) asks) ∙ ap (λ n. n * asks) (sym more);
-      kept_is = kept_more next.segment next.kept_is;
+      kept_is = both so_far.segments (next.segment ∷ []) so_far.kept_is next.kept_is;
       ran = next_at next.segment next.handed_out;
       handed_out = handed_at next.segment next.handed_out;
     }
@@ -185,29 +186,29 @@ module _ {W B R D : ℕ} (asks : ℕ) (scripts : List (Vec Ask)) where
 
     pub runs_to_the_end : (limit longest : ℕ) → asks ≡ limit → longest ≡ longest_of scripts → 0 < asks
         → length scripts ≡ length first.ports.items → map port_id new.ports.items ≡ map port_id old.ports.items
-        → (begin ≡ 0) ⊎ (begin < longest_of scripts) → longest ≤ begin + asks → RunsNext begin asks scripts old new kept' kept''
-        → RunsInSegments limit scripts first new kept kept''
+        → (begin ≡ 0) ⊎ (begin < longest_of scripts) → longest ≤ begin + asks → RunsNext begin asks scripts old new since
+        → RunsInSegments limit scripts first new all
     runs_to_the_end limit longest size is some scripted still more enough next =
         let place = so_far.begin_is in
         let n = length so_far.segments in
-        let all = so_far.segments ++ next.segment ∷ [] in
+        let segments = so_far.segments ++ next.segment ∷ [] in
         let more' : (n * asks ≡ 0) ⊎ (n * asks < longest_of scripts) = subst (λ b. (b ≡ 0) ⊎ (b < longest_of scripts)) place more in
         let enough' : longest_of scripts ≤ suc n * asks =
         subst₂ (λ l b. l ≤ b) is (ap (λ b. b + asks) place ∙ sym (suc-mul n asks)) enough in
-        let one_more : length all ≡ suc n = length-snoc so_far.segments next.segment in
-        subst (λ a. RunsInSegments a scripts first new kept kept'') size
+        let one_more : length segments ≡ suc n = length-snoc so_far.segments next.segment in
+        subst (λ a. RunsInSegments a scripts first new all) size
         (record {
-          segments = all;
-          kept_is = kept_more next.segment next.kept_is;
+          segments = segments;
+          kept_is = both so_far.segments (next.segment ∷ []) so_far.kept_is next.kept_is;
           number = one_more ∙ count_is asks (longest_of scripts) n some more' enough';
           ran = next_at next.segment next.handed_out;
-          whole = scripts_whole asks scripts (length all) (subst (λ k. longest_of scripts ≤ k * asks) (sym one_more) enough');
+          whole = scripts_whole asks scripts (length segments) (subst (λ k. longest_of scripts ≤ k * asks) (sym one_more) enough');
           journals = record { earlier = handed_at next.segment next.handed_out; held = next.handed_out.journal.held };
           again = again next.segment scripted still next.handed_out;
         })
 
     stops_behind : (fault : SegmentFault) → map port_id new.ports.items ≡ map port_id old.ports.items
-        → StopsNext begin asks scripts old new kept' kept'' fault → StopsBehind asks scripts first new kept kept'' fault
+        → StopsNext begin asks scripts old new since fault → StopsBehind asks scripts first new all fault
     stops_behind fault still stop =
         elim stop.handed_out [
           | inl unmoved ↦
@@ -215,7 +216,7 @@ module _ {W B R D : ℕ} (asks : ℕ) (scripts : List (Vec Ask)) where
               record {
                 segments = so_far.segments;
                 lost = [];
-                kept_is = stop.kept_is ∙ so_far.kept_is;
+                kept_is = kept_still stop.kept_is;
                 lost_is = tt;
                 handed_out = unmoved ∙ so_far.handed_out ∙ ap (λ l. earlier_of first.cache ++ journals_of l) none;
                 ports = old.ports.items;
@@ -226,7 +227,7 @@ module _ {W B R D : ℕ} (asks : ℕ) (scripts : List (Vec Ask)) where
               record {
                 segments = so_far.segments;
                 lost = lost.0 ∷ [];
-                kept_is = stop.kept_is ∙ so_far.kept_is;
+                kept_is = kept_still stop.kept_is;
                 lost_is = lost.1.1;
                 handed_out = handed_at lost.0 lost.1.0;
                 ports = new.ports.items;
@@ -236,7 +237,7 @@ module _ {W B R D : ℕ} (asks : ℕ) (scripts : List (Vec Ask)) where
         ]
 
     pub stops_there : (limit : ℕ) (fault told : SegmentFault) → asks ≡ limit → told ≡ fault
-        → map port_id new.ports.items ≡ map port_id old.ports.items → StopsNext begin asks scripts old new kept' kept'' fault
-        → StopsBehind limit scripts first new kept kept'' told
+        → map port_id new.ports.items ≡ map port_id old.ports.items → StopsNext begin asks scripts old new since fault
+        → StopsBehind limit scripts first new all told
     stops_there limit fault told size is still stop =
-        subst₂ (λ a f. StopsBehind a scripts first new kept kept'' f) size (sym is) (stops_behind fault still stop)
+        subst₂ (λ a f. StopsBehind a scripts first new all f) size (sym is) (stops_behind fault still stop)

@@ -58,18 +58,18 @@ pub record HandsOutNext {W B R D : ℕ} (begin asks : ℕ) (scripts : List (Vec 
     pub journal : HandsOut old.cache new.cache segment.journal.items
 
 -- and kept
-pub record RunsNext {W B R D : ℕ} (begin asks : ℕ) (scripts : List (Vec Ask)) (old new : Station W B R D) (kept kept' : List Segment)
-    : Type 0
+pub record RunsNext {W B R D : ℕ} (begin asks : ℕ) (scripts : List (Vec Ask)) (old new : Station W B R D)
+    (kept : List Segment → Type 0) : Type 0
   where
     pub segment : Segment
-    pub kept_is : kept' ≡ kept ++ segment ∷ []
+    pub kept_is : kept (segment ∷ [])
     pub handed_out : HandsOutNext begin asks scripts old new segment
 
 -- nothing was kept: nothing was handed out, or what was handed out found no memory
-pub record StopsNext {W B R D : ℕ} (begin asks : ℕ) (scripts : List (Vec Ask)) (old new : Station W B R D) (kept kept' : List Segment)
-    (fault : SegmentFault) : Type 0
+pub record StopsNext {W B R D : ℕ} (begin asks : ℕ) (scripts : List (Vec Ask)) (old new : Station W B R D)
+    (kept : List Segment → Type 0) (fault : SegmentFault) : Type 0
   where
-    pub kept_is : kept' ≡ kept
+    pub kept_is : kept []
     pub handed_out : (earlier_of new.cache ≡ earlier_of old.cache)
         ⊎ ((segment : Segment) × (HandsOutNext begin asks scripts old new segment × (fault ≡ Run OutOfMemory)))
 
@@ -119,11 +119,11 @@ abbrev pub piece_count : ℕ → List (Vec Ask) → ℕ
 piece_count asks scripts = max (div_ceil (longest_of scripts) asks) 1
 
 -- the scripts were run in segments, all of which were kept, and behind the last one nothing of them is left
-pub record RunsInSegments {W B R D : ℕ} (asks : ℕ) (scripts : List (Vec Ask)) (old new : Station W B R D) (kept kept' : List Segment)
-    : Type 0
+pub record RunsInSegments {W B R D : ℕ} (asks : ℕ) (scripts : List (Vec Ask)) (old new : Station W B R D)
+    (kept : List Segment → Type 0) : Type 0
   where
     pub segments : List Segment
-    pub kept_is : kept' ≡ kept ++ segments
+    pub kept_is : kept segments
     pub number : length segments ≡ piece_count asks scripts
     pub ran : HaveRunPieces asks scripts old.ports.items new.ports.items segments
     pub whole : All (λ script. joined (pieces_of asks script.items (length segments)) ≡ script.items) scripts
@@ -139,12 +139,12 @@ MayBeLost fault (segment ∷ more) = ⊥
 
 -- the runs stopped behind these segments, which were kept but for one that may be lost; what the ports did behind the last
 -- renewal isn't said
-pub record StopsBehind {W B R D : ℕ} (asks : ℕ) (scripts : List (Vec Ask)) (old new : Station W B R D) (kept kept' : List Segment)
-    (fault : SegmentFault) : Type 0
+pub record StopsBehind {W B R D : ℕ} (asks : ℕ) (scripts : List (Vec Ask)) (old new : Station W B R D)
+    (kept : List Segment → Type 0) (fault : SegmentFault) : Type 0
   where
     pub segments : List Segment
     pub lost : List Segment
-    pub kept_is : kept' ≡ kept ++ segments
+    pub kept_is : kept segments
     pub lost_is : MayBeLost fault lost
     pub handed_out : earlier_of new.cache ≡ earlier_of old.cache ++ journals_of (segments ++ lost)
     -- the ports as that renewal left them

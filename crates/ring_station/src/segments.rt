@@ -66,9 +66,9 @@ pub fn run_in_segments<
     // Each port has offered its script, piece by piece, and what it took and what was handed out is kept.
     // Of a run that stopped that is said of the pieces before.
     ensures runs { OnOk result (RunsInSegments (max asks 1) scripts.now station.old station.new
-        (K.kept keeper.old) (K.kept keeper.new)) }
+        (λ segments. K.kept keeper.old segments keeper.new)) }
     ensures stops { IfErr result (StopsBehind (max asks 1) scripts.now station.old station.new
-        (K.kept keeper.old) (K.kept keeper.new)) }
+        (λ segments. K.kept keeper.old segments keeper.new)) }
     ensures rests { OnOk result (is_at_rest (cache_in station.new.cache) ≡ true) }
     ensures no_turn { turns ≡ 0 → IsErr result }
 
@@ -137,9 +137,9 @@ fn run_pieces<
     ensures same_banks { map bank_id station.new.banks.items ≡ map bank_id station.old.banks.items }
     ensures kept { AreOneStation station.new.cache station.new.ports.items station.new.banks.items }
     ensures runs { OnOk result (RunsNext begin asks scripts.now station.old station.new
-        (K.kept keeper.old) (K.kept keeper.new)) }
+        (λ segments. K.kept keeper.old segments keeper.new)) }
     ensures stops { IfErr result (StopsNext begin asks scripts.now station.old station.new
-        (K.kept keeper.old) (K.kept keeper.new)) }
+        (λ segments. K.kept keeper.old segments keeper.new)) }
     ensures rests { OnOk result (is_at_rest (cache_in station.new.cache) ≡ true) }
     ensures no_turn { turns ≡ 0 → IsErr result }
     ensures seen { OnOk result (IsSeen station.new.cache station.new.ports.items station.new.banks.items) }

@@ -87,6 +87,8 @@ static TURNS_OF_RUNS: [Turn; 3] = [
     },
 ];
 
+const WANT_OF_MEMORY: SegmentFault = SegmentFault::Run(RunFault::OutOfMemory);
+
 // A port that loads the word before it is stored, with one that loads it once; then it is stored, and loaded.
 const ONE_BY_ONE: [Expected; 3] = [
     Expected {
@@ -170,9 +172,11 @@ fn run_turn<R: Abort + Clock + Threads + Sync>(
 // Whether a run did what it had to, and its journal says of each port that it ended.
 fn is_as_said(alloc: Global, segment: &Segment, gives: &Expected) -> Result<bool, AllocError> {
     let is_flat_alone = is_flat(alloc, &segment.journal, SHAPE.words)?;
-    Ok(is_flat_alone == gives.is_flat_alone
-        && are_lists(&segment.lists, &gives.lists)
-        && ended_in(&segment.journal) == gives.lists.len())
+    Ok(
+        is_flat_alone == gives.is_flat_alone
+            && are_lists(&segment.lists, &gives.lists)
+            && ended_in(&segment.journal) == gives.lists.len(),
+    )
 }
 
 fn ended_in(journal: &[Entry]) -> usize {
@@ -209,7 +213,9 @@ fn run_cut<R: Abort + Clock + Threads + Sync, K: Keeper>(
     assert_eq!(rt; scripts.len(), all.ports.len());
     let gate = RuledGate::new(Rule::Open);
     let crew = Crew::one_each();
-    let run = run_in_segments(rt, alloc, &mut all, &scripts, cut.asks, TURNS, crew, &gate, keeper);
+    let run = run_in_segments(
+        rt, alloc, &mut all, &scripts, cut.asks, TURNS, crew, &gate, keeper,
+    );
     Ok(run.err())
 }
 
@@ -236,35 +242,42 @@ fn renewed_behind_each_piece(rt: HostRuntime) -> Result<(), Fail> {
     Ok(())
 }
 
-/// Keeps some segments, and has no memory for more.
-#[derive(Drop)]
-struct Shelf {
-    segments: Vec<Segment>,
+/// Counts segments and lets them go, up to so many, and has no memory for more.
+#[derive(Clone, Copy)]
+struct Counter {
+    segments: usize,
     room: usize,
 }
 
-impl Keeper for Shelf {
-    ghost kept = { λ shelf. shelf.segments.items };
+impl Keeper for Counter {
+    ghost use Rattle.std.specs.Prelude.{◌≡◌, ◌+◌, length};
+    ghost use Rattle.std.proofs.Common.{sym, ap, ◌∙◌, add_assoc, add-zero, length-append};
 
-    fn keep(&mut self, segment: Segment) -> Result<(), AllocError> {
-        if self.segments.len() >= self.room {
+    ghost kept = { λ old segments new. new.segments ≡ old.segments + length segments };
+
+    ghost kept_none = { λ a. sym (add-zero a.segments) };
+
+    ghost kept_more = { λ a b c xs ys p q.
+        q ∙ ap (λ n. n + length ys) p ∙ add_assoc a.segments (length xs) (length ys)
+        ∙ ap (λ n. a.segments + n) (sym (length-append xs ys)) };
+
+    fn keep(&mut self, _segment: Segment) -> Result<(), AllocError> {
+        if self.segments >= self.room {
             return Err(AllocError);
         }
-        Ok(self.segments.push(segment)?)
+        self.segments += 1;
+        Ok(())
     }
 }
 
 #[test]
 fn stops_at_a_segment_without_memory(rt: HostRuntime) -> Result<(), Fail> {
-    let alloc = rt.alloc();
-    for room in 0..ONE_BY_ONE.len() {
-        let mut shelf = Shelf {
-            segments: Vec::new(alloc),
-            room,
-        };
-        let fault = run_cut(&rt, alloc, &CUTS[0], &mut shelf)?;
-        assert_eq!(rt; fault, Some(SegmentFault::Run(RunFault::OutOfMemory)));
-        assert!(rt; are_as_said(alloc, &shelf.segments, &ONE_BY_ONE[..room])?);
+    for room in 0..4 {
+        let mut counter = Counter { segments: 0, room };
+        let fault = run_cut(&rt, rt.alloc(), &CUTS[0], &mut counter)?;
+        assert_eq!(rt; fault.is_none(), room == 3);
+        assert_eq!(rt; fault.unwrap_or(WANT_OF_MEMORY), WANT_OF_MEMORY);
+        assert_eq!(rt; counter.segments, room);
     }
     Ok(())
 }

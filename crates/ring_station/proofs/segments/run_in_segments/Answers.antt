@@ -14,7 +14,9 @@ loop-begin-init g c = record {
   one = c.requires.one;
   scripts = c.requires.scripts;
   more = inl refl;
-  so_far = come_nowhere c.max-asks.result c.args.scripts.now c.args.station.now (g.K.Keeper.kept c.args.keeper.now);
+  so_far =
+      come_nowhere c.max-asks.result c.args.scripts.now c.args.station.now
+      (λ xs. g.K.Keeper.kept c.args.keeper.now xs c.args.keeper.now) (g.met.K.Keeper.kept_none c.args.keeper.now);
 }
 
 pub returns-in_err-run_pieces-clause-stops : goal.returns-in_err-run_pieces-clause-stops
@@ -24,8 +26,10 @@ returns-in_err-run_pieces-clause-stops g c =
     let stop = c.in_err-run_pieces.ensures in
     rw told.1
     (stops_there c.max-asks.result c.args.scripts.now c.loop-begin.begin c.args.station.now c.loop-begin.station c.run_pieces.new.station
-    (g.K.Keeper.kept c.args.keeper.now) (g.K.Keeper.kept c.loop-begin.keeper) (g.K.Keeper.kept c.run_pieces.new.keeper) inv.same_ports
-    inv.so_far (max c.args.asks 1) c.in_err-run_pieces.field-0.0 told.0 c.max-asks.ensures told.2 stop.same_ports stop.stops)
+    (λ xs. g.K.Keeper.kept c.args.keeper.now xs c.loop-begin.keeper)
+    (λ xs. g.K.Keeper.kept c.loop-begin.keeper xs c.run_pieces.new.keeper)
+    (λ xs. g.K.Keeper.kept c.args.keeper.now xs c.run_pieces.new.keeper)
+    (g.met.K.Keeper.kept_more c.args.keeper.now c.loop-begin.keeper c.run_pieces.new.keeper) inv.same_ports inv.so_far (max c.args.asks 1) c.in_err-run_pieces.field-0.0 told.0 c.max-asks.ensures told.2 stop.same_ports stop.stops)
 
 pub returns-then-longest-begin-clause-runs : goal.returns-then-longest-begin-clause-runs
 returns-then-longest-begin-clause-runs g c =
@@ -34,8 +38,11 @@ returns-then-longest-begin-clause-runs g c =
     let some : 0 < c.max-asks.result = let size = c.max-asks.ensures in omega arith in
     let enough : c.longest_script-longest.result ≤ c.loop-begin.begin + c.max-asks.result = omega arith in
     runs_to_the_end c.max-asks.result c.args.scripts.now c.loop-begin.begin c.args.station.now c.loop-begin.station
-    c.run_pieces.new.station (g.K.Keeper.kept c.args.keeper.now) (g.K.Keeper.kept c.loop-begin.keeper)
-    (g.K.Keeper.kept c.run_pieces.new.keeper) inv.same_ports inv.so_far (max c.args.asks 1) c.longest_script-longest.result
+    c.run_pieces.new.station (λ xs. g.K.Keeper.kept c.args.keeper.now xs c.loop-begin.keeper)
+    (λ xs. g.K.Keeper.kept c.loop-begin.keeper xs c.run_pieces.new.keeper)
+    (λ xs. g.K.Keeper.kept c.args.keeper.now xs c.run_pieces.new.keeper)
+    (g.met.K.Keeper.kept_more c.args.keeper.now c.loop-begin.keeper c.run_pieces.new.keeper) inv.same_ports inv.so_far
+    (max c.args.asks 1) c.longest_script-longest.result
     c.max-asks.ensures c.longest_script-longest.ensures some (c.requires.scripts ∙ c.args.station.now.ports.ok.0) ran.same_ports inv.more
     enough ran.runs
 
@@ -55,6 +62,8 @@ loop-begin-preserved g c =
       more = inr (subst (λ n. c.loop-begin.begin + c.max-asks.result < n) is (omega arith));
       so_far =
           come_further c.max-asks.result c.args.scripts.now c.loop-begin.begin c.args.station.now c.loop-begin.station
-          c.run_pieces.new.station (g.K.Keeper.kept c.args.keeper.now) (g.K.Keeper.kept c.loop-begin.keeper)
-          (g.K.Keeper.kept c.run_pieces.new.keeper) inv.same_ports inv.so_far ran.runs;
+          c.run_pieces.new.station (λ xs. g.K.Keeper.kept c.args.keeper.now xs c.loop-begin.keeper)
+          (λ xs. g.K.Keeper.kept c.loop-begin.keeper xs c.run_pieces.new.keeper)
+          (λ xs. g.K.Keeper.kept c.args.keeper.now xs c.run_pieces.new.keeper)
+          (g.met.K.Keeper.kept_more c.args.keeper.now c.loop-begin.keeper c.run_pieces.new.keeper) inv.same_ports inv.so_far ran.runs;
     }
