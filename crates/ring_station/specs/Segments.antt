@@ -118,7 +118,8 @@ longest_of scripts = fold (λ longest script. max longest (length script.items))
 abbrev pub piece_count : ℕ → List (Vec Ask) → ℕ
 piece_count asks scripts = max (div_ceil (longest_of scripts) asks) 1
 
--- the scripts were run in segments, all of which were kept, and behind the last one nothing of them is left
+-- the scripts were run in segments, all of which were kept, and behind the last one nothing of them is left; `kept` says of segments
+-- that these were kept and no others
 pub record RunsInSegments {W B R D : ℕ} (asks : ℕ) (scripts : List (Vec Ask)) (old new : Station W B R D)
     (kept : List Segment → Type 0) : Type 0
   where
