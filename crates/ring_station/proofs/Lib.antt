@@ -6,6 +6,7 @@ pub mod Sharing
 pub mod CrewRunning
 pub mod StationRunning
 pub mod Ending
+pub mod Within
 pub mod Crossing
 pub mod Segmenting
 pub mod Piecing

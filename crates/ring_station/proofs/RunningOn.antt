@@ -1,5 +1,5 @@
 -- Runs of the pieces of scripts, one behind the other: none, one more, the last one, and one that stops.
-use Rattle.std.proofs.Common.{◌≡◌, ℕ, suc, ◌+◌, ◌*◌, ◌<◌, ◌≤◌, ◌⊎◌, inl, inr, List, [], ◌∷◌, ◌++◌, length, map, slice_index_or, sym, ap, ◌∙◌, subst, subst₂, arith, append_assoc}
+use Rattle.std.proofs.Common.{◌≡◌, ℕ, suc, ◌+◌, ◌*◌, ◌<◌, ◌≤◌, ◌⊎◌, inl, inr, List, [], ◌∷◌, ◌++◌, length, map, slice_index_or, refl, sym, ap, ◌∙◌, subst, subst₂, arith, append_assoc}
 use Rattle.std.specs.Prelude.{false}
 use Rattle.std.specs.Global.{Vec}
 use Rattle.std.specs.List.{All}
@@ -16,10 +16,12 @@ use Rattle.station_parts.specs.Ids.{port_id}
 use Rattle.station_parts.specs.Words.{offered, offered_before, taken, has_ended, earlier_of}
 use Rattle.ring_station.specs.declared.fault.SegmentFault.{SegmentFault}
 use Rattle.ring_station.specs.declared.segment.Segment.{Segment}
-use Rattle.ring_station.specs.Segments.{HasRunOn, HaveRunOn, HandsOut, piece_behind, HaveRunNext, HandsOutNext, RunsNext, StopsNext, pieces_of, HasRunPieces, lists_at, journals_of, HaveRunPieces, longest_of, RunsInSegments, StopsBehind}
+use Rattle.ring_station.specs.Segments.{HasRunOn, HaveRunOn, HandsOut, piece_behind, HaveRunNext, HandsOutNext, RunsNext, StopsNext, pieces_of, HasRunPieces, lists_at, journals_of, HaveRunPieces, longest_of, RunsInSegments, StopsBehind, EachKeepsTo, RunsInTurns, StopsInTurns, piece_count}
+use Rattle.ring_station.specs.Within.{KeepsTo}
 use Rattle.ring_station.proofs.Piecing.{pieces-suc, grown_more, converse-push, scripts_whole, all_at, count_is}
 use Rattle.ring_station.proofs.StationRunning.{default_of}
 use Rattle.ring_station.proofs.Ending.{long_alike}
+use Rattle.ring_station.proofs.Within.{keeps_still, keeps_on}
 
 -- ---- one run, of pieces that were cut
 
@@ -114,10 +116,41 @@ handed_more first old new segments segment before more =
     more ∙ ap (λ l. l ++ segment.journal.items) before ∙ append_assoc first (journals_of segments) segment.journal.items
     ∙ ap (λ l. first ++ l) (sym (journals-push segments segment))
 
+-- ---- to what turns keep them
+
+module _ {W B R D : ℕ} (turns asks : ℕ) (scripts : List (Vec Ask)) where
+  each_keeps_more : (begin : ℕ) (first old new : Station W B R D) (segments : List Segment) (segment : Segment)
+      → EachKeepsTo turns begin asks scripts first old segments
+      → HandsOutNext (begin + length segments * asks) asks scripts old new segment → KeepsTo turns old new
+      → EachKeepsTo turns begin asks scripts first new (segments ++ segment ∷ [])
+  each_keeps_more begin first old new [] segment none next within =
+      let here : begin ≡ begin + 0 * asks = omega (arith, zero-mul asks) in (
+        new,
+        subst₂ (λ b s. HandsOutNext b asks scripts s new segment) (sym here) none next,
+        subst (λ s. KeepsTo turns s new) none within,
+        refl,
+      )
+  each_keeps_more begin first old new (one ∷ more) segment h next within =
+      let there : begin + suc (length more) * asks ≡ begin + asks + length more * asks = omega (arith, suc-mul (length more) asks) in (
+        h.0,
+        h.1,
+        h.2,
+        each_keeps_more (begin + asks) h.0 old new more segment h.3
+            (subst (λ b. HandsOutNext b asks scripts old new segment) there next) within,
+      )
+
+  each_keeps_all : (begin : ℕ) (old new : Station W B R D) (segments : List Segment)
+      → EachKeepsTo turns begin asks scripts old new segments → KeepsTo (length segments * turns) old new
+  each_keeps_all begin old new [] none = subst (λ s. KeepsTo (0 * turns) old s) (sym none) (keeps_still (0 * turns) old old refl refl refl)
+  each_keeps_all begin old new (one ∷ more) h =
+      let sum : turns + length more * turns ≤ suc (length more) * turns = omega (arith, suc-mul (length more) turns) in
+      keeps_on turns (length more * turns) (suc (length more) * turns) old h.0 new sum h.2
+      (each_keeps_all (begin + asks) h.0 new more h.3)
+
 -- ---- the runs so far
 
--- the pieces before this place were run, and their segments handed out and kept
-pub record HasComeTo {W B R D : ℕ} (begin asks : ℕ) (scripts : List (Vec Ask)) (old new : Station W B R D)
+-- the pieces before this place were run, and their segments handed out and kept; each run kept to its turns
+pub record HasComeTo {W B R D : ℕ} (begin asks turns : ℕ) (scripts : List (Vec Ask)) (old new : Station W B R D)
     (kept : List Segment → Type 0) : Type 0
   where
     pub segments : List Segment
@@ -125,22 +158,24 @@ pub record HasComeTo {W B R D : ℕ} (begin asks : ℕ) (scripts : List (Vec Ask
     pub kept_is : kept segments
     pub ran : HaveRunPieces asks scripts old.ports.items new.ports.items segments
     pub handed_out : earlier_of new.cache ≡ earlier_of old.cache ++ journals_of segments
+    pub each : EachKeepsTo turns 0 asks scripts old new segments
 
-module _ {W B R D : ℕ} (asks : ℕ) (scripts : List (Vec Ask)) where
-  pub come_nowhere : (station : Station W B R D) (kept : List Segment → Type 0) → kept [] → HasComeTo 0 asks scripts station station kept
+module _ {W B R D : ℕ} (asks turns : ℕ) (scripts : List (Vec Ask)) where
+  pub come_nowhere : (station : Station W B R D) (kept : List Segment → Type 0) → kept [] → HasComeTo 0 asks turns scripts station station kept
   come_nowhere station kept none = record {
     segments = [];
     begin_is = sym (zero-mul asks);
     kept_is = none;
     ran = have_run_none asks scripts station.ports.items;
     handed_out = sym (append-nil (earlier_of station.cache));
+    each = refl;
   }
 
   -- what was kept before, since then, and in all
   module _ (begin : ℕ) (first old new : Station W B R D) (before since all : List Segment → Type 0)
       (both : (xs ys : List Segment) → before xs → since ys → all (xs ++ ys))
       (same : map port_id old.ports.items ≡ map port_id first.ports.items)
-      (so_far : HasComeTo begin asks scripts first old before) where
+      (so_far : HasComeTo begin asks turns scripts first old before) where
     count : length old.ports.items ≡ length first.ports.items
     count = long_alike port_id old.ports.items first.ports.items same
 
@@ -159,8 +194,16 @@ module _ {W B R D : ℕ} (asks : ℕ) (scripts : List (Vec Ask)) where
     kept_still : since [] → all so_far.segments
     kept_still none = subst all (append-nil so_far.segments) (both so_far.segments [] so_far.kept_is none)
 
-    pub come_further : RunsNext begin asks scripts old new since → HasComeTo (begin + asks) asks scripts first new all
-    come_further next = record {
+    each_at : (segment : Segment) → HandsOutNext begin asks scripts old new segment → KeepsTo turns old new
+        → EachKeepsTo turns 0 asks scripts first new (so_far.segments ++ segment ∷ [])
+    each_at segment next within =
+        let there : begin ≡ 0 + length so_far.segments * asks = let place = so_far.begin_is in omega arith in
+        each_keeps_more turns asks scripts 0 first old new so_far.segments segment so_far.each
+        (subst (λ b. HandsOutNext b asks scripts old new segment) there next) within
+
+    pub come_further : RunsNext begin asks scripts old new since → KeepsTo turns old new
+        → HasComeTo (begin + asks) asks turns scripts first new all
+    come_further next within = record {
       segments = so_far.segments ++ next.segment ∷ [];
       begin_is =
           let place = so_far.begin_is in
@@ -169,6 +212,7 @@ module _ {W B R D : ℕ} (asks : ℕ) (scripts : List (Vec Ask)) where
       kept_is = both so_far.segments (next.segment ∷ []) so_far.kept_is next.kept_is;
       ran = next_at next.segment next.handed_out;
       handed_out = handed_at next.segment next.handed_out;
+      each = each_at next.segment next.handed_out within;
     }
 
     again : (segment : Segment) → length scripts ≡ length first.ports.items → map port_id new.ports.items ≡ map port_id old.ports.items
@@ -184,27 +228,50 @@ module _ {W B R D : ℕ} (asks : ℕ) (scripts : List (Vec Ask)) where
         let run = next.ran.each p s d l there in
         (run.before, run.again))
 
+    -- behind one more there are no asks
+    enough_at : (longest : ℕ) → longest ≡ longest_of scripts → longest ≤ begin + asks
+        → longest_of scripts ≤ suc (length so_far.segments) * asks
+    enough_at longest is enough =
+        subst₂ (λ l b. l ≤ b) is
+        (ap (λ b. b + asks) so_far.begin_is ∙ sym (suc-mul (length so_far.segments) asks)) enough
+
+    number_at : (longest : ℕ) (segment : Segment) → longest ≡ longest_of scripts → 0 < asks
+        → (begin ≡ 0) ⊎ (begin < longest_of scripts) → longest ≤ begin + asks
+        → length (so_far.segments ++ segment ∷ []) ≡ piece_count asks scripts
+    number_at longest segment is some more enough =
+        let more' = subst (λ b. (b ≡ 0) ⊎ (b < longest_of scripts)) so_far.begin_is more in
+        length-snoc so_far.segments segment
+        ∙ count_is asks (longest_of scripts) (length so_far.segments) some more' (enough_at longest is enough)
+
     pub runs_to_the_end : (limit longest : ℕ) → asks ≡ limit → longest ≡ longest_of scripts → 0 < asks
         → length scripts ≡ length first.ports.items → map port_id new.ports.items ≡ map port_id old.ports.items
         → (begin ≡ 0) ⊎ (begin < longest_of scripts) → longest ≤ begin + asks → RunsNext begin asks scripts old new since
         → RunsInSegments limit scripts first new all
     runs_to_the_end limit longest size is some scripted still more enough next =
-        let place = so_far.begin_is in
-        let n = length so_far.segments in
         let segments = so_far.segments ++ next.segment ∷ [] in
-        let more' : (n * asks ≡ 0) ⊎ (n * asks < longest_of scripts) = subst (λ b. (b ≡ 0) ⊎ (b < longest_of scripts)) place more in
-        let enough' : longest_of scripts ≤ suc n * asks =
-        subst₂ (λ l b. l ≤ b) is (ap (λ b. b + asks) place ∙ sym (suc-mul n asks)) enough in
-        let one_more : length segments ≡ suc n = length-snoc so_far.segments next.segment in
+        let one_more : length segments ≡ suc (length so_far.segments) = length-snoc so_far.segments next.segment in
+        let within = subst (λ k. longest_of scripts ≤ k * asks) (sym one_more) (enough_at longest is enough) in
         subst (λ a. RunsInSegments a scripts first new all) size
         (record {
           segments = segments;
           kept_is = both so_far.segments (next.segment ∷ []) so_far.kept_is next.kept_is;
-          number = one_more ∙ count_is asks (longest_of scripts) n some more' enough';
+          number = number_at longest next.segment is some more enough;
           ran = next_at next.segment next.handed_out;
-          whole = scripts_whole asks scripts (length segments) (subst (λ k. longest_of scripts ≤ k * asks) (sym one_more) enough');
+          whole = scripts_whole asks scripts (length segments) within;
           journals = record { earlier = handed_at next.segment next.handed_out; held = next.handed_out.journal.held };
           again = again next.segment scripted still next.handed_out;
+        })
+
+    pub turns_to_the_end : (limit longest : ℕ) → asks ≡ limit → longest ≡ longest_of scripts → 0 < asks
+        → (begin ≡ 0) ⊎ (begin < longest_of scripts) → longest ≤ begin + asks → RunsNext begin asks scripts old new since
+        → KeepsTo turns old new → RunsInTurns turns limit scripts first new all
+    turns_to_the_end limit longest size is some more enough next within =
+        subst (λ a. RunsInTurns turns a scripts first new all) size
+        (record {
+          segments = so_far.segments ++ next.segment ∷ [];
+          kept_is = both so_far.segments (next.segment ∷ []) so_far.kept_is next.kept_is;
+          number = number_at longest next.segment is some more enough;
+          each = each_at next.segment next.handed_out within;
         })
 
     stops_behind : (fault : SegmentFault) → map port_id new.ports.items ≡ map port_id old.ports.items
@@ -241,3 +308,40 @@ module _ {W B R D : ℕ} (asks : ℕ) (scripts : List (Vec Ask)) where
         → StopsBehind limit scripts first new all told
     stops_there limit fault told size is still stop =
         subst₂ (λ a f. StopsBehind a scripts first new all f) size (sym is) (stops_behind fault still stop)
+
+    turns_behind : (fault : SegmentFault) → StopsNext begin asks scripts old new since fault → KeepsTo turns old new
+        → StopsInTurns turns asks scripts first new all fault
+    turns_behind fault stop within =
+        elim stop.handed_out [
+          | inl unmoved ↦
+              record {
+                segments = so_far.segments;
+                lost = [];
+                kept_is = kept_still stop.kept_is;
+                lost_is = tt;
+                renewed = old;
+                each = subst (λ l. EachKeepsTo turns 0 asks scripts first old l) (sym (append-nil so_far.segments)) so_far.each;
+                since = within;
+              }
+          | inr lost ↦
+              record {
+                segments = so_far.segments;
+                lost = lost.0 ∷ [];
+                kept_is = kept_still stop.kept_is;
+                lost_is = lost.1.1;
+                renewed = new;
+                each = each_at lost.0 lost.1.0 within;
+                since = keeps_still turns new new refl refl refl;
+              }
+        ]
+
+    pub turns_there : (limit : ℕ) (fault told : SegmentFault) → asks ≡ limit → told ≡ fault
+        → StopsNext begin asks scripts old new since fault → KeepsTo turns old new
+        → StopsInTurns turns limit scripts first new all told
+    turns_there limit fault told size is stop within =
+        subst₂ (λ a f. StopsInTurns turns a scripts first new all f) size (sym is) (turns_behind fault stop within)
+
+pub keeps_in_all : {W B R D : ℕ} (turns asks : ℕ) (scripts : List (Vec Ask)) (old new : Station W B R D) (kept : List Segment → Type 0)
+    → RunsInTurns turns asks scripts old new kept → KeepsTo (piece_count asks scripts * turns) old new
+keeps_in_all turns asks scripts old new kept runs =
+    subst (λ n. KeepsTo (n * turns) old new) runs.number (each_keeps_all turns asks scripts 0 old new runs.segments runs.each)

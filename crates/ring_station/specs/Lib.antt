@@ -4,6 +4,7 @@ pub mod Ends
 pub mod Turns
 pub mod PortRuns
 pub mod PartRuns
+pub mod Within
 pub mod Crew
 pub mod Run
 pub mod Segments

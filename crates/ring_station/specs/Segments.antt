@@ -1,5 +1,5 @@
 -- What a run and the renewal behind it make of a station, and what many of them make of it.
-use Rattle.std.specs.Prelude.{◌≡◌, ℕ, zero, suc, ◌<◌, max, ◌⊎◌, ◌++◌, false, List, [], ◌∷◌, map, take, drop, length, slice_index_or}
+use Rattle.std.specs.Prelude.{◌≡◌, ℕ, zero, suc, ◌+◌, ◌<◌, max, ◌⊎◌, ◌++◌, false, List, [], ◌∷◌, map, take, drop, length, slice_index_or}
 use Rattle.std.specs.Global.{Vec}
 use Rattle.std.specs.Int.{div_ceil}
 use Rattle.std.specs.List.{All, fold, flat_map}
@@ -16,6 +16,7 @@ use Rattle.ring_station.specs.declared.fault.RunFault.TheVariants.{OutOfMemory}
 use Rattle.ring_station.specs.declared.fault.SegmentFault.{SegmentFault}
 use Rattle.ring_station.specs.declared.fault.SegmentFault.TheVariants.{Run}
 use Rattle.ring_station.specs.declared.segment.Segment.{Segment}
+use Rattle.ring_station.specs.Within.{KeepsTo}
 
 -- ---- one run
 
@@ -152,3 +153,35 @@ pub record StopsBehind {W B R D : ℕ} (asks : ℕ) (scripts : List (Vec Ask)) (
     pub ports : List Port
     pub same : map port_id ports ≡ map port_id old.ports.items
     pub ran : HaveRunPieces asks scripts old.ports.items ports (segments ++ lost)
+
+-- ---- and to what their turns keep them
+
+-- from the one station to the other by runs, one behind the other, each of which kept to its turns and gave one of these segments:
+-- the first of them of the pieces behind so many asks
+abbrev pub EachKeepsTo : {W B R D : ℕ} → ℕ → ℕ → ℕ → List (Vec Ask) → Station W B R D → Station W B R D → List Segment → Type 0
+EachKeepsTo turns begin asks scripts old new [] = new ≡ old
+EachKeepsTo {W} {B} {R} {D} turns begin asks scripts old new (segment ∷ more) =
+    (next : Station W B R D) × HandsOutNext begin asks scripts old next segment × KeepsTo turns old next
+    × EachKeepsTo turns (begin + asks) asks scripts next new more
+
+-- the scripts were run so to their end, and the segments kept
+pub record RunsInTurns {W B R D : ℕ} (turns asks : ℕ) (scripts : List (Vec Ask)) (old new : Station W B R D)
+    (kept : List Segment → Type 0) : Type 0
+  where
+    pub segments : List Segment
+    pub kept_is : kept segments
+    pub number : length segments ≡ piece_count asks scripts
+    pub each : EachKeepsTo turns 0 asks scripts old new segments
+
+-- the runs stopped behind these segments, and one that stopped has kept to its turns too
+pub record StopsInTurns {W B R D : ℕ} (turns asks : ℕ) (scripts : List (Vec Ask)) (old new : Station W B R D)
+    (kept : List Segment → Type 0) (fault : SegmentFault) : Type 0
+  where
+    pub segments : List Segment
+    pub lost : List Segment
+    pub kept_is : kept segments
+    pub lost_is : MayBeLost fault lost
+    -- the station as the last renewal left it
+    pub renewed : Station W B R D
+    pub each : EachKeepsTo turns 0 asks scripts old renewed (segments ++ lost)
+    pub since : KeepsTo turns renewed new

@@ -19,6 +19,7 @@ ghost use Rattle.ring_station.specs.PortRuns.{HaveRun, PortsRan};
 ghost use Rattle.ring_station.specs.Crew.{HasNotBegun, EachRanScript, EachIsSame, EachServed};
 ghost use Rattle.ring_station.specs.Ends.{not_begun};
 ghost use Rattle.ring_station.specs.Run.{HaveFinished};
+ghost use Rattle.ring_station.specs.Within.{KeepsTo};
 
 use crate::crew::{
     BankRun, Crew, PortRun, dismiss_banks, dismiss_ports, enlist_banks, enlist_ports,
@@ -92,6 +93,10 @@ pub fn run_threads<
     ensures rests { OnOk result (is_at_rest (cache_in station.new.cache) ≡ true) }
     ensures banks { OnOk result (HaveFinished station.new.banks.items) }
     ensures no_turn { turns ≡ 0 → IsErr result }
+
+    // However it ends, no part did more than its turns let it, and each port took what it took behind what
+    // it had.
+    ensures within { KeepsTo turns station.old station.new }
 
     // And an audit has found that nothing is left or owed.
     ensures seen { OnOk result (IsSeen station.new.cache station.new.ports.items station.new.banks.items) }

@@ -1,15 +1,16 @@
 //! A run of a station that hands its journal out behind it.
-ghost use Rattle.std.specs.Prelude.{◌≡◌, ◌<◌, true, length, map, vec_len, IsTrue, IfOk, OnErr, OnOk, IsErr};
+ghost use Rattle.std.specs.Prelude.{◌≡◌, ◌<◌, true, length, map, vec_len, IsTrue, IfOk, IfErr, OnErr, OnOk, IsErr};
 ghost use Rattle.cache_unit.specs.Views.{is_clean};
 ghost use Rattle.station_parts.specs.declared.parts.Audit.TheVariants.{Clean};
-ghost use Rattle.station_parts.specs.Audited.{IsSeen, audit_of};
+ghost use Rattle.station_parts.specs.Audited.{IsSeen, LeavesBanks, audit_of};
 ghost use Rattle.station_parts.specs.Ids.{port_id, bank_id, cache_id};
 ghost use Rattle.station_parts.specs.Promises.{IsFlatRun, AreWhole, PaysLoads, HoldFlat};
-ghost use Rattle.station_parts.specs.Renewed.{RenewsCache, ResumesPorts};
+ghost use Rattle.station_parts.specs.Renewed.{RenewsCache, ResumesPorts, IsRefused};
 ghost use Rattle.station_parts.specs.Rest.{is_at_rest};
 ghost use Rattle.station_parts.specs.Station.{AreOneStation};
 ghost use Rattle.station_parts.specs.Words.{cache_in, earlier_of, journal_of, sizes_in};
 ghost use Rattle.ring_station.specs.Segments.{HaveRunOn, HandsOut};
+ghost use Rattle.ring_station.specs.Within.{KeepsTo};
 
 use crate::crew::Crew;
 use crate::fault::SegmentFault;
@@ -74,6 +75,10 @@ pub fn run_and_renew<
     ensures rests { OnOk result (is_at_rest (cache_in station.new.cache) ≡ true) }
     ensures no_turn { turns ≡ 0 → IsErr result }
 
+    // However it ends, no part did more than its turns let it, and each port took what it took behind what
+    // it had.
+    ensures within { KeepsTo turns station.old station.new }
+
     // An audit has found that nothing is left or owed, and so all that the station has noted since it was
     // made is a run of flat memory.
     ensures seen { OnOk result (IsSeen station.new.cache station.new.ports.items station.new.banks.items) }
@@ -111,6 +116,9 @@ fn renew_station<const WAYS: usize, const WORDS: usize, const REGS: usize, const
     ensures cache { IfOk result
         (λ segment. RenewsCache station.old.cache station.new.cache segment.items) }
     ensures ports { OnOk result (ResumesPorts station.old.ports.items station.new.ports.items) }
+    ensures banks { LeavesBanks station.old.banks.items station.new.banks.items }
+    ensures refused { IfErr result (λ fault. IsRefused fault station.old.cache station.new.cache
+        station.old.ports.items station.new.ports.items station.old.banks.items station.new.banks.items) }
     ensures unhanded { OnErr result (earlier_of station.new.cache ≡ earlier_of station.old.cache) }
     ensures seen { OnOk result (IsSeen station.new.cache station.new.ports.items station.new.banks.items) }
     ensures clean { OnOk result

@@ -1,5 +1,5 @@
 //! Runs of a station one behind the other, of scripts that are cut into pieces, with a renewal behind each.
-ghost use Rattle.std.specs.Prelude.{◌≡◌, ◌<◌, ◌+◌, max, true, length, map, take, drop, vec_len, IsTrue, IfOk, IfErr, OnOk, IsErr};
+ghost use Rattle.std.specs.Prelude.{◌≡◌, ◌<◌, ◌+◌, ◌*◌, max, true, length, map, take, drop, vec_len, IsTrue, IfOk, IfErr, OnOk, IsErr};
 ghost use Rattle.cache_unit.specs.Views.{is_clean};
 ghost use Rattle.station_parts.specs.declared.parts.Audit.TheVariants.{Clean};
 ghost use Rattle.station_parts.specs.Audited.{IsSeen, audit_of};
@@ -8,7 +8,8 @@ ghost use Rattle.station_parts.specs.Promises.{IsFlatRun, AreWhole, PaysLoads, H
 ghost use Rattle.station_parts.specs.Rest.{is_at_rest};
 ghost use Rattle.station_parts.specs.Station.{AreOneStation};
 ghost use Rattle.station_parts.specs.Words.{cache_in, journal_of, sizes_in};
-ghost use Rattle.ring_station.specs.Segments.{RunsInSegments, StopsBehind, RunsNext, StopsNext, longest_of, piece_behind};
+ghost use Rattle.ring_station.specs.Segments.{RunsInSegments, StopsBehind, RunsInTurns, StopsInTurns, RunsNext, StopsNext, longest_of, piece_behind, piece_count};
+ghost use Rattle.ring_station.specs.Within.{KeepsTo};
 
 use crate::crew::Crew;
 use crate::fault::SegmentFault;
@@ -71,6 +72,15 @@ pub fn run_in_segments<
         (λ segments. K.kept keeper.old segments keeper.new)) }
     ensures rests { OnOk result (is_at_rest (cache_in station.new.cache) ≡ true) }
     ensures no_turn { turns ≡ 0 → IsErr result }
+
+    // In each run no part did more than its turns let it, and each port took what it took behind what it had;
+    // and so in all of them. Of runs that stopped it is said of the last one too.
+    ensures each_within { OnOk result (RunsInTurns turns (max asks 1) scripts.now station.old station.new
+        (λ segments. K.kept keeper.old segments keeper.new)) }
+    ensures stops_within { IfErr result (StopsInTurns turns (max asks 1) scripts.now station.old station.new
+        (λ segments. K.kept keeper.old segments keeper.new)) }
+    ensures within { OnOk result
+        (KeepsTo (piece_count (max asks 1) scripts.now * turns) station.old station.new) }
 
     // The audit behind the last run has found that nothing is left or owed, and so all that the station
     // has noted since it was made is a run of flat memory.
@@ -142,6 +152,7 @@ fn run_pieces<
         (λ segments. K.kept keeper.old segments keeper.new)) }
     ensures rests { OnOk result (is_at_rest (cache_in station.new.cache) ≡ true) }
     ensures no_turn { turns ≡ 0 → IsErr result }
+    ensures within { KeepsTo turns station.old station.new }
     ensures seen { OnOk result (IsSeen station.new.cache station.new.ports.items station.new.banks.items) }
     ensures clean { OnOk result
         (audit_of station.new.cache station.new.ports.items station.new.banks.items ≡ Clean) }

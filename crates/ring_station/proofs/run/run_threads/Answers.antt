@@ -1,6 +1,7 @@
 use Rattle.std.proofs.Common.{sym, ◌∙◌}
 use Rattle.ring_station.proofs.StationRunning.{have_conversed}
 use Rattle.ring_station.proofs.Ending.{is_good, over, have_run, have_finished, never_in_none}
+use Rattle.ring_station.proofs.Within.{run_keeps}
 use Rattle.ring_station.proofs.run.run_threads.Goals as goal
 
 pub returns-clause-lists : goal.returns-clause-lists
@@ -47,3 +48,13 @@ pub returns-clause-settled : goal.returns-clause-settled
 returns-clause-settled g c =
     let good = is_good c.in_ok-run.run' (sym c.fault.ensures ∙ c.in_default.is) in
     c.in_ok-run.ensures.settled good.audit
+
+pub returns-clause-within : goal.returns-clause-within
+returns-clause-within g c =
+    let ran = c.in_ok-run.ensures in
+    run_keeps _ _ _ _ _ _ _ _ _ (c.requires.scripts ∙ c.args.station.now.ports.ok.0) ran.ports ran.cache ran.banks
+
+pub returns-in-Some-clause-within : goal.returns-in-Some-clause-within
+returns-in-Some-clause-within g c =
+    let ran = c.in_ok-run.ensures in
+    run_keeps _ _ _ _ _ _ _ _ _ (c.requires.scripts ∙ c.args.station.now.ports.ok.0) ran.ports ran.cache ran.banks

@@ -2,7 +2,7 @@ use Rattle.std.proofs.Common.{◌+◌, ◌<◌, ◌≤◌, refl, sym, ◌∙◌,
 use Rattle.std.specs.Prelude.{max}
 use Rattle.std.proofs.lemmas.Result.{err_from_is_err_and}
 use Rattle.ring_station.proofs.Ending.{long_alike}
-use Rattle.ring_station.proofs.RunningOn.{come_nowhere, come_further, runs_to_the_end, stops_there}
+use Rattle.ring_station.proofs.RunningOn.{come_nowhere, come_further, runs_to_the_end, stops_there, turns_to_the_end, turns_there, keeps_in_all}
 use Rattle.station_parts.specs.Ids.{port_id}
 use Rattle.ring_station.proofs.segments.run_in_segments.Goals as goal
 
@@ -15,7 +15,7 @@ loop-begin-init g c = record {
   scripts = c.requires.scripts;
   more = inl refl;
   so_far =
-      come_nowhere c.max-asks.result c.args.scripts.now c.args.station.now
+      come_nowhere c.max-asks.result c.args.turns c.args.scripts.now c.args.station.now
       (λ xs. g.K.Keeper.kept c.args.keeper.now xs c.args.keeper.now) (g.met.K.Keeper.kept_none c.args.keeper.now);
 }
 
@@ -25,7 +25,7 @@ returns-in_err-run_pieces-clause-stops g c =
     let inv = c.loop-begin.invariant in
     let stop = c.in_err-run_pieces.ensures in
     rw told.1
-    (stops_there c.max-asks.result c.args.scripts.now c.loop-begin.begin c.args.station.now c.loop-begin.station c.run_pieces.new.station
+    (stops_there c.max-asks.result c.args.turns c.args.scripts.now c.loop-begin.begin c.args.station.now c.loop-begin.station c.run_pieces.new.station
     (λ xs. g.K.Keeper.kept c.args.keeper.now xs c.loop-begin.keeper)
     (λ xs. g.K.Keeper.kept c.loop-begin.keeper xs c.run_pieces.new.keeper)
     (λ xs. g.K.Keeper.kept c.args.keeper.now xs c.run_pieces.new.keeper)
@@ -37,7 +37,7 @@ returns-then-longest-begin-clause-runs g c =
     let ran = c.in_ok-run_pieces.ensures in
     let some : 0 < c.max-asks.result = let size = c.max-asks.ensures in omega arith in
     let enough : c.longest_script-longest.result ≤ c.loop-begin.begin + c.max-asks.result = omega arith in
-    runs_to_the_end c.max-asks.result c.args.scripts.now c.loop-begin.begin c.args.station.now c.loop-begin.station
+    runs_to_the_end c.max-asks.result c.args.turns c.args.scripts.now c.loop-begin.begin c.args.station.now c.loop-begin.station
     c.run_pieces.new.station (λ xs. g.K.Keeper.kept c.args.keeper.now xs c.loop-begin.keeper)
     (λ xs. g.K.Keeper.kept c.loop-begin.keeper xs c.run_pieces.new.keeper)
     (λ xs. g.K.Keeper.kept c.args.keeper.now xs c.run_pieces.new.keeper)
@@ -61,9 +61,40 @@ loop-begin-preserved g c =
       scripts = inv.scripts ∙ old.ok.0 ∙ sym (long_alike port_id new.items old.items ran.same_ports) ∙ sym new.ok.0;
       more = inr (subst (λ n. c.loop-begin.begin + c.max-asks.result < n) is (omega arith));
       so_far =
-          come_further c.max-asks.result c.args.scripts.now c.loop-begin.begin c.args.station.now c.loop-begin.station
+          come_further c.max-asks.result c.args.turns c.args.scripts.now c.loop-begin.begin c.args.station.now c.loop-begin.station
           c.run_pieces.new.station (λ xs. g.K.Keeper.kept c.args.keeper.now xs c.loop-begin.keeper)
           (λ xs. g.K.Keeper.kept c.loop-begin.keeper xs c.run_pieces.new.keeper)
           (λ xs. g.K.Keeper.kept c.args.keeper.now xs c.run_pieces.new.keeper)
-          (g.met.K.Keeper.kept_more c.args.keeper.now c.loop-begin.keeper c.run_pieces.new.keeper) inv.same_ports inv.so_far ran.runs;
+          (g.met.K.Keeper.kept_more c.args.keeper.now c.loop-begin.keeper c.run_pieces.new.keeper) inv.same_ports inv.so_far ran.runs
+          ran.within;
     }
+
+pub returns-in_err-run_pieces-clause-stops_within : goal.returns-in_err-run_pieces-clause-stops_within
+returns-in_err-run_pieces-clause-stops_within g c =
+    let told = err_from_is_err_and c.from_residual.result c.from_residual.ensures.1 in
+    let inv = c.loop-begin.invariant in
+    let stop = c.in_err-run_pieces.ensures in
+    rw told.1
+    (turns_there c.max-asks.result c.args.turns c.args.scripts.now c.loop-begin.begin c.args.station.now c.loop-begin.station
+    c.run_pieces.new.station (λ xs. g.K.Keeper.kept c.args.keeper.now xs c.loop-begin.keeper)
+    (λ xs. g.K.Keeper.kept c.loop-begin.keeper xs c.run_pieces.new.keeper)
+    (λ xs. g.K.Keeper.kept c.args.keeper.now xs c.run_pieces.new.keeper)
+    (g.met.K.Keeper.kept_more c.args.keeper.now c.loop-begin.keeper c.run_pieces.new.keeper) inv.same_ports inv.so_far
+    (max c.args.asks 1) c.in_err-run_pieces.field-0.0 told.0 c.max-asks.ensures told.2 stop.stops stop.within)
+
+pub returns-then-longest-begin-clause-each_within : goal.returns-then-longest-begin-clause-each_within
+returns-then-longest-begin-clause-each_within g c =
+    let inv = c.loop-begin.invariant in
+    let ran = c.in_ok-run_pieces.ensures in
+    let some : 0 < c.max-asks.result = let size = c.max-asks.ensures in omega arith in
+    let enough : c.longest_script-longest.result ≤ c.loop-begin.begin + c.max-asks.result = omega arith in
+    turns_to_the_end c.max-asks.result c.args.turns c.args.scripts.now c.loop-begin.begin c.args.station.now c.loop-begin.station
+    c.run_pieces.new.station (λ xs. g.K.Keeper.kept c.args.keeper.now xs c.loop-begin.keeper)
+    (λ xs. g.K.Keeper.kept c.loop-begin.keeper xs c.run_pieces.new.keeper)
+    (λ xs. g.K.Keeper.kept c.args.keeper.now xs c.run_pieces.new.keeper)
+    (g.met.K.Keeper.kept_more c.args.keeper.now c.loop-begin.keeper c.run_pieces.new.keeper) inv.same_ports inv.so_far
+    (max c.args.asks 1) c.longest_script-longest.result
+    c.max-asks.ensures c.longest_script-longest.ensures some inv.more enough ran.runs ran.within
+
+pub returns-then-longest-begin-clause-within : goal.returns-then-longest-begin-clause-within
+returns-then-longest-begin-clause-within g c = keeps_in_all _ _ _ _ _ _ (returns-then-longest-begin-clause-each_within g c)

@@ -14,7 +14,7 @@ invariant-loop-begin g l =
       one : AreOneStation l.station.cache l.station.ports.items l.station.banks.items;
       scripts : length l.scripts ≡ vec_len l.station.ports;
       more : (l.begin ≡ 0) ⊎ (l.begin < longest_of l.scripts);
-      so_far : HasComeTo l.begin l.asks l.scripts l.fn.station l.station (λ xs. g.K.Keeper.kept l.fn.keeper xs l.keeper);
+      so_far : HasComeTo l.begin l.asks l.turns l.scripts l.fn.station l.station (λ xs. g.K.Keeper.kept l.fn.keeper xs l.keeper);
     }
 
 abbrev pub decreases-loop-begin : goal.decreases-loop-begin
