@@ -11,6 +11,7 @@ mod checks;
 mod ends;
 mod gates;
 mod largest;
+mod limited;
 mod on_threads;
 mod refused;
 mod renewed;
