@@ -2,14 +2,23 @@
 ghost use Rattle.std.specs.Prelude.{◌≡◌, None};
 
 use station_parts::Stepped;
+use std::hint::spin_loop;
 use std::rt::Clock;
 use std::thread;
 use std::time::Duration;
 
 // There may be fewer processors than threads, and mostly each thread waits for another one. So a thread
-// that finds nothing leaves its processor to another one in each such turn; but the cache side, for which
-// all others wait, not in the first one.
+// that finds nothing leaves its processor to another one in the first few such turns in a row; but the cache
+// side, for which all others wait, not in the very first one.
 const CACHE_TURNS_AT_ONCE: u64 = 1;
+
+// How many these turns are. A Linux that has a thread pay for each yield with a slice of its time, as 6.18
+// does, would keep one that yields in every turn from its processor for seconds, beside a program that never yields.
+const TURNS_WITH_A_YIELD: u64 = 4;
+
+// How often the processor pauses in each later turn: it looks less often, and so takes fewer cache lines from
+// those that write them.
+const PAUSES: u32 = 4;
 
 // In one of so many such turns a thread sleeps: so it leaves the processors to those that have
 // something to do, and many turns are over soon all the same.
@@ -25,10 +34,11 @@ const HELD_TURNS_A_YIELD: u64 = 128;
 const HELD_TURNS_A_NAP: u64 = 1_024;
 
 // How long a thread sleeps at first, by how much longer each time, and at most, in nanoseconds. The
-// system mostly adds 50,000.
+// system mostly adds 50,000. On a busy machine whom it waits for may have no processor for long, and the longest
+// sleep is what then keeps it from using up its turns.
 const FIRST_NAP: u64 = 20_000;
 
-const LONGEST_NAP: u64 = 160_000;
+const LONGEST_NAP: u64 = 1_000_000;
 
 /// What a turn came to.
 #[derive(Clone, Copy, PartialEq, Eq, Debug)]
@@ -125,9 +135,17 @@ impl Idling {
         }
         if self.idle > self.awake && self.idle % TURNS_A_NAP == 0 {
             thread::sleep(rt, nap((self.idle - self.awake) / TURNS_A_NAP));
-        } else {
+        } else if self.idle - self.at_once <= TURNS_WITH_A_YIELD {
             thread::yield_now();
+        } else {
+            pause();
         }
+    }
+}
+
+fn pause() {
+    for _pause in 0..PAUSES {
+        spin_loop();
     }
 }
 
