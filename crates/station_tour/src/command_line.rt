@@ -1,4 +1,5 @@
 //! The words of the command line.
+use crate::crew::FEWEST_THREADS;
 use crate::fault::StationFault;
 use crate::rates::Server;
 use clap::{Arg, ArgAction, ArgMatches, Command};
@@ -21,13 +22,26 @@ pub(crate) enum Show {
 #[derive(PartialEq, Eq, Debug, Drop)]
 pub(crate) enum Job {
     /// The ports of a plan are run, and this is told of them.
-    Tour { plan: Plan, show: Show },
+    Tour {
+        plan: Plan,
+        /// How many threads they have, if that is said.
+        threads: Option<u32>,
+        show: Show,
+    },
     /// So many stations at random are run.
-    Soak { stations: u32, seed: u64 },
+    Soak {
+        stations: u32,
+        seed: u64,
+    },
     /// The requests of a plan are served, to tell how many asks a second.
-    Rates { plan: Plan },
+    Rates {
+        plan: Plan,
+    },
     /// They are served once, and nothing is told.
-    Once { plan: Plan, server: Server },
+    Once {
+        plan: Plan,
+        server: Server,
+    },
 }
 
 const NAME: &str = "kroft-station";
@@ -37,6 +51,9 @@ const STANDARD_OUTPUT: &str = "-";
 
 // The most asks of a port that are measured.
 const MEASURED_ASKS: i64 = 10_000;
+
+// The most threads of a tour: one for the cache side, one for each port and one for each of its four banks.
+const MOST_THREADS: u32 = MAX_PORTS + 5;
 
 const SOAK: &str = "soak";
 
@@ -119,6 +136,17 @@ fn ports<'a>(alloc: Global) -> Arg<'a> {
     )
 }
 
+fn threads<'a>(alloc: Global) -> Arg<'a> {
+    Arg::new(alloc, "threads")
+        .long("threads")
+        .value_name("N")
+        .action(ArgAction::Set)
+        .value_parser(clap::value_parser!(u32).range(
+            i64::from(FEWEST_THREADS)..=i64::from(MOST_THREADS),
+        ))
+        .help("How many threads there are, 3 to 21 [default: as many as processors]")
+}
+
 fn journal<'a>(alloc: Global) -> Arg<'a> {
     Arg::new(alloc, "journal")
         .long("journal")
@@ -172,6 +200,7 @@ fn tour_arguments<'a>(alloc: Global) -> Result<Vec<Arg<'a>>, AllocError> {
     push_argument(&mut args, ports(alloc))?;
     push_argument(&mut args, asks(alloc, i64::from(u32::MAX)))?;
     push_argument(&mut args, seed(alloc))?;
+    push_argument(&mut args, threads(alloc))?;
     push_argument(&mut args, journal(alloc))?;
     Ok(args)
 }
@@ -249,6 +278,7 @@ fn tour_job(alloc: Global, matches: &ArgMatches<'_>) -> Result<Job, AllocError> 
     let ports = matches.get_one::<u32>("ports").unwrap_or(4);
     Ok(Job::Tour {
         plan: plan_of(ports, matches),
+        threads: matches.get_one::<u32>("threads"),
         show: show_of(alloc, matches.get_str("journal"))?,
     })
 }

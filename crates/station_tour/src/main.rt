@@ -3,6 +3,7 @@
 #![tactic(auto)]
 
 mod command_line;
+mod crew;
 mod fault;
 mod patience;
 mod rates;
@@ -10,6 +11,7 @@ mod soak;
 mod tour;
 
 use crate::command_line::{Job, Show, read_words};
+use crate::crew::threads_here;
 use crate::fault::StationFault;
 use crate::rates::{serve_once, tell_rates};
 use crate::soak::soak;
@@ -78,7 +80,14 @@ fn done<R: AllocGlobal + Clock + Env + Files + Threads + Wait + Sync, W: Write, 
 ) -> Result<bool, StationFault> {
     let mut errors = io::writer(errors);
     match job {
-        Job::Tour { plan, show } => show_tour(rt, output, &mut errors, plan, show),
+        Job::Tour {
+            plan,
+            threads,
+            show,
+        } => {
+            let threads = threads.unwrap_or(threads_here(rt));
+            show_tour(rt, output, &mut errors, plan, threads, show)
+        }
         Job::Soak { stations, seed } => soak(rt, output, &mut errors, *stations, *seed),
         Job::Rates { plan } => tell_rates(rt, output, plan),
         Job::Once { plan, server } => serve_once(rt, *server, plan),
@@ -91,6 +100,7 @@ fn show_tour<R: AllocGlobal + Clock + Env + Files + Threads + Sync, W: Write, E:
     output: &mut W,
     errors: &mut E,
     plan: &Plan,
+    threads: u32,
     show: &Show,
 ) -> Result<bool, StationFault> {
     let alloc = rt.alloc();
@@ -102,11 +112,11 @@ fn show_tour<R: AllocGlobal + Clock + Env + Files + Threads + Sync, W: Write, E:
     // What isn't shown isn't written there either.
     let mut nowhere: Vec<u8> = Vec::new(alloc);
     match show {
-        Show::Story => tour(rt, output, &mut nowhere, errors, plan, pages),
-        Show::Journal => tour(rt, &mut nowhere, output, errors, plan, pages),
+        Show::Story => tour(rt, output, &mut nowhere, errors, plan, threads, pages),
+        Show::Journal => tour(rt, &mut nowhere, output, errors, plan, threads, pages),
         Show::StoryAndFile(name) => {
             let mut file = BufWriter::new(alloc, fs::create(rt, name.as_str())?)?;
-            let is_good = tour(rt, output, &mut file, errors, plan, pages)?;
+            let is_good = tour(rt, output, &mut file, errors, plan, threads, pages)?;
             file.flush()?;
             Ok(is_good)
         }

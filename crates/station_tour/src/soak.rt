@@ -11,7 +11,8 @@ use crate::fault::StationFault;
 use crate::soak::random_gate::RandomGate;
 use crate::soak::trial::{Draws, Trial};
 use ring_station::{
-    BankSide, CacheSide, Port, RunFault, Station, Told, audit, run_threads, station,
+    BankSide, CacheSide, Port, Run, RunFault, Station, Told, audit, run_and_audit, run_threads,
+    station,
 };
 use station_checks::{Findings, Outcome, read_journal};
 use std::alloc::{AllocError, Global};
@@ -169,7 +170,22 @@ fn run_one<
     let alloc = rt.alloc();
     let scripts = trial.scripts(alloc, draws)?;
     let gate = RandomGate::draw(alloc, draws)?;
-    Ok(run_threads(rt, alloc, station, &scripts, trial.turns, &gate))
+    let turns = trial.turns;
+    match trial.crew(draws) {
+        None => Ok(run_threads(rt, alloc, station, &scripts, turns, &gate)),
+        Some(crew) => {
+            let run = run_and_audit(rt, alloc, station, &scripts, turns, crew, &gate)?;
+            Ok(ran(run))
+        }
+    }
+}
+
+// What a run comes to that is told whole.
+fn ran(run: Run) -> Ran {
+    match run.fault() {
+        Some(fault) => Err(fault),
+        None => Ok(run.lists),
+    }
 }
 
 // What a run left of the parts of a station with so many words of memory.

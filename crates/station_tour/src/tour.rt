@@ -4,6 +4,7 @@
 ghost use Rattle.std.specs.Prelude.{◌≡◌, ◌<◌, length, vec_len};
 ghost use Rattle.station_parts.specs.Station.{AreOneStation};
 
+use crate::crew::crew_of;
 use crate::fault::StationFault;
 use crate::patience::PatientGate;
 use flat_model::FlatMemory;
@@ -62,6 +63,7 @@ pub(crate) fn tour<R: AllocGlobal + Clock + Threads + Sync, S: Write, J: Write, 
     journal: &mut J,
     errors: &mut E,
     plan: &Plan,
+    threads: u32,
     pages: Pages,
 ) -> Result<bool, StationFault> {
     let alloc = rt.alloc();
@@ -73,9 +75,10 @@ pub(crate) fn tour<R: AllocGlobal + Clock + Threads + Sync, S: Write, J: Write, 
         took: Duration::ZERO,
     };
     let gate = PatientGate::new(alloc, PATIENCE)?;
+    let crew = crew_of(threads, plan.ports, shape().banks);
     for _segment in 0..plan.asks {
         let scripts = parts.next(alloc, asks_of_a_port(plan))?;
-        let segment = run_segment(rt, &mut station, &scripts, &gate, &mut course)?;
+        let segment = run_segment(rt, &mut station, &scripts, crew, &gate, &mut course)?;
         if pages.story && course.tally.segments == 0 {
             tell_ports(story, plan, &scripts, &segment.lists)?;
         }
@@ -102,6 +105,7 @@ fn run_segment<R: AllocGlobal + Clock + Threads + Sync>(
     rt: &R,
     station: &mut TourStation,
     scripts: &[Vec<Ask>],
+    crew: Crew,
     gate: &PatientGate,
     course: &mut Course,
 ) -> Result<Segment, StationFault>
@@ -111,7 +115,6 @@ fn run_segment<R: AllocGlobal + Clock + Threads + Sync>(
     ensures ports { vec_len station.new.ports ≡ vec_len station.old.ports }
 {
     let begun = Instant::now(rt)?;
-    let crew = Crew::one_each();
     let segment = run_and_renew(rt, rt.alloc(), station, scripts, TURNS, crew, gate)?;
     course.took = course.took.saturating_add(begun.elapsed(rt)?);
     Ok(segment)

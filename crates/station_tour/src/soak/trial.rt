@@ -7,7 +7,7 @@ ghost use Rattle.station_checks.specs.Scripts.{AreRequests};
 use flat_model::{Lanes, MAX_BANK_QUEUE, MAX_BANKS, MAX_REPLIES, MAX_SETS, Shape};
 use rand_core::utils::NextWord;
 use rand_pcg::Pcg32;
-use ring_station::Ask;
+use ring_station::{Ask, Crew};
 use station_checks::bytes_of;
 use station_parts::{MAX_ENTRIES, MAX_PORTS};
 use std::alloc::{AllocError, Global};
@@ -117,6 +117,18 @@ impl Trial {
     /// Whether it has enough turns and entries, so that its run has to come to its end.
     pub(crate) fn has_to_end(&self) -> bool {
         self.journal == MAX_ENTRIES && self.turns == MANY_TURNS
+    }
+
+    /// How many threads the ports and the banks share, or `None` if each has one of its own, as in one of
+    /// two draws.
+    pub(crate) fn crew(&self, draws: &mut Draws) -> Option<Crew> {
+        if draws.one_in(2) {
+            return None;
+        }
+        Some(Crew {
+            port_threads: draws.between(1, self.ports.max(1)) as usize,
+            bank_threads: draws.between(1, self.shape.banks.max(1)) as usize,
+        })
     }
 
     /// A script for each port.
