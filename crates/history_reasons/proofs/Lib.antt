@@ -1,5 +1,7 @@
+pub mod StoreLemmas
 pub mod Found
 pub mod Reasons
+pub mod ThereLemmas
 pub mod GiverLemmas
 pub mod UnitLemmas
 pub mod LoadLemmas

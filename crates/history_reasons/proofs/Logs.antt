@@ -1,7 +1,8 @@
 -- A log is of the history whose events it notes, and says true reasons.
-use Rattle.std.proofs.Common.{◌≡◌, ℕ, ◌+◌, ◌-◌, ◌<◌, ◌≤◌, ◌==◌, ◌&&◌, ◌↔◌, if◌then◌else◌, Bool, true, false, List, [], map, drop, length, Option, Some, None, Result, Ok, Err, IfOk, inl, inr, refl, sym, ◌∙◌, ap, subst, arith, length-drop, length-append}
-use Rattle.std.specs.Prelude.{nat_lt, IfSome}
-use Rattle.std.proofs.lemmas.Bool.{cases_Bool, ltb-false, ne_eqb}
+use Rattle.std.proofs.Common.{◌≡◌, ℕ, ◌+◌, ◌-◌, ◌<◌, ◌≤◌, ◌==◌, ◌&&◌, ◌↔◌, if◌then◌else◌, Bool, true, false, List, [], ◌∷◌, ◌++◌, map, drop, length, Option, Some, None, Result, Ok, Err, IfOk, inl, inr, refl, sym, ◌∙◌, ap, subst, arith, length-drop, length-append}
+use Rattle.std.specs.Prelude.{nat_le, nat_lt, IfSome}
+use Rattle.std.specs.Int.Count.{ones_in}
+use Rattle.std.proofs.lemmas.Bool.{cases_Bool, ltb-false, leb-true, ne_eqb, and_parts}
 use Rattle.std.proofs.lemmas.Bool.Decides.{Decides-ltb}
 use Rattle.std.proofs.lemmas.List.{drop-map, drop-append-le, drop-drop, length-map}
 use Rattle.std.proofs.lemmas.Nat.{div-add-mod'}
@@ -18,12 +19,16 @@ use Rattle.history_reasons.specs.declared.places.StorePlace.{StorePlace}
 use Rattle.history_reasons.specs.declared.Reason.{Reason}
 use Rattle.history_reasons.specs.declared.Reason.TheVariants.{NeverThere, InitialOverwritten, StoreOverwritten}
 use Rattle.history_reasons.specs.Reasons.{HasReason, Stores, Overwrote, last_reason}
-use Rattle.history_reasons.specs.Log.{IsLogOf, noted_stores, noted_loads, told_stores, noted_places, IsNoted, IsCounted, IsShortened, forgotten, left_stores, has_all, of_store, part_reason, kept_reason, told_reason, IsTrueOf, idle, kept_sources, told_sources, kept_at_request, told_at_request}
+use Rattle.history_reasons.specs.Log.{IsLogOf, noted_stores, noted_loads, AreNoted, count_then, noted_places, shortened, gone, is_within, IsNoted, IsCounted, IsShortened, forgotten, left_stores, has_all, of_store, part_reason, kept_reason, told_reason, IsTrueOf, idle, kept_sources, told_sources, kept_at_request, told_at_request}
 use Rattle.history_reasons.specs.declared.givers.Source.TheVariants.{Store}
 use Rattle.history_reasons.specs.Sources.{givers, sources, at_request}
 use Rattle.history_reasons.specs.Places.{AreFound}
+use Rattle.history_reasons.specs.declared.stores.KeptStore.{KeptStore}
+use Rattle.history_reasons.specs.Stores.{all_bytes, stored_there}
 use Rattle.history_reasons.specs.Loads.{all_bytes_of}
-use Rattle.history_reasons.proofs.Found.{all_ended, none_found, request_found, answer_found, rest_found, not_moved}
+use Rattle.history_reasons.proofs.Found.{all_ended, none_found, request_found, answer_found, short_found, not_moved}
+use Rattle.history_reasons.proofs.StoreLemmas.{with_its_bytes, all_answered, short_bytes, requested_count, few_ones}
+use Rattle.history_reasons.proofs.ThereLemmas.{whole_reason, whole_sources, whole_givers, whole_at_request, whole_givers_at_request}
 use Rattle.history_reasons.proofs.LoadLemmas.{bytes_noted}
 use Rattle.history_reasons.proofs.OpenLemmas.{none_open, same_open, none_before, short_open}
 use Rattle.history_reasons.proofs.Reasons.{last_behind, reason_law}
@@ -53,27 +58,29 @@ and_true true = refl
 and_true false = refl
 
 -- few stores are all left
-pub not_shortened : (g : StoreLog) → length g.stores.items < 8192 → IsShortened g g
+pub not_shortened : (g : StoreLog) → g.byte_count < 8192 → IsShortened g g
 not_shortened g h =
-    let none : forgotten (length g.stores.items) ≡ 0 = few (length g.stores.items) h in
+    let none : forgotten g.byte_count ≡ 0 = few g.byte_count h in
     record {
       image = refl;
       rest = refl;
       moment = refl;
       loads = refl;
-      stores = sym (ap (λ n. drop n g.stores.items) none);
-      places = not_moved (forgotten (length g.stores.items)) g.places.items none;
+      stores = sym (ap (λ n. shortened n g.stores.items) none);
+      byte_count = omega arith;
+      places = not_moved (gone (forgotten g.byte_count) g.stores.items) g.places.items (ap (λ n. gone n g.stores.items) none);
       is_whole = sym (ap (λ n. g.is_whole && (n == 0)) none ∙ and_true g.is_whole);
     }
 
 pub opened : (g : StoreLog) (image : List ℕ) (rest : Rest) → g.image.items ≡ image → g.rest ≡ rest → g.moment ≡ 0 → g.stores.items ≡ []
-    → g.places.items ≡ [] → g.loads.items ≡ [] → g.is_whole ≡ true → IsLogOf g (opening image rest)
-opened g image rest a b c d p e f = record {
+    → g.byte_count ≡ 0 → g.places.items ≡ [] → g.loads.items ≡ [] → g.is_whole ≡ true → IsLogOf g (opening image rest)
+opened g image rest a b c d n p e f = record {
   image = a;
   rest = b;
   moment = c;
   loads = ap all_bytes_of e;
-  stores = d;
+  stores = ap all_bytes d;
+  byte_count = n;
   is_whole = f;
   found = subst (AreFound g.places.items) (sym d) (none_found g.places.items);
   none_open = λ z. none_open g e p;
@@ -81,14 +88,15 @@ opened g image rest a b c d p e f = record {
 
 -- a log with the same lists is of the same history
 pub same_log : (g h : StoreLog) (w : Windows) → IsLogOf g w → h.image.items ≡ g.image.items → h.rest ≡ g.rest → h.moment ≡ g.moment
-    → h.stores.items ≡ g.stores.items → h.places.items ≡ g.places.items → h.loads.items ≡ g.loads.items → h.is_whole ≡ g.is_whole
-    → IsLogOf h w
-same_log g h w k image rest moment stores places loads is_whole = record {
+    → h.stores.items ≡ g.stores.items → h.byte_count ≡ g.byte_count → h.places.items ≡ g.places.items → h.loads.items ≡ g.loads.items
+    → h.is_whole ≡ g.is_whole → IsLogOf h w
+same_log g h w k image rest moment stores byte_count places loads is_whole = record {
   image = image ∙ k.image;
   rest = rest ∙ k.rest;
   moment = moment ∙ k.moment;
   loads = ap all_bytes_of loads ∙ k.loads;
-  stores = stores ∙ k.stores;
+  stores = ap all_bytes stores ∙ k.stores;
+  byte_count = byte_count ∙ k.byte_count;
   is_whole = is_whole ∙ k.is_whole;
   found = subst (AreFound h.places.items) (sym stores) (subst (λ ps. AreFound ps g.stores.items) (sym places) k.found);
   none_open = λ z. none_before g h (same_open g h loads places) (k.none_open z);
@@ -148,58 +156,127 @@ still_all m n more = elim (cases_Bool (nat_lt n 8192)) [
   ])
 ]
 
--- The bytes of the open stores are found. ----
+-- The open stores are found. ----
 
-told_noted : (ps : List StorePlace) (xs : List StoreByte) (moment : ℕ) (event : HistoryEvent) → AreFound ps xs
-    → told_stores ps xs moment event ≡ noted_stores xs moment event
-told_noted ps xs moment (StoreResponse number) h = all_ended number moment ps xs h
-told_noted ps xs moment (StoreRequest number address bytes enables) h = refl
-told_noted ps xs moment (LoadRequest number address n) h = refl
-told_noted ps xs moment (LoadResponse number bytes) h = refl
+-- the bytes of the stores are noted with the stores
+noted_whole : (ps : List StorePlace) (xs : List KeptStore) (moment : ℕ) (event : HistoryEvent) (ys : List KeptStore) → AreFound ps xs
+    → AreNoted ps xs moment event ys → all_bytes ys ≡ noted_stores (all_bytes xs) moment event
+noted_whole ps xs moment (StoreRequest number address bytes enables) ys h (s, (its, (stored, is))) =
+    ap all_bytes is ∙ with_its_bytes s xs ∙ ap (λ (bs : List StoreByte). all_bytes xs ++ bs) stored
+noted_whole ps xs moment (StoreResponse number) ys h is =
+    ap all_bytes (is ∙ all_ended number moment ps xs h) ∙ all_answered number moment xs
+noted_whole ps xs moment (LoadRequest number address n) ys h is = ap all_bytes is
+noted_whole ps xs moment (LoadResponse number bytes) ys h is = ap all_bytes is
 
-still_found : (ps : List StorePlace) (xs : List StoreByte) (moment : ℕ) (event : HistoryEvent) → AreFound ps xs
-    → AreFound (noted_places ps xs event) (noted_stores xs moment event)
-still_found ps xs moment (StoreRequest number address bytes enables) h =
-    request_found ps xs number address bytes.now enables moment h
-still_found ps xs moment (StoreResponse number) h = answer_found ps xs number moment h
-still_found ps xs moment (LoadRequest number address n) h = h
-still_found ps xs moment (LoadResponse number bytes) h = h
+still_found : (ps : List StorePlace) (xs : List KeptStore) (moment : ℕ) (event : HistoryEvent) (ys : List KeptStore) → AreFound ps xs
+    → AreNoted ps xs moment event ys → AreFound (noted_places ps xs event) ys
+still_found ps xs moment (StoreRequest number address bytes enables) ys h (s, (its, (stored, is))) =
+    let place : StorePlace = record { number = number; address = address; first = length xs; most = length bytes.now } in
+    subst (AreFound (ps ++ place ∷ [])) (sym is) (request_found ps xs s place (sym its) refl h)
+still_found ps xs moment (StoreResponse number) ys h is =
+    subst (AreFound (noted_places ps xs (StoreResponse number))) (sym (is ∙ all_ended number moment ps xs h))
+    (answer_found ps xs number moment h)
+still_found ps xs moment (LoadRequest number address n) ys h is = subst (AreFound ps) (sym is) h
+still_found ps xs moment (LoadResponse number bytes) ys h is = subst (AreFound ps) (sym is) h
 
--- an event is noted, too many stores are forgotten, and it is counted
-pub noted : (g m f h : StoreLog) (w : Windows) (event : HistoryEvent) → w.moment < 18446744073709551615 → IsLogOf g w → IsNoted g event m
-    → IsShortened m f → IsCounted f h → IsLogOf h (windows_after w event)
-noted g m f h w event few k n s c =
-    let its : m.stores.items ≡ noted_stores g.stores.items g.moment event =
-    n.stores ∙ told_noted g.places.items g.stores.items g.moment event k.found in
-    let now : noted_stores g.stores.items g.moment event ≡ noted_stores (left_stores w.stores) w.moment event =
-    λ i. noted_stores (k.stores i) (k.moment i) event in
-    let more = no_fewer w.stores w.moment event in
-    let same = stores_noted w event in
-    let gone : ℕ = forgotten (length w.stores) in
-    let all : m.stores.items ≡ drop gone (noted_stores w.stores w.moment event) =
-    its ∙ now ∙ noted_behind w.stores gone w.moment event (within (length w.stores)) in
-    let long : length m.stores.items ≡ length (noted_stores w.stores w.moment event) - gone =
-    ap (λ (xs : List StoreByte). length xs) all ∙ length-drop gone (noted_stores w.stores w.moment event) in
-    let places : m.places.items ≡ noted_places g.places.items g.stores.items event = n.places in
-    let found : AreFound m.places.items m.stores.items =
-    subst (AreFound m.places.items) (sym its) (subst (λ ps. AreFound ps (noted_stores g.stores.items g.moment event)) (sym places)
-    (still_found g.places.items g.stores.items g.moment event k.found)) in
-    let left : AreFound f.places.items f.stores.items =
-    subst (AreFound f.places.items) (sym s.stores) (subst (λ ps. AreFound ps (left_stores m.stores.items)) (sym s.places)
-    (rest_found m.places.items m.stores.items (forgotten (length m.stores.items)) found)) in
+-- How many bytes there are. ----
+
+-- how many an event stores
+abbrev stored_count : HistoryEvent → ℕ
+stored_count (StoreRequest number address bytes enables) = ones_in (length bytes.now) enables
+stored_count event = 0
+
+noted_count : (xs : List StoreByte) (moment : ℕ) (event : HistoryEvent)
+    → length (noted_stores xs moment event) ≡ length xs + stored_count event
+noted_count xs moment (StoreRequest number address bytes enables) =
+    let l = length-append xs (store_bytes number address bytes.now enables moment) in
+    let c = requested_count number address bytes.now enables moment in omega arith
+noted_count xs moment (StoreResponse number) = let l = length-map xs (after_response number moment) in omega arith
+noted_count xs moment (LoadRequest number address m) = omega arith
+noted_count xs moment (LoadResponse number bytes) = omega arith
+
+all_counted : (n : ℕ) (event : HistoryEvent) → n < 8192 → is_within event ≡ true → count_then n event ≡ n + stored_count event
+all_counted n (StoreRequest number address bytes enables) few h =
+    let m : ℕ = length bytes.now in
+    let some = and_parts (nat_le 1 m) (nat_le m 64 && nat_le (address + m) 18446744073709551616) h in
+    let short = leb-true m 64 (and_parts (nat_le m 64) (nat_le (address + m) 18446744073709551616) some.1).0 in
+    let most = few_ones m enables in omega arith
+all_counted n (StoreResponse number) few h = omega arith
+all_counted n (LoadRequest number address m) few h = omega arith
+all_counted n (LoadResponse number bytes) few h = omega arith
+
+few_left : (xs : List StoreByte) → length (left_stores xs) < 8192
+few_left xs =
+    let long = length-drop (forgotten (length xs)) xs in
+    let a = div-add-mod' (length xs) 4096 in omega arith
+
+-- an event is noted, too many bytes are forgotten, and it is counted
+module _ (g m f h : StoreLog) (w : Windows) (event : HistoryEvent) (inside : is_within event ≡ true) (k : IsLogOf g w)
+    (n : IsNoted g event m) (s : IsShortened m f) where
+  abbrev noted_bytes : List StoreByte
+  noted_bytes = noted_stores w.stores w.moment event
+
+  its : all_bytes m.stores.items ≡ noted_stores (left_stores w.stores) w.moment event
+  its =
+      noted_whole g.places.items g.stores.items g.moment event m.stores.items k.found n.stores
+      ∙ (λ i. noted_stores (k.stores i) (k.moment i) event)
+
+  all : all_bytes m.stores.items ≡ drop (forgotten (length w.stores)) noted_bytes
+  all = its ∙ noted_behind w.stores (forgotten (length w.stores)) w.moment event (within (length w.stores))
+
+  count : m.byte_count ≡ length (all_bytes m.stores.items)
+  count =
+      let long : length (all_bytes m.stores.items) ≡ length (left_stores w.stores) + stored_count event =
+      ap (λ (xs : List StoreByte). length xs) its ∙ noted_count (left_stores w.stores) w.moment event in
+      n.byte_count ∙ ap (λ i. count_then i event) k.byte_count
+      ∙ all_counted (length (left_stores w.stores)) event (few_left w.stores) inside ∙ sym long
+
+  left : left_stores (all_bytes m.stores.items) ≡ left_stores (windows_after w event).stores
+  left =
+      ap left_stores all ∙ still_left w.stores noted_bytes (no_fewer w.stores w.moment event) ∙ ap left_stores (sym (stores_noted w event))
+
+  short_stores : all_bytes f.stores.items ≡ left_stores (all_bytes m.stores.items)
+  short_stores =
+      ap all_bytes s.stores ∙ short_bytes (forgotten m.byte_count) m.stores.items
+      ∙ ap (λ i. drop (forgotten i) (all_bytes m.stores.items)) count
+
+  short_count : f.byte_count ≡ length (left_stores (all_bytes m.stores.items))
+  short_count =
+      s.byte_count ∙ ap (λ i. i - forgotten i) count
+      ∙ sym (length-drop (forgotten (length (all_bytes m.stores.items))) (all_bytes m.stores.items))
+
+  short_whole : f.is_whole ≡ has_all (windows_after w event).stores
+  short_whole =
+      let long : m.byte_count ≡ length noted_bytes - forgotten (length w.stores) =
+      count ∙ ap (λ (xs : List StoreByte). length xs) all ∙ length-drop (forgotten (length w.stores)) noted_bytes in
+      s.is_whole ∙ (λ i. (n.is_whole ∙ k.is_whole) i && (forgotten (long i) == 0))
+      ∙ still_all (length w.stores) (length noted_bytes) (no_fewer w.stores w.moment event) ∙ ap has_all (sym (stores_noted w event))
+
+  short_places : AreFound f.places.items f.stores.items
+  short_places =
+      let found : AreFound m.places.items m.stores.items =
+      subst (λ ps. AreFound ps m.stores.items) (sym n.places)
+      (still_found g.places.items g.stores.items g.moment event m.stores.items k.found n.stores) in
+      subst (AreFound f.places.items) (sym s.stores) (subst (λ ps. AreFound ps (shortened (forgotten m.byte_count) m.stores.items))
+      (sym s.places) (short_found m.places.items m.stores.items (forgotten m.byte_count) found))
+
+pub noted : (g m f h : StoreLog) (w : Windows) (event : HistoryEvent) → w.moment < 18446744073709551615 → is_within event ≡ true
+    → IsLogOf g w → IsNoted g event m → IsShortened m f → IsCounted f h → IsLogOf h (windows_after w event)
+noted g m f h w event few inside k n s c =
     let before : f.moment ≡ w.moment = s.moment ∙ n.moment ∙ k.moment in
     let counted = c.moment in
+    let left = left g m f h w event inside k n s in
     record {
       image = c.image ∙ s.image ∙ n.image ∙ k.image;
       rest = c.rest ∙ s.rest ∙ n.rest ∙ k.rest;
       moment = omega arith;
       loads = ap all_bytes_of (c.loads ∙ s.loads ∙ n.loads) ∙ bytes_noted g.loads.items g.moment event
           ∙ (λ i. noted_loads (k.loads i) (k.moment i) event) ∙ sym (loads_noted w event);
-      stores = c.stores ∙ s.stores ∙ ap left_stores all ∙ still_left w.stores (noted_stores w.stores w.moment event) more
-          ∙ ap left_stores (sym same);
-      is_whole = c.is_whole ∙ s.is_whole ∙ (λ i. (n.is_whole ∙ k.is_whole) i && (forgotten (long i) == 0))
-          ∙ still_all (length w.stores) (length (noted_stores w.stores w.moment event)) more ∙ ap has_all (sym same);
-      found = subst (AreFound h.places.items) (sym c.stores) (subst (λ ps. AreFound ps f.stores.items) (sym c.places) left);
+      stores = ap all_bytes c.stores ∙ short_stores g m f h w event inside k n s ∙ left;
+      byte_count = c.byte_count ∙ short_count g m f h w event inside k n s ∙ ap (λ (xs : List StoreByte). length xs) left;
+      is_whole = c.is_whole ∙ short_whole g m f h w event inside k n s;
+      found = subst (AreFound h.places.items) (sym c.stores) (subst (λ ps. AreFound ps f.stores.items) (sym c.places)
+          (short_places g m f h w event inside k n s));
       none_open = λ z. absurd (omega arith);
     }
 
@@ -213,7 +290,8 @@ idled g h w few k c =
       rest = c.rest ∙ k.rest;
       moment = omega arith;
       loads = ap all_bytes_of c.loads ∙ k.loads;
-      stores = c.stores ∙ k.stores;
+      stores = ap all_bytes c.stores ∙ k.stores;
+      byte_count = c.byte_count ∙ k.byte_count;
       is_whole = c.is_whole ∙ k.is_whole;
       found = subst (AreFound h.places.items) (sym c.stores) (subst (λ ps. AreFound ps g.stores.items) (sym c.places) k.found);
       none_open = λ z. absurd (omega arith);
@@ -222,21 +300,19 @@ idled g h w few k c =
 -- of a log none is forgotten twice
 kept_short : (g f : StoreLog) (w : Windows) → IsLogOf g w → IsShortened g f → IsLogOf f w
 kept_short g f w k s =
-    let m : ℕ = length w.stores in
-    let sum = further m m (omega arith) in
-    let again : forgotten (m - forgotten m) ≡ 0 = omega arith in
-    let long : length g.stores.items ≡ m - forgotten m =
-    ap (λ (xs : List StoreByte). length xs) k.stores ∙ length-drop (forgotten m) w.stores in
-    let none : forgotten (length g.stores.items) ≡ 0 = ap forgotten long ∙ again in
+    let before = k.byte_count in
+    let after = s.byte_count in
+    let none : forgotten g.byte_count ≡ 0 = few g.byte_count (let less = few_left w.stores in omega arith) in
     record {
       image = s.image ∙ k.image;
       rest = s.rest ∙ k.rest;
       moment = s.moment ∙ k.moment;
       loads = ap all_bytes_of s.loads ∙ k.loads;
-      stores = s.stores ∙ ap (λ n. drop n g.stores.items) none ∙ k.stores;
+      stores = ap all_bytes s.stores ∙ ap (λ n. all_bytes (shortened n g.stores.items)) none ∙ k.stores;
+      byte_count = omega arith;
       is_whole = s.is_whole ∙ ap (λ n. g.is_whole && (n == 0)) none ∙ and_true g.is_whole ∙ k.is_whole;
-      found = subst (AreFound f.places.items) (sym s.stores) (subst (λ ps. AreFound ps (left_stores g.stores.items)) (sym s.places)
-          (rest_found g.places.items g.stores.items (forgotten (length g.stores.items)) k.found));
+      found = subst (AreFound f.places.items) (sym s.stores) (subst (λ ps. AreFound ps (shortened (forgotten g.byte_count) g.stores.items))
+          (sym s.places) (short_found g.places.items g.stores.items (forgotten g.byte_count) k.found));
       none_open = λ z. none_before g f (short_open g f s) (k.none_open z);
     }
 
@@ -252,15 +328,20 @@ all_left : (stores : List StoreByte) → has_all stores ≡ true → left_stores
 all_left stores t = ap (λ n. drop n stores) (few (length stores) ((Decides-ltb (length stores) 8192).0 t))
 
 chosen_told : (g : StoreLog) (w : Windows) (l : LoadByte) (b : ℕ) → IsLogOf g w → (all : Bool) → has_all w.stores ≡ all
-    → (if all then last_reason g.image.items g.rest g.stores.items l b else part_reason g.stores.items l b)
+    → (if all then last_reason g.image.items g.rest (stored_there l.address g.stores.items) l b
+    else part_reason (stored_there l.address g.stores.items) l b)
     ≡ (if all then last_reason w.image w.rest w.stores l b else part_reason (left_stores w.stores) l b)
-chosen_told g w l b k true t = λ i. last_reason (k.image i) (k.rest i) ((k.stores ∙ all_left w.stores t) i) l b
-chosen_told g w l b k false t = ap (λ xs. part_reason xs l b) k.stores
+chosen_told g w l b k true t =
+    whole_reason g.image.items g.rest l b g.stores.items
+    ∙ (λ i. last_reason (k.image i) (k.rest i) ((k.stores ∙ all_left w.stores t) i) l b)
+chosen_told g w l b k false t =
+    ap of_store (whole_reason [] Unknown l b g.stores.items) ∙ ap (λ xs. part_reason xs l b) k.stores
 
 -- what a log says is told by the history
 pub log_tells : (g : StoreLog) (w : Windows) (l : LoadByte) (b : ℕ) → IsLogOf g w → kept_reason g l b ≡ told_reason w l b
 log_tells g w l b k =
-    ap (λ (all : Bool). if all then last_reason g.image.items g.rest g.stores.items l b else part_reason g.stores.items l b) k.is_whole
+    ap (λ (all : Bool). if all then last_reason g.image.items g.rest (stored_there l.address g.stores.items) l b
+    else part_reason (stored_there l.address g.stores.items) l b) k.is_whole
     ∙ chosen_told g w l b k (has_all w.stores) refl
 
 -- what stores that are left say of who stored the byte is so of all
@@ -291,28 +372,37 @@ no_reason w l b t = rw t (reason_law w.image w.rest w.stores l b).0
 -- Where a byte may come from. ----
 
 chosen_sources : (g : StoreLog) (w : Windows) (l : LoadByte) (b : ℕ) → IsLogOf g w → (all : Bool) → has_all w.stores ≡ all
-    → (if all then sources g.image.items g.rest g.stores.items l b else map Store (givers g.stores.items l b))
+    → (if all then sources g.image.items g.rest (stored_there l.address g.stores.items) l b
+    else map Store (givers (stored_there l.address g.stores.items) l b))
     ≡ (if all then sources w.image w.rest w.stores l b else map Store (givers (left_stores w.stores) l b))
-chosen_sources g w l b k true t = λ i. sources (k.image i) (k.rest i) ((k.stores ∙ all_left w.stores t) i) l b
-chosen_sources g w l b k false t = ap (λ xs. map Store (givers xs l b)) k.stores
+chosen_sources g w l b k true t =
+    whole_sources g.image.items g.rest l b g.stores.items
+    ∙ (λ i. sources (k.image i) (k.rest i) ((k.stores ∙ all_left w.stores t) i) l b)
+chosen_sources g w l b k false t =
+    ap (map Store) (whole_givers g.image.items g.rest l b g.stores.items) ∙ ap (λ xs. map Store (givers xs l b)) k.stores
 
 pub log_names : (g : StoreLog) (w : Windows) (l : LoadByte) (b : ℕ) → IsLogOf g w → kept_sources g l b ≡ told_sources w l b
 log_names g w l b k =
-    ap (λ (all : Bool). if all then sources g.image.items g.rest g.stores.items l b else map Store (givers g.stores.items l b)) k.is_whole
+    ap (λ (all : Bool). if all then sources g.image.items g.rest (stored_there l.address g.stores.items) l b
+    else map Store (givers (stored_there l.address g.stores.items) l b)) k.is_whole
     ∙ chosen_sources g w l b k (has_all w.stores) refl
 
 chosen_at_request : (g : StoreLog) (w : Windows) (l : LoadByte) (b : ℕ) → IsLogOf g w → (all : Bool) → has_all w.stores ≡ all
-    → (if all then sources g.image.items g.rest (at_request l g.stores.items) l b
-    else map Store (givers (at_request l g.stores.items) l b))
+    → (if all then sources g.image.items g.rest (at_request l (stored_there l.address g.stores.items)) l b
+    else map Store (givers (at_request l (stored_there l.address g.stores.items)) l b))
     ≡ (if all then sources w.image w.rest (at_request l w.stores) l b else map Store (givers (at_request l (left_stores w.stores)) l b))
-chosen_at_request g w l b k true t = λ i. sources (k.image i) (k.rest i) (at_request l ((k.stores ∙ all_left w.stores t) i)) l b
-chosen_at_request g w l b k false t = ap (λ xs. map Store (givers (at_request l xs) l b)) k.stores
+chosen_at_request g w l b k true t =
+    whole_at_request g.image.items g.rest l b g.stores.items
+    ∙ (λ i. sources (k.image i) (k.rest i) (at_request l ((k.stores ∙ all_left w.stores t) i)) l b)
+chosen_at_request g w l b k false t =
+    ap (map Store) (whole_givers_at_request g.image.items g.rest l b g.stores.items)
+    ∙ ap (λ xs. map Store (givers (at_request l xs) l b)) k.stores
 
 pub log_names_at_request : (g : StoreLog) (w : Windows) (l : LoadByte) (b : ℕ) → IsLogOf g w
     → kept_at_request g l b ≡ told_at_request w l b
 log_names_at_request g w l b k =
-    ap (λ (all : Bool). if all then sources g.image.items g.rest (at_request l g.stores.items) l b
-    else map Store (givers (at_request l g.stores.items) l b)) k.is_whole
+    ap (λ (all : Bool). if all then sources g.image.items g.rest (at_request l (stored_there l.address g.stores.items)) l b
+    else map Store (givers (at_request l (stored_there l.address g.stores.items)) l b)) k.is_whole
     ∙ chosen_at_request g w l b k (has_all w.stores) refl
 
 -- while none is forgotten there is a source exactly of the bytes that the law allows

@@ -8,14 +8,14 @@ use Rattle.std.proofs.lemmas.List.{length-map, map-append}
 use Rattle.std.proofs.lemmas.Option.{slice_get-map}
 use Rattle.memory_histories.specs.declared.events.HistoryEvent.{HistoryEvent}
 use Rattle.memory_histories.specs.declared.events.HistoryEvent.TheVariants.{LoadRequest, LoadResponse, StoreRequest, StoreResponse}
-use Rattle.memory_histories.specs.declared.windows.StoreByte.{StoreByte}
 use Rattle.history_reasons.specs.declared.loads.OpenLoad.{OpenLoad}
 use Rattle.history_reasons.specs.declared.log.StoreLog.{StoreLog}
 use Rattle.history_reasons.specs.declared.open.OpenOperation.{OpenOperation}
 use Rattle.history_reasons.specs.declared.places.StorePlace.{StorePlace}
+use Rattle.history_reasons.specs.declared.stores.KeptStore.{KeptStore}
 use Rattle.history_reasons.specs.Loads.{without_load}
 use Rattle.history_reasons.specs.Places.{is_place_of, moved_down}
-use Rattle.history_reasons.specs.Log.{told_loads, noted_places, IsNoted, IsShortened, IsCounted, forgotten}
+use Rattle.history_reasons.specs.Log.{told_loads, noted_places, IsNoted, IsShortened, IsCounted, forgotten, gone}
 use Rattle.history_reasons.specs.Open.{load_operation, store_operation, operation_under, loads_then, stores_then, without_operation, HasNoneOpen, HasSameOpen, HasOpenAfter}
 
 -- What is asked of them. ----
@@ -57,7 +57,7 @@ stores_without number (p ∷ ps) = elim (cases_Bool (p.number == number)) [
   | inr e ↦ rw e (ap (λ (os : List OpenOperation). store_operation p ∷ os) (stores_without number ps))
 ]
 
-stores_noted : (places : List StorePlace) (stores : List StoreByte) (event : HistoryEvent)
+stores_noted : (places : List StorePlace) (stores : List KeptStore) (event : HistoryEvent)
     → map store_operation (noted_places places stores event) ≡ stores_then (map store_operation places) event
 stores_noted places stores (StoreRequest number address bytes enables) =
     map-append store_operation places
@@ -83,7 +83,7 @@ none_before g h same none = record { loads = same.loads ∙ none.loads; stores =
 pub short_open : (m f : StoreLog) → IsShortened m f → HasSameOpen m f
 short_open m f s = record {
   loads = ap (map load_operation) s.loads;
-  stores = ap (map store_operation) s.places ∙ still_stores (forgotten (length m.stores.items)) m.places.items;
+  stores = ap (map store_operation) s.places ∙ still_stores (gone (forgotten m.byte_count) m.stores.items) m.places.items;
 }
 
 left_open : (m f h : StoreLog) → IsShortened m f → IsCounted f h → HasSameOpen m h

@@ -74,7 +74,7 @@ turned xs x c =
     let within : c.0 < length xs = let l = c.1 in omega arith in
     (length xs - 1 - c.0, omega arith, sym (get_or-reverse xs c.0 x within) ∙ c.2)
 
-last_there : (p : StoreByte → Bool) (xs : List StoreByte) (x : StoreByte) → last_that p xs ≡ Some x → Contains xs x × (p x ≡ true)
+pub last_there : (p : StoreByte → Bool) (xs : List StoreByte) (x : StoreByte) → last_that p xs ≡ Some x → Contains xs x × (p x ≡ true)
 last_there p xs x h = let r = found_there p (reverse xs) x h in (turned xs x r.0, r.1)
 
 last_is : (p : StoreByte → Bool) (P : StoreByte → Type 0) (decides : (s : StoreByte) → Decides (p s) (P s)) (xs : List StoreByte)

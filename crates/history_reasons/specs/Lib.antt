@@ -1,5 +1,6 @@
 pub mod Reasons
 pub mod Sources
+pub mod Stores
 pub mod Places
 pub mod Loads
 pub mod Open

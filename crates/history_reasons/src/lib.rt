@@ -11,6 +11,8 @@ mod loads;
 mod log;
 mod open;
 mod places;
+mod stores;
+mod there;
 mod units;
 
 pub use givers::{Source, sources};

@@ -9,12 +9,15 @@ ghost use Rattle.memory_histories.specs.Regular.{MayReturn, is_inside};
 ghost use Rattle.history_reasons.specs.Log.{IsLogOf, is_within, HasRoom, IsNoted, IsCounted, IsShortened, forgotten, has_all, of_store, part_reason, kept_reason, told_reason, IsTrueOf, idle, kept_sources, told_sources, kept_at_request, told_at_request};
 ghost use Rattle.history_reasons.specs.Loads.{asks_for, byte_at};
 ghost use Rattle.history_reasons.specs.Open.{HasSameOpen, HasOpenAfter};
+ghost use Rattle.history_reasons.specs.Stores.{stored_there};
 
+use crate::Reason;
 use crate::givers::{Source, add_givers, at_request, sources};
 use crate::loads::{OpenLoad, end_load, load_at};
 use crate::places::{StorePlace, end_at, end_place, move_down};
-use crate::{Reason, last_reason};
-use memory_histories::{HistoryEvent, LoadByte, MAX_LENGTH, Rest, StoreByte, add_store, is_inside};
+use crate::stores::{KeptStore, cut, enabled_count, gone_stores, kept_store, push_store};
+use crate::there::{reason_there, stored_there};
+use memory_histories::{HistoryEvent, LoadByte, Rest, is_inside};
 use std::alloc::{AllocError, Global};
 
 /// How many bytes of stores a log forgets at a time, the first ones, once it has twice as many: so while fewer
@@ -29,7 +32,8 @@ pub struct StoreLog {
     image: Vec<u8>,
     rest: Rest,
     moment: u64,
-    stores: Vec<StoreByte>,
+    stores: Vec<KeptStore>,
+    byte_count: usize,
     pub(crate) places: Vec<StorePlace>,
     pub(crate) loads: Vec<OpenLoad>,
     is_whole: bool,
@@ -48,6 +52,7 @@ impl StoreLog {
             rest,
             moment: 0,
             stores: Vec::new(alloc),
+            byte_count: 0,
             places: Vec::new(alloc),
             loads: Vec::new(alloc),
             is_whole: true,
@@ -62,7 +67,7 @@ impl StoreLog {
         ensures open { HasSameOpen self.old self.new }
         ensures room { OnOk result (HasRoom self.new) }
     {
-        self.stores.reserve(MAX_LENGTH)?;
+        self.stores.reserve(1)?;
         self.places.reserve(1)?;
         self.loads.reserve(1)
     }
@@ -100,24 +105,26 @@ impl StoreLog {
         self.count();
     }
 
-    // Forgets the first stores, if there are too many.
+    // Forgets the first bytes of stores, if there are too many.
     fn forget(&mut self)
         ensures { IsShortened self.old self.new }
     {
-        if self.stores.len() >= 2 * KEPT_BYTES {
+        if self.byte_count >= 2 * KEPT_BYTES {
             self.forget_first();
         }
     }
 
-    // Forgets the first stores.
-    #[tactic(auto, using(crate::proofs::Logs::many))]
+    // Forgets the first bytes of stores.
     fn forget_first(&mut self)
-        requires { 2 * KEPT_BYTES ≤ vec_len self.old.stores }
+        requires { 2 * KEPT_BYTES ≤ self.old.byte_count }
         ensures { IsShortened self.old self.new }
     {
-        let count = forgotten(self.stores.len());
-        drop_first(&mut self.stores, count);
-        move_down(self.places.as_mut_slice(), count);
+        let count = forgotten(self.byte_count);
+        let (stores, bytes) = gone_stores(self.stores.as_slice(), count);
+        drop_first(&mut self.stores, stores);
+        cut(self.stores.as_mut_slice(), bytes);
+        move_down(self.places.as_mut_slice(), stores);
+        self.byte_count -= count;
         self.is_whole = false;
     }
 
@@ -178,8 +185,10 @@ impl StoreLog {
             first,
             most,
         });
-        let moment = self.moment;
-        add_store(&mut self.stores, number, address, bytes, enables, moment);
+        let count = enabled_count(most, enables);
+        let store = kept_store(number, address, bytes, enables, self.moment);
+        push_store(&mut self.stores, store, count);
+        self.byte_count = self.byte_count.saturating_add(count);
     }
 
     // The store that is open under this number is answered.
@@ -282,7 +291,8 @@ impl StoreLog {
     ) -> Result<Vec<Source>, AllocError>
         ensures { IfOk result (λ v. v.items ≡ kept_at_request self.now load.now byte) }
     {
-        let stores = at_request(alloc, self.stores.as_slice(), load)?;
+        let there = stored_there(alloc, self.stores.as_slice(), load.address)?;
+        let stores = at_request(alloc, there.as_slice(), load)?;
         if self.is_whole {
             let image = self.image.as_slice();
             return sources(alloc, image, self.rest, stores.as_slice(), load, byte);
@@ -300,12 +310,13 @@ impl StoreLog {
     ) -> Result<Vec<Source>, AllocError>
         ensures { IfOk result (λ v. v.items ≡ kept_sources self.now load.now byte) }
     {
+        let stores = stored_there(alloc, self.stores.as_slice(), load.address)?;
         if self.is_whole {
             let image = self.image.as_slice();
-            return sources(alloc, image, self.rest, self.stores.as_slice(), load, byte);
+            return sources(alloc, image, self.rest, stores.as_slice(), load, byte);
         }
         let mut found = Vec::new(alloc);
-        add_givers(&mut found, self.stores.as_slice(), load, byte)?;
+        add_givers(&mut found, stores.as_slice(), load, byte)?;
         Ok(found)
     }
 
@@ -314,7 +325,7 @@ impl StoreLog {
     {
         if self.is_whole {
             let image = self.image.as_slice();
-            last_reason(image, self.rest, self.stores.as_slice(), load, byte)
+            reason_there(image, self.rest, self.stores.as_slice(), load, byte)
         } else {
             part_reason(self.stores.as_slice(), load, byte)
         }
@@ -322,10 +333,10 @@ impl StoreLog {
 }
 
 // Why a load may not return a byte, by the last stores alone.
-fn part_reason(stores: &[StoreByte], load: &LoadByte, byte: u8) -> Option<Reason>
-    ensures { result ≡ part_reason stores.now load.now byte }
+fn part_reason(stores: &[KeptStore], load: &LoadByte, byte: u8) -> Option<Reason>
+    ensures { result ≡ part_reason (stored_there load.now.address stores.now) load.now byte }
 {
-    of_store(last_reason(&[], Rest::Unknown, stores, load, byte))
+    of_store(reason_there(&[], Rest::Unknown, stores, load, byte))
 }
 
 // A reason that names who stored the byte.
@@ -349,7 +360,7 @@ fn forgotten(length: usize) -> usize
 
 // The first of them go. They are moved at once, where `drain` would turn the list round three times.
 #[tactic(auto, using(crate::proofs::Found::copied_down))]
-fn drop_first(stores: &mut Vec<StoreByte>, count: usize)
+fn drop_first(stores: &mut Vec<KeptStore>, count: usize)
     requires { count ≤ vec_len stores.old }
     ensures { stores.new.items ≡ drop count stores.old.items }
 {

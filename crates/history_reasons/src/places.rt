@@ -1,13 +1,12 @@
-//! Where the bytes of the open stores stand among those of all stores, so that an answer looks at its own store alone.
+//! Where the open stores stand among all stores, so that an answer looks at its own store alone.
 
 ghost use Rattle.std.specs.Prelude.{◌≡◌, map, not};
 ghost use Rattle.std.specs.List.{filter};
-ghost use Rattle.memory_histories.specs.Windows.{after_response};
 ghost use Rattle.history_reasons.specs.Places.{is_place_of, ended_from, ended_at, moved_down};
 
-use memory_histories::StoreByte;
+use crate::stores::{KeptStore, end_store};
 
-/// An open store of so many bytes at most: those that are enabled stand from this place on.
+/// An open store of so many bytes at most: it stands at this place, unless none of them is enabled or it is forgotten.
 #[derive(Clone, Copy, PartialEq, Eq, Debug)]
 pub struct StorePlace {
     pub(crate) number: u64,
@@ -23,9 +22,9 @@ fn is_place_of(place: &StorePlace, number: u64) -> bool
     place.number == number
 }
 
-// The stores that are open under this number, which begin at these places, are answered at this moment.
+// The stores that are open under this number, which stand at these places, are answered at this moment.
 #[tactic(auto, using(crate::proofs::Found::ended_at_more))]
-pub(crate) fn end_at(stores: &mut [StoreByte], places: &[StorePlace], number: u64, moment: u64)
+pub(crate) fn end_at(stores: &mut [KeptStore], places: &[StorePlace], number: u64, moment: u64)
     ensures { stores.new ≡ ended_at places.now number moment stores.old }
 {
     for place in places {
@@ -35,30 +34,13 @@ pub(crate) fn end_at(stores: &mut [StoreByte], places: &[StorePlace], number: u6
     }
 }
 
-// Of the bytes at a place those whose store is open under this number are answered at this moment.
-fn end_from(stores: &mut [StoreByte], place: StorePlace, number: u64, moment: u64)
+// The store at a place is answered at this moment, if it is open under this number.
+#[tactic(auto, using(crate::proofs::Found::put_there, crate::proofs::Found::put_past))]
+fn end_from(stores: &mut [KeptStore], place: StorePlace, number: u64, moment: u64)
     ensures { stores.new ≡ ended_from place number moment stores.old }
 {
-    let from = place.first.min(stores.len());
-    let count = place.most.min(stores.len() - from);
-    end_store(&mut stores[from..from + count], number, moment);
-}
-
-// The store that is open under this number is answered at this moment.
-fn end_store(stores: &mut [StoreByte], number: u64, moment: u64)
-    ensures { stores.new ≡ map (after_response number moment) stores.old }
-{
-    for store in stores.iter_mut() {
-        end_byte(store, number, moment);
-    }
-}
-
-// A byte of the store that is open under this number is answered at this moment; any other stays.
-fn end_byte(store: &mut StoreByte, number: u64, moment: u64)
-    ensures { store.new ≡ after_response number moment store.old }
-{
-    if store.ended.is_none() && store.number == number {
-        store.ended = Some(moment);
+    if place.first < stores.len() {
+        end_store(&mut stores[place.first], number, moment);
     }
 }
 
@@ -69,7 +51,7 @@ pub(crate) fn end_place(places: &mut Vec<StorePlace>, number: u64)
     places.retain(|place| !is_place_of(place, number));
 }
 
-// So many bytes in front of all others are forgotten.
+// So many stores in front of all others are forgotten.
 pub(crate) fn move_down(places: &mut [StorePlace], count: usize)
     ensures { places.new ≡ map (moved_down count) places.old }
 {

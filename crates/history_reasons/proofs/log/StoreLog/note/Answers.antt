@@ -4,7 +4,7 @@ use Rattle.history_reasons.proofs.log.StoreLog.note.Goals as goal
 
 pub returns-clause-within : goal.returns-clause-within
 returns-clause-within c w few inside k =
-    noted c.args.self.now c.note_bytes.new.self c.forget.new.self c.count.new.self w c.args.event few k
+    noted c.args.self.now c.note_bytes.new.self c.forget.new.self c.count.new.self w c.args.event few inside k
     (c.note_bytes.ensures.within inside) c.forget.ensures c.count.ensures
 
 pub returns-clause-beyond : goal.returns-clause-beyond

@@ -1,0 +1,214 @@
+-- What is told of a byte looks at the stores to its address alone.
+use Rattle.std.proofs.Common.{◌≡◌, ℕ, ◌+◌, ◌<◌, ◌==◌, ◌&&◌, ◌||◌, not, if◌then◌else◌, Bool, true, false, List, [], ◌∷◌, ◌++◌, map, slice_get, Option, Some, None, inl, inr, refl, sym, ◌∙◌, ap, ap₂, arith}
+use Rattle.std.specs.Prelude.{reverse, nat_lt}
+use Rattle.std.specs.List.{filter, find, filter_map, cons_option}
+use Rattle.std.specs.Option.{option_map}
+use Rattle.std.proofs.lemmas.Bool.{cases_Bool, eqb-true, eq-eqb, ne_eqb}
+use Rattle.std.proofs.lemmas.List.{reverse-append}
+use Rattle.std.proofs.lemmas.List.Elements.{filter-append, filter_map-append}
+use Rattle.memory_histories.specs.declared.events.Rest.{Rest}
+use Rattle.memory_histories.specs.declared.windows.StoreByte.{StoreByte}
+use Rattle.memory_histories.specs.declared.windows.LoadByte.{LoadByte}
+use Rattle.memory_histories.specs.Regular.{is_before, is_overwritten, is_left, is_covered, is_initial, overwrites, may_return_byte}
+use Rattle.memory_histories.specs.Parts.{lane_bytes, lane_at}
+use Rattle.memory_histories.proofs.Lists.{list_any-kept, list_any-same, filter-kept, filter-filter, filter-map}
+use Rattle.history_reasons.specs.declared.stores.KeptStore.{KeptStore}
+use Rattle.history_reasons.specs.Stores.{bytes_of, all_bytes, stored_at, stored_there, last_there, first_in, lanes_in}
+use Rattle.history_reasons.specs.declared.Reason.{Reason}
+use Rattle.history_reasons.specs.declared.Reason.TheVariants.{StoreOverwritten}
+use Rattle.history_reasons.specs.Reasons.{stores_byte, covers, last_that, reason_by, last_reason}
+use Rattle.history_reasons.specs.declared.givers.Source.TheVariants.{Store}
+use Rattle.history_reasons.proofs.Reasons.{last_there as last_one}
+use Rattle.history_reasons.specs.Sources.{gives, givers, sources, initial_source, taken_at_once, at_request}
+
+-- The bytes at an address. ----
+
+abbrev is_there : ℕ → StoreByte → Bool
+is_there address s = s.address == address
+
+module _ (n t : ℕ) (o : Option ℕ) (x : ℕ) where
+  abbrev pub one : Option ℕ → List StoreByte
+  one None = []
+  one (Some b) = (record { number = n; address = x; byte = b; began = t; ended = o }) ∷ []
+
+  none_there : (a : ℕ) (ls : List (Option ℕ)) → x < a → filter (is_there x) (lane_bytes n a ls t o) ≡ []
+  none_there a [] h = refl
+  none_there a (None ∷ ls) h = none_there (a + 1) ls (omega arith)
+  none_there a (Some b ∷ ls) h = rw (ne_eqb a x (λ e. omega arith)) (none_there (a + 1) ls (omega arith))
+
+  lane_there : (a : ℕ) (ls : List (Option ℕ)) → filter (is_there x) (lane_bytes n a ls t o) ≡ one (lane_at a ls x)
+  lane_there a [] = refl
+  lane_there a (None ∷ ls) = elim (cases_Bool (a == x)) [
+    | inl e ↦ let same = eqb-true a x e in rw e (none_there (a + 1) ls (omega arith))
+    | inr e ↦ rw e (lane_there (a + 1) ls)
+  ]
+  lane_there a (Some b ∷ ls) = elim (cases_Bool (a == x)) [
+    | inl e ↦
+        let same : a ≡ x = eqb-true a x e in
+        rw e (ap₂ (λ (i : ℕ) (ss : List StoreByte). (record { number = n; address = i; byte = b; began = t; ended = o }) ∷ ss) same
+        (none_there (a + 1) ls (omega arith)))
+    | inr e ↦ rw e (lane_there (a + 1) ls)
+  ]
+
+joined : (s : KeptStore) (x : ℕ) (l : Option ℕ) (ss : List KeptStore) → lane_at (first_in s) (lanes_in s) x ≡ l
+    → one s.number s.began s.ended x l ++ stored_there x ss ≡ stored_there x (s ∷ ss)
+joined s x None ss e = rw e refl
+joined s x (Some b) ss e = rw e refl
+
+pub bytes_there : (x : ℕ) (ss : List KeptStore) → stored_there x ss ≡ filter (is_there x) (all_bytes ss)
+bytes_there x [] = refl
+bytes_there x (s ∷ ss) =
+    let here : filter (is_there x) (bytes_of s) ≡ one s.number s.began s.ended x (lane_at (first_in s) (lanes_in s) x) =
+    lane_there s.number s.began s.ended x (first_in s) (lanes_in s) in
+    sym (joined s x (lane_at (first_in s) (lanes_in s) x) ss refl)
+    ∙ ap₂ (λ (bs cs : List StoreByte). bs ++ cs) (sym here) (bytes_there x ss)
+    ∙ sym (filter-append (is_there x) (bytes_of s) (all_bytes ss))
+
+-- Searches. ----
+
+alone : {Y : Type 0} (o : Option Y) → cons_option o [] ≡ reverse (cons_option o [])
+alone None = refl
+alone (Some y) = refl
+
+reverse-filter_map : {X Y : Type 0} (f : X → Option Y) (xs : List X) → filter_map f (reverse xs) ≡ reverse (filter_map f xs)
+reverse-filter_map f [] = refl
+reverse-filter_map {Y = Y} f (x ∷ xs) =
+    ap (filter_map f) (reverse-append (x ∷ []) xs) ∙ filter_map-append f (reverse xs) (x ∷ [])
+    ∙ ap₂ (λ (ys zs : List Y). ys ++ zs) (reverse-filter_map f xs) (alone (f x))
+    ∙ sym (reverse-append (filter_map f (x ∷ [])) (filter_map f xs)) ∙ ap reverse (sym (filter_map-append f (x ∷ []) xs))
+
+pub last_turned : (p : StoreByte → Bool) (address : ℕ) (ss : List KeptStore)
+    → last_there p address ss ≡ last_that p (stored_there address ss)
+last_turned p address ss = ap (find p) (reverse-filter_map (stored_at address) ss)
+
+single : {X : Type 0} (keep : X → Bool) (x : X) → filter keep (x ∷ []) ≡ reverse (filter keep (x ∷ []))
+single keep x = elim (cases_Bool (keep x)) [ inl e ↦ rw e refl | inr e ↦ rw e refl ]
+
+reverse-filter : {X : Type 0} (keep : X → Bool) (xs : List X) → filter keep (reverse xs) ≡ reverse (filter keep xs)
+reverse-filter keep [] = refl
+reverse-filter {X = X} keep (x ∷ xs) =
+    ap (filter keep) (reverse-append (x ∷ []) xs) ∙ filter-append keep (reverse xs) (x ∷ [])
+    ∙ ap₂ (λ (ys zs : List X). ys ++ zs) (reverse-filter keep xs) (single keep x)
+    ∙ sym (reverse-append (filter keep (x ∷ [])) (filter keep xs)) ∙ ap reverse (sym (filter-append keep (x ∷ []) xs))
+
+find-kept : {X : Type 0} (keep p : X → Bool) → ((x : X) → p x ≡ true → keep x ≡ true) → (xs : List X)
+    → find p (filter keep xs) ≡ find p xs
+find-kept keep p h [] = refl
+find-kept keep p h (x ∷ xs) = elim (cases_Bool (p x)) [
+  | inl e ↦ rw (h x e, e) refl
+  | inr e ↦ elim (cases_Bool (keep x)) [ inl k ↦ rw (k, e) (find-kept keep p h xs) | inr k ↦ rw (k, e) (find-kept keep p h xs) ]
+]
+
+last_kept : (keep p : StoreByte → Bool) → ((s : StoreByte) → p s ≡ true → keep s ≡ true) → (xs : List StoreByte)
+    → last_that p (filter keep xs) ≡ last_that p xs
+last_kept keep p h xs = ap (find p) (sym (reverse-filter keep xs)) ∙ find-kept keep p h (reverse xs)
+
+and_swap : (a b : Bool) → (a && b) ≡ (b && a)
+and_swap true true = refl
+and_swap true false = refl
+and_swap false true = refl
+and_swap false false = refl
+
+filter_same : {X : Type 0} (p q : X → Bool) → ((x : X) → p x ≡ q x) → (xs : List X) → filter p xs ≡ filter q xs
+filter_same p q e [] = refl
+filter_same p q e (x ∷ xs) = rw (e x, filter_same p q e xs) refl
+
+filter_swap : {X : Type 0} (p q : X → Bool) (xs : List X) → filter p (filter q xs) ≡ filter q (filter p xs)
+filter_swap p q xs =
+    filter-filter q p xs ∙ filter_same (λ x. q x && p x) (λ x. p x && q x) (λ x. and_swap (q x) (p x)) xs ∙ sym (filter-filter p q xs)
+
+and_first : (a b : Bool) → (a && b) ≡ true → a ≡ true
+and_first true b h = refl
+and_first false b h = h
+
+-- What is told of a load. ----
+
+module _ (image : List ℕ) (rest : Rest) (l : LoadByte) (b : ℕ) (xs : List StoreByte) where
+  abbrev near : List StoreByte
+  near = filter (is_there l.address) xs
+
+  over_there : (s x : StoreByte) → (s.address == l.address) ≡ true → overwrites s l.began x ≡ true → is_there l.address x ≡ true
+  over_there s x e h =
+      let same : x.address ≡ s.address =
+      eqb-true x.address s.address (and_first (x.address == s.address) (is_before s.ended x.began && is_before x.ended l.began) h) in
+      eq-eqb x.address l.address (same ∙ eqb-true s.address l.address e)
+
+  over_same : (s : StoreByte) → (s.address == l.address) ≡ true → is_overwritten near s l.began ≡ is_overwritten xs s l.began
+  over_same s e = list_any-kept (is_there l.address) (overwrites s l.began) (λ x h. over_there s x e h) xs
+
+  gives_same : (s : StoreByte) → gives near l b s ≡ gives xs l b s
+  gives_same s = elim (cases_Bool (s.address == l.address)) [ inl e ↦ rw (e, over_same s e) refl | inr e ↦ rw e refl ]
+
+  gives_there : (s : StoreByte) → gives xs l b s ≡ true → is_there l.address s ≡ true
+  gives_there s h = and_first (s.address == l.address) ((s.byte == b) && not (is_overwritten xs s l.began)) h
+
+  pub givers_same : givers near l b ≡ givers xs l b
+  givers_same =
+      filter_same (gives near l b) (gives xs l b) gives_same near ∙ filter-kept (is_there l.address) (gives xs l b) gives_there xs
+
+  left_same : is_left near l b ≡ is_left xs l b
+  left_same =
+      list_any-same (gives near l b) (gives xs l b) gives_same near ∙ list_any-kept (is_there l.address) (gives xs l b) gives_there xs
+
+  covered_same : is_covered near l ≡ is_covered xs l
+  covered_same =
+      list_any-kept (is_there l.address) (covers l) (λ s h. and_first (s.address == l.address) (is_before s.ended l.began) h) xs
+
+  may_same : may_return_byte image rest near l b ≡ may_return_byte image rest xs l b
+  may_same = ap₂ (λ p q. p || (is_initial (slice_get image l.address) rest b && not q)) left_same covered_same
+
+  pub sources_same : sources image rest near l b ≡ sources image rest xs l b
+  sources_same =
+      ap₂ (λ (c : Bool) (gs : List StoreByte). initial_source (is_initial (slice_get image l.address) rest b && not c) ++ map Store gs)
+      covered_same givers_same
+
+  by_same : (o : Option StoreByte) → last_that (stores_byte l.address b) xs ≡ o → (first : Bool) (c : Option StoreByte)
+      → reason_by o (λ s. last_that (overwrites s l.began) near) first c ≡ reason_by o (λ s. last_that (overwrites s l.began) xs) first c
+  by_same None e true c = refl
+  by_same None e false c = refl
+  by_same (Some s) e first c =
+      let its = (last_one (stores_byte l.address b) xs s e).1 in
+      let there : (s.address == l.address) ≡ true = and_first (s.address == l.address) (s.byte == b) its in
+      ap (λ (o : Option StoreByte). option_map (λ x. StoreOverwritten s x) o)
+      (last_kept (is_there l.address) (overwrites s l.began) (λ x h. over_there s x there h) xs)
+
+  reason_same : last_reason image rest near l b ≡ last_reason image rest xs l b
+  reason_same =
+      let first : Bool = is_initial (slice_get image l.address) rest b in
+      let stored : last_that (stores_byte l.address b) near ≡ last_that (stores_byte l.address b) xs =
+      last_kept (is_there l.address) (stores_byte l.address b) (λ s h. and_first (s.address == l.address) (s.byte == b) h) xs in
+      let covering : last_that (covers l) near ≡ last_that (covers l) xs =
+      last_kept (is_there l.address) (covers l) (λ s h. and_first (s.address == l.address) (is_before s.ended l.began) h) xs in
+      rw (may_same, stored, covering)
+      (ap (λ (o : Option Reason). if may_return_byte image rest xs l b then None else o)
+      (by_same (last_that (stores_byte l.address b) xs) refl first (last_that (covers l) xs)))
+
+  request_same : at_request l near ≡ filter (is_there l.address) (at_request l xs)
+  request_same =
+      ap (map taken_at_once) (filter_swap (λ s. nat_lt s.began l.began) (is_there l.address) xs)
+      ∙ sym (filter-map taken_at_once (is_there l.address) (filter (λ s. nat_lt s.began l.began) xs))
+
+-- The same of stores that are kept whole. ----
+
+module _ (image : List ℕ) (rest : Rest) (l : LoadByte) (b : ℕ) (ss : List KeptStore) where
+  abbrev there : List StoreByte
+  there = stored_there l.address ss
+
+  pub whole_reason : last_reason image rest there l b ≡ last_reason image rest (all_bytes ss) l b
+  whole_reason = ap (λ xs. last_reason image rest xs l b) (bytes_there l.address ss) ∙ reason_same image rest l b (all_bytes ss)
+
+  pub whole_sources : sources image rest there l b ≡ sources image rest (all_bytes ss) l b
+  whole_sources = ap (λ xs. sources image rest xs l b) (bytes_there l.address ss) ∙ sources_same image rest l b (all_bytes ss)
+
+  pub whole_givers : givers there l b ≡ givers (all_bytes ss) l b
+  whole_givers = ap (λ xs. givers xs l b) (bytes_there l.address ss) ∙ givers_same image rest l b (all_bytes ss)
+
+  taken_there : at_request l there ≡ filter (is_there l.address) (at_request l (all_bytes ss))
+  taken_there = ap (at_request l) (bytes_there l.address ss) ∙ request_same image rest l b (all_bytes ss)
+
+  pub whole_at_request : sources image rest (at_request l there) l b ≡ sources image rest (at_request l (all_bytes ss)) l b
+  whole_at_request =
+      ap (λ xs. sources image rest xs l b) taken_there ∙ sources_same image rest l b (at_request l (all_bytes ss))
+
+  pub whole_givers_at_request : givers (at_request l there) l b ≡ givers (at_request l (all_bytes ss)) l b
+  whole_givers_at_request = ap (λ xs. givers xs l b) taken_there ∙ givers_same image rest l b (at_request l (all_bytes ss))
