@@ -19,3 +19,4 @@ pub mod Lanes
 pub mod Alone
 pub mod MayLaws
 pub mod Ranges
+pub mod AtOnce

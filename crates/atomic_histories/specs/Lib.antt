@@ -10,5 +10,6 @@ pub mod Lost
 pub mod May
 pub mod MayLaws
 pub mod Judge
+pub mod AtOnce
 pub mod Faults
 pub mod Examples

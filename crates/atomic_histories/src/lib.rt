@@ -4,6 +4,7 @@
 //! operations take effect, come between the events.
 #![tactic(auto)]
 
+mod at_once;
 mod faults;
 mod followed;
 mod forms;

@@ -2,15 +2,18 @@
 
 ghost use Rattle.std.specs.Prelude.{◌≡◌, ◌+◌, ◌*◌, ◌/◌, ◌^◌, ◌<◌, ◌≤◌, List, ◌++◌, ◌∷◌, [], ℕ, false, map, length, None, IfOk, IfErr, IfSome, IfNone, OnOk, OnErr};
 ghost use Rattle.std.specs.HashMap.{spare};
+ghost use Rattle.std.specs.Vec.{vec_len, vec_capacity};
 ghost use Rattle.std.specs.List.{find};
 ghost use Rattle.memory_histories.specs.declared.events.HistoryEvent.{HistoryEvent};
 ghost use Rattle.atomic_histories.specs.Operations.{opened_after, form_fault, has_number};
-ghost use Rattle.atomic_histories.specs.Law.{IsAtomic};
+ghost use Rattle.atomic_histories.specs.Law.{IsAtomic, unit_at};
+ghost use Rattle.atomic_histories.specs.AtOnce.{AreTaken, AreTakenOrSame};
 ghost use Rattle.atomic_histories.specs.Lost.{IsAtomicBut};
 ghost use Rattle.atomic_histories.specs.Held.{nothing_held, covered, ways_after, ways_from, is_stuck, stuck_from, StandsForAll, StandsBut};
 ghost use Rattle.atomic_histories.specs.May.{asks, AreSetsOf, IsSetOf, HasSets, byte_of, address_of, LoadFaultIs, IsNoVerdict, IsWideByte, IsWideLoad, set_at, sets_from};
 ghost use Rattle.atomic_histories.specs.Judge.{bytes_of, fault_of, held, limit_of, shown_unit, HasSameMemory, IsTaken, IsForgotten, IsLeft, UnitFaultIs, ChangeFaultIs, KeptFaultIs, StepFaultIs, StepFaultIsBut};
 
+use crate::at_once::take_at;
 use crate::forms::{close, form_fault, open_under};
 use crate::may::ways_set;
 use crate::search::Stop;
@@ -296,10 +299,72 @@ impl AtomicMemory {
         ensures unchanged { OnErr result (held self.new ≡ held self.old) }
         ensures limit { limit_of self.new ≡ limit_of self.old }
     {
+        if let Some(fault) = self.form_fault(event) {
+            return Err(AtomicFault::Refused(fault));
+        }
+        self.reserve_open()?;
+        self.take_units(event)?;
+        self.open_or_close(event);
+        Ok(())
+    }
+
+    // The units that an event touches take it: which operations are open changes behind that.
+    fn take_units(&mut self, event: HistoryEvent) -> Result<(), AtomicFault>
+        requires { form_fault (held self.old).opened event ≡ None }
+        ensures ok { OnOk result (AreTaken (held self.old) event.entry (held self.new)) }
+        ensures fault { IfErr result (KeptFaultIs (limit_of self.old) (held self.old) event.entry) }
+        ensures unchanged { OnErr result (held self.new ≡ held self.old) }
+        ensures limit { limit_of self.new ≡ limit_of self.old }
+        ensures loads { self.new.loads ≡ self.old.loads }
+        ensures stores { self.new.stores ≡ self.old.stores }
+    {
+        if self.takes_at_once(event)? {
+            return Ok(());
+        }
+        self.take_by_search(event)
+    }
+
+    // There is room for one more open operation.
+    fn reserve_open(&mut self) -> Result<(), AllocError>
+        ensures held { held self.new ≡ held self.old }
+        ensures loads { OnOk result (vec_len self.new.loads < vec_capacity self.new.loads) }
+        ensures stores { OnOk result (vec_len self.new.stores < vec_capacity self.new.stores) }
+        ensures limit { limit_of self.new ≡ limit_of self.old }
+    {
+        self.loads.reserve(1)?;
+        self.stores.reserve(1)
+    }
+
+    // The one unit that an event touches takes it where its way stands, if it can.
+    #[tactic(auto, using(crate::proofs::AtOnce::number_fits, crate::proofs::Ranges::sized))]
+    fn takes_at_once(&mut self, event: HistoryEvent) -> Result<bool, AllocError>
+        ensures ok { IfOk result (λ taken. AreTakenOrSame (held self.old) event.entry (held self.new) taken) }
+        ensures err { OnErr result (held self.new ≡ held self.old) }
+        ensures limit { limit_of self.new ≡ limit_of self.old }
+        ensures loads { self.new.loads ≡ self.old.loads }
+        ensures stores { self.new.stores ≡ self.old.stores }
+    {
+        let (address, length) = self.covered(event);
+        if units_of(self.size, address, length) != 1 {
+            return Ok(false);
+        }
+        let number = address / self.size.bytes();
+        let place = self.place(number);
+        take_at(&mut self.units, number, place, event, self.limit)
+    }
+
+    // The units that an event touches are followed, and put once all of them have ways.
+    fn take_by_search(&mut self, event: HistoryEvent) -> Result<(), AtomicFault>
+        ensures ok { OnOk result (AreTaken (held self.old) event.entry (held self.new)) }
+        ensures fault { IfErr result (KeptFaultIs (limit_of self.old) (held self.old) event.entry) }
+        ensures unchanged { OnErr result (held self.new ≡ held self.old) }
+        ensures limit { limit_of self.new ≡ limit_of self.old }
+        ensures loads { self.new.loads ≡ self.old.loads }
+        ensures stores { self.new.stores ≡ self.old.stores }
+    {
         let changes = self.changes(event)?;
         let (address, _length) = self.covered(event);
         self.reserve(changes.len())?;
-        self.open_or_close(event)?;
         put_units(&mut self.units, address / self.size.bytes(), changes);
         Ok(())
     }
@@ -311,6 +376,8 @@ impl AtomicMemory {
         ensures room { OnOk result (count ≤ spare self.new.units) }
         ensures limit { limit_of self.new ≡ limit_of self.old }
         ensures size { self.new.size ≡ self.old.size }
+        ensures loads { self.new.loads ≡ self.old.loads }
+        ensures stores { self.new.stores ≡ self.old.stores }
     {
         self.units.reserve(count)?;
         Ok(())
@@ -373,10 +440,7 @@ impl AtomicMemory {
         ensures left { OnOk result (is_stuck (held self.now) event.entry number ≡ false) }
         ensures fault { IfErr result (UnitFaultIs (limit_of self.now) (held self.now) event.entry number) }
     {
-        let place = UnitPlace {
-            first: number * self.size.bytes(),
-            size: self.size.bytes(),
-        };
+        let place = self.place(number);
         let loads = self.loads.as_slice();
         match self.units.get(&number) {
             Some(unit) => changed_unit(self.alloc, place, unit, event, self.limit, loads),
@@ -387,25 +451,34 @@ impl AtomicMemory {
         }
     }
 
+    // The unit of this number.
+    fn place(&self, number: u64) -> UnitPlace
+        requires { number * bytes_of self.now.size < 2 ^ 64 }
+        ensures { result ≡ unit_at (held self.now).size number }
+    {
+        UnitPlace {
+            first: number * self.size.bytes(),
+            size: self.size.bytes(),
+        }
+    }
+
     // The operation of an event is open from now on, or it is answered.
-    fn open_or_close(&mut self, event: HistoryEvent) -> Result<(), AllocError>
-        ensures ok { OnOk result (held self.new ≡ record { image = (held self.old).image; rest = (held self.old).rest; size = (held self.old).size; opened = opened_after (held self.old).opened event.entry; units = (held self.old).units }) }
-        ensures err { OnErr result (held self.new ≡ held self.old) }
+    fn open_or_close(&mut self, event: HistoryEvent)
+        requires loads { vec_len self.old.loads < vec_capacity self.old.loads }
+        requires stores { vec_len self.old.stores < vec_capacity self.old.stores }
+        ensures held { held self.new ≡ record { image = (held self.old).image; rest = (held self.old).rest; size = (held self.old).size; opened = opened_after (held self.old).opened event.entry; units = (held self.old).units } }
         ensures limit { limit_of self.new ≡ limit_of self.old }
-        ensures kept { self.new.units ≡ self.old.units }
     {
         match event {
             HistoryEvent::LoadRequest {
                 number,
                 address,
                 length,
-            } => {
-                self.loads.push(Operation {
-                    number,
-                    address,
-                    length,
-                })?;
-            }
+            } => self.loads.push_reserved(Operation {
+                number,
+                address,
+                length,
+            }),
             HistoryEvent::LoadResponse { number, bytes: _ } => close(&mut self.loads, number),
             HistoryEvent::StoreRequest {
                 number,
@@ -414,15 +487,14 @@ impl AtomicMemory {
                 enables: _,
             } => {
                 let length = bytes.len();
-                self.stores.push(Operation {
+                self.stores.push_reserved(Operation {
                     number,
                     address,
                     length,
-                })?;
+                });
             }
             HistoryEvent::StoreResponse { number } => close(&mut self.stores, number),
         }
-        Ok(())
     }
 }
 

@@ -1,11 +1,12 @@
 //! The ways that a unit may have gone.
 
-ghost use Rattle.std.specs.Prelude.{◌≡◌, ◌<◌, ◌≤◌, ◌+◌, ◌++◌, ◌∷◌, [], true, length, map, take, drop, slice_index_or, not, IfOk, OnOk};
+ghost use Rattle.std.specs.Prelude.{◌≡◌, ◌<◌, ◌≤◌, ◌+◌, ◌++◌, ◌∷◌, [], length, map, take, drop, slice_index_or, not, IfOk, OnOk, OnErr};
 ghost use Rattle.std.specs.List.{filter, list_all, list_any};
 ghost use Rattle.std.specs.Cmp.Lexicographic.{pointwise};
 ghost use Rattle.atomic_histories.specs.Words.{is_word_of};
 ghost use Rattle.atomic_histories.specs.Law.{is_store, may_answer_store, done_store};
-ghost use Rattle.atomic_histories.specs.Branches.{effect_of, effects, is_same_word, is_same_pair, has_stood, covers_load, covers, with_branch, with_branches, is_watched, may_have, has_answer, has_effect, branch_without_load, branch_without_store, branch_with_load, branch_with_store, path_after, unseen, load_after, cut_to};
+ghost use Rattle.atomic_histories.specs.AtOnce.{IsAlone};
+ghost use Rattle.atomic_histories.specs.Branches.{answered, effect_of, effects, is_same_word, is_same_pair, has_stood, covers_load, covers, with_branch, with_branches, is_watched, may_have, has_answer, has_effect, branch_without_load, branch_without_store, branch_with_load, branch_with_store, path_after, unseen, load_after, cut_to};
 ghost use Rattle.atomic_histories.specs.Marks.{mixed, with_byte, with_store as mark_with_store, mark_of};
 ghost use Rattle.atomic_histories.specs.Shown.{shown, shown_all, goal_of, without_of};
 
@@ -136,7 +137,8 @@ fn has_word(words: &[Word], first: u64, address: u64, bytes: &[u8]) -> bool
 // The word of now is overwritten: it is kept if a load is open that may have got it.
 #[tactic(auto, using(crate::proofs::Loops::path_empty, crate::proofs::Loops::path_more))]
 fn keep_word(path: &mut Vec<Word>, loads: &[WatchedLoad], word: Word) -> Result<(), AllocError>
-    ensures { OnOk result (path.new.items ≡ path_after loads.now path.old.items word) }
+    ensures err { OnErr result (path.new.items ≡ path.old.items) }
+    ensures ok { OnOk result (path.new.items ≡ path_after loads.now path.old.items word) }
 {
     if loads.is_empty() {
         path.clear();
@@ -290,7 +292,8 @@ impl Way {
     // Store `i` takes effect.
     fn take_effect(&mut self, i: usize) -> Result<(), AllocError>
         requires { i < length self.old.stores.items }
-        ensures { OnOk result ((d : OpenStore) → shown self.new ≡ effect_of (shown self.old) (take i self.old.stores.items) (slice_index_or self.old.stores.items i d) (drop (i + 1) self.old.stores.items)) }
+        ensures err { OnErr result (shown self.new ≡ shown self.old) }
+        ensures ok { OnOk result ((d : OpenStore) → shown self.new ≡ effect_of (shown self.old) (take i self.old.stores.items) (slice_index_or self.old.stores.items i d) (drop (i + 1) self.old.stores.items)) }
     {
         keep_word(&mut self.path, self.loads.as_slice(), self.word)?;
         let store = self.stores[i];
@@ -398,6 +401,70 @@ impl Way {
         }
     }
 
+    // A load is requested: the way changes where it stands.
+    pub(crate) fn open_load(&mut self, number: u64, address: u64) -> Result<(), AllocError>
+        ensures ok { OnOk result (shown self.new ≡ branch_with_load number address (shown self.old)) }
+        ensures err { OnErr result (shown self.new ≡ shown self.old) }
+    {
+        let since = self.path.len();
+        self.loads.push(WatchedLoad {
+            number,
+            address,
+            since,
+        })?;
+        Ok(())
+    }
+
+    // A store is requested.
+    pub(crate) fn open_store(&mut self, number: u64, bytes: Word) -> Result<(), AllocError>
+        ensures ok { OnOk result (shown self.new ≡ branch_with_store number bytes (shown self.old)) }
+        ensures err { OnErr result (shown self.new ≡ shown self.old) }
+    {
+        self.stores.push(OpenStore {
+            number,
+            bytes,
+            is_done: false,
+        })?;
+        Ok(())
+    }
+
+    // Whether no load is open but this one.
+    fn has_load_alone(&self, number: u64) -> bool
+        ensures { result ≡ list_all (is_watched number) self.now.loads.items }
+    {
+        self.loads.iter().all(|load| is_watched(load, number))
+    }
+
+    // A load is answered, if the way may answer it so and no other load is open, that may have got a word of before.
+    #[tactic(auto, using(crate::proofs::AtOnce::last_load))]
+    pub(crate) fn answer_load(&mut self, unit: UnitPlace, number: u64, bytes: &[u8]) -> bool
+        ensures { IsAlone (answered (has_answer unit number bytes.now) (branch_without_load number) (shown self.old ∷ [])) (shown self.old) (shown self.new) result }
+    {
+        if !self.has_answer(unit, number, bytes) || !self.has_load_alone(number) {
+            return false;
+        }
+        self.loads.clear();
+        self.path.clear();
+        true
+    }
+
+    // A store is answered, if it has taken effect, or if it takes effect now and no other store is open.
+    pub(crate) fn answer_store(&mut self, number: u64) -> Result<bool, AllocError>
+        ensures ok { IfOk result (λ taken. IsAlone (answered (has_effect number) (branch_without_store number) (shown self.old ∷ [])) (shown self.old) (shown self.new) taken) }
+        ensures err { OnErr result (shown self.new ≡ shown self.old) }
+    {
+        if self.has_effect(number) {
+            end_store(&mut self.stores, number);
+            return Ok(true);
+        }
+        if self.stores.len() != 1 {
+            return Ok(false);
+        }
+        self.take_effect(0)?;
+        self.stores.clear();
+        Ok(true)
+    }
+
     // The way once a load is requested.
     pub(crate) fn with_load(
         &self,
@@ -408,12 +475,7 @@ impl Way {
         ensures { IfOk result (λ w. shown w ≡ branch_with_load number address (shown self.now)) }
     {
         let mut more = self.copy(alloc)?;
-        let since = more.path.len();
-        more.loads.push(WatchedLoad {
-            number,
-            address,
-            since,
-        })?;
+        more.open_load(number, address)?;
         Ok(more)
     }
 
@@ -427,11 +489,7 @@ impl Way {
         ensures { IfOk result (λ w. shown w ≡ branch_with_store number bytes (shown self.now)) }
     {
         let mut more = self.copy(alloc)?;
-        more.stores.push(OpenStore {
-            number,
-            bytes,
-            is_done: false,
-        })?;
+        more.open_store(number, bytes)?;
         Ok(more)
     }
 }
