@@ -7,13 +7,14 @@ use Rattle.std.specs.List.{filter, list_all}
 use Rattle.memory_histories.specs.declared.events.HistoryEvent.{HistoryEvent}
 use Rattle.memory_histories.specs.declared.events.Rest.{Rest}
 use Rattle.atomic_histories.specs.declared.unit.OpenStore.{OpenStore}
+use Rattle.atomic_histories.specs.declared.unit.UnitPlace.{UnitPlace}
 use Rattle.atomic_histories.specs.declared.unit.WatchedLoad.{WatchedLoad}
 use Rattle.atomic_histories.specs.declared.memory.KeptUnit.{KeptUnit}
 use Rattle.atomic_histories.specs.declared.memory.UnitSize.{UnitSize}
 use Rattle.atomic_histories.specs.declared.memory.UnitSize.TheVariants.{One, Two, Four, Eight}
 use Rattle.atomic_histories.specs.Operations.{Opened, opened_after, form_fault}
 use Rattle.atomic_histories.specs.Law.{unit_at, is_store}
-use Rattle.atomic_histories.specs.Branches.{Branch, effect_of, effects_from, cons_effect, effects, with_branch, with_branches, out_after, next_after, met, rounds, answered, is_watched, has_effect, branch_without_load, branch_without_store}
+use Rattle.atomic_histories.specs.Branches.{Branch, effect_of, effects_from, cons_effect, effects, with_branch, with_branches, out_after, next_after, met, rounds, answered, is_watched, has_effect, has_answer, branch_without_load, branch_without_store}
 use Rattle.atomic_histories.specs.Held.{Held, first_ways, covered, units_of, ways_after, is_among}
 use Rattle.atomic_histories.specs.Judge.{bytes_of, kept_or, kept_at, IsTaken}
 use Rattle.atomic_histories.specs.AtOnce.{IsUnitTaken, AreTaken, AreTakenOrSame}
@@ -89,6 +90,18 @@ store_taken number e next (s ∷ []) same one f made =
     ∙ ap (λ (x : Branch). record { word = x.word; stores = []; loads = x.loads; path = x.path } ∷ []) (sym (made s))
 store_taken number e next (s ∷ t ∷ ts) same one f made = absurd (omega arith)
 
+-- a load that waits for a way's one store
+pub load_taken : (unit : UnitPlace) (number : ℕ) (bytes : List ℕ) (e on : Branch) (ss : List OpenStore) → e.stores ≡ ss → length ss ≡ 1
+    → ((d : OpenStore) → (slice_index_or ss 0 d).is_done ≡ false) → has_answer unit number bytes e ≡ false
+    → ((d : OpenStore) → on ≡ effect_of e (take 0 ss) (slice_index_or ss 0 d) (drop (0 + 1) ss)) → has_answer unit number bytes on ≡ true
+    → answered (has_answer unit number bytes) (branch_without_load number) (e ∷ []) ≡ branch_without_load number on ∷ []
+load_taken unit number bytes e on [] same one open_ f made t = absurd (omega arith)
+load_taken unit number bytes e on (s ∷ []) same one open_ f made t =
+    answered_next (has_answer unit number bytes) (branch_without_load number) e s same (open_ s) f
+    (ap (has_answer unit number bytes) (sym (made s)) ∙ t)
+    ∙ ap (λ x. branch_without_load number x ∷ []) (sym (made s))
+load_taken unit number bytes e on (s ∷ x ∷ xs) same one open_ f made t = absurd (omega arith)
+
 -- Units. ----
 
 -- the first byte of a unit has an address
@@ -141,7 +154,9 @@ same_kept : (image : List ℕ) (rest : Rest) (size : ℕ) (opened : Opened) (f g
     → kept image rest size opened g ≡ kept image rest size opened f
 same_kept image rest size opened f g number same others =
     let each : (k : ℕ) → kept_at image rest size g k ≡ kept_at image rest size f k = λ k. elim (cases_eq k number) [
-      | inl e ↦ subst (λ j. kept_at image rest size g j ≡ kept_at image rest size f j) (sym e) (same (first_ways image rest (unit_at size number)))
+      | inl e ↦
+          subst (λ j. kept_at image rest size g j ≡ kept_at image rest size f j) (sym e)
+          (same (first_ways image rest (unit_at size number)))
       | inr n ↦ ap (λ x. kept_or x (first_ways image rest (unit_at size k))) (others k n)
     ] in
     ap (λ u. record { image = image; rest = rest; size = size; opened = opened; units = u }) (fun_ext each)
@@ -150,7 +165,8 @@ pub taken_at : {E : Type 0} (r : Result Bool E) (image : List ℕ) (rest : Rest)
     (f g : ℕ → Option KeptUnit) (number : ℕ)
     → number ≡ (covered opened event).0 / size
     → units_of size (covered opened event).0 (covered opened event).1 ≡ 1
-    → IfOk r (λ taken. (first : List Branch) → IsUnitTaken (unit_at size number) event (kept_or (f number) first) (kept_or (g number) first) taken)
+    → IfOk r (λ taken. (first : List Branch) →
+    IsUnitTaken (unit_at size number) event (kept_or (f number) first) (kept_or (g number) first) taken)
     → ((k : ℕ) → k ≢ number → g k ≡ f k)
     → IfOk r (AreTakenOrSame (kept image rest size opened f) event (kept image rest size opened g))
 taken_at (Err e) image rest size opened event f g number here one taken others = tt

@@ -1,16 +1,14 @@
 -- Of ways without the mark of a pair none has come to the pair.
 use Rattle.std.proofs.Common.{◌≡◌, ℕ, zero, suc, ◌+◌, ◌<◌, ◌≤◌, Bool, true, false, not, ◌==◌, if◌then◌else◌, List, [], ◌∷◌, ◌++◌, filter, fold, drop, length, get_or, Option, Some, None, inl, inr, refl, sym, ap, ap₂, ◌∙◌, subst, eq-eqb, arith}
-use Rattle.std.specs.Prelude.{is_some, nat_eq}
-use Rattle.std.specs.HashMap.{get}
+use Rattle.std.specs.Prelude.{is_some}
 use Rattle.std.specs.List.{list_any}
 use Rattle.std.specs.Cmp.Lexicographic.{pointwise}
 use Rattle.std.proofs.lemmas.Bool.{cases_Bool, and_parts}
 use Rattle.std.proofs.lemmas.List.{drop_all}
-use Rattle.atomic_histories.specs.declared.followed.Followed.{Followed}
 use Rattle.atomic_histories.specs.declared.ways.Way.{Way}
 use Rattle.atomic_histories.specs.Branches.{Branch, is_same_word, is_same_store, is_same_pair, covers_load, covers}
 use Rattle.atomic_histories.specs.Shown.{shown, shown_all}
-use Rattle.atomic_histories.specs.Marks.{mark_of, with_byte, with_store, AreMarked, IsFollowed, IsNoted}
+use Rattle.atomic_histories.specs.Marks.{mark_of, with_byte, with_store, AreMarked, IsNoted}
 use Rattle.atomic_histories.proofs.Lists.{each_append}
 use Rattle.atomic_histories.proofs.Same.{same_word, same_stores, each_kept}
 use Rattle.atomic_histories.proofs.Loops.{shown_drop}
@@ -75,25 +73,10 @@ still_marked f g mark place (e ∷ es) noted m = (
   still_marked f g mark place es noted m.1,
 )
 
-pub new_marked : (f g : ℕ → Option ℕ) (mark place : ℕ) (e : Branch) → IsNoted f mark place g → mark ≡ mark_of e → is_some (g (mark_of e)) ≡ true
+pub new_marked : (f g : ℕ → Option ℕ) (mark place : ℕ) (e : Branch) → IsNoted f mark place g → mark ≡ mark_of e
+    → is_some (g (mark_of e)) ≡ true
 new_marked f g mark place e noted is =
     ap is_some (noted (mark_of e)) ∙ ap (λ t. is_some (if t then Some place else f (mark_of e))) (eq-eqb mark (mark_of e) is)
-
--- a way that is alone
-marked_others : (f : ℕ → Option ℕ) (ws : List Way) → (2 ≤ length ws → AreMarked f (shown_all ws)) → (length ws == 1) ≡ false
-    → AreMarked f (shown_all ws)
-marked_others f [] m h = tt
-marked_others f (w ∷ []) m h = cc
-marked_others f (w ∷ v ∷ ws) m h = m (omega arith)
-
-pub marked_beside : (s : Followed) → IsFollowed s → (length s.ways.items == 1) ≡ false → AreMarked (get nat_eq s.places) (shown_all s.ways.items)
-marked_beside s m h = marked_others (get nat_eq s.places) s.ways.items m h
-
-pub one_at : (f g : ℕ → Option ℕ) (mark place : ℕ) (ws : List Way) (w : Way) → length ws ≡ 1 → w ≡ get_or ws 0 w → IsNoted f mark place g
-    → mark ≡ mark_of (shown w) → AreMarked g (shown_all ws)
-one_at f g mark place [] w h e noted is = absurd (omega arith)
-one_at f g mark place (x ∷ []) w h e noted is = (new_marked f g mark place (shown x) noted (is ∙ ap (λ v. mark_of (shown v)) e), tt)
-one_at f g mark place (x ∷ y ∷ ws) w h e noted is = absurd (omega arith)
 
 pub others_marked : (f : ℕ → Option ℕ) (p : Branch → Bool) (es : List Branch) → AreMarked f es → AreMarked f (filter p es)
 others_marked f p es m = each_kept (λ e. is_some (f (mark_of e)) ≡ true) p es m

@@ -5,6 +5,7 @@ use Rattle.std.specs.List.{fold}
 use Rattle.atomic_histories.specs.declared.unit.OpenStore.{OpenStore}
 use Rattle.atomic_histories.specs.declared.ways.TheConstants.{MIXER}
 use Rattle.atomic_histories.specs.declared.followed.Followed.{Followed}
+use Rattle.atomic_histories.specs.declared.followed.TheConstants.{MARKED}
 use Rattle.atomic_histories.specs.Branches.{Branch}
 use Rattle.atomic_histories.specs.Shown.{shown_all}
 use Rattle.atomic_histories.specs.Stands.{Each}
@@ -34,6 +35,6 @@ AreMarked places es = Each (λ e. is_some (places (mark_of e)) ≡ true) es
 abbrev pub IsNoted : (ℕ → Option ℕ) → ℕ → ℕ → (ℕ → Option ℕ) → Type 0
 IsNoted f mark place g = (k : ℕ) → g k ≡ (if mark == k then Some place else f k)
 
--- of the mark of each of its ways a place is noted, once there are two
+-- of the mark of each of its ways a place is noted, once there are so many
 abbrev pub IsFollowed : Followed → Type 0
-IsFollowed s = 2 ≤ length s.ways.items → AreMarked (get nat_eq s.places) (shown_all s.ways.items)
+IsFollowed s = MARKED ≤ length s.ways.items → AreMarked (get nat_eq s.places) (shown_all s.ways.items)

@@ -13,11 +13,16 @@ use crate::unit::UnitPlace;
 use crate::ways::Way;
 use crate::words::{has_byte, is_at, stored_word};
 use memory_histories::HistoryEvent;
-use std::alloc::AllocError;
+use std::alloc::{AllocError, Global};
 use std::collections::HashMap;
 
 // The way takes an event, if it leads to one way alone. `false` says that a search is needed: the way is as it was.
-fn take_alone(place: UnitPlace, way: &mut Way, event: HistoryEvent) -> Result<bool, AllocError>
+fn take_alone(
+    alloc: Global,
+    place: UnitPlace,
+    way: &mut Way,
+    event: HistoryEvent,
+) -> Result<bool, AllocError>
     ensures ok { IfOk result (λ taken. IsAlone (branches_after place (shown way.old ∷ []) event.entry) (shown way.old) (shown way.new) taken) }
     ensures err { OnErr result (shown way.new ≡ shown way.old) }
 {
@@ -32,7 +37,9 @@ fn take_alone(place: UnitPlace, way: &mut Way, event: HistoryEvent) -> Result<bo
             }
             Ok(true)
         }
-        HistoryEvent::LoadResponse { number, bytes } => Ok(way.answer_load(place, number, bytes)),
+        HistoryEvent::LoadResponse { number, bytes } => {
+            way.answer_load(alloc, place, number, bytes)
+        }
         HistoryEvent::StoreRequest {
             number,
             address,
@@ -52,6 +59,7 @@ fn take_alone(place: UnitPlace, way: &mut Way, event: HistoryEvent) -> Result<bo
 // The unit takes an event, if it has one way and that leads to one way alone. No search would be stopped there, since
 // it would follow one way at a time, and that with at most one word more before it.
 pub(crate) fn take_at_once(
+    alloc: Global,
     place: UnitPlace,
     unit: &mut KeptUnit,
     event: HistoryEvent,
@@ -63,11 +71,12 @@ pub(crate) fn take_at_once(
     if limit == 0 || unit.ways.len() != 1 || unit.ways[0].path.len() >= MOST_WORDS {
         return Ok(false);
     }
-    take_alone(place, &mut unit.ways[0], event)
+    take_alone(alloc, place, &mut unit.ways[0], event)
 }
 
 // The unit of this number takes it, if it is kept.
 pub(crate) fn take_at(
+    alloc: Global,
     units: &mut HashMap<u64, KeptUnit>,
     number: u64,
     place: UnitPlace,
@@ -79,7 +88,7 @@ pub(crate) fn take_at(
     ensures err { OnErr result ((first : List Branch) → kept_or (get nat_eq units.new number) first ≡ kept_or (get nat_eq units.old number) first) }
 {
     match units.get_mut(&number) {
-        Some(unit) => take_at_once(place, unit, event, limit),
+        Some(unit) => take_at_once(alloc, place, unit, event, limit),
         None => Ok(false),
     }
 }

@@ -4,6 +4,7 @@ ghost use Rattle.std.specs.Prelude.{◌≡◌, ◌+◌, ◌≤◌, ◌<◌, ◌^
 ghost use Rattle.std.specs.HashMap.{get};
 ghost use Rattle.std.specs.List.{filter, list_any};
 ghost use Rattle.atomic_histories.specs.Branches.{with_branch, is_same_pair, covers, pairs};
+ghost use Rattle.atomic_histories.specs.declared.followed.TheConstants.{MARKED};
 ghost use Rattle.atomic_histories.specs.Marks.{mark_of, AreMarked, IsFollowed, IsNoted};
 ghost use Rattle.atomic_histories.specs.Shown.{shown, shown_all};
 
@@ -11,9 +12,13 @@ use crate::ways::Way;
 use std::alloc::{AllocError, Global};
 use std::collections::HashMap;
 
-// Ways of which none leads wherever another leads. Once there are two, of those with one mark the place of one is
-// noted, as it was when that came: a new way is compared with the one at that place first, and with none if its mark
-// is new. One way alone is not noted, so that the searches which find no more need no table.
+// From so many ways on their marks are noted. Fewer are compared one by one, so that the searches which find no more
+// need no table.
+pub(crate) const MARKED: usize = 8;
+
+// Ways of which none leads wherever another leads. Of those with one mark the place of one is noted, once there are
+// many, as it was when that came: a new way is compared with the one at that place first, and with none if its mark
+// is new.
 #[derive(Drop)]
 pub(crate) struct Followed {
     pub(crate) ways: Vec<Way>,
@@ -60,6 +65,21 @@ fn keep_others(ways: &mut Vec<Way>, way: &Way)
     ways.retain(|other| !way.covers(other));
 }
 
+// The marks of these ways are noted.
+fn note_ways(places: &mut HashMap<u64, usize>, ways: &[Way]) -> Result<(), AllocError>
+    ensures { OnOk result (AreMarked (get nat_eq places.new) (shown_all ways.now)) }
+{
+    let mut left = ways.len();
+    while left > 0 {
+        let at = left - 1;
+        let way = &ways[at];
+        let mark = way.mark();
+        note(places, mark, at)?;
+        left = at;
+    }
+    Ok(())
+}
+
 impl Followed {
     // No way.
     pub(crate) fn new(alloc: Global) -> Followed
@@ -72,32 +92,15 @@ impl Followed {
         }
     }
 
-    // A way that was alone so far is noted.
-    #[tactic(auto, using(crate::proofs::Marks::marked_beside, crate::proofs::Marks::one_at))]
-    fn note_first(&mut self) -> Result<(), AllocError>
-        requires { IsFollowed self.old }
+    // The marks are noted, once there are so many ways.
+    fn note_many(&mut self) -> Result<(), AllocError>
         ensures ways { OnOk result (self.new.ways ≡ self.old.ways) }
-        ensures marked { OnOk result (AreMarked (get nat_eq self.new.places) (shown_all self.new.ways.items)) }
+        ensures followed { OnOk result (IsFollowed self.new) }
     {
-        if self.ways.len() != 1 {
+        if self.ways.len() < MARKED {
             return Ok(());
         }
-        let mark = self.ways[0].mark();
-        note(&mut self.places, mark, 0)?;
-        Ok(())
-    }
-
-    // The next way has this mark, and is noted unless it is alone.
-    fn note_next(&mut self, mark: u64) -> Result<(), AllocError>
-        ensures ways { OnOk result (self.new.ways ≡ self.old.ways) }
-        ensures noted { OnOk result (1 ≤ length self.old.ways.items → IsNoted (get nat_eq self.old.places) mark (length self.old.ways.items) (get nat_eq self.new.places)) }
-    {
-        let place = self.ways.len();
-        if place == 0 {
-            return Ok(());
-        }
-        note(&mut self.places, mark, place)?;
-        Ok(())
+        note_ways(&mut self.places, self.ways.as_slice())
     }
 
     // Whether a way leads wherever this one leads. If none does, those are dropped that lead nowhere else than
@@ -123,18 +126,46 @@ impl Followed {
     }
 
     // One more way, if it leads anywhere else, in place of those that lead nowhere else.
-    #[tactic(auto, using(crate::proofs::Loops::shown_push))]
     pub(crate) fn add(&mut self, way: Way) -> Result<(), AllocError>
         requires { IsFollowed self.old }
         ensures ways { OnOk result (shown_all self.new.ways.items ≡ with_branch (shown_all self.old.ways.items) (shown way)) }
         ensures followed { OnOk result (IsFollowed self.new) }
     {
+        if self.ways.len() < MARKED {
+            self.add_to_few(way)
+        } else {
+            self.add_to_marked(way)
+        }
+    }
+
+    // To so few ways that their marks aren't noted.
+    #[tactic(auto, using(crate::proofs::Loops::shown_push, crate::proofs::Loops::covered_shown))]
+    fn add_to_few(&mut self, way: Way) -> Result<(), AllocError>
+        requires { length self.old.ways.items < MARKED }
+        ensures ways { OnOk result (shown_all self.new.ways.items ≡ with_branch (shown_all self.old.ways.items) (shown way)) }
+        ensures followed { OnOk result (IsFollowed self.new) }
+    {
+        if is_covered(self.ways.as_slice(), &way) {
+            return Ok(());
+        }
+        keep_others(&mut self.ways, &way);
+        self.ways.push(way)?;
+        self.note_many()
+    }
+
+    // To ways whose marks are noted.
+    #[tactic(auto, using(crate::proofs::Loops::shown_push))]
+    fn add_to_marked(&mut self, way: Way) -> Result<(), AllocError>
+        requires { AreMarked (get nat_eq self.old.places) (shown_all self.old.ways.items) }
+        ensures ways { OnOk result (shown_all self.new.ways.items ≡ with_branch (shown_all self.old.ways.items) (shown way)) }
+        ensures followed { OnOk result (IsFollowed self.new) }
+    {
         let mark = way.mark();
-        self.note_first()?;
         if self.is_led(&way, mark) {
             return Ok(());
         }
-        self.note_next(mark)?;
+        let place = self.ways.len();
+        note(&mut self.places, mark, place)?;
         self.ways.push(way)?;
         Ok(())
     }

@@ -350,7 +350,14 @@ impl AtomicMemory {
         }
         let number = address / self.size.bytes();
         let place = self.place(number);
-        take_at(&mut self.units, number, place, event, self.limit)
+        take_at(
+            self.alloc,
+            &mut self.units,
+            number,
+            place,
+            event,
+            self.limit,
+        )
     }
 
     // The units that an event touches are followed, and put once all of them have ways.

@@ -1,6 +1,6 @@
 //! The ways that a unit may have gone.
 
-ghost use Rattle.std.specs.Prelude.{◌≡◌, ◌<◌, ◌≤◌, ◌+◌, ◌++◌, ◌∷◌, [], length, map, take, drop, slice_index_or, not, IfOk, OnOk, OnErr};
+ghost use Rattle.std.specs.Prelude.{◌≡◌, ◌<◌, ◌≤◌, ◌+◌, ◌++◌, ◌∷◌, [], length, map, take, drop, slice_index_or, not, false, IfOk, OnOk, OnErr};
 ghost use Rattle.std.specs.List.{filter, list_all, list_any};
 ghost use Rattle.std.specs.Cmp.Lexicographic.{pointwise};
 ghost use Rattle.atomic_histories.specs.Words.{is_word_of};
@@ -435,17 +435,52 @@ impl Way {
         self.loads.iter().all(|load| is_watched(load, number))
     }
 
-    // A load is answered, if the way may answer it so and no other load is open, that may have got a word of before.
-    #[tactic(auto, using(crate::proofs::AtOnce::last_load))]
-    pub(crate) fn answer_load(&mut self, unit: UnitPlace, number: u64, bytes: &[u8]) -> bool
-        ensures { IsAlone (answered (has_answer unit number bytes.now) (branch_without_load number) (shown self.old ∷ [])) (shown self.old) (shown self.new) result }
+    // A load is answered, if the way may answer it so now, or once its one store has taken effect.
+    pub(crate) fn answer_load(
+        &mut self,
+        alloc: Global,
+        unit: UnitPlace,
+        number: u64,
+        bytes: &[u8],
+    ) -> Result<bool, AllocError>
+        ensures ok { IfOk result (λ taken. IsAlone (answered (has_answer unit number bytes.now) (branch_without_load number) (shown self.old ∷ [])) (shown self.old) (shown self.new) taken) }
+        ensures err { OnErr result (shown self.new ≡ shown self.old) }
     {
-        if !self.has_answer(unit, number, bytes) || !self.has_load_alone(number) {
-            return false;
+        if !self.has_answer(unit, number, bytes) {
+            return self.answer_later_load(alloc, unit, number, bytes);
         }
-        self.loads.clear();
-        self.path.clear();
-        true
+        if self.has_load_alone(number) {
+            self.loads.clear();
+            self.path.clear();
+            return Ok(true);
+        }
+        let left = self.without_load(alloc, number)?;
+        *self = left;
+        Ok(true)
+    }
+
+    // A load that the way may not answer so before its one store takes effect.
+    fn answer_later_load(
+        &mut self,
+        alloc: Global,
+        unit: UnitPlace,
+        number: u64,
+        bytes: &[u8],
+    ) -> Result<bool, AllocError>
+        requires { has_answer unit number bytes.now (shown self.old) ≡ false }
+        ensures ok { IfOk result (λ taken. IsAlone (answered (has_answer unit number bytes.now) (branch_without_load number) (shown self.old ∷ [])) (shown self.old) (shown self.new) taken) }
+        ensures err { OnErr result (shown self.new ≡ shown self.old) }
+    {
+        if self.stores.len() != 1 || self.stores[0].is_done {
+            return Ok(false);
+        }
+        let on = self.effect(alloc, 0)?;
+        if !on.has_answer(unit, number, bytes) {
+            return Ok(false);
+        }
+        let left = on.without_load(alloc, number)?;
+        *self = left;
+        Ok(true)
     }
 
     // A store is answered, if it has taken effect, or if it takes effect now and no other store is open.

@@ -1,10 +1,9 @@
-use Rattle.std.proofs.Common.{ap, ◌∙◌, rules}
-use Rattle.atomic_histories.specs.Held.{Held}
+use Rattle.std.proofs.Common.{rules}
 use Rattle.atomic_histories.specs.Judge.{held}
 use Rattle.atomic_histories.proofs.AtOnce.{taken_open}
 use Rattle.atomic_histories.proofs.memory.AtomicMemory.kept_step.Goals as goal
 
 pub returns-clause-ok : goal.returns-clause-ok
 returns-clause-ok c =
-    taken_open (held c.args.self.now) (held c.reserve_open.new.self) (held c.take_units.new.self) (held c.open_or_close.new.self) c.args.event
-    (search rules) c.in_ok-reserve_open.ensures.held c.in_ok-take_units.ensures.ok c.open_or_close.ensures.held
+    taken_open (held c.args.self.now) (held c.reserve_open.new.self) (held c.take_units.new.self) (held c.open_or_close.new.self)
+    c.args.event (search rules) c.in_ok-reserve_open.ensures.held c.in_ok-take_units.ensures.ok c.open_or_close.ensures.held

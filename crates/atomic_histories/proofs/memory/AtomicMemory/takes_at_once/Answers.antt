@@ -1,4 +1,4 @@
-use Rattle.std.proofs.Common.{◌/◌, nat_eq, List, IfOk, ap, ap₂, sym, subst, ◌∙◌, rules, arith}
+use Rattle.std.proofs.Common.{◌/◌, nat_eq, List, IfOk, ap, ap₂, subst, rules, arith}
 use Rattle.std.specs.HashMap.{get}
 use Rattle.atomic_histories.specs.Branches.{Branch}
 use Rattle.atomic_histories.specs.AtOnce.{IsUnitTaken}

@@ -1,0 +1,12 @@
+use Rattle.std.proofs.Common.{◌∷◌, [], refl, sym, ap, ◌∙◌, rules, arith}
+use Rattle.atomic_histories.specs.Shown.{shown}
+use Rattle.atomic_histories.specs.Branches.{Branch}
+use Rattle.atomic_histories.proofs.AtOnce.{load_taken}
+use Rattle.atomic_histories.proofs.ways.Way.answer_later_load.Goals as goal
+
+pub returns-clause-ok : goal.returns-clause-ok
+returns-clause-ok c =
+    let e : Branch = shown c.args.self.now in
+    load_taken c.args.unit c.args.number c.args.bytes.now e (shown c.in_ok-on.on) e.stores refl (search (rules, arith)) (λ d. search rules)
+    c.requires c.in_ok-on.ensures (search rules)
+    ∙ ap (λ x. x ∷ []) (sym c.in_ok-left.ensures)
