@@ -6,6 +6,7 @@ _kroft_station() {
     --ports) COMPREPLY=($(compgen -W '' -- "$word")); return ;;
     --asks) COMPREPLY=($(compgen -W '' -- "$word")); return ;;
     --seed) COMPREPLY=($(compgen -W '' -- "$word")); return ;;
+    --threads) COMPREPLY=($(compgen -W '' -- "$word")); return ;;
     --journal) COMPREPLY=($(compgen -f -- "$word")); return ;;
     --stations) COMPREPLY=($(compgen -W '' -- "$word")); return ;;
   esac
@@ -17,7 +18,7 @@ _kroft_station() {
   case $command in
     soak) k='--stations --seed -h --help' ;;
     rates) k='--asks --seed --core-once --hand-once -h --help' ;;
-    *) k='soak rates --ports --asks --seed --journal -h --help -V --version' ;;
+    *) k='soak rates --ports --asks --seed --threads --journal -h --help -V --version' ;;
   esac
   COMPREPLY=($(compgen -W "$k" -- "$word"))
 }
