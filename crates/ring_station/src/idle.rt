@@ -14,7 +14,7 @@ const CACHE_TURNS_AT_ONCE: u64 = 1;
 
 // How many these turns are. A Linux that has a thread pay for each yield with a slice of its time, as 6.18
 // does, would keep one that yields in every turn from its processor for seconds, beside a program that never yields.
-const TURNS_WITH_A_YIELD: u64 = 4;
+const TURNS_WITH_A_YIELD: u64 = 16;
 
 // How often the processor pauses in each later turn: it looks less often, and so takes fewer cache lines from
 // those that write them.
