@@ -1,11 +1,12 @@
 -- Sets of bytes as their tests.
-use Rattle.std.proofs.Common.{◌≡◌, ◌≢◌, ℕ, ◌-◌, ◌^◌, ◌<◌, ◌≤◌, ◌||◌, ◌==◌, Bool, false, nat_lt, max, inl, inr, refl, sym, ap, ◌∙◌, arith}
+use Rattle.std.proofs.Common.{◌≡◌, ◌≢◌, ℕ, zero, suc, ◌-◌, ◌*◌, ◌/◌, ◌^◌, ◌<◌, ◌≤◌, ◌%◌, ◌||◌, ◌==◌, Bool, false, nat_lt, List, [], ◌∷◌, get_or, set, min, max, inl, inr, refl, sym, ap, ◌∙◌, arith}
 use Rattle.std.specs.Prelude.{bit_or}
 use Rattle.std.specs.Int.{bit_at}
 use Rattle.std.proofs.lemmas.Bool.{cases_eq, cases_lt, eq-eqb, ne_eqb, lt-ltb, le-ltb, or_right}
+use Rattle.std.proofs.lemmas.List.{get_or-set_same, get_or-set_other}
 use Rattle.std.proofs.lemmas.Nat.Bits.{bit_at_or, bit_at-pow_same, bit_at-pow_other, bit_at-lt, bit_at-zero, bit_at_ones, bit_at_ones_above}
 use Rattle.memory_histories.specs.declared.sets.ByteSet.{ByteSet}
-use Rattle.memory_histories.specs.Sets.{has, with_byte, no_bytes, all_bytes}
+use Rattle.memory_histories.specs.Sets.{has, with_byte, no_bytes, all_bytes, word_of, bit_of, four}
 use Rattle.memory_histories.proofs.Lists.{or_false}
 
 max_one : (x : ℕ) → x < 2 → max x 1 ≡ 1
@@ -27,41 +28,73 @@ bit_joined n k i = elim (cases_eq k i) [
       ap (λ x. x == 1) same ∙ sym (ap (λ x. (bit_at n i == 1) || x) (ne_eqb k i ne) ∙ or_false (bit_at n i == 1))
 ]
 
-eqb_less : (c b : ℕ) → 128 ≤ c → 128 ≤ b → (c - 128 == b - 128) ≡ (c == b)
-eqb_less c b l m = elim (cases_eq c b) [
-  | inl e ↦ rw e (eq-eqb (b - 128) (b - 128) refl ∙ sym (eq-eqb b b refl))
-  | inr ne ↦ let other : c - 128 ≢ b - 128 = λ e. ne (omega arith) in ne_eqb (c - 128) (b - 128) other ∙ sym (ne_eqb c b ne)
+-- a word of four
+at_four : (ws : List ℕ) (k : ℕ) → k < 4 → get_or (four ws) k 0 ≡ get_or ws k 0
+at_four ws zero h = refl
+at_four ws (suc zero) h = refl
+at_four ws (suc (suc zero)) h = refl
+at_four ws (suc (suc (suc zero))) h = refl
+at_four ws (suc (suc (suc (suc k)))) h = omega arith
+
+few_words : (b : ℕ) → word_of b < 4
+few_words b = omega arith
+
+-- two bytes of one word are the same if their bits are
+same_bits : (c b : ℕ) → word_of c ≡ word_of b → (bit_of c == bit_of b) ≡ (c == b)
+same_bits c b w = elim (cases_eq c b) [
+  | inl e ↦ rw e (eq-eqb (bit_of b) (bit_of b) refl ∙ sym (eq-eqb b b refl))
+  | inr ne ↦ let other : bit_of c ≢ bit_of b = λ e. ne (omega arith) in ne_eqb (bit_of c) (bit_of b) other ∙ sym (ne_eqb c b ne)
 ]
 
 none_more : (x : Bool) (c b : ℕ) → c ≢ b → x ≡ (x || (c == b))
 none_more x c b ne = sym (ap (λ t. x || t) (ne_eqb c b ne) ∙ or_false x)
 
+-- the words of the set with a byte
+word_there : (s : ByteSet) (c b v : ℕ) → word_of c ≡ word_of b → get_or (set (four s.words) (word_of c) v) (word_of b) 0 ≡ v
+word_there s c b v e = rw e (get_or-set_same (four s.words) (word_of b) v 0 (few_words b))
+
+word_beside : (s : ByteSet) (c b v : ℕ) → word_of b ≢ word_of c
+    → get_or (set (four s.words) (word_of c) v) (word_of b) 0 ≡ get_or s.words (word_of b) 0
+word_beside s c b v ne = get_or-set_other (four s.words) (word_of c) (word_of b) v 0 ne ∙ at_four s.words (word_of b) (few_words b)
+
 pub has-with_byte : (s : ByteSet) (c b : ℕ) → has (with_byte s c) b ≡ (has s b || (c == b))
 unfolding has with_byte
-has-with_byte s c b = elim (cases_lt c 128) [
-  | inl cl ↦ elim (cases_lt b 128) [
-    | inl bl ↦ rw (lt-ltb c 128 cl, lt-ltb b 128 bl) (bit_joined s.low c b)
-    | inr bl ↦ let ne : c ≢ b = omega arith in rw (lt-ltb c 128 cl, le-ltb b 128 bl) (none_more _ c b ne)
-  ]
-  | inr cl ↦ elim (cases_lt b 128) [
-    | inl bl ↦ let ne : c ≢ b = omega arith in rw (le-ltb c 128 cl, lt-ltb b 128 bl) (none_more _ c b ne)
-    | inr bl ↦ rw (le-ltb c 128 cl, le-ltb b 128 bl) (bit_joined s.high (c - 128) (b - 128) ∙ ap (λ t. (bit_at s.high (b - 128) == 1) || t) (eqb_less c b cl bl))
-  ]
-]
+has-with_byte s c b =
+    let v = bit_or (get_or s.words (word_of c) 0) (2 ^ bit_of c) in
+    elim (cases_eq (word_of b) (word_of c)) [
+      | inl e ↦
+          ap (λ w. bit_at w (bit_of b) == 1) (word_there s c b v (sym e))
+          ∙ (bit_joined (get_or s.words (word_of c) 0) (bit_of c) (bit_of b)
+          ∙ (ap (λ t. (bit_at (get_or s.words (word_of c) 0) (bit_of b) == 1) || t) (same_bits c b (sym e))
+          ∙ ap (λ k. (bit_at (get_or s.words k 0) (bit_of b) == 1) || (c == b)) (sym e)))
+      | inr ne ↦
+          let other : c ≢ b = λ e. ne (ap word_of (sym e)) in
+          ap (λ w. bit_at w (bit_of b) == 1) (word_beside s c b v ne) ∙ none_more (bit_at (get_or s.words (word_of b) 0) (bit_of b) == 1) c b other
+    ]
+
+-- a word of four that are the same
+at_same : (w k : ℕ) → k < 4 → get_or (four (w ∷ w ∷ w ∷ w ∷ [])) k 0 ≡ w
+at_same w zero h = refl
+at_same w (suc zero) h = refl
+at_same w (suc (suc zero)) h = refl
+at_same w (suc (suc (suc zero))) h = refl
+at_same w (suc (suc (suc (suc k)))) h = omega arith
 
 pub has-no_bytes : (b : ℕ) → has no_bytes b ≡ false
 unfolding has
-has-no_bytes b = elim (cases_lt b 128) [
-  | inl l ↦ rw (lt-ltb b 128 l, bit_at-zero b) refl
-  | inr l ↦ rw (le-ltb b 128 l, bit_at-zero (b - 128)) refl
-]
+has-no_bytes b = rw (at_same 0 (word_of b) (few_words b), bit_at-zero (bit_of b)) refl
 
 pub has-all_bytes : (b : ℕ) → has all_bytes b ≡ nat_lt b 256
 unfolding has
-has-all_bytes b = elim (cases_lt b 128) [
-  | inl l ↦ let m : b < 256 = omega arith in rw (lt-ltb b 128 l, lt-ltb b 256 m, bit_at_ones 128 b l) refl
-  | inr l ↦ elim (cases_lt b 256) [
-    | inl m ↦ let n : b - 128 < 128 = omega arith in rw (le-ltb b 128 l, lt-ltb b 256 m, bit_at_ones 128 (b - 128) n) refl
-    | inr m ↦ let n : 128 ≤ b - 128 = omega arith in rw (le-ltb b 128 l, le-ltb b 256 m, bit_at_ones_above 128 (b - 128) n) refl
-  ]
+has-all_bytes b = ap (λ w. bit_at w (bit_of b) == 1) (at_same 18446744073709551615 (word_of b) (few_words b)) ∙ elim (cases_lt b 256) [
+  | inl m ↦ let n : bit_of b < 64 = omega arith in rw (lt-ltb b 256 m, bit_at_ones 64 (bit_of b) n) refl
+  | inr m ↦ let n : 64 ≤ bit_of b = omega arith in rw (le-ltb b 256 m, bit_at_ones_above 64 (bit_of b) n) refl
 ]
+
+-- the bit of a byte where a set's words are looked up
+pub in_word : (s : ByteSet) (b i : ℕ) → b < 256 → i ≡ b / 64 → (bit_at (get_or s.words i 0) (b % 64) == 1) ≡ has s b
+unfolding has
+in_word s b i l e =
+    let w : word_of b ≡ i = omega arith in
+    let m : b % 64 ≡ b - 64 * i = omega arith in
+    rw (w, m) refl

@@ -3,7 +3,6 @@ pub mod Law
 pub mod Sound
 -- sets and lists, what is live, and that what is kept judges as the law does
 pub mod Lists
-pub mod Halves
 pub mod ByteSets
 pub mod Live
 pub mod Requests

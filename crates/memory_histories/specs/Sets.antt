@@ -1,18 +1,29 @@
--- Sets of bytes, as two numbers of 128 bits.
-use Rattle.std.specs.Prelude.{ℕ, ◌-◌, ◌^◌, Bool, if◌then◌else◌, ◌==◌, nat_lt, bit_or}
+-- Sets of bytes, as four words of 64 bits.
+use Rattle.std.specs.Prelude.{ℕ, ◌-◌, ◌*◌, ◌/◌, ◌^◌, Bool, ◌==◌, List, [], ◌∷◌, get_or, set, min, bit_or}
 use Rattle.std.specs.Int.{bit_at}
 use Rattle.memory_histories.specs.declared.sets.ByteSet.{ByteSet}
 
+-- the word that a byte lies in, and its bit there
+abbrev pub word_of : ℕ → ℕ
+word_of b = min (b / 64) 3
+
+abbrev pub bit_of : ℕ → ℕ
+bit_of b = b - 64 * word_of b
+
+-- the words of a set: it has four
+abbrev pub four : List ℕ → List ℕ
+four words = get_or words 0 0 ∷ get_or words 1 0 ∷ get_or words 2 0 ∷ get_or words 3 0 ∷ []
+
 abbrev pub no_bytes : ByteSet
-no_bytes = record { low = 0; high = 0 }
+no_bytes = record { words = 0 ∷ 0 ∷ 0 ∷ 0 ∷ [] }
 
 abbrev pub all_bytes : ByteSet
-all_bytes = record { low = 340282366920938463463374607431768211455; high = 340282366920938463463374607431768211455 }
+all_bytes = record { words = 18446744073709551615 ∷ 18446744073709551615 ∷ 18446744073709551615 ∷ 18446744073709551615 ∷ [] }
 
 -- whether a set has a byte
 unfoldable pub has : ByteSet → ℕ → Bool
-has set b = if nat_lt b 128 then bit_at set.low b == 1 else bit_at set.high (b - 128) == 1
+has s b = bit_at (get_or s.words (word_of b) 0) (bit_of b) == 1
 
 -- the set with this byte
 unfoldable pub with_byte : ByteSet → ℕ → ByteSet
-with_byte set b = if nat_lt b 128 then record { low = bit_or set.low (2 ^ b); high = set.high } else record { low = set.low; high = bit_or set.high (2 ^ (b - 128)) }
+with_byte s b = record { words = set (four s.words) (word_of b) (bit_or (get_or s.words (word_of b) 0) (2 ^ bit_of b)) }

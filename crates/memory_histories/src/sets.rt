@@ -1,13 +1,12 @@
 //! Sets of bytes.
 
-ghost use Rattle.std.specs.Prelude.{◌≡◌, nat_lt, if◌then◌else◌};
+ghost use Rattle.std.specs.Prelude.{◌≡◌};
 ghost use Rattle.memory_histories.specs.Sets.{has, with_byte, no_bytes, all_bytes};
 
 /// A set of bytes, as what a load may return.
 #[derive(Clone, Copy, PartialEq, Eq, Debug)]
 pub struct ByteSet {
-    low: u128,
-    high: u128,
+    words: [u64; 4],
 }
 
 #[tactic(auto, unfolding(crate::specs::Sets::has, crate::specs::Sets::with_byte))]
@@ -16,7 +15,9 @@ impl ByteSet {
     pub fn none() -> ByteSet
         ensures { result ≡ no_bytes }
     {
-        ByteSet { low: 0, high: 0 }
+        ByteSet {
+            words: [0, 0, 0, 0],
+        }
     }
 
     /// All 256 bytes.
@@ -24,41 +25,31 @@ impl ByteSet {
         ensures { result ≡ all_bytes }
     {
         ByteSet {
-            low: u128::MAX,
-            high: u128::MAX,
+            words: [u64::MAX, u64::MAX, u64::MAX, u64::MAX],
         }
     }
 
     /// Whether this byte is in the set.
-    #[tactic(auto, using(crate::proofs::Halves::in_half))]
     pub fn contains(self, byte: u8) -> bool
         ensures { result ≡ has self byte }
     {
-        (self.half(byte) >> (byte % 128)) % 2 == 1
-    }
-
-    // The half that a byte lies in.
-    fn half(self, byte: u8) -> u128
-        ensures { result ≡ (if nat_lt byte 128 then self.low else self.high) }
-    {
-        if byte < 128 { self.low } else { self.high }
+        (self.words[usize::from(byte / 64)] >> (byte % 64)) % 2 == 1
     }
 
     /// The set with this byte.
     pub fn with(self, byte: u8) -> ByteSet
         ensures { result ≡ with_byte self byte }
     {
-        let bit: u128 = 1 << (byte % 128);
-        if byte < 128 {
-            ByteSet {
-                low: self.low | bit,
-                high: self.high,
-            }
-        } else {
-            ByteSet {
-                low: self.low,
-                high: self.high | bit,
-            }
-        }
+        let mut set = self;
+        set.insert(byte);
+        set
+    }
+
+    // This byte is in the set from now on.
+    pub(crate) fn insert(&mut self, byte: u8)
+        ensures { self.new ≡ with_byte self.old byte }
+    {
+        let word = usize::from(byte / 64);
+        self.words[word] |= 1 << (byte % 64);
     }
 }
