@@ -12,6 +12,7 @@ pub mod Lanes
 pub mod Cleared
 pub mod Pieces
 pub mod Opened
+pub mod ShownSets
 pub mod OnePart
 pub mod Units
 -- what a flat memory owes

@@ -60,6 +60,10 @@ is_covered_by answered address = list_any (λ s. s.address == address) answered
 abbrev pub first_set : Bool → ByteSet → ByteSet
 first_set covered initial = if covered then no_bytes else initial
 
+-- what it may return at an address before it sees these bytes of answered stores
+abbrev pub first_set_at : List ℕ → Rest → List StoreByte → ℕ → ByteSet
+first_set_at image rest answered address = first_set (is_covered_by answered address) (initial_set (slice_get image address) rest)
+
 -- what a load may return at an address if no store is open there, where these are the bytes of answered stores
 abbrev pub settled_set : List ℕ → Rest → List StoreByte → ℕ → ByteSet
 settled_set image rest answered address = with_stores answered address

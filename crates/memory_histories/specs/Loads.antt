@@ -41,6 +41,17 @@ abbrev pub shown_sets : StorePart → ℕ → List ByteSet → List ByteSet
 shown_sets p address [] = []
 shown_sets p address (s ∷ ss) = with_known s (part_at p address) ∷ shown_sets p (address + 1) ss
 
+-- the sets from an address on once these parts are seen
+abbrev pub all_shown_sets : List StorePart → ℕ → List ByteSet → List ByteSet
+all_shown_sets [] address sets = sets
+all_shown_sets (p ∷ ps) address sets = all_shown_sets ps address (shown_sets p address sets)
+
+-- the sets beside these lanes once their bytes are stored
+abbrev pub shown_lanes : List (Option ℕ) → List ByteSet → List ByteSet
+shown_lanes [] ss = ss
+shown_lanes (l ∷ ls) [] = []
+shown_lanes (l ∷ ls) (s ∷ ss) = with_known s l ∷ shown_lanes ls ss
+
 -- the set of an open load's byte at an address
 abbrev pub set_at : ℕ → ℕ → OpenLoad → Option ByteSet
 set_at number address o =

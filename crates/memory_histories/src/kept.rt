@@ -1,20 +1,18 @@
 //! What a request and an answer change of the loads and the stores that are open.
 
-ghost use Rattle.std.specs.Prelude.{◌≡◌, ◌+◌, ◌≤◌, ◌<◌, [], ◌∷◌, ◌++◌, ◌^◌, IfOk, IfSome, length, map, not, vec_len, vec_capacity, slice_get, nat_eq};
+ghost use Rattle.std.specs.Prelude.{◌≡◌, ◌+◌, ◌≤◌, ◌<◌, [], ◌∷◌, ◌++◌, ◌^◌, IfOk, IfSome, is_some, length, map, not, vec_len, vec_capacity, slice_get, nat_eq};
 ghost use Rattle.std.specs.HashMap.{get};
-ghost use Rattle.std.specs.List.{filter, list_any, position};
+ghost use Rattle.std.specs.List.{filter, list_any, position, range_with_len};
 ghost use Rattle.memory_histories.specs.Windows.{store_bytes, load_bytes, is_open};
-ghost use Rattle.memory_histories.specs.Kept.{initial_set, settled_set, opened_at, after_stores};
-ghost use Rattle.memory_histories.specs.Parts.{part_bytes, parts_bytes, is_open_part, IsOnly};
+ghost use Rattle.memory_histories.specs.Kept.{initial_set, is_covered_by, first_set, first_set_at, settled_set, opened_at, after_stores};
+ghost use Rattle.memory_histories.specs.Parts.{part_at, part_bytes, parts_bytes, is_open_part, IsOnly};
 ghost use Rattle.memory_histories.specs.Loads.{load_open, loads_open};
-ghost use Rattle.memory_histories.specs.Shown.{parts_in, answered_in};
+ghost use Rattle.memory_histories.specs.Shown.{answered_in};
 
 use crate::answered::{KeptUnit, parts_in};
 use crate::events::Rest;
-use crate::loads::{OpenLoad, show_part, show_parts};
-use crate::parts::{
-    StorePart, has_lane, has_open, is_open_part, part_at, part_of, unit_of, with_parts,
-};
+use crate::loads::{OpenLoad, show_behind, show_part, show_parts};
+use crate::parts::{StorePart, has_lane, has_open, is_open_part, part_at, part_of, unit_of};
 use crate::sets::ByteSet;
 use crate::windows::LoadByte;
 use std::alloc::{AllocError, Global};
@@ -49,34 +47,70 @@ fn initial_at(image: &[u8], rest: Rest, address: u64) -> ByteSet
     initial_set(image.get(address as usize).copied(), rest)
 }
 
-// What a load may return at an address if no store is open there: what answered stores left, or if none did what memory
-// had before the first store.
-fn settled_set(image: &[u8], rest: Rest, answered: &[StorePart], address: u64) -> ByteSet
-    ensures { result ≡ settled_set image.now rest (parts_bytes answered.now) address }
+// Whether one of these parts of answered stores has a byte at an address.
+#[tactic(auto, using(crate::proofs::Pieces::any_there))]
+fn is_covered(answered: &[StorePart], address: u64) -> bool
+    ensures { result ≡ is_covered_by (parts_bytes answered.now) address }
 {
-    for (k, part) in answered.iter().enumerate() {
-        if let Some(byte) = part_at(part, u128::from(address)) {
-            return with_parts(&answered[k + 1..], address, ByteSet::none().with(byte));
-        }
-    }
-    initial_at(image, rest, address)
+    is_there(answered, address)
 }
 
-// What is kept of a unit, if this is what is kept of another one, which may be the same.
-fn answered_next<'a>(
-    units: &'a HashMap<u64, KeptUnit>,
-    answered: &'a [StorePart],
-    unit: u64,
-    next: u64,
-) -> &'a [StorePart]
-    requires { answered.now ≡ parts_in (get nat_eq units.now) unit }
-    ensures { result.now ≡ parts_in (get nat_eq units.entry.now) next }
+fn is_there(answered: &[StorePart], address: u64) -> bool
+    ensures { result ≡ list_any (λ p. is_some (part_at p address)) answered.now }
 {
-    if unit == next {
-        answered
+    answered
+        .iter()
+        .any(|part| part_at(part, address).is_some())
+}
+
+// What a load may return at an address before it sees what answered stores left: nothing, where one of them did.
+fn first_set(image: &[u8], rest: Rest, answered: &[StorePart], address: u64) -> ByteSet
+    ensures { result ≡ first_set (is_covered_by (parts_bytes answered.now) address) (initial_set (slice_get image.now address) rest) }
+{
+    if is_covered(answered, address) {
+        ByteSet::none()
     } else {
-        parts_in(units, next)
+        initial_at(image, rest, address)
     }
+}
+
+// Adds these for so many bytes of a load.
+fn add_first_sets(
+    sets: &mut Vec<ByteSet>,
+    memory: (&[u8], Rest),
+    answered: &[StorePart],
+    address: u64,
+    length: usize,
+)
+    requires room { vec_len sets.old + length ≤ vec_capacity sets.old }
+    requires inside { address + length ≤ 2 ^ 64 }
+    ensures items { sets.new.items ≡ sets.old.items ++ map (first_set_at memory.entry.0.now memory.entry.1 (parts_bytes answered.now)) (range_with_len address length) }
+    ensures len { vec_len sets.new ≡ vec_len sets.old + length }
+    ensures room { vec_capacity sets.new ≡ vec_capacity sets.old }
+{
+    let (image, rest) = memory;
+    for k in 0..length {
+        sets.push_reserved(first_set(image, rest, answered, address + k as u64));
+    }
+}
+
+// Adds the sets of those bytes of a load that lie in one unit, as they are if no store is open.
+fn add_piece(
+    sets: &mut Vec<ByteSet>,
+    memory: (&[u8], Rest),
+    answered: &[StorePart],
+    address: u64,
+    length: usize,
+)
+    requires room { vec_len sets.old + length ≤ vec_capacity sets.old }
+    requires inside { address + length ≤ 2 ^ 64 }
+    ensures items { sets.new.items ≡ sets.old.items ++ map (settled_set memory.entry.0.now memory.entry.1 (parts_bytes answered.now)) (range_with_len address length) }
+    ensures len { vec_len sets.new ≡ vec_len sets.old + length }
+    ensures room { vec_capacity sets.new ≡ vec_capacity sets.old }
+{
+    let start = sets.len();
+    add_first_sets(sets, memory, answered, address, length);
+    show_behind(sets.as_mut_slice(), start, address, answered);
 }
 
 // Adds the sets of a load that is requested now, as they are if no store is open.
@@ -89,19 +123,18 @@ fn add_sets(
     moment: u64,
 )
     requires room { vec_len sets.old + length ≤ vec_capacity sets.old }
+    requires some { 1 ≤ length }
     requires inside { address + length ≤ 2 ^ 64 }
     ensures { sets.new.items ≡ sets.old.items ++ map (λ l. (opened_at memory.entry.0.now memory.entry.1 [] (answered_in (get nat_eq memory.entry.2.now)) l).may) (load_bytes number address length moment) }
 {
     let (image, rest, units) = memory;
-    let mut unit = unit_of(address);
-    let mut answered = parts_in(units, unit);
-    for k in 0..length {
-        let byte = address + k as u64;
-        let next = unit_of(byte);
-        let there = answered_next(units, answered, unit, next);
-        unit = next;
-        answered = there;
-        sets.push_reserved(settled_set(image, rest, there, byte));
+    let first = unit_of(address);
+    let last = unit_of(address + (length as u64 - 1));
+    for unit in first..last + 1 {
+        let from = address.max(8 * unit);
+        let done = (from - address) as usize;
+        let count = (length - done).min(8 - (from % 8) as usize);
+        add_piece(sets, (image, rest), parts_in(units, unit), from, count);
     }
 }
 
@@ -114,6 +147,7 @@ fn settled_load(
     length: usize,
     moment: u64,
 ) -> Result<OpenLoad, AllocError>
+    requires some { 1 ≤ length }
     requires inside { address + length ≤ 2 ^ 64 }
     ensures { IfOk result (λ o. load_open o ≡ map (opened_at memory.entry.0.now memory.entry.1 [] (answered_in (get nat_eq memory.entry.2.now))) (load_bytes number address length moment)) }
 {
@@ -136,6 +170,7 @@ pub(crate) fn open_load(
     length: usize,
     moment: u64,
 ) -> Result<OpenLoad, AllocError>
+    requires some { 1 ≤ length }
     requires inside { address + length ≤ 2 ^ 64 }
     ensures { IfOk result (λ o. load_open o ≡ map (opened_at memory.entry.0.now memory.entry.1 (parts_bytes memory.entry.2.now) (answered_in (get nat_eq memory.entry.3.now))) (load_bytes number address length moment)) }
 {

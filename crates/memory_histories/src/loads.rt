@@ -1,16 +1,16 @@
 //! The open loads with what they may return.
 
-ghost use Rattle.std.specs.Prelude.{◌≡◌, ◌+◌, ◌*◌, ◌<◌, ◌&&◌, IfSome, not, length, map, nat_lt};
+ghost use Rattle.std.specs.Prelude.{◌≡◌, ◌+◌, ◌*◌, ◌≤◌, ◌<◌, ◌&&◌, ◌++◌, true, IfSome, not, length, map, take, drop, nat_lt};
 ghost use Rattle.std.specs.List.{filter, find, fold, list_any, position};
 ghost use Rattle.std.specs.Option.{option_map};
 ghost use Rattle.memory_histories.specs.Sets.{has};
 ghost use Rattle.memory_histories.specs.Regular.{wrong_place, load_response_fault};
 ghost use Rattle.memory_histories.specs.Kept.{after_stores, is_open_of, is_open_at, may_have};
-ghost use Rattle.memory_histories.specs.Parts.{part_bytes, parts_bytes};
-ghost use Rattle.memory_histories.specs.Loads.{load_open, loads_open, is_load_of, IsOnlyLoad, counted, shown_sets, is_near, response_fault, wrong_in, behind, set_at, first_set_at};
+ghost use Rattle.memory_histories.specs.Parts.{part_bytes, parts_bytes, with_known};
+ghost use Rattle.memory_histories.specs.Loads.{load_open, loads_open, is_load_of, IsOnlyLoad, counted, shown_sets, all_shown_sets, shown_lanes, is_near, response_fault, wrong_in, behind, set_at, first_set_at};
 
 use crate::events::HistoryFault;
-use crate::parts::{StorePart, part_at, unit_of, with_known};
+use crate::parts::{StorePart, lanes_from, unit_of};
 use crate::regular::wrong_byte;
 use crate::sets::ByteSet;
 
@@ -180,13 +180,36 @@ fn wrong_place(loads: &[OpenLoad], number: u64, bytes: &[u8]) -> Option<usize>
     None
 }
 
-// The sets from an address on once a part of a store is requested.
+// The set has this byte from now on, if it is one.
+fn add_known(set: &mut ByteSet, lane: Option<u8>)
+    ensures { set.new ≡ with_known set.old lane }
+{
+    if let Some(byte) = lane {
+        set.insert(byte);
+    }
+}
+
+// The sets beside these lanes once their bytes are stored.
+fn show_lanes(sets: &mut [ByteSet], lanes: &[Option<u8>])
+    ensures { sets.new ≡ shown_lanes lanes.now sets.old }
+{
+    for k in 0..sets.len().min(lanes.len()) {
+        add_known(&mut sets[k], lanes[k]);
+    }
+}
+
+// The sets from an address on once a part of a store is requested that is near.
 fn show_sets(sets: &mut [ByteSet], address: u64, part: &StorePart)
+    requires { is_near address (length sets.old) part.now ≡ true }
     ensures { sets.new ≡ shown_sets part.now address sets.old }
 {
-    let first = u128::from(address);
-    for (k, set) in sets.iter_mut().enumerate() {
-        *set = with_known(*set, part_at(part, first + k as u128));
+    let first = unit_of(address);
+    let lane = address % 8;
+    if part.unit == first {
+        show_lanes(sets, lanes_from(part, lane));
+    } else {
+        let before = (8 * (part.unit - first) - lane) as usize;
+        show_lanes(&mut sets[before..], lanes_from(part, 0));
     }
 }
 
@@ -199,7 +222,7 @@ fn is_near(address: u64, length: usize, part: &StorePart) -> bool
     first <= part.unit && part.unit - first < (address % 8 + length as u64 + 7) / 8
 }
 
-// The same, which looks at the lanes alone if the part is near.
+// The same of any part.
 #[tactic(auto, using(crate::proofs::Opened::far))]
 fn show_near(sets: &mut [ByteSet], address: u64, part: &StorePart)
     ensures { sets.new ≡ shown_sets part.now address sets.old }
@@ -207,6 +230,23 @@ fn show_near(sets: &mut [ByteSet], address: u64, part: &StorePart)
     if is_near(address, sets.len(), part) {
         show_sets(sets, address, part);
     }
+}
+
+// The sets from an address on once these parts are seen.
+fn show_seen(sets: &mut [ByteSet], address: u64, parts: &[StorePart])
+    ensures { sets.new ≡ all_shown_sets parts.now address sets.old }
+{
+    for part in parts {
+        show_near(sets, address, part);
+    }
+}
+
+// The same of those behind a place.
+pub(crate) fn show_behind(sets: &mut [ByteSet], place: usize, address: u64, parts: &[StorePart])
+    requires { place ≤ length sets.old }
+    ensures { sets.new ≡ take place sets.old ++ all_shown_sets parts.now address (drop place sets.old) }
+{
+    show_seen(&mut sets[place..], address, parts);
 }
 
 fn show_all(sets: &mut Vec<ByteSet>, address: u64, part: &StorePart)

@@ -1,13 +1,12 @@
 //! Stores by unit of eight aligned addresses: a byte of a unit is its lane.
 
-ghost use Rattle.std.specs.Prelude.{◌≡◌, ◌+◌, ◌*◌, ◌/◌, ◌-◌, ◌≤◌, ◌<◌, ◌^◌, ◌==◌, if◌then◌else◌, true, None, Some, is_some, length, map, take, slice_get};
+ghost use Rattle.std.specs.Prelude.{◌≡◌, ◌+◌, ◌*◌, ◌/◌, ◌-◌, ◌≤◌, ◌<◌, ◌^◌, ◌==◌, if◌then◌else◌, true, None, Some, is_some, length, map, take, drop, slice_get};
 ghost use Rattle.std.specs.Int.{bit_at};
 ghost use Rattle.std.specs.List.{filter, fold, list_any, range_with_len};
 ghost use Rattle.memory_histories.specs.Windows.{store_bytes, is_open};
-ghost use Rattle.memory_histories.specs.Kept.{unit_of, is_in, with_stores};
-ghost use Rattle.memory_histories.specs.Parts.{lane_at, lanes_of, unit_lanes, part_bytes, parts_bytes, part_at, has_lane, is_open_part, is_open_with, with_known, cleared, cleared_lanes, clears, without_part, without_parts};
+ghost use Rattle.memory_histories.specs.Kept.{unit_of, is_in};
+ghost use Rattle.memory_histories.specs.Parts.{lane_at, lanes_of, unit_lanes, eight, part_bytes, parts_bytes, part_at, has_lane, is_open_part, is_open_with, cleared, cleared_lanes, clears, without_part, without_parts};
 
-use crate::sets::ByteSet;
 use crate::windows::is_before;
 
 /// The most units in which one operation lies.
@@ -188,40 +187,22 @@ fn lane_of(lanes: &[Option<u8>; 8], lane: u64) -> Option<u8>
 }
 
 // The byte of a part at an address.
-pub(crate) fn part_at(part: &StorePart, address: u128) -> Option<u8>
+pub(crate) fn part_at(part: &StorePart, address: u64) -> Option<u8>
     ensures { result ≡ part_at part.now address }
 {
-    if u128::from(part.unit) == address / 8 {
-        lane_of(&part.lanes, (address % 8) as u64)
+    if part.unit == unit_of(address) {
+        lane_of(&part.lanes, address % 8)
     } else {
         None
     }
 }
 
-// The set with this byte, if it is one.
-pub(crate) fn with_known(set: ByteSet, lane: Option<u8>) -> ByteSet
-    ensures { result ≡ with_known set lane }
+// The lanes of a part from one of them on.
+pub(crate) fn lanes_from(part: &StorePart, lane: u64) -> &[Option<u8>]
+    requires { lane < 8 }
+    ensures { result.now ≡ drop lane (eight part.now) }
 {
-    match lane {
-        Some(byte) => set.with(byte),
-        None => set,
-    }
-}
-
-// The set with what these parts left at an address.
-pub(crate) fn with_parts(parts: &[StorePart], address: u64, set: ByteSet) -> ByteSet
-    ensures { result ≡ with_stores (parts_bytes parts.now) address set }
-{
-    fold_lanes(parts, address, set)
-}
-
-fn fold_lanes(parts: &[StorePart], address: u64, set: ByteSet) -> ByteSet
-    ensures { result ≡ fold (λ s p. with_known s (part_at p address)) set parts.now }
-{
-    parts.iter().fold(
-        set,
-        |set, part| with_known(set, part_at(part, u128::from(address))),
-    )
+    &part.lanes[lane as usize..]
 }
 
 // A lane that is written over.
