@@ -129,8 +129,8 @@ fn add_sets(
 {
     let (image, rest, units) = memory;
     let first = unit_of(address);
-    let last = unit_of(address + (length as u64 - 1));
-    for unit in first..last + 1 {
+    let end = unit_of(address + (length as u64 - 1)) + 1;
+    for unit in first..end {
         let from = address.max(8 * unit);
         let done = (from - address) as usize;
         let count = (length - done).min(8 - (from % 8) as usize);
