@@ -3,7 +3,7 @@ use Rattle.std.specs.Prelude.{ℕ, ◌≡◌, Bool, true, if◌then◌else◌, �
 use Rattle.std.specs.HashMap.{get}
 use Rattle.std.specs.List.{find, list_any}
 use Rattle.memory_histories.specs.declared.events.HistoryEvent.{HistoryEvent}
-use Rattle.memory_histories.specs.declared.events.HistoryEvent.TheVariants.{LoadResponse, StoreResponse}
+use Rattle.memory_histories.specs.declared.events.HistoryFault.{HistoryFault}
 use Rattle.memory_histories.specs.declared.events.StepFault.{StepFault}
 use Rattle.memory_histories.specs.declared.events.StepFault.TheVariants.{Refused, TooLong, OutOfMemory}
 use Rattle.memory_histories.specs.declared.windows.LoadByte.{LoadByte}
@@ -17,8 +17,8 @@ use Rattle.memory_histories.specs.Sets.{has}
 use Rattle.memory_histories.specs.Windows.{Windows, is_at}
 use Rattle.memory_histories.specs.Regular.{fault, may_return}
 use Rattle.memory_histories.specs.Kept.{Kept, kept_fault, answered_after}
-use Rattle.memory_histories.specs.Parts.{parts_bytes, IsOnly}
-use Rattle.memory_histories.specs.Loads.{loads_open, IsOnlyLoad}
+use Rattle.memory_histories.specs.Parts.{parts_bytes}
+use Rattle.memory_histories.specs.Loads.{loads_open}
 
 -- what is kept of a unit of answered stores: nothing of one that isn't there
 abbrev pub parts_or : Option KeptUnit → List StorePart
@@ -59,17 +59,15 @@ kept m = record {
   open_bytes = loads_open m.loads.items;
 }
 
--- what an event answers stands at this place alone
-abbrev pub IsPlaceOf : HistoryEvent → RegularMemory → ℕ → Type 0
-IsPlaceOf (LoadResponse number bytes) m place = IsOnlyLoad number m.loads.items place
-IsPlaceOf (StoreResponse number) m place = IsOnly number m.stores.items place
-IsPlaceOf event m place = Unit {0}
+-- what each fault of a step says of the event, where this is why it is none of the law, and over what is kept and over the
+-- windows
+abbrev pub FaultIs : Option HistoryFault → ℕ → StepFault → Type 0
+FaultIs fault moment (Refused cause) = fault ≡ Some cause
+FaultIs fault moment TooLong = (fault ≡ None) × (moment ≡ 18446744073709551615)
+FaultIs fault moment OutOfMemory = fault ≡ None
 
--- what each fault of a step says of the event, over what is kept and over the windows
 abbrev pub KeptFaultIs : Kept → HistoryEvent → StepFault → Type 0
-KeptFaultIs k event (Refused cause) = kept_fault k event ≡ Some cause
-KeptFaultIs k event TooLong = (kept_fault k event ≡ None) × (k.moment ≡ 18446744073709551615)
-KeptFaultIs k event OutOfMemory = kept_fault k event ≡ None
+KeptFaultIs k event = FaultIs (kept_fault k event) k.moment
 
 abbrev pub StepFaultIs : Windows → HistoryEvent → StepFault → Type 0
 StepFaultIs w event (Refused cause) = fault w event ≡ Some cause

@@ -58,9 +58,7 @@ fn is_covered(answered: &[StorePart], address: u64) -> bool
 fn is_there(answered: &[StorePart], address: u64) -> bool
     ensures { result ≡ list_any (λ p. is_some (part_at p address)) answered.now }
 {
-    answered
-        .iter()
-        .any(|part| part_at(part, address).is_some())
+    answered.iter().any(|part| part_at(part, address).is_some())
 }
 
 // What a load may return at an address before it sees what answered stores left: nothing, where one of them did.
@@ -140,44 +138,48 @@ fn add_sets(
 
 // A load that is requested now, as it is if no store is open.
 fn settled_load(
-    alloc: Global,
+    sets: Vec<ByteSet>,
     memory: (&[u8], Rest, &HashMap<u64, KeptUnit>),
     number: u64,
     address: u64,
     length: usize,
     moment: u64,
-) -> Result<OpenLoad, AllocError>
+) -> OpenLoad
+    requires empty { sets.items ≡ [] }
+    requires room { length ≤ vec_capacity sets }
     requires some { 1 ≤ length }
     requires inside { address + length ≤ 2 ^ 64 }
-    ensures { IfOk result (λ o. load_open o ≡ map (opened_at memory.entry.0.now memory.entry.1 [] (answered_in (get nat_eq memory.entry.2.now))) (load_bytes number address length moment)) }
+    ensures { load_open result ≡ map (opened_at memory.entry.0.now memory.entry.1 [] (answered_in (get nat_eq memory.entry.2.now))) (load_bytes number address length moment) }
 {
-    let mut sets = Vec::with_capacity(alloc, length)?;
+    let mut sets = sets;
     add_sets(&mut sets, memory, number, address, length, moment);
-    Ok(OpenLoad {
+    OpenLoad {
         number,
         address,
         began: moment,
         sets,
-    })
+    }
 }
 
-// A load that is requested now.
+// A load that is requested now. Its sets come into this room.
 pub(crate) fn open_load(
-    alloc: Global,
+    room: Vec<ByteSet>,
     memory: (&[u8], Rest, &[StorePart], &HashMap<u64, KeptUnit>),
     number: u64,
     address: u64,
     length: usize,
     moment: u64,
-) -> Result<OpenLoad, AllocError>
+) -> OpenLoad
+    requires empty { room.items ≡ [] }
+    requires room { length ≤ vec_capacity room }
     requires some { 1 ≤ length }
     requires inside { address + length ≤ 2 ^ 64 }
-    ensures { IfOk result (λ o. load_open o ≡ map (opened_at memory.entry.0.now memory.entry.1 (parts_bytes memory.entry.2.now) (answered_in (get nat_eq memory.entry.3.now))) (load_bytes number address length moment)) }
+    ensures { load_open result ≡ map (opened_at memory.entry.0.now memory.entry.1 (parts_bytes memory.entry.2.now) (answered_in (get nat_eq memory.entry.3.now))) (load_bytes number address length moment) }
 {
     let (image, rest, stores, units) = memory;
-    let mut load = settled_load(alloc, (image, rest, units), number, address, length, moment)?;
+    let mut load = settled_load(room, (image, rest, units), number, address, length, moment);
     show_parts(&mut load, stores);
-    Ok(load)
+    load
 }
 
 // A part of a store is kept, and open loads may see it from now on. They read it where it stands, so that it is built once.

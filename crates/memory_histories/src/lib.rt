@@ -17,6 +17,7 @@ mod parts;
 mod reasons;
 mod regular;
 mod sets;
+mod spares;
 mod windows;
 
 pub use answered::{KeptUnit, UnitChange};

@@ -13,6 +13,7 @@ use crate::events::HistoryFault;
 use crate::parts::{StorePart, lanes_from, unit_of};
 use crate::regular::wrong_byte;
 use crate::sets::ByteSet;
+use crate::spares::keep_spare;
 
 /// A load that is open, and of each of its bytes what it may return if it is answered now.
 #[derive(Drop)]
@@ -311,13 +312,19 @@ fn first_set_at(loads: &[OpenLoad], number: u64, address: u64) -> Option<ByteSet
 }
 
 // No load is open under this number from now on. It stands at this place, if it is one alone.
-pub(crate) fn end_load(loads: &mut Vec<OpenLoad>, number: u64, place: Option<usize>)
+pub(crate) fn end_load(
+    loads: &mut Vec<OpenLoad>,
+    spares: &mut Vec<Vec<ByteSet>>,
+    number: u64,
+    place: Option<usize>,
+)
     requires { IfSome place (IsOnlyLoad number loads.old.items) }
     ensures { loads_open loads.new.items ≡ filter (λ o. not (is_open_of number o)) (loads_open loads.old.items) }
 {
     match place {
         Some(place) => {
-            let _ended = loads.remove(place);
+            let ended = loads.remove(place);
+            keep_spare(spares, ended.sets);
         }
         None => end_loads(loads, number),
     }

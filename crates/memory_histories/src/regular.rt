@@ -3,10 +3,11 @@
 ghost use Rattle.std.specs.Prelude.{◌≡◌, ◌+◌, ◌<◌, ◌++◌, true, length, None, Some, map, not, IfSome, IfOk, IfErr, OnOk, OnErr};
 ghost use Rattle.std.specs.List.{filter, find, list_any};
 ghost use Rattle.std.specs.Option.{option_map};
+ghost use Rattle.memory_histories.specs.declared.events.HistoryEvent.TheVariants.{LoadRequest, LoadResponse, StoreRequest, StoreResponse};
 ghost use Rattle.memory_histories.specs.Windows.{Windows, opening, is_open, store_bytes, load_bytes, windows_after};
-ghost use Rattle.memory_histories.specs.Regular.{fault, is_inside, wrong_byte, load_request_fault, load_response_fault, store_request_fault, store_response_fault};
-ghost use Rattle.memory_histories.specs.Kept.{opened_at, after_stores, answered_after, kept_after, kept_fault, kept_step, may_have, is_open_of, is_open_at, StandsFor};
-ghost use Rattle.memory_histories.specs.Shown.{kept, KeptFaultIs, StepFaultIs, IsSetOf, IsPlaceOf};
+ghost use Rattle.memory_histories.specs.Regular.{fault, is_inside, wrong_byte, load_request_fault, store_request_fault, store_response_fault};
+ghost use Rattle.memory_histories.specs.Kept.{opened_at, after_stores, answered_after, kept_fault, kept_step, is_open_of, is_open_at, StandsFor};
+ghost use Rattle.memory_histories.specs.Shown.{kept, FaultIs, KeptFaultIs, StepFaultIs, IsSetOf};
 ghost use Rattle.memory_histories.specs.Parts.{IsOnly};
 ghost use Rattle.memory_histories.specs.Loads.{IsOnlyLoad};
 
@@ -16,6 +17,7 @@ use crate::kept::{add_store, end_store, has_open_at, only_part, open_load, open_
 use crate::loads::{OpenLoad, end_load, has_open_load, load_response_fault, only_load, open_set};
 use crate::parts::{MAX_PARTS, StorePart, has_open};
 use crate::sets::ByteSet;
+use crate::spares::take_spare;
 use crate::windows::{has_enabled, is_inside};
 use std::alloc::{AllocError, Global};
 use std::collections::HashMap;
@@ -34,6 +36,7 @@ pub struct RegularMemory {
     stores: Vec<StorePart>,
     units: HashMap<u64, KeptUnit>,
     loads: Vec<OpenLoad>,
+    spares: Vec<Vec<ByteSet>>,
 }
 
 #[tactic(auto, unfolding(crate::specs::Shown::kept))]
@@ -51,6 +54,7 @@ impl RegularMemory {
             stores: Vec::new(alloc),
             units: HashMap::new(alloc),
             loads: Vec::new(alloc),
+            spares: Vec::new(alloc),
         })
     }
 
@@ -85,50 +89,71 @@ impl RegularMemory {
     fn kept_fault(&self, event: HistoryEvent) -> Option<HistoryFault>
         ensures { result ≡ kept_fault (kept self.now) event.entry }
     {
-        self.fault_at(event, self.place_of(event))
-    }
-
-    // Where that stands which the event answers, if it stands at one place alone.
-    fn place_of(&self, event: HistoryEvent) -> Option<usize>
-        ensures { IfSome result (IsPlaceOf event.entry self.now) }
-    {
-        match event {
-            HistoryEvent::LoadResponse { number, bytes: _ } => {
-                only_load(self.loads.as_slice(), number)
-            }
-            HistoryEvent::StoreResponse { number } => only_part(self.stores.as_slice(), number),
-            _ => None,
-        }
-    }
-
-    // Why the event is none of the law, if this is the place of what it answers.
-    fn fault_at(&self, event: HistoryEvent, place: Option<usize>) -> Option<HistoryFault>
-        requires { IfSome place (IsPlaceOf event self.now) }
-        ensures { result ≡ kept_fault (kept self.now) event.entry }
-    {
         match event {
             HistoryEvent::LoadRequest {
                 number,
                 address,
                 length,
-            } => load_request_fault(is_inside(address, length), self.has_open_load(number)),
+            } => self.load_request_fault(number, address, length),
             HistoryEvent::LoadResponse { number, bytes } => {
-                self.load_response_fault(number, place, bytes)
+                self.load_response_fault(number, self.place_of_load(number), bytes)
             }
             HistoryEvent::StoreRequest {
                 number,
                 address,
                 bytes,
                 enables,
-            } => store_request_fault(
-                is_inside(address, bytes.len()),
-                has_enabled(bytes, enables),
-                self.has_open_store(number),
-            ),
+            } => self.store_request_fault(number, address, bytes, enables),
             HistoryEvent::StoreResponse { number } => {
-                store_response_fault(self.has_answered_store(number, place))
+                self.store_response_fault(number, self.place_of_store(number))
             }
         }
+    }
+
+    // Where the load stands that is open under a number, if it is one alone.
+    fn place_of_load(&self, number: u64) -> Option<usize>
+        ensures { IfSome result (IsOnlyLoad number self.now.loads.items) }
+    {
+        only_load(self.loads.as_slice(), number)
+    }
+
+    // Where the only part of the store stands that is open under a number, if it has one alone.
+    fn place_of_store(&self, number: u64) -> Option<usize>
+        ensures { IfSome result (IsOnly number self.now.stores.items) }
+    {
+        only_part(self.stores.as_slice(), number)
+    }
+
+    // Why the request of a load is none of the law.
+    fn load_request_fault(&self, number: u64, address: u64, length: usize) -> Option<HistoryFault>
+        ensures { result ≡ kept_fault (kept self.now) (LoadRequest number address length) }
+    {
+        load_request_fault(is_inside(address, length), self.has_open_load(number))
+    }
+
+    // Why the request of a store is none of the law.
+    fn store_request_fault(
+        &self,
+        number: u64,
+        address: u64,
+        bytes: &[u8],
+        enables: u64,
+    ) -> Option<HistoryFault>
+        ensures { result ≡ kept_fault (kept self.now) (StoreRequest number address bytes.entry enables) }
+    {
+        store_request_fault(
+            is_inside(address, bytes.len()),
+            has_enabled(bytes, enables),
+            self.has_open_store(number),
+        )
+    }
+
+    // Why the answer to a store is none of the law, if this is the place of its only part.
+    fn store_response_fault(&self, number: u64, place: Option<usize>) -> Option<HistoryFault>
+        requires { IfSome place (IsOnly number self.now.stores.items) }
+        ensures { result ≡ kept_fault (kept self.now) (StoreResponse number) }
+    {
+        store_response_fault(self.has_answered_store(number, place))
     }
 
     // Whether a load is open under this number.
@@ -153,7 +178,7 @@ impl RegularMemory {
         has_open_at(self.stores.as_slice(), number, place)
     }
 
-    // Why the load that is open under this number may not be answered with these bytes, if this is its place.
+    // Why the answer to a load is none of the law, if this is the load's place.
     fn load_response_fault(
         &self,
         number: u64,
@@ -161,7 +186,7 @@ impl RegularMemory {
         bytes: &[u8],
     ) -> Option<HistoryFault>
         requires { IfSome place (IsOnlyLoad number self.now.loads.items) }
-        ensures { result ≡ load_response_fault may_have (filter (is_open_of number) (kept self.now).open_bytes) bytes.now }
+        ensures { result ≡ kept_fault (kept self.now) (LoadResponse number bytes.entry) }
     {
         load_response_fault(self.loads.as_slice(), number, place, bytes)
     }
@@ -172,48 +197,102 @@ impl RegularMemory {
         open_set(self.loads.as_slice(), number, address)
     }
 
+    // Each kind of event is told from the others once: the work on it is much less than a call that is told so again.
     fn kept_step(&mut self, event: HistoryEvent) -> Result<(), StepFault>
         ensures ok { OnOk result (kept_step (kept self.old) event.entry ≡ Some (kept self.new)) }
         ensures fault { IfErr result (KeptFaultIs (kept self.old) event.entry) }
         ensures unchanged { OnErr result (kept self.new ≡ kept self.old) }
-    {
-        let place = self.place_of(event);
-        if let Some(fault) = self.fault_at(event, place) {
-            return Err(StepFault::Refused(fault));
-        }
-        if self.moment == u64::MAX {
-            return Err(StepFault::TooLong);
-        }
-        self.change(event, place)?;
-        Ok(())
-    }
-
-    // The change that an event of the law makes, if this is the place of what it answers.
-    fn change(&mut self, event: HistoryEvent, place: Option<usize>) -> Result<(), AllocError>
-        requires moment { (kept self.old).moment < 18446744073709551615 }
-        requires law { kept_fault (kept self.old) event ≡ None }
-        requires place { IfSome place (IsPlaceOf event self.old) }
-        ensures ok { OnOk result (kept self.new ≡ kept_after (kept self.old) event.entry) }
-        ensures err { OnErr result (kept self.new ≡ kept self.old) }
     {
         match event {
             HistoryEvent::LoadRequest {
                 number,
                 address,
                 length,
-            } => self.request_load(number, address, length)?,
-            HistoryEvent::LoadResponse { number, bytes: _ } => {
-                end_load(&mut self.loads, number, place);
-            }
+            } => self.take_load_request(number, address, length),
+            HistoryEvent::LoadResponse { number, bytes } => self.take_load_response(number, bytes),
             HistoryEvent::StoreRequest {
                 number,
                 address,
                 bytes,
                 enables,
-            } => self.request_store(number, address, bytes, enables)?,
-            HistoryEvent::StoreResponse { number } => self.answer_store(number, place)?,
+            } => self.take_store_request(number, address, bytes, enables),
+            HistoryEvent::StoreResponse { number } => self.take_store_response(number),
         }
+    }
+
+    // Takes the request of a load.
+    fn take_load_request(
+        &mut self,
+        number: u64,
+        address: u64,
+        length: usize,
+    ) -> Result<(), StepFault>
+        ensures ok { OnOk result (kept_step (kept self.old) (LoadRequest number address length) ≡ Some (kept self.new)) }
+        ensures fault { IfErr result (KeptFaultIs (kept self.old) (LoadRequest number address length)) }
+        ensures unchanged { OnErr result (kept self.new ≡ kept self.old) }
+    {
+        self.refuse(self.load_request_fault(number, address, length))?;
+        self.request_load(number, address, length)?;
         self.moment += 1;
+        Ok(())
+    }
+
+    // Takes the answer to a load.
+    fn take_load_response(&mut self, number: u64, bytes: &[u8]) -> Result<(), StepFault>
+        ensures ok { OnOk result (kept_step (kept self.old) (LoadResponse number bytes.entry) ≡ Some (kept self.new)) }
+        ensures fault { IfErr result (KeptFaultIs (kept self.old) (LoadResponse number bytes.entry)) }
+        ensures unchanged { OnErr result (kept self.new ≡ kept self.old) }
+    {
+        let place = self.place_of_load(number);
+        self.refuse(self.load_response_fault(number, place, bytes))?;
+        end_load(&mut self.loads, &mut self.spares, number, place);
+        self.moment += 1;
+        Ok(())
+    }
+
+    // Takes the request of a store.
+    fn take_store_request(
+        &mut self,
+        number: u64,
+        address: u64,
+        bytes: &[u8],
+        enables: u64,
+    ) -> Result<(), StepFault>
+        ensures ok { OnOk result (kept_step (kept self.old) (StoreRequest number address bytes.entry enables) ≡ Some (kept self.new)) }
+        ensures fault { IfErr result (KeptFaultIs (kept self.old) (StoreRequest number address bytes.entry enables)) }
+        ensures unchanged { OnErr result (kept self.new ≡ kept self.old) }
+    {
+        self.refuse(self.store_request_fault(number, address, bytes, enables))?;
+        self.request_store(number, address, bytes, enables)?;
+        self.moment += 1;
+        Ok(())
+    }
+
+    // Takes the answer to a store.
+    fn take_store_response(&mut self, number: u64) -> Result<(), StepFault>
+        ensures ok { OnOk result (kept_step (kept self.old) (StoreResponse number) ≡ Some (kept self.new)) }
+        ensures fault { IfErr result (KeptFaultIs (kept self.old) (StoreResponse number)) }
+        ensures unchanged { OnErr result (kept self.new ≡ kept self.old) }
+    {
+        let place = self.place_of_store(number);
+        self.refuse(self.store_response_fault(number, place))?;
+        self.answer_store(number, place)?;
+        self.moment += 1;
+        Ok(())
+    }
+
+    // An event with a fault is refused, and each one once there is no number left for it.
+    fn refuse(&self, fault: Option<HistoryFault>) -> Result<(), StepFault>
+        ensures none { OnOk result (fault ≡ None) }
+        ensures room { OnOk result ((kept self.now).moment < 18446744073709551615) }
+        ensures fault { IfErr result (FaultIs fault (kept self.now).moment) }
+    {
+        if let Some(fault) = fault {
+            return Err(StepFault::Refused(fault));
+        }
+        if self.moment == u64::MAX {
+            return Err(StepFault::TooLong);
+        }
         Ok(())
     }
 
@@ -224,14 +303,16 @@ impl RegularMemory {
         ensures err { OnErr result (kept self.new ≡ kept self.old) }
     {
         let alloc = *self.stores.allocator();
+        self.loads.reserve(1)?;
+        let sets = take_spare(alloc, &mut self.spares, length)?;
         let memory = (
             self.image.as_slice(),
             self.rest,
             self.stores.as_slice(),
             &self.units,
         );
-        let load = open_load(alloc, memory, number, address, length, self.moment)?;
-        self.loads.push(load)?;
+        let load = open_load(sets, memory, number, address, length, self.moment);
+        self.loads.push_reserved(load);
         Ok(())
     }
 

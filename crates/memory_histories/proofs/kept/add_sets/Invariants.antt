@@ -1,4 +1,4 @@
-use Rattle.std.proofs.Common.{◌≡◌, ◌+◌, ◌-◌, ◌*◌, ◌≤◌, ◌++◌, map, min, max, vec_len, vec_capacity, nat_eq}
+use Rattle.std.proofs.Common.{◌≡◌, ◌+◌, ◌-◌, ◌≤◌, ◌++◌, map, vec_len, vec_capacity, nat_eq}
 use Rattle.std.specs.HashMap.{get}
 use Rattle.memory_histories.specs.Windows.{load_bytes}
 use Rattle.memory_histories.specs.Shown.{answered_in}

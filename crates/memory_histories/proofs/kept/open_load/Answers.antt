@@ -12,6 +12,6 @@ returns c =
     let memory = c.args.memory in
     let stores = parts_bytes memory.2.now in
     c.show_parts.ensures
-    ∙ (ap (map (after_stores stores)) c.in_ok-load.ensures
+    ∙ (ap (map (after_stores stores)) c.settled_load-load.ensures
     ∙ opened_shown memory.0.now memory.1 stores (answered_in (get nat_eq memory.3.now))
     (load_bytes c.args.number c.args.address c.args.length c.args.moment))

@@ -10,5 +10,5 @@ pub returns : goal.returns
 returns c =
     let memory = c.args.memory in
     let f = opened_at memory.0.now memory.1 [] (answered_in (get nat_eq memory.2.now)) in
-    ap (set_bytes c.args.number c.args.address c.args.moment) (rw c.in_ok-sets.ensures.items at c.add_sets.ensures)
+    ap (set_bytes c.args.number c.args.address c.args.moment) (rw c.requires.empty at c.add_sets.ensures)
     ∙ opened_sets f (λ l. refl) c.args.number c.args.address c.args.length c.args.moment

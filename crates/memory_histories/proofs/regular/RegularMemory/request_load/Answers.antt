@@ -12,11 +12,12 @@ pub returns-clause-ok : goal.returns-clause-ok
 unfolding kept
 returns-clause-ok c =
     let m = c.args.self.now in
-    let load = c.in_ok-load.load in
-    let all : loads_open c.push.new.self.items ≡ loads_open m.loads.items
+    let load = c.open_load-load.result in
+    let all : loads_open c.push_reserved.new.self.items ≡ loads_open m.loads.items
     ++ map (opened_at c.as_slice.result.now m.rest (parts_bytes c.as_slice-2.result.now) (answered_in (get nat_eq m.units)))
     (load_bytes c.args.number c.args.address c.args.length m.moment) =
-    ap loads_open c.in_ok-push.ensures.items
+    ap loads_open c.push_reserved.ensures.items
+    ∙ (ap (λ xs. loads_open (xs ++ load ∷ [])) c.reserve.ensures.items
     ∙ (loads-append m.loads.items (load ∷ [])
-    ∙ ap (λ xs. loads_open m.loads.items ++ xs) (append-nil (load_open load) ∙ c.in_ok-load.ensures)) in
+    ∙ ap (λ xs. loads_open m.loads.items ++ xs) (append-nil (load_open load) ∙ c.open_load-load.ensures))) in
     rw (all, c.as_slice.ensures.value, c.as_slice-2.ensures.value) refl

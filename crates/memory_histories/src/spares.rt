@@ -1,0 +1,38 @@
+//! The memory of sets that answered loads leave for later ones: most loads are then requested and answered without an
+//! allocation.
+
+ghost use Rattle.std.specs.Prelude.{◌≡◌, ◌≤◌, [], IfOk, vec_capacity};
+
+use crate::sets::ByteSet;
+use std::alloc::{AllocError, Global};
+
+// The most that are kept.
+const MAX_SPARES: usize = 8;
+
+// Room for the sets of a load.
+pub(crate) fn take_spare(
+    alloc: Global,
+    spares: &mut Vec<Vec<ByteSet>>,
+    length: usize,
+) -> Result<Vec<ByteSet>, AllocError>
+    ensures empty { IfOk result (λ v. v.items ≡ []) }
+    ensures room { IfOk result (λ v. length ≤ vec_capacity v) }
+{
+    let mut sets = match spares.pop() {
+        Some(sets) => sets,
+        None => {
+            spares.reserve(MAX_SPARES)?;
+            Vec::new(alloc)
+        }
+    };
+    sets.clear();
+    sets.reserve(length)?;
+    Ok(sets)
+}
+
+// Keeps what an answered load leaves, if there is room for it.
+pub(crate) fn keep_spare(spares: &mut Vec<Vec<ByteSet>>, sets: Vec<ByteSet>) {
+    if spares.len() < spares.capacity() {
+        spares.push_reserved(sets);
+    }
+}
