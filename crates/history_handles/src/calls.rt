@@ -96,7 +96,9 @@ pub fn store_response(alloc: Global, handle: &mut HistoryHandle, number: u64) ->
     tell(alloc, handle, HistoryEvent::StoreResponse { number })
 }
 
-// Tells the history behind a handle an event.
+// Tells the history behind a handle an event. It is compiled into each of its callers, where the kind of the event is known: an
+// event is then never written to memory to be told from the others again.
+#[inline(always)]
 #[tactic(auto, using(crate::proofs::Telling::is_taken, crate::proofs::Telling::is_not_taken))]
 fn tell(alloc: Global, handle: &mut HistoryHandle, event: HistoryEvent) -> u32
     ensures { (b : Option Session)

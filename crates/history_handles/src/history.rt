@@ -49,6 +49,7 @@ impl OpenHistory {
 
     // Takes one event. After each fault everything is as it was, but for the note of where an answer was
     // undecided.
+    #[inline(always)]
     pub(crate) fn step(&mut self, event: HistoryEvent) -> Result<(), JudgeFault>
         ensures ok { (s : Session)
             → IsKept self.old s
@@ -70,6 +71,7 @@ impl OpenHistory {
     }
 
     // Takes one event; after each fault everything is as it was.
+    #[inline(always)]
     fn taken(&mut self, event: HistoryEvent) -> Result<(), JudgeFault>
         ensures ok { (s : Session)
             → IsKept self.old s

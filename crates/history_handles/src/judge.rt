@@ -82,6 +82,7 @@ impl Judge {
     }
 
     // Takes one event.
+    #[inline(always)]
     pub(crate) fn step(&mut self, event: HistoryEvent) -> Result<(), JudgeFault>
         ensures ok { (h : History)
             → IsOf self.old h

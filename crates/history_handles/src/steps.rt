@@ -27,7 +27,7 @@ pub(crate) fn found(fault: Option<HistoryFault>) -> Option<JudgeFault>
 }
 
 // The regular law takes one event.
-#[inline(never)]
+#[inline(always)]
 pub(crate) fn step_regular(
     memory: &mut RegularMemory,
     event: HistoryEvent,
@@ -49,7 +49,7 @@ pub(crate) fn step_regular(
 }
 
 // The flat law takes one event.
-#[inline(never)]
+#[inline(always)]
 pub(crate) fn step_flat(memory: &mut FlatHistory, event: HistoryEvent) -> Result<(), JudgeFault>
     ensures ok { (f : Flat)
         → shown memory.old ≡ f
@@ -68,7 +68,7 @@ pub(crate) fn step_flat(memory: &mut FlatHistory, event: HistoryEvent) -> Result
 }
 
 // The atomic law takes one event.
-#[inline(never)]
+#[inline(always)]
 #[tactic(auto, using(crate::proofs::AtomicJudge::still))]
 pub(crate) fn step_atomic(memory: &mut AtomicMemory, event: HistoryEvent) -> Result<(), JudgeFault>
     ensures ok { (a : Atomic)

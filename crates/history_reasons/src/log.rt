@@ -74,6 +74,7 @@ impl StoreLog {
 
     /// Notes an event of the history. The events have numbers of their own as long as fewer than 2^64 are
     /// noted. One whose operation doesn't lie within memory is none of any law, and only counted.
+    #[inline(always)]
     pub fn note(&mut self, event: HistoryEvent)
         requires room { HasRoom self.old }
         ensures within { (w : Windows)
@@ -134,6 +135,7 @@ impl StoreLog {
         self.moment = self.moment.saturating_add(1);
     }
 
+    #[inline(always)]
     fn note_bytes(&mut self, event: HistoryEvent)
         requires room { HasRoom self.old }
         ensures within { is_within event.entry ≡ true → IsNoted self.old event.entry self.new }
@@ -144,6 +146,7 @@ impl StoreLog {
         }
     }
 
+    #[inline(always)]
     fn note_within(&mut self, event: HistoryEvent)
         requires room { HasRoom self.old }
         requires inside { is_within event ≡ true }
@@ -370,6 +373,7 @@ fn drop_first(stores: &mut Vec<KeptStore>, count: usize)
 }
 
 // Whether an operation that an event requests lies within memory.
+#[inline(always)]
 fn is_within(event: HistoryEvent) -> bool
     ensures { result ≡ is_within event.entry }
 {

@@ -62,6 +62,7 @@ impl FlatHistory {
     }
 
     /// Why the history so far with this event would be none of the law, or `None` where it is one.
+    #[inline(always)]
     pub fn fault(&self, event: HistoryEvent) -> Option<HistoryFault>
         ensures { result ≡ flat_fault (shown self.now) event.entry }
     {
@@ -115,6 +116,7 @@ impl FlatHistory {
     /// It is `Ok` exactly where the history so far with this event is one of the law, and there was
     /// room: memory is then as the event leaves it. After each fault everything is as it was, and a
     /// refusal names the first fault in the order of [`HistoryFault`].
+    #[inline(always)]
     pub fn step(&mut self, event: HistoryEvent) -> Result<(), StepFault>
         ensures ok { OnOk result (flat_step (shown self.old) event.entry ≡ Some (shown self.new)) }
         ensures fault { IfErr result (FlatFaultIs (shown self.old) event.entry) }
@@ -160,6 +162,7 @@ impl FlatHistory {
     }
 
     // The change that an event of the law makes.
+    #[inline(always)]
     fn change(&mut self, event: HistoryEvent) -> Result<(), AllocError>
         requires moment { (shown self.old).moment < 18446744073709551615 }
         requires law { flat_fault (shown self.old) event ≡ None }

@@ -4,7 +4,7 @@ ghost use Rattle.std.specs.Prelude.{◌≡◌, ◌+◌, ◌≤◌, ◌<◌, [], 
 ghost use Rattle.std.specs.HashMap.{get};
 ghost use Rattle.std.specs.List.{filter, list_any, position, range_with_len};
 ghost use Rattle.memory_histories.specs.Windows.{store_bytes, load_bytes, is_open};
-ghost use Rattle.memory_histories.specs.Kept.{initial_set, is_covered_by, first_set, first_set_at, settled_set, opened_at, after_stores};
+ghost use Rattle.memory_histories.specs.Kept.{initial_set, is_covered_by, first_set_at, settled_set, opened_at, after_stores};
 ghost use Rattle.memory_histories.specs.Parts.{part_at, part_bytes, parts_bytes, is_open_part, IsOnly};
 ghost use Rattle.memory_histories.specs.Loads.{load_open, loads_open};
 ghost use Rattle.memory_histories.specs.Shown.{answered_in};
@@ -61,15 +61,31 @@ fn is_there(answered: &[StorePart], address: u64) -> bool
     answered.iter().any(|part| part_at(part, address).is_some())
 }
 
-// What a load may return at an address before it sees what answered stores left: nothing, where one of them did.
-fn first_set(image: &[u8], rest: Rest, answered: &[StorePart], address: u64) -> ByteSet
-    ensures { result ≡ first_set (is_covered_by (parts_bytes answered.now) address) (initial_set (slice_get image.now address) rest) }
+// Adds what a load may return at an address before it sees what answered stores left: nothing, where one of them did.
+fn push_first(sets: &mut Vec<ByteSet>, memory: (&[u8], Rest), answered: &[StorePart], address: u64)
+    requires { vec_len sets.old + 1 ≤ vec_capacity sets.old }
+    ensures items { sets.new.items ≡ sets.old.items ++ first_set_at memory.entry.0.now memory.entry.1 (parts_bytes answered.now) address ∷ [] }
+    ensures len { vec_len sets.new ≡ vec_len sets.old + 1 }
+    ensures room { vec_capacity sets.new ≡ vec_capacity sets.old }
 {
     if is_covered(answered, address) {
-        ByteSet::none()
+        sets.push_reserved(ByteSet::none());
     } else {
-        initial_at(image, rest, address)
+        push_initial(sets, memory, address);
     }
+}
+
+// Adds what memory had at an address before the first store. (Most bytes that are loaded were stored: a set of none is then written
+// with no look at another.)
+#[inline(never)]
+fn push_initial(sets: &mut Vec<ByteSet>, memory: (&[u8], Rest), address: u64)
+    requires { vec_len sets.old + 1 ≤ vec_capacity sets.old }
+    ensures items { sets.new.items ≡ sets.old.items ++ initial_set (slice_get memory.entry.0.now address) memory.entry.1 ∷ [] }
+    ensures len { vec_len sets.new ≡ vec_len sets.old + 1 }
+    ensures room { vec_capacity sets.new ≡ vec_capacity sets.old }
+{
+    let (image, rest) = memory;
+    sets.push_reserved(initial_at(image, rest, address));
 }
 
 // Adds these for so many bytes of a load.
@@ -86,9 +102,8 @@ fn add_first_sets(
     ensures len { vec_len sets.new ≡ vec_len sets.old + length }
     ensures room { vec_capacity sets.new ≡ vec_capacity sets.old }
 {
-    let (image, rest) = memory;
     for k in 0..length {
-        sets.push_reserved(first_set(image, rest, answered, address + k as u64));
+        push_first(sets, memory, answered, address + k as u64);
     }
 }
 

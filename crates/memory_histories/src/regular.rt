@@ -78,6 +78,7 @@ impl RegularMemory {
     /// It is `Ok` exactly where the history so far with this event is one of the law, and there was
     /// room: what is kept is then of the history with the event. After each fault everything is as it
     /// was, and a refusal names the first fault in the order of [`HistoryFault`].
+    #[inline(always)]
     pub fn step(&mut self, event: HistoryEvent) -> Result<(), StepFault>
         ensures ok { (w : Windows) → StandsFor (kept self.old) w → OnOk result ((fault w event.entry ≡ None) × StandsFor (kept self.new) (windows_after w event.entry)) }
         ensures fault { (w : Windows) → StandsFor (kept self.old) w → IfErr result (StepFaultIs w event.entry) }
@@ -197,7 +198,8 @@ impl RegularMemory {
         open_set(self.loads.as_slice(), number, address)
     }
 
-    // Each kind of event is told from the others once: the work on it is much less than a call that is told so again.
+    // Each kind of event is told from the others once, or not at all where the caller knows it.
+    #[inline(always)]
     fn kept_step(&mut self, event: HistoryEvent) -> Result<(), StepFault>
         ensures ok { OnOk result (kept_step (kept self.old) event.entry ≡ Some (kept self.new)) }
         ensures fault { IfErr result (KeptFaultIs (kept self.old) event.entry) }

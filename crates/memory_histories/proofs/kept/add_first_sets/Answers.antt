@@ -15,8 +15,8 @@ loop-k-preserved c =
     let f = first_set_at c.args.memory.0.now c.args.memory.1 (parts_bytes c.args.answered.now) in
     let more = ap (map f) (one_more c.args.address c.args.length c.loop-k.k c.loop-k-test.true) in
     record {
-      items = rw (c.push_reserved.ensures.items, append_assoc, c.first_set.ensures) (rw more at c.loop-k.invariant.items);
+      items = rw (c.push_first.ensures.items, append_assoc) (rw more at c.loop-k.invariant.items);
       len = omega arith;
       room = omega arith;
-      capacity = c.push_reserved.ensures.capacity ∙ c.loop-k.invariant.capacity;
+      capacity = c.push_first.ensures.room ∙ c.loop-k.invariant.capacity;
     }
