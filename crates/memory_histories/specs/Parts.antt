@@ -40,6 +40,27 @@ abbrev pub parts_bytes : List StorePart → List StoreByte
 parts_bytes [] = []
 parts_bytes (p ∷ ps) = part_bytes p ++ parts_bytes ps
 
+-- a part with other lanes
+abbrev pub with_lanes : List (Option ℕ) → StorePart → StorePart
+with_lanes lanes p = record { number = p.number; unit = p.unit; lanes = lanes; began = p.began; ended = p.ended }
+
+-- no part at all
+abbrev pub nothing : StorePart
+nothing = record { number = 0; unit = 0; lanes = []; began = 0; ended = None }
+
+-- the part of a store that lies in a unit, before it has a byte, and once it has what the store with these bytes writes there
+abbrev pub empty_part : ℕ → ℕ → ℕ → StorePart
+empty_part number unit moment = record {
+  number = number;
+  unit = unit;
+  lanes = None ∷ None ∷ None ∷ None ∷ None ∷ None ∷ None ∷ None ∷ [];
+  began = moment;
+  ended = None;
+}
+
+abbrev pub written : ℕ → List ℕ → ℕ → StorePart → StorePart
+written from bytes enables p = with_lanes (unit_lanes p.unit (lane_at from (lanes_of bytes enables))) p
+
 -- whether a part is of a store that is open under this number
 abbrev pub is_open_part : ℕ → StorePart → Bool
 is_open_part number p = is_none p.ended && (p.number == number)

@@ -5,14 +5,16 @@ ghost use Rattle.std.specs.HashMap.{get};
 ghost use Rattle.std.specs.List.{filter, list_any, position, range_with_len};
 ghost use Rattle.memory_histories.specs.Windows.{store_bytes, load_bytes, is_open};
 ghost use Rattle.memory_histories.specs.Kept.{initial_set, is_covered_by, first_set_at, settled_set, opened_at, after_stores};
-ghost use Rattle.memory_histories.specs.Parts.{part_at, part_bytes, parts_bytes, is_open_part, IsOnly};
+ghost use Rattle.memory_histories.specs.Parts.{part_at, written, part_bytes, parts_bytes, is_open_part, IsOnly};
 ghost use Rattle.memory_histories.specs.Loads.{load_open, loads_open};
 ghost use Rattle.memory_histories.specs.Shown.{answered_in};
 
 use crate::answered::{KeptUnit, parts_in};
 use crate::events::Rest;
 use crate::loads::{OpenLoad, show_behind, show_part, show_parts};
-use crate::parts::{StorePart, has_lane, has_open, is_open_part, part_at, part_of, unit_of};
+use crate::parts::{
+    StorePart, empty_part, has_lane, has_open, is_open_part, part_at, unit_of, write_part,
+};
 use crate::sets::ByteSet;
 use crate::windows::LoadByte;
 use std::alloc::{AllocError, Global};
@@ -197,17 +199,48 @@ pub(crate) fn open_load(
     load
 }
 
-// A part of a store is kept, and open loads may see it from now on. They read it where it stands, so that it is built once.
-fn add_part(stores: &mut Vec<StorePart>, loads: &mut [OpenLoad], part: StorePart)
-    requires { vec_len stores.old + 1 ≤ vec_capacity stores.old }
-    ensures stores { stores.new.items ≡ stores.old.items ++ part ∷ [] }
+// A part of a store is kept with what the store writes in its unit, and open loads may see it from now on. It is written and read
+// where it stands.
+fn add_part(
+    stores: &mut Vec<StorePart>,
+    loads: &mut [OpenLoad],
+    part: StorePart,
+    from: u64,
+    bytes: &[u8],
+    enables: u64,
+)
+    requires room { vec_len stores.old + 1 ≤ vec_capacity stores.old }
+    requires unit { part.unit < 2305843009213693952 }
+    requires few { length bytes.now ≤ 64 }
+    ensures stores { stores.new.items ≡ stores.old.items ++ written from bytes.now enables part ∷ [] }
     ensures len { vec_len stores.new ≡ vec_len stores.old + 1 }
     ensures capacity { vec_capacity stores.new ≡ vec_capacity stores.old }
-    ensures loads { loads_open loads.new ≡ map (after_stores (part_bytes part)) (loads_open loads.old) }
+    ensures loads { loads_open loads.new ≡ map (after_stores (part_bytes (written from bytes.now enables part))) (loads_open loads.old) }
+{
+    let place = stores.len();
+    push_written(stores, part, from, bytes, enables);
+    show_part(loads, &stores[place]);
+}
+
+// A part is kept with what a store writes in its unit.
+fn push_written(stores: &mut Vec<StorePart>, part: StorePart, from: u64, bytes: &[u8], enables: u64)
+    requires room { vec_len stores.old + 1 ≤ vec_capacity stores.old }
+    requires unit { part.unit < 2305843009213693952 }
+    requires few { length bytes.now ≤ 64 }
+    ensures stores { stores.new.items ≡ stores.old.items ++ written from bytes.now enables part ∷ [] }
+    ensures len { vec_len stores.new ≡ vec_len stores.old + 1 }
+    ensures capacity { vec_capacity stores.new ≡ vec_capacity stores.old }
 {
     let place = stores.len();
     stores.push_reserved(part);
-    show_part(loads, &stores[place]);
+    write_part(
+        stores.as_mut_slice(),
+        place,
+        part.unit,
+        from,
+        bytes,
+        enables,
+    );
 }
 
 // A store is requested at this moment: its parts are kept, and open loads may see them from now on.
@@ -230,8 +263,8 @@ pub(crate) fn add_store(
     let first = unit_of(address);
     let last = unit_of(address + (bytes.len() as u64 - 1));
     for unit in first..last + 1 {
-        let part = part_of(number, unit, address, bytes, enables, moment);
-        add_part(stores, loads, part);
+        let part = empty_part(number, unit, moment);
+        add_part(stores, loads, part, address, bytes, enables);
     }
 }
 

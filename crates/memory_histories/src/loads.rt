@@ -141,7 +141,7 @@ fn first_wrong(sets: &[ByteSet], bytes: &[u8]) -> Option<usize>
 {
     sets.iter()
         .zip(bytes.iter())
-        .position(|(set, byte)| !set.contains(*byte))
+        .position(|(set, byte)| !set.holds(*byte))
 }
 
 // The first of these bytes that a load may not return, if it is open under this number.

@@ -1,11 +1,11 @@
 //! Stores by unit of eight aligned addresses: a byte of a unit is its lane.
 
-ghost use Rattle.std.specs.Prelude.{◌≡◌, ◌+◌, ◌*◌, ◌/◌, ◌-◌, ◌≤◌, ◌<◌, ◌^◌, ◌==◌, if◌then◌else◌, true, None, Some, is_some, length, map, take, drop, slice_get};
+ghost use Rattle.std.specs.Prelude.{◌≡◌, ◌+◌, ◌*◌, ◌/◌, ◌-◌, ◌≤◌, ◌<◌, ◌^◌, ◌==◌, if◌then◌else◌, true, None, Some, is_some, length, map, take, drop, slice_get, slice_set, slice_index_or};
 ghost use Rattle.std.specs.Int.{bit_at};
 ghost use Rattle.std.specs.List.{filter, fold, list_any, range_with_len};
-ghost use Rattle.memory_histories.specs.Windows.{store_bytes, is_open};
-ghost use Rattle.memory_histories.specs.Kept.{unit_of, is_in};
-ghost use Rattle.memory_histories.specs.Parts.{lane_at, lanes_of, unit_lanes, eight, part_bytes, parts_bytes, part_at, has_lane, is_open_part, is_open_with, cleared, cleared_lanes, clears, without_part, without_parts};
+ghost use Rattle.memory_histories.specs.Windows.{is_open};
+ghost use Rattle.memory_histories.specs.Kept.{unit_of};
+ghost use Rattle.memory_histories.specs.Parts.{lane_at, lanes_of, unit_lanes, nothing, empty_part, with_lanes, eight, part_bytes, parts_bytes, part_at, has_lane, is_open_part, is_open_with, cleared, cleared_lanes, clears, without_part, without_parts};
 
 use crate::windows::is_before;
 
@@ -77,20 +77,15 @@ fn stored_lanes(unit: u64, from: u64, bytes: &[u8], enables: u64) -> [Option<u8>
     ]
 }
 
-// The same of a store of eight bytes that begins with its unit, where each byte has the number of its lane.
-fn whole_lanes(bytes: &[u8], enables: u64) -> [Option<u8>; 8]
-    ensures { result ≡ map (λ k. if bit_at enables k == 1 then slice_get bytes.now k else None) (range_with_len 0 8) }
+// The same of a store of eight bytes that begins with its unit, where each byte has the number of its lane. They are written where
+// they are kept.
+fn write_whole(lanes: &mut [Option<u8>], bytes: &[u8], enables: u64)
+    requires { length lanes.old ≡ 8 }
+    ensures { lanes.new ≡ map (λ k. if bit_at enables k == 1 then slice_get bytes.now k else None) (range_with_len 0 8) }
 {
-    [
-        enabled_byte(bytes, enables, 0),
-        enabled_byte(bytes, enables, 1),
-        enabled_byte(bytes, enables, 2),
-        enabled_byte(bytes, enables, 3),
-        enabled_byte(bytes, enables, 4),
-        enabled_byte(bytes, enables, 5),
-        enabled_byte(bytes, enables, 6),
-        enabled_byte(bytes, enables, 7),
-    ]
+    for k in 0..8 {
+        lanes[k] = enabled_byte(bytes, enables, k as u64);
+    }
 }
 
 // Whether a store of so many bytes from an address on is one of this whole unit.
@@ -101,38 +96,37 @@ fn is_whole(unit: u64, from: u64, length: usize) -> bool
     from == 8 * unit && length == 8
 }
 
-// What a store writes in the lanes of a unit. Most are of a whole one.
-fn lanes_in(unit: u64, from: u64, bytes: &[u8], enables: u64) -> [Option<u8>; 8]
-    requires unit { unit < 2305843009213693952 }
-    requires few { length bytes.now ≤ 64 }
-    ensures { result ≡ unit_lanes unit (lane_at from (lanes_of bytes.now enables)) }
-{
-    if is_whole(unit, from, bytes.len()) {
-        whole_lanes(bytes, enables)
-    } else {
-        stored_lanes(unit, from, bytes, enables)
-    }
-}
-
-// The part of a store that lies in a unit.
-pub(crate) fn part_of(
-    number: u64,
-    unit: u64,
-    address: u64,
-    bytes: &[u8],
-    enables: u64,
-    moment: u64,
-) -> StorePart
-    requires unit { unit < 2305843009213693952 }
-    requires few { length bytes.now ≤ 64 }
-    ensures { part_bytes result ≡ filter (is_in unit) (store_bytes number address bytes.now enables moment) }
+// The part of a store that lies in a unit, before it has a byte.
+pub(crate) fn empty_part(number: u64, unit: u64, moment: u64) -> StorePart
+    ensures { result ≡ empty_part number unit moment }
 {
     StorePart {
         number,
         unit,
-        lanes: lanes_in(unit, address, bytes, enables),
+        lanes: [None; 8],
         began: moment,
         ended: None,
+    }
+}
+
+// The part at a place, which lies in this unit, has from now on what a store writes there. Most are of a whole unit.
+pub(crate) fn write_part(
+    parts: &mut [StorePart],
+    place: usize,
+    unit: u64,
+    from: u64,
+    bytes: &[u8],
+    enables: u64,
+)
+    requires place { place < length parts.old }
+    requires unit { unit < 2305843009213693952 }
+    requires few { length bytes.now ≤ 64 }
+    ensures { parts.new ≡ slice_set parts.old place (with_lanes (unit_lanes unit (lane_at from (lanes_of bytes.now enables))) (slice_index_or parts.old place nothing)) }
+{
+    if is_whole(unit, from, bytes.len()) {
+        write_whole(&mut parts[place].lanes, bytes, enables);
+    } else {
+        parts[place].lanes = stored_lanes(unit, from, bytes, enables);
     }
 }
 

@@ -33,6 +33,13 @@ impl ByteSet {
     pub fn contains(self, byte: u8) -> bool
         ensures { result ≡ has self byte }
     {
+        self.holds(byte)
+    }
+
+    // The same of a set that isn't copied.
+    pub(crate) fn holds(&self, byte: u8) -> bool
+        ensures { result ≡ has self.now byte }
+    {
         (self.words[usize::from(byte / 64)] >> (byte % 64)) % 2 == 1
     }
 

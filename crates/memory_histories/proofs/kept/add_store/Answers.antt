@@ -2,9 +2,9 @@ use Rattle.std.proofs.Common.{◌+◌, ◌++◌, ◌∙◌, map, nat_le, sym, ap
 use Rattle.std.specs.List.{filter}
 use Rattle.memory_histories.specs.Windows.{store_bytes}
 use Rattle.memory_histories.specs.Kept.{unit_of, after_stores}
-use Rattle.memory_histories.specs.Parts.{part_bytes, parts_bytes}
+use Rattle.memory_histories.specs.Parts.{written, part_bytes, parts_bytes}
 use Rattle.memory_histories.specs.Loads.{loads_open}
-use Rattle.memory_histories.proofs.Lanes.{store_from, store_whole, store_over}
+use Rattle.memory_histories.proofs.Lanes.{part_of_store, store_from, store_whole, store_over}
 use Rattle.memory_histories.proofs.Pieces.{push_part, all_shown_more, none_shown}
 use Rattle.memory_histories.proofs.kept.add_store.Goals as goal
 
@@ -24,12 +24,14 @@ loop-unit-preserved c =
     let all = store_bytes c.args.number c.args.address c.args.bytes.now c.args.enables c.args.moment in
     let rest = filter (λ s. nat_le (u + 1) (unit_of s.address)) all in
     let more = store_from c.args.number u c.args.address c.args.bytes.now c.args.enables c.args.moment in
-    let part = c.part_of-part.ensures in
+    let added = written c.args.address c.args.bytes.now c.args.enables c.empty_part-part.result in
+    let part = ap (λ p. part_bytes (written c.args.address c.args.bytes.now c.args.enables p)) c.empty_part-part.ensures
+    ∙ part_of_store c.args.number u c.args.address c.args.bytes.now c.args.enables c.args.moment in
     record {
-      stores = rw c.add_part.ensures.stores (push_part c.loop-unit.stores.items c.part_of-part.result rest
+      stores = rw c.add_part.ensures.stores (push_part c.loop-unit.stores.items added rest
           ∙ (ap (λ xs. parts_bytes c.loop-unit.stores.items ++ (xs ++ rest)) part
           ∙ (ap (λ xs. parts_bytes c.loop-unit.stores.items ++ xs) (sym more) ∙ c.loop-unit.invariant.stores)));
-      loads = rw c.add_part.ensures.loads (sym (all_shown_more (part_bytes c.part_of-part.result) rest (loads_open c.loop-unit.loads))
+      loads = rw c.add_part.ensures.loads (sym (all_shown_more (part_bytes added) rest (loads_open c.loop-unit.loads))
           ∙ (ap (λ xs. map (after_stores (xs ++ rest)) (loads_open c.loop-unit.loads)) part
           ∙ (ap (λ xs. map (after_stores xs) (loads_open c.loop-unit.loads)) (sym more) ∙ c.loop-unit.invariant.loads)));
       room = omega arith;

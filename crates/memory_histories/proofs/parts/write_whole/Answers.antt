@@ -1,0 +1,23 @@
+use Rattle.std.proofs.Common.{◌≡◌, ◌∙◌, ◌++◌, ◌∷◌, [], ◌==◌, ℕ, Option, if◌then◌else◌, map, length, length-set, slice_get, take, None, sym, ap, arith}
+use Rattle.std.specs.Int.{bit_at}
+use Rattle.std.specs.List.{range_with_len}
+use Rattle.std.proofs.lemmas.List.{take_more_set, take_all}
+use Rattle.std.proofs.lemmas.List.FromFn.{map-range_with_len_more}
+use Rattle.memory_histories.proofs.parts.write_whole.Goals as goal
+
+pub loop-k-preserved : goal.loop-k-preserved
+loop-k-preserved c =
+    let f : ℕ → Option ℕ = λ (k : ℕ). if bit_at c.args.enables k == 1 then slice_get c.args.bytes.now k else None in
+    let k = c.loop-k.k in
+    let v = c.enabled_byte.result in
+    record {
+      so_far = take_more_set c.loop-k.lanes k v (omega arith)
+          ∙ (ap (λ xs. xs ++ v ∷ []) c.loop-k.invariant.so_far
+          ∙ (ap (λ x. map f (range_with_len 0 k) ++ x ∷ []) c.enabled_byte.ensures ∙ sym (map-range_with_len_more f 0 k k (omega arith))));
+      many = length-set c.loop-k.lanes k v ∙ c.loop-k.invariant.many;
+    }
+
+pub returns : goal.returns
+returns c =
+    let eight : c.loop-k.k ≡ 8 = omega arith in
+    sym (take_all 8 c.loop-k.lanes (omega arith)) ∙ (rw eight at c.loop-k.invariant.so_far)
