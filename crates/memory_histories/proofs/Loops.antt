@@ -1,5 +1,6 @@
 -- One more byte of an operation, as the loops over them go.
 use Rattle.std.proofs.Common.{◌≡◌, ℕ, ◌+◌, ◌-◌, ◌/◌, ◌%◌, ◌<◌, ◌||◌, ◌==◌, List, ◌∷◌, length, drop, get_or, None, refl, arith, add-one}
+use Rattle.std.specs.List.{range_with_len}
 use Rattle.std.proofs.lemmas.List.{at_drop_more}
 use Rattle.memory_histories.specs.Regular.{has_enabled}
 use Rattle.memory_histories.specs.Windows.{store_bytes, load_bytes, cons_if}
@@ -17,4 +18,10 @@ pub load_bytes-more : (n a k i m : ℕ) → i < k
 load_bytes-more n a k i m h =
     let e : k - i ≡ (k - (i + 1)) + 1 = omega arith in
     let s : a + i + 1 ≡ a + (i + 1) = omega arith in
+    rw (e, add-one, ← s) refl
+
+pub range_more : (a n k : ℕ) → k < n → range_with_len (a + k) (n - k) ≡ (a + k) ∷ range_with_len (a + (k + 1)) (n - (k + 1))
+range_more a n k h =
+    let e : n - k ≡ (n - (k + 1)) + 1 = omega arith in
+    let s : a + k + 1 ≡ a + (k + 1) = omega arith in
     rw (e, add-one, ← s) refl

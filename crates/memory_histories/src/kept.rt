@@ -1,6 +1,6 @@
 //! What a request and an answer change of the loads and the stores that are open.
 
-ghost use Rattle.std.specs.Prelude.{◌≡◌, ◌+◌, ◌≤◌, ◌<◌, [], ◌∷◌, ◌++◌, ◌^◌, IfOk, IfSome, is_some, length, map, not, vec_len, vec_capacity, slice_get, nat_eq};
+ghost use Rattle.std.specs.Prelude.{◌≡◌, ◌+◌, ◌*◌, ◌≤◌, ◌<◌, [], ◌∷◌, ◌++◌, ◌^◌, IfOk, IfSome, is_some, length, map, not, vec_len, vec_capacity, slice_get, nat_eq};
 ghost use Rattle.std.specs.HashMap.{get};
 ghost use Rattle.std.specs.List.{filter, list_any, position, range_with_len};
 ghost use Rattle.memory_histories.specs.Windows.{store_bytes, load_bytes, is_open};
@@ -90,8 +90,47 @@ fn push_initial(sets: &mut Vec<ByteSet>, memory: (&[u8], Rest), address: u64)
     sets.push_reserved(initial_at(image, rest, address));
 }
 
-// Adds these for so many bytes of a load.
+// Adds these for so many bytes of a load. Most are those of a whole unit.
 fn add_first_sets(
+    sets: &mut Vec<ByteSet>,
+    memory: (&[u8], Rest),
+    answered: &[StorePart],
+    address: u64,
+    length: usize,
+)
+    requires room { vec_len sets.old + length ≤ vec_capacity sets.old }
+    requires inside { address + length ≤ 2 ^ 64 }
+    ensures items { sets.new.items ≡ sets.old.items ++ map (first_set_at memory.entry.0.now memory.entry.1 (parts_bytes answered.now)) (range_with_len address length) }
+    ensures len { vec_len sets.new ≡ vec_len sets.old + length }
+    ensures room { vec_capacity sets.new ≡ vec_capacity sets.old }
+{
+    if address % 8 == 0 && length == 8 {
+        add_first_whole(sets, memory, answered, unit_of(address));
+    } else {
+        add_each_first(sets, memory, answered, address, length);
+    }
+}
+
+// The same of a whole unit.
+fn add_first_whole(
+    sets: &mut Vec<ByteSet>,
+    memory: (&[u8], Rest),
+    answered: &[StorePart],
+    unit: u64,
+)
+    requires room { vec_len sets.old + 8 ≤ vec_capacity sets.old }
+    requires inside { unit < 2305843009213693952 }
+    ensures items { sets.new.items ≡ sets.old.items ++ map (first_set_at memory.entry.0.now memory.entry.1 (parts_bytes answered.now)) (range_with_len (8 * unit) 8) }
+    ensures len { vec_len sets.new ≡ vec_len sets.old + 8 }
+    ensures room { vec_capacity sets.new ≡ vec_capacity sets.old }
+{
+    for k in 0..8 {
+        push_first(sets, memory, answered, 8 * unit + k);
+    }
+}
+
+// The same byte by byte.
+fn add_each_first(
     sets: &mut Vec<ByteSet>,
     memory: (&[u8], Rest),
     answered: &[StorePart],

@@ -190,8 +190,30 @@ fn add_known(set: &mut ByteSet, lane: Option<u8>)
     }
 }
 
-// The sets beside these lanes once their bytes are stored.
+// The sets beside these lanes once their bytes are stored. Most are those of a whole unit.
 fn show_lanes(sets: &mut [ByteSet], lanes: &[Option<u8>])
+    ensures { sets.new ≡ shown_lanes lanes.now sets.old }
+{
+    if sets.len() == 8 && lanes.len() == 8 {
+        show_whole(sets, lanes);
+    } else {
+        show_each(sets, lanes);
+    }
+}
+
+// The same of a whole unit.
+fn show_whole(sets: &mut [ByteSet], lanes: &[Option<u8>])
+    requires sets { length sets.old ≡ 8 }
+    requires lanes { length lanes.now ≡ 8 }
+    ensures { sets.new ≡ shown_lanes lanes.now sets.old }
+{
+    for k in 0..8 {
+        add_known(&mut sets[k], lanes[k]);
+    }
+}
+
+// The same of any lanes.
+fn show_each(sets: &mut [ByteSet], lanes: &[Option<u8>])
     ensures { sets.new ≡ shown_lanes lanes.now sets.old }
 {
     for k in 0..sets.len().min(lanes.len()) {

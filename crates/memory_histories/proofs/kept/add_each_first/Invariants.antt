@@ -2,7 +2,7 @@ use Rattle.std.proofs.Common.{◌≡◌, ◌+◌, ◌-◌, ◌≤◌, ◌++◌, 
 use Rattle.std.specs.List.{range_with_len}
 use Rattle.memory_histories.specs.Kept.{first_set_at}
 use Rattle.memory_histories.specs.Parts.{parts_bytes}
-use Rattle.memory_histories.proofs.kept.add_first_sets.Given as goal
+use Rattle.memory_histories.proofs.kept.add_each_first.Given as goal
 
 -- what is left makes the whole, and there is room for it
 abbrev pub invariant-loop-k : goal.invariant-loop-k
