@@ -107,6 +107,7 @@ impl StoreLog {
     }
 
     // Forgets the first bytes of stores, if there are too many.
+    #[inline(always)]
     fn forget(&mut self)
         ensures { IsShortened self.old self.new }
     {
@@ -116,6 +117,7 @@ impl StoreLog {
     }
 
     // Forgets the first bytes of stores.
+    #[inline(never)]
     fn forget_first(&mut self)
         requires { 2 * KEPT_BYTES ≤ self.old.byte_count }
         ensures { IsShortened self.old self.new }

@@ -54,7 +54,12 @@ fn in_full(bytes: &[u8]) -> [u8; 64]
     ensures { take (length bytes.now) result ≡ bytes.now }
 {
     let mut full = [0; MAX_LENGTH];
-    full[..bytes.len()].copy_from_slice(bytes);
+    if bytes.len() == 8 {
+        // (most stores: they are copied by no call)
+        full[..8].copy_from_slice(bytes);
+    } else {
+        full[..bytes.len()].copy_from_slice(bytes);
+    }
     full
 }
 
