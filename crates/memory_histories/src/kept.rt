@@ -167,8 +167,31 @@ fn add_piece(
     show_behind(sets.as_mut_slice(), start, address, answered);
 }
 
-// Adds the sets of a load that is requested now, as they are if no store is open.
+// Adds the sets of a load that is requested now, as they are if no store is open. Most lie in one unit.
 fn add_sets(
+    sets: &mut Vec<ByteSet>,
+    memory: (&[u8], Rest, &HashMap<u64, KeptUnit>),
+    number: u64,
+    address: u64,
+    length: usize,
+    moment: u64,
+)
+    requires room { vec_len sets.old + length ≤ vec_capacity sets.old }
+    requires some { 1 ≤ length }
+    requires inside { address + length ≤ 2 ^ 64 }
+    ensures { sets.new.items ≡ sets.old.items ++ map (λ l. (opened_at memory.entry.0.now memory.entry.1 [] (answered_in (get nat_eq memory.entry.2.now)) l).may) (load_bytes number address length moment) }
+{
+    let (image, rest, units) = memory;
+    if address % 8 + length as u64 <= 8 {
+        let answered = parts_in(units, unit_of(address));
+        add_piece(sets, (image, rest), answered, address, length);
+    } else {
+        add_pieces(sets, memory, number, address, length, moment);
+    }
+}
+
+// The same unit by unit.
+fn add_pieces(
     sets: &mut Vec<ByteSet>,
     memory: (&[u8], Rest, &HashMap<u64, KeptUnit>),
     number: u64,

@@ -362,8 +362,7 @@ impl RegularMemory {
         ensures err { OnErr result (kept self.new ≡ kept self.old) }
     {
         let alloc = *self.stores.allocator();
-        let part = self.stores[place];
-        answer_part(alloc, &mut self.units, &part, self.moment)?;
+        answer_part(alloc, &mut self.units, &self.stores[place], self.moment)?;
         self.stores.remove(place);
         Ok(())
     }

@@ -1,23 +1,12 @@
-use Rattle.std.proofs.Common.{◌≡◌, ◌+◌, ◌*◌, ◌≤◌, arith, nat_eq}
+use Rattle.std.proofs.Common.{◌∙◌, ◌++◌, sym, ap, arith, nat_eq}
 use Rattle.std.specs.HashMap.{get}
 use Rattle.memory_histories.specs.Shown.{answered_in}
-use Rattle.memory_histories.proofs.ShownSets.{unit_more, from_unit}
+use Rattle.memory_histories.proofs.ShownSets.{in_unit}
 use Rattle.memory_histories.proofs.kept.add_sets.Goals as goal
 
-pub loop-unit-preserved : goal.loop-unit-preserved
-loop-unit-preserved c =
-    let a = c.args.address in
-    let n = c.args.length in
-    let u = c.loop-unit.unit in
-    let from = c.max-from.result in
-    let here : from_unit a n u ≡ from = omega arith in
-    let l : 8 * u ≤ from = omega arith in
-    let m : from + c.min-count.result ≤ 8 * u + 8 = omega arith in
-    let q : from_unit a n (u + 1) ≡ from + c.min-count.result = omega arith in
-    let w : from_unit a n (u + 1) ≤ a + n = omega arith in
-    record {
-      items = unit_more c.args.memory.0.now c.args.memory.1 (answered_in (get nat_eq c.args.memory.2.now)) u c.args.number from c.min-count.result
-          (from_unit a n (u + 1)) (a + n) c.args.moment c.loop-unit.sets.items c.add_piece.new.sets.items _ l m q w
-          (rw c.parts_in.ensures at c.add_piece.ensures.items) (rw here at c.loop-unit.invariant.items);
-      room = omega arith;
-    }
+pub returns-then-address-length-le8 : goal.returns-then-address-length-le8
+returns-then-address-length-le8 c =
+    let answered = answered_in (get nat_eq c.args.memory.2.now) in
+    (rw c.parts_in-answered.ensures at c.add_piece.ensures.items)
+    ∙ ap (λ xs. c.args.sets.now.items ++ xs) (sym (in_unit c.args.memory.0.now c.args.memory.1 answered c.unit_of.result c.args.number c.args.address
+    c.args.length c.args.moment (omega arith) (omega arith)))

@@ -3,7 +3,7 @@ use Rattle.std.specs.HashMap.{get}
 use Rattle.memory_histories.specs.Windows.{load_bytes}
 use Rattle.memory_histories.specs.Shown.{answered_in}
 use Rattle.memory_histories.proofs.ShownSets.{set_of, from_unit}
-use Rattle.memory_histories.proofs.kept.add_sets.Given as goal
+use Rattle.memory_histories.proofs.kept.add_pieces.Given as goal
 
 -- the bytes in the units that are left make the whole, and there is room for them
 abbrev pub invariant-loop-unit : goal.invariant-loop-unit
