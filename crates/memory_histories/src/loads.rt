@@ -109,6 +109,7 @@ fn one_response_fault(load: &OpenLoad, bytes: &[u8]) -> Option<HistoryFault>
 
 // Why the load that is open under this number may not be answered with these bytes. It stands at this place, if it is one
 // alone.
+#[inline(always)]
 pub(crate) fn load_response_fault(
     loads: &[OpenLoad],
     number: u64,
@@ -125,6 +126,7 @@ pub(crate) fn load_response_fault(
 }
 
 // The same, however many they are.
+#[inline(never)]
 fn any_response_fault(loads: &[OpenLoad], number: u64, bytes: &[u8]) -> Option<HistoryFault>
     ensures { result ≡ load_response_fault may_have (filter (is_open_of number) (loads_open loads.now)) bytes.now }
 {

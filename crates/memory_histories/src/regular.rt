@@ -180,6 +180,7 @@ impl RegularMemory {
     }
 
     // Why the answer to a load is none of the law, if this is the load's place.
+    #[inline(always)]
     fn load_response_fault(
         &self,
         number: u64,
@@ -223,6 +224,7 @@ impl RegularMemory {
     }
 
     // Takes the request of a load.
+    #[inline(always)]
     fn take_load_request(
         &mut self,
         number: u64,
@@ -240,6 +242,7 @@ impl RegularMemory {
     }
 
     // Takes the answer to a load.
+    #[inline(always)]
     fn take_load_response(&mut self, number: u64, bytes: &[u8]) -> Result<(), StepFault>
         ensures ok { OnOk result (kept_step (kept self.old) (LoadResponse number bytes.entry) ≡ Some (kept self.new)) }
         ensures fault { IfErr result (KeptFaultIs (kept self.old) (LoadResponse number bytes.entry)) }
@@ -253,6 +256,7 @@ impl RegularMemory {
     }
 
     // Takes the request of a store.
+    #[inline(always)]
     fn take_store_request(
         &mut self,
         number: u64,
@@ -271,6 +275,7 @@ impl RegularMemory {
     }
 
     // Takes the answer to a store.
+    #[inline(always)]
     fn take_store_response(&mut self, number: u64) -> Result<(), StepFault>
         ensures ok { OnOk result (kept_step (kept self.old) (StoreResponse number) ≡ Some (kept self.new)) }
         ensures fault { IfErr result (KeptFaultIs (kept self.old) (StoreResponse number)) }
