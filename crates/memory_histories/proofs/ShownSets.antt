@@ -1,5 +1,5 @@
 -- The sets of a load's bytes once parts of stores are shown to it.
-use Rattle.std.proofs.Common.{◌≡◌, ℕ, zero, suc, ◌+◌, ◌-◌, ◌*◌, ◌/◌, ◌%◌, ◌<◌, ◌≤◌, ◌≢◌, ◌&&◌, true, false, nat_lt, min, max, List, [], ◌∷◌, ◌++◌, map, length, length-drop, take, drop, get_or, set, Option, None, refl, sym, ap, ap₂, ◌∙◌, inl, inr, arith, append_assoc, append-nil, add-one, drop-cons, drop-set-lt, take-append-drop}
+use Rattle.std.proofs.Common.{◌≡◌, ℕ, zero, suc, ◌+◌, ◌-◌, ◌*◌, ◌/◌, ◌%◌, ◌<◌, ◌≤◌, ◌≢◌, ◌&&◌, true, false, nat_lt, min, max, List, [], ◌∷◌, ◌++◌, map, length, length-drop, take, drop, replicate, get_or, set, Option, None, refl, sym, ap, ap₂, ◌∙◌, inl, inr, arith, append_assoc, append-nil, add-one, drop-cons, drop-set-lt, take-append-drop}
 use Rattle.std.specs.List.{fold, range_with_len}
 use Rattle.std.proofs.lemmas.Bool.{cases_lt, eq-eqb, ne_eqb, lt-ltb, le-ltb}
 use Rattle.std.proofs.lemmas.List.{take_more_set, take_all, drop_all}
@@ -9,6 +9,7 @@ use Rattle.memory_histories.specs.declared.windows.StoreByte.{StoreByte}
 use Rattle.memory_histories.specs.declared.windows.LoadByte.{LoadByte}
 use Rattle.memory_histories.specs.declared.parts.StorePart.{StorePart}
 use Rattle.memory_histories.specs.declared.sets.ByteSet.{ByteSet}
+use Rattle.memory_histories.specs.Sets.{no_bytes}
 use Rattle.memory_histories.specs.Windows.{load_bytes}
 use Rattle.memory_histories.specs.Kept.{first_set_at, settled_set, opened_at}
 use Rattle.memory_histories.specs.Parts.{lane_at, eight, part_at, parts_bytes, with_known}
@@ -199,3 +200,26 @@ module _ (image : List ℕ) (rest : Rest) (answered : ℕ → List StoreByte) wh
       ap (λ i. map set_of (load_bytes k p i t)) long
       ∙ (split_sets k p n (e - q) t ∙ ap₂ (λ vs ws. vs ++ ws) (in_unit u k p n t l m) (ap (λ b. map set_of (load_bytes k b (e - q) t)) (sym s))) in
       ap (λ vs. vs ++ left) y ∙ (append_assoc xs its left ∙ (ap (λ vs. xs ++ vs) (sym both) ∙ h))
+
+-- Sets of no byte. ----
+
+pub left_more : (k : ℕ) (ss : List ByteSet) (d : ByteSet) → k < 8 → k < length ss → drop k ss ≡ replicate (8 - k) no_bytes
+    → (get_or ss k d ≡ no_bytes) × (drop (k + 1) ss ≡ replicate (8 - (k + 1)) no_bytes)
+left_more k ss d l h e =
+    let m : 8 - k ≡ suc (8 - (k + 1)) = omega arith in
+    let both : get_or ss k d ∷ drop (suc k) ss ≡ no_bytes ∷ replicate (8 - (k + 1)) no_bytes =
+    sym (drop-cons ss k d h) ∙ (e ∙ ap (λ n. replicate n no_bytes) m) in
+    let first : get_or ss k d ≡ no_bytes = cc in
+    let rest : drop (suc k) ss ≡ replicate (8 - (k + 1)) no_bytes = cc in
+    let s : k + 1 ≡ suc k = omega arith in
+    (first, ap (λ n. drop n ss) s ∙ rest)
+
+-- what stands in front and behind
+pub front : (k : ℕ) (xs ys zs : List ByteSet) → k ≡ length xs → zs ≡ xs ++ ys → take k zs ≡ xs
+front k xs ys zs l e = ap₂ (λ i (vs : List ByteSet). take i vs) l e ∙ take-append_seam xs ys
+
+pub back : (k : ℕ) (xs ys zs : List ByteSet) → k ≡ length xs → zs ≡ xs ++ ys → drop k zs ≡ ys
+back k xs ys zs l e = ap₂ (λ i (vs : List ByteSet). drop i vs) l e ∙ drop-append_seam xs ys
+
+pub kept_whole : (k : ℕ) (xs ys zs : List ByteSet) → k ≡ length xs → xs ≡ ys → take k (xs ++ zs) ≡ ys
+kept_whole k xs ys zs l e = ap (λ i. take i (xs ++ zs)) l ∙ (take-append_seam xs zs ∙ e)

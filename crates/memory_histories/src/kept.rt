@@ -1,8 +1,9 @@
 //! What a request and an answer change of the loads and the stores that are open.
 
-ghost use Rattle.std.specs.Prelude.{◌≡◌, ◌+◌, ◌*◌, ◌≤◌, ◌<◌, [], ◌∷◌, ◌++◌, ◌^◌, IfOk, IfSome, is_some, length, map, not, vec_len, vec_capacity, slice_get, nat_eq};
+ghost use Rattle.std.specs.Prelude.{◌≡◌, ◌+◌, ◌*◌, ◌≤◌, ◌<◌, [], ◌∷◌, ◌++◌, ◌^◌, IfOk, IfSome, is_some, length, map, take, drop, replicate, not, vec_len, vec_capacity, slice_get, nat_eq};
 ghost use Rattle.std.specs.HashMap.{get};
 ghost use Rattle.std.specs.List.{filter, list_any, position, range_with_len};
+ghost use Rattle.memory_histories.specs.Sets.{no_bytes};
 ghost use Rattle.memory_histories.specs.Windows.{store_bytes, load_bytes, is_open};
 ghost use Rattle.memory_histories.specs.Kept.{initial_set, is_covered_by, first_set_at, settled_set, opened_at, after_stores};
 ghost use Rattle.memory_histories.specs.Parts.{part_at, written, part_bytes, parts_bytes, is_open_part, IsOnly};
@@ -111,7 +112,7 @@ fn add_first_sets(
     }
 }
 
-// The same of a whole unit.
+// The same of a whole unit. The sets are written at once, and those that are to have something are looked up after that.
 fn add_first_whole(
     sets: &mut Vec<ByteSet>,
     memory: (&[u8], Rest),
@@ -124,9 +125,67 @@ fn add_first_whole(
     ensures len { vec_len sets.new ≡ vec_len sets.old + 8 }
     ensures room { vec_capacity sets.new ≡ vec_capacity sets.old }
 {
-    for k in 0..8 {
-        push_first(sets, memory, answered, 8 * unit + k);
+    let start = sets.len();
+    push_none(sets);
+    fill_behind(sets.as_mut_slice(), start, memory, answered, unit);
+}
+
+// Adds eight sets of no byte.
+fn push_none(sets: &mut Vec<ByteSet>)
+    requires { vec_len sets.old + 8 ≤ vec_capacity sets.old }
+    ensures items { sets.new.items ≡ sets.old.items ++ replicate 8 no_bytes }
+    ensures len { vec_len sets.new ≡ vec_len sets.old + 8 }
+    ensures room { vec_capacity sets.new ≡ vec_capacity sets.old }
+{
+    for _k in 0usize..8 {
+        sets.push_reserved(ByteSet::none());
     }
+}
+
+// The eight sets from a place on, which have no byte, have what a load may return in a unit before it sees what answered stores left.
+fn fill_behind(
+    sets: &mut [ByteSet],
+    place: usize,
+    memory: (&[u8], Rest),
+    answered: &[StorePart],
+    unit: u64,
+)
+    requires many { length sets.old ≡ place + 8 }
+    requires none { drop place sets.old ≡ replicate 8 no_bytes }
+    requires inside { unit < 2305843009213693952 }
+    ensures { sets.new ≡ take place sets.old ++ map (first_set_at memory.entry.0.now memory.entry.1 (parts_bytes answered.now)) (range_with_len (8 * unit) 8) }
+{
+    fill_whole(&mut sets[place..], memory, answered, unit);
+}
+
+// The same of all sets.
+fn fill_whole(sets: &mut [ByteSet], memory: (&[u8], Rest), answered: &[StorePart], unit: u64)
+    requires none { sets.old ≡ replicate 8 no_bytes }
+    requires inside { unit < 2305843009213693952 }
+    ensures { sets.new ≡ map (first_set_at memory.entry.0.now memory.entry.1 (parts_bytes answered.now)) (range_with_len (8 * unit) 8) }
+{
+    for k in 0..8 {
+        fill_first(&mut sets[k], memory, answered, 8 * unit + k as u64);
+    }
+}
+
+// The same of the set at one address.
+fn fill_first(set: &mut ByteSet, memory: (&[u8], Rest), answered: &[StorePart], address: u64)
+    requires { set.old ≡ no_bytes }
+    ensures { set.new ≡ first_set_at memory.entry.0.now memory.entry.1 (parts_bytes answered.now) address }
+{
+    if !is_covered(answered, address) {
+        put_initial(set, memory, address);
+    }
+}
+
+// A set is what memory had at an address before the first store.
+#[inline(never)]
+fn put_initial(set: &mut ByteSet, memory: (&[u8], Rest), address: u64)
+    ensures { set.new ≡ initial_set (slice_get memory.entry.0.now address) memory.entry.1 }
+{
+    let (image, rest) = memory;
+    *set = initial_at(image, rest, address);
 }
 
 // The same byte by byte.

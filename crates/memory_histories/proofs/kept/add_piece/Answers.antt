@@ -1,14 +1,9 @@
-use Rattle.std.proofs.Common.{◌≡◌, ℕ, ◌++◌, ◌∙◌, List, map, take, length, ap, arith}
-use Rattle.std.proofs.Math.Seq.{take-append_seam}
+use Rattle.std.proofs.Common.{◌≡◌, ◌++◌, ◌∙◌, map, arith}
 use Rattle.std.specs.List.{range_with_len}
-use Rattle.memory_histories.specs.declared.sets.ByteSet.{ByteSet}
 use Rattle.memory_histories.specs.Kept.{settled_set}
 use Rattle.memory_histories.specs.Parts.{parts_bytes}
-use Rattle.memory_histories.proofs.ShownSets.{settled_behind}
+use Rattle.memory_histories.proofs.ShownSets.{kept_whole, settled_behind}
 use Rattle.memory_histories.proofs.kept.add_piece.Goals as goal
-
-written : (k : ℕ) (xs ys zs : List ByteSet) → k ≡ length xs → xs ≡ ys → take k (xs ++ zs) ≡ ys
-written k xs ys zs l e = ap (λ i. take i (xs ++ zs)) l ∙ (take-append_seam xs zs ∙ e)
 
 pub returns-clause-items : goal.returns-clause-items
 returns-clause-items c =
@@ -18,4 +13,4 @@ returns-clause-items c =
     c.show_behind.ensures
     ∙ settled_behind c.args.memory.0.now c.args.memory.1 ps c.args.address c.args.length c.len-start.result c.args.sets.now.items
     c.as_mut_slice.result.now (omega arith) (c.as_mut_slice.ensures.value ∙ c.add_first_sets.ensures.items) in
-    written _ c.show_behind.new.sets all _ (omega arith) shown
+    kept_whole _ c.show_behind.new.sets all _ (omega arith) shown
