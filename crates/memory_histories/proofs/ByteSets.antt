@@ -69,7 +69,8 @@ has-with_byte s c b =
           ∙ ap (λ k. (bit_at (get_or s.words k 0) (bit_of b) == 1) || (c == b)) (sym e)))
       | inr ne ↦
           let other : c ≢ b = λ e. ne (ap word_of (sym e)) in
-          ap (λ w. bit_at w (bit_of b) == 1) (word_beside s c b v ne) ∙ none_more (bit_at (get_or s.words (word_of b) 0) (bit_of b) == 1) c b other
+          ap (λ w. bit_at w (bit_of b) == 1) (word_beside s c b v ne)
+          ∙ none_more (bit_at (get_or s.words (word_of b) 0) (bit_of b) == 1) c b other
     ]
 
 -- a word of four that are the same

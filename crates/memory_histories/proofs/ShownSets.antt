@@ -35,7 +35,8 @@ none_beside : (ls : List (Option ℕ)) → shown_lanes ls [] ≡ []
 none_beside [] = refl
 none_beside (l ∷ ls) = refl
 
-pub all_beside : (lanes : List (Option ℕ)) (sets : List ByteSet) (k : ℕ) → min (length sets) (length lanes) ≤ k → shown_from k lanes sets ≡ sets
+pub all_beside : (lanes : List (Option ℕ)) (sets : List ByteSet) (k : ℕ) → min (length sets) (length lanes) ≤ k
+    → shown_from k lanes sets ≡ sets
 all_beside lanes sets k h = elim (cases_lt k (length sets)) [
   | inl l ↦ rw (drop_all k lanes (omega arith)) (take-append-drop k sets)
   | inr l ↦
@@ -59,7 +60,8 @@ nothing_shown b a [] = refl
 nothing_shown b a (s ∷ ss) = ap (λ xs. s ∷ xs) (nothing_shown b (a + 1) ss)
 
 -- a lane in front of the first set
-passed : (b : ℕ) (l : Option ℕ) (ls : List (Option ℕ)) (a : ℕ) (ss : List ByteSet) → b < a → shown_at b (l ∷ ls) a ss ≡ shown_at (b + 1) ls a ss
+passed : (b : ℕ) (l : Option ℕ) (ls : List (Option ℕ)) (a : ℕ) (ss : List ByteSet) → b < a
+    → shown_at b (l ∷ ls) a ss ≡ shown_at (b + 1) ls a ss
 passed b l ls a [] h = refl
 passed b l ls a (s ∷ ss) h =
     rw (ne_eqb b a (λ e. omega arith)) (ap (λ xs. with_known s (lane_at (b + 1) ls a) ∷ xs) (passed b l ls (a + 1) ss (omega arith)))
@@ -104,7 +106,8 @@ near_unit a n u h = elim (cases_lt (8 * u) (a + n)) [
 ]
 
 -- the sets behind a place are written back
-pub put_behind : (n k : ℕ) (ss xs ys : List ByteSet) → k ≡ length ss - n → ys ≡ xs → take n ss ++ (ys ++ drop k (drop n ss)) ≡ take n ss ++ xs
+pub put_behind : (n k : ℕ) (ss xs ys : List ByteSet) → k ≡ length ss - n → ys ≡ xs
+    → take n ss ++ (ys ++ drop k (drop n ss)) ≡ take n ss ++ xs
 put_behind n k ss xs ys l e =
     let long : length (drop n ss) ≡ length ss - n = length-drop n ss in
     let d : drop k (drop n ss) ≡ [] = drop_all k (drop n ss) (omega arith) in
@@ -149,7 +152,8 @@ pub settled_piece : (image : List ℕ) (rest : Rest) (ps : List StorePart) (a n 
 settled_piece image rest ps a n =
     let g = first_set_at image rest (parts_bytes ps) in
     all_shown_map ps g a n
-    ∙ same_map (λ x. fold (λ s p. with_known s (part_at p x)) (g x) ps) (settled_set image rest (parts_bytes ps)) (λ x. sym (fold_lanes ps x (g x))) (range_with_len a n)
+    ∙ same_map (λ x. fold (λ s p. with_known s (part_at p x)) (g x) ps) (settled_set image rest (parts_bytes ps))
+    (λ x. sym (fold_lanes ps x (g x))) (range_with_len a n)
 
 -- in front of them stand others
 pub settled_behind : (image : List ℕ) (rest : Rest) (ps : List StorePart) (a n k : ℕ) (xs zs : List ByteSet) → k ≡ length xs
@@ -177,7 +181,8 @@ module _ (image : List ℕ) (rest : Rest) (answered : ℕ → List StoreByte) wh
       let its : a / 8 ≡ u = omega arith in
       ap₂ (λ x xs. x ∷ xs) (ap (λ v. settled_set image rest (answered v) a) its) (in_unit u k (a + 1) n t (omega arith) (omega arith))
 
-  pub split_sets : (k a n m t : ℕ) → map set_of (load_bytes k a (n + m) t) ≡ map set_of (load_bytes k a n t) ++ map set_of (load_bytes k (a + n) m t)
+  pub split_sets : (k a n m t : ℕ)
+      → map set_of (load_bytes k a (n + m) t) ≡ map set_of (load_bytes k a n t) ++ map set_of (load_bytes k (a + n) m t)
   split_sets k a zero m t =
       let e : a + 0 ≡ a = omega arith in
       let z : 0 + m ≡ m = omega arith in
@@ -198,7 +203,8 @@ module _ (image : List ℕ) (rest : Rest) (answered : ℕ → List StoreByte) wh
       let long : e - p ≡ n + (e - q) = omega arith in
       let both : map set_of (load_bytes k p (e - p) t) ≡ its ++ left =
       ap (λ i. map set_of (load_bytes k p i t)) long
-      ∙ (split_sets k p n (e - q) t ∙ ap₂ (λ vs ws. vs ++ ws) (in_unit u k p n t l m) (ap (λ b. map set_of (load_bytes k b (e - q) t)) (sym s))) in
+      ∙ (split_sets k p n (e - q) t
+      ∙ ap₂ (λ vs ws. vs ++ ws) (in_unit u k p n t l m) (ap (λ b. map set_of (load_bytes k b (e - q) t)) (sym s))) in
       ap (λ vs. vs ++ left) y ∙ (append_assoc xs its left ∙ (ap (λ vs. xs ++ vs) (sym both) ∙ h))
 
 -- Sets of no byte. ----

@@ -15,6 +15,7 @@ later k = record {
   open_bytes = k.open_bytes;
 }
 
-pub taken : (k l : Kept) (event : HistoryEvent) (fault : Option HistoryFault) → fault ≡ kept_fault k event → fault ≡ None → l ≡ kept_after k event
+pub taken : (k l : Kept) (event : HistoryEvent) (fault : Option HistoryFault) → fault ≡ kept_fault k event → fault ≡ None
+    → l ≡ kept_after k event
     → kept_step k event ≡ Some l
 taken k l event fault e h a = let n : kept_fault k event ≡ None = sym e ∙ h in rw (n, a) refl

@@ -67,7 +67,8 @@ fn is_there(answered: &[StorePart], address: u64) -> bool
 // Adds what a load may return at an address before it sees what answered stores left: nothing, where one of them did.
 fn push_first(sets: &mut Vec<ByteSet>, memory: (&[u8], Rest), answered: &[StorePart], address: u64)
     requires { vec_len sets.old + 1 ≤ vec_capacity sets.old }
-    ensures items { sets.new.items ≡ sets.old.items ++ first_set_at memory.entry.0.now memory.entry.1 (parts_bytes answered.now) address ∷ [] }
+    ensures items { sets.new.items ≡ sets.old.items
+        ++ first_set_at memory.entry.0.now memory.entry.1 (parts_bytes answered.now) address ∷ [] }
     ensures len { vec_len sets.new ≡ vec_len sets.old + 1 }
     ensures room { vec_capacity sets.new ≡ vec_capacity sets.old }
 {
@@ -101,7 +102,8 @@ fn add_first_sets(
 )
     requires room { vec_len sets.old + length ≤ vec_capacity sets.old }
     requires inside { address + length ≤ 2 ^ 64 }
-    ensures items { sets.new.items ≡ sets.old.items ++ map (first_set_at memory.entry.0.now memory.entry.1 (parts_bytes answered.now)) (range_with_len address length) }
+    ensures items { sets.new.items ≡ sets.old.items
+        ++ map (first_set_at memory.entry.0.now memory.entry.1 (parts_bytes answered.now)) (range_with_len address length) }
     ensures len { vec_len sets.new ≡ vec_len sets.old + length }
     ensures room { vec_capacity sets.new ≡ vec_capacity sets.old }
 {
@@ -121,7 +123,8 @@ fn add_first_whole(
 )
     requires room { vec_len sets.old + 8 ≤ vec_capacity sets.old }
     requires inside { unit < 2305843009213693952 }
-    ensures items { sets.new.items ≡ sets.old.items ++ map (first_set_at memory.entry.0.now memory.entry.1 (parts_bytes answered.now)) (range_with_len (8 * unit) 8) }
+    ensures items { sets.new.items ≡ sets.old.items
+        ++ map (first_set_at memory.entry.0.now memory.entry.1 (parts_bytes answered.now)) (range_with_len (8 * unit) 8) }
     ensures len { vec_len sets.new ≡ vec_len sets.old + 8 }
     ensures room { vec_capacity sets.new ≡ vec_capacity sets.old }
 {
@@ -153,7 +156,8 @@ fn fill_behind(
     requires many { length sets.old ≡ place + 8 }
     requires none { drop place sets.old ≡ replicate 8 no_bytes }
     requires inside { unit < 2305843009213693952 }
-    ensures { sets.new ≡ take place sets.old ++ map (first_set_at memory.entry.0.now memory.entry.1 (parts_bytes answered.now)) (range_with_len (8 * unit) 8) }
+    ensures { sets.new ≡ take place sets.old
+        ++ map (first_set_at memory.entry.0.now memory.entry.1 (parts_bytes answered.now)) (range_with_len (8 * unit) 8) }
 {
     fill_whole(&mut sets[place..], memory, answered, unit);
 }
@@ -198,7 +202,8 @@ fn add_each_first(
 )
     requires room { vec_len sets.old + length ≤ vec_capacity sets.old }
     requires inside { address + length ≤ 2 ^ 64 }
-    ensures items { sets.new.items ≡ sets.old.items ++ map (first_set_at memory.entry.0.now memory.entry.1 (parts_bytes answered.now)) (range_with_len address length) }
+    ensures items { sets.new.items ≡ sets.old.items
+        ++ map (first_set_at memory.entry.0.now memory.entry.1 (parts_bytes answered.now)) (range_with_len address length) }
     ensures len { vec_len sets.new ≡ vec_len sets.old + length }
     ensures room { vec_capacity sets.new ≡ vec_capacity sets.old }
 {
@@ -217,7 +222,8 @@ fn add_piece(
 )
     requires room { vec_len sets.old + length ≤ vec_capacity sets.old }
     requires inside { address + length ≤ 2 ^ 64 }
-    ensures items { sets.new.items ≡ sets.old.items ++ map (settled_set memory.entry.0.now memory.entry.1 (parts_bytes answered.now)) (range_with_len address length) }
+    ensures items { sets.new.items ≡ sets.old.items
+        ++ map (settled_set memory.entry.0.now memory.entry.1 (parts_bytes answered.now)) (range_with_len address length) }
     ensures len { vec_len sets.new ≡ vec_len sets.old + length }
     ensures room { vec_capacity sets.new ≡ vec_capacity sets.old }
 {
@@ -238,7 +244,8 @@ fn add_sets(
     requires room { vec_len sets.old + length ≤ vec_capacity sets.old }
     requires some { 1 ≤ length }
     requires inside { address + length ≤ 2 ^ 64 }
-    ensures { sets.new.items ≡ sets.old.items ++ map (λ l. (opened_at memory.entry.0.now memory.entry.1 [] (answered_in (get nat_eq memory.entry.2.now)) l).may) (load_bytes number address length moment) }
+    ensures { sets.new.items ≡ sets.old.items
+        ++ map (λ l. (opened_at memory.entry.0.now memory.entry.1 [] (answered_in (get nat_eq memory.entry.2.now)) l).may) (load_bytes number address length moment) }
 {
     let (image, rest, units) = memory;
     if address % 8 + length as u64 <= 8 {
@@ -261,7 +268,8 @@ fn add_pieces(
     requires room { vec_len sets.old + length ≤ vec_capacity sets.old }
     requires some { 1 ≤ length }
     requires inside { address + length ≤ 2 ^ 64 }
-    ensures { sets.new.items ≡ sets.old.items ++ map (λ l. (opened_at memory.entry.0.now memory.entry.1 [] (answered_in (get nat_eq memory.entry.2.now)) l).may) (load_bytes number address length moment) }
+    ensures { sets.new.items ≡ sets.old.items
+        ++ map (λ l. (opened_at memory.entry.0.now memory.entry.1 [] (answered_in (get nat_eq memory.entry.2.now)) l).may) (load_bytes number address length moment) }
 {
     let (image, rest, units) = memory;
     let first = unit_of(address);
@@ -287,7 +295,8 @@ fn settled_load(
     requires room { length ≤ vec_capacity sets }
     requires some { 1 ≤ length }
     requires inside { address + length ≤ 2 ^ 64 }
-    ensures { load_open result ≡ map (opened_at memory.entry.0.now memory.entry.1 [] (answered_in (get nat_eq memory.entry.2.now))) (load_bytes number address length moment) }
+    ensures { load_open result
+        ≡ map (opened_at memory.entry.0.now memory.entry.1 [] (answered_in (get nat_eq memory.entry.2.now))) (load_bytes number address length moment) }
 {
     let mut sets = sets;
     add_sets(&mut sets, memory, number, address, length, moment);
@@ -312,7 +321,8 @@ pub(crate) fn open_load(
     requires room { length ≤ vec_capacity room }
     requires some { 1 ≤ length }
     requires inside { address + length ≤ 2 ^ 64 }
-    ensures { load_open result ≡ map (opened_at memory.entry.0.now memory.entry.1 (parts_bytes memory.entry.2.now) (answered_in (get nat_eq memory.entry.3.now))) (load_bytes number address length moment) }
+    ensures { load_open result
+        ≡ map (opened_at memory.entry.0.now memory.entry.1 (parts_bytes memory.entry.2.now) (answered_in (get nat_eq memory.entry.3.now))) (load_bytes number address length moment) }
 {
     let (image, rest, stores, units) = memory;
     let mut load = settled_load(room, (image, rest, units), number, address, length, moment);

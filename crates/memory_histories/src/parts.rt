@@ -121,7 +121,8 @@ pub(crate) fn write_part(
     requires place { place < length parts.old }
     requires unit { unit < 2305843009213693952 }
     requires few { length bytes.now ≤ 64 }
-    ensures { parts.new ≡ slice_set parts.old place (with_lanes (unit_lanes unit (lane_at from (lanes_of bytes.now enables))) (slice_index_or parts.old place nothing)) }
+    ensures { parts.new
+        ≡ slice_set parts.old place (with_lanes (unit_lanes unit (lane_at from (lanes_of bytes.now enables))) (slice_index_or parts.old place nothing)) }
 {
     if is_whole(unit, from, bytes.len()) {
         write_whole(&mut parts[place].lanes, bytes, enables);

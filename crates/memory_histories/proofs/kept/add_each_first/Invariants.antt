@@ -7,7 +7,8 @@ use Rattle.memory_histories.proofs.kept.add_each_first.Given as goal
 -- what is left makes the whole, and there is room for it
 abbrev pub invariant-loop-k : goal.invariant-loop-k
 invariant-loop-k l = record {
-  items : l.sets.items ++ map (first_set_at l.memory.0.now l.memory.1 (parts_bytes l.answered)) (range_with_len (l.address + l.k) (l.length - l.k))
+  items : l.sets.items
+      ++ map (first_set_at l.memory.0.now l.memory.1 (parts_bytes l.answered)) (range_with_len (l.address + l.k) (l.length - l.k))
       ≡ l.initial.sets.items ++ map (first_set_at l.memory.0.now l.memory.1 (parts_bytes l.answered)) (range_with_len l.address l.length);
   len : vec_len l.sets ≡ vec_len l.initial.sets + l.k;
   room : vec_len l.sets + l.length ≤ vec_capacity l.sets + l.k;

@@ -17,7 +17,8 @@ fill_behind-requires c = record {
 pub returns-clause-items : goal.returns-clause-items
 returns-clause-items c =
     let xs = c.args.sets.now.items in
-    let its = map (first_set_at c.args.memory.0.now c.args.memory.1 (parts_bytes c.args.answered.now)) (range_with_len (8 * c.args.unit) 8) in
+    let its = map (first_set_at c.args.memory.0.now c.args.memory.1 (parts_bytes c.args.answered.now))
+    (range_with_len (8 * c.args.unit) 8) in
     let in_front = front c.len-start.result xs (replicate 8 no_bytes) c.as_mut_slice.result.now (omega arith)
     (c.as_mut_slice.ensures.value ∙ c.push_none.ensures.items) in
     let all : c.fill_behind.new.sets ≡ xs ++ its = c.fill_behind.ensures ∙ ap (λ vs. vs ++ its) in_front in

@@ -16,8 +16,8 @@ loop-unit-preserved c =
     let q : from_unit a n (u + 1) ≡ from + c.min-count.result = omega arith in
     let w : from_unit a n (u + 1) ≤ a + n = omega arith in
     record {
-      items = unit_more c.args.memory.0.now c.args.memory.1 (answered_in (get nat_eq c.args.memory.2.now)) u c.args.number from c.min-count.result
-          (from_unit a n (u + 1)) (a + n) c.args.moment c.loop-unit.sets.items c.add_piece.new.sets.items _ l m q w
+      items = unit_more c.args.memory.0.now c.args.memory.1 (answered_in (get nat_eq c.args.memory.2.now)) u c.args.number from
+          c.min-count.result (from_unit a n (u + 1)) (a + n) c.args.moment c.loop-unit.sets.items c.add_piece.new.sets.items _ l m q w
           (rw c.parts_in.ensures at c.add_piece.ensures.items) (rw here at c.loop-unit.invariant.items);
       room = omega arith;
     }

@@ -8,5 +8,5 @@ pub returns-then-address-length-le8 : goal.returns-then-address-length-le8
 returns-then-address-length-le8 c =
     let answered = answered_in (get nat_eq c.args.memory.2.now) in
     (rw c.parts_in-answered.ensures at c.add_piece.ensures.items)
-    ∙ ap (λ xs. c.args.sets.now.items ++ xs) (sym (in_unit c.args.memory.0.now c.args.memory.1 answered c.unit_of.result c.args.number c.args.address
-    c.args.length c.args.moment (omega arith) (omega arith)))
+    ∙ ap (λ xs. c.args.sets.now.items ++ xs) (sym (in_unit c.args.memory.0.now c.args.memory.1 answered c.unit_of.result
+    c.args.number c.args.address c.args.length c.args.moment (omega arith) (omega arith)))

@@ -22,7 +22,8 @@ loop-k-preserved c =
     record {
       so_far = take_more_set ss k v (omega arith)
           ∙ (ap (λ xs. xs ++ v ∷ []) c.loop-k.invariant.so_far
-          ∙ (ap (λ x. map f (range_with_len a k) ++ x ∷ []) c.fill_first.ensures ∙ sym (map-range_with_len_more f a k (a + k) (omega arith))));
+          ∙ (ap (λ x. map f (range_with_len a k) ++ x ∷ []) c.fill_first.ensures
+          ∙ sym (map-range_with_len_more f a k (a + k) (omega arith))));
       left = r ∙ (left_more k ss (record { words = [] }) c.loop-k-test.true (omega arith) c.loop-k.invariant.left).1;
       many = length-set ss k v ∙ c.loop-k.invariant.many;
     }

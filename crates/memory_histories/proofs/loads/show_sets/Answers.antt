@@ -6,7 +6,9 @@ use Rattle.memory_histories.proofs.loads.show_sets.Goals as goal
 pub returns-then-part-first : goal.returns-then-part-first
 returns-then-part-first c =
     let same : c.args.address / 8 ≡ c.args.part.now.unit = omega arith in
-    c.show_lanes.ensures ∙ (ap (λ ls. shown_lanes ls c.args.sets.now) c.lanes_from.ensures ∙ shown_here c.args.part.now c.args.address c.args.sets.now same)
+    c.show_lanes.ensures
+    ∙ (ap (λ ls. shown_lanes ls c.args.sets.now) c.lanes_from.ensures
+    ∙ shown_here c.args.part.now c.args.address c.args.sets.now same)
 
 pub returns-else-part-first : goal.returns-else-part-first
 returns-else-part-first c =

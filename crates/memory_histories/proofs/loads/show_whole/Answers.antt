@@ -4,7 +4,8 @@ use Rattle.memory_histories.proofs.loads.show_whole.Goals as goal
 
 pub loop-k-preserved : goal.loop-k-preserved
 loop-k-preserved c = record {
-  sets = show_more c.args.lanes.now c.loop-k.sets c.loop-k.k (record { words = [] }) c.add_known.new.set (omega arith) (omega arith) c.add_known.ensures
+  sets = show_more c.args.lanes.now c.loop-k.sets c.loop-k.k (record { words = [] }) c.add_known.new.set (omega arith)
+      (omega arith) c.add_known.ensures
       ∙ c.loop-k.invariant.sets;
   many = length-set c.loop-k.sets c.loop-k.k c.add_known.new.set ∙ c.loop-k.invariant.many;
 }
