@@ -80,18 +80,27 @@ fn stored_lanes(unit: u64, from: u64, bytes: &[u8], enables: u64) -> [Option<u8>
 // The same of a store of eight bytes that begins with its unit, where each byte has the number of its lane. They are written where
 // they are kept.
 fn write_whole(lanes: &mut [Option<u8>], bytes: &[u8], enables: u64)
-    requires { length lanes.old ≡ 8 }
+    requires lanes { length lanes.old ≡ 8 }
+    requires bytes { length bytes.now ≡ 8 }
     ensures { lanes.new ≡ map (λ k. if bit_at enables k == 1 then slice_get bytes.now k else None) (range_with_len 0 8) }
 {
     for k in 0..8 {
-        lanes[k] = enabled_byte(bytes, enables, k as u64);
+        lanes[k] = byte_if((enables >> k) % 2 == 1, bytes[k]);
     }
+}
+
+// A byte that is stored only if it is enabled.
+fn byte_if(is_enabled: bool, byte: u8) -> Option<u8>
+    ensures { result ≡ (if is_enabled then Some byte else None) }
+{
+    if is_enabled { Some(byte) } else { None }
 }
 
 // Whether a store of so many bytes from an address on is one of this whole unit.
 fn is_whole(unit: u64, from: u64, length: usize) -> bool
     requires { unit < 2305843009213693952 }
-    ensures { result ≡ true → from ≡ 8 * unit }
+    ensures from { result ≡ true → from ≡ 8 * unit }
+    ensures length { result ≡ true → length ≡ 8 }
 {
     from == 8 * unit && length == 8
 }

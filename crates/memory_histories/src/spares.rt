@@ -18,16 +18,38 @@ pub(crate) fn take_spare(
     ensures empty { IfOk result (λ v. v.items ≡ []) }
     ensures room { IfOk result (λ v. length ≤ vec_capacity v) }
 {
-    let mut sets = match spares.pop() {
-        Some(sets) => sets,
-        None => {
-            spares.reserve(MAX_SPARES)?;
-            Vec::new(alloc)
+    if let Some(sets) = spares.pop() {
+        if length <= sets.capacity() {
+            return Ok(emptied(sets));
         }
-    };
+    }
+    new_room(alloc, spares, length)
+}
+
+// A spare without what it held.
+fn emptied(sets: Vec<ByteSet>) -> Vec<ByteSet>
+    ensures empty { result.items ≡ [] }
+    ensures room { vec_capacity result ≡ vec_capacity sets }
+{
+    let mut sets = sets;
     sets.clear();
-    sets.reserve(length)?;
-    Ok(sets)
+    sets
+}
+
+// Room that no load had before, and for the spares to come.
+#[inline(never)]
+fn new_room(
+    alloc: Global,
+    spares: &mut Vec<Vec<ByteSet>>,
+    length: usize,
+) -> Result<Vec<ByteSet>, AllocError>
+    ensures empty { IfOk result (λ v. v.items ≡ []) }
+    ensures room { IfOk result (λ v. length ≤ vec_capacity v) }
+{
+    if spares.capacity() == 0 {
+        spares.reserve(MAX_SPARES)?;
+    }
+    Vec::with_capacity(alloc, length)
 }
 
 // Keeps what an answered load leaves, if there is room for it.

@@ -20,7 +20,7 @@ returns-then-is_whole c =
     let bs = c.args.bytes.now in
     let e = c.args.enables in
     let ps = c.args.parts.now in
-    let same : c.args.from ≡ 8 * c.args.unit = c.is_whole.ensures c.if-is_whole.true in
+    let same : c.args.from ≡ 8 * c.args.unit = c.is_whole.ensures.from c.if-is_whole.true in
     let first : c.args.from + 0 ≡ 8 * c.args.unit = omega arith in
     ap (λ ls. set ps c.args.place (with_lanes ls (get_or ps c.args.place nothing)))
     (c.write_whole.ensures
