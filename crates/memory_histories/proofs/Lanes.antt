@@ -1,5 +1,5 @@
 -- The lanes of a store, and the bytes that they stand for.
-use Rattle.std.proofs.Common.{◌≡◌, ◌≢◌, ℕ, zero, suc, ◌+◌, ◌-◌, ◌*◌, ◌/◌, ◌%◌, ◌<◌, ◌≤◌, Bool, true, false, ◌&&◌, ◌||◌, not, if◌then◌else◌, ◌==◌, nat_le, nat_lt, List, [], ◌∷◌, ◌++◌, map, length, Option, None, Some, slice_get, refl, sym, ap, ap₂, ◌∙◌, inl, inr, arith, subst}
+use Rattle.std.proofs.Common.{◌≡◌, ◌≢◌, ℕ, zero, suc, ◌+◌, ◌-◌, ◌*◌, ◌/◌, ◌%◌, ◌<◌, ◌≤◌, Bool, true, false, ◌&&◌, ◌||◌, not, if◌then◌else◌, ◌==◌, nat_le, nat_lt, List, [], ◌∷◌, ◌++◌, map, length, Option, None, Some, slice_get, refl, sym, ap, ap₂, ◌∙◌, inl, inr, arith, subst, append-nil}
 use Rattle.std.specs.Prelude.{is_none, is_some}
 use Rattle.std.specs.Int.{bit_at}
 use Rattle.std.specs.List.{filter, list_any, range_with_len}
@@ -306,3 +306,11 @@ pub store_over : (n u a : ℕ) (bs : List ℕ) (e t : ℕ) → 1 ≤ length bs �
 store_over n u a bs e t some h =
     let long = length-lanes_of bs e in
     rw (store_lanes n a bs e t) (none_passes n t None (λ s. nat_le u (unit_of s.address)) a (lanes_of bs e) (λ x b l m. lt-leb u (x / 8) (omega arith)))
+
+-- a store that lies in one unit
+pub store_one : (n u a : ℕ) (bs : List ℕ) (e t : ℕ) → u ≡ unit_of a → 1 ≤ length bs → a % 8 + length bs ≤ 8
+    → filter (is_in u) (store_bytes n a bs e t) ≡ store_bytes n a bs e t
+store_one n u a bs e t h some l =
+    let its = filter (is_in u) (store_bytes n a bs e t) in
+    sym (append-nil its)
+    ∙ (ap (λ xs. its ++ xs) (sym (store_over n (u + 1) a bs e t some (omega arith))) ∙ (sym (store_from n u a bs e t) ∙ store_whole n u a bs e t h))

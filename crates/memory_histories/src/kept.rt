@@ -375,7 +375,33 @@ fn push_written(stores: &mut Vec<StorePart>, part: StorePart, from: u64, bytes: 
 }
 
 // A store is requested at this moment: its parts are kept, and open loads may see them from now on.
+// (Most stores lie in one unit.)
 pub(crate) fn add_store(
+    stores: &mut Vec<StorePart>,
+    loads: &mut [OpenLoad],
+    number: u64,
+    address: u64,
+    bytes: &[u8],
+    enables: u64,
+    moment: u64,
+)
+    requires room { vec_len stores.old + 9 ≤ vec_capacity stores.old }
+    requires some { 1 ≤ length bytes.now }
+    requires few { length bytes.now ≤ 64 }
+    requires inside { address + length bytes.now ≤ 2 ^ 64 }
+    ensures stores { parts_bytes stores.new.items ≡ parts_bytes stores.old.items ++ store_bytes number address bytes.now enables moment }
+    ensures loads { loads_open loads.new ≡ map (after_stores (store_bytes number address bytes.now enables moment)) (loads_open loads.old) }
+{
+    if address % 8 + bytes.len() as u64 <= 8 {
+        let part = empty_part(number, unit_of(address), moment);
+        add_part(stores, loads, part, address, bytes, enables);
+    } else {
+        add_parts(stores, loads, number, address, bytes, enables, moment);
+    }
+}
+
+// The same unit by unit.
+fn add_parts(
     stores: &mut Vec<StorePart>,
     loads: &mut [OpenLoad],
     number: u64,

@@ -4,7 +4,7 @@ use Rattle.memory_histories.specs.Windows.{store_bytes}
 use Rattle.memory_histories.specs.Kept.{unit_of, after_stores}
 use Rattle.memory_histories.specs.Parts.{parts_bytes}
 use Rattle.memory_histories.specs.Loads.{loads_open}
-use Rattle.memory_histories.proofs.kept.add_store.Given as goal
+use Rattle.memory_histories.proofs.kept.add_parts.Given as goal
 
 -- with the bytes of the units that are left it is the whole, and there is room for them
 abbrev pub invariant-loop-unit : goal.invariant-loop-unit
