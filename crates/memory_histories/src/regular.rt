@@ -26,8 +26,9 @@ use std::collections::HashMap;
 ///
 /// It keeps of each byte the stores that a load may still see, and for each byte of an open load the
 /// set of what it may return: as much memory as the operations that are open and the bytes that were
-/// stored need, however long the history is. An event looks at the open operations, and at what is kept
-/// of those bytes that lie in the units of eight aligned addresses of its own operation.
+/// stored need, and that of eight answered loads at most for later ones, however long the history is. An
+/// event looks at the open operations, and at what is kept of those bytes that lie in the units of eight
+/// aligned addresses of its own operation.
 #[derive(Drop)]
 pub struct RegularMemory {
     image: Vec<u8>,
