@@ -1,79 +1,68 @@
 -- Events that one way takes where it stands: what the search would find, and what is kept of the units.
 use Rattle.std.proofs.Common.{◌≡◌, ◌≢◌, ℕ, zero, suc, ◌+◌, ◌*◌, ◌/◌, ◌<◌, Bool, true, false, ◌&&◌, ◌||◌, not, ◌==◌, if◌then◌else◌, List, [], ◌∷◌, map, max, length, take, drop, slice_index_or, Option, None, Result, Ok, Err, IfOk, OnErr, inl, inr, refl, sym, ap, ◌∙◌, subst, arith}
 use Rattle.std.proofs.Math.Path.{fun_ext}
-use Rattle.std.proofs.lemmas.Bool.{and_parts, true≢false, cases_eq, cases_lt, lt-ltb, le-ltb, lt-leb, le-leb, eq-eqb, ne_eqb}
-use Rattle.std.proofs.Math.Seq.{drop-length}
-use Rattle.std.specs.List.{filter, list_all}
+use Rattle.std.proofs.lemmas.Bool.{true≢false, cases_eq, cases_lt, lt-ltb, le-ltb, lt-leb, le-leb, eq-eqb, ne_eqb}
+use Rattle.std.specs.List.{filter}
 use Rattle.memory_histories.specs.declared.events.HistoryEvent.{HistoryEvent}
 use Rattle.memory_histories.specs.declared.events.Rest.{Rest}
 use Rattle.atomic_histories.specs.declared.unit.OpenStore.{OpenStore}
 use Rattle.atomic_histories.specs.declared.unit.UnitPlace.{UnitPlace}
-use Rattle.atomic_histories.specs.declared.unit.WatchedLoad.{WatchedLoad}
 use Rattle.atomic_histories.specs.declared.memory.KeptUnit.{KeptUnit}
 use Rattle.atomic_histories.specs.declared.memory.UnitSize.{UnitSize}
 use Rattle.atomic_histories.specs.declared.memory.UnitSize.TheVariants.{One, Two, Four, Eight}
 use Rattle.atomic_histories.specs.Operations.{Opened, opened_after, form_fault}
 use Rattle.atomic_histories.specs.Law.{unit_at, is_store}
-use Rattle.atomic_histories.specs.Branches.{Branch, effect_of, effects_from, cons_effect, effects, with_branch, with_branches, out_after, next_after, met, rounds, answered, is_watched, has_effect, has_answer, branch_without_load, branch_without_store}
+use Rattle.atomic_histories.specs.Branches.{Branch, Aim, effect_of, effects_from, cons_effect, effects, with_branch, with_branches, out_after, next_after, met, rounds, answered, has_effect, has_answer, answer_aim, effect_aim, branch_without_load, branch_without_store}
 use Rattle.atomic_histories.specs.Held.{Held, first_ways, covered, units_of, ways_after, is_among}
 use Rattle.atomic_histories.specs.Judge.{bytes_of, kept_or, kept_at, IsTaken}
+use Rattle.atomic_histories.proofs.MayCome.{answer_hopes}
 use Rattle.atomic_histories.specs.AtOnce.{IsUnitTaken, AreTaken, AreTakenOrSame}
 
 -- One way. ----
 
-met_alone : (n : ℕ) (goal : Branch → Bool) (e : Branch) → met n goal (e ∷ []) [] ≡ e ∷ []
-met_alone zero goal e = refl
-met_alone (suc n) goal e = met_alone n goal e
+met_alone : (n : ℕ) (aim : Aim) (e : Branch) → met n aim (e ∷ []) [] ≡ e ∷ []
+met_alone zero aim e = refl
+met_alone (suc n) aim e = met_alone n aim e
 
 out_here : (goal : Branch → Bool) (e : Branch) → goal e ≡ true → out_after goal [] (e ∷ []) ≡ e ∷ []
 out_here goal e t = ap (λ b. if b then with_branch [] e else []) t
 
 -- a way that meets what is wanted is the one that is found
-pub answered_here : (goal : Branch → Bool) (without : Branch → Branch) (e : Branch) → goal e ≡ true
-    → answered goal without (e ∷ []) ≡ without e ∷ []
+pub answered_here : (aim : Aim) (without : Branch → Branch) (e : Branch) → aim.goal e ≡ true
+    → answered aim without (e ∷ []) ≡ without e ∷ []
 unfolding answered
-answered_here goal without e t =
+answered_here aim without e t =
     let n : ℕ = rounds (e ∷ []) in
-    let next : next_after goal (e ∷ []) ≡ [] = ap (λ b. if b then [] else with_branches [] (effects e)) t in
-    ap (λ out. with_branches [] (map without (met n goal out (next_after goal (e ∷ []))))) (out_here goal e t)
-    ∙ (ap (λ es. with_branches [] (map without (met n goal (e ∷ []) es))) next
-    ∙ ap (λ found. with_branches [] (map without found)) (met_alone n goal e))
+    let next : next_after aim (e ∷ []) ≡ [] = ap (λ b. if b then [] else with_branches [] (filter aim.hope (effects e))) t in
+    ap (λ out. with_branches [] (map without (met n aim out (next_after aim (e ∷ []))))) (out_here aim.goal e t)
+    ∙ (ap (λ es. with_branches [] (map without (met n aim (e ∷ []) es))) next
+    ∙ ap (λ found. with_branches [] (map without found)) (met_alone n aim e))
 
 -- so is what its one store makes of a way that doesn't
-pub answered_next : (goal : Branch → Bool) (without : Branch → Branch) (e : Branch) (s : OpenStore) → e.stores ≡ s ∷ [] → s.is_done ≡ false
-    → goal e ≡ false → goal (effect_of e [] s []) ≡ true
-    → answered goal without (e ∷ []) ≡ without (effect_of e [] s []) ∷ []
+pub answered_next : (aim : Aim) (without : Branch → Branch) (e : Branch) (s : OpenStore) → e.stores ≡ s ∷ [] → s.is_done ≡ false
+    → aim.goal e ≡ false → aim.goal (effect_of e [] s []) ≡ true → aim.hope (effect_of e [] s []) ≡ true
+    → answered aim without (e ∷ []) ≡ without (effect_of e [] s []) ∷ []
 unfolding answered
-answered_next goal without e s one open_ f t =
+answered_next aim without e s one open_ f t hope =
     let on : Branch = effect_of e [] s [] in
     let rest : List Branch → List Branch = λ found. with_branches [] (map without found) in
     let made : effects e ≡ on ∷ [] = ap (effects_from e []) one ∙ ap (λ b. cons_effect b on []) open_ in
-    let out : out_after goal [] (e ∷ []) ≡ [] = ap (λ b. if b then with_branch [] e else []) f in
-    let next : next_after goal (e ∷ []) ≡ on ∷ [] =
-    ap (λ b. if b then [] else with_branches [] (effects e)) f ∙ ap (with_branches []) made in
-    ap (λ stores. rest (met (suc (max 0 (length stores))) goal [] (e ∷ []))) one
-    ∙ (ap (λ es. rest (met 1 goal es (next_after goal (e ∷ [])))) out
-    ∙ (ap (λ es. rest (met 1 goal [] es)) next ∙ ap rest (out_here goal on t)))
-
-none_left : (number : ℕ) (ls : List WatchedLoad) → list_all (is_watched number) ls ≡ true → filter (λ l. not (is_watched number l)) ls ≡ []
-none_left number [] a = refl
-none_left number (l ∷ ls) a =
-    let p = and_parts (is_watched number l) (list_all (is_watched number) ls) a in
-    rw p.0 (none_left number ls p.1)
-
--- once the last load is answered nobody asks for the words before
-pub last_load : (number : ℕ) (e : Branch) → list_all (is_watched number) e.loads ≡ true
-    → branch_without_load number e ≡ record { word = e.word; stores = e.stores; loads = []; path = [] }
-last_load number e a = rw (none_left number e.loads a, drop-length e.path) refl
+    let hopeful : filter aim.hope (effects e) ≡ on ∷ [] = ap (filter aim.hope) made ∙ ap (λ b. if b then on ∷ [] else []) hope in
+    let out : out_after aim.goal [] (e ∷ []) ≡ [] = ap (λ b. if b then with_branch [] e else []) f in
+    let next : next_after aim (e ∷ []) ≡ on ∷ [] =
+    ap (λ b. if b then [] else with_branches [] (filter aim.hope (effects e))) f ∙ ap (with_branches []) hopeful in
+    ap (λ stores. rest (met (suc (max 0 (length stores))) aim [] (e ∷ []))) one
+    ∙ (ap (λ es. rest (met 1 aim es (next_after aim (e ∷ [])))) out
+    ∙ (ap (λ es. rest (met 1 aim [] es)) next ∙ ap rest (out_here aim.goal on t)))
 
 -- a store that a way's answer waits for is its one store
 pub last_store : (number : ℕ) (e : Branch) (s : OpenStore) → e.stores ≡ s ∷ [] → has_effect number e ≡ false
-    → answered (has_effect number) (branch_without_store number) (e ∷ [])
-    ≡ record { word = (effect_of e [] s []).word; stores = []; loads = e.loads; path = (effect_of e [] s []).path } ∷ []
+    → answered (effect_aim number) (branch_without_store number) (e ∷ [])
+    ≡ record { word = (effect_of e [] s []).word; stores = []; loads = (effect_of e [] s []).loads } ∷ []
 last_store number e s one f =
     let waits : (is_store number s ≡ true) × (s.is_done ≡ false) = waits_for (is_store number s) s.is_done (rw one at f) in
     let next : has_effect number (effect_of e [] s []) ≡ true = rw waits.0 refl in
-    answered_next (has_effect number) (branch_without_store number) e s one waits.1 f next ∙ rw waits.0 refl
+    answered_next (effect_aim number) (branch_without_store number) e s one waits.1 f next refl ∙ rw waits.0 refl
   where
     waits_for : (a d : Bool) → ((not a || d) && true) ≡ false → (a ≡ true) × (d ≡ false)
     waits_for true true h = absurd (true≢false h)
@@ -82,23 +71,25 @@ last_store number e s one f =
 
 pub store_taken : (number : ℕ) (e next : Branch) (ss : List OpenStore) → e.stores ≡ ss → length ss ≡ 1 → has_effect number e ≡ false
     → ((d : OpenStore) → next ≡ effect_of e (take 0 ss) (slice_index_or ss 0 d) (drop (0 + 1) ss))
-    → answered (has_effect number) (branch_without_store number) (e ∷ [])
-    ≡ record { word = next.word; stores = []; loads = next.loads; path = next.path } ∷ []
+    → answered (effect_aim number) (branch_without_store number) (e ∷ [])
+    ≡ record { word = next.word; stores = []; loads = next.loads } ∷ []
 store_taken number e next [] same one f made = absurd (omega arith)
 store_taken number e next (s ∷ []) same one f made =
     last_store number e s same f
-    ∙ ap (λ (x : Branch). record { word = x.word; stores = []; loads = x.loads; path = x.path } ∷ []) (sym (made s))
+    ∙ ap (λ (x : Branch). record { word = x.word; stores = []; loads = x.loads } ∷ []) (sym (made s))
 store_taken number e next (s ∷ t ∷ ts) same one f made = absurd (omega arith)
 
 -- a load that waits for a way's one store
 pub load_taken : (unit : UnitPlace) (number : ℕ) (bytes : List ℕ) (e on : Branch) (ss : List OpenStore) → e.stores ≡ ss → length ss ≡ 1
     → ((d : OpenStore) → (slice_index_or ss 0 d).is_done ≡ false) → has_answer unit number bytes e ≡ false
     → ((d : OpenStore) → on ≡ effect_of e (take 0 ss) (slice_index_or ss 0 d) (drop (0 + 1) ss)) → has_answer unit number bytes on ≡ true
-    → answered (has_answer unit number bytes) (branch_without_load number) (e ∷ []) ≡ branch_without_load number on ∷ []
+    → answered (answer_aim unit number bytes) (branch_without_load number) (e ∷ []) ≡ branch_without_load number on ∷ []
 load_taken unit number bytes e on [] same one open_ f made t = absurd (omega arith)
 load_taken unit number bytes e on (s ∷ []) same one open_ f made t =
-    answered_next (has_answer unit number bytes) (branch_without_load number) e s same (open_ s) f
-    (ap (has_answer unit number bytes) (sym (made s)) ∙ t)
+    let on_s : Branch = effect_of e [] s [] in
+    let there : has_answer unit number bytes on_s ≡ true = ap (has_answer unit number bytes) (sym (made s)) ∙ t in
+    answered_next (answer_aim unit number bytes) (branch_without_load number) e s same (open_ s) f there
+    (answer_hopes unit number bytes on_s there)
     ∙ ap (λ x. branch_without_load number x ∷ []) (sym (made s))
 load_taken unit number bytes e on (s ∷ x ∷ xs) same one open_ f made t = absurd (omega arith)
 

@@ -1,9 +1,12 @@
 -- Enables beyond the 64 that a number has, and steps of the loops over bytes.
-use Rattle.std.proofs.Common.{◌≡◌, ℕ, suc, ◌+◌, ◌/◌, ◌%◌, ◌^◌, ◌<◌, ◌≤◌, true, ◌&&◌, ◌||◌, ◌==◌, List, [], ◌∷◌, ◌++◌, length, take, drop, get_or, set, Option, None, refl, sym, ◌∙◌, append_assoc, add-one, drop-cons, take-append-drop, append-nil, drop-set-lt, arith}
+use Rattle.std.proofs.Common.{◌≡◌, ℕ, zero, suc, ◌+◌, ◌-◌, ◌/◌, ◌%◌, ◌^◌, ◌<◌, ◌≤◌, true, ◌&&◌, ◌||◌, ◌==◌, List, [], ◌∷◌, ◌++◌, length, take, drop, get_or, set, Option, None, slice_get, nat_le, refl, sym, ap, ap₂, ◌∙◌, append_assoc, add-one, drop-cons, take-append-drop, append-nil, drop-set-lt, arith}
+use Rattle.std.proofs.lemmas.Bool.{le-leb}
 use Rattle.std.proofs.lemmas.Nat.Bits.{bit_at_above}
 use Rattle.std.proofs.lemmas.List.{at_drop_more, take_more_set, drop_all}
+use Rattle.std.specs.Option.{option_eq}
 use Rattle.memory_histories.specs.Regular.{has_enabled}
-use Rattle.atomic_histories.specs.Words.{enabled_byte, byte_for, written_byte, written, is_as_it_stood, is_word_of}
+use Rattle.atomic_histories.specs.Branches.{is_same_word, are_same_lanes}
+use Rattle.atomic_histories.specs.Words.{enabled_byte, byte_for, stored_byte, written_byte, written, is_as_it_stood, is_word_of}
 
 pub none_above : (bytes : List ℕ) (enables k : ℕ) → enables < 2 ^ 64 → 64 ≤ k → enabled_byte bytes enables k ≡ None
 none_above bytes enables k l h = rw (bit_at_above enables 64 k l h) refl
@@ -18,6 +21,37 @@ pub word_more : (f : ℕ) (ws : List (Option ℕ)) (k a : ℕ) (bs : List ℕ) �
 unfolding is_word_of
 word_more f ws k a bs h = let s : f + k + 1 ≡ f + (k + 1) =
     omega arith in rw (← s) (at_drop_more (λ xs. is_word_of (f + k) xs a bs) ws k None h)
+
+-- Bytes that begin with the unit. ----
+
+from_first : (first k : ℕ) → (nat_le first (first + k) ≡ true) × (first + k - first ≡ k)
+from_first first k = (le-leb first (first + k) (omega arith), omega arith)
+
+pub stored_from_first : (first : ℕ) (bytes : List ℕ) (enables k : ℕ)
+    → stored_byte first bytes enables (first + k) ≡ enabled_byte bytes enables k
+stored_from_first first bytes enables k = let p = from_first first k in rw (p.0, p.1) refl
+
+from_start : (bs : List ℕ) (k : ℕ) → byte_for 0 bs k ≡ slice_get bs k
+from_start bs k = let here : k - 0 ≡ k = omega arith in rw (le-leb 0 k (omega arith), here) refl
+
+same_from : (f : ℕ) (ws : List (Option ℕ)) (bs : List ℕ) (j : ℕ) → is_word_of (f + j) ws f bs ≡ is_word_of j ws 0 bs
+unfolding is_word_of
+same_from f [] bs j = refl
+same_from f (w ∷ ws) bs j =
+    let p = from_first f j in
+    let next : f + j + 1 ≡ f + (j + 1) = omega arith in
+    let here : byte_for f bs (f + j) ≡ byte_for 0 bs j = rw (p.0, p.1) (sym (from_start bs j)) in
+    ap₂ (λ c r. is_as_it_stood w c && r) here (ap (λ i. is_word_of i ws f bs) next ∙ same_from f ws bs (j + 1))
+
+pub first_same : (f : ℕ) (ws : List (Option ℕ)) (bs : List ℕ) → is_word_of f ws f bs ≡ is_word_of 0 ws 0 bs
+first_same f ws bs = let e : f ≡ f + 0 = omega arith in ap (λ i. is_word_of i ws f bs) e ∙ same_from f ws bs 0
+
+pub first_more : (ws : List (Option ℕ)) (k : ℕ) (bs : List ℕ) → k < length ws
+    → is_word_of k (drop k ws) 0 bs ≡ (is_as_it_stood (get_or ws k None) (slice_get bs k) && is_word_of (k + 1) (drop (k + 1) ws) 0 bs)
+unfolding is_word_of
+first_more ws k bs h =
+    at_drop_more (λ xs. is_word_of k xs 0 bs) ws k None h
+    ∙ ap (λ c. is_as_it_stood (get_or ws k None) c && is_word_of (k + 1) (drop (k + 1) ws) 0 bs) (from_start bs k)
 
 -- what is written so far, and what is left to write
 abbrev pub written_from : ℕ → List (Option ℕ) → List (Option ℕ) → List (Option ℕ)
@@ -51,3 +85,18 @@ write_all bytes word k h =
 pub word_all : (f : ℕ) (ws : List (Option ℕ)) (k a : ℕ) (bs : List ℕ) → length ws ≤ k → is_word_of f (drop k ws) a bs ≡ true
 unfolding is_word_of
 word_all f ws k a bs h = rw (drop_all k ws h) refl
+
+-- Words lane by lane. ----
+
+lanes_left : (n k : ℕ) (a b : List (Option ℕ)) → length a ≡ k + n → length b ≡ k + n
+    → are_same_lanes k n a b ≡ is_same_word (drop k a) (drop k b)
+lanes_left zero k a b la lb = rw (drop_all k a (omega (arith, la)), drop_all k b (omega (arith, lb))) refl
+lanes_left (suc n) k a b la lb =
+    let here : k < length a = omega (arith, la) in
+    let there : k < length b = omega (arith, lb) in
+    rw (drop-cons a k None here, drop-cons b k None there)
+    (ap (λ r. option_eq ◌==◌ (get_or a k None) (get_or b k None) && r)
+    (lanes_left n (suc k) a b (omega (arith, la)) (omega (arith, lb))))
+
+pub same_lanes : (a b : List (Option ℕ)) → length a ≡ 8 → length b ≡ 8 → are_same_lanes 0 8 a b ≡ is_same_word a b
+same_lanes a b la lb = lanes_left 8 0 a b la lb

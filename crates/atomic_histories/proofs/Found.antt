@@ -1,14 +1,13 @@
 -- The search for the ways on which a goal is met: what it finds was reached by stores that took effect, and it finds each way there.
-use Rattle.std.proofs.Common.{◌≡◌, ℕ, zero, suc, ◌+◌, ◌<◌, ◌≤◌, ◌⊎◌, Bool, true, false, List, [], ◌∷◌, ◌++◌, length, max, fold, inl, inr, refl, sym, ap, ◌∙◌, subst, append_assoc, append-nil, arith}
+use Rattle.std.proofs.Common.{◌≡◌, ℕ, zero, suc, ◌+◌, ◌<◌, ◌≤◌, ◌⊎◌, Bool, true, false, List, [], ◌∷◌, ◌++◌, length, max, filter, fold, inl, inr, refl, sym, ap, ◌∙◌, subst, append_assoc, append-nil, arith}
 use Rattle.std.proofs.lemmas.Bool.{cases_Bool}
 use Rattle.atomic_histories.specs.declared.unit.OpenStore.{OpenStore}
 use Rattle.atomic_histories.specs.Law.{UnitMemory, done_store}
-use Rattle.atomic_histories.specs.Branches.{Branch, effect_of, cons_effect, effects_from, effects, with_branch, with_branches, out_of, next_of, out_after, next_after, met, rounds}
-use Rattle.atomic_histories.specs.Stands.{Each, One, IsOn, Leads, now, later, IsTimely}
-use Rattle.atomic_histories.proofs.Lists.{one_weaker, one_none, one_or}
-use Rattle.atomic_histories.proofs.Steps.{timely_effect}
+use Rattle.atomic_histories.specs.Branches.{Branch, Aim, joined, effect_of, cons_effect, effects_from, effects, with_branch, with_branches, out_of, next_of, out_after, next_after, met, rounds}
+use Rattle.atomic_histories.specs.Stands.{Each, One, IsOn, Leads, now, later}
+use Rattle.atomic_histories.proofs.Lists.{one_weaker, one_none, one_or, one_filter, each_filter}
 use Rattle.atomic_histories.proofs.Covered.{leads_shown}
-use Rattle.atomic_histories.proofs.Same.{IsCarried, covers_shows, one_with, new_with, each_with, one_withs, new_withs, each_withs}
+use Rattle.atomic_histories.proofs.Same.{IsCarried, IsJoined, joined_first, one_with, new_with, each_with, one_withs, new_withs, each_withs}
 
 -- The ways on. ----
 
@@ -74,80 +73,74 @@ IsKept S = (e : Branch) (before : List OpenStore) (s : OpenStore) (after : List 
 each_effect : (S : Branch → Type 0) → IsKept S → (e : Branch) → S e → Each S (effects e)
 each_effect S kept e h = each_effect_from S e [] e.stores (λ before s after split o. kept e before s after h split o)
 
-pub kept_timely : IsKept IsTimely
-kept_timely e before s after t split o = timely_effect e before s after t
-
-timely_effects : (e : Branch) → IsTimely e → Each IsTimely (effects e)
-timely_effects e t = each_effect IsTimely kept_timely e t
-
 -- One round. ----
 
-out_keeps : (P : Branch → Type 0) → IsCarried P → (goal : Branch → Bool) (out es : List Branch) → Each IsTimely es → One P out
-    → One P (out_after goal out es)
-out_keeps P c goal out [] t h = h
-out_keeps P c goal out (e ∷ es) t h = elim (cases_Bool (goal e)) [
-  | inl u ↦ rw u (out_keeps P c goal (with_branch out e) es t.1 (one_with P c out e t.0 h))
-  | inr f ↦ rw f (out_keeps P c goal out es t.1 h)
+out_keeps : (P : Branch → Type 0) → IsCarried P → (goal : Branch → Bool) (out es : List Branch) → One P out → One P (out_after goal out es)
+out_keeps P c goal out [] h = h
+out_keeps P c goal out (e ∷ es) h = elim (cases_Bool (goal e)) [
+  | inl u ↦ rw u (out_keeps P c goal (with_branch out e) es (one_with P c out e h))
+  | inr f ↦ rw f (out_keeps P c goal out es h)
 ]
 
-timely_out : (goal : Branch → Bool) (out : List Branch) (e : Branch) → Each IsTimely out → IsTimely e → Each IsTimely (out_of goal out e)
-timely_out goal out e t u = elim (cases_Bool (goal e)) [
-  | inl g ↦ rw g (each_with IsTimely out e t u)
-  | inr f ↦ rw f t
-]
-
-out_finds : (P : Branch → Type 0) → IsCarried P → (goal : Branch → Bool) (out es : List Branch) → Each IsTimely out → Each IsTimely es
+out_finds : (P : Branch → Type 0) → IsCarried P → (goal : Branch → Bool) (out es : List Branch)
     → One (λ e. (goal e ≡ true) × P e) es → One P (out_after goal out es)
-out_finds P c goal out [] t u h = absurd h
-out_finds P c goal out (e ∷ es) t u (inl p) = rw p.0 (out_keeps P c goal (with_branch out e) es u.1 (new_with P c out e t p.1))
-out_finds P c goal out (e ∷ es) t u (inr h) = out_finds P c goal (out_of goal out e) es (timely_out goal out e t u.0) u.1 h
+out_finds P c goal out [] h = absurd h
+out_finds P c goal out (e ∷ es) (inl p) = rw p.0 (out_keeps P c goal (with_branch out e) es (new_with P c out e p.1))
+out_finds P c goal out (e ∷ es) (inr h) = out_finds P c goal (out_of goal out e) es h
 
-next_keeps : (P : Branch → Type 0) → IsCarried P → (goal : Branch → Bool) (next es : List Branch) → Each IsTimely es → One P next
-    → One P (fold (next_of goal) next es)
-next_keeps P c goal next [] t h = h
-next_keeps P c goal next (e ∷ es) t h = elim (cases_Bool (goal e)) [
-  | inl u ↦ rw u (next_keeps P c goal next es t.1 h)
-  | inr f ↦ rw f (next_keeps P c goal (with_branches next (effects e)) es t.1 (one_withs P c next (effects e) (timely_effects e t.0) h))
+next_keeps : (P : Branch → Type 0) → IsCarried P → (aim : Aim) (next es : List Branch) → One P next → One P (fold (next_of aim) next es)
+next_keeps P c aim next [] h = h
+next_keeps P c aim next (e ∷ es) h = elim (cases_Bool (aim.goal e)) [
+  | inl u ↦ rw u (next_keeps P c aim next es h)
+  | inr f ↦
+      let on : List Branch = filter aim.hope (effects e) in
+      rw f (next_keeps P c aim (with_branches next on) es (one_withs P c next on h))
 ]
 
-timely_next : (goal : Branch → Bool) (next : List Branch) (e : Branch) → Each IsTimely next → IsTimely e → Each IsTimely (next_of goal next e)
-timely_next goal next e t u = elim (cases_Bool (goal e)) [
-  | inl g ↦ rw g t
-  | inr f ↦ rw f (each_withs IsTimely next (effects e) t (timely_effects e u))
+pub next_finds : (P : Branch → Type 0) → IsCarried P → (aim : Aim) (next es : List Branch)
+    → One (λ e. (aim.goal e ≡ false) × One P (filter aim.hope (effects e))) es → One P (fold (next_of aim) next es)
+next_finds P c aim next [] h = absurd h
+next_finds P c aim next (e ∷ es) (inl p) =
+    let on : List Branch = filter aim.hope (effects e) in
+    rw p.0 (next_keeps P c aim (with_branches next on) es (new_withs P c next on p.1))
+next_finds P c aim next (e ∷ es) (inr h) = next_finds P c aim (next_of aim next e) es h
+
+-- the goal is met by a way that shows at least the words of one that meets it
+abbrev pub IsGoal : (Branch → Bool) → Type 0
+IsGoal goal = IsCarried (λ e. goal e ≡ true)
+
+joined_goal : (S : Branch → Type 0) → IsJoined S → (goal : Branch → Bool) → IsGoal goal → IsJoined (λ e. S e × (goal e ≡ true))
+joined_goal S j goal g f e h a b = (j f e h a.0 b.0, g (joined f e) f (joined_first f e) a.1)
+
+out_sound : (S : Branch → Type 0) → IsJoined S → (goal : Branch → Bool) → IsGoal goal → (out es : List Branch)
+    → Each (λ e. S e × (goal e ≡ true)) out → Each S es → Each (λ e. S e × (goal e ≡ true)) (out_after goal out es)
+out_sound S j goal g out [] a b = a
+out_sound S j goal g out (e ∷ es) a b = elim (cases_Bool (goal e)) [
+  | inl t ↦ rw t (out_sound S j goal g (with_branch out e) es
+      (each_with (λ x. S x × (goal x ≡ true)) (joined_goal S j goal g) out e a (b.0, t)) b.1)
+  | inr f ↦ rw f (out_sound S j goal g out es a b.1)
 ]
 
-pub next_finds : (P : Branch → Type 0) → IsCarried P → (goal : Branch → Bool) (next es : List Branch) → Each IsTimely next
-    → Each IsTimely es → One (λ e. (goal e ≡ false) × One P (effects e)) es → One P (fold (next_of goal) next es)
-next_finds P c goal next [] t u h = absurd h
-next_finds P c goal next (e ∷ es) t u (inl p) =
-    rw p.0 (next_keeps P c goal (with_branches next (effects e)) es u.1 (new_withs P c next (effects e) t (timely_effects e u.0) p.1))
-next_finds P c goal next (e ∷ es) t u (inr h) = next_finds P c goal (next_of goal next e) es (timely_next goal next e t u.0) u.1 h
-
-out_sound : (S : Branch → Type 0) (goal : Branch → Bool) (out es : List Branch) → Each (λ e. S e × (goal e ≡ true)) out → Each S es
-    → Each (λ e. S e × (goal e ≡ true)) (out_after goal out es)
-out_sound S goal out [] a b = a
-out_sound S goal out (e ∷ es) a b = elim (cases_Bool (goal e)) [
-  | inl t ↦ rw t (out_sound S goal (with_branch out e) es (each_with (λ x. S x × (goal x ≡ true)) out e a (b.0, t)) b.1)
-  | inr f ↦ rw f (out_sound S goal out es a b.1)
-]
-
-pub next_sound : (S : Branch → Type 0) → IsKept S → (goal : Branch → Bool) (next es : List Branch) → Each S next → Each S es
-    → Each S (fold (next_of goal) next es)
-next_sound S kept goal next [] a b = a
-next_sound S kept goal next (e ∷ es) a b = elim (cases_Bool (goal e)) [
-  | inl t ↦ rw t (next_sound S kept goal next es a b.1)
-  | inr f ↦ rw f (next_sound S kept goal (with_branches next (effects e)) es
-      (each_withs S next (effects e) a (each_effect S kept e b.0)) b.1)
+pub next_sound : (S : Branch → Type 0) → IsJoined S → IsKept S → (aim : Aim) (next es : List Branch) → Each S next → Each S es
+    → Each S (fold (next_of aim) next es)
+next_sound S j kept aim next [] a b = a
+next_sound S j kept aim next (e ∷ es) a b = elim (cases_Bool (aim.goal e)) [
+  | inl t ↦ rw t (next_sound S j kept aim next es a b.1)
+  | inr f ↦
+      let on : List Branch = filter aim.hope (effects e) in
+      rw f (next_sound S j kept aim (with_branches next on) es
+      (each_withs S j next on a (each_filter S aim.hope (effects e) (each_effect S kept e b.0))) b.1)
 ]
 
 -- All rounds. ----
 
-pub met_sound : (S : Branch → Type 0) → IsKept S → (n : ℕ) (goal : Branch → Bool) (out es : List Branch)
-    → Each (λ e. S e × (goal e ≡ true)) out → Each S es
-    → Each (λ e. S e × (goal e ≡ true)) (met n goal out es)
-met_sound S kept zero goal out es a b = a
-met_sound S kept (suc n) goal out es a b =
-    met_sound S kept n goal (out_after goal out es) (next_after goal es) (out_sound S goal out es a b) (next_sound S kept goal [] es tt b)
+pub met_sound : (S : Branch → Type 0) → IsJoined S → IsKept S → (n : ℕ) (aim : Aim) → IsGoal aim.goal → (out es : List Branch)
+    → Each (λ e. S e × (aim.goal e ≡ true)) out → Each S es
+    → Each (λ e. S e × (aim.goal e ≡ true)) (met n aim out es)
+met_sound S j kept zero aim g out es a b = a
+met_sound S j kept (suc n) aim g out es a b =
+    met_sound S j kept n aim g (out_after aim.goal out es) (next_after aim es) (out_sound S j aim.goal g out es a b)
+    (next_sound S j kept aim [] es tt b)
 
 -- How many steps. ----
 
@@ -187,9 +180,7 @@ abbrev pub LeadsWithin : UnitMemory → ℕ → Branch → Type 0
 LeadsWithin m n e = Leads e m × (undone e.stores < n)
 
 pub carried_within : (m : UnitMemory) (n : ℕ) → IsCarried (LeadsWithin m n)
-carried_within m n f e t h p =
-    let s = covers_shows f e h in
-    (leads_shown f t s p.0, subst (λ ss. undone ss < n) (sym s.stores) p.1)
+carried_within m n f e s p = (leads_shown f s p.0, subst (λ ss. undone ss < n) (sym s.stores) p.1)
 
 -- it leads there now, or once a store has taken effect
 pub leads_split : (m : UnitMemory) (n : ℕ) (e : Branch) → LeadsWithin m (suc n) e → IsOn e m ⊎ One (LeadsWithin m n) (effects e)
@@ -204,52 +195,52 @@ leads_split m n e p = split p.0 p.1
 pub none_within : (m : UnitMemory) (e : Branch) → LeadsWithin m zero e → ⊥
 none_within m e p = let l = p.1 in absurd (omega arith)
 
--- a way that leads to a state at which the goal is met is found at the first place where it is
-met_finds : (m : UnitMemory) (goal : Branch → Bool) → ((x : Branch) → IsOn x m → goal x ≡ true) → (n : ℕ)
-    → (out es : List Branch) → Each IsTimely out → Each IsTimely es
-    → One (λ e. Leads e m) out ⊎ One (LeadsWithin m n) es → One (λ e. Leads e m) (met n goal out es)
-met_finds m goal g zero out es t u (inl h) = h
-met_finds m goal g zero out es t u (inr h) =
-    absurd (one_none es (one_weaker (LeadsWithin m zero) (λ e. ⊥) (none_within m) es h))
-met_finds m goal g (suc n) out es t u h =
-    let after : Each IsTimely (out_after goal out es) = timely_outs out es t u in
-    let next : Each IsTimely (next_after goal es) = next_sound IsTimely kept_timely goal [] es tt u in
-    let c : IsCarried (λ e. Leads e m) = λ f e v x l. leads_shown f v (covers_shows f e x) l in
-    elim h [
-      | inl o ↦ met_finds m goal g n (out_after goal out es) (next_after goal es) after next
-          (inl (out_keeps (λ e. Leads e m) c goal out es u o))
-      | inr o ↦ elim (one_or (λ e. (goal e ≡ true) × Leads e m) (λ e. (goal e ≡ false) × One (LeadsWithin m n) (effects e)) es
-          (one_weaker (LeadsWithin m (suc n))
-          (λ e. ((goal e ≡ true) × Leads e m) ⊎ ((goal e ≡ false) × One (LeadsWithin m n) (effects e))) either es o)) [
-            | inl a ↦ met_finds m goal g n (out_after goal out es) (next_after goal es) after next
-                (inl (out_finds (λ e. Leads e m) c goal out es t u a))
-            | inr a ↦ met_finds m goal g n (out_after goal out es) (next_after goal es) after next
-                (inr (next_finds (LeadsWithin m n) (carried_within m n) goal [] es tt u a))
-          ]
-    ]
-  where
-    timely_outs : (out es : List Branch) → Each IsTimely out → Each IsTimely es → Each IsTimely (out_after goal out es)
-    timely_outs out [] t u = t
-    timely_outs out (e ∷ es) t u = timely_outs (out_of goal out e) es (timely_out goal out e t u.0) u.1
+-- there is hope on each way that leads to a state
+abbrev pub HasHopes : UnitMemory → Aim → Type 0
+HasHopes m aim = (e : Branch) → Leads e m → aim.hope e ≡ true
 
-    either : (e : Branch) → LeadsWithin m (suc n) e
-        → ((goal e ≡ true) × Leads e m) ⊎ ((goal e ≡ false) × One (LeadsWithin m n) (effects e))
-    either e p = elim (cases_Bool (goal e)) [
+pub one_hopes : (m : UnitMemory) (aim : Aim) → HasHopes m aim → (n : ℕ) (es : List Branch) → One (LeadsWithin m n) es
+    → One (LeadsWithin m n) (filter aim.hope es)
+one_hopes m aim hope n es o =
+    one_filter (LeadsWithin m n) aim.hope es
+    (one_weaker (LeadsWithin m n) (λ e. LeadsWithin m n e × (aim.hope e ≡ true)) (λ e l. (l, hope e l.0)) es o)
+
+-- a way that leads to a state at which the goal is met is found at the first place where it is
+met_finds : (m : UnitMemory) (aim : Aim) → ((x : Branch) → IsOn x m → aim.goal x ≡ true) → HasHopes m aim → (n : ℕ)
+    → (out es : List Branch)
+    → One (λ e. Leads e m) out ⊎ One (LeadsWithin m n) es → One (λ e. Leads e m) (met n aim out es)
+met_finds m aim g hope zero out es (inl h) = h
+met_finds m aim g hope zero out es (inr h) = absurd (one_none es (one_weaker (LeadsWithin m zero) (λ e. ⊥) (none_within m) es h))
+met_finds m aim g hope (suc n) out es h =
+    let c : IsCarried (λ e. Leads e m) = λ f e s l. leads_shown f s l in
+    let Here : Branch → Type 0 = λ e. (aim.goal e ≡ true) × Leads e m in
+    let There : Branch → Type 0 = λ e. (aim.goal e ≡ false) × One (LeadsWithin m n) (filter aim.hope (effects e)) in
+    let either : (e : Branch) → LeadsWithin m (suc n) e → Here e ⊎ There e = λ e p. elim (cases_Bool (aim.goal e)) [
       | inl y ↦ inl (y, p.0)
       | inr f ↦ elim (leads_split m n e p) [
         | inl o ↦ let x : true ≡ false = sym (g e o) ∙ f in cc
-        | inr o ↦ inr (f, o)
+        | inr o ↦ inr (f, one_hopes m aim hope n (effects e) o)
+      ]
+    ] in
+    elim h [
+      | inl o ↦ met_finds m aim g hope n (out_after aim.goal out es) (next_after aim es)
+          (inl (out_keeps (λ e. Leads e m) c aim.goal out es o))
+      | inr o ↦ elim (one_or Here There es (one_weaker (LeadsWithin m (suc n)) (λ e. Here e ⊎ There e) either es o)) [
+        | inl a ↦ met_finds m aim g hope n (out_after aim.goal out es) (next_after aim es)
+            (inl (out_finds (λ e. Leads e m) c aim.goal out es a))
+        | inr a ↦ met_finds m aim g hope n (out_after aim.goal out es) (next_after aim es)
+            (inr (next_finds (LeadsWithin m n) (carried_within m n) aim [] es a))
       ]
     ]
 
-pub met_complete : (goal : Branch → Bool) (m : UnitMemory) → ((x : Branch) → IsOn x m → goal x ≡ true) → (es : List Branch)
-    → Each IsTimely es → One (λ e. Leads e m) es → One (λ e. Leads e m) (met (suc (rounds es)) goal [] es)
-met_complete goal m g es t h =
+pub met_complete : (aim : Aim) (m : UnitMemory) → ((x : Branch) → IsOn x m → aim.goal x ≡ true) → HasHopes m aim → (es : List Branch)
+    → One (λ e. Leads e m) es → One (λ e. Leads e m) (met (suc (rounds es)) aim [] es)
+met_complete aim m g hope es h =
     let n : ℕ = rounds es in
     let ways : One (LeadsWithin m (suc n)) es =
     one_weaker (λ e. Leads e m × (undone e.stores ≤ n)) (LeadsWithin m (suc n)) (λ e p. (p.0, within e p.1)) es
     (one_rounds (λ e. Leads e m) 0 es h) in
-    met_finds m goal g (suc n) [] es tt t (inr ways)
+    met_finds m aim g hope (suc n) [] es (inr ways)
   where
     within : (e : Branch) → undone e.stores ≤ rounds es → undone e.stores < suc (rounds es)
     within e l = omega arith

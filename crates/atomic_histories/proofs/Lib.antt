@@ -2,13 +2,17 @@
 pub mod Lists
 pub mod Steps
 pub mod Covered
+pub mod SameWords
 pub mod Same
 pub mod Found
 pub mod Events
 pub mod Answers
+pub mod MayCome
 pub mod Exact
 pub mod Bits
 pub mod Loops
+pub mod Watching
+pub mod Merges
 pub mod Marks
 pub mod Worked
 pub mod Links

@@ -1,17 +1,15 @@
 -- Steps of the loops over ways.
-use Rattle.std.proofs.Common.{◌≡◌, ℕ, zero, suc, ◌+◌, ◌-◌, ◌<◌, ◌≤◌, nat_lt, Bool, true, false, ◌&&◌, ◌||◌, ◌==◌, if◌then◌else◌, List, [], ◌∷◌, ◌++◌, map, fold, length, take, drop, get_or, set, max, Option, refl, sym, ap, ◌∙◌, add-one, take-suc, drop-cons, eqb-true, eq-eqb, append_assoc, filter, inl, inr, arith}
+use Rattle.std.proofs.Common.{◌≡◌, ℕ, zero, suc, ◌+◌, ◌-◌, ◌<◌, ◌≤◌, nat_lt, Bool, true, false, ◌||◌, if◌then◌else◌, List, [], ◌∷◌, ◌++◌, map, fold, filter, length, take, drop, get_or, set, max, refl, sym, ap, ◌∙◌, add-one, take-suc, drop-cons, append_assoc, inl, inr, arith}
 use Rattle.std.specs.List.{list_any}
-use Rattle.std.specs.Cmp.Lexicographic.{pointwise}
 use Rattle.std.proofs.lemmas.Bool.{cases_Bool, lt-ltb, le-ltb}
 use Rattle.std.proofs.lemmas.List.{map-append, set_split, drop_all}
 use Rattle.std.proofs.lemmas.List.Folds.{fold-map}
 use Rattle.atomic_histories.specs.declared.unit.OpenStore.{OpenStore}
-use Rattle.atomic_histories.specs.declared.unit.WatchedLoad.{WatchedLoad}
 use Rattle.atomic_histories.specs.declared.ways.Way.{Way}
 use Rattle.atomic_histories.specs.Law.{done_store}
-use Rattle.atomic_histories.specs.Branches.{Branch, is_same_pair, covers, with_branch, with_branches, pairs, has_more_words, are_too_many, is_over, out_after, next_after, cons_effect, effect_of, effects_from, path_after, met, rounds}
+use Rattle.atomic_histories.specs.Branches.{Branch, Aim, is_same_pair, covers, with_branch, with_hopeful, with_branches, pairs, has_more_words, are_too_many, is_over, out_after, next_after, cons_effect, effect_of, effects_from, met, rounds, words_before, never}
 use Rattle.memory_histories.specs.declared.sets.ByteSet.{ByteSet}
-use Rattle.atomic_histories.specs.May.{never, with_ways_bytes, reached_bytes, is_reach_over}
+use Rattle.atomic_histories.specs.May.{with_ways_bytes, reached_bytes, is_reach_over}
 use Rattle.atomic_histories.specs.Shown.{shown, shown_all}
 
 pub shown_push : (ws : List Way) (w : Way) → shown_all (ws ++ w ∷ []) ≡ shown_all ws ++ shown w ∷ []
@@ -28,39 +26,6 @@ any_shown p (w ∷ ws) = ap (λ b. p (shown w) || b) (any_shown p ws)
 pub covered_shown : (e : Branch) (ws : List Way)
     → list_any (λ f. covers f e) (shown_all ws) ≡ list_any (λ w. covers (shown w) e) ws
 covered_shown e ws = any_shown (λ f. covers f e) ws
-
-pub filter_shown : (p : Branch → Bool) (ws : List Way) → shown_all (filter (λ w. p (shown w)) ws) ≡ filter p (shown_all ws)
-filter_shown p [] = refl
-filter_shown p (w ∷ ws) = elim (cases_Bool (p (shown w))) [
-  | inl t ↦ rw t (ap (λ es. shown w ∷ es) (filter_shown p ws))
-  | inr f ↦ rw f (filter_shown p ws)
-]
-
--- two lists of one length, element by element
-pub pointwise_more : {X : Type 0} (p : X → X → Bool) (xs ys : List X) (i : ℕ) (d e : X) → i < length xs → length xs ≡ length ys
-    → pointwise p (drop i xs) (drop i ys) ≡ (p (get_or xs i d) (get_or ys i e) && pointwise p (drop (i + 1) xs) (drop (i + 1) ys))
-pointwise_more p xs ys i d e h l =
-    let k : i < length ys = omega arith in rw (add-one, drop-cons xs i d h, drop-cons ys i e k) refl
-
-pub pointwise_all : {X : Type 0} (p : X → X → Bool) (xs ys : List X) (i : ℕ) → length xs ≤ i → length xs ≡ length ys
-    → pointwise p (drop i xs) (drop i ys) ≡ true
-pointwise_all p xs ys i h l = rw (drop_all i xs h, drop_all i ys (omega arith)) refl
-
-pub pointwise_other : {X : Type 0} (p : X → X → Bool) (xs ys : List X) → (length xs == length ys) ≡ false → pointwise p xs ys ≡ false
-pointwise_other p [] [] h = cc
-pointwise_other p [] (y ∷ ys) h = refl
-pointwise_other p (x ∷ xs) [] h = refl
-pointwise_other p (x ∷ xs) (y ∷ ys) h = and_false (p x y) (pointwise p xs ys) (pointwise_other p xs ys (shorter (length xs) (length ys) h))
-  where
-    and_false : (a b : Bool) → b ≡ false → (a && b) ≡ false
-    and_false true b e = e
-    and_false false b e = refl
-
-    shorter : (a b : ℕ) → (suc a == suc b) ≡ false → (a == b) ≡ false
-    shorter a b e = elim (cases_Bool (a == b)) [
-      | inl t ↦ let u : (suc a == suc b) ≡ true = eq-eqb (suc a) (suc b) (ap suc (eqb-true a b t)) in let x : true ≡ false = sym u ∙ e in cc
-      | inr f ↦ f
-    ]
 
 -- the pairs of the ways from one on
 pairs_same : (ws : List Way) (w : Way) (i : ℕ) → i < length ws → w ≡ get_or ws i w
@@ -95,7 +60,7 @@ pairs_most (e ∷ es) = let h = pairs_most es in elim (cases_Bool (list_any (is_
   | inr o ↦ rw o (omega (arith, h))
 ]
 
-length_shown : (ws : List Way) → length (shown_all ws) ≡ length ws
+pub length_shown : (ws : List Way) → length (shown_all ws) ≡ length ws
 length_shown [] = refl
 length_shown (w ∷ ws) = ap suc (length_shown ws)
 
@@ -106,17 +71,17 @@ pub pairs_all : (ws : List Way) (i : ℕ) → length ws ≤ i → pairs (shown_a
 pairs_all ws i h = rw (drop_all i ws h) refl
 
 -- the words before, one way after the other
-pub words_over : (most : ℕ) (ws : List Way) (w : Way) (i : ℕ) → i < length ws → w ≡ get_or ws i w → most < length w.path.items
-    → has_more_words most (shown_all (drop i ws)) ≡ true
-words_over most ws w i h e l =
-    let over : nat_lt most (length w.path.items) ≡ true = lt-ltb most (length w.path.items) l in
+pub words_over : (most n : ℕ) (ws : List Way) (w : Way) (i : ℕ) → i < length ws → w ≡ get_or ws i w → n ≡ words_before (shown w)
+    → most < n → has_more_words most (shown_all (drop i ws)) ≡ true
+words_over most n ws w i h e b l =
+    let over : nat_lt most (words_before (shown w)) ≡ true = rw (← b) (lt-ltb most n l) in
     rw (shown_drop ws i w h, ← e, over) refl
 
-pub words_step : (most : ℕ) (ws : List Way) (w : Way) (i : ℕ) → i < length ws → w ≡ get_or ws i w → length w.path.items ≤ most
-    → has_more_words most (shown_all (drop i ws)) ≡ has_more_words (most - length w.path.items) (shown_all (drop (i + 1) ws))
-words_step most ws w i h e l =
-    let within : nat_lt most (length w.path.items) ≡ false = le-ltb most (length w.path.items) l in
-    rw (shown_drop ws i w h, ← e, within) refl
+pub words_step : (most n : ℕ) (ws : List Way) (w : Way) (i : ℕ) → i < length ws → w ≡ get_or ws i w → n ≡ words_before (shown w)
+    → n ≤ most → has_more_words most (shown_all (drop i ws)) ≡ has_more_words (most - n) (shown_all (drop (i + 1) ws))
+words_step most n ws w i h e b l =
+    let within : nat_lt most (words_before (shown w)) ≡ false = rw (← b) (le-ltb most n l) in
+    rw (shown_drop ws i w h, ← e, within, b) refl
 
 pub words_all : (most : ℕ) (ws : List Way) (i : ℕ) → length ws ≤ i → has_more_words most (shown_all (drop i ws)) ≡ false
 words_all most ws i h = rw (drop_all i ws h) refl
@@ -129,19 +94,25 @@ pub effects_step : (e : Branch) (ss : List OpenStore) (i : ℕ) (d : OpenStore) 
     (effects_from e (take (i + 1) ss) (drop (i + 1) ss))
 effects_step e ss i d h = rw (add-one, drop-cons ss i d h, take-suc ss i d h) refl
 
-followed_more : (t : Bool) (x : Branch) (es next rest all : List Branch) → next ≡ (if t then es else with_branch es x)
-    → with_branches es (cons_effect t x rest) ≡ all → with_branches next rest ≡ all
-followed_more true x es next rest all n whole = ap (λ fs. with_branches fs rest) n ∙ whole
-followed_more false x es next rest all n whole = ap (λ fs. with_branches fs rest) n ∙ whole
+followed_more : (hope : Branch → Bool) (t : Bool) (x : Branch) (es next rest all : List Branch)
+    → next ≡ (if t then es else with_hopeful hope es x)
+    → with_branches es (filter hope (cons_effect t x rest)) ≡ all → with_branches next (filter hope rest) ≡ all
+followed_more hope true x es next rest all n whole = ap (λ fs. with_branches fs (filter hope rest)) n ∙ whole
+followed_more hope false x es next rest all n whole = elim (cases_Bool (hope x)) [
+  | inl t ↦ ap (λ fs. with_branches fs (filter hope rest)) (rw t at n) ∙ (rw t at whole)
+  | inr f ↦ ap (λ fs. with_branches fs (filter hope rest)) (rw f at n) ∙ (rw f at whole)
+]
 
 -- one more store is looked at
-pub effects_more : (e : Branch) (ss : List OpenStore) (i : ℕ) (d : OpenStore) (es next all : List Branch) → i < length ss
-    → next ≡ (if (get_or ss i d).is_done then es else with_branch es (effect_of e (take i ss) (get_or ss i d) (drop (i + 1) ss)))
-    → with_branches es (effects_from e (take i ss) (drop i ss)) ≡ all
-    → with_branches next (effects_from e (take (i + 1) ss) (drop (i + 1) ss)) ≡ all
-effects_more e ss i d es next all h n whole =
-    followed_more (get_or ss i d).is_done (effect_of e (take i ss) (get_or ss i d) (drop (i + 1) ss)) es next
-    (effects_from e (take (i + 1) ss) (drop (i + 1) ss)) all n (ap (with_branches es) (sym (effects_step e ss i d h)) ∙ whole)
+pub effects_more : (hope : Branch → Bool) (e : Branch) (ss : List OpenStore) (i : ℕ) (d : OpenStore) (es next all : List Branch)
+    → i < length ss
+    → next ≡ (if (get_or ss i d).is_done then es else with_hopeful hope es (effect_of e (take i ss) (get_or ss i d) (drop (i + 1) ss)))
+    → with_branches es (filter hope (effects_from e (take i ss) (drop i ss))) ≡ all
+    → with_branches next (filter hope (effects_from e (take (i + 1) ss) (drop (i + 1) ss))) ≡ all
+effects_more hope e ss i d es next all h n whole =
+    followed_more hope (get_or ss i d).is_done (effect_of e (take i ss) (get_or ss i d) (drop (i + 1) ss)) es next
+    (effects_from e (take (i + 1) ss) (drop (i + 1) ss)) all n
+    (ap (λ xs. with_branches es (filter hope xs)) (sym (effects_step e ss i d h)) ∙ whole)
 
 -- one more way is looked at
 pub fold_more : {X : Type 0} (f : X → Branch → X) (ws : List Way) (w : Way) (i : ℕ) (x y all : X) → i < length ws → w ≡ get_or ws i w
@@ -155,19 +126,6 @@ effects_none e past ss i h = rw (drop_all i ss (omega arith)) refl
 
 pub set_store : (ss : List OpenStore) (i : ℕ) (s : OpenStore) → i < length ss → set ss i s ≡ take i ss ++ s ∷ drop (i + 1) ss
 set_store ss i s h = rw add-one (set_split ss i s h)
-
-pub path_empty : (ls : List WatchedLoad) (path : List (List (Option ℕ))) (w : List (Option ℕ)) → (length ls == 0) ≡ true
-    → path_after ls path w ≡ []
-path_empty [] path w h = refl
-path_empty (l ∷ ls) path w h = absurd (omega (arith, eqb-true (length (l ∷ ls)) 0 h))
-
-pub path_more : (ls : List WatchedLoad) (path : List (List (Option ℕ))) (w : List (Option ℕ)) → (length ls == 0) ≡ false
-    → path_after ls path w ≡ path ++ w ∷ []
-path_more [] path w h = cc
-path_more (l ∷ ls) path w h = refl
-
-pub none_passed : (path : List (List (Option ℕ))) (n : ℕ) → length path ≤ n → drop n path ≡ drop (length path) path
-none_passed path n h = drop_all n path h ∙ sym (drop_all (length path) path (omega arith))
 
 pub ways_passed : (ws : List Way) (n : ℕ) → length ws ≤ n → drop n ws ≡ drop (length ws) ws
 ways_passed ws n h = drop_all n ws h ∙ sym (drop_all (length ws) ws (omega arith))
@@ -207,28 +165,28 @@ or_right true b h = cc
 or_right false b h = refl
 
 -- the rounds of a search
-pub over_stop : (limit n : ℕ) (goal : Branch → Bool) (out es : List Branch) → (are_too_many limit es || are_too_many limit out) ≡ true
-    → 0 < n → is_over limit n goal out es ≡ true
-over_stop limit zero goal out es h p = absurd (omega arith)
-over_stop limit (suc n) goal out es h p =
-    or_left (are_too_many limit es || are_too_many limit out) (is_over limit n goal (out_after goal out es) (next_after goal es)) h
+pub over_stop : (limit n : ℕ) (aim : Aim) (out es : List Branch) → (are_too_many limit es || are_too_many limit out) ≡ true
+    → 0 < n → is_over limit n aim out es ≡ true
+over_stop limit zero aim out es h p = absurd (omega arith)
+over_stop limit (suc n) aim out es h p =
+    or_left (are_too_many limit es || are_too_many limit out) (is_over limit n aim (out_after aim.goal out es) (next_after aim es)) h
 
-pub over_go : (limit n : ℕ) (goal : Branch → Bool) (out es : List Branch) → (are_too_many limit es || are_too_many limit out) ≡ false
+pub over_go : (limit n : ℕ) (aim : Aim) (out es : List Branch) → (are_too_many limit es || are_too_many limit out) ≡ false
     → 0 < n
-    → is_over limit n goal out es ≡ is_over limit (n - 1) goal (out_after goal out es) (next_after goal es)
-over_go limit zero goal out es h p = absurd (omega arith)
-over_go limit (suc n) goal out es h p = let e : suc n - 1 ≡ n =
+    → is_over limit n aim out es ≡ is_over limit (n - 1) aim (out_after aim.goal out es) (next_after aim es)
+over_go limit zero aim out es h p = absurd (omega arith)
+over_go limit (suc n) aim out es h p = let e : suc n - 1 ≡ n =
     omega arith in rw e (or_right (are_too_many limit es || are_too_many limit out)
-    (is_over limit n goal (out_after goal out es) (next_after goal es)) h)
+    (is_over limit n aim (out_after aim.goal out es) (next_after aim es)) h)
 
 pub fold_shown : {X : Type 0} (f : X → Branch → X) (x : X) (ws : List Way) → fold f x (shown_all ws) ≡ fold (λ y w. f y (shown w)) x ws
 fold_shown f x ws = fold-map f shown x ws
 
 -- the ways once one round more has gone
-pub met_go : (n : ℕ) (goal : Branch → Bool) (out es : List Branch) → 0 < n
-    → met n goal out es ≡ met (n - 1) goal (out_after goal out es) (next_after goal es)
-met_go zero goal out es p = absurd (omega arith)
-met_go (suc n) goal out es p = let e : suc n - 1 ≡ n = omega arith in rw e refl
+pub met_go : (n : ℕ) (aim : Aim) (out es : List Branch) → 0 < n
+    → met n aim out es ≡ met (n - 1) aim (out_after aim.goal out es) (next_after aim es)
+met_go zero aim out es p = absurd (omega arith)
+met_go (suc n) aim out es p = let e : suc n - 1 ≡ n = omega arith in rw e refl
 
 -- the ways that are followed to see what a load may get
 pub reach_stop : (limit n : ℕ) (es next : List Branch) → next ≡ next_after never es → are_too_many limit next ≡ true → 0 < n

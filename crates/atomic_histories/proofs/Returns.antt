@@ -1,5 +1,5 @@
 -- What an open load may return is what the ways show that are followed.
-use Rattle.std.proofs.Common.{◌≡◌, ℕ, zero, suc, ◌+◌, ◌/◌, ◌%◌, ◌<◌, ◌≤◌, ◌⊎◌, ◌↔◌, Bool, true, false, ◌&&◌, ◌||◌, ◌==◌, List, [], ◌∷◌, map, fold, drop, length, slice_get, Option, Some, None, Result, Ok, Err, IfOk, inl, inr, refl, sym, ap, ◌∙◌, subst, arith}
+use Rattle.std.proofs.Common.{◌≡◌, ℕ, zero, suc, ◌+◌, ◌/◌, ◌%◌, ◌<◌, ◌≤◌, ◌⊎◌, ◌↔◌, Bool, true, false, ◌&&◌, ◌||◌, ◌==◌, List, [], ◌∷◌, map, filter, fold, length, slice_get, Option, Some, None, Result, Ok, Err, IfOk, inl, inr, refl, sym, ap, ◌∙◌, subst, arith}
 use Rattle.std.specs.List.{list_any, find}
 use Rattle.std.proofs.lemmas.Bool.{cases_Bool, and_parts, and_from, lt-ltb}
 use Rattle.memory_histories.specs.declared.events.HistoryEvent.{HistoryEvent}
@@ -8,17 +8,17 @@ use Rattle.memory_histories.specs.declared.sets.ByteSet.{ByteSet}
 use Rattle.memory_histories.specs.Sets.{has, no_bytes}
 use Rattle.memory_histories.proofs.ByteSets.{has-with_byte, has-no_bytes, has-all_bytes}
 use Rattle.atomic_histories.specs.declared.unit.Operation.{Operation}
-use Rattle.atomic_histories.specs.declared.unit.WatchedLoad.{WatchedLoad}
 use Rattle.atomic_histories.specs.declared.unit.UnitPlace.{UnitPlace}
 use Rattle.atomic_histories.specs.Operations.{opened_by, has_number}
 use Rattle.atomic_histories.specs.Law.{OpenLoad, UnitMemory, HiddenStep, MayBe, steps, untouched, unit_at, is_load}
-use Rattle.atomic_histories.specs.Branches.{Branch, effects, is_watched, next_after, rounds}
-use Rattle.atomic_histories.specs.Stands.{Each, One, MayHaveGot, IsWatched, AreWatched, IsOn, Leads, IsTimely, StandsFor}
+use Rattle.atomic_histories.specs.Branches.{Watched, Branch, never, effects, is_watched, next_after, rounds}
+use Rattle.atomic_histories.specs.Stands.{Each, One, MayHaveGot, IsWatched, AreWatched, IsOn, Leads, StandsFor}
 use Rattle.atomic_histories.specs.Held.{Held, has_way, StandsBut}
-use Rattle.atomic_histories.specs.May.{lane_of, may_show, has_got, got_byte, MayGet, MayReturn, AreSetsOf, never, with_lane, with_words, with_load_bytes, with_way_bytes, with_ways_bytes, reached_bytes, byte_set, set_at, sets_from, address_of, HasSets, asks, IsSetOf, byte_of}
-use Rattle.atomic_histories.proofs.Lists.{one_weaker, one_none, one_or, each_both}
-use Rattle.atomic_histories.proofs.Steps.{timely_effect, sound_effect}
-use Rattle.atomic_histories.proofs.Found.{IsKept, kept_timely, next_sound, next_finds, undone, one_rounds, LeadsWithin, carried_within, leads_split, none_within}
+use Rattle.atomic_histories.specs.May.{lane_of, may_show, has_got, got_byte, MayGet, MayReturn, AreSetsOf, with_lane, with_words, with_load_bytes, with_way_bytes, with_ways_bytes, reached_bytes, byte_set, set_at, sets_from, address_of, HasSets, asks, IsSetOf, byte_of}
+use Rattle.atomic_histories.proofs.Lists.{one_weaker, one_none, one_or}
+use Rattle.atomic_histories.proofs.Steps.{sound_effect}
+use Rattle.atomic_histories.proofs.Exact.{IsSound, joined_sound}
+use Rattle.atomic_histories.proofs.Found.{IsKept, next_sound, next_finds, one_hopes, undone, one_rounds, LeadsWithin, carried_within, leads_split, none_within}
 use Rattle.atomic_histories.proofs.Links.{fit_by, found_fit, inside_end}
 
 abbrev Word : Type 0
@@ -39,9 +39,9 @@ or_assoc true b c = refl
 or_assoc false b c = refl
 
 -- whether a load shows this byte
-abbrev shows_load : ℕ → ℕ → ℕ → Branch → WatchedLoad → Bool
+abbrev shows_load : ℕ → ℕ → ℕ → Branch → Watched → Bool
 shows_load number k b e l =
-    is_watched number l && (may_show (lane_of k e.word) b || list_any (λ w. may_show (lane_of k w) b) (drop l.since e.path))
+    is_watched number l && (may_show (lane_of k e.word) b || list_any (λ w. may_show (lane_of k w) b) l.words)
 
 abbrev shows : ℕ → ℕ → ℕ → Branch → Bool
 shows number k b e = list_any (shows_load number k b e) e.loads
@@ -58,20 +58,20 @@ has_words k set (w ∷ ws) b l =
     ∙ (ap (λ x. x || list_any (λ v. may_show (lane_of k v) b) ws) (has_lane set (lane_of k w) b l)
     ∙ or_assoc (has set b) (may_show (lane_of k w) b) (list_any (λ v. may_show (lane_of k v) b) ws))
 
-has_load : (number k : ℕ) (e : Branch) (set : ByteSet) (l : WatchedLoad) (b : ℕ) → b < 256
+has_load : (number k : ℕ) (e : Branch) (set : ByteSet) (l : Watched) (b : ℕ) → b < 256
     → has (with_load_bytes number k e set l) b ≡ (has set b || shows_load number k b e l)
 has_load number k e set l b lt = elim (cases_Bool (is_watched number l)) [
   | inr f ↦ rw f (sym (or_none (has set b)))
   | inl t ↦
-      let past : Bool = list_any (λ w. may_show (lane_of k w) b) (drop l.since e.path) in
-      let r : has (with_words k (with_lane set (lane_of k e.word)) (drop l.since e.path)) b ≡
+      let past : Bool = list_any (λ w. may_show (lane_of k w) b) l.words in
+      let r : has (with_words k (with_lane set (lane_of k e.word)) l.words) b ≡
       (has set b || (may_show (lane_of k e.word) b || past)) =
-      has_words k (with_lane set (lane_of k e.word)) (drop l.since e.path) b lt
+      has_words k (with_lane set (lane_of k e.word)) l.words b lt
       ∙ (ap (λ x. x || past) (has_lane set (lane_of k e.word) b lt) ∙ or_assoc (has set b) (may_show (lane_of k e.word) b) past) in
       rw t r
 ]
 
-has_loads : (number k : ℕ) (e : Branch) (set : ByteSet) (ls : List WatchedLoad) (b : ℕ) → b < 256
+has_loads : (number k : ℕ) (e : Branch) (set : ByteSet) (ls : List Watched) (b : ℕ) → b < 256
     → has (fold (with_load_bytes number k e) set ls) b ≡ (has set b || list_any (shows_load number k b e) ls)
 has_loads number k e set [] b l = sym (or_none (has set b))
 has_loads number k e set (x ∷ xs) b l =
@@ -110,15 +110,12 @@ has_byte_set number k es b l =
 
 -- What is shown may be got. ----
 
-abbrev IsSound : (UnitMemory → Type 0) → Branch → Type 0
-IsSound P e = IsTimely e × ((m : UnitMemory) → IsOn e m → P m)
-
-abbrev not_yet : WatchedLoad → OpenLoad
+abbrev not_yet : Watched → OpenLoad
 not_yet l = record { number = l.number; address = l.address; got = None }
 
-watched_not_yet : (w : Word) (path : List Word) (ls : List WatchedLoad) → AreWatched w path ls (map not_yet ls)
-watched_not_yet w path [] = tt
-watched_not_yet w path (l ∷ ls) = ((refl, refl, tt), watched_not_yet w path ls)
+watched_not_yet : (w : Word) (ls : List Watched) → AreWatched w ls (map not_yet ls)
+watched_not_yet w [] = tt
+watched_not_yet w (l ∷ ls) = ((refl, refl, tt), watched_not_yet w ls)
 
 past_word : (p : Word → Bool) (xs : List Word) → list_any p xs ≡ true → (v : Word) × (p v ≡ true) × One (λ y. v ≡ y) xs
 past_word p [] h = cc
@@ -127,12 +124,12 @@ past_word p (x ∷ xs) h = elim (cases_Bool (p x)) [
   | inr f ↦ let r = past_word p xs (rw f at h) in (r.0, r.1, inr r.2)
 ]
 
-shown_word : (k b : ℕ) (e : Branch) (l : WatchedLoad)
-    → (may_show (lane_of k e.word) b || list_any (λ w. may_show (lane_of k w) b) (drop l.since e.path)) ≡ true
-    → (v : Word) × (may_show (lane_of k v) b ≡ true) × MayHaveGot e.word (drop l.since e.path) (Some v)
+shown_word : (k b : ℕ) (e : Branch) (l : Watched)
+    → (may_show (lane_of k e.word) b || list_any (λ w. may_show (lane_of k w) b) l.words) ≡ true
+    → (v : Word) × (may_show (lane_of k v) b ≡ true) × MayHaveGot e.word l.words (Some v)
 shown_word k b e l h = elim (cases_Bool (may_show (lane_of k e.word) b)) [
   | inl t ↦ (e.word, t, inl refl)
-  | inr f ↦ let r = past_word (λ w. may_show (lane_of k w) b) (drop l.since e.path) (rw f at h) in (r.0, r.1, inr r.2)
+  | inr f ↦ let r = past_word (λ w. may_show (lane_of k w) b) l.words (rw f at h) in (r.0, r.1, inr r.2)
 ]
 
 or_left_true : (a b : Bool) → a ≡ true → (a || b) ≡ true
@@ -143,18 +140,18 @@ or_right_true : (a b : Bool) → b ≡ true → (a || b) ≡ true
 or_right_true true b h = refl
 or_right_true false b h = h
 
-with_got : (number k b : ℕ) (e : Branch) (ls : List WatchedLoad) → list_any (shows_load number k b e) ls ≡ true
-    → (ms : List OpenLoad) × AreWatched e.word e.path ls ms × (list_any (got_byte number k b) ms ≡ true)
+with_got : (number k b : ℕ) (e : Branch) (ls : List Watched) → list_any (shows_load number k b e) ls ≡ true
+    → (ms : List OpenLoad) × AreWatched e.word ls ms × (list_any (got_byte number k b) ms ≡ true)
 with_got number k b e [] h = cc
 with_got number k b e (l ∷ ls) h = elim (cases_Bool (shows_load number k b e l)) [
   | inl t ↦
       let p = and_parts (is_watched number l)
-      (may_show (lane_of k e.word) b || list_any (λ w. may_show (lane_of k w) b) (drop l.since e.path)) t in
+      (may_show (lane_of k e.word) b || list_any (λ w. may_show (lane_of k w) b) l.words) t in
       let v = shown_word k b e l p.1 in
       let m : OpenLoad = record { number = l.number; address = l.address; got = Some v.0 } in
       let got : got_byte number k b m ≡ true = and_from (is_load number m) (may_show (lane_of k v.0) b) p.0 v.1 in (
         m ∷ map not_yet ls,
-        ((refl, refl, v.2), watched_not_yet e.word e.path ls),
+        ((refl, refl, v.2), watched_not_yet e.word ls),
         or_left_true (got_byte number k b m)
             (list_any (got_byte number k b) (map not_yet ls)) got,
       )
@@ -163,7 +160,7 @@ with_got number k b e (l ∷ ls) h = elim (cases_Bool (shows_load number k b e l
       (not_yet l ∷ r.0, (first, r.1), or_right_true (got_byte number k b (not_yet l)) (list_any (got_byte number k b) r.0) r.2)
 ]
   where
-    first : IsWatched e.word e.path l (not_yet l)
+    first : IsWatched e.word l (not_yet l)
     first = (refl, refl, tt)
 
 shown_got : (number k b : ℕ) (P : UnitMemory → Type 0) (e : Branch) → IsSound P e → shows number k b e ≡ true
@@ -171,7 +168,7 @@ shown_got : (number k b : ℕ) (P : UnitMemory → Type 0) (e : Branch) → IsSo
 shown_got number k b P e s h =
     let r = with_got number k b e e.loads h in
     let m : UnitMemory = record { word = e.word; stores = e.stores; loads = r.0 } in
-    (m, s.1 m (record { word = refl; stores = refl; loads = r.1 }), r.2)
+    (m, s m (record { word = refl; stores = refl; loads = r.1 }), r.2)
 
 any_got : (number k b : ℕ) (P : UnitMemory → Type 0) (es : List Branch) → Each (IsSound P) es → list_any (shows number k b) es ≡ true
     → (m : UnitMemory) × P m × (list_any (got_byte number k b) m.loads ≡ true)
@@ -187,7 +184,7 @@ reached_got : (number k b : ℕ) (P : UnitMemory → Type 0) → IsKept (IsSound
 reached_got number k b P kept zero es a h = cc
 reached_got number k b P kept (suc n) es a h =
     let next : List Branch = next_after never es in
-    let each : Each (IsSound P) next = next_sound (IsSound P) kept never [] es tt a in
+    let each : Each (IsSound P) next = next_sound (IsSound P) (joined_sound P) kept never [] es tt a in
     elim (cases_Bool (list_any (shows number k b) next)) [
       | inl t ↦ any_got number k b P next each t
       | inr f ↦ reached_got number k b P kept n next each (rw f at h)
@@ -200,17 +197,17 @@ past_shown p v [] t h = absurd h
 past_shown p v (x ∷ xs) t (inl e) = or_left_true (p x) (list_any p xs) (ap p (sym e) ∙ t)
 past_shown p v (x ∷ xs) t (inr h) = or_right_true (p x) (list_any p xs) (past_shown p v xs t h)
 
-got_shown : (k b : ℕ) (e : Branch) (l : WatchedLoad) (g : Option Word) → has_got k b g ≡ true → MayHaveGot e.word (drop l.since e.path) g
-    → (may_show (lane_of k e.word) b || list_any (λ w. may_show (lane_of k w) b) (drop l.since e.path)) ≡ true
+got_shown : (k b : ℕ) (e : Branch) (l : Watched) (g : Option Word) → has_got k b g ≡ true → MayHaveGot e.word l.words g
+    → (may_show (lane_of k e.word) b || list_any (λ w. may_show (lane_of k w) b) l.words) ≡ true
 got_shown k b e l None t h = cc
 got_shown k b e l (Some v) t (inl same) =
-    or_left_true (may_show (lane_of k e.word) b) (list_any (λ w. may_show (lane_of k w) b) (drop l.since e.path))
+    or_left_true (may_show (lane_of k e.word) b) (list_any (λ w. may_show (lane_of k w) b) l.words)
     (ap (λ w. may_show (lane_of k w) b) (sym same) ∙ t)
 got_shown k b e l (Some v) t (inr past) =
-    or_right_true (may_show (lane_of k e.word) b) (list_any (λ w. may_show (lane_of k w) b) (drop l.since e.path))
-    (past_shown (λ w. may_show (lane_of k w) b) v (drop l.since e.path) t past)
+    or_right_true (may_show (lane_of k e.word) b) (list_any (λ w. may_show (lane_of k w) b) l.words)
+    (past_shown (λ w. may_show (lane_of k w) b) v l.words t past)
 
-loads_show : (number k b : ℕ) (e : Branch) (ls : List WatchedLoad) (ms : List OpenLoad) → AreWatched e.word e.path ls ms
+loads_show : (number k b : ℕ) (e : Branch) (ls : List Watched) (ms : List OpenLoad) → AreWatched e.word ls ms
     → list_any (got_byte number k b) ms ≡ true
     → list_any (shows_load number k b e) ls ≡ true
 loads_show number k b e [] [] a h = cc
@@ -222,7 +219,7 @@ loads_show number k b e (l ∷ ls) (m ∷ ms) a h = elim (cases_Bool (got_byte n
       let there : is_watched number l ≡ true = ap (λ i. i == number) a.0.0 ∙ p.0 in
       or_left_true (shows_load number k b e l) (list_any (shows_load number k b e) ls)
       (and_from (is_watched number l)
-      (may_show (lane_of k e.word) b || list_any (λ w. may_show (lane_of k w) b) (drop l.since e.path)) there
+      (may_show (lane_of k e.word) b || list_any (λ w. may_show (lane_of k w) b) l.words) there
       (got_shown k b e l m.got p.1 a.0.2))
   | inr f ↦ or_right_true (shows_load number k b e l) (list_any (shows_load number k b e) ls)
       (loads_show number k b e ls ms a.1 (rw f at h))
@@ -235,30 +232,32 @@ one_any p (e ∷ es) (inr h) = or_right_true (p e) (list_any p es) (one_any p es
 
 -- a way that leads to a state at which it is shown comes to one that shows it
 leads_reached : (p : Branch → Bool) (m : UnitMemory) → ((x : Branch) → IsOn x m → p x ≡ true) → (n : ℕ) (es : List Branch)
-    → Each IsTimely es → One (LeadsWithin m (suc n)) es → (list_any p es || is_reached p n es) ≡ true
-leads_reached p m g zero es t h =
+    → One (LeadsWithin m (suc n)) es → (list_any p es || is_reached p n es) ≡ true
+leads_reached p m g zero es h =
     or_left_true (list_any p es) false
     (one_any p es (one_weaker (LeadsWithin m 1) (λ e. p e ≡ true)
     (λ e l. elim (leads_split m zero e l) [
       | inl o ↦ g e o
       | inr o ↦ absurd (one_none (effects e) (one_weaker (LeadsWithin m zero) (λ x. ⊥) (none_within m) (effects e) o))
     ]) es h))
-leads_reached p m g (suc n) es t h =
-    let either : One (λ e. (p e ≡ true) ⊎ ((never e ≡ false) × One (LeadsWithin m (suc n)) (effects e))) es =
-    one_weaker (LeadsWithin m (suc (suc n))) (λ e. (p e ≡ true) ⊎ ((never e ≡ false) × One (LeadsWithin m (suc n)) (effects e)))
-    (λ e l. elim (leads_split m (suc n) e l) [ inl o ↦ inl (g e o) | inr o ↦ inr (refl, o) ]) es h in
-    elim (one_or (λ e. p e ≡ true) (λ e. (never e ≡ false) × One (LeadsWithin m (suc n)) (effects e)) es either) [
+leads_reached p m g (suc n) es h =
+    let There : Branch → Type 0 = λ e. (never.goal e ≡ false) × One (LeadsWithin m (suc n)) (filter never.hope (effects e)) in
+    let either : One (λ e. (p e ≡ true) ⊎ There e) es =
+    one_weaker (LeadsWithin m (suc (suc n))) (λ e. (p e ≡ true) ⊎ There e)
+    (λ e l. elim (leads_split m (suc n) e l) [
+      | inl o ↦ inl (g e o)
+      | inr o ↦ inr (refl, one_hopes m never (λ x r. refl) (suc n) (effects e) o)
+    ]) es h in
+    elim (one_or (λ e. p e ≡ true) There es either) [
       | inl a ↦ or_left_true (list_any p es) (is_reached p (suc n) es) (one_any p es a)
       | inr b ↦ or_right_true (list_any p es) (is_reached p (suc n) es)
-          (leads_reached p m g n (next_after never es) (next_sound IsTimely kept_timely never [] es tt t)
-          (next_finds (LeadsWithin m (suc n)) (carried_within m (suc n)) never [] es tt t b))
+          (leads_reached p m g n (next_after never es) (next_finds (LeadsWithin m (suc n)) (carried_within m (suc n)) never [] es b))
     ]
 
 -- One unit. ----
 
 kept_sound : (P : UnitMemory → Type 0) → ((m n : UnitMemory) → P m → HiddenStep m n → P n) → IsKept (IsSound P)
-kept_sound P closed e before s after h split o =
-    (timely_effect e before s after h.0, sound_effect P closed e before s after h.0 h.1 split o)
+kept_sound P closed e before s after h split o = sound_effect P closed e before s after h split o
 
 or_either : (a b : Bool) → (a || b) ≡ true → (a ≡ true) ⊎ (b ≡ true)
 or_either true b h = inl refl
@@ -274,7 +273,7 @@ unit_set image rest history unit es s number k b l =
     let P : UnitMemory → Type 0 = MayBe unit (untouched image rest unit) history in
     let closed : (m n : UnitMemory) → P m → HiddenStep m n → P n = λ m n r step. steps history m n r step in
     let same = has_byte_set number k es b l in
-    let sound : Each (IsSound P) es = each_both IsTimely (λ e. (m : UnitMemory) → IsOn e m → P m) es s.timely s.sound in (
+    let sound : Each (IsSound P) es = s.sound in (
       λ h. elim (or_either (list_any (shows number k b) es) (is_reached (shows number k b) (rounds es) es) (sym same ∙ h)) [
         | inl t ↦ any_got number k b P es sound t
         | inr t ↦ reached_got number k b P (kept_sound P closed) (rounds es) es sound t
@@ -284,7 +283,7 @@ unit_set image rest history unit es s number k b l =
           one_weaker (λ e. Leads e g.0 × (undone e.stores ≤ rounds es)) (LeadsWithin g.0 (suc (rounds es)))
           (λ e p. (p.0, within (undone e.stores) (rounds es) p.1)) es (one_rounds (λ e. Leads e g.0) 0 es (s.complete g.0 g.1)) in
           same
-          ∙ leads_reached (shows number k b) g.0 (λ x o. loads_show number k b x x.loads g.0.loads o.loads g.2) (rounds es) es s.timely way,
+          ∙ leads_reached (shows number k b) g.0 (λ x o. loads_show number k b x x.loads g.0.loads o.loads g.2) (rounds es) es way,
     )
 
 -- All bytes of a load. ----

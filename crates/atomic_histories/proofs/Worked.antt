@@ -8,7 +8,7 @@ use Rattle.memory_histories.specs.declared.events.Rest.TheVariants.{Zeros, Unkno
 use Rattle.atomic_histories.specs.declared.unit.UnitPlace.{UnitPlace}
 use Rattle.atomic_histories.specs.Words.{written, is_word_of}
 use Rattle.atomic_histories.specs.Law.{IsAtomicAt, untouched}
-use Rattle.atomic_histories.specs.Branches.{Branch, first_branch, branches_after, answered, covers}
+use Rattle.atomic_histories.specs.Branches.{Branch, first_branch, branches_after, answered, covers, joins}
 use Rattle.atomic_histories.specs.Stands.{StandsFor}
 use Rattle.atomic_histories.proofs.Exact.{stands_by, some_state, no_state}
 
@@ -56,35 +56,35 @@ two_stores = StoreRequest 1 4096 (bytes (17 ∷ 17 ∷ [])) 3 ∷ StoreRequest 2
 
 -- while a store is open, loads may see what was there before, then what it stores
 pub old_then_new : IsAtomicAt [] Zeros pair (StoreRequest 1 4096 (bytes (90 ∷ [])) 1 ∷ [] ++ load 1 1 (0 ∷ []) ++ load 2 1 (90 ∷ []))
-unfolding written is_word_of answered covers
+unfolding written is_word_of answered covers joins
 old_then_new = passes (StoreRequest 1 4096 (bytes (90 ∷ [])) 1 ∷ [] ++ load 1 1 (0 ∷ []) ++ load 2 1 (90 ∷ [])) refl
 
 -- new then old: one load sees the store, and a later one doesn't. The regular law lets it through
 pub new_then_old : ¬ (IsAtomicAt [] Zeros pair (StoreRequest 1 4096 (bytes (90 ∷ [])) 1 ∷ [] ++ load 1 1 (90 ∷ []) ++ load 2 1 (0 ∷ [])))
-unfolding written is_word_of answered covers
+unfolding written is_word_of answered covers joins
 new_then_old = stops (StoreRequest 1 4096 (bytes (90 ∷ [])) 1 ∷ [] ++ load 1 1 (90 ∷ []) ++ load 2 1 (0 ∷ [])) refl
 
 -- two overlapping stores: a load behind them sees either, and not what stood there before
 pub the_first_of_two : IsAtomicAt [] Zeros pair (two_stores ++ load 1 2 (17 ∷ 17 ∷ []))
-unfolding written is_word_of answered covers
+unfolding written is_word_of answered covers joins
 the_first_of_two = passes (two_stores ++ load 1 2 (17 ∷ 17 ∷ [])) refl
 
 pub the_second_of_two : IsAtomicAt [] Zeros pair (two_stores ++ load 1 2 (34 ∷ 34 ∷ []))
-unfolding written is_word_of answered covers
+unfolding written is_word_of answered covers joins
 the_second_of_two = passes (two_stores ++ load 1 2 (34 ∷ 34 ∷ [])) refl
 
 pub none_of_two : ¬ (IsAtomicAt [] Zeros pair (two_stores ++ load 1 2 (0 ∷ 0 ∷ [])))
-unfolding written is_word_of answered covers
+unfolding written is_word_of answered covers joins
 none_of_two = stops (two_stores ++ load 1 2 (0 ∷ 0 ∷ [])) refl
 
 -- a torn word: no order gives it. The regular law lets it through
 pub a_torn_word : ¬ (IsAtomicAt [] Zeros pair (two_stores ++ load 1 2 (17 ∷ 34 ∷ [])))
-unfolding written is_word_of answered covers
+unfolding written is_word_of answered covers joins
 a_torn_word = stops (two_stores ++ load 1 2 (17 ∷ 34 ∷ [])) refl
 
 -- two loads behind them see the same
 pub both_of_two : ¬ (IsAtomicAt [] Zeros pair (two_stores ++ load 1 2 (17 ∷ 17 ∷ []) ++ load 1 2 (34 ∷ 34 ∷ [])))
-unfolding written is_word_of answered covers
+unfolding written is_word_of answered covers joins
 both_of_two = stops (two_stores ++ load 1 2 (17 ∷ 17 ∷ []) ++ load 1 2 (34 ∷ 34 ∷ [])) refl
 
 -- a store of the first byte alone settles that byte, and leaves its neighbour's choice
@@ -92,16 +92,16 @@ abbrev one_byte_stored : List HistoryEvent
 one_byte_stored = two_stores ++ StoreRequest 3 4096 (bytes (51 ∷ 51 ∷ [])) 1 ∷ StoreResponse 3 ∷ []
 
 pub a_neighbour_stays : IsAtomicAt [] Zeros pair (one_byte_stored ++ load 1 2 (51 ∷ 34 ∷ []))
-unfolding written is_word_of answered covers
+unfolding written is_word_of answered covers joins
 a_neighbour_stays = passes (one_byte_stored ++ load 1 2 (51 ∷ 34 ∷ [])) refl
 
 pub a_byte_is_settled : ¬ (IsAtomicAt [] Zeros pair (one_byte_stored ++ load 1 2 (17 ∷ 17 ∷ [])))
-unfolding written is_word_of answered covers
+unfolding written is_word_of answered covers joins
 a_byte_is_settled = stops (one_byte_stored ++ load 1 2 (17 ∷ 17 ∷ [])) refl
 
 -- a byte that no store has covered may be anything, each time
 pub unknown_each_time : IsAtomicAt [] Unknown pair (load 1 2 (1 ∷ 2 ∷ []) ++ load 1 2 (3 ∷ 4 ∷ []))
-unfolding written is_word_of answered covers
+unfolding written is_word_of answered covers joins
 unknown_each_time = unknown_passes (load 1 2 (1 ∷ 2 ∷ []) ++ load 1 2 (3 ∷ 4 ∷ [])) refl
 
 -- a load that is open while a store is answered may have got either word, and which one it got binds the loads behind it
@@ -110,7 +110,7 @@ pub an_open_load_binds : ¬
     (StoreRequest 1 4096 (bytes (17 ∷ 17 ∷ [])) 3 ∷ StoreRequest 2 4096
     (bytes (34 ∷ 34 ∷ [])) 3 ∷ StoreResponse 1 ∷ LoadRequest 1 4096 2 ∷ LoadResponse 1
     (bytes (34 ∷ 34 ∷ [])) ∷ LoadRequest 2 4096 2 ∷ LoadResponse 2 (bytes (17 ∷ 17 ∷ [])) ∷ []))
-unfolding written is_word_of answered covers
+unfolding written is_word_of answered covers joins
 an_open_load_binds = stops
     (StoreRequest 1 4096 (bytes (17 ∷ 17 ∷ [])) 3 ∷ StoreRequest 2 4096
     (bytes (34 ∷ 34 ∷ [])) 3 ∷ StoreResponse 1 ∷ LoadRequest 1 4096 2 ∷ LoadResponse 1

@@ -1,6 +1,5 @@
 -- Marks of pairs: numbers by which ways are found. Ways to one pair have one mark.
-use Rattle.std.specs.Prelude.{ℕ, ◌≡◌, ◌+◌, ◌*◌, ◌%◌, ◌≤◌, ◌==◌, length, true, if◌then◌else◌, List, Option, Some, None, is_some, nat_eq}
-use Rattle.std.specs.HashMap.{get}
+use Rattle.std.specs.Prelude.{ℕ, ◌≡◌, ◌+◌, ◌*◌, ◌%◌, ◌≤◌, ◌==◌, length, true, if◌then◌else◌, suc, List, [], ◌∷◌, map, Option, Some, None, is_some}
 use Rattle.std.specs.List.{fold}
 use Rattle.atomic_histories.specs.declared.unit.OpenStore.{OpenStore}
 use Rattle.atomic_histories.specs.declared.ways.TheConstants.{MIXER}
@@ -35,6 +34,11 @@ AreMarked places es = Each (λ e. is_some (places (mark_of e)) ≡ true) es
 abbrev pub IsNoted : (ℕ → Option ℕ) → ℕ → ℕ → (ℕ → Option ℕ) → Type 0
 IsNoted f mark place g = (k : ℕ) → g k ≡ (if mark == k then Some place else f k)
 
--- of the mark of each of its ways a place is noted, once there are so many
+-- how many marks stand before the first that is this one
+abbrev pub before_mark : ℕ → List ℕ → ℕ
+before_mark mark [] = 0
+before_mark mark (m ∷ ms) = if m == mark then 0 else suc (before_mark mark ms)
+
+-- the marks of the ways are kept, once there are so many
 abbrev pub IsFollowed : Followed → Type 0
-IsFollowed s = MARKED ≤ length s.ways.items → AreMarked (get nat_eq s.places) (shown_all s.ways.items)
+IsFollowed s = MARKED ≤ length s.ways.items → s.marks.items ≡ map mark_of (shown_all s.ways.items)

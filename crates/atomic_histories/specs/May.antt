@@ -1,5 +1,5 @@
 -- What an open load may return: of each byte for itself.
-use Rattle.std.specs.Prelude.{ℕ, zero, suc, ◌≡◌, ◌+◌, ◌*◌, ◌/◌, ◌%◌, ◌<◌, ◌⊎◌, ◌↔◌, min, Bool, true, false, ◌&&◌, ◌||◌, if◌then◌else◌, ◌==◌, nat_lt, nat_le, List, [], ◌∷◌, drop, length, get_or, Option, Some, None, slice_get}
+use Rattle.std.specs.Prelude.{ℕ, zero, suc, ◌≡◌, ◌+◌, ◌*◌, ◌/◌, ◌%◌, ◌<◌, ◌⊎◌, ◌↔◌, min, Bool, true, false, ◌&&◌, ◌||◌, if◌then◌else◌, ◌==◌, nat_lt, nat_le, List, [], ◌∷◌, length, get_or, Option, Some, None, slice_get}
 use Rattle.std.specs.List.{list_any, fold, find}
 use Rattle.memory_histories.specs.declared.events.HistoryEvent.{HistoryEvent}
 use Rattle.memory_histories.specs.declared.events.HistoryFault.TheVariants.{NotOpen}
@@ -7,13 +7,12 @@ use Rattle.memory_histories.specs.declared.events.Rest.{Rest}
 use Rattle.memory_histories.specs.declared.sets.ByteSet.{ByteSet}
 use Rattle.memory_histories.specs.Sets.{has, with_byte, no_bytes, all_bytes}
 use Rattle.atomic_histories.specs.declared.unit.Operation.{Operation}
-use Rattle.atomic_histories.specs.declared.unit.WatchedLoad.{WatchedLoad}
 use Rattle.atomic_histories.specs.declared.unit.UnitPlace.{UnitPlace}
 use Rattle.atomic_histories.specs.declared.memory.AtomicFault.{AtomicFault}
 use Rattle.atomic_histories.specs.declared.memory.AtomicFault.TheVariants.{Refused, Undecided, OutOfMemory}
 use Rattle.atomic_histories.specs.Operations.{opened_by, has_number}
 use Rattle.atomic_histories.specs.Law.{OpenLoad, UnitMemory, MayBe, untouched, unit_at, is_load}
-use Rattle.atomic_histories.specs.Branches.{Branch, is_watched, next_after, rounds, are_too_many}
+use Rattle.atomic_histories.specs.Branches.{Watched, Branch, is_watched, never, next_after, rounds, are_too_many}
 use Rattle.atomic_histories.specs.Held.{Held, has_way, is_lost}
 
 -- In the law's words. ----
@@ -69,9 +68,6 @@ IsSetOf lost image rest size history number a (Some set) =
 
 -- On the ways that are followed. ----
 
-abbrev pub never : Branch → Bool
-never e = false
-
 abbrev pub with_lane : ByteSet → Option ℕ → ByteSet
 with_lane set (Some b) = with_byte set b
 with_lane set None = all_bytes
@@ -80,9 +76,9 @@ abbrev pub with_words : ℕ → ByteSet → List (List (Option ℕ)) → ByteSet
 with_words k set words = fold (λ s w. with_lane s (lane_of k w)) set words
 
 -- what a load may have got on a way
-abbrev pub with_load_bytes : ℕ → ℕ → Branch → ByteSet → WatchedLoad → ByteSet
+abbrev pub with_load_bytes : ℕ → ℕ → Branch → ByteSet → Watched → ByteSet
 with_load_bytes number k e set l =
-    if is_watched number l then with_words k (with_lane set (lane_of k e.word)) (drop l.since e.path) else set
+    if is_watched number l then with_words k (with_lane set (lane_of k e.word)) l.words else set
 
 abbrev pub with_way_bytes : ℕ → ℕ → ByteSet → Branch → ByteSet
 with_way_bytes number k set e = fold (with_load_bytes number k e) set e.loads

@@ -33,7 +33,7 @@ fn take_alone(
             length,
         } => {
             if is_at(place, address, length) {
-                way.open_load(number, address)?;
+                way.open_load(alloc, number, address)?;
             }
             Ok(true)
         }
@@ -68,7 +68,7 @@ pub(crate) fn take_at_once(
     ensures ok { IfOk result (λ taken. IsUnitTaken place event.entry (shown_unit unit.old) (shown_unit unit.new) taken) }
     ensures err { OnErr result (shown_unit unit.new ≡ shown_unit unit.old) }
 {
-    if limit == 0 || unit.ways.len() != 1 || unit.ways[0].path.len() >= MOST_WORDS {
+    if limit == 0 || unit.ways.len() != 1 || unit.ways[0].words_before() >= MOST_WORDS {
         return Ok(false);
     }
     take_alone(alloc, place, &mut unit.ways[0], event)

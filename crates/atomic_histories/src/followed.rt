@@ -1,28 +1,27 @@
 //! Ways that are followed, found by the marks of their pairs.
 
-ghost use Rattle.std.specs.Prelude.{◌≡◌, ◌+◌, ◌≤◌, ◌<◌, ◌^◌, [], nat_eq, if◌then◌else◌, drop, length, not, IfOk, OnOk};
+ghost use Rattle.std.specs.Prelude.{◌≡◌, ◌==◌, ◌+◌, ◌-◌, ◌≤◌, ◌<◌, ◌++◌, ◌^◌, [], nat_eq, if◌then◌else◌, take, drop, length, map, IfOk, OnOk};
 ghost use Rattle.std.specs.HashMap.{get};
-ghost use Rattle.std.specs.List.{filter, list_any};
-ghost use Rattle.atomic_histories.specs.Branches.{with_branch, is_same_pair, covers, pairs};
+ghost use Rattle.std.specs.List.{list_any, remove};
+ghost use Rattle.atomic_histories.specs.Branches.{with_other, with_branch, is_same_pair, covers, pairs};
 ghost use Rattle.atomic_histories.specs.declared.followed.TheConstants.{MARKED};
-ghost use Rattle.atomic_histories.specs.Marks.{mark_of, AreMarked, IsFollowed, IsNoted};
+ghost use Rattle.atomic_histories.specs.Marks.{mark_of, before_mark, AreMarked, IsFollowed, IsNoted};
 ghost use Rattle.atomic_histories.specs.Shown.{shown, shown_all};
 
 use crate::ways::Way;
 use std::alloc::{AllocError, Global};
 use std::collections::HashMap;
 
-// From so many ways on their marks are noted. Fewer are compared one by one, so that the searches which find no more
-// need no table.
+// From so many ways on their marks are kept beside them. Fewer are compared one by one, so that the searches which
+// find no more need no marks.
 pub(crate) const MARKED: usize = 8;
 
-// Ways of which none leads wherever another leads. Of those with one mark the place of one is noted, once there are
-// many, as it was when that came: a new way is compared with the one at that place first, and with none if its mark
-// is new.
+// Ways of which none leads wherever another leads, and no two are to be one. Once there are many, a new way is compared
+// with those alone that have its mark.
 #[derive(Drop)]
 pub(crate) struct Followed {
     pub(crate) ways: Vec<Way>,
-    places: HashMap<u64, usize>,
+    marks: Vec<u64>,
 }
 
 // A place is noted for a mark.
@@ -47,35 +46,141 @@ fn is_covered(ways: &[Way], way: &Way) -> bool
     ways.iter().any(|other| other.covers(way))
 }
 
-// The same, where it is likely the one at a place.
-#[tactic(auto, using(crate::proofs::Marks::any_at))]
-fn is_covered_near(ways: &[Way], way: &Way, place: usize) -> bool
-    ensures { result ≡ list_any (λ w. covers (shown w) (shown way.now)) ways.now }
+// A way meets the one at a place, which goes if the way leads wherever it leads, or if they are joined. The place to go
+// on from is returned.
+#[tactic(auto, using(crate::proofs::Merges::passed, crate::proofs::Merges::passed_other, crate::proofs::Merges::dropped, crate::proofs::Merges::taken_in, crate::proofs::Marks::removed_mark, crate::proofs::Marks::both_mark))]
+fn merge_at(ways: &mut Vec<Way>, way: &mut Way, i: usize) -> Result<usize, AllocError>
+    requires { i < length ways.old.items }
+    ensures same { IfOk result (λ next. take next (shown_all ways.new.items) ++ with_other (drop next (shown_all ways.new.items)) (shown way.new) ≡ take i (shown_all ways.old.items) ++ with_other (drop i (shown_all ways.old.items)) (shown way.old)) }
+    ensures fewer { IfOk result (λ next. next + length ways.old.items ≡ i + length ways.new.items + 1) }
+    ensures left { IfOk result (λ next. map mark_of (shown_all ways.new.items) ≡ (if next == i then remove (map mark_of (shown_all ways.old.items)) i else map mark_of (shown_all ways.old.items))) }
+    ensures mark { OnOk result (mark_of (shown way.new) ≡ mark_of (shown way.old)) }
 {
-    if place < ways.len() && ways[place].covers(way) {
-        return true;
+    let other = &ways[i];
+    if !way.is_same_pair(other) {
+        return Ok(i + 1);
     }
-    is_covered(ways, way)
+    if way.covers_of_pair(other) {
+        let _covered = ways.remove(i);
+        return Ok(i);
+    }
+    if !other.joins_of_pair(way) {
+        return Ok(i + 1);
+    }
+    let mut both = ways.remove(i);
+    both.join(way)?;
+    *way = both;
+    Ok(i)
 }
 
-// Those of the ways that lead elsewhere than this one.
-fn keep_others(ways: &mut Vec<Way>, way: &Way)
-    ensures { shown_all ways.new.items ≡ filter (λ f. not (covers (shown way.now) f)) (shown_all ways.old.items) }
+// One more way, without those that it leads wherever they lead, and joined with those with which it may be.
+fn merge(ways: &mut Vec<Way>, way: Way) -> Result<(), AllocError>
+    ensures { OnOk result (shown_all ways.new.items ≡ with_other (shown_all ways.old.items) (shown way)) }
 {
-    ways.retain(|other| !way.covers(other));
+    let mut merged = way;
+    let mut i = 0;
+    while i < ways.len() {
+        i = merge_at(ways, &mut merged, i)?;
+    }
+    ways.push(merged)?;
+    Ok(())
 }
 
-// The marks of these ways are noted.
-fn note_ways(places: &mut HashMap<u64, usize>, ways: &[Way]) -> Result<(), AllocError>
-    ensures { OnOk result (AreMarked (get nat_eq places.new) (shown_all ways.now)) }
+// Where the first of these marks from a place on stands that is this one, or how many they are.
+#[tactic(auto, using(crate::proofs::Marks::mark_here, crate::proofs::Marks::mark_later, crate::proofs::Marks::no_mark))]
+fn next_with(marks: &[u64], from: usize, mark: u64) -> usize
+    requires { from ≤ length marks.now }
+    ensures place { result ≡ from + before_mark mark (drop from marks.now) }
+    ensures least { from ≤ result }
+    ensures most { result ≤ length marks.now }
 {
-    let mut left = ways.len();
-    while left > 0 {
-        let at = left - 1;
-        let way = &ways[at];
-        let mark = way.mark();
-        note(places, mark, at)?;
-        left = at;
+    let mut at = from;
+    while at < marks.len() {
+        if marks[at] == mark {
+            return at;
+        }
+        at += 1;
+    }
+    at
+}
+
+// Whether one of these ways leads wherever this one leads: none does without its mark.
+fn is_covered_by_marked(ways: &[Way], marks: &[u64], way: &Way, mark: u64) -> bool
+    requires marks { marks.now ≡ map mark_of (shown_all ways.now) }
+    requires mark { mark ≡ mark_of (shown way.now) }
+    ensures { result ≡ list_any (λ f. covers f (shown way.now)) (shown_all ways.now) }
+{
+    let mut from = 0;
+    while from < ways.len() {
+        let at = next_with(marks, from, mark);
+        if at == ways.len() {
+            return false;
+        }
+        if ways[at].covers(way) {
+            return true;
+        }
+        from = at + 1;
+    }
+    false
+}
+
+// A way meets the next of those with its mark, from a place on.
+fn meet_next(
+    ways: &mut Vec<Way>,
+    marks: &mut Vec<u64>,
+    way: &mut Way,
+    mark: u64,
+    i: usize,
+) -> Result<usize, AllocError>
+    requires place { i < length ways.old.items }
+    requires marks { marks.old.items ≡ map mark_of (shown_all ways.old.items) }
+    requires mark { mark ≡ mark_of (shown way.old) }
+    ensures same { IfOk result (λ next. take next (shown_all ways.new.items) ++ with_other (drop next (shown_all ways.new.items)) (shown way.new) ≡ take i (shown_all ways.old.items) ++ with_other (drop i (shown_all ways.old.items)) (shown way.old)) }
+    ensures fewer { IfOk result (λ next. i + length ways.new.items + 1 ≤ next + length ways.old.items) }
+    ensures most { IfOk result (λ next. next ≤ length ways.new.items) }
+    ensures marks { OnOk result (marks.new.items ≡ map mark_of (shown_all ways.new.items)) }
+    ensures mark { OnOk result (mark ≡ mark_of (shown way.new)) }
+{
+    let at = next_with(marks.as_slice(), i, mark);
+    if at == ways.len() {
+        return Ok(at);
+    }
+    let next = merge_at(ways, way, at)?;
+    if next == at {
+        let _mark = marks.remove(at);
+    }
+    Ok(next)
+}
+
+// One more way to those whose marks are kept, and its mark.
+fn merge_marked(
+    ways: &mut Vec<Way>,
+    marks: &mut Vec<u64>,
+    way: Way,
+    mark: u64,
+) -> Result<(), AllocError>
+    requires marks { marks.old.items ≡ map mark_of (shown_all ways.old.items) }
+    requires mark { mark ≡ mark_of (shown way) }
+    ensures ways { OnOk result (shown_all ways.new.items ≡ with_other (shown_all ways.old.items) (shown way)) }
+    ensures marks { OnOk result (marks.new.items ≡ map mark_of (shown_all ways.new.items)) }
+{
+    let mut merged = way;
+    let mut i = 0;
+    while i < ways.len() {
+        i = meet_next(ways, marks, &mut merged, mark, i)?;
+    }
+    ways.push(merged)?;
+    marks.push(mark)?;
+    Ok(())
+}
+
+// The marks of these ways.
+fn note_ways(marks: &mut Vec<u64>, ways: &[Way]) -> Result<(), AllocError>
+    ensures { OnOk result (marks.new.items ≡ map mark_of (shown_all ways.now)) }
+{
+    marks.clear();
+    for way in ways {
+        marks.push(way.mark())?;
     }
     Ok(())
 }
@@ -88,11 +193,11 @@ impl Followed {
     {
         Followed {
             ways: Vec::new(alloc),
-            places: HashMap::new(alloc),
+            marks: Vec::new(alloc),
         }
     }
 
-    // The marks are noted, once there are so many ways.
+    // The marks are kept, once there are so many ways.
     fn note_many(&mut self) -> Result<(), AllocError>
         ensures ways { OnOk result (self.new.ways ≡ self.old.ways) }
         ensures followed { OnOk result (IsFollowed self.new) }
@@ -100,32 +205,10 @@ impl Followed {
         if self.ways.len() < MARKED {
             return Ok(());
         }
-        note_ways(&mut self.places, self.ways.as_slice())
+        note_ways(&mut self.marks, self.ways.as_slice())
     }
 
-    // Whether a way leads wherever this one leads. If none does, those are dropped that lead nowhere else than
-    // this one.
-    #[tactic(auto, using(crate::proofs::Marks::others_marked))]
-    fn is_led(&mut self, way: &Way, mark: u64) -> bool
-        requires mark { mark ≡ mark_of (shown way.now) }
-        requires marked { AreMarked (get nat_eq self.old.places) (shown_all self.old.ways.items) }
-        ensures covered { result ≡ list_any (λ f. covers f (shown way.now)) (shown_all self.old.ways.items) }
-        ensures ways { shown_all self.new.ways.items ≡ (if result then shown_all self.old.ways.items else filter (λ f. not (covers (shown way.now) f)) (shown_all self.old.ways.items)) }
-        ensures marked { AreMarked (get nat_eq self.new.places) (shown_all self.new.ways.items) }
-    {
-        match place_of(&self.places, mark) {
-            None => false,
-            Some(place) => {
-                if is_covered_near(self.ways.as_slice(), way, place) {
-                    return true;
-                }
-                keep_others(&mut self.ways, way);
-                false
-            }
-        }
-    }
-
-    // One more way, if it leads anywhere else, in place of those that lead nowhere else.
+    // One more way, unless one leads wherever it leads.
     pub(crate) fn add(&mut self, way: Way) -> Result<(), AllocError>
         requires { IsFollowed self.old }
         ensures ways { OnOk result (shown_all self.new.ways.items ≡ with_branch (shown_all self.old.ways.items) (shown way)) }
@@ -138,8 +221,8 @@ impl Followed {
         }
     }
 
-    // To so few ways that their marks aren't noted.
-    #[tactic(auto, using(crate::proofs::Loops::shown_push, crate::proofs::Loops::covered_shown))]
+    // To so few ways that their marks aren't kept.
+    #[tactic(auto, using(crate::proofs::Loops::covered_shown))]
     fn add_to_few(&mut self, way: Way) -> Result<(), AllocError>
         requires { length self.old.ways.items < MARKED }
         ensures ways { OnOk result (shown_all self.new.ways.items ≡ with_branch (shown_all self.old.ways.items) (shown way)) }
@@ -148,26 +231,21 @@ impl Followed {
         if is_covered(self.ways.as_slice(), &way) {
             return Ok(());
         }
-        keep_others(&mut self.ways, &way);
-        self.ways.push(way)?;
+        merge(&mut self.ways, way)?;
         self.note_many()
     }
 
-    // To ways whose marks are noted.
-    #[tactic(auto, using(crate::proofs::Loops::shown_push))]
+    // To ways whose marks are kept.
     fn add_to_marked(&mut self, way: Way) -> Result<(), AllocError>
-        requires { AreMarked (get nat_eq self.old.places) (shown_all self.old.ways.items) }
+        requires { self.old.marks.items ≡ map mark_of (shown_all self.old.ways.items) }
         ensures ways { OnOk result (shown_all self.new.ways.items ≡ with_branch (shown_all self.old.ways.items) (shown way)) }
         ensures followed { OnOk result (IsFollowed self.new) }
     {
         let mark = way.mark();
-        if self.is_led(&way, mark) {
+        if is_covered_by_marked(self.ways.as_slice(), self.marks.as_slice(), &way, mark) {
             return Ok(());
         }
-        let place = self.ways.len();
-        note(&mut self.places, mark, place)?;
-        self.ways.push(way)?;
-        Ok(())
+        merge_marked(&mut self.ways, &mut self.marks, way, mark)
     }
 }
 

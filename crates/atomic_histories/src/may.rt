@@ -1,16 +1,17 @@
 //! What an open load may return, on the ways that a unit may have gone.
 
-ghost use Rattle.std.specs.Prelude.{◌≡◌, ◌<◌, [], drop, get_or, None, length, nat_lt, IfOk, IfErr};
+ghost use Rattle.std.specs.Prelude.{◌≡◌, ◌<◌, [], get_or, None, length, nat_lt, IfOk, IfErr};
 ghost use Rattle.std.specs.List.{fold};
 ghost use Rattle.memory_histories.specs.Sets.{no_bytes};
-ghost use Rattle.atomic_histories.specs.Branches.{next_after, rounds};
-ghost use Rattle.atomic_histories.specs.May.{never, with_lane, with_words, with_load_bytes, with_way_bytes, with_ways_bytes, reached_bytes, byte_set, is_reach_over, is_reach_wide, ways_set, lane_of};
-ghost use Rattle.atomic_histories.specs.Shown.{shown, shown_all, StopIs};
+ghost use Rattle.atomic_histories.specs.Branches.{never, next_after, rounds};
+ghost use Rattle.atomic_histories.specs.May.{with_lane, with_words, with_load_bytes, with_way_bytes, with_ways_bytes, reached_bytes, byte_set, is_reach_over, is_reach_wide, ways_set, lane_of};
+ghost use Rattle.atomic_histories.specs.Shown.{shown_load, shown, shown_all, StopIs};
 
 use crate::followed::Followed;
+use crate::loads::is_watched;
 use crate::search::{Stop, are_too_many, copied, round, rounds};
 use crate::unit::{WatchedLoad, Word};
-use crate::ways::{Wanted, Way, is_watched, words_from};
+use crate::ways::{Wanted, Way};
 use memory_histories::ByteSet;
 use std::alloc::{AllocError, Global};
 
@@ -37,17 +38,18 @@ fn with_words(set: ByteSet, words: &[Word], lane: usize) -> ByteSet
 // The set with what a load may have got on a way.
 fn with_load(set: ByteSet, way: &Way, load: &WatchedLoad, number: u64, lane: usize) -> ByteSet
     requires { lane < 8 }
-    ensures { result ≡ with_load_bytes number lane (shown way.now) set load.now }
+    ensures { result ≡ with_load_bytes number lane (shown way.now) set (shown_load load.now) }
 {
     if is_watched(load, number) {
         let set = with_lane(set, way.word[lane]);
-        with_words(set, words_from(way.path.as_slice(), load.since), lane)
+        with_words(set, load.before.as_slice(), lane)
     } else {
         set
     }
 }
 
 // The set with what the load under this number may have got on a way.
+#[tactic(auto, using(crate::proofs::Watching::fold_loads))]
 fn with_way(set: ByteSet, way: &Way, number: u64, lane: usize) -> ByteSet
     requires { lane < 8 }
     ensures { result ≡ with_way_bytes number lane set (shown way.now) }

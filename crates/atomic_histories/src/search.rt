@@ -1,10 +1,11 @@
 //! Lists of the ways that a unit may have gone, and what events make of them.
 
 ghost use Rattle.std.specs.Prelude.{◌≡◌, ◌+◌, ◌<◌, if◌then◌else◌, [], suc, map, take, drop, length, slice_index_or, IfOk, IfErr, OnOk};
+ghost use Rattle.std.specs.List.{filter};
 ghost use Rattle.atomic_histories.specs.declared.unit.OpenStore.{OpenStore};
-ghost use Rattle.atomic_histories.specs.Branches.{with_branch, effect_of, out_of, next_of, has_more_words, are_too_many, with_branches, effects, out_after, next_after, met, rounds, answered, needs_more, is_too_wide, branch_with_load, branch_with_store, branches_after};
+ghost use Rattle.atomic_histories.specs.Branches.{with_branch, with_hopeful, effect_of, out_of, next_of, has_more_words, are_too_many, with_branches, effects, out_after, next_after, met, rounds, answered, needs_more, is_too_wide, branch_with_load, branch_with_store, branches_after};
 ghost use Rattle.atomic_histories.specs.Marks.{IsFollowed};
-ghost use Rattle.atomic_histories.specs.Shown.{shown, shown_all, goal_of, without_of, StopIs};
+ghost use Rattle.atomic_histories.specs.Shown.{shown, shown_all, aim_of, goal_of, without_of, StopIs};
 
 use crate::followed::{Followed, pairs};
 use crate::unit::{UnitPlace, Word};
@@ -13,15 +14,15 @@ use crate::words::{has_byte, is_at, stored_word};
 use memory_histories::HistoryEvent;
 use std::alloc::{AllocError, Global};
 
-/// How many words that stood in a unit before now are kept at a time, on all ways that it may have gone
-/// together. A word is kept while a load is open that may have got it.
+/// How many words before the one of now are followed at a time, on all ways that a unit may have gone
+/// together. Of each way those count that the open load with the most of them may have got.
 pub const MOST_WORDS: usize = 65_536;
 
 /// Why there is no verdict.
 #[derive(Clone, Copy, PartialEq, Eq, Debug)]
 pub enum Stop {
     /// More pairs of a word and the stores in effect would have to be followed than the limit allows, or
-    /// more words before now be kept than [`MOST_WORDS`].
+    /// more words before now than [`MOST_WORDS`].
     TooManyWays,
     /// There was too little memory.
     NoMemory,
@@ -38,11 +39,18 @@ impl From<AllocError> for Stop {
     }
 }
 
-// The way on from this one on which store `i` takes effect is followed, unless it has taken effect.
-fn add_effect(alloc: Global, ways: &mut Followed, way: &Way, i: usize) -> Result<(), AllocError>
+// The way on from this one on which store `i` takes effect is followed, unless it has taken effect, or no more
+// stores could make the way what is wanted.
+fn add_effect(
+    alloc: Global,
+    ways: &mut Followed,
+    way: &Way,
+    i: usize,
+    wanted: Wanted,
+) -> Result<(), AllocError>
     requires place { i < length way.now.stores.items }
     requires followed { IsFollowed ways.old }
-    ensures ways { OnOk result ((d : OpenStore) → shown_all ways.new.ways.items ≡ (if (slice_index_or way.now.stores.items i d).is_done then shown_all ways.old.ways.items else with_branch (shown_all ways.old.ways.items) (effect_of (shown way.now) (take i way.now.stores.items) (slice_index_or way.now.stores.items i d) (drop (i + 1) way.now.stores.items)))) }
+    ensures ways { OnOk result ((d : OpenStore) → shown_all ways.new.ways.items ≡ (if (slice_index_or way.now.stores.items i d).is_done then shown_all ways.old.ways.items else with_hopeful (aim_of wanted.entry).hope (shown_all ways.old.ways.items) (effect_of (shown way.now) (take i way.now.stores.items) (slice_index_or way.now.stores.items i d) (drop (i + 1) way.now.stores.items)))) }
     ensures followed { OnOk result (IsFollowed ways.new) }
 {
     let store = way.stores[i];
@@ -50,18 +58,25 @@ fn add_effect(alloc: Global, ways: &mut Followed, way: &Way, i: usize) -> Result
         return Ok(());
     }
     let on = way.effect(alloc, i)?;
-    ways.add(on)?;
+    if on.hopes(wanted) {
+        ways.add(on)?;
+    }
     Ok(())
 }
 
 // The ways on from this one: one more of its stores takes effect.
-fn add_effects(alloc: Global, ways: &mut Followed, way: &Way) -> Result<(), AllocError>
+fn add_effects(
+    alloc: Global,
+    ways: &mut Followed,
+    way: &Way,
+    wanted: Wanted,
+) -> Result<(), AllocError>
     requires { IsFollowed ways.old }
-    ensures ways { OnOk result (shown_all ways.new.ways.items ≡ with_branches (shown_all ways.old.ways.items) (effects (shown way.now))) }
+    ensures ways { OnOk result (shown_all ways.new.ways.items ≡ with_branches (shown_all ways.old.ways.items) (filter (aim_of wanted.entry).hope (effects (shown way.now)))) }
     ensures followed { OnOk result (IsFollowed ways.new) }
 {
     for i in 0..way.stores.len() {
-        add_effect(alloc, ways, way, i)?;
+        add_effect(alloc, ways, way, i, wanted)?;
     }
     Ok(())
 }
@@ -77,7 +92,7 @@ fn follow(
     requires out { IsFollowed out.old }
     requires next { IsFollowed next.old }
     ensures out { OnOk result (shown_all out.new.ways.items ≡ out_of (goal_of wanted.entry) (shown_all out.old.ways.items) (shown way.now)) }
-    ensures next { OnOk result (shown_all next.new.ways.items ≡ next_of (goal_of wanted.entry) (shown_all next.old.ways.items) (shown way.now)) }
+    ensures next { OnOk result (shown_all next.new.ways.items ≡ next_of (aim_of wanted.entry) (shown_all next.old.ways.items) (shown way.now)) }
     ensures out_followed { OnOk result (IsFollowed out.new) }
     ensures next_followed { OnOk result (IsFollowed next.new) }
 {
@@ -86,7 +101,7 @@ fn follow(
         out.add(found)?;
         return Ok(());
     }
-    add_effects(alloc, next, way)?;
+    add_effects(alloc, next, way, wanted)?;
     Ok(())
 }
 
@@ -101,7 +116,7 @@ pub(crate) fn round(
     requires { IsFollowed out.old }
     ensures out { OnOk result (shown_all out.new.ways.items ≡ out_after (goal_of wanted.entry) (shown_all out.old.ways.items) (shown_all ways.now)) }
     ensures followed { OnOk result (IsFollowed out.new) }
-    ensures next { IfOk result (λ next. shown_all next.items ≡ next_after (goal_of wanted.entry) (shown_all ways.now)) }
+    ensures next { IfOk result (λ next. shown_all next.items ≡ next_after (aim_of wanted.entry) (shown_all ways.now)) }
 {
     let mut next = Followed::new(alloc);
     for way in ways {
@@ -125,10 +140,11 @@ fn has_more_words(ways: &[Way], most: usize) -> bool
 {
     let mut left = most;
     for way in ways {
-        if left < way.path.len() {
+        let before = way.words_before();
+        if left < before {
             return true;
         }
-        left -= way.path.len();
+        left -= before;
     }
     false
 }
@@ -151,8 +167,8 @@ pub(crate) fn are_too_many(alloc: Global, ways: &[Way], limit: usize) -> Result<
 // a time.
 #[tactic(auto, using(crate::proofs::Loops::over_stop, crate::proofs::Loops::over_go))]
 fn search(alloc: Global, ways: &[Way], wanted: Wanted, limit: usize) -> Result<Vec<Way>, Stop>
-    ensures found { IfOk result (λ found. shown_all found.items ≡ met (suc (rounds (shown_all ways.now))) (goal_of wanted.entry) [] (shown_all ways.now)) }
-    ensures stop { IfErr result (StopIs (needs_more limit (goal_of wanted.entry) (shown_all ways.now))) }
+    ensures found { IfOk result (λ found. shown_all found.items ≡ met (suc (rounds (shown_all ways.now))) (aim_of wanted.entry) [] (shown_all ways.now)) }
+    ensures stop { IfErr result (StopIs (needs_more limit (aim_of wanted.entry) (shown_all ways.now))) }
 {
     let mut found = Followed::new(alloc);
     let mut left = rounds(ways);
@@ -174,8 +190,8 @@ fn search(alloc: Global, ways: &[Way], wanted: Wanted, limit: usize) -> Result<V
 // The ways after an answer.
 #[tactic(auto, unfolding(crate::specs::Branches::answered))]
 fn answered(alloc: Global, ways: &[Way], wanted: Wanted, limit: usize) -> Result<Vec<Way>, Stop>
-    ensures after { IfOk result (λ after. shown_all after.items ≡ answered (goal_of wanted.entry) (without_of wanted.entry) (shown_all ways.now)) }
-    ensures stop { IfErr result (StopIs (needs_more limit (goal_of wanted.entry) (shown_all ways.now))) }
+    ensures after { IfOk result (λ after. shown_all after.items ≡ answered (aim_of wanted.entry) (without_of wanted.entry) (shown_all ways.now)) }
+    ensures stop { IfErr result (StopIs (needs_more limit (aim_of wanted.entry) (shown_all ways.now))) }
 {
     let found = search(alloc, ways, wanted, limit)?;
     let after = without(alloc, found.as_slice(), wanted)?;

@@ -36,12 +36,12 @@ pub struct OpenStore {
 }
 
 /// An open load at a unit, on one of the ways that the unit may have gone.
-#[derive(Clone, Copy, PartialEq, Eq, Debug)]
+#[derive(Drop)]
 pub struct WatchedLoad {
     /// The number of the load.
     pub number: u64,
     /// The address of its first byte.
     pub address: u64,
-    /// How many words stood in the unit before its request.
-    pub since: usize,
+    /// The words that it may have got beside the one that stands there now.
+    pub before: Vec<Word>,
 }

@@ -1,17 +1,20 @@
 //! The ways that a unit may have gone.
 
-ghost use Rattle.std.specs.Prelude.{◌≡◌, ◌<◌, ◌≤◌, ◌+◌, ◌++◌, ◌∷◌, [], length, map, take, drop, slice_index_or, not, false, IfOk, OnOk, OnErr};
-ghost use Rattle.std.specs.List.{filter, list_all, list_any};
-ghost use Rattle.std.specs.Cmp.Lexicographic.{pointwise};
-ghost use Rattle.atomic_histories.specs.Words.{is_word_of};
+ghost use Rattle.std.specs.Prelude.{◌≡◌, ◌<◌, ◌+◌, ◌++◌, ◌∷◌, [], length, take, drop, slice_index_or, ◌||◌, not, true, false, IfOk, OnOk, OnErr};
+ghost use Rattle.std.specs.List.{filter, list_all};
 ghost use Rattle.atomic_histories.specs.Law.{is_store, may_answer_store, done_store};
 ghost use Rattle.atomic_histories.specs.AtOnce.{IsAlone};
-ghost use Rattle.atomic_histories.specs.Branches.{answered, effect_of, effects, is_same_word, is_same_pair, has_stood, covers_load, covers, with_branch, with_branches, is_watched, may_have, has_answer, has_effect, branch_without_load, branch_without_store, branch_with_load, branch_with_store, path_after, unseen, load_after, cut_to};
+ghost use Rattle.atomic_histories.specs.Branches.{answered, effect_of, is_same_pair, covers, joins, joined, words_before, may_have, may_come, has_answer, has_hope, has_effect, answer_aim, effect_aim, branch_without_load, branch_without_store, branch_with_load, branch_with_store, is_watched};
 ghost use Rattle.atomic_histories.specs.Marks.{mixed, with_byte, with_store as mark_with_store, mark_of};
-ghost use Rattle.atomic_histories.specs.Shown.{shown, shown_all, goal_of, without_of};
+ghost use Rattle.atomic_histories.specs.Shown.{shown_load, shown, aim_of, goal_of, without_of};
 
+use crate::hopes::may_come;
+use crate::loads::{
+    copied_loads, covers_loads, differ_once, end_load, has_word, is_watched, join_loads, keep_word,
+    overwritten_loads, reserve_words, words_before,
+};
 use crate::unit::{OpenStore, UnitPlace, WatchedLoad, Word};
-use crate::words::{is_word_of, write};
+use crate::words::{is_same_word, is_word_of, write};
 use std::alloc::{AllocError, Global};
 
 // By which a mark is multiplied before a number is added: Knuth's multiplier for numbers of 64 bits, so that
@@ -24,7 +27,6 @@ pub struct Way {
     pub(crate) word: Word,
     pub(crate) stores: Vec<OpenStore>,
     pub(crate) loads: Vec<WatchedLoad>,
-    pub(crate) path: Vec<Word>,
 }
 
 /// What an answer needs of a way: that a store has taken effect, or that a load may have got these bytes.
@@ -47,13 +49,6 @@ fn is_store(store: &OpenStore, number: u64) -> bool
     ensures { result ≡ is_store number store.now }
 {
     store.number == number
-}
-
-// Whether a load has this number.
-pub(crate) fn is_watched(load: &WatchedLoad, number: u64) -> bool
-    ensures { result ≡ is_watched number load.now }
-{
-    load.number == number
 }
 
 // A mark with one more number mixed in.
@@ -85,107 +80,6 @@ fn mark_with_store(mark: u64, store: &OpenStore) -> u64
     }
 }
 
-// The words from one on.
-#[tactic(auto, using(crate::proofs::Loops::none_passed))]
-pub(crate) fn words_from(path: &[Word], since: usize) -> &[Word]
-    ensures { result.now ≡ drop since path.entry.now }
-{
-    if since <= path.len() {
-        &path[since..]
-    } else {
-        &path[path.len()..]
-    }
-}
-
-// Whether two words are the same.
-fn is_same_word(word: &Word, other: &Word) -> bool
-    ensures { result ≡ is_same_word word.now other.now }
-{
-    *word == *other
-}
-
-// Whether a word is one of these.
-fn is_among(words: &[Word], word: &Word) -> bool
-    ensures { result ≡ list_any (λ v. is_same_word v word.now) words.now }
-{
-    words.iter().any(|other| is_same_word(other, word))
-}
-
-// Whether a word is the one of now or one of those before.
-fn has_stood(now: &Word, before: &[Word], word: &Word) -> bool
-    ensures { result ≡ has_stood now.now before.now word.now }
-{
-    is_same_word(now, word) || is_among(before, word)
-}
-
-// Whether each of these words is.
-fn have_stood(now: &Word, before: &[Word], words: &[Word]) -> bool
-    ensures { result ≡ list_all (λ w. has_stood now.now before.now w) words.now }
-{
-    words.iter().all(|word| has_stood(now, before, word))
-}
-
-// Whether these are the bytes of one of the words.
-fn has_word(words: &[Word], first: u64, address: u64, bytes: &[u8]) -> bool
-    ensures { result ≡ list_any (λ w. is_word_of first w address bytes.now) words.now }
-{
-    words
-        .iter()
-        .any(|word| is_word_of(first, word, address, bytes))
-}
-
-// The word of now is overwritten: it is kept if a load is open that may have got it.
-#[tactic(auto, using(crate::proofs::Loops::path_empty, crate::proofs::Loops::path_more))]
-fn keep_word(path: &mut Vec<Word>, loads: &[WatchedLoad], word: Word) -> Result<(), AllocError>
-    ensures err { OnErr result (path.new.items ≡ path.old.items) }
-    ensures ok { OnOk result (path.new.items ≡ path_after loads.now path.old.items word) }
-{
-    if loads.is_empty() {
-        path.clear();
-    } else {
-        path.push(word)?;
-    }
-    Ok(())
-}
-
-// How many words stood before those that one of the loads may have got, of so many at most.
-fn unseen(loads: &[WatchedLoad], most: usize) -> usize
-    ensures { result ≡ unseen most loads.now }
-{
-    loads.iter().fold(most, |least, load| least.min(load.since))
-}
-
-// A load, once the first `count` words are forgotten.
-fn load_after(load: &WatchedLoad, count: usize) -> WatchedLoad
-    ensures { result ≡ load_after count load.now }
-{
-    WatchedLoad {
-        since: load.since.saturating_sub(count),
-        ..*load
-    }
-}
-
-// The loads once these words are forgotten.
-fn loads_after(
-    alloc: Global,
-    loads: &[WatchedLoad],
-    count: usize,
-) -> Result<Vec<WatchedLoad>, AllocError>
-    ensures { IfOk result (λ after. after.items ≡ map (load_after count) loads.now) }
-{
-    let mut after = Vec::new(alloc);
-    for load in loads {
-        after.push(load_after(load, count))?;
-    }
-    Ok(after)
-}
-
-fn end_load(loads: &mut Vec<WatchedLoad>, number: u64)
-    ensures { loads.new.items ≡ filter (λ l. not (is_watched number l)) loads.old.items }
-{
-    loads.retain(|load| !is_watched(load, number));
-}
-
 fn end_store(stores: &mut Vec<OpenStore>, number: u64)
     ensures { stores.new.items ≡ filter (λ s. not (is_store number s)) stores.old.items }
 {
@@ -207,13 +101,12 @@ fn finish_store(stores: &mut [OpenStore], i: usize)
 impl Way {
     // A unit that no operation has touched.
     pub(crate) fn untouched(alloc: Global, word: Word) -> Way
-        ensures { shown result ≡ record { word = word; stores = []; loads = []; path = [] } }
+        ensures { shown result ≡ record { word = word; stores = []; loads = [] } }
     {
         Way {
             word,
             stores: Vec::new(alloc),
             loads: Vec::new(alloc),
-            path: Vec::new(alloc),
         }
     }
 
@@ -221,13 +114,11 @@ impl Way {
         ensures { IfOk result (λ w. shown w ≡ shown self.now) }
     {
         let stores = Vec::from_slice(alloc, self.stores.as_slice())?;
-        let loads = Vec::from_slice(alloc, self.loads.as_slice())?;
-        let path = Vec::from_slice(alloc, self.path.as_slice())?;
+        let loads = copied_loads(alloc, self.loads.as_slice())?;
         Ok(Way {
             word: self.word,
             stores,
             loads,
-            path,
         })
     }
 
@@ -249,36 +140,7 @@ impl Way {
     pub(crate) fn is_same_pair(&self, other: &Way) -> bool
         ensures { result ≡ is_same_pair (shown self.now) (shown other.now) }
     {
-        self.word == other.word && self.stores == other.stores
-    }
-
-    // Whether load `i` may have got each word that it may have got on the other way.
-    fn covers_load(&self, other: &Way, load: &WatchedLoad, same: &WatchedLoad) -> bool
-        ensures { result ≡ covers_load (shown self.now) (shown other.now) load.now same.now }
-    {
-        load.number == same.number
-            && (load.address == same.address
-                && have_stood(
-                    &self.word,
-                    words_from(self.path.as_slice(), load.since),
-                    words_from(other.path.as_slice(), same.since),
-                ))
-    }
-
-    // Whether each load may have got each word that it may have got on the other way.
-    #[tactic(auto, using(crate::proofs::Loops::pointwise_more, crate::proofs::Loops::pointwise_all, crate::proofs::Loops::pointwise_other))]
-    fn covers_loads(&self, other: &Way) -> bool
-        ensures { result ≡ pointwise (covers_load (shown self.now) (shown other.now)) self.now.loads.items other.now.loads.items }
-    {
-        if self.loads.len() != other.loads.len() {
-            return false;
-        }
-        for i in 0..self.loads.len() {
-            if !self.covers_load(other, &self.loads[i], &other.loads[i]) {
-                return false;
-            }
-        }
-        true
+        is_same_word(&self.word, &other.word) && self.stores == other.stores
     }
 
     // Whether this way leads wherever the other leads.
@@ -286,7 +148,44 @@ impl Way {
     pub(crate) fn covers(&self, other: &Way) -> bool
         ensures { result ≡ covers (shown self.now) (shown other.now) }
     {
-        self.is_same_pair(other) && self.covers_loads(other)
+        self.is_same_pair(other)
+            && covers_loads(&self.word, self.loads.as_slice(), other.loads.as_slice())
+    }
+
+    // The same where both have come to one pair.
+    #[tactic(auto, unfolding(crate::specs::Branches::covers))]
+    pub(crate) fn covers_of_pair(&self, other: &Way) -> bool
+        requires { is_same_pair (shown self.now) (shown other.now) ≡ true }
+        ensures { result ≡ covers (shown self.now) (shown other.now) }
+    {
+        covers_loads(&self.word, self.loads.as_slice(), other.loads.as_slice())
+    }
+
+    // Whether this way may stand for both, where both have come to one pair.
+    #[tactic(auto, unfolding(crate::specs::Branches::joins))]
+    pub(crate) fn joins_of_pair(&self, other: &Way) -> bool
+        requires { is_same_pair (shown self.now) (shown other.now) ≡ true }
+        ensures { result ≡ joins (shown self.now) (shown other.now) }
+    {
+        differ_once(&self.word, self.loads.as_slice(), other.loads.as_slice())
+    }
+
+    // This way stands for the other too.
+    pub(crate) fn join(&mut self, other: &Way) -> Result<(), AllocError>
+        ensures { OnOk result (shown self.new ≡ joined (shown self.old) (shown other.now)) }
+    {
+        join_loads(
+            &self.word,
+            self.loads.as_mut_slice(),
+            other.loads.as_slice(),
+        )
+    }
+
+    // How many words stood there before the one of now since the oldest request of an open load.
+    pub(crate) fn words_before(&self) -> usize
+        ensures { result ≡ words_before (shown self.now) }
+    {
+        words_before(self.loads.as_slice())
     }
 
     // Store `i` takes effect.
@@ -295,7 +194,8 @@ impl Way {
         ensures err { OnErr result (shown self.new ≡ shown self.old) }
         ensures ok { OnOk result ((d : OpenStore) → shown self.new ≡ effect_of (shown self.old) (take i self.old.stores.items) (slice_index_or self.old.stores.items i d) (drop (i + 1) self.old.stores.items)) }
     {
-        keep_word(&mut self.path, self.loads.as_slice(), self.word)?;
+        reserve_words(self.loads.as_mut_slice())?;
+        keep_word(self.loads.as_mut_slice(), self.word);
         let store = self.stores[i];
         write(&mut self.word, &store.bytes);
         finish_store(self.stores.as_mut_slice(), i);
@@ -307,27 +207,46 @@ impl Way {
         requires { i < length self.now.stores.items }
         ensures { IfOk result (λ w. (d : OpenStore) → shown w ≡ effect_of (shown self.now) (take i self.now.stores.items) (slice_index_or self.now.stores.items i d) (drop (i + 1) self.now.stores.items)) }
     {
-        let mut on = self.copy(alloc)?;
-        on.take_effect(i)?;
-        Ok(on)
+        let mut word = self.word;
+        let mut stores = Vec::from_slice(alloc, self.stores.as_slice())?;
+        let loads = overwritten_loads(alloc, self.loads.as_slice(), word)?;
+        write(&mut word, &self.stores[i].bytes);
+        finish_store(stores.as_mut_slice(), i);
+        Ok(Way {
+            word,
+            stores,
+            loads,
+        })
     }
 
     fn may_have(&self, unit: UnitPlace, bytes: &[u8], load: &WatchedLoad) -> bool
-        ensures { result ≡ may_have unit bytes.now (shown self.now) load.now }
+        ensures { result ≡ may_have unit bytes.now (shown self.now) (shown_load load.now) }
     {
         is_word_of(unit.first, &self.word, load.address, bytes)
-            || has_word(
-                words_from(self.path.as_slice(), load.since),
-                unit.first,
-                load.address,
-                bytes,
-            )
+            || has_word(load.before.as_slice(), unit.first, load.address, bytes)
     }
 
+    // Whether a load may have got these bytes, if it has this number.
+    fn may_answer(&self, unit: UnitPlace, number: u64, bytes: &[u8], load: &WatchedLoad) -> bool
+        ensures { result ≡ (not (is_watched number (shown_load load.now)) || may_have unit bytes.now (shown self.now) (shown_load load.now)) }
+    {
+        !is_watched(load, number) || self.may_have(unit, bytes, load)
+    }
+
+    // Whether each load may.
+    fn may_answer_each(&self, unit: UnitPlace, number: u64, bytes: &[u8]) -> bool
+        ensures { result ≡ list_all (λ l. not (is_watched number (shown_load l)) || may_have unit bytes.now (shown self.now) (shown_load l)) self.now.loads.items }
+    {
+        self.loads
+            .iter()
+            .all(|load| self.may_answer(unit, number, bytes, load))
+    }
+
+    #[tactic(auto, using(crate::proofs::Watching::all_shown))]
     fn has_answer(&self, unit: UnitPlace, number: u64, bytes: &[u8]) -> bool
         ensures { result ≡ has_answer unit number bytes.now (shown self.now) }
     {
-        self.loads.iter().all(|load| !is_watched(load, number) || self.may_have(unit, bytes, load))
+        self.may_answer_each(unit, number, bytes)
     }
 
     fn has_effect(&self, number: u64) -> bool
@@ -352,29 +271,53 @@ impl Way {
         }
     }
 
-    // The way with these loads, which are open: the words are forgotten that none of them may have got.
-    fn cut_to(&self, alloc: Global, loads: &[WatchedLoad]) -> Result<Way, AllocError>
-        ensures { IfOk result (λ w. shown w ≡ cut_to loads.now (shown self.now)) }
+    // Whether a load may have got these bytes, or may still get them.
+    fn may_hope(&self, unit: UnitPlace, number: u64, bytes: &[u8], load: &WatchedLoad) -> bool
+        ensures { result ≡ (not (is_watched number (shown_load load.now)) || (may_have unit bytes.now (shown self.now) (shown_load load.now) || may_come unit bytes.now (shown self.now) (shown_load load.now))) }
     {
-        let count = unseen(loads, self.path.len());
-        let stores = Vec::from_slice(alloc, self.stores.as_slice())?;
-        let loads = loads_after(alloc, loads, count)?;
-        let path = Vec::from_slice(alloc, words_from(self.path.as_slice(), count))?;
-        Ok(Way {
-            word: self.word,
-            stores,
-            loads,
-            path,
-        })
+        !is_watched(load, number)
+            || (self.may_have(unit, bytes, load)
+                || may_come(&self.word, self.stores.as_slice(), unit.first, load.address, bytes))
+    }
+
+    // Whether each load may, if it has this number.
+    fn may_hope_each(&self, unit: UnitPlace, number: u64, bytes: &[u8]) -> bool
+        ensures { result ≡ list_all (λ l. not (is_watched number (shown_load l)) || (may_have unit bytes.now (shown self.now) (shown_load l) || may_come unit bytes.now (shown self.now) (shown_load l))) self.now.loads.items }
+    {
+        self.loads
+            .iter()
+            .all(|load| self.may_hope(unit, number, bytes, load))
+    }
+
+    #[tactic(auto, using(crate::proofs::Watching::all_shown))]
+    fn has_hope(&self, unit: UnitPlace, number: u64, bytes: &[u8]) -> bool
+        ensures { result ≡ has_hope unit number bytes.now (shown self.now) }
+    {
+        self.may_hope_each(unit, number, bytes)
+    }
+
+    // Whether the way may still come to what is wanted.
+    pub(crate) fn hopes(&self, wanted: Wanted) -> bool
+        ensures { result ≡ (aim_of wanted.entry).hope (shown self.now) }
+    {
+        match wanted {
+            Wanted::Never => true,
+            Wanted::Effect { number: _ } => true,
+            Wanted::Answer {
+                unit,
+                number,
+                bytes,
+            } => self.has_hope(unit, number, bytes),
+        }
     }
 
     // The way behind a load's answer.
     fn without_load(&self, alloc: Global, number: u64) -> Result<Way, AllocError>
         ensures { IfOk result (λ w. shown w ≡ branch_without_load number (shown self.now)) }
     {
-        let mut loads = Vec::from_slice(alloc, self.loads.as_slice())?;
-        end_load(&mut loads, number);
-        self.cut_to(alloc, loads.as_slice())
+        let mut left = self.copy(alloc)?;
+        end_load(&mut left.loads, number);
+        Ok(left)
     }
 
     // The way behind a store's answer.
@@ -402,15 +345,19 @@ impl Way {
     }
 
     // A load is requested: the way changes where it stands.
-    pub(crate) fn open_load(&mut self, number: u64, address: u64) -> Result<(), AllocError>
+    pub(crate) fn open_load(
+        &mut self,
+        alloc: Global,
+        number: u64,
+        address: u64,
+    ) -> Result<(), AllocError>
         ensures ok { OnOk result (shown self.new ≡ branch_with_load number address (shown self.old)) }
         ensures err { OnErr result (shown self.new ≡ shown self.old) }
     {
-        let since = self.path.len();
         self.loads.push(WatchedLoad {
             number,
             address,
-            since,
+            before: Vec::new(alloc),
         })?;
         Ok(())
     }
@@ -428,13 +375,6 @@ impl Way {
         Ok(())
     }
 
-    // Whether no load is open but this one.
-    fn has_load_alone(&self, number: u64) -> bool
-        ensures { result ≡ list_all (is_watched number) self.now.loads.items }
-    {
-        self.loads.iter().all(|load| is_watched(load, number))
-    }
-
     // A load is answered, if the way may answer it so now, or once its one store has taken effect.
     pub(crate) fn answer_load(
         &mut self,
@@ -443,19 +383,13 @@ impl Way {
         number: u64,
         bytes: &[u8],
     ) -> Result<bool, AllocError>
-        ensures ok { IfOk result (λ taken. IsAlone (answered (has_answer unit number bytes.now) (branch_without_load number) (shown self.old ∷ [])) (shown self.old) (shown self.new) taken) }
+        ensures ok { IfOk result (λ taken. IsAlone (answered (answer_aim unit number bytes.now) (branch_without_load number) (shown self.old ∷ [])) (shown self.old) (shown self.new) taken) }
         ensures err { OnErr result (shown self.new ≡ shown self.old) }
     {
         if !self.has_answer(unit, number, bytes) {
             return self.answer_later_load(alloc, unit, number, bytes);
         }
-        if self.has_load_alone(number) {
-            self.loads.clear();
-            self.path.clear();
-            return Ok(true);
-        }
-        let left = self.without_load(alloc, number)?;
-        *self = left;
+        end_load(&mut self.loads, number);
         Ok(true)
     }
 
@@ -468,24 +402,24 @@ impl Way {
         bytes: &[u8],
     ) -> Result<bool, AllocError>
         requires { has_answer unit number bytes.now (shown self.old) ≡ false }
-        ensures ok { IfOk result (λ taken. IsAlone (answered (has_answer unit number bytes.now) (branch_without_load number) (shown self.old ∷ [])) (shown self.old) (shown self.new) taken) }
+        ensures ok { IfOk result (λ taken. IsAlone (answered (answer_aim unit number bytes.now) (branch_without_load number) (shown self.old ∷ [])) (shown self.old) (shown self.new) taken) }
         ensures err { OnErr result (shown self.new ≡ shown self.old) }
     {
         if self.stores.len() != 1 || self.stores[0].is_done {
             return Ok(false);
         }
-        let on = self.effect(alloc, 0)?;
+        let mut on = self.effect(alloc, 0)?;
         if !on.has_answer(unit, number, bytes) {
             return Ok(false);
         }
-        let left = on.without_load(alloc, number)?;
-        *self = left;
+        end_load(&mut on.loads, number);
+        *self = on;
         Ok(true)
     }
 
     // A store is answered, if it has taken effect, or if it takes effect now and no other store is open.
     pub(crate) fn answer_store(&mut self, number: u64) -> Result<bool, AllocError>
-        ensures ok { IfOk result (λ taken. IsAlone (answered (has_effect number) (branch_without_store number) (shown self.old ∷ [])) (shown self.old) (shown self.new) taken) }
+        ensures ok { IfOk result (λ taken. IsAlone (answered (effect_aim number) (branch_without_store number) (shown self.old ∷ [])) (shown self.old) (shown self.new) taken) }
         ensures err { OnErr result (shown self.new ≡ shown self.old) }
     {
         if self.has_effect(number) {
@@ -510,7 +444,7 @@ impl Way {
         ensures { IfOk result (λ w. shown w ≡ branch_with_load number address (shown self.now)) }
     {
         let mut more = self.copy(alloc)?;
-        more.open_load(number, address)?;
+        more.open_load(alloc, number, address)?;
         Ok(more)
     }
 

@@ -1,6 +1,8 @@
 //! The bytes of one aligned unit of memory.
 
-ghost use Rattle.std.specs.Prelude.{◌≡◌, ◌+◌, is_some, slice_get};
+ghost use Rattle.std.specs.Prelude.{◌≡◌, ◌==◌, ◌+◌, ◌<◌, None, get_or, is_some, slice_get};
+ghost use Rattle.std.specs.Option.{option_eq};
+ghost use Rattle.atomic_histories.specs.Branches.{is_same_word, are_same_lanes};
 ghost use Rattle.std.specs.List.{list_any};
 ghost use Rattle.atomic_histories.specs.Words.{at_unit, first_byte, initial_byte, byte_for, enabled_byte, stored_byte, at_lane, is_at, written_byte, written, is_as_it_stood, is_word_of};
 
@@ -37,7 +39,7 @@ fn initial_byte(image: &[u8], rest: Rest, address: u128) -> Option<u8>
 }
 
 // The byte that stands for an address in bytes from another address on.
-fn byte_for(from: u64, bytes: &[u8], address: u128) -> Option<u8>
+pub(crate) fn byte_for(from: u64, bytes: &[u8], address: u128) -> Option<u8>
     ensures { result ≡ byte_for from bytes.now address }
 {
     let from = u128::from(from);
@@ -119,8 +121,60 @@ fn stored_lane(unit: UnitPlace, from: u64, bytes: &[u8], enables: u64, lane: u64
     }
 }
 
-// What a store writes in a unit.
+// Lane `lane` of a store that begins with the unit, where each byte has the number of its lane.
+fn enabled_lane(bytes: &[u8], enables: u64, lane: u64) -> Option<u8>
+    requires { lane < 8 }
+    ensures { result ≡ enabled_byte bytes.now enables lane }
+{
+    if (enables >> lane) % 2 == 1 {
+        bytes.get(lane as usize).copied()
+    } else {
+        None
+    }
+}
+
+// What it writes in a lane of the unit.
+#[tactic(auto, using(crate::proofs::Bits::stored_from_first))]
+fn first_lane(unit: UnitPlace, bytes: &[u8], enables: u64, lane: u64) -> Option<u8>
+    requires { lane < 8 }
+    ensures { result ≡ at_lane unit (stored_byte unit.first bytes.now enables) lane }
+{
+    if lane < unit.size {
+        enabled_lane(bytes, enables, lane)
+    } else {
+        None
+    }
+}
+
+// What it writes in the unit.
+fn first_word(unit: UnitPlace, bytes: &[u8], enables: u64) -> Word
+    ensures { result ≡ at_unit unit (stored_byte unit.first bytes.now enables) }
+{
+    [
+        first_lane(unit, bytes, enables, 0),
+        first_lane(unit, bytes, enables, 1),
+        first_lane(unit, bytes, enables, 2),
+        first_lane(unit, bytes, enables, 3),
+        first_lane(unit, bytes, enables, 4),
+        first_lane(unit, bytes, enables, 5),
+        first_lane(unit, bytes, enables, 6),
+        first_lane(unit, bytes, enables, 7),
+    ]
+}
+
+// What a store writes in a unit. Most begin with it.
 pub(crate) fn stored_word(unit: UnitPlace, from: u64, bytes: &[u8], enables: u64) -> Word
+    ensures { result ≡ at_unit unit (stored_byte from bytes.now enables) }
+{
+    if from == unit.first {
+        first_word(unit, bytes, enables)
+    } else {
+        any_word(unit, from, bytes, enables)
+    }
+}
+
+// The same of a store that begins anywhere.
+fn any_word(unit: UnitPlace, from: u64, bytes: &[u8], enables: u64) -> Word
     ensures { result ≡ at_unit unit (stored_byte from bytes.now enables) }
 {
     [
@@ -173,7 +227,7 @@ pub(crate) fn write(word: &mut [Option<u8>], bytes: &[Option<u8>])
 }
 
 // Whether an answer gives a byte as it stood there.
-fn is_as_it_stood(byte: Option<u8>, answer: Option<u8>) -> bool
+pub(crate) fn is_as_it_stood(byte: Option<u8>, answer: Option<u8>) -> bool
     ensures { result ≡ is_as_it_stood byte answer }
 {
     match byte {
@@ -187,8 +241,39 @@ fn is_as_it_stood(byte: Option<u8>, answer: Option<u8>) -> bool
 
 // Whether these bytes from an address on are the word's, as far as they lie in the unit, which begins at
 // `first`.
-#[tactic(auto, using(crate::proofs::Bits::word_more, crate::proofs::Bits::word_all), unfolding(crate::specs::Words::is_word_of))]
+#[tactic(auto, using(crate::proofs::Bits::first_same))]
 pub(crate) fn is_word_of(first: u64, word: &[Option<u8>], from: u64, bytes: &[u8]) -> bool
+    ensures { result ≡ is_word_of first word.now from bytes.now }
+{
+    if from == first {
+        is_first_word(word, bytes)
+    } else {
+        is_any_word(first, word, from, bytes)
+    }
+}
+
+// The same of bytes that begin with the unit, where each has the number of its lane.
+#[tactic(auto, using(crate::proofs::Bits::first_more, crate::proofs::Bits::word_all), unfolding(crate::specs::Words::is_word_of))]
+fn is_first_word(word: &[Option<u8>], bytes: &[u8]) -> bool
+    ensures { result ≡ is_word_of 0 word.now 0 bytes.now }
+{
+    for k in 0..word.len() {
+        if !is_as_it_stood(word[k], byte_in(bytes, k)) {
+            return false;
+        }
+    }
+    true
+}
+
+fn byte_in(bytes: &[u8], place: usize) -> Option<u8>
+    ensures { result ≡ slice_get bytes.now place }
+{
+    bytes.get(place).copied()
+}
+
+// The same of bytes that begin anywhere.
+#[tactic(auto, using(crate::proofs::Bits::word_more, crate::proofs::Bits::word_all), unfolding(crate::specs::Words::is_word_of))]
+fn is_any_word(first: u64, word: &[Option<u8>], from: u64, bytes: &[u8]) -> bool
     ensures { result ≡ is_word_of first word.now from bytes.now }
 {
     for k in 0..word.len() {
@@ -198,4 +283,33 @@ pub(crate) fn is_word_of(first: u64, word: &[Option<u8>], from: u64, bytes: &[u8
         }
     }
     true
+}
+
+fn is_same_lane(word: &Word, other: &Word, lane: usize) -> bool
+    requires { lane < 8 }
+    ensures { result ≡ option_eq ◌==◌ (get_or word.now lane None) (get_or other.now lane None) }
+{
+    word[lane] == other[lane]
+}
+
+// Whether the lanes of two words are the same. Written out, they are compared faster than by the arrays' own `==`.
+fn are_same_lanes(word: &Word, other: &Word) -> bool
+    ensures { result ≡ are_same_lanes 0 8 word.now other.now }
+{
+    is_same_lane(word, other, 0)
+        && is_same_lane(word, other, 1)
+        && is_same_lane(word, other, 2)
+        && is_same_lane(word, other, 3)
+        && is_same_lane(word, other, 4)
+        && is_same_lane(word, other, 5)
+        && is_same_lane(word, other, 6)
+        && is_same_lane(word, other, 7)
+}
+
+// Whether two words are the same.
+#[tactic(auto, using(crate::proofs::Bits::same_lanes))]
+pub(crate) fn is_same_word(word: &Word, other: &Word) -> bool
+    ensures { result ≡ is_same_word word.now other.now }
+{
+    are_same_lanes(word, other)
 }

@@ -88,7 +88,6 @@ atomic_too image rest size es e f a h = record {
 unit_stands : (start : UnitMemory) (unit : UnitPlace) (bs : List Branch) (es : List HistoryEvent) (e f : HistoryEvent) → Alike e f → Alike f e
     → StandsFor start unit bs (es ++ e ∷ []) → StandsFor start unit bs (es ++ f ∷ [])
 unit_stands start unit bs es e f a b s = record {
-  timely = s.timely;
   sound = each_of bs s.sound;
   complete = λ m may. s.complete m (may_be unit start es f e b (es ++ f ∷ []) m may refl);
 }

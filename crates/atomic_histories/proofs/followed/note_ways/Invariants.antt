@@ -1,15 +1,8 @@
-use Rattle.std.proofs.Common.{◌≤◌, drop, length, nat_eq}
-use Rattle.std.specs.HashMap.{get}
-use Rattle.atomic_histories.specs.Marks.{AreMarked}
+use Rattle.std.proofs.Common.{◌≡◌, ◌++◌, map, drop}
+use Rattle.atomic_histories.specs.Marks.{mark_of}
 use Rattle.atomic_histories.specs.Shown.{shown_all}
 use Rattle.atomic_histories.proofs.followed.note_ways.Given as goal
 
--- the marks of the ways from there on are noted
-abbrev pub invariant-loop-left : goal.invariant-loop-left
-invariant-loop-left l = record {
-  most : l.left ≤ length l.ways;
-  marked : AreMarked (get nat_eq l.places) (shown_all (drop l.left l.ways));
-}
-
-abbrev pub decreases-loop-left : goal.decreases-loop-left
-decreases-loop-left l = l.left
+-- with those that are left it is the whole
+abbrev pub invariant-loop-way : goal.invariant-loop-way
+invariant-loop-way l = l.marks.items ++ map mark_of (shown_all (drop l.way-index l.ways)) ≡ map mark_of (shown_all l.ways)

@@ -1,12 +1,12 @@
 use Rattle.std.proofs.Common.{◌≡◌, ◌-◌, ◌<◌, false, ◌||◌, sym, ap, ap₂, ◌∙◌, arith}
 use Rattle.atomic_histories.specs.Branches.{met, are_too_many, is_over, out_after, next_after}
-use Rattle.atomic_histories.specs.Shown.{shown_all, goal_of}
+use Rattle.atomic_histories.specs.Shown.{shown_all, aim_of}
 use Rattle.atomic_histories.proofs.Loops.{met_go, over_go, or_right}
 use Rattle.atomic_histories.proofs.search.search.Goals as goal
 
 pub loop-left-preserved : goal.loop-left-preserved
 loop-left-preserved c =
-    let wanted = goal_of c.args.wanted in
+    let wanted = aim_of c.args.wanted in
     let limit = c.args.limit in
     let left = c.loop-left.left in
     let found = shown_all c.loop-left.found.ways.items in
@@ -14,8 +14,8 @@ loop-left-preserved c =
     let went = c.in_ok-next.ensures in
     let slice = c.as_slice-in-loop-left-2.ensures.value in
     let some : 0 < left = omega arith in
-    let out : shown_all c.round-in-loop-left.new.out.ways.items ≡ out_after wanted found frontier =
-    went.out ∙ ap (λ ws. out_after wanted found (shown_all ws)) slice in
+    let out : shown_all c.round-in-loop-left.new.out.ways.items ≡ out_after wanted.goal found frontier =
+    went.out ∙ ap (λ ws. out_after wanted.goal found (shown_all ws)) slice in
     let next : shown_all c.in_ok-next.next.items ≡ next_after wanted frontier = went.next ∙ ap (λ ws. next_after wanted (shown_all ws)) slice in
     let few : are_too_many limit frontier ≡ false =
     sym (c.in_ok-are_too_many.ensures ∙ ap (λ ws. are_too_many limit (shown_all ws)) c.as_slice.ensures.value) ∙ c.if-branch.false in

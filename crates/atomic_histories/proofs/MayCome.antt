@@ -1,0 +1,183 @@
+-- A way on which no more stores can make the word of an answer isn't followed, and nothing is lost by that.
+use Rattle.std.proofs.Common.{◌≡◌, ℕ, zero, suc, ◌+◌, ◌⊎◌, Bool, true, false, ◌&&◌, ◌||◌, not, List, [], ◌∷◌, ◌++◌, get_or, Option, Some, None, inl, inr, refl, sym, ap, ◌∙◌, subst}
+use Rattle.std.specs.List.{list_all, list_any, range_with_len}
+use Rattle.std.proofs.lemmas.Bool.{and_parts, and_from}
+use Rattle.std.proofs.lemmas.List.Folds.{list_any-append, list_all-map}
+use Rattle.atomic_histories.specs.declared.unit.OpenStore.{OpenStore}
+use Rattle.atomic_histories.specs.declared.unit.UnitPlace.{UnitPlace}
+use Rattle.atomic_histories.specs.Words.{byte_for, written, is_as_it_stood, is_word_of}
+use Rattle.atomic_histories.specs.Law.{UnitMemory, done_store, may_answer_load}
+use Rattle.atomic_histories.specs.Branches.{Watched, Branch, with_word, effect_of, is_watched, gives, may_come_in, may_come, may_have, has_answer, has_hope}
+use Rattle.atomic_histories.specs.Stands.{Leads, now, later}
+use Rattle.atomic_histories.proofs.Answers.{answer_on}
+use Rattle.atomic_histories.proofs.Lanes.{word_lane}
+
+abbrev Word : Type 0
+Word = List (Option ℕ)
+
+or_either : (a b : Bool) → (a || b) ≡ true → (a ≡ true) ⊎ (b ≡ true)
+or_either true b h = inl refl
+or_either false b h = inr h
+
+left_true : (a b : Bool) → a ≡ true → (a || b) ≡ true
+left_true true b h = refl
+left_true false b h = cc
+
+right_true : (a b : Bool) → b ≡ true → (a || b) ≡ true
+right_true true b h = refl
+right_true false b h = h
+
+all_weaker : {X : Type 0} (p q : X → Bool) → ((x : X) → p x ≡ true → q x ≡ true) → (xs : List X) → list_all p xs ≡ true
+    → list_all q xs ≡ true
+all_weaker p q f [] h = refl
+all_weaker p q f (x ∷ xs) h =
+    let r = and_parts (p x) (list_all p xs) h in and_from (q x) (list_all q xs) (f x r.0) (all_weaker p q f xs r.1)
+
+-- One lane. ----
+
+-- whether an open store may still write this byte in a lane
+abbrev writes : ℕ → Option ℕ → OpenStore → Bool
+writes k answer s = not s.is_done && gives (get_or s.bytes k None) answer
+
+lane_written : (bs ws : Word) (k : ℕ) → (get_or (written bs ws) k None ≡ get_or ws k None)
+    ⊎ ((b : ℕ) × (get_or (written bs ws) k None ≡ Some b) × (get_or bs k None ≡ Some b))
+unfolding written
+lane_written [] ws k = inl refl
+lane_written (x ∷ bs) [] k = inl refl
+lane_written (None ∷ bs) (w ∷ ws) zero = inl refl
+lane_written (Some b ∷ bs) (w ∷ ws) zero = inr (b, refl, refl)
+lane_written (x ∷ bs) (w ∷ ws) (suc k) = lane_written bs ws k
+
+none_asked : (x : Option ℕ) → is_as_it_stood x None ≡ true
+none_asked None = refl
+none_asked (Some b) = refl
+
+any_between : (p : OpenStore → Bool) (before : List OpenStore) (s : OpenStore) (after : List OpenStore)
+    → (list_any p before || (p s || list_any p after)) ≡ true → list_any p (before ++ s ∷ after) ≡ true
+any_between p before s after h = list_any-append p before (s ∷ after) ∙ h
+
+-- a store that has taken effect writes no more
+any_undone : (k : ℕ) (answer : Option ℕ) (before : List OpenStore) (s : OpenStore) (after : List OpenStore)
+    → list_any (writes k answer) (before ++ done_store s ∷ after) ≡ true
+    → list_any (writes k answer) (before ++ s ∷ after) ≡ true
+any_undone k answer before s after h =
+    let p : OpenStore → Bool = writes k answer in
+    elim (or_either (list_any p before) (list_any p after) (sym (list_any-append p before (done_store s ∷ after)) ∙ h)) [
+      | inl t ↦ any_between p before s after (left_true (list_any p before) (p s || list_any p after) t)
+      | inr t ↦ any_between p before s after
+          (right_true (list_any p before) (p s || list_any p after) (right_true (p s) (list_any p after) t))
+    ]
+
+-- what an effect writes in a lane, the store may still write before it
+new_before : (k b : ℕ) (word : Word) (before : List OpenStore) (s : OpenStore) (after : List OpenStore) (answer : Option ℕ)
+    → s.is_done ≡ false → get_or s.bytes k None ≡ Some b → is_as_it_stood (Some b) answer ≡ true
+    → may_come_in k word (before ++ s ∷ after) answer ≡ true
+new_before k b word before s after None open_ w t = left_true (is_as_it_stood (get_or word k None) None) _ (none_asked (get_or word k None))
+new_before k b word before s after (Some c) open_ w t =
+    let p : OpenStore → Bool = writes k (Some c) in
+    let here : p s ≡ true = rw (open_, w) t in
+    right_true (is_as_it_stood (get_or word k None) (Some c)) (list_any p (before ++ s ∷ after))
+    (any_between p before s after
+    (right_true (list_any p before) (p s || list_any p after) (left_true (p s) (list_any p after) here)))
+
+come_before : (k : ℕ) (word : Word) (before : List OpenStore) (s : OpenStore) (after : List OpenStore) (answer : Option ℕ)
+    → s.is_done ≡ false → may_come_in k (written s.bytes word) (before ++ done_store s ∷ after) answer ≡ true
+    → may_come_in k word (before ++ s ∷ after) answer ≡ true
+come_before k word before s after answer open_ h =
+    let p : OpenStore → Bool = writes k answer in
+    elim (or_either (is_as_it_stood (get_or (written s.bytes word) k None) answer) (list_any p (before ++ done_store s ∷ after)) h) [
+      | inr t ↦ right_true (is_as_it_stood (get_or word k None) answer) (list_any p (before ++ s ∷ after))
+          (any_undone k answer before s after t)
+      | inl t ↦ elim (lane_written s.bytes word k) [
+        | inl same ↦ left_true (is_as_it_stood (get_or word k None) answer) (list_any p (before ++ s ∷ after))
+            (ap (λ x. is_as_it_stood x answer) (sym same) ∙ t)
+        | inr new ↦ new_before k new.0 word before s after answer open_ new.2 (ap (λ x. is_as_it_stood x answer) (sym new.1) ∙ t)
+      ]
+    ]
+
+-- One load. ----
+
+-- whether nothing stands in the way of an answer, or may still be put out of it
+abbrev hopes : UnitPlace → ℕ → List ℕ → Branch → Watched → Bool
+hopes unit number bytes e l = not (is_watched number l) || (may_have unit bytes e l || may_come unit bytes e l)
+
+module _ (unit : UnitPlace) (number : ℕ) (bytes : List ℕ) (e : Branch) (before : List OpenStore) (s : OpenStore) (after : List OpenStore)
+    (split : e.stores ≡ before ++ s ∷ after) (open_ : s.is_done ≡ false) where
+  on : Branch
+  on = effect_of e before s after
+
+  come : (l : Watched) (k : ℕ) → may_come_in k on.word on.stores (byte_for l.address bytes (unit.first + k)) ≡ true
+      → may_come_in k e.word e.stores (byte_for l.address bytes (unit.first + k)) ≡ true
+  unfolding on
+  come l k h =
+      subst (λ ss. may_come_in k e.word ss (byte_for l.address bytes (unit.first + k)) ≡ true) (sym split)
+      (come_before k e.word before s after (byte_for l.address bytes (unit.first + k)) open_ h)
+
+  all_come : (l : Watched) → may_come unit bytes on (with_word e.word l) ≡ true → may_come unit bytes e l ≡ true
+  all_come l h =
+      all_weaker (λ k. may_come_in k on.word on.stores (byte_for l.address bytes (unit.first + k)))
+      (λ k. may_come_in k e.word e.stores (byte_for l.address bytes (unit.first + k))) (come l) (range_with_len 0 8) h
+
+  -- the word of an answer that an effect makes may come before it
+  word_comes : (l : Watched) → is_word_of unit.first on.word l.address bytes ≡ true → may_come unit bytes e l ≡ true
+  word_comes l h = all_from (range_with_len 0 8)
+    where
+      lane : (k : ℕ) → may_come_in k e.word e.stores (byte_for l.address bytes (unit.first + k)) ≡ true
+      lane k =
+          come l k (left_true (is_as_it_stood (get_or on.word k None) (byte_for l.address bytes (unit.first + k))) _
+          (word_lane unit.first on.word l.address bytes k h))
+
+      all_from : (ks : List ℕ) → list_all (λ k. may_come_in k e.word e.stores (byte_for l.address bytes (unit.first + k))) ks ≡ true
+      all_from [] = refl
+      all_from (k ∷ ks) = and_from (may_come_in k e.word e.stores (byte_for l.address bytes (unit.first + k))) _ (lane k) (all_from ks)
+
+  hopes_before : (l : Watched) → hopes unit number bytes on (with_word e.word l) ≡ true → hopes unit number bytes e l ≡ true
+  hopes_before l h =
+      let is : Word → Bool = λ w. is_word_of unit.first w l.address bytes in
+      let have : Bool = may_have unit bytes e l in
+      let may : Bool = may_come unit bytes e l in
+      let done : (have || may) ≡ true → hopes unit number bytes e l ≡ true = right_true (not (is_watched number l)) (have || may) in
+      elim (or_either (not (is_watched number l))
+      (may_have unit bytes on (with_word e.word l) || may_come unit bytes on (with_word e.word l)) h) [
+        | inl t ↦ left_true (not (is_watched number l)) (have || may) t
+        | inr a ↦ elim (or_either (may_have unit bytes on (with_word e.word l)) (may_come unit bytes on (with_word e.word l)) a) [
+          | inr c ↦ done (right_true have may (all_come l c))
+          | inl b ↦ elim (or_either (is on.word) (list_any is (l.words ++ e.word ∷ [])) b) [
+            | inl c ↦ done (right_true have may (word_comes l c))
+            | inr c ↦ elim (or_either (list_any is l.words) (is e.word || false) (sym (list_any-append is l.words (e.word ∷ [])) ∙ c)) [
+              | inl d ↦ done (left_true have may (right_true (is e.word) (list_any is l.words) d))
+              | inr d ↦ done (left_true have may (left_true (is e.word) (list_any is l.words) (or_last (is e.word) d)))
+            ]
+          ]
+        ]
+      ]
+    where
+      or_last : (a : Bool) → (a || false) ≡ true → a ≡ true
+      or_last true h = refl
+      or_last false h = cc
+
+  pub hope_before : has_hope unit number bytes (effect_of e before s after) ≡ true → has_hope unit number bytes e ≡ true
+  unfolding on
+  hope_before h =
+      all_weaker (λ l. hopes unit number bytes (effect_of e before s after) (with_word e.word l)) (hopes unit number bytes e) hopes_before e.loads
+      (sym (list_all-map (hopes unit number bytes (effect_of e before s after)) (with_word e.word) e.loads) ∙ h)
+
+-- All loads. ----
+
+pub answer_hopes : (unit : UnitPlace) (number : ℕ) (bytes : List ℕ) (e : Branch) → has_answer unit number bytes e ≡ true
+    → has_hope unit number bytes e ≡ true
+answer_hopes unit number bytes e h =
+    all_weaker (λ l. not (is_watched number l) || may_have unit bytes e l) (hopes unit number bytes e) weaker e.loads h
+  where
+    weaker : (l : Watched) → (not (is_watched number l) || may_have unit bytes e l) ≡ true → hopes unit number bytes e l ≡ true
+    weaker l t = elim (or_either (not (is_watched number l)) (may_have unit bytes e l) t) [
+      | inl a ↦ left_true (not (is_watched number l)) _ a
+      | inr b ↦ right_true (not (is_watched number l)) _ (left_true (may_have unit bytes e l) (may_come unit bytes e l) b)
+    ]
+
+-- a way that leads to a state with the answer hopes for it
+pub hope_leads : (unit : UnitPlace) (number : ℕ) (bytes : List ℕ) {e : Branch} {m : UnitMemory}
+    → may_answer_load unit number bytes m.loads ≡ true → Leads e m → has_hope unit number bytes e ≡ true
+hope_leads unit number bytes {e} {m} g (now o) = answer_hopes unit number bytes e (answer_on unit number bytes m g e o)
+hope_leads unit number bytes {e} {m} g (later before s after split open_ r) =
+    hope_before unit number bytes e before s after split open_ (hope_leads unit number bytes g r)
