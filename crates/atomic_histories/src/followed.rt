@@ -16,8 +16,9 @@ use std::collections::HashMap;
 // find no more need no marks.
 pub(crate) const MARKED: usize = 8;
 
-// Ways of which none leads wherever another leads, and no two are to be one. Once there are many, a new way is compared
-// with those alone that have its mark.
+// Ways that are followed: a new one isn't put to them if one of them leads wherever it leads, and takes in those with which
+// it can be one. What it so becomes isn't compared again with the ways before. Once there are many, it is compared with
+// those alone that have its mark.
 #[derive(Drop)]
 pub(crate) struct Followed {
     pub(crate) ways: Vec<Way>,
