@@ -145,10 +145,10 @@ static void undecided_store(void) {
     CHECK(kroft_history_free(&h) == KROFT_DONE);
 }
 
-/* So does the answer of a load with a byte that was never stored, if all orders are looked at; asked first, and then told.
+/* So does the answer of a load with the byte of a store that is open, if all orders are looked at; asked first, and then told.
    An event that is taken ends the note of the unit. */
 static void undecided_load(void) {
-    static const uint8_t bytes[2] = {0, 99};
+    static const uint8_t bytes[2] = {0, STORES};
     kroft_history h = opened(KROFT_ATOMIC_LAW, 2, KROFT_ZEROS);
     uint64_t address = 77, place = 78;
     crowd(&h);
