@@ -162,8 +162,7 @@ joined_first f e = record { word = refl; stores = refl; loads = covered_first f.
 
 pub joined_second : (f e : Branch) → joins f e ≡ true → Shows (joined f e) e
 joined_second f e h =
-    let p = joins_parts f e h in record
-    {
+    let p = joins_parts f e h in record {
       word = p.0;
       stores = p.1;
       loads = subst (λ w. AreCovered w e.loads (joined_loads f.word f.loads e.loads)) p.0
@@ -230,10 +229,10 @@ joined_on f e h m o =
     elim (watched_either f.word f.loads e.loads m.loads p.2 o.loads) [
       | inl a ↦ inl (record { word = o.word; stores = o.stores; loads = a })
       | inr b ↦ inr (record {
-            word = sym p.0 ∙ o.word;
-            stores = sym p.1 ∙ o.stores;
-            loads = subst (λ w. AreWatched w e.loads m.loads) p.0 b;
-          })
+        word = sym p.0 ∙ o.word;
+        stores = sym p.1 ∙ o.stores;
+        loads = subst (λ w. AreWatched w e.loads m.loads) p.0 b;
+      })
     ]
 
 -- One more way. ----

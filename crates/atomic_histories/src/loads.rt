@@ -18,7 +18,6 @@ pub(crate) fn is_watched(load: &WatchedLoad, number: u64) -> bool
     load.number == number
 }
 
-
 // Whether a word is one of these.
 fn is_among(words: &[Word], word: &Word) -> bool
     ensures { result ≡ list_any (λ v. is_same_word v word.now) words.now }

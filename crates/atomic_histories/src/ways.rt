@@ -277,7 +277,13 @@ impl Way {
     {
         !is_watched(load, number)
             || (self.may_have(unit, bytes, load)
-                || may_come(&self.word, self.stores.as_slice(), unit.first, load.address, bytes))
+                || may_come(
+                    &self.word,
+                    self.stores.as_slice(),
+                    unit.first,
+                    load.address,
+                    bytes,
+                ))
     }
 
     // Whether each load may, if it has this number.
