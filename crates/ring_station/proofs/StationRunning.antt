@@ -19,6 +19,8 @@ use Rattle.station_journal.specs.Conversation.{Converses}
 use Rattle.ring_station.specs.declared.crew.PortRun.{PortRun}
 use Rattle.ring_station.specs.declared.crew.BankRun.{BankRun}
 use Rattle.ring_station.specs.declared.thread_end.ThreadEnd.{ThreadEnd}
+use Rattle.flat_model.specs.declared.limits.TheConstants.{MAX_BANKS}
+use Rattle.station_parts.specs.declared.make.TheConstants.{MAX_PORTS}
 use Rattle.ring_station.specs.PortRuns.{HasRun, HaveRun, PortRan, PortsRan}
 use Rattle.ring_station.specs.PartRuns.{BankRan, BanksRan, CacheRan}
 use Rattle.ring_station.specs.Crew.{EachRanScript, EachIsSame, EachServed}
@@ -215,18 +217,18 @@ have_conversed scripts old new lists count ids run fresh =
 
 -- a station has few ports and few banks
 pub few_ports_of : {W B R D : ℕ} (cache : CacheSide W B R D) (ports : List Port) (banks : List BankSide)
-    → AreOneStation cache ports banks → length ports ≤ 16
+    → AreOneStation cache ports banks → length ports ≤ MAX_PORTS
 few_ports_of cache ports banks one =
     let e : length ports ≡ length cache.asks.items = simp length-map at (ap length one.asks) in
-    let f : length cache.asks.items ≤ 16 = cache.few_ports in
+    let f : length cache.asks.items ≤ MAX_PORTS = cache.few_ports in
     omega (arith, e, f)
 
 pub few_banks_of : {W B R D : ℕ} (cache : CacheSide W B R D) (ports : List Port) (banks : List BankSide)
-    → AreOneStation cache ports banks → length banks ≤ 16
+    → AreOneStation cache ports banks → length banks ≤ MAX_BANKS
 few_banks_of cache ports banks one =
     let e : length banks ≡ length cache.row.lines.items = simp length-map at (ap length one.commands) in
     let f : length cache.row.lines.items ≡ cache.unit.sizes.banks = cache.lines in
-    let h : cache.unit.sizes.banks ≤ 16 = cache.in_range.few_banks in
+    let h : cache.unit.sizes.banks ≤ MAX_BANKS = cache.in_range.few_banks in
     omega (arith, e, f, h)
 
 -- as many runs as parts

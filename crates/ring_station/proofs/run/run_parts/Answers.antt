@@ -3,6 +3,8 @@ use Rattle.station_parts.specs.Ids.{port_id, bank_id}
 use Rattle.std.specs.Global.{Vec}
 use Rattle.station_parts.specs.declared.port.Port.{Port}
 use Rattle.station_parts.specs.declared.bank.BankSide.{BankSide}
+use Rattle.flat_model.specs.declared.limits.TheConstants.{MAX_BANKS}
+use Rattle.station_parts.specs.declared.make.TheConstants.{MAX_PORTS}
 use Rattle.ring_station.specs.declared.crew.PortRun.{PortRun}
 use Rattle.ring_station.specs.declared.crew.BankRun.{BankRun}
 use Rattle.ring_station.proofs.StationRunning.{ports_back, banks_back, ports_unmoved, banks_unmoved, same_shown, same_id, on_err, cache_counted, port_ids, bank_ids, one_station_kept, few_ports_of, few_banks_of, enlisted_count}
@@ -20,8 +22,8 @@ run_crew-end-requires-after_bounds g c κs within =
     enlisted_count (λ (r : PortRun). r.port) c.enlist_ports.new.runs all_ports ports in
     let bank_count : vec_len c.enlist_banks.new.runs ≡ vec_len all_banks =
     enlisted_count (λ (r : BankRun). r.bank) c.enlist_banks.new.runs all_banks banks in
-    let few_ports : length all_ports.items ≤ 16 = few_ports_of c.args.cache.now all_ports.items all_banks.items c.requires.one in
-    let few_banks : length all_banks.items ≤ 16 = few_banks_of c.args.cache.now all_ports.items all_banks.items c.requires.one in
+    let few_ports : length all_ports.items ≤ MAX_PORTS = few_ports_of c.args.cache.now all_ports.items all_banks.items c.requires.one in
+    let few_banks : length all_banks.items ≤ MAX_BANKS = few_banks_of c.args.cache.now all_ports.items all_banks.items c.requires.one in
     let p : vec_len all_ports ≡ length all_ports.items = all_ports.ok.0 in
     let b : vec_len all_banks ≡ length all_banks.items = all_banks.ok.0 in (
       lit< tt,
