@@ -6,7 +6,7 @@ use Rattle.std.proofs.lemmas.Bool.{cases_eq, cases_lt, eq-eqb, ne_eqb, lt-ltb, l
 use Rattle.std.proofs.lemmas.List.{get_or-set_same, get_or-set_other}
 use Rattle.std.proofs.lemmas.Nat.Bits.{bit_at_or, bit_at-pow_same, bit_at-pow_other, bit_at-lt, bit_at-zero, bit_at_ones, bit_at_ones_above}
 use Rattle.memory_histories.specs.declared.sets.ByteSet.{ByteSet}
-use Rattle.memory_histories.specs.Sets.{has, with_byte, no_bytes, all_bytes, word_of, bit_of, four}
+use Rattle.memory_histories.specs.Sets.{has, with_byte, union, word_with, no_bytes, all_bytes, word_of, bit_of, four}
 use Rattle.memory_histories.proofs.Lists.{or_false}
 
 max_one : (x : ℕ) → x < 2 → max x 1 ≡ 1
@@ -99,3 +99,29 @@ in_word s b i l e =
     let w : word_of b ≡ i = omega arith in
     let m : b % 64 ≡ b - 64 * i = omega arith in
     rw (w, m) refl
+
+-- The bytes of two sets. ----
+
+max_either : (x y : ℕ) → x < 2 → y < 2 → (max x y == 1) ≡ ((x == 1) || (y == 1))
+max_either zero y h i = let same : max 0 y ≡ y = omega arith in ap (λ z. z == 1) same
+max_either (suc zero) zero h i = refl
+max_either (suc zero) (suc zero) h i = refl
+max_either (suc zero) (suc (suc y)) h i = absurd (omega arith)
+max_either (suc (suc x)) y h i = absurd (omega arith)
+
+either_bit : (a b i : ℕ) → (bit_at (bit_or a b) i == 1) ≡ ((bit_at a i == 1) || (bit_at b i == 1))
+either_bit a b i = ap (λ x. x == 1) (bit_at_or a b i) ∙ max_either (bit_at a i) (bit_at b i) (bit_at-lt a i) (bit_at-lt b i)
+
+word_of_both : (s t : ByteSet) (k : ℕ) → k < 4
+    → get_or (word_with s t 0 ∷ word_with s t 1 ∷ word_with s t 2 ∷ word_with s t 3 ∷ []) k 0 ≡ word_with s t k
+word_of_both s t zero h = refl
+word_of_both s t (suc zero) h = refl
+word_of_both s t (suc (suc zero)) h = refl
+word_of_both s t (suc (suc (suc zero))) h = refl
+word_of_both s t (suc (suc (suc (suc k)))) h = omega arith
+
+pub has-union : (s t : ByteSet) (b : ℕ) → has (union s t) b ≡ (has s b || has t b)
+unfolding has union
+has-union s t b =
+    ap (λ w. bit_at w (bit_of b) == 1) (word_of_both s t (word_of b) (few_words b))
+    ∙ either_bit (get_or s.words (word_of b) 0) (get_or t.words (word_of b) 0) (bit_of b)

@@ -27,3 +27,11 @@ has s b = bit_at (get_or s.words (word_of b) 0) (bit_of b) == 1
 -- the set with this byte
 unfoldable pub with_byte : ByteSet → ℕ → ByteSet
 with_byte s b = record { words = set (four s.words) (word_of b) (bit_or (get_or s.words (word_of b) 0) (2 ^ bit_of b)) }
+
+-- the words of two sets that have the bytes of both
+abbrev pub word_with : ByteSet → ByteSet → ℕ → ℕ
+word_with s t i = bit_or (get_or s.words i 0) (get_or t.words i 0)
+
+-- the set of the bytes that are in one of two
+unfoldable pub union : ByteSet → ByteSet → ByteSet
+union s t = record { words = word_with s t 0 ∷ word_with s t 1 ∷ word_with s t 2 ∷ word_with s t 3 ∷ [] }

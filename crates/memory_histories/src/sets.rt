@@ -1,7 +1,7 @@
 //! Sets of bytes.
 
 ghost use Rattle.std.specs.Prelude.{◌≡◌};
-ghost use Rattle.memory_histories.specs.Sets.{has, with_byte, no_bytes, all_bytes};
+ghost use Rattle.memory_histories.specs.Sets.{has, with_byte, union, no_bytes, all_bytes};
 
 /// A set of bytes, as what a load may return.
 #[derive(Clone, Copy, PartialEq, Eq, Debug)]
@@ -9,7 +9,7 @@ pub struct ByteSet {
     words: [u64; 4],
 }
 
-#[tactic(auto, unfolding(crate::specs::Sets::has, crate::specs::Sets::with_byte))]
+#[tactic(auto, unfolding(crate::specs::Sets::has, crate::specs::Sets::with_byte, crate::specs::Sets::union))]
 impl ByteSet {
     /// No byte.
     pub fn none() -> ByteSet
@@ -50,6 +50,22 @@ impl ByteSet {
         let mut set = self;
         set.insert(byte);
         set
+    }
+
+    /// The set of the bytes that are in one of two.
+    pub fn union(self, other: ByteSet) -> ByteSet
+        ensures { result ≡ union self other }
+    {
+        let one = self.words;
+        let two = other.words;
+        ByteSet {
+            words: [
+                one[0] | two[0],
+                one[1] | two[1],
+                one[2] | two[2],
+                one[3] | two[3],
+            ],
+        }
     }
 
     // This byte is in the set from now on.
