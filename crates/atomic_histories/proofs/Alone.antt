@@ -67,13 +67,13 @@ alone_unmapped f p (x ∷ xs) a = (λ t. sym (any_mapped f p xs) ∙ a.0 t, alon
 some_same : {X : Type 0} (x y : X) → Some x ≡ Some y → x ≡ y
 some_same x y h = cc
 
--- of the operations under a number, each is the one that is found
-found_each : (number : ℕ) (os : List Operation) (o : Operation) → IsAlone (has_number number) os → find (has_number number) os ≡ Some o
-    → Each (λ x. has_number number x ≡ true → x ≡ o) os
-found_each number [] o a e = tt
-found_each number (x ∷ xs) o a e = elim (cases_Bool (has_number number x)) [
-  | inl t ↦ (λ u. some_same x o (rw t at e), each_none (λ y. y ≡ o) (has_number number) xs (a.0 t))
-  | inr f ↦ (λ u. let y : true ≡ false = sym u ∙ f in cc, found_each number xs o a.1 (rw f at e))
+-- of the elements that pass a test, each is the one that is found
+pub found_each : {X : Type 0} (p : X → Bool) (xs : List X) (o : X) → IsAlone p xs → find p xs ≡ Some o
+    → Each (λ x. p x ≡ true → x ≡ o) xs
+found_each p [] o a e = tt
+found_each p (x ∷ xs) o a e = elim (cases_Bool (p x)) [
+  | inl t ↦ (λ u. some_same x o (rw t at e), each_none (λ y. y ≡ o) p xs (a.0 t))
+  | inr f ↦ (λ u. let y : true ≡ false = sym u ∙ f in cc, found_each p xs o a.1 (rw f at e))
 ]
 
 found_one : (number : ℕ) (os : List Operation) (o : Operation) → find (has_number number) os ≡ Some o
@@ -109,7 +109,7 @@ module _ (unit : UnitPlace) (number : ℕ) (m : UnitMemory) (opened : Opened) (l
       (each_filter (λ x. has_number number x ≡ true → x.address ≡ o.address) (is_of unit) opened.loads
       (each_weaker (λ x. has_number number x ≡ true → x ≡ o) (λ x. has_number number x ≡ true → x.address ≡ o.address)
       (λ x f t. ap (λ (y : Operation). y.address) (f t)) opened.loads
-      (found_each number opened.loads o (alone_operation number opened.loads distinct) found)))))
+      (found_each (has_number number) opened.loads o (alone_operation number opened.loads distinct) found)))))
 
   -- there is one if the operation has a byte at the unit
   pub is_there : is_of unit o ≡ true → One (λ l. is_load number l ≡ true) m.loads

@@ -1,97 +1,276 @@
--- Events that one way takes where it stands: what the search would find, and what is kept of the units.
-use Rattle.std.proofs.Common.{◌≡◌, ◌≢◌, ℕ, zero, suc, ◌+◌, ◌*◌, ◌/◌, ◌<◌, Bool, true, false, ◌&&◌, ◌||◌, not, ◌==◌, if◌then◌else◌, List, [], ◌∷◌, map, max, length, take, drop, slice_index_or, Option, None, Result, Ok, Err, IfOk, OnErr, inl, inr, refl, sym, ap, ◌∙◌, subst, arith}
+-- Events that a unit takes where it stands: what the search would find, and what is kept of the units.
+use Rattle.std.proofs.Common.{◌≡◌, ◌≢◌, ℕ, zero, suc, ◌+◌, ◌*◌, ◌/◌, ◌<◌, ◌≤◌, Bool, true, false, ◌&&◌, ◌||◌, not, ◌==◌, if◌then◌else◌, List, [], ◌∷◌, filter, fold, max, min, length, take, get_or, Option, Some, None, Result, Ok, Err, IfOk, OnErr, inl, inr, refl, sym, ap, ap₂, ◌∙◌, subst, arith}
+use Rattle.std.specs.List.{find, list_all, range_with_len}
 use Rattle.std.proofs.Math.Path.{fun_ext}
-use Rattle.std.proofs.lemmas.Bool.{true≢false, cases_eq, cases_lt, lt-ltb, le-ltb, lt-leb, le-leb, eq-eqb, ne_eqb}
-use Rattle.std.specs.List.{filter}
+use Rattle.std.proofs.lemmas.List.{length-take-le, take-take, get_or-take}
+use Rattle.std.proofs.lemmas.Bool.{cases_Bool, cases_eq, cases_lt, and_parts, and_from, lt-ltb, le-ltb, lt-leb, le-leb, eq-eqb, ne_eqb}
 use Rattle.memory_histories.specs.declared.events.HistoryEvent.{HistoryEvent}
 use Rattle.memory_histories.specs.declared.events.Rest.{Rest}
 use Rattle.atomic_histories.specs.declared.unit.OpenStore.{OpenStore}
 use Rattle.atomic_histories.specs.declared.unit.UnitPlace.{UnitPlace}
-use Rattle.atomic_histories.specs.declared.memory.KeptUnit.{KeptUnit}
+use Rattle.atomic_histories.specs.declared.unit.WatchedLoad.{WatchedLoad}
+use Rattle.atomic_histories.specs.declared.stretches.Before.{Before}
+use Rattle.atomic_histories.specs.declared.stretches.Before.TheVariants.{Behind}
+use Rattle.atomic_histories.specs.declared.stretches.Stretch.{Stretch}
+use Rattle.atomic_histories.specs.declared.stretches.Stretch.TheVariants.{Overwritten}
+use Rattle.atomic_histories.specs.declared.pairs.FollowedPair.{FollowedPair}
+use Rattle.atomic_histories.specs.declared.kept.KeptUnit.{KeptUnit}
 use Rattle.atomic_histories.specs.declared.memory.UnitSize.{UnitSize}
 use Rattle.atomic_histories.specs.declared.memory.UnitSize.TheVariants.{One, Two, Four, Eight}
 use Rattle.atomic_histories.specs.Operations.{Opened, opened_after, form_fault}
-use Rattle.atomic_histories.specs.Law.{unit_at, is_store}
-use Rattle.atomic_histories.specs.Branches.{Branch, Aim, effect_of, effects_from, cons_effect, effects, with_branch, with_branches, out_after, next_after, met, rounds, answered, has_effect, has_answer, answer_aim, effect_aim, branch_without_load, branch_without_store}
-use Rattle.atomic_histories.specs.Held.{Held, first_ways, covered, units_of, ways_after, is_among}
-use Rattle.atomic_histories.specs.Judge.{bytes_of, kept_or, kept_at, IsTaken}
-use Rattle.atomic_histories.proofs.MayCome.{answer_hopes}
+use Rattle.atomic_histories.specs.Words.{byte_for, written, is_as_it_stood, is_word_of}
+use Rattle.atomic_histories.specs.Law.{unit_at, may_answer_store, done_store}
+use Rattle.atomic_histories.specs.Pasts.{Past, Stood, stood, begins, after, got, missed, oldest, earlier, cut_for, overwritten}
+use Rattle.atomic_histories.specs.Branches.{gives, may_come_in, may_come}
+use Rattle.atomic_histories.specs.Followed.{Pair, Ways, Aim, first_ways, has_way, effect_aim, word_aim, pair_after, cons_effect, effects_from, effects, with_pair, with_pairs, out_after, next_after, met, rounds, found, is_under, is_first, loads_without, moment_with, is_answer, pair_got, pair_missed, gathered, with_hope, answered_load, answered_store, ways_without_load}
+use Rattle.atomic_histories.specs.Held.{Held, covered, units_of, changed, is_among}
+use Rattle.atomic_histories.specs.Judge.{bytes_of, kept_or, kept_at, words_of, IsTaken}
+use Rattle.atomic_histories.specs.Shown.{past_at, past_of, pasts}
+use Rattle.atomic_histories.proofs.Shares.{stands}
+use Rattle.atomic_histories.proofs.Moving.{same_at}
 use Rattle.atomic_histories.specs.AtOnce.{IsUnitTaken, AreTaken, AreTakenOrSame}
 
--- One way. ----
+abbrev Word : Type 0
+Word = List (Option ℕ)
 
-met_alone : (n : ℕ) (aim : Aim) (e : Branch) → met n aim (e ∷ []) [] ≡ e ∷ []
-met_alone zero aim e = refl
-met_alone (suc n) aim e = met_alone n aim e
+-- The search from one pair. ----
 
-out_here : (goal : Branch → Bool) (e : Branch) → goal e ≡ true → out_after goal [] (e ∷ []) ≡ e ∷ []
-out_here goal e t = ap (λ b. if b then with_branch [] e else []) t
+met_alone : (loads : List WatchedLoad) (moment n : ℕ) (aim : Aim) (e : Pair) → met loads moment n aim (e ∷ []) [] ≡ e ∷ []
+met_alone loads moment zero aim e = refl
+met_alone loads moment (suc n) aim e = met_alone loads moment n aim e
 
--- a way that meets what is wanted is the one that is found
-pub answered_here : (aim : Aim) (without : Branch → Branch) (e : Branch) → aim.goal e ≡ true
-    → answered aim without (e ∷ []) ≡ without e ∷ []
-unfolding answered
-answered_here aim without e t =
+out_here : (goal : Pair → Bool) (e : Pair) → goal e ≡ true → out_after goal [] (e ∷ []) ≡ e ∷ []
+out_here goal e t = ap (λ b. if b then with_pair [] e else []) t
+
+-- a pair that meets what is wanted is the one that is found
+found_here : (loads : List WatchedLoad) (moment : ℕ) (aim : Aim) (e : Pair) → aim.goal e ≡ true
+    → found loads moment aim [] (e ∷ []) ≡ e ∷ []
+found_here loads moment aim e t =
     let n : ℕ = rounds (e ∷ []) in
-    let next : next_after aim (e ∷ []) ≡ [] = ap (λ b. if b then [] else with_branches [] (filter aim.hope (effects e))) t in
-    ap (λ out. with_branches [] (map without (met n aim out (next_after aim (e ∷ []))))) (out_here aim.goal e t)
-    ∙ (ap (λ es. with_branches [] (map without (met n aim (e ∷ []) es))) next
-    ∙ ap (λ found. with_branches [] (map without found)) (met_alone n aim e))
+    let next : next_after loads moment aim (e ∷ []) ≡ [] =
+    ap (λ b. if b then [] else with_pairs [] (filter aim.hope (effects loads moment e))) t in
+    ap (λ out. met loads moment n aim out (next_after loads moment aim (e ∷ []))) (out_here aim.goal e t)
+    ∙ (ap (met loads moment n aim (e ∷ [])) next ∙ met_alone loads moment n aim e)
 
--- so is what its one store makes of a way that doesn't
-pub answered_next : (aim : Aim) (without : Branch → Branch) (e : Branch) (s : OpenStore) → e.stores ≡ s ∷ [] → s.is_done ≡ false
-    → aim.goal e ≡ false → aim.goal (effect_of e [] s []) ≡ true → aim.hope (effect_of e [] s []) ≡ true
-    → answered aim without (e ∷ []) ≡ without (effect_of e [] s []) ∷ []
-unfolding answered
-answered_next aim without e s one open_ f t hope =
-    let on : Branch = effect_of e [] s [] in
-    let rest : List Branch → List Branch = λ found. with_branches [] (map without found) in
-    let made : effects e ≡ on ∷ [] = ap (effects_from e []) one ∙ ap (λ b. cons_effect b on []) open_ in
-    let hopeful : filter aim.hope (effects e) ≡ on ∷ [] = ap (filter aim.hope) made ∙ ap (λ b. if b then on ∷ [] else []) hope in
-    let out : out_after aim.goal [] (e ∷ []) ≡ [] = ap (λ b. if b then with_branch [] e else []) f in
-    let next : next_after aim (e ∷ []) ≡ on ∷ [] =
-    ap (λ b. if b then [] else with_branches [] (filter aim.hope (effects e))) f ∙ ap (with_branches []) hopeful in
-    ap (λ stores. rest (met (suc (max 0 (length stores))) aim [] (e ∷ []))) one
-    ∙ (ap (λ es. rest (met 1 aim es (next_after aim (e ∷ [])))) out
-    ∙ (ap (λ es. rest (met 1 aim [] es)) next ∙ ap rest (out_here aim.goal on t)))
+-- so is what its one store makes of a pair that doesn't
+found_next : (loads : List WatchedLoad) (moment : ℕ) (aim : Aim) (e : Pair) (s : OpenStore) → e.stores ≡ s ∷ [] → s.is_done ≡ false
+    → aim.goal e ≡ false → aim.goal (pair_after (overwritten loads moment e.word e.past) e [] s []) ≡ true
+    → aim.hope (pair_after (overwritten loads moment e.word e.past) e [] s []) ≡ true
+    → found loads moment aim [] (e ∷ []) ≡ pair_after (overwritten loads moment e.word e.past) e [] s [] ∷ []
+found_next loads moment aim e s one open_ f t hope =
+    let past : Past = overwritten loads moment e.word e.past in
+    let on : Pair = pair_after past e [] s [] in
+    let made : effects loads moment e ≡ on ∷ [] = ap (effects_from past e []) one ∙ ap (λ b. cons_effect b on []) open_ in
+    let hopeful : filter aim.hope (effects loads moment e) ≡ on ∷ [] =
+    ap (filter aim.hope) made ∙ ap (λ b. if b then on ∷ [] else []) hope in
+    let out : out_after aim.goal [] (e ∷ []) ≡ [] = ap (λ b. if b then with_pair [] e else []) f in
+    let next : next_after loads moment aim (e ∷ []) ≡ on ∷ [] =
+    ap (λ b. if b then [] else with_pairs [] (filter aim.hope (effects loads moment e))) f ∙ ap (with_pairs []) hopeful in
+    ap (λ stores. met loads moment (suc (max 0 (length stores))) aim [] (e ∷ [])) one
+    ∙ (ap (λ es. met loads moment 1 aim es (next_after loads moment aim (e ∷ []))) out
+    ∙ (ap (λ es. met loads moment 1 aim [] es) next ∙ out_here aim.goal on t))
 
--- a store that a way's answer waits for is its one store
-pub last_store : (number : ℕ) (e : Branch) (s : OpenStore) → e.stores ≡ s ∷ [] → has_effect number e ≡ false
-    → answered (effect_aim number) (branch_without_store number) (e ∷ [])
-    ≡ record { word = (effect_of e [] s []).word; stores = []; loads = (effect_of e [] s []).loads } ∷ []
-last_store number e s one f =
-    let waits : (is_store number s ≡ true) × (s.is_done ≡ false) = waits_for (is_store number s) s.is_done (rw one at f) in
-    let next : has_effect number (effect_of e [] s []) ≡ true = rw waits.0 refl in
-    answered_next (effect_aim number) (branch_without_store number) e s one waits.1 f next refl ∙ rw waits.0 refl
+-- Hope for the word that a store makes. ----
+
+or_left : (a b : Bool) → a ≡ true → (a || b) ≡ true
+or_left true b h = refl
+or_left false b h = cc
+
+or_right : (a b : Bool) → b ≡ true → (a || b) ≡ true
+or_right true b h = refl
+or_right false b h = h
+
+word_lane : (first : ℕ) (w : Word) (a : ℕ) (bs : List ℕ) (j : ℕ) → is_word_of first w a bs ≡ true
+    → is_as_it_stood (get_or w j None) (byte_for a bs (first + j)) ≡ true
+unfolding is_word_of
+word_lane first [] a bs j h = refl
+word_lane first (x ∷ w) a bs zero h = subst (λ p. is_as_it_stood x (byte_for a bs p) ≡ true) (omega arith) (and_parts _ _ h).0
+word_lane first (x ∷ w) a bs (suc j) h =
+    subst (λ p. is_as_it_stood (get_or w j None) (byte_for a bs p) ≡ true) (omega arith)
+    (word_lane (first + 1) w a bs j (and_parts _ _ h).1)
+
+none_asked : (x : Option ℕ) → is_as_it_stood x None ≡ true
+none_asked None = refl
+none_asked (Some b) = refl
+
+-- what a store makes stand in a lane stood there, or the store gives it
+lane_comes : (bs ws : Word) (k : ℕ) (answer : Option ℕ) → is_as_it_stood (get_or (written bs ws) k None) answer ≡ true
+    → (is_as_it_stood (get_or ws k None) answer || gives (get_or bs k None) answer) ≡ true
+unfolding written
+lane_comes [] ws k answer h = or_left (is_as_it_stood (get_or ws k None) answer) _ h
+lane_comes (x ∷ bs) [] k answer h = refl
+lane_comes (None ∷ bs) (w ∷ ws) zero answer h = or_left (is_as_it_stood w answer) _ h
+lane_comes (Some b ∷ bs) (w ∷ ws) zero None h = or_left (is_as_it_stood w None) _ (none_asked w)
+lane_comes (Some b ∷ bs) (w ∷ ws) zero (Some c) h = or_right (is_as_it_stood w (Some c)) (b == c) h
+lane_comes (x ∷ bs) (w ∷ ws) (suc k) answer h = lane_comes bs ws k answer h
+
+all_true : {X : Type 0} (p : X → Bool) → ((x : X) → p x ≡ true) → (xs : List X) → list_all p xs ≡ true
+all_true p f [] = refl
+all_true p f (x ∷ xs) = and_from (p x) (list_all p xs) (f x) (all_true p f xs)
+
+-- a word that is an answer's hopes for it
+pub word_hope : (unit : UnitPlace) (address : ℕ) (bytes : List ℕ) (word : Word) (stores : List OpenStore)
+    → is_word_of unit.first word address bytes ≡ true → may_come unit address bytes word stores ≡ true
+word_hope unit address bytes word stores h =
+    all_true (λ k. may_come_in k word stores (byte_for address bytes (unit.first + k)))
+    (λ k. or_left (is_as_it_stood (get_or word k None) (byte_for address bytes (unit.first + k))) _
+    (word_lane unit.first word address bytes k h)) (range_with_len 0 8)
+
+-- so does one of which a store makes it
+pub next_hope : (unit : UnitPlace) (address : ℕ) (bytes : List ℕ) (word : Word) (s : OpenStore) → s.is_done ≡ false
+    → is_word_of unit.first (written s.bytes word) address bytes ≡ true → may_come unit address bytes word (s ∷ []) ≡ true
+next_hope unit address bytes word s open_ h =
+    all_true (λ k. may_come_in k word (s ∷ []) (byte_for address bytes (unit.first + k))) each (range_with_len 0 8)
   where
-    waits_for : (a d : Bool) → ((not a || d) && true) ≡ false → (a ≡ true) × (d ≡ false)
-    waits_for true true h = absurd (true≢false h)
-    waits_for true false h = (refl, refl)
-    waits_for false d h = absurd (true≢false h)
+    last : (a b d : Bool) → d ≡ false → (a || b) ≡ true → (a || ((not d && b) || false)) ≡ true
+    last true b d e t = refl
+    last false true d e t = rw e refl
+    last false false d e t = cc
 
-pub store_taken : (number : ℕ) (e next : Branch) (ss : List OpenStore) → e.stores ≡ ss → length ss ≡ 1 → has_effect number e ≡ false
-    → ((d : OpenStore) → next ≡ effect_of e (take 0 ss) (slice_index_or ss 0 d) (drop (0 + 1) ss))
-    → answered (effect_aim number) (branch_without_store number) (e ∷ [])
-    ≡ record { word = next.word; stores = []; loads = next.loads } ∷ []
-store_taken number e next [] same one f made = absurd (omega arith)
-store_taken number e next (s ∷ []) same one f made =
-    last_store number e s same f
-    ∙ ap (λ (x : Branch). record { word = x.word; stores = []; loads = x.loads } ∷ []) (sym (made s))
-store_taken number e next (s ∷ t ∷ ts) same one f made = absurd (omega arith)
+    each : (k : ℕ) → may_come_in k word (s ∷ []) (byte_for address bytes (unit.first + k)) ≡ true
+    each k =
+        last (is_as_it_stood (get_or word k None) (byte_for address bytes (unit.first + k)))
+        (gives (get_or s.bytes k None) (byte_for address bytes (unit.first + k))) s.is_done open_
+        (lane_comes s.bytes word k (byte_for address bytes (unit.first + k))
+        (word_lane unit.first (written s.bytes word) address bytes k h))
 
--- a load that waits for a way's one store
-pub load_taken : (unit : UnitPlace) (number : ℕ) (bytes : List ℕ) (e on : Branch) (ss : List OpenStore) → e.stores ≡ ss → length ss ≡ 1
-    → ((d : OpenStore) → (slice_index_or ss 0 d).is_done ≡ false) → has_answer unit number bytes e ≡ false
-    → ((d : OpenStore) → on ≡ effect_of e (take 0 ss) (slice_index_or ss 0 d) (drop (0 + 1) ss)) → has_answer unit number bytes on ≡ true
-    → answered (answer_aim unit number bytes) (branch_without_load number) (e ∷ []) ≡ branch_without_load number on ∷ []
-load_taken unit number bytes e on [] same one open_ f made t = absurd (omega arith)
-load_taken unit number bytes e on (s ∷ []) same one open_ f made t =
-    let on_s : Branch = effect_of e [] s [] in
-    let there : has_answer unit number bytes on_s ≡ true = ap (has_answer unit number bytes) (sym (made s)) ∙ t in
-    answered_next (answer_aim unit number bytes) (branch_without_load number) e s same (open_ s) f there
-    (answer_hopes unit number bytes on_s there)
-    ∙ ap (λ x. branch_without_load number x ∷ []) (sym (made s))
-load_taken unit number bytes e on (s ∷ x ∷ xs) same one open_ f made t = absurd (omega arith)
+-- Loads. ----
+
+-- it is the word of a stretch, or one before that
+stands_in : (ss : List Stretch) (end i : ℕ) (s : Stretch) → i < end → end ≤ length ss → s ≡ get_or ss i s
+    → past_at (pasts (take end ss)) (Behind i) ≡ past_of (pasts (take i ss)) s
+stands_in ss end i s l le e =
+    stands (take end ss) i s (omega (arith, length-take-le end ss le)) (e ∙ sym (get_or-take end ss i s l))
+    ∙ ap (λ xs. past_of (pasts xs) s) (take-take i end ss (omega (arith, l)))
+
+-- the word of a stretch, on the past of those before it
+pub stood_at : (ss : List Stretch) (end i : ℕ) (d : Stretch) (b earlier : Before) (word : Word) (moment : ℕ) → i < end → end ≤ length ss
+    → get_or ss i d ≡ Overwritten word moment earlier → b ≡ Behind i
+    → past_at (pasts (take end ss)) b ≡ after word moment (past_at (pasts (take i ss)) earlier)
+stood_at ss end i d b earlier word moment l le is at_ =
+    let s : Stretch = Overwritten word moment earlier in
+    ap (past_at (pasts (take end ss))) at_
+    ∙ stands_in ss end i s l le (sym is ∙ same_at ss i d s (omega (arith, l, le)))
+
+pub may_answer : (unit : UnitPlace) (address since : ℕ) (bytes : List ℕ) (word : Word) (moment : ℕ) (b : Bool) → since ≤ moment
+    → is_word_of unit.first word address bytes ≡ b → is_answer unit address since bytes (stood word moment) ≡ b
+may_answer unit address since bytes word moment b le e = rw (le-leb since moment le) e
+
+pub got_here : (is : Stood → Bool) (p q : Past) (word : Word) (moment : ℕ) → p ≡ after word moment q → is (stood word moment) ≡ true
+    → got is p ≡ Some p
+got_here is p q word moment e t = subst (λ x. got is x ≡ Some x) (sym e) (rw t refl)
+
+pub got_later : (is : Stood → Bool) (p q : Past) (word : Word) (moment : ℕ) → p ≡ after word moment q → is (stood word moment) ≡ false
+    → got is q ≡ Some q → got is p ≡ Some p
+got_later is p q word moment e f g = subst (λ x. got is x ≡ Some x) (sym e) (rw (f, g) refl)
+
+pub missed_here : (is : Stood → Bool) (p q : Past) (word : Word) (moment : ℕ) → p ≡ after word moment q → is (stood word moment) ≡ true
+    → missed is p ≡ None
+missed_here is p q word moment e t = subst (λ x. missed is x ≡ None) (sym e) (rw t refl)
+
+pub missed_later : (is : Stood → Bool) (p q : Past) (word : Word) (moment : ℕ) → p ≡ after word moment q → is (stood word moment) ≡ false
+    → missed is q ≡ None → missed is p ≡ None
+missed_later is p q word moment e f m = subst (λ x. missed is x ≡ None) (sym e) (rw (f, m) refl)
+
+-- one that may have got the word that the one store makes, where nothing stood before
+load_next : (unit : UnitPlace) (bytes : List ℕ) (l : WatchedLoad) (u : Ways) (e : Pair) (s : OpenStore) → u.pairs ≡ e ∷ []
+    → e.stores ≡ s ∷ [] → s.is_done ≡ false → e.past ≡ begins → is_word_of unit.first e.word l.address bytes ≡ false
+    → is_word_of unit.first (written s.bytes e.word) l.address bytes ≡ true
+    → answered_load unit bytes (Some l) u ≡ pair_after (overwritten u.loads u.moment e.word e.past) e [] s [] ∷ []
+load_next unit bytes l u e s one store open_ past f t =
+    let aim : Aim = word_aim unit l.address bytes in
+    let on : Pair = pair_after (overwritten u.loads u.moment e.word e.past) e [] s [] in
+    let hope : may_come unit l.address bytes e.word e.stores ≡ true =
+    subst (λ ss. may_come unit l.address bytes e.word ss ≡ true) (sym store) (next_hope unit l.address bytes e.word s open_ t) in
+    let got_ : gathered (pair_got unit bytes l) u.pairs ≡ [] = rw (one, f, past) refl in
+    let missed_ : with_hope aim (gathered (pair_missed unit bytes l) u.pairs) ≡ e ∷ [] = rw (one, f, past, hope) refl in
+    ap₂ (found u.loads u.moment aim) got_ missed_
+    ∙ found_next u.loads u.moment aim e s store open_ f t (word_hope unit l.address bytes on.word on.stores t)
+
+-- What an open load may ask for, once another is answered. ----
+
+some_oldest : (since : ℕ) (ls : List WatchedLoad) → fold earlier (Some since) ls ≡ None → ⊥
+some_oldest since [] h = cc
+some_oldest since (l ∷ ls) h = some_oldest (min since l.since) ls h
+
+pub behind_none : (ls : List WatchedLoad) (moment : ℕ) (word : Word) → oldest ls ≡ None → overwritten ls moment word begins ≡ begins
+behind_none [] moment word h = refl
+behind_none (l ∷ ls) moment word h = absurd (some_oldest l.since ls h)
+
+pub behind_some : (ls : List WatchedLoad) (moment since : ℕ) (word : Word) → oldest ls ≡ Some since
+    → overwritten ls moment word begins ≡ after word moment begins
+behind_some [] moment since word h = cc
+behind_some (l ∷ ls) moment since word h = refl
+
+pub cut_none : (ls : List WatchedLoad) (moment : ℕ) (word : Word) → oldest ls ≡ None
+    → cut_for (oldest ls) (overwritten ls moment word begins) ≡ overwritten ls moment word begins
+cut_none [] moment word h = refl
+cut_none (l ∷ ls) moment word h = absurd (some_oldest l.since ls h)
+
+cut_left : (ls : List WatchedLoad) (moment : ℕ) (word : Word)
+    → cut_for (oldest ls) (overwritten ls moment word begins) ≡ overwritten ls moment word begins
+    → cut_for (oldest ls) (after word moment begins) ≡ overwritten ls moment word begins
+cut_left [] moment word h = refl
+cut_left (l ∷ ls) moment word h = h
+
+-- a pair over whose word another stands, of which no load is asked for but those that are left
+behind : (number moment : ℕ) (ls : List WatchedLoad) (l : WatchedLoad) (es : List Pair) (word new : Word) (stores : List OpenStore)
+    → find (is_under number) ls ≡ Some l
+    → cut_for (oldest (loads_without number ls)) (overwritten (loads_without number ls) moment word begins)
+    ≡ overwritten (loads_without number ls) moment word begins
+    → record {
+      loads = loads_without number ls;
+      moment = moment_with moment (loads_without number ls);
+      pairs = record { word = new; stores = stores; past = overwritten (loads_without number ls) moment word begins } ∷ [];
+    } ≡ ways_without_load number (record { loads = ls; moment = moment; pairs = es })
+    (record { word = new; stores = stores; past = overwritten ls moment word begins } ∷ [])
+behind number moment [] l es word new stores is cut_ = cc
+behind number moment (k ∷ ks) l es word new stores is cut_ = elim (cases_Bool (is_under number k)) [
+  | inl t ↦
+      let left : List WatchedLoad = loads_without number ks in
+      rw t (ap (λ past. let w : Ways = record {
+        loads = left;
+        moment = moment_with moment left;
+        pairs = record { word = new; stores = stores; past = past } ∷ [];
+      } in w) (sym (cut_left left moment word (rw t at cut_))))
+  | inr n ↦ rw n refl
+]
+
+pub later_taken : (unit : UnitPlace) (bytes : List ℕ) (number : ℕ) (l : WatchedLoad) (u : Ways) (e : Pair) (s : OpenStore) → u.pairs ≡ e ∷ []
+    → e.stores ≡ s ∷ [] → s.is_done ≡ false → e.past ≡ begins → find (is_under number) u.loads ≡ Some l
+    → is_word_of unit.first e.word l.address bytes ≡ false → is_word_of unit.first (written s.bytes e.word) l.address bytes ≡ true
+    → cut_for (oldest (loads_without number u.loads)) (overwritten (loads_without number u.loads) u.moment e.word begins)
+    ≡ overwritten (loads_without number u.loads) u.moment e.word begins
+    → record {
+      loads = loads_without number u.loads;
+      moment = moment_with u.moment (loads_without number u.loads);
+      pairs = record {
+        word = written s.bytes e.word;
+        stores = done_store s ∷ [];
+        past = overwritten (loads_without number u.loads) u.moment e.word begins;
+      } ∷ [];
+    } ≡ ways_without_load number u (answered_load unit bytes (Some l) u)
+later_taken unit bytes number l u e s one store open_ past is f t cut_ =
+    behind number u.moment u.loads l u.pairs e.word (written s.bytes e.word) (done_store s ∷ []) is cut_
+    ∙ (ap (λ p. ways_without_load number u (record { word = written s.bytes e.word; stores = done_store s ∷ []; past = overwritten u.loads u.moment e.word p } ∷ [])) (sym past)
+    ∙ ap (ways_without_load number u) (sym (load_next unit bytes l u e s one store open_ past f t)))
+
+pub load_left : (number : ℕ) (u : Ways) (e : Pair) → has_way (ways_without_load number u (e ∷ [])) ≡ true
+load_left number u e = elim (cases_Bool (is_first number u.loads)) [ inl t ↦ rw t refl | inr n ↦ rw n refl ]
+
+-- Stores. ----
+
+pub store_here : (number : ℕ) (u : Ways) (e : Pair) → u.pairs ≡ e ∷ [] → may_answer_store number e.stores ≡ true
+    → answered_store number u ≡ e ∷ []
+store_here number u e one t =
+    ap (found u.loads u.moment (effect_aim number) []) one ∙ found_here u.loads u.moment (effect_aim number) e t
+
+-- One pair. ----
+
+pub one_pair : (ps : List FollowedPair) (d : FollowedPair) → length ps ≡ 1 → ps ≡ get_or ps 0 d ∷ []
+one_pair [] d h = absurd (omega (arith, h))
+one_pair (p ∷ []) d h = refl
+one_pair (p ∷ q ∷ ps) d h = absurd (omega (arith, h))
 
 -- Units. ----
 
@@ -128,7 +307,7 @@ one_taken h next event number here one taken others image rest size opened = rec
   units = λ k. elim (cases_eq number k) [
     | inl same ↦
         rw (among_one h.size (covered h.opened event) number k here one, eq-eqb number k same)
-        (ap next.units (sym same) ∙ (taken.0 ∙ ap (ways_after h event) same))
+        (ap next.units (sym same) ∙ (taken.0 ∙ ap (changed h event) same))
     | inr other ↦
         rw (among_one h.size (covered h.opened event) number k here one, ne_eqb number k other) (others k (λ e. other (sym e)))
   ];
@@ -137,46 +316,54 @@ one_taken h next event number here one taken others image rest size opened = rec
 -- what is kept, with these units
 abbrev kept : List ℕ → Rest → ℕ → Opened → (ℕ → Option KeptUnit) → Held
 kept image rest size opened f =
-    record { image = image; rest = rest; size = size; opened = opened; units = kept_at image rest size f }
+    record { image = image; rest = rest; size = size; opened = opened; units = kept_at image rest size f; words = λ k. words_of (f k) }
 
 -- a unit that shows the same
 same_kept : (image : List ℕ) (rest : Rest) (size : ℕ) (opened : Opened) (f g : ℕ → Option KeptUnit) (number : ℕ)
-    → ((first : List Branch) → kept_or (g number) first ≡ kept_or (f number) first) → ((k : ℕ) → k ≢ number → g k ≡ f k)
-    → kept image rest size opened g ≡ kept image rest size opened f
-same_kept image rest size opened f g number same others =
+    → ((first : Ways) → kept_or (g number) first ≡ kept_or (f number) first) → words_of (g number) ≡ words_of (f number)
+    → ((k : ℕ) → k ≢ number → g k ≡ f k) → kept image rest size opened g ≡ kept image rest size opened f
+same_kept image rest size opened f g number same words others =
     let each : (k : ℕ) → kept_at image rest size g k ≡ kept_at image rest size f k = λ k. elim (cases_eq k number) [
       | inl e ↦
           subst (λ j. kept_at image rest size g j ≡ kept_at image rest size f j) (sym e)
           (same (first_ways image rest (unit_at size number)))
       | inr n ↦ ap (λ x. kept_or x (first_ways image rest (unit_at size k))) (others k n)
     ] in
-    ap (λ u. record { image = image; rest = rest; size = size; opened = opened; units = u }) (fun_ext each)
+    let each_words : (k : ℕ) → words_of (g k) ≡ words_of (f k) = λ k. elim (cases_eq k number) [
+      | inl e ↦ subst (λ j. words_of (g j) ≡ words_of (f j)) (sym e) words
+      | inr n ↦ ap words_of (others k n)
+    ] in
+    ap₂ (λ u w. let h : Held = record { image = image; rest = rest; size = size; opened = opened; units = u; words = w } in h)
+    (fun_ext each) (fun_ext each_words)
 
 pub taken_at : {E : Type 0} (r : Result Bool E) (image : List ℕ) (rest : Rest) (size : ℕ) (opened : Opened) (event : HistoryEvent)
     (f g : ℕ → Option KeptUnit) (number : ℕ)
     → number ≡ (covered opened event).0 / size
     → units_of size (covered opened event).0 (covered opened event).1 ≡ 1
-    → IfOk r (λ taken. (first : List Branch) →
+    → IfOk r (λ taken. (first : Ways) →
     IsUnitTaken (unit_at size number) event (kept_or (f number) first) (kept_or (g number) first) taken)
+    → IfOk r (λ taken. taken ≡ false → words_of (g number) ≡ words_of (f number))
     → ((k : ℕ) → k ≢ number → g k ≡ f k)
     → IfOk r (AreTakenOrSame (kept image rest size opened f) event (kept image rest size opened g))
-taken_at (Err e) image rest size opened event f g number here one taken others = tt
-taken_at (Ok false) image rest size opened event f g number here one taken others =
-    same_kept image rest size opened f g number taken others
-taken_at (Ok true) image rest size opened event f g number here one taken others =
+taken_at (Err e) image rest size opened event f g number here one taken words others = tt
+taken_at (Ok false) image rest size opened event f g number here one taken words others =
+    same_kept image rest size opened f g number taken (words refl) others
+taken_at (Ok true) image rest size opened event f g number here one taken words others =
     one_taken (kept image rest size opened f) (kept image rest size opened g) event number here one
     (taken (first_ways image rest (unit_at size number)))
     (λ k n. ap (λ x. kept_or x (first_ways image rest (unit_at size k))) (others k n)) refl refl refl refl
 
 pub untaken_at : {E : Type 0} (r : Result Bool E) (image : List ℕ) (rest : Rest) (size : ℕ) (opened : Opened) (f g : ℕ → Option KeptUnit)
-    (number : ℕ) → OnErr r ((first : List Branch) → kept_or (g number) first ≡ kept_or (f number) first)
+    (number : ℕ) → OnErr r ((first : Ways) → kept_or (g number) first ≡ kept_or (f number) first)
+    → OnErr r (words_of (g number) ≡ words_of (f number))
     → ((k : ℕ) → k ≢ number → g k ≡ f k) → OnErr r (kept image rest size opened g ≡ kept image rest size opened f)
-untaken_at (Ok taken) image rest size opened f g number same others = tt
-untaken_at (Err e) image rest size opened f g number same others = same_kept image rest size opened f g number same others
+untaken_at (Ok taken) image rest size opened f g number same words others = tt
+untaken_at (Err e) image rest size opened f g number same words others =
+    same_kept image rest size opened f g number same words others
 
 -- the operations that are open change behind the units
 pub taken_open : (h room mid next : Held) (event : HistoryEvent) → form_fault h.opened event ≡ None → room ≡ h → AreTaken room event mid
-    → next ≡ record { image = mid.image; rest = mid.rest; size = mid.size; opened = opened_after mid.opened event; units = mid.units }
+    → next ≡ record { image = mid.image; rest = mid.rest; size = mid.size; opened = opened_after mid.opened event; units = mid.units; words = mid.words }
     → IsTaken h event next
 taken_open h room mid next event formed same taken_there e =
     let taken : AreTaken h event mid = subst (λ x. AreTaken x event mid) same taken_there in

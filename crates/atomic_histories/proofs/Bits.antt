@@ -5,7 +5,7 @@ use Rattle.std.proofs.lemmas.Nat.Bits.{bit_at_above}
 use Rattle.std.proofs.lemmas.List.{at_drop_more, take_more_set, drop_all}
 use Rattle.std.specs.Option.{option_eq}
 use Rattle.memory_histories.specs.Regular.{has_enabled}
-use Rattle.atomic_histories.specs.Branches.{is_same_word, are_same_lanes}
+use Rattle.atomic_histories.specs.Followed.{is_same_word, are_same_lanes}
 use Rattle.atomic_histories.specs.Words.{enabled_byte, byte_for, stored_byte, written_byte, written, is_as_it_stood, is_word_of}
 
 pub none_above : (bytes : List ℕ) (enables k : ℕ) → enables < 2 ^ 64 → 64 ≤ k → enabled_byte bytes enables k ≡ None

@@ -1,28 +1,44 @@
 -- The ways that are followed are exact: after each event they lead to what the unit may be, and to nothing else.
-use Rattle.std.proofs.Common.{◌≡◌, ℕ, suc, Bool, true, false, if◌then◌else◌, List, [], ◌∷◌, ◌++◌, map, Option, Some, None, is_some, fold, append_assoc, append-nil, inl, inr, refl, sym, ap, ◌∙◌, subst}
-use Rattle.std.specs.List.{list_any}
+use Rattle.std.proofs.Common.{◌≡◌, ℕ, suc, ◌+◌, ◌≤◌, Bool, true, false, if◌then◌else◌, List, [], ◌∷◌, ◌++◌, map, Option, Some, None, is_some, fold, append_assoc, append-nil, inl, inr, refl, sym, ap, ◌∙◌, subst, arith}
+use Rattle.std.specs.List.{list_any, find}
+use Rattle.std.proofs.lemmas.List.{map-append}
 use Rattle.memory_histories.specs.declared.events.HistoryEvent.{HistoryEvent}
 use Rattle.memory_histories.specs.declared.events.HistoryEvent.TheVariants.{LoadRequest, LoadResponse, StoreRequest, StoreResponse}
 use Rattle.memory_histories.specs.declared.events.Rest.{Rest}
 use Rattle.atomic_histories.specs.declared.unit.UnitPlace.{UnitPlace}
+use Rattle.atomic_histories.specs.declared.unit.WatchedLoad.{WatchedLoad}
 use Rattle.atomic_histories.specs.Words.{at_unit, stored_byte, is_at}
 use Rattle.atomic_histories.specs.Law.{OpenLoad, UnitMemory, HiddenStep, MayBe, starts, steps, sees, untouched, seen, with_load, with_store, without_load, without_store, may_answer_load, may_answer_store}
-use Rattle.atomic_histories.specs.Branches.{Watched, Branch, Aim, first_branch, answered, met, rounds, answer_aim, effect_aim, branch_without_load, branch_without_store, branch_with_load, branch_with_store, branches_after}
-use Rattle.atomic_histories.specs.Stands.{Each, One, AreWatched, IsOn, Leads, now, StandsFor}
-use Rattle.atomic_histories.proofs.Lists.{one_weaker, one_map, one_each, each_weaker, each_map}
-use Rattle.atomic_histories.proofs.Same.{IsJoined, joined_on, new_withs, each_withs}
-use Rattle.atomic_histories.proofs.Steps.{leads_on, sound_effect}
-use Rattle.atomic_histories.proofs.Found.{IsKept, IsGoal, HasHopes, met_sound, met_complete}
+use Rattle.atomic_histories.specs.Pasts.{Stood}
+use Rattle.atomic_histories.specs.Branches.{Watched, Branch, has_answer, branch_with_load, branch_with_store}
+use Rattle.atomic_histories.specs.Followed.{Pair, Ways, Aim, first_ways, watched, way_on, rounds, effect_aim, word_aim, is_under, is_first, pair_got, pair_missed, gathered, with_hope, answered_load, answered_store, pair_without_store, pair_with_store, ways_with_load, ways_with_store, ways_without_load, ways_without_store, ways_after, loads_without}
+use Rattle.atomic_histories.specs.Stands.{Each, One, EachWay, OneWay, IsAsked, IsPairBy, AreWatched, IsOn, Leads, now, StandsFor}
+use Rattle.atomic_histories.proofs.Lists.{snoc_same, one_weaker, one_map, each_weaker, each_map, each_both, each_append, each_filter}
+use Rattle.atomic_histories.proofs.Alone.{IsAlone}
+use Rattle.atomic_histories.proofs.Apart.{IsShaped, event_shaped}
+use Rattle.atomic_histories.proofs.Steps.{leads_on}
+use Rattle.atomic_histories.proofs.Paths.{some_path, by_weaker, path_by, seen_none}
+use Rattle.atomic_histories.proofs.Found.{IsJoint, IsSound, IsFor, sound_joint, sound_kept, each_joint, met_sound, found_complete}
 use Rattle.atomic_histories.proofs.Events.{leads_with_load, sound_with_load, leads_with_store, sound_with_store, leads_without_store, sound_without_store}
-use Rattle.atomic_histories.proofs.Answers.{answer_on, sound_without_load, answer_carried, effect_carried}
-use Rattle.atomic_histories.proofs.MayCome.{hope_leads}
-use Rattle.atomic_histories.proofs.Covered.{leads_shown, leads_without_load}
+use Rattle.atomic_histories.proofs.Answering.{sound_without_load, leads_without_load}
+use Rattle.atomic_histories.proofs.Answered.{HasAnswers, answers_none, word_answers, got_sound, missed_sound, is_for, split_complete, way_without, each_cut, one_cut, left_asked, moment_asked, moment_by}
 
-abbrev pub IsSound : (UnitMemory → Type 0) → Branch → Type 0
-IsSound P e = (m : UnitMemory) → IsOn e m → P m
+-- the states on a way have a property
+abbrev pub SoundOn : (UnitMemory → Type 0) → Branch → Type 0
+SoundOn P b = (m : UnitMemory) → IsOn b m → P m
 
 abbrev IsClosed : (UnitMemory → Type 0) → Type 0
 IsClosed P = (m n : UnitMemory) → P m → HiddenStep m n → P n
+
+-- the states that the ways lead to have a property
+pub record Fits (P : UnitMemory → Type 0) (u : Ways) : Type 0 where
+  pub asked : Each (IsAsked u.moment) u.loads
+  pub timely : Each (IsPairBy u.moment) u.pairs
+  pub sound : Each (EachWay u.loads (SoundOn P)) u.pairs
+
+-- one of the ways leads to a state
+abbrev pub LeadsTo : Ways → UnitMemory → Type 0
+LeadsTo u m = One (OneWay u.loads (λ b. Leads b m)) u.pairs
 
 if_true : {X : Type 0} (b : Bool) (x y : X) → b ≡ true → (if b then x else y) ≡ x
 if_true true x y h = refl
@@ -32,165 +48,307 @@ some_if : {X : Type 0} (b : Bool) (x n : X) → (if b then Some x else None) ≡
 some_if true x n h = (refl, cc)
 some_if false x n h = cc
 
--- Answers. ----
+-- A load is requested. ----
 
-kept_sound : (P : UnitMemory → Type 0) → IsClosed P → IsKept (IsSound P)
-kept_sound P closed e before s after h split o = sound_effect P closed e before s after h split o
+new_load : ℕ → ℕ → ℕ → WatchedLoad
+new_load number address n = record { number = number; address = address; since = n + 1 }
 
-pub joined_sound : (P : UnitMemory → Type 0) → IsJoined (IsSound P)
-joined_sound P f e j a b = λ m o. elim (joined_on f e j m o) [ inl x ↦ a m x | inr x ↦ b m x ]
+way_requested : (number address n : ℕ) (ls : List WatchedLoad) (e : Pair) (path : List Stood) → Each (λ s. s.moment ≤ n) path
+    → way_on (ls ++ new_load number address n ∷ []) e path ≡ branch_with_load number address (way_on ls e path)
+unfolding new_load
+way_requested number address n ls e path by =
+    let none : watched path (new_load number address n) ≡ record { number = number; address = address; words = [] } =
+    (λ i. record { number = number; address = address; words = seen_none n path by i }) in
+    let loads : map (watched path) (ls ++ new_load number address n ∷ [])
+    ≡ map (watched path) ls ++ record { number = number; address = address; words = [] } ∷ [] =
+    map-append (watched path) ls (new_load number address n ∷ []) ∙ ap (λ x. map (watched path) ls ++ x ∷ []) none in
+    λ i. record { word = e.word; stores = e.stores; loads = loads i }
 
-answered_sound : (P Q : UnitMemory → Type 0) → IsClosed P → (aim : Aim) → IsGoal aim.goal → (without : Branch → Branch)
-    → ((e : Branch) → aim.goal e ≡ true → ((m : UnitMemory) → IsOn e m → P m) → IsSound Q (without e)) → (es : List Branch)
-    → Each (IsSound P) es → Each (IsSound Q) (answered aim without es)
-unfolding answered
-answered_sound P Q closed aim g without f es a =
-    let found : List Branch = met (suc (rounds es)) aim [] es in
-    let all : Each (λ e. IsSound P e × (aim.goal e ≡ true)) found =
-    met_sound (IsSound P) (joined_sound P) (kept_sound P closed) (suc (rounds es)) aim g [] es tt a in
-    let each : Each (λ e. IsSound Q (without e)) found =
-    each_weaker (λ e. IsSound P e × (aim.goal e ≡ true)) (λ e. IsSound Q (without e)) (λ e p. f e p.1 p.0) found all in
-    each_withs (IsSound Q) (joined_sound Q) [] (map without found) tt (each_map without (IsSound Q) found each)
+asked_more : (n : ℕ) (ls : List WatchedLoad) → Each (IsAsked n) ls → Each (IsAsked (n + 1)) ls
+asked_more n ls a = each_weaker (IsAsked n) (IsAsked (n + 1)) (λ l h. omega (arith, h)) ls a
+
+timely_more : (n : ℕ) (es : List Pair) → Each (IsPairBy n) es → Each (IsPairBy (n + 1)) es
+timely_more n es a = let less : n ≤ n + 1 = omega arith in each_weaker (IsPairBy n) (IsPairBy (n + 1)) (λ e h. by_weaker n (n + 1) less e.past h) es a
+
+requested_load_fits : (number address : ℕ) (P Q : UnitMemory → Type 0) → IsClosed Q → (b : Bool)
+    → ((m n : UnitMemory) → P m → Some (if b then with_load number address m else m) ≡ Some n → Q n)
+    → (u : Ways) → Fits P u → Fits Q (if b then ways_with_load number address u else u)
+unfolding new_load
+requested_load_fits number address P Q closed true f u s =
+    let same : u.moment + 1 ≤ u.moment + 1 = omega arith in
+    record {
+      asked = each_append (IsAsked (u.moment + 1)) u.loads (new_load number address u.moment ∷ []) (asked_more u.moment u.loads s.asked)
+          (same, tt);
+      timely = timely_more u.moment u.pairs s.timely;
+      sound = each_weaker (λ e. EachWay u.loads (SoundOn P) e × IsPairBy u.moment e)
+          (EachWay (u.loads ++ new_load number address u.moment ∷ []) (SoundOn Q))
+          (λ e h path has.
+          subst (SoundOn Q) (sym (way_requested number address u.moment u.loads e path (path_by u.moment e.past path h.1 has)))
+          (λ m o. sound_with_load number address P Q closed (λ k p. f k (with_load number address k) p refl) (way_on u.loads e path)
+          (h.0 path has) m o)) u.pairs
+          (each_both (EachWay u.loads (SoundOn P)) (IsPairBy u.moment) u.pairs s.sound s.timely);
+    }
+requested_load_fits number address P Q closed false f u s = record {
+  asked = s.asked;
+  timely = s.timely;
+  sound = each_weaker (EachWay u.loads (SoundOn P)) (EachWay u.loads (SoundOn Q)) (λ e h path has m o. f m m (h path has m o) refl) u.pairs s.sound;
+}
+
+one_both : (P Q : Pair → Type 0) (es : List Pair) → One P es → Each Q es → One (λ e. P e × Q e) es
+one_both P Q [] o a = absurd o
+one_both P Q (e ∷ es) (inl p) a = inl (p, a.0)
+one_both P Q (e ∷ es) (inr o) a = inr (one_both P Q es o a.1)
+
+requested_load_leads : (number address : ℕ) (b : Bool) (m n : UnitMemory) → Some (if b then with_load number address m else m) ≡ Some n
+    → (u : Ways) → Each (IsPairBy u.moment) u.pairs → LeadsTo u m → LeadsTo (if b then ways_with_load number address u else u) n
+unfolding new_load
+requested_load_leads number address true m n h u by o =
+    let same : with_load number address m ≡ n = cc in
+    one_weaker (λ e. OneWay u.loads (λ b. Leads b m) e × IsPairBy u.moment e)
+    (OneWay (u.loads ++ new_load number address u.moment ∷ []) (λ b. Leads b n))
+    (λ e p. (
+      p.0.0,
+      p.0.1,
+      subst (λ b. Leads b n) (sym (way_requested number address u.moment u.loads e p.0.0
+          (path_by u.moment e.past p.0.0 p.1 p.0.1)))
+          (subst (λ x. Leads (branch_with_load number address (way_on u.loads e p.0.0)) x) same
+          (leads_with_load number address (way_on u.loads e p.0.0) m p.0.2)),
+    )) u.pairs
+    (one_both (OneWay u.loads (λ b. Leads b m)) (IsPairBy u.moment) u.pairs o by)
+requested_load_leads number address false m n h u by o = let same : m ≡ n = cc in subst (LeadsTo u) same o
+
+-- A store is requested. ----
+
+requested_store_fits : (number : ℕ) (bytes : List (Option ℕ)) (P Q : UnitMemory → Type 0) → (b : Bool)
+    → ((m n : UnitMemory) → P m → Some (if b then with_store number bytes m else m) ≡ Some n → Q n)
+    → (u : Ways) → Fits P u → Fits Q (if b then ways_with_store number bytes u else u)
+requested_store_fits number bytes P Q true f u s = record {
+  asked = s.asked;
+  timely = each_map (pair_with_store number bytes) (IsPairBy u.moment) u.pairs s.timely;
+  sound = each_map (pair_with_store number bytes) (EachWay u.loads (SoundOn Q)) u.pairs
+      (each_weaker (EachWay u.loads (SoundOn P)) (λ e. EachWay u.loads (SoundOn Q) (pair_with_store number bytes e))
+      (λ e h path has m o. sound_with_store number bytes P Q (λ k p. f k (with_store number bytes k) p refl) (way_on u.loads e path)
+      (h path has) m o) u.pairs s.sound);
+}
+requested_store_fits number bytes P Q false f u s = record {
+  asked = s.asked;
+  timely = s.timely;
+  sound = each_weaker (EachWay u.loads (SoundOn P)) (EachWay u.loads (SoundOn Q)) (λ e h path has m o. f m m (h path has m o) refl) u.pairs s.sound;
+}
+
+requested_store_leads : (number : ℕ) (bytes : List (Option ℕ)) (b : Bool) (m n : UnitMemory)
+    → Some (if b then with_store number bytes m else m) ≡ Some n → (u : Ways) → LeadsTo u m
+    → LeadsTo (if b then ways_with_store number bytes u else u) n
+requested_store_leads number bytes true m n h u o =
+    let same : with_store number bytes m ≡ n = cc in
+    one_map (pair_with_store number bytes) (OneWay u.loads (λ b. Leads b n)) u.pairs
+    (one_weaker (OneWay u.loads (λ b. Leads b m)) (λ e. OneWay u.loads (λ b. Leads b n) (pair_with_store number bytes e))
+    (λ e p. (
+      p.0,
+      p.1,
+      subst (λ x. Leads (branch_with_store number bytes (way_on u.loads e p.0)) x) same
+          (leads_with_store number bytes p.2),
+    )) u.pairs o)
+requested_store_leads number bytes false m n h u o = let same : m ≡ n = cc in subst (LeadsTo u) same o
+
+-- A store is answered. ----
+
+-- it has taken effect at a pair
+abbrev HasTaken : ℕ → Pair → Type 0
+HasTaken number e = may_answer_store number e.stores ≡ true
+
+taken_joint : (number : ℕ) → IsJoint (HasTaken number)
+taken_joint number f e h a b = a
+
+answered_store_fits : (number : ℕ) (P Q : UnitMemory → Type 0) → IsClosed P
+    → ((m : UnitMemory) → P m → may_answer_store number m.stores ≡ true → Q (without_store number m))
+    → (u : Ways) → Fits P u → Fits Q (ways_without_store number u (answered_store number u))
+answered_store_fits number P Q closed f u s =
+    let S : Pair → Type 0 = IsSound u.loads u.moment s.asked P in
+    let R : Pair → Type 0 = λ e. S e × HasTaken number e in
+    let joint : IsJoint S = sound_joint u.loads u.moment s.asked P in
+    let both : IsJoint R = λ g e h a b. (joint g e h a.0 b.0, taken_joint number g e h a.1 b.1) in
+    let there : Each R (answered_store number u) =
+    met_sound u.loads u.moment s.asked S R joint both (sound_kept u.loads u.moment s.asked P closed) (suc (rounds u.pairs))
+    (effect_aim number) (λ e a t. (a, t)) [] u.pairs tt
+    (each_both (EachWay u.loads (SoundOn P)) (IsPairBy u.moment) u.pairs s.sound s.timely) in
+    record {
+      asked = s.asked;
+      timely = each_map (pair_without_store number) (IsPairBy u.moment) (answered_store number u)
+          (each_weaker R (IsPairBy u.moment) (λ e r. r.0.1) (answered_store number u) there);
+      sound = each_map (pair_without_store number) (EachWay u.loads (SoundOn Q)) (answered_store number u)
+          (each_weaker R (λ e. EachWay u.loads (SoundOn Q) (pair_without_store number e))
+          (λ e r path has m o. sound_without_store number P Q f (way_on u.loads e path) r.1 (r.0.0 path has) m o)
+          (answered_store number u) there);
+    }
 
 -- it says nothing of a way
 abbrev Anything : Branch → Type 0
-Anything e = Unit {0}
+Anything b = Unit {0}
 
-answered_complete : (aim : Aim) → IsGoal aim.goal → (without : Branch → Branch) (m n : UnitMemory)
-    → ((x : Branch) → IsOn x m → aim.goal x ≡ true) → HasHopes m aim → ((e : Branch) → aim.goal e ≡ true → Leads e m → Leads (without e) n)
-    → (es : List Branch) → One (λ e. Leads e m) es → One (λ e. Leads e n) (answered aim without es)
-unfolding answered
-answered_complete aim c without m n g hope f es h =
-    let found : List Branch = met (suc (rounds es)) aim [] es in
-    let any : List Branch → Type 0 = Each (λ e. Anything e × (aim.goal e ≡ true)) in
-    let all : any found = met_sound Anything (λ x e j a b. tt) (λ e before s after a split o. tt) (suc (rounds es)) aim c [] es tt
-    (each_any es) in
-    let both : One (λ e. Leads e m × (Anything e × (aim.goal e ≡ true))) found =
-    one_each (λ e. Leads e m) (λ e. Anything e × (aim.goal e ≡ true)) found (met_complete aim m g hope es h) all in
-    let one : One (λ e. Leads (without e) n) found =
-    one_weaker (λ e. Leads e m × (Anything e × (aim.goal e ≡ true))) (λ e. Leads (without e) n) (λ e p. f e p.1.1 p.0) found both in
-    new_withs (λ e. Leads e n) (λ x e s l. leads_shown x s l) [] (map without found) (one_map without (λ e. Leads e n) found one)
+effect_is_for : (loads : List WatchedLoad) (moment : ℕ) (asked : Each (IsAsked moment) loads) (number : ℕ) (m : UnitMemory)
+    → may_answer_store number m.stores ≡ true → IsFor loads moment asked m Anything (effect_aim number)
+effect_is_for loads moment asked number m may = record {
+  here = λ e path late o. ap (may_answer_store number) o.stores ∙ may;
+  stays = λ e path before s after off late. tt;
+  hopes = λ e path late r. refl;
+}
+
+-- of those that are found each has what the goal says
+answered_store_leads : (number : ℕ) (m : UnitMemory) → may_answer_store number m.stores ≡ true → (u : Ways) → Each (IsAsked u.moment) u.loads
+    → LeadsTo u m
+    → LeadsTo (ways_without_store number u (answered_store number u)) (without_store number m)
+answered_store_leads number m may u asked o =
+    let Any : Pair → Type 0 = λ e. Unit {0} in
+    let all : Each (HasTaken number) (answered_store number u) =
+    met_sound u.loads u.moment asked Any (HasTaken number) (λ f e h a b. tt) (taken_joint number) (λ e before s after a split open_. tt)
+    (suc (rounds u.pairs)) (effect_aim number) (λ e a t. t) [] u.pairs tt (each_any u.pairs) in
+    let late : One (OneWay u.loads (λ b. Leads b m × Anything b)) u.pairs =
+    one_weaker (OneWay u.loads (λ b. Leads b m)) (OneWay u.loads (λ b. Leads b m × Anything b)) (λ e p. (p.0, p.1, (p.2, tt))) u.pairs o in
+    let there : One (OneWay u.loads (λ b. Leads b m)) (answered_store number u) =
+    found_complete u.loads u.moment asked m Anything (effect_aim number) (effect_is_for u.loads u.moment asked number m may) [] u.pairs
+    (inr late) in
+    one_map (pair_without_store number) (OneWay u.loads (λ b. Leads b (without_store number m))) (answered_store number u)
+    (one_weaker (λ e. OneWay u.loads (λ b. Leads b m) e × HasTaken number e)
+    (λ e. OneWay u.loads (λ b. Leads b (without_store number m)) (pair_without_store number e))
+    (λ e p. (p.0.0, p.0.1, leads_without_store number (way_on u.loads e p.0.0) m p.1 p.0.2)) (answered_store number u)
+    (one_both (OneWay u.loads (λ b. Leads b m)) (HasTaken number) (answered_store number u) there all))
   where
-    each_any : (xs : List Branch) → Each Anything xs
+    each_any : (xs : List Pair) → Each (λ e. Unit {0}) xs
     each_any [] = tt
     each_any (x ∷ xs) = (tt, each_any xs)
 
--- Requests. ----
+-- A load is answered. ----
 
-requested_load_sound : (number address : ℕ) (P Q : UnitMemory → Type 0) → IsClosed Q → (b : Bool)
-    → ((m n : UnitMemory) → P m → Some (if b then with_load number address m else m) ≡ Some n → Q n)
-    → (es : List Branch) → Each (IsSound P) es → Each (IsSound Q) (if b then map (branch_with_load number address) es else es)
-requested_load_sound number address P Q closed true f es a =
-    each_map (branch_with_load number address) (IsSound Q) es (each_weaker (IsSound P) (λ e. IsSound Q (branch_with_load number address e))
-    (λ e h. sound_with_load number address P Q closed (λ m p. f m (with_load number address m) p refl) e h) es a)
-requested_load_sound number address P Q closed false f es a =
-    each_weaker (IsSound P) (IsSound Q) (λ e h m o. f m m (h m o) refl) es a
+-- the pairs on whose ways it may have got its answer
+abbrev Right : UnitPlace → ℕ → List ℕ → (UnitMemory → Type 0) → Ways → Pair → Type 0
+Right unit number bytes P u e = (EachWay u.loads (SoundOn P) e × IsPairBy u.moment e) × HasAnswers u.loads unit number bytes e
 
-requested_load_complete : (number address : ℕ) (b : Bool) (m n : UnitMemory) → Some (if b then with_load number address m else m) ≡ Some n
-    → (es : List Branch) → One (λ e. Leads e m) es
-    → One (λ e. Leads e n) (if b then map (branch_with_load number address) es else es)
-requested_load_complete number address true m n h es o =
-    let same : with_load number address m ≡ n = cc in
-    one_map (branch_with_load number address) (λ e. Leads e n) es
-    (one_weaker (λ e. Leads e m) (λ e. Leads (branch_with_load number address e) n)
-    (λ e l. subst (λ x. Leads (branch_with_load number address e) x) same (leads_with_load number address e m l)) es o)
-requested_load_complete number address false m n h es o = let same : m ≡ n = cc in subst (λ x. One (λ e. Leads e x) es) same o
+answered_load_right : (unit : UnitPlace) (number : ℕ) (bytes : List ℕ) (P : UnitMemory → Type 0) → IsClosed P → (u : Ways) → Fits P u
+    → IsAlone (is_under number) u.loads → (load : Option WatchedLoad) → find (is_under number) u.loads ≡ load
+    → Each (Right unit number bytes P u) (answered_load unit bytes load u)
+answered_load_right unit number bytes P closed u s alone None h =
+    each_weaker (λ e. EachWay u.loads (SoundOn P) e × IsPairBy u.moment e) (Right unit number bytes P u)
+    (λ e a. (a, answers_none u.loads unit number bytes h e)) u.pairs
+    (each_both (EachWay u.loads (SoundOn P)) (IsPairBy u.moment) u.pairs s.sound s.timely)
+answered_load_right unit number bytes P closed u s alone (Some l) h =
+    let S : Pair → Type 0 = IsSound u.loads u.moment s.asked P in
+    let R : Pair → Type 0 = Right unit number bytes P u in
+    let aim : Aim = word_aim unit l.address bytes in
+    let all : Each S u.pairs = each_both (EachWay u.loads (SoundOn P)) (IsPairBy u.moment) u.pairs s.sound s.timely in
+    let joint : IsJoint S = sound_joint u.loads u.moment s.asked P in
+    let both : IsJoint R = λ g e i a b. (joint g e i a.0 b.0, each_joint u.loads (λ x. has_answer unit number bytes x ≡ true) g e i a.1 b.1) in
+    let missed : List Pair = gathered (pair_missed unit bytes l) u.pairs in
+    met_sound u.loads u.moment s.asked S R joint both (sound_kept u.loads u.moment s.asked P closed) (suc (rounds (with_hope aim missed)))
+    aim (λ e a t. (a, word_answers u.loads u.moment s.asked unit number bytes l h alone e t)) (gathered (pair_got unit bytes l) u.pairs)
+    (with_hope aim missed) (got_sound u.loads u.moment s.asked unit number bytes l h alone (SoundOn P) u.pairs all)
+    (each_filter S aim.hope missed (missed_sound u.loads u.moment s.asked unit number bytes l h (SoundOn P) u.pairs all))
 
-requested_store_sound : (number : ℕ) (bytes : List (Option ℕ)) (P Q : UnitMemory → Type 0) → (b : Bool)
-    → ((m n : UnitMemory) → P m → Some (if b then with_store number bytes m else m) ≡ Some n → Q n)
-    → (es : List Branch) → Each (IsSound P) es → Each (IsSound Q) (if b then map (branch_with_store number bytes) es else es)
-requested_store_sound number bytes P Q true f es a =
-    each_map (branch_with_store number bytes) (IsSound Q) es (each_weaker (IsSound P) (λ e. IsSound Q (branch_with_store number bytes e))
-    (λ e h. sound_with_store number bytes P Q (λ m p. f m (with_store number bytes m) p refl) e h) es a)
-requested_store_sound number bytes P Q false f es a = each_weaker (IsSound P) (IsSound Q) (λ e h m o. f m m (h m o) refl) es a
+answered_load_fits : (unit : UnitPlace) (number : ℕ) (bytes : List ℕ) (P Q : UnitMemory → Type 0) → IsClosed P
+    → ((m : UnitMemory) → P m → may_answer_load unit number bytes m.loads ≡ true → Q (without_load number m))
+    → (u : Ways) → Fits P u → IsAlone (is_under number) u.loads
+    → Fits Q (ways_without_load number u (answered_load unit bytes (find (is_under number) u.loads) u))
+answered_load_fits unit number bytes P Q closed f u s alone =
+    let out : List Pair = answered_load unit bytes (find (is_under number) u.loads) u in
+    let left : List WatchedLoad = loads_without number u.loads in
+    let R : Pair → Type 0 = Right unit number bytes P u in
+    let there : Each R out = answered_load_right unit number bytes P closed u s alone (find (is_under number) u.loads) refl in
+    record {
+      asked = moment_asked (is_first number u.loads) u.moment left (left_asked number u.moment u.loads s.asked);
+      timely = moment_by (is_first number u.loads) u.moment left out (each_weaker R (IsPairBy u.moment) (λ e r. r.0.1) out there);
+      sound = each_cut left (SoundOn Q) (is_first number u.loads) out
+          (each_weaker R (EachWay left (SoundOn Q))
+          (λ e r path has. subst (SoundOn Q) (sym (way_without number u.loads e path))
+          (λ m o. sound_without_load unit number bytes P Q f (way_on u.loads e path) (r.1 path has) (r.0.0 path has) m o)) out there);
+    }
 
-requested_store_complete : (number : ℕ) (bytes : List (Option ℕ)) (b : Bool) (m n : UnitMemory)
-    → Some (if b then with_store number bytes m else m) ≡ Some n → (es : List Branch) → One (λ e. Leads e m) es
-    → One (λ e. Leads e n) (if b then map (branch_with_store number bytes) es else es)
-requested_store_complete number bytes true m n h es o =
-    let same : with_store number bytes m ≡ n = cc in
-    one_map (branch_with_store number bytes) (λ e. Leads e n) es
-    (one_weaker (λ e. Leads e m) (λ e. Leads (branch_with_store number bytes e) n)
-    (λ e l. subst (λ x. Leads (branch_with_store number bytes e) x) same (leads_with_store number bytes l)) es o)
-requested_store_complete number bytes false m n h es o = let same : m ≡ n = cc in subst (λ x. One (λ e. Leads e x) es) same o
+answered_load_leads : (unit : UnitPlace) (number : ℕ) (bytes : List ℕ) (m : UnitMemory) → may_answer_load unit number bytes m.loads ≡ true
+    → (u : Ways) → Each (IsAsked u.moment) u.loads → LeadsTo u m
+    → LeadsTo (ways_without_load number u (answered_load unit bytes (find (is_under number) u.loads) u)) (without_load number m)
+answered_load_leads unit number bytes m may u asked o =
+    let out : List Pair = answered_load unit bytes (find (is_under number) u.loads) u in
+    let left : List WatchedLoad = loads_without number u.loads in
+    one_cut left (λ b. Leads b (without_load number m)) (is_first number u.loads) out
+    (one_weaker (OneWay u.loads (λ b. Leads b m)) (OneWay left (λ b. Leads b (without_load number m)))
+    (λ e p. (
+      p.0,
+      p.1,
+      subst (λ b. Leads b (without_load number m)) (sym (way_without number u.loads e p.0))
+          (leads_without_load number p.2),
+    )) out (finds (find (is_under number) u.loads) refl))
+  where
+    finds : (load : Option WatchedLoad) → find (is_under number) u.loads ≡ load
+        → One (OneWay u.loads (λ b. Leads b m)) (answered_load unit bytes load u)
+    finds None h = o
+    finds (Some l) h =
+        let aim : Aim = word_aim unit l.address bytes in
+        found_complete u.loads u.moment asked m _ aim (is_for u.loads u.moment asked unit number bytes l h m may)
+        (gathered (pair_got unit bytes l) u.pairs) (with_hope aim (gathered (pair_missed unit bytes l) u.pairs))
+        (split_complete u.loads u.moment asked unit number bytes l h m may u.pairs o)
 
 -- Events. ----
 
-pub event_sound : (unit : UnitPlace) (P Q : UnitMemory → Type 0) → IsClosed P → IsClosed Q → (event : HistoryEvent)
-    → ((m n : UnitMemory) → P m → seen unit m event ≡ Some n → Q n)
-    → (es : List Branch) → Each (IsSound P) es → Each (IsSound Q) (branches_after unit es event)
-event_sound unit P Q closed_p closed_q (LoadRequest number address n) f es a =
-    requested_load_sound number address P Q closed_q (is_at unit address n) f es a
-event_sound unit P Q closed_p closed_q (LoadResponse number bytes) f es a =
-    let made : (m : UnitMemory) → P m → may_answer_load unit number bytes.now m.loads ≡ true → Q (without_load number m) =
-    λ m p g. f m (without_load number m) p
-    (if_true (may_answer_load unit number bytes.now m.loads) (Some (without_load number m)) None g) in
-    answered_sound P Q closed_p (answer_aim unit number bytes.now) (answer_carried unit number bytes.now) (branch_without_load number)
-    (λ e g s. sound_without_load unit number bytes.now P Q made e g s) es a
-event_sound unit P Q closed_p closed_q (StoreRequest number address bytes enables) f es a =
-    let stored : List (Option ℕ) =
-    at_unit unit (stored_byte address bytes.now enables) in requested_store_sound number stored P Q (list_any is_some stored) f es a
-event_sound unit P Q closed_p closed_q (StoreResponse number) f es a =
-    let made : (m : UnitMemory) → P m → may_answer_store number m.stores ≡ true → Q (without_store number m) =
-    λ m p g. f m (without_store number m) p (if_true (may_answer_store number m.stores) (Some (without_store number m)) None g) in
-    answered_sound P Q closed_p (effect_aim number) (effect_carried number) (branch_without_store number)
-    (λ e g s. sound_without_store number P Q made e g s) es a
+-- a load that is answered is the only one under its number
+abbrev pub IsAloneFor : Ways → HistoryEvent → Type 0
+IsAloneFor u (LoadResponse number bytes) = IsAlone (is_under number) u.loads
+IsAloneFor u event = Unit {0}
 
-pub event_complete : (unit : UnitPlace) (event : HistoryEvent) (m n : UnitMemory) → seen unit m event ≡ Some n → (es : List Branch)
-    → One (λ e. Leads e m) es → One (λ e. Leads e n) (branches_after unit es event)
-event_complete unit (LoadRequest number address k) m n h es o = requested_load_complete number address (is_at unit address k) m n h es o
-event_complete unit (LoadResponse number bytes) m n h es o =
+pub event_fits : (unit : UnitPlace) (P Q : UnitMemory → Type 0) → IsClosed P → IsClosed Q → (event : HistoryEvent)
+    → ((m n : UnitMemory) → P m → seen unit m event ≡ Some n → Q n)
+    → (u : Ways) → IsAloneFor u event → Fits P u → Fits Q (ways_after unit u event)
+event_fits unit P Q closed_p closed_q (LoadRequest number address n) f u alone s =
+    requested_load_fits number address P Q closed_q (is_at unit address n) f u s
+event_fits unit P Q closed_p closed_q (LoadResponse number bytes) f u alone s =
+    answered_load_fits unit number bytes.now P Q closed_p
+    (λ m p g. f m (without_load number m) p
+    (if_true (may_answer_load unit number bytes.now m.loads) (Some (without_load number m)) None g)) u s alone
+event_fits unit P Q closed_p closed_q (StoreRequest number address bytes enables) f u alone s =
+    let stored : List (Option ℕ) = at_unit unit (stored_byte address bytes.now enables) in
+    requested_store_fits number stored P Q (list_any is_some stored) f u s
+event_fits unit P Q closed_p closed_q (StoreResponse number) f u alone s =
+    answered_store_fits number P Q closed_p
+    (λ m p g. f m (without_store number m) p (if_true (may_answer_store number m.stores) (Some (without_store number m)) None g)) u s
+
+pub event_leads : (unit : UnitPlace) (event : HistoryEvent) (m n : UnitMemory) → seen unit m event ≡ Some n → (u : Ways)
+    → Each (IsAsked u.moment) u.loads → Each (IsPairBy u.moment) u.pairs → LeadsTo u m → LeadsTo (ways_after unit u event) n
+event_leads unit (LoadRequest number address k) m n h u asked by o =
+    requested_load_leads number address (is_at unit address k) m n h u by o
+event_leads unit (LoadResponse number bytes) m n h u asked by o =
     let p = some_if (may_answer_load unit number bytes.now m.loads) (without_load number m) n h in
-    answered_complete (answer_aim unit number bytes.now) (answer_carried unit number bytes.now) (branch_without_load number) m n
-    (answer_on unit number bytes.now m p.0) (λ e l. hope_leads unit number bytes.now p.0 l) (λ e g l. subst (λ x. Leads (branch_without_load number e) x) p.1 (leads_without_load number l))
-    es o
-event_complete unit (StoreRequest number address bytes enables) m n h es o =
-    let stored : List (Option ℕ) =
-    at_unit unit (stored_byte address bytes.now enables) in requested_store_complete number stored (list_any is_some stored) m n h es o
-event_complete unit (StoreResponse number) m n h es o =
+    subst (LeadsTo (ways_after unit u (LoadResponse number bytes))) p.1 (answered_load_leads unit number bytes.now m p.0 u asked o)
+event_leads unit (StoreRequest number address bytes enables) m n h u asked by o =
+    let stored : List (Option ℕ) = at_unit unit (stored_byte address bytes.now enables) in
+    requested_store_leads number stored (list_any is_some stored) m n h u o
+event_leads unit (StoreResponse number) m n h u asked by o =
     let p = some_if (may_answer_store number m.stores) (without_store number m) n h in
-    answered_complete (effect_aim number) (effect_carried number) (branch_without_store number) m n
-    (λ x on. ap (may_answer_store number) on.stores ∙ p.0) (λ e l. refl)
-    (λ e g l. subst (λ x. Leads (branch_without_store number e) x) p.1 (leads_without_store number e m g l)) es o
+    subst (LeadsTo (ways_after unit u (StoreResponse number))) p.1 (answered_store_leads number m p.0 u asked o)
 
 -- Histories. ----
-
-snoc_same : {X : Type 0} (xs ys : List X) (x y : X) → xs ++ x ∷ [] ≡ ys ++ y ∷ [] → (xs ≡ ys) × (x ≡ y)
-snoc_same [] [] x y h = (refl, cc)
-snoc_same [] (b ∷ []) x y h = cc
-snoc_same [] (b ∷ c ∷ ys) x y h = cc
-snoc_same (a ∷ []) [] x y h = cc
-snoc_same (a ∷ c ∷ xs) [] x y h = cc
-snoc_same (a ∷ xs) (b ∷ ys) x y h =
-    let first : a ≡ b = cc in
-    let others : xs ++ x ∷ [] ≡ ys ++ y ∷ [] = cc in
-    let r = snoc_same xs ys x y others in
-    (λ i. first i ∷ r.0 i, r.1)
 
 no_snoc : {X : Type 0} (xs : List X) (x : X) → xs ++ x ∷ [] ≡ [] → ⊥
 no_snoc [] x h = cc
 no_snoc (a ∷ xs) x h = cc
 
 -- a step on one of the ways
-one_step : (es : List Branch) (m n : UnitMemory) → HiddenStep m n → One (λ e. Leads e m) es → One (λ e. Leads e n) es
-one_step es m n step o = one_weaker (λ e. Leads e m) (λ e. Leads e n) (λ e l. leads_on n l step) es o
+one_step : (u : Ways) (m n : UnitMemory) → HiddenStep m n → LeadsTo u m → LeadsTo u n
+one_step u m n step o =
+    one_weaker (OneWay u.loads (λ b. Leads b m)) (OneWay u.loads (λ b. Leads b n)) (λ e p. (p.0, p.1, leads_on n p.2 step)) u.pairs o
 
 first_complete : (image : List ℕ) (rest : Rest) (unit : UnitPlace) (xs : List HistoryEvent) (m : UnitMemory)
-    → MayBe unit (untouched image rest unit) xs m → xs ≡ []
-    → One (λ e. Leads e m) (first_branch image rest unit ∷ [])
-first_complete image rest unit xs m starts h = inl (now (record { word = refl; stores = refl; loads = tt }))
+    → MayBe unit (untouched image rest unit) xs m → xs ≡ [] → LeadsTo (first_ways image rest unit) m
+first_complete image rest unit xs m starts h = inl ([], refl, now (record { word = refl; stores = refl; loads = tt }))
 first_complete image rest unit xs m (steps hs k n r step) h =
-    one_step (first_branch image rest unit ∷ []) k n step (first_complete image rest unit hs k r h)
+    one_step (first_ways image rest unit) k n step (first_complete image rest unit hs k r h)
 first_complete image rest unit xs m (sees hs event k n r e) h = absurd (no_snoc hs event h)
 
-later_complete : (start : UnitMemory) (unit : UnitPlace) (es ds : List Branch) (history : List HistoryEvent) (event : HistoryEvent)
-    → ((m : UnitMemory) → MayBe unit start history m → One (λ e. Leads e m) es)
-    → ((m n : UnitMemory) → MayBe unit start history m → seen unit m event ≡ Some n → One (λ e. Leads e m) es → One (λ e. Leads e n) ds)
-    → (xs : List HistoryEvent) (m : UnitMemory) → MayBe unit start xs m → xs ≡ history ++ event ∷ [] → One (λ e. Leads e m) ds
-later_complete start unit es ds history event before next xs m starts h = absurd (no_snoc history event (sym h))
-later_complete start unit es ds history event before next xs m (steps hs k n r step) h =
-    one_step ds k n step (later_complete start unit es ds history event before next hs k r h)
-later_complete start unit es ds history event before next xs m (sees hs last k n r e) h =
+later_complete : (start : UnitMemory) (unit : UnitPlace) (u v : Ways) (history : List HistoryEvent) (event : HistoryEvent)
+    → ((m : UnitMemory) → MayBe unit start history m → LeadsTo u m)
+    → ((m n : UnitMemory) → MayBe unit start history m → seen unit m event ≡ Some n → LeadsTo u m → LeadsTo v n)
+    → (xs : List HistoryEvent) (m : UnitMemory) → MayBe unit start xs m → xs ≡ history ++ event ∷ [] → LeadsTo v m
+later_complete start unit u v history event before next xs m starts h = absurd (no_snoc history event (sym h))
+later_complete start unit u v history event before next xs m (steps hs k n r step) h =
+    one_step v k n step (later_complete start unit u v history event before next hs k r h)
+later_complete start unit u v history event before next xs m (sees hs last k n r e) h =
     let p = snoc_same hs history last event h in
     let there : MayBe unit start history k = subst (λ x. MayBe unit start x k) p.0 r in
     next k n there (subst (λ x. seen unit k x ≡ Some n) p.1 e) (before k there)
@@ -200,12 +358,16 @@ nothing_open w [] h = refl
 nothing_open w (m ∷ ms) h = absurd h
 
 pub stands_first : (image : List ℕ) (rest : Rest) (unit : UnitPlace)
-    → StandsFor (untouched image rest unit) unit (first_branch image rest unit ∷ []) []
+    → StandsFor (untouched image rest unit) unit (first_ways image rest unit) []
 stands_first image rest unit =
     let start : UnitMemory = untouched image rest unit in
     record {
+      asked = tt;
+      timely = (tt, tt);
+      apart = (tt, tt);
+      alike = ([], (refl, tt));
       sound = (
-        λ m o. (let same : start ≡ m =
+        λ path has m o. (let same : start ≡ m =
             (λ i. record { word = o.word i; stores = o.stores i; loads = nothing_open start.word m.loads o.loads i }) in subst
             (λ x. MayBe unit start [] x) same starts),
         tt,
@@ -213,35 +375,47 @@ stands_first image rest unit =
       complete = λ m r. first_complete image rest unit [] m r refl;
     }
 
-pub stands_after : (start : UnitMemory) (unit : UnitPlace) (es : List Branch) (history : List HistoryEvent) (event : HistoryEvent)
-    → StandsFor start unit es history
-    → StandsFor start unit (branches_after unit es event) (history ++ event ∷ [])
-stands_after start unit es history event s =
+pub stands_after : (start : UnitMemory) (unit : UnitPlace) (u : Ways) (history : List HistoryEvent) (event : HistoryEvent)
+    → IsAloneFor u event → StandsFor start unit u history
+    → StandsFor start unit (ways_after unit u event) (history ++ event ∷ [])
+stands_after start unit u history event alone s =
     let P : UnitMemory → Type 0 = MayBe unit start history in
     let Q : UnitMemory → Type 0 = MayBe unit start (history ++ event ∷ []) in
+    let fits : Fits P u = record { asked = s.asked; timely = s.timely; sound = s.sound } in
+    let next : Fits Q (ways_after unit u event) =
+    event_fits unit P Q (λ m n r step. steps history m n r step) (λ m n r step. steps (history ++ event ∷ []) m n r step) event
+    (λ m n r e. sees history event m n r e) u alone fits in
+    let shape : IsShaped (ways_after unit u event) = event_shaped unit event u s.asked (record { apart = s.apart; alike = s.alike }) in
     record {
-      sound = event_sound unit P Q (λ m n r step. steps history m n r step) (λ m n r step. steps (history ++ event ∷ []) m n r step) event
-          (λ m n r e. sees history event m n r e) es s.sound;
-      complete = λ m r. later_complete start unit es (branches_after unit es event) history event s.complete
-          (λ k n there e o. event_complete unit event k n e es o) (history ++ event ∷ []) m r refl;
+      asked = next.asked;
+      timely = next.timely;
+      apart = shape.apart;
+      alike = shape.alike;
+      sound = next.sound;
+      complete = λ m r. later_complete start unit u (ways_after unit u event) history event s.complete
+          (λ k n there e o. event_leads unit event k n e u s.asked s.timely o) (history ++ event ∷ []) m r refl;
     }
 
 -- an event that changes nothing at the unit
-pub stands_passed : (start : UnitMemory) (unit : UnitPlace) (es : List Branch) (history : List HistoryEvent) (event : HistoryEvent)
-    → ((m : UnitMemory) → MayBe unit start history m → seen unit m event ≡ Some m) → StandsFor start unit es history
-    → StandsFor start unit es (history ++ event ∷ [])
-stands_passed start unit es history event pass s = record {
-  sound = each_weaker (λ e. (m : UnitMemory) → IsOn e m → MayBe unit start history m)
-      (λ e. (m : UnitMemory) → IsOn e m → MayBe unit start (history ++ event ∷ []) m)
-      (λ e f m o. sees history event m m (f m o) (pass m (f m o))) es s.sound;
-  complete = λ m r. later_complete start unit es es history event s.complete same (history ++ event ∷ []) m r refl;
+pub stands_passed : (start : UnitMemory) (unit : UnitPlace) (u : Ways) (history : List HistoryEvent) (event : HistoryEvent)
+    → ((m : UnitMemory) → MayBe unit start history m → seen unit m event ≡ Some m) → StandsFor start unit u history
+    → StandsFor start unit u (history ++ event ∷ [])
+stands_passed start unit u history event pass s = record {
+  asked = s.asked;
+  timely = s.timely;
+  apart = s.apart;
+  alike = s.alike;
+  sound = each_weaker (EachWay u.loads (SoundOn (MayBe unit start history)))
+      (EachWay u.loads (SoundOn (MayBe unit start (history ++ event ∷ []))))
+      (λ e f path has m o. sees history event m m (f path has m o) (pass m (f path has m o))) u.pairs s.sound;
+  complete = λ m r. later_complete start unit u u history event s.complete same (history ++ event ∷ []) m r refl;
 }
   where
-    same : (k n : UnitMemory) → MayBe unit start history k → seen unit k event ≡ Some n → One (λ e. Leads e k) es → One (λ e. Leads e n) es
+    same : (k n : UnitMemory) → MayBe unit start history k → seen unit k event ≡ Some n → LeadsTo u k → LeadsTo u n
     same k n there e o =
         let both : Some k ≡ Some n = sym (pass k there) ∙ e in
         let is : k ≡ n = cc in
-        subst (λ x. One (λ e. Leads e x) es) is o
+        subst (LeadsTo u) is o
 
 -- The verdict. ----
 
@@ -253,27 +427,47 @@ unfolding not_yet
 watched_not_yet w [] = tt
 watched_not_yet w (l ∷ ls) = ((refl, refl, tt), watched_not_yet w ls)
 
-pub some_state : (start : UnitMemory) (unit : UnitPlace) (e : Branch) (es : List Branch) (history : List HistoryEvent)
-    → StandsFor start unit (e ∷ es) history → (m : UnitMemory) × MayBe unit start history m
-some_state start unit e es history s =
-    let m : UnitMemory = record { word = e.word; stores = e.stores; loads = map not_yet e.loads } in
-    (m, s.sound.0 m (record { word = refl; stores = refl; loads = watched_not_yet e.word e.loads }))
+-- a state on a way
+pub state_on : (b : Branch) → (m : UnitMemory) × IsOn b m
+state_on b =
+    let m : UnitMemory = record { word = b.word; stores = b.stores; loads = map not_yet b.loads } in
+    (m, record { word = refl; stores = refl; loads = watched_not_yet b.word b.loads })
 
-pub no_state : (start : UnitMemory) (unit : UnitPlace) (history : List HistoryEvent) → StandsFor start unit [] history
+-- there is one where ways are left, on a way to the first pair
+pub some_state : (start : UnitMemory) (unit : UnitPlace) (u : Ways) (e : Pair) (es : List Pair) → u.pairs ≡ e ∷ es
+    → (history : List HistoryEvent) → StandsFor start unit u history
+    → (path : List Stood) × (m : UnitMemory) × IsOn (way_on u.loads e path) m × MayBe unit start history m
+some_state start unit u e es is history s =
+    let sound : Each (EachWay u.loads (SoundOn (MayBe unit start history))) (e ∷ es) =
+    subst (Each (EachWay u.loads (SoundOn (MayBe unit start history)))) is s.sound in
+    let p = some_path e.past in
+    let r = state_on (way_on u.loads e p.0) in
+    (p.0, r.0, r.1, sound.0 p.0 p.1 r.0 r.1)
+
+pub no_state : (start : UnitMemory) (unit : UnitPlace) (u : Ways) → u.pairs ≡ [] → (history : List HistoryEvent)
+    → StandsFor start unit u history
     → ¬ ((m : UnitMemory) × MayBe unit start history m)
-no_state start unit history s h = s.complete h.0 h.1
+no_state start unit u is history s h =
+    let o : One (OneWay u.loads (λ b. Leads b h.0)) [] = subst (One (OneWay u.loads (λ b. Leads b h.0))) is (s.complete h.0 h.1) in
+    absurd o
 
 -- Whole histories. ----
 
-stands_from : (start : UnitMemory) (unit : UnitPlace) (es : List Branch) (past future : List HistoryEvent) → StandsFor start unit es past
-    → StandsFor start unit (fold (branches_after unit) es future) (past ++ future)
-stands_from start unit es past [] s = subst (λ h. StandsFor start unit es h) (sym (append-nil past)) s
-stands_from start unit es past (event ∷ events) s =
-    subst (λ h. StandsFor start unit (fold (branches_after unit) (branches_after unit es event) events) h)
+abbrev pub AlwaysAlone : UnitPlace → Ways → List HistoryEvent → Type 0
+AlwaysAlone unit u [] = Unit {0}
+AlwaysAlone unit u (event ∷ events) = IsAloneFor u event × AlwaysAlone unit (ways_after unit u event) events
+
+stands_from : (start : UnitMemory) (unit : UnitPlace) (u : Ways) (past future : List HistoryEvent) → AlwaysAlone unit u future
+    → StandsFor start unit u past
+    → StandsFor start unit (fold (ways_after unit) u future) (past ++ future)
+stands_from start unit u past [] a s = subst (λ h. StandsFor start unit u h) (sym (append-nil past)) s
+stands_from start unit u past (event ∷ events) a s =
+    subst (λ h. StandsFor start unit (fold (ways_after unit) (ways_after unit u event) events) h)
     (append_assoc past (event ∷ []) events)
-    (stands_from start unit (branches_after unit es event) (past ++ event ∷ []) events (stands_after start unit es past event s))
+    (stands_from start unit (ways_after unit u event) (past ++ event ∷ []) events a.1 (stands_after start unit u past event a.0 s))
 
 pub stands_by : (image : List ℕ) (rest : Rest) (unit : UnitPlace) (history : List HistoryEvent)
-    → StandsFor (untouched image rest unit) unit (fold (branches_after unit) (first_branch image rest unit ∷ []) history) history
-stands_by image rest unit history =
-    stands_from (untouched image rest unit) unit (first_branch image rest unit ∷ []) [] history (stands_first image rest unit)
+    → AlwaysAlone unit (first_ways image rest unit) history
+    → StandsFor (untouched image rest unit) unit (fold (ways_after unit) (first_ways image rest unit) history) history
+stands_by image rest unit history a =
+    stands_from (untouched image rest unit) unit (first_ways image rest unit) [] history a (stands_first image rest unit)

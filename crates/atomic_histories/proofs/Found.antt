@@ -1,25 +1,105 @@
--- The search for the ways on which a goal is met: what it finds was reached by stores that took effect, and it finds each way there.
-use Rattle.std.proofs.Common.{◌≡◌, ℕ, zero, suc, ◌+◌, ◌<◌, ◌≤◌, ◌⊎◌, Bool, true, false, List, [], ◌∷◌, ◌++◌, length, max, filter, fold, inl, inr, refl, sym, ap, ◌∙◌, subst, append_assoc, append-nil, arith}
-use Rattle.std.proofs.lemmas.Bool.{cases_Bool}
+-- The search for the pairs on which a goal is met: what it finds was reached by stores that took effect, and it finds each way there.
+use Rattle.std.proofs.Common.{◌≡◌, ℕ, zero, suc, ◌+◌, ◌<◌, ◌≤◌, ◌⊎◌, Bool, true, false, List, [], ◌∷◌, ◌++◌, length, map, max, filter, fold, inl, inr, refl, sym, ap, ◌∙◌, subst, append_assoc, append-nil, arith}
+use Rattle.std.specs.Cmp.Lexicographic.{pointwise}
+use Rattle.std.proofs.lemmas.Bool.{cases_Bool, and_parts}
 use Rattle.atomic_histories.specs.declared.unit.OpenStore.{OpenStore}
-use Rattle.atomic_histories.specs.Law.{UnitMemory, done_store}
-use Rattle.atomic_histories.specs.Branches.{Branch, Aim, joined, effect_of, cons_effect, effects_from, effects, with_branch, with_branches, out_of, next_of, out_after, next_after, met, rounds}
-use Rattle.atomic_histories.specs.Stands.{Each, One, IsOn, Leads, now, later}
+use Rattle.atomic_histories.specs.declared.unit.WatchedLoad.{WatchedLoad}
+use Rattle.atomic_histories.specs.Law.{UnitMemory, HiddenStep, done_store}
+use Rattle.atomic_histories.specs.Pasts.{Past, Stood, stood, Has, overwritten}
+use Rattle.atomic_histories.specs.Branches.{Branch, effect_of}
+use Rattle.atomic_histories.specs.Followed.{Pair, Aim, watched, way_on, pair_after, cons_effect, effects_from, effects, is_same_word, is_same_store, is_same_pair, merged_pair, with_pair, with_pairs, out_of, next_of, out_after, next_after, met, rounds, found}
+use Rattle.atomic_histories.specs.Stands.{Each, One, EachWay, OneWay, IsAsked, IsPairBy, IsOn, Leads, now, later}
 use Rattle.atomic_histories.proofs.Lists.{one_weaker, one_none, one_or, one_filter, each_filter}
-use Rattle.atomic_histories.proofs.Covered.{leads_shown}
-use Rattle.atomic_histories.proofs.Same.{IsCarried, IsJoined, joined_first, one_with, new_with, each_with, one_withs, new_withs, each_withs}
+use Rattle.atomic_histories.proofs.SameWords.{same_word, same_stores}
+use Rattle.atomic_histories.proofs.Steps.{sound_effect}
+use Rattle.atomic_histories.proofs.Paths.{some_path, merged_has, has_merged, by_merged, by_overwritten, watched_more}
 
--- The ways on. ----
+-- Pairs that are one. ----
 
-one_cons : (Q : Branch → Type 0) (b : Bool) (x : Branch) (es : List Branch) → One Q es → One Q (cons_effect b x es)
+pub pair_parts : (f e : Pair) → is_same_pair f e ≡ true → (f.word ≡ e.word) × (f.stores ≡ e.stores)
+unfolding is_same_pair
+pair_parts f e h =
+    let p = and_parts (is_same_word f.word e.word) (pointwise is_same_store f.stores e.stores) h in
+    (same_word f.word e.word p.0, same_stores f.stores e.stores p.1)
+
+-- what holds of one of two holds of the two merged
+abbrev pub IsTaken : (Pair → Type 0) → Type 0
+IsTaken Q = (f e : Pair) → is_same_pair f e ≡ true → Q f ⊎ Q e → Q (merged_pair f e)
+
+-- what holds of both does
+abbrev pub IsJoint : (Pair → Type 0) → Type 0
+IsJoint Q = (f e : Pair) → is_same_pair f e ≡ true → Q f → Q e → Q (merged_pair f e)
+
+-- a way to one is a way to the other
+same_way : (loads : List WatchedLoad) (f e : Pair) (path : List Stood) → is_same_pair f e ≡ true
+    → way_on loads e path ≡ way_on loads (merged_pair f e) path
+same_way loads f e path h =
+    let p = pair_parts f e h in λ i. record { word = sym p.0 i; stores = sym p.1 i; loads = map (watched path) loads }
+
+pub one_taken : (loads : List WatchedLoad) (P : Branch → Type 0) → IsTaken (OneWay loads P)
+one_taken loads P f e h (inl o) = (o.0, merged_has f.past e.past o.0 (inl o.1), o.2)
+one_taken loads P f e h (inr o) = (o.0, merged_has f.past e.past o.0 (inr o.1), subst P (same_way loads f e o.0 h) o.2)
+
+pub each_joint : (loads : List WatchedLoad) (P : Branch → Type 0) → IsJoint (EachWay loads P)
+each_joint loads P f e h a b = λ path has. elim (has_merged f.past e.past path has) [
+  | inl x ↦ a path x
+  | inr x ↦ subst P (same_way loads f e path h) (b path x)
+]
+
+pub by_joint : (moment : ℕ) → IsJoint (IsPairBy moment)
+by_joint moment f e h a b = by_merged moment f.past e.past a b
+
+-- One more pair. ----
+
+one_with : (Q : Pair → Type 0) → IsTaken Q → (es : List Pair) (e : Pair) → One Q es → One Q (with_pair es e)
+one_with Q t [] e h = absurd h
+one_with Q t (f ∷ fs) e h = elim (cases_Bool (is_same_pair f e)) [
+  | inl y ↦
+      let on : One Q (merged_pair f e ∷ fs) = elim h [ inl q ↦ inl (t f e y (inl q)) | inr r ↦ inr r ] in
+      rw y on
+  | inr n ↦
+      let on : One Q (f ∷ with_pair fs e) = elim h [ inl q ↦ inl q | inr r ↦ inr (one_with Q t fs e r) ] in
+      rw n on
+]
+
+new_with : (Q : Pair → Type 0) → IsTaken Q → (es : List Pair) (e : Pair) → Q e → One Q (with_pair es e)
+new_with Q t [] e q = inl q
+new_with Q t (f ∷ fs) e q = elim (cases_Bool (is_same_pair f e)) [
+  | inl y ↦ let on : One Q (merged_pair f e ∷ fs) = inl (t f e y (inr q)) in rw y on
+  | inr n ↦ let on : One Q (f ∷ with_pair fs e) = inr (new_with Q t fs e q) in rw n on
+]
+
+pub each_with : (Q : Pair → Type 0) → IsJoint Q → (es : List Pair) (e : Pair) → Each Q es → Q e → Each Q (with_pair es e)
+each_with Q j [] e a q = (q, tt)
+each_with Q j (f ∷ fs) e a q = elim (cases_Bool (is_same_pair f e)) [
+  | inl y ↦ rw y (j f e y a.0 q, a.1)
+  | inr n ↦ rw n (a.0, each_with Q j fs e a.1 q)
+]
+
+one_withs : (Q : Pair → Type 0) → IsTaken Q → (es more : List Pair) → One Q es → One Q (with_pairs es more)
+one_withs Q t es [] h = h
+one_withs Q t es (e ∷ more) h = one_withs Q t (with_pair es e) more (one_with Q t es e h)
+
+new_withs : (Q : Pair → Type 0) → IsTaken Q → (es more : List Pair) → One Q more → One Q (with_pairs es more)
+new_withs Q t es [] h = absurd h
+new_withs Q t es (e ∷ more) (inl q) = one_withs Q t (with_pair es e) more (new_with Q t es e q)
+new_withs Q t es (e ∷ more) (inr h) = new_withs Q t (with_pair es e) more h
+
+each_withs : (Q : Pair → Type 0) → IsJoint Q → (es more : List Pair) → Each Q es → Each Q more → Each Q (with_pairs es more)
+each_withs Q j es [] a b = a
+each_withs Q j es (e ∷ more) a b = each_withs Q j (with_pair es e) more (each_with Q j es e a b.0) b.1
+
+-- The pairs on. ----
+
+one_cons : (Q : Pair → Type 0) (b : Bool) (x : Pair) (es : List Pair) → One Q es → One Q (cons_effect b x es)
 one_cons Q true x es h = h
 one_cons Q false x es h = inr h
 
-new_cons : (Q : Branch → Type 0) (b : Bool) (x : Branch) (es : List Branch) → b ≡ false → Q x → One Q (cons_effect b x es)
+new_cons : (Q : Pair → Type 0) (b : Bool) (x : Pair) (es : List Pair) → b ≡ false → Q x → One Q (cons_effect b x es)
 new_cons Q true x es e q = cc
 new_cons Q false x es e q = inl q
 
-each_cons : (Q : Branch → Type 0) (b : Bool) (x : Branch) (es : List Branch) → (b ≡ false → Q x) → Each Q es → Each Q (cons_effect b x es)
+each_cons : (Q : Pair → Type 0) (b : Bool) (x : Pair) (es : List Pair) → (b ≡ false → Q x) → Each Q es → Each Q (cons_effect b x es)
 each_cons Q true x es f a = a
 each_cons Q false x es f a = (f refl, a)
 
@@ -29,121 +109,38 @@ head_same x y xs ys e = cc
 tail_same : {X : Type 0} (x y : X) (xs ys : List X) → x ∷ xs ≡ y ∷ ys → xs ≡ ys
 tail_same x y xs ys e = cc
 
-one_effect_from : (Q : Branch → Type 0) (e : Branch) (past ss before : List OpenStore) (s : OpenStore) (after : List OpenStore)
+one_effect : (Q : Pair → Type 0) (p : Past) (e : Pair) (past ss before : List OpenStore) (s : OpenStore) (after : List OpenStore)
     → ss ≡ before ++ s ∷ after → s.is_done ≡ false
-    → Q (effect_of e (past ++ before) s after) → One Q (effects_from e past ss)
-one_effect_from Q e past [] [] s after split open_ q = cc
-one_effect_from Q e past [] (b ∷ bs) s after split open_ q = cc
-one_effect_from Q e past (x ∷ xs) [] s after split open_ q =
+    → Q (pair_after p e (past ++ before) s after) → One Q (effects_from p e past ss)
+one_effect Q p e past [] [] s after split open_ q = cc
+one_effect Q p e past [] (b ∷ bs) s after split open_ q = cc
+one_effect Q p e past (x ∷ xs) [] s after split open_ q =
     let x_s : x ≡ s = head_same x s xs after split in
     let xs_after : xs ≡ after = tail_same x s xs after split in
-    let q1 : Q (effect_of e past s after) = subst (λ p. Q (effect_of e p s after)) (append-nil past) q in
-    let q2 : Q (effect_of e past x xs) =
-    subst (λ y. Q (effect_of e past y xs)) (sym x_s) (subst (λ ys. Q (effect_of e past s ys)) (sym xs_after) q1) in
-    new_cons Q x.is_done (effect_of e past x xs) (effects_from e (past ++ x ∷ []) xs) (ap (λ y. y.is_done) x_s ∙ open_) q2
-one_effect_from Q e past (x ∷ xs) (b ∷ bs) s after split open_ q =
+    let q1 : Q (pair_after p e past s after) = subst (λ b. Q (pair_after p e b s after)) (append-nil past) q in
+    let q2 : Q (pair_after p e past x xs) =
+    subst (λ y. Q (pair_after p e past y xs)) (sym x_s) (subst (λ ys. Q (pair_after p e past s ys)) (sym xs_after) q1) in
+    new_cons Q x.is_done (pair_after p e past x xs) (effects_from p e (past ++ x ∷ []) xs) (ap (λ y. y.is_done) x_s ∙ open_) q2
+one_effect Q p e past (x ∷ xs) (b ∷ bs) s after split open_ q =
     let x_b : x ≡ b = head_same x b xs (bs ++ s ∷ after) split in
     let rest : xs ≡ bs ++ s ∷ after = tail_same x b xs (bs ++ s ∷ after) split in
-    let q1 : Q (effect_of e (past ++ x ∷ bs) s after) = subst (λ y. Q (effect_of e (past ++ y ∷ bs) s after)) (sym x_b) q in
-    let q2 : Q (effect_of e ((past ++ x ∷ []) ++ bs) s after) =
-    subst (λ p. Q (effect_of e p s after)) (sym (append_assoc past (x ∷ []) bs)) q1 in
-    one_cons Q x.is_done (effect_of e past x xs) (effects_from e (past ++ x ∷ []) xs)
-    (one_effect_from Q e (past ++ x ∷ []) xs bs s after rest open_ q2)
+    let q1 : Q (pair_after p e (past ++ x ∷ bs) s after) = subst (λ y. Q (pair_after p e (past ++ y ∷ bs) s after)) (sym x_b) q in
+    let q2 : Q (pair_after p e ((past ++ x ∷ []) ++ bs) s after) =
+    subst (λ b. Q (pair_after p e b s after)) (sym (append_assoc past (x ∷ []) bs)) q1 in
+    one_cons Q x.is_done (pair_after p e past x xs) (effects_from p e (past ++ x ∷ []) xs)
+    (one_effect Q p e (past ++ x ∷ []) xs bs s after rest open_ q2)
 
-pub one_effect : (Q : Branch → Type 0) (e : Branch) (before : List OpenStore) (s : OpenStore) (after : List OpenStore)
-    → e.stores ≡ before ++ s ∷ after → s.is_done ≡ false
-    → Q (effect_of e before s after) → One Q (effects e)
-one_effect Q e before s after split open_ q = one_effect_from Q e [] e.stores before s after split open_ q
-
-each_effect_from : (Q : Branch → Type 0) (e : Branch) (past ss : List OpenStore)
+each_effect : (Q : Pair → Type 0) (p : Past) (e : Pair) (past ss : List OpenStore)
     → ((before : List OpenStore) (s : OpenStore) (after : List OpenStore) → ss ≡ before ++ s ∷ after → s.is_done ≡ false
-    → Q (effect_of e (past ++ before) s after)) → Each Q (effects_from e past ss)
-each_effect_from Q e past [] f = tt
-each_effect_from Q e past (x ∷ xs) f =
-    each_cons Q x.is_done (effect_of e past x xs) (effects_from e (past ++ x ∷ []) xs)
-    (λ o. subst (λ p. Q (effect_of e p x xs)) (append-nil past) (f [] x xs refl o))
-    (each_effect_from Q e (past ++ x ∷ []) xs (λ before s after split o.
-    subst (λ p. Q (effect_of e p s after)) (sym (append_assoc past (x ∷ []) before)) (f (x ∷ before) s after (ap (λ t. x ∷ t) split) o)))
+    → Q (pair_after p e (past ++ before) s after)) → Each Q (effects_from p e past ss)
+each_effect Q p e past [] f = tt
+each_effect Q p e past (x ∷ xs) f =
+    each_cons Q x.is_done (pair_after p e past x xs) (effects_from p e (past ++ x ∷ []) xs)
+    (λ o. subst (λ b. Q (pair_after p e b x xs)) (append-nil past) (f [] x xs refl o))
+    (each_effect Q p e (past ++ x ∷ []) xs (λ before s after split o.
+    subst (λ b. Q (pair_after p e b s after)) (sym (append_assoc past (x ∷ []) before)) (f (x ∷ before) s after (ap (λ t. x ∷ t) split) o)))
 
--- what holds of the ways on, if it is kept when a store takes effect
-abbrev pub IsKept : (Branch → Type 0) → Type 0
-IsKept S = (e : Branch) (before : List OpenStore) (s : OpenStore) (after : List OpenStore) → S e → e.stores ≡ before ++ s ∷ after
-    → s.is_done ≡ false → S (effect_of e before s after)
-
-each_effect : (S : Branch → Type 0) → IsKept S → (e : Branch) → S e → Each S (effects e)
-each_effect S kept e h = each_effect_from S e [] e.stores (λ before s after split o. kept e before s after h split o)
-
--- One round. ----
-
-out_keeps : (P : Branch → Type 0) → IsCarried P → (goal : Branch → Bool) (out es : List Branch) → One P out → One P (out_after goal out es)
-out_keeps P c goal out [] h = h
-out_keeps P c goal out (e ∷ es) h = elim (cases_Bool (goal e)) [
-  | inl u ↦ rw u (out_keeps P c goal (with_branch out e) es (one_with P c out e h))
-  | inr f ↦ rw f (out_keeps P c goal out es h)
-]
-
-out_finds : (P : Branch → Type 0) → IsCarried P → (goal : Branch → Bool) (out es : List Branch)
-    → One (λ e. (goal e ≡ true) × P e) es → One P (out_after goal out es)
-out_finds P c goal out [] h = absurd h
-out_finds P c goal out (e ∷ es) (inl p) = rw p.0 (out_keeps P c goal (with_branch out e) es (new_with P c out e p.1))
-out_finds P c goal out (e ∷ es) (inr h) = out_finds P c goal (out_of goal out e) es h
-
-next_keeps : (P : Branch → Type 0) → IsCarried P → (aim : Aim) (next es : List Branch) → One P next → One P (fold (next_of aim) next es)
-next_keeps P c aim next [] h = h
-next_keeps P c aim next (e ∷ es) h = elim (cases_Bool (aim.goal e)) [
-  | inl u ↦ rw u (next_keeps P c aim next es h)
-  | inr f ↦
-      let on : List Branch = filter aim.hope (effects e) in
-      rw f (next_keeps P c aim (with_branches next on) es (one_withs P c next on h))
-]
-
-pub next_finds : (P : Branch → Type 0) → IsCarried P → (aim : Aim) (next es : List Branch)
-    → One (λ e. (aim.goal e ≡ false) × One P (filter aim.hope (effects e))) es → One P (fold (next_of aim) next es)
-next_finds P c aim next [] h = absurd h
-next_finds P c aim next (e ∷ es) (inl p) =
-    let on : List Branch = filter aim.hope (effects e) in
-    rw p.0 (next_keeps P c aim (with_branches next on) es (new_withs P c next on p.1))
-next_finds P c aim next (e ∷ es) (inr h) = next_finds P c aim (next_of aim next e) es h
-
--- the goal is met by a way that shows at least the words of one that meets it
-abbrev pub IsGoal : (Branch → Bool) → Type 0
-IsGoal goal = IsCarried (λ e. goal e ≡ true)
-
-joined_goal : (S : Branch → Type 0) → IsJoined S → (goal : Branch → Bool) → IsGoal goal → IsJoined (λ e. S e × (goal e ≡ true))
-joined_goal S j goal g f e h a b = (j f e h a.0 b.0, g (joined f e) f (joined_first f e) a.1)
-
-out_sound : (S : Branch → Type 0) → IsJoined S → (goal : Branch → Bool) → IsGoal goal → (out es : List Branch)
-    → Each (λ e. S e × (goal e ≡ true)) out → Each S es → Each (λ e. S e × (goal e ≡ true)) (out_after goal out es)
-out_sound S j goal g out [] a b = a
-out_sound S j goal g out (e ∷ es) a b = elim (cases_Bool (goal e)) [
-  | inl t ↦ rw t (out_sound S j goal g (with_branch out e) es
-      (each_with (λ x. S x × (goal x ≡ true)) (joined_goal S j goal g) out e a (b.0, t)) b.1)
-  | inr f ↦ rw f (out_sound S j goal g out es a b.1)
-]
-
-pub next_sound : (S : Branch → Type 0) → IsJoined S → IsKept S → (aim : Aim) (next es : List Branch) → Each S next → Each S es
-    → Each S (fold (next_of aim) next es)
-next_sound S j kept aim next [] a b = a
-next_sound S j kept aim next (e ∷ es) a b = elim (cases_Bool (aim.goal e)) [
-  | inl t ↦ rw t (next_sound S j kept aim next es a b.1)
-  | inr f ↦
-      let on : List Branch = filter aim.hope (effects e) in
-      rw f (next_sound S j kept aim (with_branches next on) es
-      (each_withs S j next on a (each_filter S aim.hope (effects e) (each_effect S kept e b.0))) b.1)
-]
-
--- All rounds. ----
-
-pub met_sound : (S : Branch → Type 0) → IsJoined S → IsKept S → (n : ℕ) (aim : Aim) → IsGoal aim.goal → (out es : List Branch)
-    → Each (λ e. S e × (aim.goal e ≡ true)) out → Each S es
-    → Each (λ e. S e × (aim.goal e ≡ true)) (met n aim out es)
-met_sound S j kept zero aim g out es a b = a
-met_sound S j kept (suc n) aim g out es a b =
-    met_sound S j kept n aim g (out_after aim.goal out es) (next_after aim es) (out_sound S j aim.goal g out es a b)
-    (next_sound S j kept aim [] es tt b)
-
--- How many steps. ----
-
+-- how many steps a pair is from the one at which all stores have taken effect
 abbrev undone_of : Bool → ℕ
 undone_of true = 0
 undone_of false = 1
@@ -165,82 +162,236 @@ pub undone_less : (before : List OpenStore) (s : OpenStore) (after : List OpenSt
 undone_less [] s after o = rw o (omega arith)
 undone_less (b ∷ bs) s after o = omega (arith, undone_less bs s after o)
 
-more_rounds : (n : ℕ) (es : List Branch) → n ≤ fold (λ k e. max k (length e.stores)) n es
+more_rounds : (n : ℕ) (es : List Pair) → n ≤ fold (λ k e. max k (length e.stores)) n es
 more_rounds n [] = omega arith
 more_rounds n (e ∷ es) = let h = more_rounds (max n (length e.stores)) es in omega arith
 
-pub one_rounds : (P : Branch → Type 0) (n : ℕ) (es : List Branch) → One P es
-    → One (λ e. P e × (undone e.stores ≤ fold (λ k x. max k (length x.stores)) n es)) es
-one_rounds P n [] h = absurd h
-one_rounds P n (e ∷ es) (inl p) = let h = more_rounds (max n (length e.stores)) es in let l = undone_length e.stores in inl (p, omega arith)
-one_rounds P n (e ∷ es) (inr h) = inr (one_rounds P (max n (length e.stores)) es h)
+pub one_rounds : (Q : Pair → Type 0) (n : ℕ) (es : List Pair) → One Q es
+    → One (λ e. Q e × (undone e.stores ≤ fold (λ k x. max k (length x.stores)) n es)) es
+one_rounds Q n [] h = absurd h
+one_rounds Q n (e ∷ es) (inl q) = let h = more_rounds (max n (length e.stores)) es in let l = undone_length e.stores in inl (q, omega arith)
+one_rounds Q n (e ∷ es) (inr h) = inr (one_rounds Q (max n (length e.stores)) es h)
 
--- a way that leads to a state, within fewer than so many steps
-abbrev pub LeadsWithin : UnitMemory → ℕ → Branch → Type 0
-LeadsWithin m n e = Leads e m × (undone e.stores < n)
+-- The loads that are open, and the moment. ----
 
-pub carried_within : (m : UnitMemory) (n : ℕ) → IsCarried (LeadsWithin m n)
-carried_within m n f e s p = (leads_shown f s p.0, subst (λ ss. undone ss < n) (sym s.stores) p.1)
+module _ (loads : List WatchedLoad) (moment : ℕ) (asked : Each (IsAsked moment) loads) where
+  abbrev past_on : Pair → Past
+  past_on e = overwritten loads moment e.word e.past
 
--- it leads there now, or once a store has taken effect
-pub leads_split : (m : UnitMemory) (n : ℕ) (e : Branch) → LeadsWithin m (suc n) e → IsOn e m ⊎ One (LeadsWithin m n) (effects e)
-leads_split m n e p = split p.0 p.1
-  where
-    split : Leads e m → undone e.stores < suc n → IsOn e m ⊎ One (LeadsWithin m n) (effects e)
-    split (now o) l = inl o
-    split (later before s after is open_ r) l =
-        let less : undone e.stores ≡ suc (undone (before ++ done_store s ∷ after)) = ap undone is ∙ undone_less before s after open_ in
-        inr (one_effect (LeadsWithin m n) e before s after is open_ (r, omega arith))
+  on_path : (e : Pair) (before : List OpenStore) (s : OpenStore) (after : List OpenStore) (path : List Stood) → Has e.past path
+      → (more : List Stood) × Has (past_on e) more
+      × (way_on loads (pair_after (past_on e) e before s after) more ≡ effect_of (way_on loads e path) before s after)
+  on_path e before s after path h = made loads asked
+    where
+      made : (ls : List WatchedLoad) → Each (IsAsked moment) ls → (more : List Stood) × Has (overwritten ls moment e.word e.past) more
+          × (way_on ls (pair_after (overwritten ls moment e.word e.past) e before s after) more ≡ effect_of (way_on ls e path) before s after)
+      made [] a = ([], refl, refl)
+      made (l ∷ ls) a =
+          let more : map (watched (stood e.word moment ∷ path)) (l ∷ ls) ≡ (effect_of (way_on (l ∷ ls) e path) before s after).loads =
+          watched_more moment e.word path (l ∷ ls) a in
+          let there : Branch = effect_of (way_on (l ∷ ls) e path) before s after in
+          (stood e.word moment ∷ path, (path, refl, h), λ i. record { word = there.word; stores = there.stores; loads = more i })
 
-pub none_within : (m : UnitMemory) (e : Branch) → LeadsWithin m zero e → ⊥
-none_within m e p = let l = p.1 in absurd (omega arith)
+  path_on : (e : Pair) (before : List OpenStore) (s : OpenStore) (after : List OpenStore) (more : List Stood) → Has (past_on e) more
+      → (path : List Stood) × Has e.past path
+      × (way_on loads (pair_after (past_on e) e before s after) more ≡ effect_of (way_on loads e path) before s after)
+  path_on e before s after more h = made loads asked h
+    where
+      made : (ls : List WatchedLoad) → Each (IsAsked moment) ls → Has (overwritten ls moment e.word e.past) more
+          → (path : List Stood) × Has e.past path
+          × (way_on ls (pair_after (overwritten ls moment e.word e.past) e before s after) more ≡ effect_of (way_on ls e path) before s after)
+      made [] a g = let r = some_path e.past in (r.0, r.1, refl)
+      made (l ∷ ls) a g =
+          let same : map (watched more) (l ∷ ls) ≡ (effect_of (way_on (l ∷ ls) e g.0) before s after).loads =
+          ap (λ p. map (watched p) (l ∷ ls)) g.1 ∙ watched_more moment e.word g.0 (l ∷ ls) a in
+          let there : Branch = effect_of (way_on (l ∷ ls) e g.0) before s after in
+          (g.0, g.2, λ i. record { word = there.word; stores = there.stores; loads = same i })
 
--- there is hope on each way that leads to a state
-abbrev pub HasHopes : UnitMemory → Aim → Type 0
-HasHopes m aim = (e : Branch) → Leads e m → aim.hope e ≡ true
+  -- what holds of the pairs on, if it is kept when a store takes effect
+  abbrev pub IsKept : (Pair → Type 0) → Type 0
+  IsKept S = (e : Pair) (before : List OpenStore) (s : OpenStore) (after : List OpenStore) → S e → e.stores ≡ before ++ s ∷ after
+      → s.is_done ≡ false → S (pair_after (past_on e) e before s after)
 
-pub one_hopes : (m : UnitMemory) (aim : Aim) → HasHopes m aim → (n : ℕ) (es : List Branch) → One (LeadsWithin m n) es
-    → One (LeadsWithin m n) (filter aim.hope es)
-one_hopes m aim hope n es o =
-    one_filter (LeadsWithin m n) aim.hope es
-    (one_weaker (LeadsWithin m n) (λ e. LeadsWithin m n e × (aim.hope e ≡ true)) (λ e l. (l, hope e l.0)) es o)
+  -- the states on each way have a property, and nothing was overwritten behind now
+  abbrev pub IsSound : (UnitMemory → Type 0) → Pair → Type 0
+  IsSound P e = EachWay loads (λ b. (m : UnitMemory) → IsOn b m → P m) e × IsPairBy moment e
 
--- a way that leads to a state at which the goal is met is found at the first place where it is
-met_finds : (m : UnitMemory) (aim : Aim) → ((x : Branch) → IsOn x m → aim.goal x ≡ true) → HasHopes m aim → (n : ℕ)
-    → (out es : List Branch)
-    → One (λ e. Leads e m) out ⊎ One (LeadsWithin m n) es → One (λ e. Leads e m) (met n aim out es)
-met_finds m aim g hope zero out es (inl h) = h
-met_finds m aim g hope zero out es (inr h) = absurd (one_none es (one_weaker (LeadsWithin m zero) (λ e. ⊥) (none_within m) es h))
-met_finds m aim g hope (suc n) out es h =
-    let c : IsCarried (λ e. Leads e m) = λ f e s l. leads_shown f s l in
-    let Here : Branch → Type 0 = λ e. (aim.goal e ≡ true) × Leads e m in
-    let There : Branch → Type 0 = λ e. (aim.goal e ≡ false) × One (LeadsWithin m n) (filter aim.hope (effects e)) in
-    let either : (e : Branch) → LeadsWithin m (suc n) e → Here e ⊎ There e = λ e p. elim (cases_Bool (aim.goal e)) [
-      | inl y ↦ inl (y, p.0)
-      | inr f ↦ elim (leads_split m n e p) [
-        | inl o ↦ let x : true ≡ false = sym (g e o) ∙ f in cc
-        | inr o ↦ inr (f, one_hopes m aim hope n (effects e) o)
-      ]
-    ] in
-    elim h [
-      | inl o ↦ met_finds m aim g hope n (out_after aim.goal out es) (next_after aim es)
-          (inl (out_keeps (λ e. Leads e m) c aim.goal out es o))
-      | inr o ↦ elim (one_or Here There es (one_weaker (LeadsWithin m (suc n)) (λ e. Here e ⊎ There e) either es o)) [
-        | inl a ↦ met_finds m aim g hope n (out_after aim.goal out es) (next_after aim es)
-            (inl (out_finds (λ e. Leads e m) c aim.goal out es a))
-        | inr a ↦ met_finds m aim g hope n (out_after aim.goal out es) (next_after aim es)
-            (inr (next_finds (LeadsWithin m n) (carried_within m n) aim [] es a))
-      ]
-    ]
+  pub sound_joint : (P : UnitMemory → Type 0) → IsJoint (IsSound P)
+  sound_joint P f e h a b =
+      (each_joint loads (λ b. (m : UnitMemory) → IsOn b m → P m) f e h a.0 b.0, by_joint moment f e h a.1 b.1)
 
-pub met_complete : (aim : Aim) (m : UnitMemory) → ((x : Branch) → IsOn x m → aim.goal x ≡ true) → HasHopes m aim → (es : List Branch)
-    → One (λ e. Leads e m) es → One (λ e. Leads e m) (met (suc (rounds es)) aim [] es)
-met_complete aim m g hope es h =
-    let n : ℕ = rounds es in
-    let ways : One (LeadsWithin m (suc n)) es =
-    one_weaker (λ e. Leads e m × (undone e.stores ≤ n)) (LeadsWithin m (suc n)) (λ e p. (p.0, within e p.1)) es
-    (one_rounds (λ e. Leads e m) 0 es h) in
-    met_finds m aim g hope (suc n) [] es (inr ways)
-  where
-    within : (e : Branch) → undone e.stores ≤ rounds es → undone e.stores < suc (rounds es)
-    within e l = omega arith
+  pub sound_kept : (P : UnitMemory → Type 0) → ((m n : UnitMemory) → P m → HiddenStep m n → P n) → IsKept (IsSound P)
+  sound_kept P closed e before s after h split open_ = (
+    λ more has.
+        let r = path_on e before s after more has in
+        let on : (m : UnitMemory) → IsOn (effect_of (way_on loads e r.0) before s after) m → P m =
+        λ m o. sound_effect P closed (way_on loads e r.0) before s after (h.0 r.0 r.1) split open_ m o in
+        subst (λ (b : Branch). (m : UnitMemory) → IsOn b m → P m) (sym r.2) on,
+    by_overwritten loads moment e.word e.past h.1,
+  )
+
+  each_effects : (S : Pair → Type 0) → IsKept S → (e : Pair) → S e → Each S (effects loads moment e)
+  each_effects S kept e h = each_effect S (past_on e) e [] e.stores (λ before s after split o. kept e before s after h split o)
+
+  -- One round. ----
+
+  out_keeps : (Q : Pair → Type 0) → IsTaken Q → (goal : Pair → Bool) (out es : List Pair) → One Q out → One Q (out_after goal out es)
+  out_keeps Q t goal out [] h = h
+  out_keeps Q t goal out (e ∷ es) h = elim (cases_Bool (goal e)) [
+    | inl u ↦ rw u (out_keeps Q t goal (with_pair out e) es (one_with Q t out e h))
+    | inr f ↦ rw f (out_keeps Q t goal out es h)
+  ]
+
+  out_finds : (Q : Pair → Type 0) → IsTaken Q → (goal : Pair → Bool) (out es : List Pair)
+      → One (λ e. (goal e ≡ true) × Q e) es → One Q (out_after goal out es)
+  out_finds Q t goal out [] h = absurd h
+  out_finds Q t goal out (e ∷ es) (inl p) = rw p.0 (out_keeps Q t goal (with_pair out e) es (new_with Q t out e p.1))
+  out_finds Q t goal out (e ∷ es) (inr h) = out_finds Q t goal (out_of goal out e) es h
+
+  next_keeps : (Q : Pair → Type 0) → IsTaken Q → (aim : Aim) (next es : List Pair) → One Q next
+      → One Q (fold (next_of loads moment aim) next es)
+  next_keeps Q t aim next [] h = h
+  next_keeps Q t aim next (e ∷ es) h = elim (cases_Bool (aim.goal e)) [
+    | inl u ↦ rw u (next_keeps Q t aim next es h)
+    | inr f ↦
+        let on : List Pair = filter aim.hope (effects loads moment e) in
+        rw f (next_keeps Q t aim (with_pairs next on) es (one_withs Q t next on h))
+  ]
+
+  pub next_finds : (Q : Pair → Type 0) → IsTaken Q → (aim : Aim) (next es : List Pair)
+      → One (λ e. (aim.goal e ≡ false) × One Q (filter aim.hope (effects loads moment e))) es
+      → One Q (fold (next_of loads moment aim) next es)
+  next_finds Q t aim next [] h = absurd h
+  next_finds Q t aim next (e ∷ es) (inl p) =
+      let on : List Pair = filter aim.hope (effects loads moment e) in
+      rw p.0 (next_keeps Q t aim (with_pairs next on) es (new_withs Q t next on p.1))
+  next_finds Q t aim next (e ∷ es) (inr h) = next_finds Q t aim (next_of loads moment aim next e) es h
+
+  -- what is found has a property that those which meet the goal have
+  pub out_sound : (S R : Pair → Type 0) → IsJoint R → (goal : Pair → Bool) → ((e : Pair) → S e → goal e ≡ true → R e) → (out es : List Pair)
+      → Each R out → Each S es → Each R (out_after goal out es)
+  out_sound S R j goal g out [] a b = a
+  out_sound S R j goal g out (e ∷ es) a b = elim (cases_Bool (goal e)) [
+    | inl t ↦ rw t (out_sound S R j goal g (with_pair out e) es (each_with R j out e a (g e b.0 t)) b.1)
+    | inr f ↦ rw f (out_sound S R j goal g out es a b.1)
+  ]
+
+  pub next_sound : (S : Pair → Type 0) → IsJoint S → IsKept S → (aim : Aim) (next es : List Pair) → Each S next → Each S es
+      → Each S (fold (next_of loads moment aim) next es)
+  next_sound S j kept aim next [] a b = a
+  next_sound S j kept aim next (e ∷ es) a b = elim (cases_Bool (aim.goal e)) [
+    | inl t ↦ rw t (next_sound S j kept aim next es a b.1)
+    | inr f ↦
+        let on : List Pair = filter aim.hope (effects loads moment e) in
+        rw f (next_sound S j kept aim (with_pairs next on) es
+        (each_withs S j next on a (each_filter S aim.hope (effects loads moment e) (each_effects S kept e b.0))) b.1)
+  ]
+
+  -- All rounds. ----
+
+  pub met_sound : (S R : Pair → Type 0) → IsJoint S → IsJoint R → IsKept S → (n : ℕ) (aim : Aim)
+      → ((e : Pair) → S e → aim.goal e ≡ true → R e) → (out es : List Pair)
+      → Each R out → Each S es → Each R (met loads moment n aim out es)
+  met_sound S R j k kept zero aim g out es a b = a
+  met_sound S R j k kept (suc n) aim g out es a b =
+      met_sound S R j k kept n aim g (out_after aim.goal out es) (next_after loads moment aim es)
+      (out_sound S R k aim.goal g out es a b)
+      (next_sound S j kept aim [] es tt b)
+
+  -- a way that leads to a state, within fewer than so many steps
+  abbrev pub LeadsWithin : UnitMemory → ℕ → Branch → Type 0
+  LeadsWithin m n b = Leads b m × (undone b.stores < n)
+
+  -- it leads there now, or once a store has taken effect
+  pub leads_split : (m : UnitMemory) (Q : Pair → Type 0) (n : ℕ) (e : Pair) (path : List Stood) → Has e.past path
+      → LeadsWithin m (suc n) (way_on loads e path)
+      → ((before : List OpenStore) (s : OpenStore) (after : List OpenStore) (more : List Stood) → Has (past_on e) more
+      → way_on loads (pair_after (past_on e) e before s after) more ≡ effect_of (way_on loads e path) before s after
+      → LeadsWithin m n (effect_of (way_on loads e path) before s after) → Q (pair_after (past_on e) e before s after))
+      → IsOn (way_on loads e path) m ⊎ One Q (effects loads moment e)
+  leads_split m Q n e path has w f = split w.0 w.1
+    where
+      split : Leads (way_on loads e path) m → undone e.stores < suc n → IsOn (way_on loads e path) m ⊎ One Q (effects loads moment e)
+      split (now o) l = inl o
+      split (later before s after is open_ r) l =
+          let less : undone e.stores ≡ suc (undone (before ++ done_store s ∷ after)) = ap undone is ∙ undone_less before s after open_ in
+          let p = on_path e before s after path has in
+          let few : undone (before ++ done_store s ∷ after) < n = omega arith in
+          inr (one_effect Q (past_on e) e [] e.stores before s after is open_ (f before s after p.0 p.1 p.2 (r, few)))
+
+  -- The goal is met late: of the ways that haven't met it each state that it is about has it now or behind more effects. ----
+
+  module _ (m : UnitMemory) (Late : Branch → Type 0) where
+    abbrev pub Way : ℕ → Pair → Type 0
+    Way n e = OneWay loads (λ b. LeadsWithin m n b × Late b) e
+
+    abbrev pub LeadsThere : Pair → Type 0
+    LeadsThere e = OneWay loads (λ b. Leads b m) e
+
+    -- what an aim says of the ways that are late
+    pub record IsFor (aim : Aim) : Type 0 where
+      pub here : (e : Pair) (path : List Stood) → Late (way_on loads e path) → IsOn (way_on loads e path) m → aim.goal e ≡ true
+      pub stays : (e : Pair) (path : List Stood) (before : List OpenStore) (s : OpenStore) (after : List OpenStore) → aim.goal e ≡ false
+          → Late (way_on loads e path)
+          → Late (effect_of (way_on loads e path) before s after)
+      pub hopes : (e : Pair) (path : List Stood) → Late (way_on loads e path) → Leads (way_on loads e path) m → aim.hope e ≡ true
+
+    -- it leads there once a store has taken effect
+    pub way_split : (n : ℕ) (aim : Aim) → IsFor aim → (e : Pair) → aim.goal e ≡ false → Way (suc n) e
+        → One (Way n) (filter aim.hope (effects loads moment e))
+    way_split n aim f e away w =
+        elim (leads_split m (λ x. Way n x × (aim.hope x ≡ true)) n e w.0 w.1 w.2.0 on) [
+          | inl o ↦ let x : true ≡ false = sym (f.here e w.0 w.2.1 o) ∙ away in cc
+          | inr o ↦ one_filter (Way n) aim.hope (effects loads moment e) o
+        ]
+      where
+        on : (before : List OpenStore) (s : OpenStore) (after : List OpenStore) (more : List Stood) → Has (past_on e) more
+            → way_on loads (pair_after (past_on e) e before s after) more ≡ effect_of (way_on loads e w.0) before s after
+            → LeadsWithin m n (effect_of (way_on loads e w.0) before s after)
+            → Way n (pair_after (past_on e) e before s after) × (aim.hope (pair_after (past_on e) e before s after) ≡ true)
+        on before s after more has same r =
+            let x : Pair = pair_after (past_on e) e before s after in
+            let lead : LeadsWithin m n (way_on loads x more) = subst (LeadsWithin m n) (sym same) r in
+            let late : Late (way_on loads x more) = subst Late (sym same) (f.stays e w.0 before s after away w.2.1) in
+            ((more, has, (lead, late)), f.hopes x more late lead.0)
+
+    none_within : (e : Pair) → Way zero e → ⊥
+    none_within e w = let l = w.2.0.1 in absurd (omega arith)
+
+    -- a way that leads to a state is found at the first place where the goal is met
+    met_finds : (aim : Aim) → IsFor aim → (n : ℕ) (out es : List Pair) → One LeadsThere out ⊎ One (Way n) es
+        → One LeadsThere (met loads moment n aim out es)
+    met_finds aim f zero out es (inl h) = h
+    met_finds aim f zero out es (inr h) = absurd (one_none es (one_weaker (Way zero) (λ e. ⊥) none_within es h))
+    met_finds aim f (suc n) out es h =
+        let t : IsTaken LeadsThere = one_taken loads (λ b. Leads b m) in
+        let u : IsTaken (Way n) = one_taken loads (λ b. LeadsWithin m n b × Late b) in
+        let Here : Pair → Type 0 = λ e. (aim.goal e ≡ true) × LeadsThere e in
+        let There : Pair → Type 0 = λ e. (aim.goal e ≡ false) × One (Way n) (filter aim.hope (effects loads moment e)) in
+        let either : (e : Pair) → Way (suc n) e → Here e ⊎ There e = λ e w. elim (cases_Bool (aim.goal e)) [
+          | inl y ↦ inl (y, (w.0, w.1, w.2.0.0))
+          | inr u ↦ inr (u, way_split n aim f e u w)
+        ] in
+        elim h [
+          | inl o ↦ met_finds aim f n (out_after aim.goal out es) (next_after loads moment aim es)
+              (inl (out_keeps LeadsThere t aim.goal out es o))
+          | inr o ↦ elim (one_or Here There es (one_weaker (Way (suc n)) (λ e. Here e ⊎ There e) either es o)) [
+            | inl a ↦ met_finds aim f n (out_after aim.goal out es) (next_after loads moment aim es)
+                (inl (out_finds LeadsThere t aim.goal out es a))
+            | inr a ↦ met_finds aim f n (out_after aim.goal out es) (next_after loads moment aim es)
+                (inr (next_finds (Way n) u aim [] es a))
+          ]
+        ]
+
+    pub found_complete : (aim : Aim) → IsFor aim → (out es : List Pair)
+        → One LeadsThere out ⊎ One (OneWay loads (λ b. Leads b m × Late b)) es → One LeadsThere (found loads moment aim out es)
+    found_complete aim f out es (inl h) = met_finds aim f (suc (rounds es)) out es (inl h)
+    found_complete aim f out es (inr h) =
+        let n : ℕ = rounds es in
+        let Q : Pair → Type 0 = OneWay loads (λ b. Leads b m × Late b) in
+        met_finds aim f (suc n) out es
+        (inr (one_weaker (λ e. Q e × (undone e.stores ≤ n)) (Way (suc n))
+        (λ e p. (p.0.0, p.0.1, ((p.0.2.0, within e p.1), p.0.2.1))) es (one_rounds Q 0 es h)))
+      where
+        within : (e : Pair) → undone e.stores ≤ rounds es → undone e.stores < suc (rounds es)
+        within e l = omega arith

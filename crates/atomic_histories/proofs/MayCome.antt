@@ -1,15 +1,15 @@
 -- A way on which no more stores can make the word of an answer isn't followed, and nothing is lost by that.
 use Rattle.std.proofs.Common.{◌≡◌, ℕ, zero, suc, ◌+◌, ◌⊎◌, Bool, true, false, ◌&&◌, ◌||◌, not, List, [], ◌∷◌, ◌++◌, get_or, Option, Some, None, inl, inr, refl, sym, ap, ◌∙◌, subst}
-use Rattle.std.specs.List.{list_all, list_any, range_with_len}
-use Rattle.std.proofs.lemmas.Bool.{and_parts, and_from}
+use Rattle.std.specs.List.{list_all, list_any, find, range_with_len}
+use Rattle.std.proofs.lemmas.Bool.{cases_Bool, and_parts, and_from}
 use Rattle.std.proofs.lemmas.List.Folds.{list_any-append, list_all-map}
 use Rattle.atomic_histories.specs.declared.unit.OpenStore.{OpenStore}
 use Rattle.atomic_histories.specs.declared.unit.UnitPlace.{UnitPlace}
 use Rattle.atomic_histories.specs.Words.{byte_for, written, is_as_it_stood, is_word_of}
 use Rattle.atomic_histories.specs.Law.{UnitMemory, done_store, may_answer_load}
-use Rattle.atomic_histories.specs.Branches.{Watched, Branch, with_word, effect_of, is_watched, gives, may_come_in, may_come, may_have, has_answer, has_hope}
-use Rattle.atomic_histories.specs.Stands.{Leads, now, later}
-use Rattle.atomic_histories.proofs.Answers.{answer_on}
+use Rattle.atomic_histories.specs.Branches.{Watched, Branch, with_word, effect_of, is_watched, gives, may_come_in, may_come, may_have, has_answer}
+use Rattle.atomic_histories.specs.Stands.{IsOn, Leads, now, later}
+use Rattle.atomic_histories.proofs.Answering.{answer_on}
 use Rattle.atomic_histories.proofs.Lanes.{word_lane}
 
 abbrev Word : Type 0
@@ -97,9 +97,16 @@ come_before k word before s after answer open_ h =
 
 -- One load. ----
 
+-- whether the word may come to be one of an answer
+abbrev comes : UnitPlace → List ℕ → Branch → Watched → Bool
+comes unit bytes e l = may_come unit l.address bytes e.word e.stores
+
 -- whether nothing stands in the way of an answer, or may still be put out of it
 abbrev hopes : UnitPlace → ℕ → List ℕ → Branch → Watched → Bool
-hopes unit number bytes e l = not (is_watched number l) || (may_have unit bytes e l || may_come unit bytes e l)
+hopes unit number bytes e l = not (is_watched number l) || (may_have unit bytes e l || comes unit bytes e l)
+
+abbrev has_hope : UnitPlace → ℕ → List ℕ → Branch → Bool
+has_hope unit number bytes e = list_all (hopes unit number bytes e) e.loads
 
 module _ (unit : UnitPlace) (number : ℕ) (bytes : List ℕ) (e : Branch) (before : List OpenStore) (s : OpenStore) (after : List OpenStore)
     (split : e.stores ≡ before ++ s ∷ after) (open_ : s.is_done ≡ false) where
@@ -113,13 +120,13 @@ module _ (unit : UnitPlace) (number : ℕ) (bytes : List ℕ) (e : Branch) (befo
       subst (λ ss. may_come_in k e.word ss (byte_for l.address bytes (unit.first + k)) ≡ true) (sym split)
       (come_before k e.word before s after (byte_for l.address bytes (unit.first + k)) open_ h)
 
-  all_come : (l : Watched) → may_come unit bytes on (with_word e.word l) ≡ true → may_come unit bytes e l ≡ true
+  all_come : (l : Watched) → comes unit bytes on (with_word e.word l) ≡ true → comes unit bytes e l ≡ true
   all_come l h =
       all_weaker (λ k. may_come_in k on.word on.stores (byte_for l.address bytes (unit.first + k)))
       (λ k. may_come_in k e.word e.stores (byte_for l.address bytes (unit.first + k))) (come l) (range_with_len 0 8) h
 
   -- the word of an answer that an effect makes may come before it
-  word_comes : (l : Watched) → is_word_of unit.first on.word l.address bytes ≡ true → may_come unit bytes e l ≡ true
+  word_comes : (l : Watched) → is_word_of unit.first on.word l.address bytes ≡ true → comes unit bytes e l ≡ true
   word_comes l h = all_from (range_with_len 0 8)
     where
       lane : (k : ℕ) → may_come_in k e.word e.stores (byte_for l.address bytes (unit.first + k)) ≡ true
@@ -135,26 +142,19 @@ module _ (unit : UnitPlace) (number : ℕ) (bytes : List ℕ) (e : Branch) (befo
   hopes_before l h =
       let is : Word → Bool = λ w. is_word_of unit.first w l.address bytes in
       let have : Bool = may_have unit bytes e l in
-      let may : Bool = may_come unit bytes e l in
+      let may : Bool = comes unit bytes e l in
       let done : (have || may) ≡ true → hopes unit number bytes e l ≡ true = right_true (not (is_watched number l)) (have || may) in
       elim (or_either (not (is_watched number l))
-      (may_have unit bytes on (with_word e.word l) || may_come unit bytes on (with_word e.word l)) h) [
+      (may_have unit bytes on (with_word e.word l) || comes unit bytes on (with_word e.word l)) h) [
         | inl t ↦ left_true (not (is_watched number l)) (have || may) t
-        | inr a ↦ elim (or_either (may_have unit bytes on (with_word e.word l)) (may_come unit bytes on (with_word e.word l)) a) [
+        | inr a ↦ elim (or_either (may_have unit bytes on (with_word e.word l)) (comes unit bytes on (with_word e.word l)) a) [
           | inr c ↦ done (right_true have may (all_come l c))
-          | inl b ↦ elim (or_either (is on.word) (list_any is (l.words ++ e.word ∷ [])) b) [
+          | inl b ↦ elim (or_either (is on.word) (is e.word || list_any is l.words) b) [
             | inl c ↦ done (right_true have may (word_comes l c))
-            | inr c ↦ elim (or_either (list_any is l.words) (is e.word || false) (sym (list_any-append is l.words (e.word ∷ [])) ∙ c)) [
-              | inl d ↦ done (left_true have may (right_true (is e.word) (list_any is l.words) d))
-              | inr d ↦ done (left_true have may (left_true (is e.word) (list_any is l.words) (or_last (is e.word) d)))
-            ]
+            | inr c ↦ done (left_true have may c)
           ]
         ]
       ]
-    where
-      or_last : (a : Bool) → (a || false) ≡ true → a ≡ true
-      or_last true h = refl
-      or_last false h = cc
 
   pub hope_before : has_hope unit number bytes (effect_of e before s after) ≡ true → has_hope unit number bytes e ≡ true
   unfolding on
@@ -172,7 +172,7 @@ answer_hopes unit number bytes e h =
     weaker : (l : Watched) → (not (is_watched number l) || may_have unit bytes e l) ≡ true → hopes unit number bytes e l ≡ true
     weaker l t = elim (or_either (not (is_watched number l)) (may_have unit bytes e l) t) [
       | inl a ↦ left_true (not (is_watched number l)) _ a
-      | inr b ↦ right_true (not (is_watched number l)) _ (left_true (may_have unit bytes e l) (may_come unit bytes e l) b)
+      | inr b ↦ right_true (not (is_watched number l)) _ (left_true (may_have unit bytes e l) (comes unit bytes e l) b)
     ]
 
 -- a way that leads to a state with the answer hopes for it
@@ -181,3 +181,67 @@ pub hope_leads : (unit : UnitPlace) (number : ℕ) (bytes : List ℕ) {e : Branc
 hope_leads unit number bytes {e} {m} g (now o) = answer_hopes unit number bytes e (answer_on unit number bytes m g e o)
 hope_leads unit number bytes {e} {m} g (later before s after split open_ r) =
     hope_before unit number bytes e before s after split open_ (hope_leads unit number bytes g r)
+
+-- The load that is found under a number. ----
+
+-- the word that stands there may come to be one of an answer if it is one
+pub word_may_come : (unit : UnitPlace) (address : ℕ) (bytes : List ℕ) (word : Word) (stores : List OpenStore)
+    → is_word_of unit.first word address bytes ≡ true → may_come unit address bytes word stores ≡ true
+word_may_come unit address bytes word stores h = all_from (range_with_len 0 8)
+  where
+    all_from : (ks : List ℕ) → list_all (λ k. may_come_in k word stores (byte_for address bytes (unit.first + k))) ks ≡ true
+    all_from [] = refl
+    all_from (k ∷ ks) =
+        and_from (may_come_in k word stores (byte_for address bytes (unit.first + k))) _
+        (left_true (is_as_it_stood (get_or word k None) (byte_for address bytes (unit.first + k))) _
+        (word_lane unit.first word address bytes k h)) (all_from ks)
+
+all_found : (p q : Watched → Bool) (ls : List Watched) (l : Watched) → list_all p ls ≡ true → find q ls ≡ Some l
+    → (p l ≡ true) × (q l ≡ true)
+all_found p q [] l h f = cc
+all_found p q (x ∷ xs) l h f =
+    let r = and_parts (p x) (list_all p xs) h in
+    elim (cases_Bool (q x)) [
+      | inl t ↦
+          let same : Some x ≡ Some l = rw t at f in
+          let is : x ≡ l = cc in
+          (ap p (sym is) ∙ r.0, ap q (sym is) ∙ t)
+      | inr n ↦ all_found p q xs l r.1 (rw n at f)
+    ]
+
+-- the load under a number, on a way on which no word before the one of now was one of its answer
+abbrev pub IsLate : UnitPlace → ℕ → List ℕ → Branch → Type 0
+IsLate unit number bytes e = (l : Watched) → find (is_watched number) e.loads ≡ Some l
+    → list_any (λ w. is_word_of unit.first w l.address bytes) l.words ≡ false
+
+-- its answer may still come where the way leads to it
+pub late_hope : (unit : UnitPlace) (number : ℕ) (bytes : List ℕ) (e : Branch) (l : Watched) (m : UnitMemory)
+    → find (is_watched number) e.loads ≡ Some l
+    → IsLate unit number bytes e → may_answer_load unit number bytes m.loads ≡ true → Leads e m
+    → may_come unit l.address bytes e.word e.stores ≡ true
+late_hope unit number bytes e l m f late g r =
+    let is : Word → Bool = λ w. is_word_of unit.first w l.address bytes in
+    let p = all_found (hopes unit number bytes e) (is_watched number) e.loads l (hope_leads unit number bytes g r) f in
+    let have : (may_have unit bytes e l || comes unit bytes e l) ≡ true = rw p.1 at p.0 in
+    elim (or_either (may_have unit bytes e l) (comes unit bytes e l) have) [
+      | inr c ↦ c
+      | inl b ↦ elim (or_either (is e.word) (list_any is l.words) b) [
+        | inl c ↦ word_may_come unit l.address bytes e.word e.stores c
+        | inr c ↦ let x : true ≡ false = sym c ∙ late l f in cc
+      ]
+    ]
+
+-- it has come where a state with the answer is on the way
+pub late_answer : (unit : UnitPlace) (number : ℕ) (bytes : List ℕ) (e : Branch) (l : Watched) (m : UnitMemory)
+    → find (is_watched number) e.loads ≡ Some l
+    → IsLate unit number bytes e → may_answer_load unit number bytes m.loads ≡ true → IsOn e m
+    → is_word_of unit.first e.word l.address bytes ≡ true
+late_answer unit number bytes e l m f late g o =
+    let is : Word → Bool = λ w. is_word_of unit.first w l.address bytes in
+    let p = all_found (λ k. not (is_watched number k) || may_have unit bytes e k) (is_watched number) e.loads l
+    (answer_on unit number bytes m g e o) f in
+    let have : may_have unit bytes e l ≡ true = rw p.1 at p.0 in
+    elim (or_either (is e.word) (list_any is l.words) have) [
+      | inl c ↦ c
+      | inr c ↦ let x : true ≡ false = sym c ∙ late l f in cc
+    ]

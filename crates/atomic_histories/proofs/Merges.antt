@@ -1,86 +1,132 @@
--- A way meets the one at a place of those that are followed.
-use Rattle.std.proofs.Common.{◌≡◌, ℕ, zero, suc, ◌+◌, ◌<◌, true, false, ◌&&◌, List, [], ◌∷◌, ◌++◌, length, take, drop, get_or, refl, sym, ap, ap₂, ◌∙◌, add-one, inl, inr, arith}
-use Rattle.std.specs.List.{remove}
-use Rattle.std.specs.Cmp.Lexicographic.{pointwise}
-use Rattle.std.proofs.lemmas.Bool.{cases_Bool, and_parts}
-use Rattle.atomic_histories.specs.declared.ways.Way.{Way}
-use Rattle.atomic_histories.specs.Branches.{Branch, is_same_word, is_same_store, is_same_pair, covers_load, covers, differ_once, joins, joined, with_other}
-use Rattle.atomic_histories.specs.Shown.{shown, shown_all}
-use Rattle.atomic_histories.proofs.SameWords.{same_word, same_stores}
+-- A pair is put to those that are followed, or its ways to those that have come there.
+use Rattle.std.proofs.Common.{◌≡◌, ℕ, zero, suc, ◌+◌, ◌<◌, ◌≤◌, Bool, true, false, List, [], ◌∷◌, ◌++◌, map, length, take, drop, get_or, set, Some, None, refl, sym, ap, ap₂, ◌∙◌, add-one, length-set, inl, inr, nat_lt, arith}
+use Rattle.std.specs.List.{position, position_or_len}
+use Rattle.std.proofs.lemmas.Bool.{cases_Bool, lt-ltb, le-ltb, ltb-false}
+use Rattle.std.proofs.lemmas.List.Sums.{position_or_len_is, fails_before_first}
+use Rattle.std.proofs.lemmas.List.Quantifiers.{position-Some}
+use Rattle.atomic_histories.specs.declared.stretches.Before.{Before}
+use Rattle.atomic_histories.specs.declared.stretches.Stretch.{Stretch}
+use Rattle.atomic_histories.specs.declared.pairs.FollowedPair.{FollowedPair}
+use Rattle.atomic_histories.specs.Pasts.{Past, merged}
+use Rattle.atomic_histories.specs.Followed.{Pair, is_same_pair, merged_pair, with_pair}
+use Rattle.atomic_histories.specs.Shown.{past_at, pasts, shown, shown_all, IsIn, AreIn, Grows}
+use Rattle.atomic_histories.specs.Marks.{mark}
+use Rattle.atomic_histories.proofs.Loops.{same_default}
+use Rattle.atomic_histories.proofs.Frames.{in_grown, are_in_grown, shown_grown, pair_grown}
 
--- ways to one pair
-pub covers_pair : (e f : Branch) → covers e f ≡ true → is_same_pair e f ≡ true
-unfolding covers
-covers_pair e f h = (and_parts (is_same_pair e f) (pointwise (covers_load e.word) e.loads f.loads) h).0
+-- Places. ----
 
-pub joins_pair : (e f : Branch) → joins e f ≡ true → is_same_pair e f ≡ true
-unfolding joins
-joins_pair e f h = (and_parts (is_same_pair e f) (differ_once e.word e.loads f.loads) h).0
+pub found_at : {X : Type 0} (p : X → Bool) (xs : List X) (i : ℕ) (d : X) → i < length xs → ((k : ℕ) → k < i → p (get_or xs k d) ≡ false)
+    → p (get_or xs i d) ≡ true → Some i ≡ position p xs
+found_at p xs i d h others here =
+    let at : position_or_len p xs ≡ i = position_or_len_is p xs i d (omega arith) others (λ l. here) in
+    rw (at, lt-ltb i (length xs) h) refl
 
-pub same_pair_back : (e f : Branch) → is_same_pair e f ≡ true → is_same_pair f e ≡ true
-same_pair_back e f h =
-    let p = and_parts (is_same_word e.word f.word) (pointwise is_same_store e.stores f.stores) h in
-    let w : e.word ≡ f.word = same_word e.word f.word p.0 in
-    let s : e.stores ≡ f.stores = same_stores e.stores f.stores p.1 in
-    ap₂ (λ x y. is_same_word f.word x && pointwise is_same_store f.stores y) w s
-    ∙ (sym (ap₂ (λ x y. is_same_word x f.word && pointwise is_same_store y f.stores) w s) ∙ h)
+pub found_nowhere : {X : Type 0} (p : X → Bool) (xs : List X) (d : X) → ((k : ℕ) → k < length xs → p (get_or xs k d) ≡ false)
+    → None ≡ position p xs
+found_nowhere p xs d others =
+    let at : position_or_len p xs ≡ length xs = position_or_len_is p xs (length xs) d (omega arith) others (λ l. absurd (omega arith)) in
+    rw (at, le-ltb (length xs) (length xs) (omega arith)) refl
 
-pub other_covers : (e f : Branch) → is_same_pair e f ≡ false → covers e f ≡ false
-other_covers e f h = elim (cases_Bool (covers e f)) [
-  | inl t ↦ let x : true ≡ false = sym (covers_pair e f t) ∙ h in cc
-  | inr o ↦ o
+-- it is at none of the places
+nowhere : {X : Type 0} (p : X → Bool) (xs : List X) (d : X) → None ≡ position p xs → (k : ℕ) → k < length xs → p (get_or xs k d) ≡ false
+nowhere p xs d e k h = elim (cases_Bool (nat_lt (position_or_len p xs) (length xs))) [
+  | inl t ↦
+      let x : position p xs ≡ Some (position_or_len p xs) = rw t refl in
+      let y : None ≡ Some (position_or_len p xs) = e ∙ x in
+      cc
+  | inr l ↦ fails_before_first p xs k d (omega (arith, ltb-false (position_or_len p xs) (length xs) l, h))
 ]
 
-pub other_joins : (e f : Branch) → is_same_pair e f ≡ false → joins f e ≡ false
-other_joins e f h = elim (cases_Bool (joins f e)) [
-  | inl t ↦ let x : true ≡ false = sym (same_pair_back f e (joins_pair f e t)) ∙ h in cc
-  | inr o ↦ o
-]
+-- Pairs that are put to others. ----
 
-pub shown_cons : (ws : List Way) (f : Way) (i : ℕ) → i < length ws → f ≡ get_or ws i f
-    → drop i (shown_all ws) ≡ shown f ∷ drop (suc i) (shown_all ws)
-shown_cons [] f i h e = absurd (omega arith)
-shown_cons (w ∷ ws) f zero h e = ap (λ x. shown x ∷ shown_all ws) (sym e)
-shown_cons (w ∷ ws) f (suc i) h e = shown_cons ws f i (omega arith) e
+-- whether it is this pair
+abbrev pub is_this : List Stretch → FollowedPair → FollowedPair → Bool
+is_this ss p f = is_same_pair (shown ss f) (shown ss p)
 
-take_next : (ws : List Way) (f : Way) (i : ℕ) (es : List Branch) → i < length ws → f ≡ get_or ws i f
-    → take (suc i) (shown_all ws) ++ es ≡ take i (shown_all ws) ++ shown f ∷ es
-take_next [] f i es h e = absurd (omega arith)
-take_next (w ∷ ws) f zero es h e = ap (λ x. shown x ∷ es) (sym e)
-take_next (w ∷ ws) f (suc i) es h e = ap (λ x. shown w ∷ x) (take_next ws f i es (omega arith) e)
+-- it stands at a place
+put_at : (ss : List Stretch) (p : FollowedPair) (ps : List FollowedPair) (i : ℕ) → i < length ps
+    → ((k : ℕ) → k < i → is_this ss p (get_or ps k p) ≡ false) → is_this ss p (get_or ps i p) ≡ true
+    → with_pair (shown_all ss ps) (shown ss p)
+    ≡ take i (shown_all ss ps) ++ merged_pair (get_or (shown_all ss ps) i (shown ss p)) (shown ss p) ∷ drop (suc i) (shown_all ss ps)
+put_at ss p [] i h others here = absurd (omega arith)
+put_at ss p (f ∷ fs) zero h others here = rw here refl
+put_at ss p (f ∷ fs) (suc i) h others here =
+    let other : is_this ss p f ≡ false = others 0 (omega arith) in
+    rw other (ap (λ es. shown ss f ∷ es) (put_at ss p fs i (omega arith) (λ k l. others (suc k) (omega arith)) here))
 
-take_removed : (ws : List Way) (i : ℕ) → i < length ws → take i (shown_all (remove ws i)) ≡ take i (shown_all ws)
-take_removed [] i h = absurd (omega arith)
-take_removed (w ∷ ws) zero h = refl
-take_removed (w ∷ ws) (suc i) h = ap (λ x. shown w ∷ x) (take_removed ws i (omega arith))
+pub merged_there : (ss : List Stretch) (p : FollowedPair) (ps xs : List FollowedPair) (i : ℕ) → xs ≡ ps
+    → Some i ≡ position (is_this ss p) xs
+    → with_pair (shown_all ss ps) (shown ss p)
+    ≡ take i (shown_all ss ps) ++ merged_pair (get_or (shown_all ss ps) i (shown ss p)) (shown ss p) ∷ drop (i + 1) (shown_all ss ps)
+merged_there ss p ps xs i are e =
+    let r = position-Some (is_this ss p) ps i p (sym (e ∙ ap (position (is_this ss p)) are)) in rw add-one (put_at ss p ps i r.0 r.2 r.1)
 
-drop_removed : (ws : List Way) (i : ℕ) → i < length ws → drop i (shown_all (remove ws i)) ≡ drop (suc i) (shown_all ws)
-drop_removed [] i h = absurd (omega arith)
-drop_removed (w ∷ ws) zero h = refl
-drop_removed (w ∷ ws) (suc i) h = drop_removed ws i (omega arith)
+pub is_inside : (ss : List Stretch) (p : FollowedPair) (ps xs : List FollowedPair) (i : ℕ) → xs ≡ ps → Some i ≡ position (is_this ss p) xs
+    → i < length ps
+is_inside ss p ps xs i are e = (position-Some (is_this ss p) ps i p (sym (e ∙ ap (position (is_this ss p)) are))).0
 
--- it doesn't meet this one
-pub passed : (ws : List Way) (w f : Way) (i : ℕ) → i < length ws → f ≡ get_or ws i f → covers (shown w) (shown f) ≡ false
-    → joins (shown f) (shown w) ≡ false
-    → take (i + 1) (shown_all ws) ++ with_other (drop (i + 1) (shown_all ws)) (shown w)
-    ≡ take i (shown_all ws) ++ with_other (drop i (shown_all ws)) (shown w)
-passed ws w f i h e c j =
-    rw (add-one, shown_cons ws f i h e, c, j) (take_next ws f i (with_other (drop (suc i) (shown_all ws)) (shown w)) h e)
+-- it is none of them
+put_last : (ss : List Stretch) (p : FollowedPair) (ps : List FollowedPair)
+    → ((k : ℕ) → k < length ps → is_this ss p (get_or ps k p) ≡ false)
+    → with_pair (shown_all ss ps) (shown ss p) ≡ shown_all ss (ps ++ p ∷ [])
+put_last ss p [] others = refl
+put_last ss p (f ∷ fs) others =
+    let other : is_this ss p f ≡ false = others 0 (omega arith) in
+    rw other (ap (λ es. shown ss f ∷ es) (put_last ss p fs (λ k l. others (suc k) (omega arith))))
 
-pub passed_other : (ws : List Way) (w f : Way) (i : ℕ) → i < length ws → f ≡ get_or ws i f → is_same_pair (shown w) (shown f) ≡ false
-    → take (i + 1) (shown_all ws) ++ with_other (drop (i + 1) (shown_all ws)) (shown w)
-    ≡ take i (shown_all ws) ++ with_other (drop i (shown_all ws)) (shown w)
-passed_other ws w f i h e o = passed ws w f i h e (other_covers (shown w) (shown f) o) (other_joins (shown w) (shown f) o)
+pub put_behind : (ss : List Stretch) (p : FollowedPair) (ps xs next : List FollowedPair) → xs ≡ ps
+    → None ≡ position (is_this ss p) xs → next ≡ ps ++ p ∷ []
+    → shown_all ss next ≡ with_pair (shown_all ss ps) (shown ss p)
+put_behind ss p ps xs next are e n =
+    ap (shown_all ss) n ∙ sym (put_last ss p ps (nowhere (is_this ss p) ps p (e ∙ ap (position (is_this ss p)) are)))
 
--- it leads wherever this one leads
-pub dropped : (ws : List Way) (w f : Way) (i : ℕ) → i < length ws → f ≡ get_or ws i f → covers (shown w) (shown f) ≡ true
-    → take i (shown_all (remove ws i)) ++ with_other (drop i (shown_all (remove ws i))) (shown w)
-    ≡ take i (shown_all ws) ++ with_other (drop i (shown_all ws)) (shown w)
-dropped ws w f i h e c = rw (take_removed ws i h, drop_removed ws i h, shown_cons ws f i h e, c) refl
+-- The ways to the pair at a place, and others. ----
 
--- they are joined
-pub taken_in : (ws : List Way) (w f both : Way) (i : ℕ) → i < length ws → f ≡ get_or ws i f → covers (shown w) (shown f) ≡ false
-    → joins (shown f) (shown w) ≡ true → shown both ≡ joined (shown f) (shown w)
-    → take i (shown_all (remove ws i)) ++ with_other (drop i (shown_all (remove ws i))) (shown both)
-    ≡ take i (shown_all ws) ++ with_other (drop i (shown_all ws)) (shown w)
-taken_in ws w f both i h e c j b = rw (take_removed ws i h, drop_removed ws i h, shown_cons ws f i h e, c, j, b) refl
+merged_shown : (ss ts : List Stretch) (f g : FollowedPair) (b past : Before) (e : Pair) → f ≡ g
+    → past_at (pasts ts) b ≡ merged (past_at (pasts ss) f.past) (past_at (pasts ss) past) → e.past ≡ past_at (pasts ss) past
+    → shown ts (record { word = g.word; stores = g.stores; past = b }) ≡ merged_pair (shown ss g) e
+merged_shown ss ts f g b past e same m is =
+    let to : Past → Pair = λ p. record { word = g.word; stores = g.stores.items; past = p } in
+    ap to (m ∙ ap₂ (λ x y. merged (past_at (pasts ss) x.past) y) same (sym is))
+
+merged_one : (ss ts : List Stretch) → Grows ss ts → (ps : List FollowedPair) → AreIn ss ps → (i : ℕ) (g q : FollowedPair) (e : Pair)
+    → i < length ps → g ≡ get_or ps i g → shown ts q ≡ merged_pair (shown ss g) e
+    → shown_all ts (set ps i q)
+    ≡ take i (shown_all ss ps) ++ merged_pair (get_or (shown_all ss ps) i e) e ∷ drop (suc i) (shown_all ss ps)
+merged_one ss ts grown [] a i g q e h is m = absurd (omega arith)
+merged_one ss ts grown (p ∷ ps) a zero g q e h is m =
+    ap₂ (λ x xs. x ∷ xs) (m ∙ ap (λ x. merged_pair (shown ss x) e) is) (shown_grown ss ts grown ps a.1)
+merged_one ss ts grown (p ∷ ps) a (suc i) g q e h is m =
+    ap₂ (λ x xs. x ∷ xs) (pair_grown ss ts grown p a.0) (merged_one ss ts grown ps a.1 i g q e (omega arith) is m)
+
+pub merged_at : (ss ts : List Stretch) → Grows ss ts → (ps : List FollowedPair) → AreIn ss ps → (i : ℕ) (f g : FollowedPair)
+    (b past : Before) (e : Pair) → i < length ps → f ≡ get_or ps i f → g ≡ get_or ps i g
+    → past_at (pasts ts) b ≡ merged (past_at (pasts ss) f.past) (past_at (pasts ss) past) → e.past ≡ past_at (pasts ss) past
+    → shown_all ts (set ps i (record { word = g.word; stores = g.stores; past = b }))
+    ≡ take i (shown_all ss ps) ++ merged_pair (get_or (shown_all ss ps) i e) e ∷ drop (i + 1) (shown_all ss ps)
+merged_at ss ts grown ps a i f g b past e h fis gis m is =
+    let same : f ≡ g = fis ∙ (same_default ps i f g h ∙ sym gis) in
+    rw add-one (merged_one ss ts grown ps a i g (record { word = g.word; stores = g.stores; past = b }) e h gis
+    (merged_shown ss ts f g b past e same m is))
+
+pub merged_in : (ss ts : List Stretch) → Grows ss ts → (ps : List FollowedPair) → AreIn ss ps → (i : ℕ) (q : FollowedPair) → IsIn ts q.past
+    → AreIn ts (set ps i q)
+merged_in ss ts grown [] a i q h = tt
+merged_in ss ts grown (p ∷ ps) a zero q h = (h, are_in_grown ss ts grown ps a.1)
+merged_in ss ts grown (p ∷ ps) a (suc i) q h = (in_grown ss ts grown p.past a.0, merged_in ss ts grown ps a.1 i q h)
+
+merged_marks : (ps : List FollowedPair) (i : ℕ) (g q : FollowedPair) → i < length ps → g ≡ get_or ps i g → mark q ≡ mark g
+    → map mark (set ps i q) ≡ map mark ps
+merged_marks [] i g q h is m = refl
+merged_marks (p ∷ ps) zero g q h is m = ap (λ k. k ∷ map mark ps) (m ∙ ap mark is)
+merged_marks (p ∷ ps) (suc i) g q h is m = ap (λ ks. mark p ∷ ks) (merged_marks ps i g q (omega arith) is m)
+
+-- the mark at the place stays
+pub still_followed : (ms : List ℕ) (most : ℕ) (ps : List FollowedPair) (i : ℕ) (g : FollowedPair) (b : Before) → i < length ps
+    → g ≡ get_or ps i g → (most ≤ length ps → ms ≡ map mark ps)
+    → most ≤ length (set ps i (record { word = g.word; stores = g.stores; past = b }))
+    → ms ≡ map mark (set ps i (record { word = g.word; stores = g.stores; past = b }))
+still_followed ms most ps i g b h is f m =
+    let q : FollowedPair = record { word = g.word; stores = g.stores; past = b } in
+    f (omega (arith, length-set ps i q, m)) ∙ sym (merged_marks ps i g q h is refl)

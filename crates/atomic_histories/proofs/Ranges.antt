@@ -1,29 +1,24 @@
 -- The units that bytes lie in, and steps of the loops over units.
-use Rattle.std.proofs.Common.{◌≡◌, ℕ, zero, suc, ◌+◌, ◌-◌, ◌*◌, ◌/◌, ◌%◌, ◌<◌, ◌≤◌, true, false, ◌&&◌, not, ◌==◌, if◌then◌else◌, nat_lt, nat_le, List, [], ◌∷◌, ◌++◌, map, length, Option, Some, Result, Ok, Err, IfErr, IsErrAnd, inl, inr, refl, sym, ap, ◌∙◌, subst, ne_eqb, eq-eqb, append_assoc, mul-le-mul_right, mul-le-mul_left, suc-mul, arith}
+use Rattle.std.proofs.Common.{◌≡◌, ℕ, zero, suc, ◌+◌, ◌-◌, ◌*◌, ◌/◌, ◌<◌, ◌≤◌, true, false, ◌&&◌, ◌==◌, if◌then◌else◌, nat_lt, nat_le, List, [], ◌∷◌, ◌++◌, map, length, Option, None, Some, inl, inr, refl, sym, ap, ◌∙◌, subst, ne_eqb, eq-eqb, append_assoc, mul-le-mul_right, mul-le-mul_left, suc-mul, arith}
 use Rattle.std.proofs.Math.Path.{fun_ext}
 use Rattle.std.proofs.lemmas.Bool.{cases_Bool, cases_eq, cases_lt, and_from, lt-ltb, le-ltb, lt-leb, le-leb}
 use Rattle.std.proofs.lemmas.List.{map-append}
-use Rattle.std.proofs.lemmas.Nat.{div-add-mod'}
 use Rattle.memory_histories.specs.declared.events.HistoryEvent.{HistoryEvent}
 use Rattle.memory_histories.specs.declared.events.Rest.{Rest}
-use Rattle.atomic_histories.specs.declared.ways.Way.{Way}
-use Rattle.atomic_histories.specs.declared.memory.KeptUnit.{KeptUnit}
+use Rattle.atomic_histories.specs.declared.kept.KeptUnit.{KeptUnit}
 use Rattle.atomic_histories.specs.declared.memory.UnitSize.{UnitSize}
 use Rattle.atomic_histories.specs.declared.memory.UnitSize.TheVariants.{One, Two, Four, Eight}
 use Rattle.atomic_histories.specs.declared.memory.AtomicFault.{AtomicFault}
 use Rattle.atomic_histories.specs.declared.memory.AtomicFault.TheVariants.{Refused, Undecided, OutOfMemory}
 use Rattle.atomic_histories.specs.Law.{unit_at}
-use Rattle.atomic_histories.specs.Branches.{Branch, is_too_wide}
-use Rattle.atomic_histories.specs.Held.{Held, first_ways, has_way, covered, unit_after, units_of, ways_after, ways_from, is_stuck, stuck_from}
-use Rattle.memory_histories.specs.declared.sets.ByteSet.{ByteSet}
-use Rattle.memory_histories.specs.Sets.{no_bytes}
+use Rattle.atomic_histories.specs.Followed.{Ways, no_ways, first_ways, is_too_wide}
+use Rattle.atomic_histories.specs.Held.{Held, covered, unit_after, units_of, changed, ways_from, is_stuck, stuck_from}
 use Rattle.atomic_histories.specs.declared.unit.UnitPlace.{UnitPlace}
-use Rattle.atomic_histories.specs.May.{address_of, ways_set, set_at, sets_from, is_reach_wide, IsWideByte, IsWideLoad, IsNoVerdict}
-use Rattle.atomic_histories.specs.Shown.{shown_all, StopIs}
+use Rattle.atomic_histories.specs.Shown.{shown_unit, words_in, StopIs}
 use Rattle.atomic_histories.specs.declared.search.Stop.{Stop}
 use Rattle.atomic_histories.specs.declared.search.Stop.TheVariants.{TooManyWays, NoMemory}
 use Rattle.atomic_histories.specs.declared.unit.Operation.{Operation}
-use Rattle.atomic_histories.specs.Judge.{bytes_of, fault_of, ChangedFaultIs, shown_unit, kept_or, kept_at, put_from, UnitFaultIs, ChangeFaultIs}
+use Rattle.atomic_histories.specs.Judge.{bytes_of, fault_of, ChangedFaultIs, kept_or, kept_at, words_of, put_from, UnitFaultIs, ChangeFaultIs}
 
 pub units_fit : (size : UnitSize) (a n : ℕ) → a < 18446744073709551616
     → (a / bytes_of size + units_of (bytes_of size) a n) * bytes_of size ≤ 18446744073709551616
@@ -52,15 +47,10 @@ number_below from count size j h l pos =
     let least : (from + j) * 1 ≤ (from + j) * size = mul-le-mul_left (from + j) pos in
     omega arith
 
-pub way_shown : (ws : List Way) → has_way (shown_all ws) ≡ not (length ws == 0)
-way_shown [] = refl
-way_shown (w ∷ ws) =
-    let some : suc (length ws) ≡ 0 → ⊥ = λ e. omega arith in sym (ap not (ne_eqb (suc (length ws)) 0 some))
-
 -- Loops over units. ----
 
 pub ways_step : (h : Held) (event : HistoryEvent) (from count j : ℕ) → j < count
-    → ways_from h event (from + j) (count - j) ≡ ways_after h event (from + j) ∷ ways_from h event (from + (j + 1)) (count - (j + 1))
+    → ways_from h event (from + j) (count - j) ≡ changed h event (from + j) ∷ ways_from h event (from + (j + 1)) (count - (j + 1))
 ways_step h event from count j l =
     let left : count - j ≡ suc (count - (j + 1)) = omega arith in
     let next : from + j + 1 ≡ from + (j + 1) = omega arith in
@@ -68,11 +58,11 @@ ways_step h event from count j l =
 
 -- one more unit of those that are changed one by one
 pub ways_more : (h : Held) (event : HistoryEvent) (us : List KeptUnit) (u : KeptUnit) (from count j : ℕ) → j < count
-    → shown_unit u ≡ ways_after h event (from + j)
+    → shown_unit u ≡ changed h event (from + j)
     → map shown_unit (us ++ u ∷ []) ++ ways_from h event (from + (j + 1)) (count - (j + 1)) ≡ map shown_unit us ++ ways_from h event
     (from + j) (count - j)
 ways_more h event us u from count j l e =
-    let tail : List (List Branch) = ways_from h event (from + (j + 1)) (count - (j + 1)) in
+    let tail : List Ways = ways_from h event (from + (j + 1)) (count - (j + 1)) in
     ap (λ t. t ++ tail) (map-append shown_unit us (u ∷ [])) ∙ (append_assoc (map shown_unit us) (shown_unit u ∷ []) tail
     ∙ (ap (λ x. map shown_unit us ++ x ∷ tail) e ∙ ap (λ t. map shown_unit us ++ t) (sym (ways_step h event from count j l))))
 
@@ -110,9 +100,9 @@ put_last f g (x ∷ xs) u from k e =
     ap (λ r. if from == k then Some x else r) rest
 
 -- what is shown of units that were put
-pub put_shown : (h : Held) (event : HistoryEvent) (f : ℕ → Option KeptUnit) (d : List Branch) (n from : ℕ) (us : List KeptUnit)
+pub put_shown : (h : Held) (event : HistoryEvent) (f : ℕ → Option KeptUnit) (d : Ways) (n from : ℕ) (us : List KeptUnit)
     → map shown_unit us ≡ ways_from h event from n → (k : ℕ)
-    → kept_or (put_from f from us k) d ≡ (if nat_le from k && nat_lt k (from + n) then ways_after h event k else kept_or (f k) d)
+    → kept_or (put_from f from us k) d ≡ (if nat_le from k && nat_lt k (from + n) then changed h event k else kept_or (f k) d)
 put_shown h event f d zero from [] e k = elim (cases_lt k from) [
   | inl below ↦ rw (lt-leb from k below) refl
   | inr above ↦ rw (le-leb from k above, le-ltb k (from + 0) (omega arith)) refl
@@ -120,13 +110,13 @@ put_shown h event f d zero from [] e k = elim (cases_lt k from) [
 put_shown h event f d zero from (u ∷ us) e k = cc
 put_shown h event f d (suc n) from [] e k = cc
 put_shown h event f d (suc n) from (u ∷ us) e k =
-    let first : shown_unit u ≡ ways_after h event from = cc in
+    let first : shown_unit u ≡ changed h event from = cc in
     let others : map shown_unit us ≡ ways_from h event (from + 1) n = cc in
     elim (cases_eq from k) [
       | inl same ↦
           let in_ : (nat_le from k && nat_lt k (from + suc n)) ≡ true =
           and_from (nat_le from k) (nat_lt k (from + suc n)) (le-leb from k (omega arith)) (lt-ltb k (from + suc n) (omega arith)) in
-          rw (eq-eqb from k same, in_) (first ∙ ap (ways_after h event) same)
+          rw (eq-eqb from k same, in_) (first ∙ ap (changed h event) same)
       | inr other ↦
           let none : (from == k) ≡ false = ne_eqb from k other in
           let r = put_shown h event f d n (from + 1) us others k in
@@ -137,7 +127,7 @@ put_shown h event f d (suc n) from (u ∷ us) e k =
                 let end : from + 1 + n ≡ from + suc n = omega arith in
                 rw (le-leb from k above, le-leb (from + 1) k (omega arith), end) refl
           ] in
-          rw none (r ∙ ap (λ b. if b then ways_after h event k else kept_or (f k) d) more)
+          rw none (r ∙ ap (λ b. if b then changed h event k else kept_or (f k) d) more)
     ]
 
 length_from : (h : Held) (event : HistoryEvent) (k n : ℕ) → length (ways_from h event k n) ≡ n
@@ -153,7 +143,7 @@ pub step_fits : (a b m n l : ℕ) → b ≡ a → n ≡ m → a / m + l ≤ 1844
 step_fits a b m n l e f h = subst (λ x. x / n + l ≤ 18446744073709551616) (sym e) (subst (λ x. a / x + l ≤ 18446744073709551616) (sym f) h)
 
 -- what is shown of a unit after an event, once the units are put that it touches
-pub taken_unit : (h : Held) (event : HistoryEvent) (f g : ℕ → Option KeptUnit) (d : List Branch) (from : ℕ) (us : List KeptUnit) (k : ℕ)
+pub taken_unit : (h : Held) (event : HistoryEvent) (f g : ℕ → Option KeptUnit) (d : Ways) (from : ℕ) (us : List KeptUnit) (k : ℕ)
     → g k ≡ put_from f from us k
     → from ≡ (covered h.opened event).0 / h.size
     → map shown_unit us ≡ ways_from h event ((covered h.opened event).0 / h.size)
@@ -165,66 +155,45 @@ taken_unit h event f g d from us k put same e kept =
     ap (λ x. kept_or x d) put
     ∙ (ap (λ i. kept_or (put_from f i us k) d) same
     ∙ (put_shown h event f d count first us e k
-    ∙ ap (λ x. if nat_le first k && nat_lt k (first + count) then ways_after h event k else x) kept))
+    ∙ ap (λ x. if nat_le first k && nat_lt k (first + count) then changed h event k else x) kept))
 
-pub forgotten_unit : (f : ℕ → Option KeptUnit) (d : List Branch) (number k : ℕ) (u : KeptUnit) → shown_unit u ≡ []
-    → kept_or (put_from f number (u ∷ []) k) d ≡ (if number == k then [] else kept_or (f k) d)
+pub forgotten_unit : (f : ℕ → Option KeptUnit) (d : Ways) (number k : ℕ) (u : KeptUnit) → shown_unit u ≡ no_ways
+    → kept_or (put_from f number (u ∷ []) k) d ≡ (if number == k then no_ways else kept_or (f k) d)
 forgotten_unit f d number k u e = elim (cases_Bool (number == k)) [
   | inl t ↦ rw t e
   | inr n ↦ rw n refl
 ]
 
--- a map that has the same at each key shows the same units
+-- a map that has the same at each key shows the same units, and keeps as many words of each
 pub same_units : (image : List ℕ) (rest : Rest) (size : ℕ) (f g : ℕ → Option KeptUnit) → ((k : ℕ) → g k ≡ f k)
     → kept_at image rest size g ≡ kept_at image rest size f
 same_units image rest size f g e = fun_ext (λ k. ap (λ x. kept_or x (first_ways image rest (unit_at size k))) (e k))
 
--- what is said of an error that is passed on
-pub pass_on : {A E : Type 0} (r : Result A E) (e : E) (P : E → Type 0) → IsErrAnd r (λ f. f ≡ e) → P e → IfErr r P
-pass_on (Ok x) e P h p = tt
-pass_on (Err f) e P h p = subst P (sym h) p
+abbrev words_at : (ℕ → Option KeptUnit) → ℕ → ℕ
+words_at f k = words_of (f k)
 
-pub lane_below : (size : UnitSize) (a : ℕ) → a % bytes_of size < 8
-lane_below One a = omega arith
-lane_below Two a = omega arith
-lane_below Four a = omega arith
-lane_below Eight a = omega arith
-
--- no load is open at a unit that no operation has touched
-pub untouched_set : (image : List ℕ) (rest : Rest) (unit : UnitPlace) (number k : ℕ)
-    → no_bytes ≡ ways_set number k (first_ways image rest unit)
-untouched_set image rest unit number k = refl
-
-sets_step : (h : Held) (number a count i : ℕ) → i < count
-    → sets_from h number a i (count - i) ≡ set_at h number (address_of a i) ∷ sets_from h number a (i + 1) (count - (i + 1))
-sets_step h number a count i l = let left : count - i ≡ suc (count - (i + 1)) = omega arith in rw left refl
-
-pub sets_more : (h : Held) (number a count i : ℕ) (sets : List ByteSet) (set : ByteSet) → i < count → set ≡ set_at h number (address_of a i)
-    → (sets ++ set ∷ []) ++ sets_from h number a (i + 1) (count - (i + 1)) ≡ sets ++ sets_from h number a i (count - i)
-sets_more h number a count i sets set l e =
-    append_assoc sets (set ∷ []) (sets_from h number a (i + 1) (count - (i + 1)))
-    ∙ (ap (λ x. sets ++ x ∷ sets_from h number a (i + 1) (count - (i + 1))) e ∙ ap (λ t. sets ++ t) (sym (sets_step h number a count i l)))
-
-unit_start : (a m : ℕ) → a - a % m ≡ a / m * m
-unit_start a m = minus (a / m * m) (a % m) a (div-add-mod' a m)
-  where
-    minus : (x y a : ℕ) → x + y ≡ a → a - y ≡ x
-    minus x y a e = omega arith
-
--- a search that was stopped at the unit in which a byte lies
-pub stopped_set : (limit : ℕ) (h : Held) (a : ℕ) (stop : Stop) → StopIs (is_reach_wide limit (h.units (a / h.size))) stop
-    → IsNoVerdict (IsWideByte limit h a) (fault_of stop (a - a % h.size))
-stopped_set limit h a TooManyWays w = (unit_start a h.size, w)
-stopped_set limit h a NoMemory w = tt
+pub same_words : (f g : ℕ → Option KeptUnit) → ((k : ℕ) → g k ≡ f k) → words_at g ≡ words_at f
+same_words f g e = fun_ext (λ k. ap words_of (e k))
 
 -- at the unit that an event touches
-pub stopped_unit : (limit : ℕ) (place : UnitPlace) (es : List Branch) (event : HistoryEvent) (loads : List Operation) (stop : Stop)
-    → StopIs (is_too_wide limit place es event) stop → ChangedFaultIs limit place es event loads (fault_of stop place.first)
-stopped_unit limit place es event loads TooManyWays w = (refl, w)
-stopped_unit limit place es event loads NoMemory w = tt
+pub stopped_unit : (limit : ℕ) (place : UnitPlace) (words : ℕ) (u : Ways) (event : HistoryEvent) (loads : List Operation) (stop : Stop)
+    → StopIs (is_too_wide limit place words u event) stop → ChangedFaultIs limit place words u event loads (fault_of stop place.first)
+stopped_unit limit place words u event loads TooManyWays w = (refl, w)
+stopped_unit limit place words u event loads NoMemory w = tt
 
-pub no_set : (fault : AtomicFault) (limit : ℕ) (h : Held) (a n i : ℕ) → i < n
-    → IsNoVerdict (IsWideByte limit h (address_of a i)) fault → IsNoVerdict (IsWideLoad limit h a n) fault
-no_set (Refused cause) limit h a n i l f = f
-no_set (Undecided address) limit h a n i l f = (i, l, f)
-no_set OutOfMemory limit h a n i l f = tt
+-- a unit that no operation has touched is what is kept where nothing is
+pub kept_none : (image : List ℕ) (rest : Rest) (size : ℕ) (f : ℕ → Option KeptUnit) (k : ℕ) (place : UnitPlace) (u : KeptUnit) (bytes : List ℕ)
+    → None ≡ f k → bytes ≡ image → place ≡ unit_at size k → shown_unit u ≡ first_ways bytes rest place
+    → shown_unit u ≡ kept_at image rest size f k
+kept_none image rest size f k place u bytes none same at_ e =
+    e ∙ (ap (λ bs. first_ways bs rest place) same
+    ∙ (ap (first_ways image rest) at_ ∙ ap (λ o. kept_or o (first_ways image rest (unit_at size k))) none))
+
+pub words_none : (f : ℕ → Option KeptUnit) (k : ℕ) (u : KeptUnit) → None ≡ f k → u.stretches.items ≡ [] → words_in u.stretches.items ≡ words_of (f k)
+words_none f k u none e = ap words_in e ∙ ap words_of none
+
+-- what is said of a unit in one place is said in the same
+pub said_there : (P : UnitPlace → ℕ → Ways → List Operation → Type 0) (p q : UnitPlace) (m n : ℕ) (u v : Ways) (ks ls : List Operation)
+    → p ≡ q → m ≡ n → u ≡ v → ks ≡ ls → P p m u ks → P q n v ls
+said_there P p q m n u v ks ls a b d e h =
+    subst (P q n v) e (subst (λ x. P q n x ks) d (subst (λ x. P q x u ks) b (subst (λ x. P x m u ks) a h)))

@@ -1,112 +1,52 @@
 -- What an open load may return is what the ways show that are followed.
-use Rattle.std.proofs.Common.{◌≡◌, ℕ, zero, suc, ◌+◌, ◌/◌, ◌%◌, ◌<◌, ◌≤◌, ◌⊎◌, ◌↔◌, Bool, true, false, ◌&&◌, ◌||◌, ◌==◌, List, [], ◌∷◌, map, filter, fold, length, slice_get, Option, Some, None, Result, Ok, Err, IfOk, inl, inr, refl, sym, ap, ◌∙◌, subst, arith}
+use Rattle.std.proofs.Common.{◌≡◌, ℕ, zero, suc, ◌+◌, ◌/◌, ◌%◌, ◌<◌, ◌≤◌, ◌⊎◌, ◌↔◌, Bool, true, false, ◌&&◌, ◌||◌, ◌==◌, nat_le, List, [], ◌∷◌, ◌++◌, map, filter, length, Option, Some, None, Result, Ok, Err, IfOk, slice_get, inl, inr, refl, sym, ap, ◌∙◌, subst, arith}
 use Rattle.std.specs.List.{list_any, find}
-use Rattle.std.proofs.lemmas.Bool.{cases_Bool, and_parts, and_from, lt-ltb}
+use Rattle.std.proofs.lemmas.Bool.{cases_Bool, and_parts, and_from}
+use Rattle.std.proofs.lemmas.List.Folds.{list_any-append}
 use Rattle.memory_histories.specs.declared.events.HistoryEvent.{HistoryEvent}
 use Rattle.memory_histories.specs.declared.events.Rest.{Rest}
 use Rattle.memory_histories.specs.declared.sets.ByteSet.{ByteSet}
-use Rattle.memory_histories.specs.Sets.{has, no_bytes}
-use Rattle.memory_histories.proofs.ByteSets.{has-with_byte, has-no_bytes, has-all_bytes}
+use Rattle.memory_histories.specs.Sets.{has}
 use Rattle.atomic_histories.specs.declared.unit.Operation.{Operation}
 use Rattle.atomic_histories.specs.declared.unit.UnitPlace.{UnitPlace}
+use Rattle.atomic_histories.specs.declared.unit.WatchedLoad.{WatchedLoad}
 use Rattle.atomic_histories.specs.Operations.{opened_by, has_number}
 use Rattle.atomic_histories.specs.Law.{OpenLoad, UnitMemory, HiddenStep, MayBe, steps, untouched, unit_at, is_load}
-use Rattle.atomic_histories.specs.Branches.{Watched, Branch, never, effects, is_watched, next_after, rounds}
-use Rattle.atomic_histories.specs.Stands.{Each, One, MayHaveGot, IsWatched, AreWatched, IsOn, Leads, StandsFor}
-use Rattle.atomic_histories.specs.Held.{Held, has_way, StandsBut}
-use Rattle.atomic_histories.specs.May.{lane_of, may_show, has_got, got_byte, MayGet, MayReturn, AreSetsOf, with_lane, with_words, with_load_bytes, with_way_bytes, with_ways_bytes, reached_bytes, byte_set, set_at, sets_from, address_of, HasSets, asks, IsSetOf, byte_of}
-use Rattle.atomic_histories.proofs.Lists.{one_weaker, one_none, one_or}
-use Rattle.atomic_histories.proofs.Steps.{sound_effect}
-use Rattle.atomic_histories.proofs.Exact.{IsSound, joined_sound}
-use Rattle.atomic_histories.proofs.Found.{IsKept, next_sound, next_finds, one_hopes, undone, one_rounds, LeadsWithin, carried_within, leads_split, none_within}
+use Rattle.atomic_histories.specs.Pasts.{Past, begins, after, either, Stood, stood, Has, shows, seen_since}
+use Rattle.atomic_histories.specs.Branches.{Watched, Branch, with_word, effect_of, is_watched}
+use Rattle.atomic_histories.specs.Followed.{Pair, Ways, never, watched, way_on, effects, is_under, next_after, rounds}
+use Rattle.atomic_histories.specs.Stands.{Each, One, EachWay, OneWay, IsAsked, IsPairBy, MayHaveGot, IsWatched, AreWatched, IsOn, Leads, now, later, StandsFor}
+use Rattle.atomic_histories.specs.Held.{Held, StandsBut}
+use Rattle.atomic_histories.specs.May.{lane_of, may_show, has_got, got_byte, MayGet, MayReturn, AreSetsOf, IsSetOf, asks, reached_in, reached, shows_byte, is_shown, IsSet, may_get_at, address_of, AreSetsFrom, IsByteOf, HasSets}
+use Rattle.atomic_histories.proofs.Lists.{one_weaker, one_none, one_or, one_elim, each_both}
+use Rattle.atomic_histories.proofs.Alone.{IsAlone, found_each}
+use Rattle.atomic_histories.proofs.Answered.{find_watched}
+use Rattle.atomic_histories.proofs.Exact.{SoundOn}
+use Rattle.atomic_histories.proofs.Found.{leads_split, sound_joint, sound_kept, next_sound, next_finds, one_taken, undone, one_rounds, LeadsWithin}
 use Rattle.atomic_histories.proofs.Links.{fit_by, found_fit, inside_end}
+use Rattle.atomic_histories.proofs.Whole.{alone_under}
 
 abbrev Word : Type 0
 Word = List (Option ℕ)
 
--- Sets. ----
+or_left_true : (a b : Bool) → a ≡ true → (a || b) ≡ true
+or_left_true true b h = refl
+or_left_true false b h = cc
 
-or_true : (a : Bool) → (a || true) ≡ true
-or_true true = refl
-or_true false = refl
+or_right_true : (a b : Bool) → b ≡ true → (a || b) ≡ true
+or_right_true true b h = refl
+or_right_true false b h = h
 
-or_none : (a : Bool) → (a || false) ≡ a
-or_none true = refl
-or_none false = refl
+or_either : (a b : Bool) → (a || b) ≡ true → (a ≡ true) ⊎ (b ≡ true)
+or_either true b h = inl refl
+or_either false b h = inr h
 
-or_assoc : (a b c : Bool) → ((a || b) || c) ≡ (a || (b || c))
-or_assoc true b c = refl
-or_assoc false b c = refl
+-- One way. ----
 
 -- whether a load shows this byte
 abbrev shows_load : ℕ → ℕ → ℕ → Branch → Watched → Bool
 shows_load number k b e l =
     is_watched number l && (may_show (lane_of k e.word) b || list_any (λ w. may_show (lane_of k w) b) l.words)
-
-abbrev shows : ℕ → ℕ → ℕ → Branch → Bool
-shows number k b e = list_any (shows_load number k b e) e.loads
-
-has_lane : (set : ByteSet) (x : Option ℕ) (b : ℕ) → b < 256 → has (with_lane set x) b ≡ (has set b || may_show x b)
-has_lane set (Some c) b l = has-with_byte set c b
-has_lane set None b l = has-all_bytes b ∙ (lt-ltb b 256 l ∙ sym (or_true (has set b)))
-
-has_words : (k : ℕ) (set : ByteSet) (ws : List Word) (b : ℕ) → b < 256
-    → has (with_words k set ws) b ≡ (has set b || list_any (λ w. may_show (lane_of k w) b) ws)
-has_words k set [] b l = sym (or_none (has set b))
-has_words k set (w ∷ ws) b l =
-    has_words k (with_lane set (lane_of k w)) ws b l
-    ∙ (ap (λ x. x || list_any (λ v. may_show (lane_of k v) b) ws) (has_lane set (lane_of k w) b l)
-    ∙ or_assoc (has set b) (may_show (lane_of k w) b) (list_any (λ v. may_show (lane_of k v) b) ws))
-
-has_load : (number k : ℕ) (e : Branch) (set : ByteSet) (l : Watched) (b : ℕ) → b < 256
-    → has (with_load_bytes number k e set l) b ≡ (has set b || shows_load number k b e l)
-has_load number k e set l b lt = elim (cases_Bool (is_watched number l)) [
-  | inr f ↦ rw f (sym (or_none (has set b)))
-  | inl t ↦
-      let past : Bool = list_any (λ w. may_show (lane_of k w) b) l.words in
-      let r : has (with_words k (with_lane set (lane_of k e.word)) l.words) b ≡
-      (has set b || (may_show (lane_of k e.word) b || past)) =
-      has_words k (with_lane set (lane_of k e.word)) l.words b lt
-      ∙ (ap (λ x. x || past) (has_lane set (lane_of k e.word) b lt) ∙ or_assoc (has set b) (may_show (lane_of k e.word) b) past) in
-      rw t r
-]
-
-has_loads : (number k : ℕ) (e : Branch) (set : ByteSet) (ls : List Watched) (b : ℕ) → b < 256
-    → has (fold (with_load_bytes number k e) set ls) b ≡ (has set b || list_any (shows_load number k b e) ls)
-has_loads number k e set [] b l = sym (or_none (has set b))
-has_loads number k e set (x ∷ xs) b l =
-    has_loads number k e (with_load_bytes number k e set x) xs b l
-    ∙ (ap (λ y. y || list_any (shows_load number k b e) xs) (has_load number k e set x b l)
-    ∙ or_assoc (has set b) (shows_load number k b e x) (list_any (shows_load number k b e) xs))
-
-has_ways : (number k : ℕ) (set : ByteSet) (es : List Branch) (b : ℕ) → b < 256
-    → has (with_ways_bytes number k set es) b ≡ (has set b || list_any (shows number k b) es)
-has_ways number k set [] b l = sym (or_none (has set b))
-has_ways number k set (e ∷ es) b l =
-    has_ways number k (with_way_bytes number k set e) es b l
-    ∙ (ap (λ y. y || list_any (shows number k b) es) (has_loads number k e set e.loads b l)
-    ∙ or_assoc (has set b) (shows number k b e) (list_any (shows number k b) es))
-
--- whether one shows it of those that stores lead to in so many rounds, without these themselves
-abbrev is_reached : (Branch → Bool) → ℕ → List Branch → Bool
-is_reached p zero es = false
-is_reached p (suc n) es = list_any p (next_after never es) || is_reached p n (next_after never es)
-
-has_reached : (number k n : ℕ) (set : ByteSet) (es : List Branch) (b : ℕ) → b < 256
-    → has (reached_bytes number k n set es) b ≡ (has set b || is_reached (shows number k b) n es)
-has_reached number k zero set es b l = sym (or_none (has set b))
-has_reached number k (suc n) set es b l =
-    let next : List Branch = next_after never es in
-    has_reached number k n (with_ways_bytes number k set next) next b l
-    ∙ (ap (λ y. y || is_reached (shows number k b) n next) (has_ways number k set next b l)
-    ∙ or_assoc (has set b) (list_any (shows number k b) next) (is_reached (shows number k b) n next))
-
-has_byte_set : (number k : ℕ) (es : List Branch) (b : ℕ) → b < 256
-    → has (byte_set number k es) b ≡ (list_any (shows number k b) es || is_reached (shows number k b) (rounds es) es)
-has_byte_set number k es b l =
-    has_reached number k (rounds es) (with_ways_bytes number k no_bytes es) es b l
-    ∙ ap (λ y. y || is_reached (shows number k b) (rounds es) es)
-    (has_ways number k no_bytes es b l ∙ ap (λ y. y || list_any (shows number k b) es) (has-no_bytes b))
 
 -- What is shown may be got. ----
 
@@ -132,14 +72,6 @@ shown_word k b e l h = elim (cases_Bool (may_show (lane_of k e.word) b)) [
   | inr f ↦ let r = past_word (λ w. may_show (lane_of k w) b) l.words (rw f at h) in (r.0, r.1, inr r.2)
 ]
 
-or_left_true : (a b : Bool) → a ≡ true → (a || b) ≡ true
-or_left_true true b h = refl
-or_left_true false b h = cc
-
-or_right_true : (a b : Bool) → b ≡ true → (a || b) ≡ true
-or_right_true true b h = refl
-or_right_true false b h = h
-
 with_got : (number k b : ℕ) (e : Branch) (ls : List Watched) → list_any (shows_load number k b e) ls ≡ true
     → (ms : List OpenLoad) × AreWatched e.word ls ms × (list_any (got_byte number k b) ms ≡ true)
 with_got number k b e [] h = cc
@@ -163,34 +95,12 @@ with_got number k b e (l ∷ ls) h = elim (cases_Bool (shows_load number k b e l
     first : IsWatched e.word l (not_yet l)
     first = (refl, refl, tt)
 
-shown_got : (number k b : ℕ) (P : UnitMemory → Type 0) (e : Branch) → IsSound P e → shows number k b e ≡ true
+shown_got : (number k b : ℕ) (P : UnitMemory → Type 0) (e : Branch) → SoundOn P e → list_any (shows_load number k b e) e.loads ≡ true
     → (m : UnitMemory) × P m × (list_any (got_byte number k b) m.loads ≡ true)
 shown_got number k b P e s h =
     let r = with_got number k b e e.loads h in
     let m : UnitMemory = record { word = e.word; stores = e.stores; loads = r.0 } in
     (m, s m (record { word = refl; stores = refl; loads = r.1 }), r.2)
-
-any_got : (number k b : ℕ) (P : UnitMemory → Type 0) (es : List Branch) → Each (IsSound P) es → list_any (shows number k b) es ≡ true
-    → (m : UnitMemory) × P m × (list_any (got_byte number k b) m.loads ≡ true)
-any_got number k b P [] a h = cc
-any_got number k b P (e ∷ es) a h = elim (cases_Bool (shows number k b e)) [
-  | inl t ↦ shown_got number k b P e a.0 t
-  | inr f ↦ any_got number k b P es a.1 (rw f at h)
-]
-
-reached_got : (number k b : ℕ) (P : UnitMemory → Type 0) → IsKept (IsSound P) → (n : ℕ) (es : List Branch) → Each (IsSound P) es
-    → is_reached (shows number k b) n es ≡ true
-    → (m : UnitMemory) × P m × (list_any (got_byte number k b) m.loads ≡ true)
-reached_got number k b P kept zero es a h = cc
-reached_got number k b P kept (suc n) es a h =
-    let next : List Branch = next_after never es in
-    let each : Each (IsSound P) next = next_sound (IsSound P) (joined_sound P) kept never [] es tt a in
-    elim (cases_Bool (list_any (shows number k b) next)) [
-      | inl t ↦ any_got number k b P next each t
-      | inr f ↦ reached_got number k b P kept n next each (rw f at h)
-    ]
-
--- What may be got is shown. ----
 
 past_shown : (p : Word → Bool) (v : Word) (xs : List Word) → p v ≡ true → One (λ y. v ≡ y) xs → list_any p xs ≡ true
 past_shown p v [] t h = absurd h
@@ -225,118 +135,373 @@ loads_show number k b e (l ∷ ls) (m ∷ ms) a h = elim (cases_Bool (got_byte n
       (loads_show number k b e ls ms a.1 (rw f at h))
 ]
 
-one_any : (p : Branch → Bool) (es : List Branch) → One (λ e. p e ≡ true) es → list_any p es ≡ true
-one_any p [] h = absurd h
-one_any p (e ∷ es) (inl t) = or_left_true (p e) (list_any p es) t
-one_any p (e ∷ es) (inr h) = or_right_true (p e) (list_any p es) (one_any p es h)
+-- The ways to a pair. ----
 
--- a way that leads to a state at which it is shown comes to one that shows it
-leads_reached : (p : Branch → Bool) (m : UnitMemory) → ((x : Branch) → IsOn x m → p x ≡ true) → (n : ℕ) (es : List Branch)
-    → One (LeadsWithin m (suc n)) es → (list_any p es || is_reached p n es) ≡ true
-leads_reached p m g zero es h =
-    or_left_true (list_any p es) false
-    (one_any p es (one_weaker (LeadsWithin m 1) (λ e. p e ≡ true)
-    (λ e l. elim (leads_split m zero e l) [
-      | inl o ↦ g e o
-      | inr o ↦ absurd (one_none (effects e) (one_weaker (LeadsWithin m zero) (λ x. ⊥) (none_within m) (effects e) o))
-    ]) es h))
-leads_reached p m g (suc n) es h =
-    let There : Branch → Type 0 = λ e. (never.goal e ≡ false) × One (LeadsWithin m (suc n)) (filter never.hope (effects e)) in
-    let either : One (λ e. (p e ≡ true) ⊎ There e) es =
-    one_weaker (LeadsWithin m (suc (suc n))) (λ e. (p e ≡ true) ⊎ There e)
-    (λ e l. elim (leads_split m (suc n) e l) [
-      | inl o ↦ inl (g e o)
-      | inr o ↦ inr (refl, one_hopes m never (λ x r. refl) (suc n) (effects e) o)
-    ]) es h in
-    elim (one_or (λ e. p e ≡ true) There es either) [
-      | inl a ↦ or_left_true (list_any p es) (is_reached p (suc n) es) (one_any p es a)
-      | inr b ↦ or_right_true (list_any p es) (is_reached p (suc n) es)
-          (leads_reached p m g n (next_after never es) (next_finds (LeadsWithin m (suc n)) (carried_within m (suc n)) never [] es b))
+past_shows : (is : Word → Bool) (since : ℕ) (p : Past) → shows is since p ≡ true
+    → (path : List Stood) × Has p path × (list_any is (seen_since since path) ≡ true)
+past_shows is since begins h = cc
+past_shows is since (after w t p) h = elim (or_either (nat_le since t && is w) (shows is since p) h) [
+  | inl y ↦
+      let q = and_parts (nat_le since t) (is w) y in
+      let r = some_way p in
+      (stood w t ∷ r.0, (r.0, refl, r.1), rw q.0 (or_left_true (is w) (list_any is (seen_since since r.0)) q.1))
+  | inr n ↦ let r = past_shows is since p n in (stood w t ∷ r.0, (r.0, refl, r.1), more r.0 r.2)
+]
+  where
+    some_way : (q : Past) → (path : List Stood) × Has q path
+    some_way begins = ([], refl)
+    some_way (after x s q) = let r = some_way q in (stood x s ∷ r.0, (r.0, refl, r.1))
+    some_way (either a b) = let r = some_way a in (r.0, inl r.1)
+
+    more : (path : List Stood) → list_any is (seen_since since path) ≡ true → list_any is (seen_since since (stood w t ∷ path)) ≡ true
+    more path y = elim (cases_Bool (nat_le since t)) [
+      | inl s ↦ rw s (or_right_true (is w) (list_any is (seen_since since path)) y)
+      | inr s ↦ rw s y
     ]
+past_shows is since (either p q) h = elim (or_either (shows is since p) (shows is since q) h) [
+  | inl y ↦ let r = past_shows is since p y in (r.0, inl r.1, r.2)
+  | inr y ↦ let r = past_shows is since q y in (r.0, inr r.1, r.2)
+]
+
+shows_past : (is : Word → Bool) (since : ℕ) (p : Past) (path : List Stood) → Has p path → list_any is (seen_since since path) ≡ true
+    → shows is since p ≡ true
+shows_past is since begins path has h =
+    let x : false ≡ true = ap (λ q. list_any is (seen_since since q)) (sym has) ∙ h in cc
+shows_past is since (after w t p) path has h =
+    let there : list_any is (seen_since since (stood w t ∷ has.0)) ≡ true = ap (λ q. list_any is (seen_since since q)) (sym has.1) ∙ h in
+    elim (cases_Bool (nat_le since t)) [
+      | inl s ↦ elim (or_either (is w) (list_any is (seen_since since has.0)) (rw s at there)) [
+        | inl y ↦ rw s (or_left_true (is w) (shows is since p) y)
+        | inr y ↦ or_right_true (nat_le since t && is w) (shows is since p) (shows_past is since p has.0 has.2 y)
+      ]
+      | inr s ↦ or_right_true (nat_le since t && is w) (shows is since p) (shows_past is since p has.0 has.2 (rw s at there))
+    ]
+shows_past is since (either p q) path (inl has) h = or_left_true (shows is since p) (shows is since q) (shows_past is since p path has h)
+shows_past is since (either p q) path (inr has) h = or_right_true (shows is since p) (shows is since q) (shows_past is since q path has h)
+
+found_any : (p : Watched → Bool) (ls : List Watched) (l : Watched) → (q : Watched → Bool) → find q ls ≡ Some l → p l ≡ true
+    → list_any p ls ≡ true
+found_any p [] l q f h = cc
+found_any p (x ∷ xs) l q f h = elim (cases_Bool (q x)) [
+  | inl t ↦
+      let e : Some x ≡ Some l = rw t at f in
+      let is : x ≡ l = cc in
+      or_left_true (p x) (list_any p xs) (ap p is ∙ h)
+  | inr n ↦ or_right_true (p x) (list_any p xs) (found_any p xs l q (rw n at f) h)
+]
+
+found_is : (q : WatchedLoad → Bool) (ls : List WatchedLoad) (l : WatchedLoad) → find q ls ≡ Some l → q l ≡ true
+found_is q [] l f = cc
+found_is q (x ∷ xs) l f = elim (cases_Bool (q x)) [
+  | inl t ↦
+      let e : Some x ≡ Some l = rw t at f in
+      let is : x ≡ l = cc in
+      ap q (sym is) ∙ t
+  | inr n ↦ found_is q xs l (rw n at f)
+]
+
+module _ (loads : List WatchedLoad) (moment : ℕ) (asked : Each (IsAsked moment) loads) (number k b : ℕ) (l : WatchedLoad)
+    (open_ : find (is_under number) loads ≡ Some l) where
+  abbrev is : Word → Bool
+  is = λ w. may_show (lane_of k w) b
+
+  abbrev shown : Pair → Bool
+  shown e = shows_byte l.since k b e
+
+  -- a way that shows what a pair does
+  way_shows : (e : Pair) → shown e ≡ true
+      → (path : List Stood) × Has e.past path × (list_any (shows_load number k b (way_on loads e path)) (map (watched path) loads) ≡ true)
+  way_shows e h = elim (or_either (is e.word) (shows is l.since e.past) h) [
+    | inl y ↦
+        let r = any_way e.past in (
+          r.0,
+          r.1,
+          found_any (shows_load number k b (way_on loads e r.0)) (map (watched r.0) loads) (watched r.0 l) (is_watched number)
+              (find_watched number r.0 loads l open_)
+              (and_from (is_watched number (watched r.0 l)) _ (found_is (is_under number) loads l open_)
+              (or_left_true (is e.word) (list_any is (seen_since l.since r.0)) y)),
+        )
+    | inr y ↦
+        let r = past_shows is l.since e.past y in (
+          r.0,
+          r.1,
+          found_any (shows_load number k b (way_on loads e r.0)) (map (watched r.0) loads) (watched r.0 l) (is_watched number)
+              (find_watched number r.0 loads l open_)
+              (and_from (is_watched number (watched r.0 l)) _ (found_is (is_under number) loads l open_)
+              (or_right_true (is e.word) (list_any is (seen_since l.since r.0)) r.2)),
+        )
+  ]
+    where
+      any_way : (q : Past) → (path : List Stood) × Has q path
+      any_way begins = ([], refl)
+      any_way (after x s q) = let r = any_way q in (stood x s ∷ r.0, (r.0, refl, r.1))
+      any_way (either x y) = let r = any_way x in (r.0, inl r.1)
+
+  module _ (P : UnitMemory → Type 0) (closed : (m n : UnitMemory) → P m → HiddenStep m n → P n) where
+    abbrev Sound : Pair → Type 0
+    Sound e = EachWay loads (SoundOn P) e × IsPairBy moment e
+
+    pair_got : (e : Pair) → Sound e → shown e ≡ true → (m : UnitMemory) × P m × (list_any (got_byte number k b) m.loads ≡ true)
+    pair_got e s h = let r = way_shows e h in shown_got number k b P (way_on loads e r.0) (s.0 r.0 r.1) r.2
+
+    any_got : (es : List Pair) → Each Sound es → list_any shown es ≡ true
+        → (m : UnitMemory) × P m × (list_any (got_byte number k b) m.loads ≡ true)
+    any_got [] a h = cc
+    any_got (e ∷ es) a h = elim (or_either (shown e) (list_any shown es) h) [
+      | inl t ↦ pair_got e a.0 t
+      | inr f ↦ any_got es a.1 f
+    ]
+
+    reached_got : (n : ℕ) (es : List Pair) → Each Sound es → list_any shown (reached_in loads moment n es) ≡ true
+        → (m : UnitMemory) × P m × (list_any (got_byte number k b) m.loads ≡ true)
+    reached_got zero es a h = cc
+    reached_got (suc n) es a h =
+        let next : List Pair = next_after loads moment never es in
+        let each : Each Sound next =
+        next_sound loads moment asked Sound (sound_joint loads moment asked P) (sound_kept loads moment asked P closed) never [] es tt a in
+        elim (or_either (list_any shown next) (list_any shown (reached_in loads moment n next))
+        (sym (list_any-append shown next (reached_in loads moment n next)) ∙ h)) [
+          | inl t ↦ any_got next each t
+          | inr f ↦ reached_got n next each f
+        ]
+
+  -- What may be got is shown. ----
+
+  module _ (alone : IsAlone (is_under number) loads) where
+    one_shows : (e : Pair) (path : List Stood) → Has e.past path → (ls : List WatchedLoad)
+        → Each (λ x. is_under number x ≡ true → x ≡ l) ls
+        → list_any (shows_load number k b (way_on loads e path)) (map (watched path) ls) ≡ true → shown e ≡ true
+    one_shows e path has [] a h = cc
+    one_shows e path has (x ∷ xs) a h =
+        elim (or_either (shows_load number k b (way_on loads e path) (watched path x)) _ h) [
+          | inr r ↦ one_shows e path has xs a.1 r
+          | inl t ↦
+              let p = and_parts (is_under number x) (is e.word || list_any is (seen_since x.since path)) t in
+              let same : x ≡ l = a.0 p.0 in
+              let there : (is e.word || list_any is (seen_since l.since path)) ≡ true =
+              ap (λ (y : WatchedLoad). is e.word || list_any is (seen_since y.since path)) (sym same) ∙ p.1 in
+              elim (or_either (is e.word) (list_any is (seen_since l.since path)) there) [
+                | inl y ↦ or_left_true (is e.word) (shows is l.since e.past) y
+                | inr y ↦ or_right_true (is e.word) (shows is l.since e.past) (shows_past is l.since e.past path has y)
+              ]
+        ]
+
+    module _ (m : UnitMemory) (got : list_any (got_byte number k b) m.loads ≡ true) where
+      here_shows : (e : Pair) (path : List Stood) → Has e.past path → IsOn (way_on loads e path) m → shown e ≡ true
+      here_shows e path has o =
+          one_shows e path has loads (found_each (is_under number) loads l alone open_)
+          (loads_show number k b (way_on loads e path) (map (watched path) loads) m.loads o.loads got)
+
+      -- a way is not late for anything
+      abbrev Never : Branch → Type 0
+      Never x = Unit {0}
+
+      abbrev There : ℕ → Pair → Type 0
+      There n e = OneWay loads (λ x. LeadsWithin loads moment asked m n x) e
+
+      one_any : (es : List Pair) → One (λ e. shown e ≡ true) es → list_any shown es ≡ true
+      one_any [] h = absurd h
+      one_any (e ∷ es) (inl t) = or_left_true (shown e) (list_any shown es) t
+      one_any (e ∷ es) (inr h) = or_right_true (shown e) (list_any shown es) (one_any es h)
+
+      none_there : (e : Pair) → There zero e → ⊥
+      none_there e w = let l = w.2.1 in absurd (omega arith)
+
+      keep_there : (n : ℕ) (e : Pair) → There (suc n) e → (shown e ≡ true) ⊎ One (There n) (effects loads moment e)
+      keep_there n e w =
+          elim (leads_split loads moment asked m (There n) n e w.0 w.1 w.2
+          (λ before s after more has same r. (more, has, subst (LeadsWithin loads moment asked m n) (sym same) r))) [
+            | inl o ↦ inl (here_shows e w.0 w.1 o)
+            | inr o ↦ inr o
+          ]
+
+      all_hope : (es : List Pair) (n : ℕ) → One (There n) es → One (There n) (filter never.hope es)
+      all_hope [] n h = absurd h
+      all_hope (e ∷ es) n (inl q) = inl q
+      all_hope (e ∷ es) n (inr h) = inr (all_hope es n h)
+
+      -- a way that leads to the state comes to a pair that shows it
+      comes_there : (n : ℕ) (es : List Pair) → One (There (suc n)) es
+          → (list_any shown es || list_any shown (reached_in loads moment n es)) ≡ true
+      comes_there zero es h =
+          or_left_true (list_any shown es) false
+          (one_any es (one_weaker (There 1) (λ e. shown e ≡ true)
+          (λ e w. elim (keep_there zero e w) [
+            | inl t ↦ t
+            | inr o ↦ absurd (one_none (effects loads moment e) (one_weaker (There zero) (λ x. ⊥) none_there (effects loads moment e) o))
+          ]) es h))
+      comes_there (suc n) es h =
+          let next : List Pair = next_after loads moment never es in
+          let More : Pair → Type 0 = λ e. (never.goal e ≡ false) × One (There (suc n)) (filter never.hope (effects loads moment e)) in
+          let either : One (λ e. (shown e ≡ true) ⊎ More e) es =
+          one_weaker (There (suc (suc n))) (λ e. (shown e ≡ true) ⊎ More e)
+          (λ e w. elim (keep_there (suc n) e w) [
+            | inl t ↦ inl t
+            | inr o ↦ inr (refl, all_hope (effects loads moment e) (suc n) o)
+          ]) es h in
+          elim (one_or (λ e. shown e ≡ true) More es either) [
+            | inl a ↦ or_left_true (list_any shown es) _ (one_any es a)
+            | inr a ↦
+                let rest = comes_there n next (next_finds loads moment asked (There (suc n))
+                (one_taken loads (LeadsWithin loads moment asked m (suc n))) never [] es a) in
+                or_right_true (list_any shown es) (list_any shown (next ++ reached_in loads moment n next))
+                (list_any-append shown next (reached_in loads moment n next) ∙ rest)
+          ]
+
+      pub is_reached : (es : List Pair) → One (OneWay loads (λ x. Leads x m)) es
+          → list_any shown (es ++ reached_in loads moment (rounds es) es) ≡ true
+      is_reached es h =
+          let Q : Pair → Type 0 = OneWay loads (λ x. Leads x m) in
+          let n : ℕ = rounds es in
+          let ways : One (There (suc n)) es =
+          one_weaker (λ e. Q e × (undone e.stores ≤ n)) (There (suc n)) (λ e p. (p.0.0, p.0.1, (p.0.2, within e p.1))) es
+          (one_rounds Q 0 es h) in
+          list_any-append shown es (reached_in loads moment n es) ∙ comes_there n es ways
+        where
+          within : (e : Pair) → undone e.stores ≤ rounds es → undone e.stores < suc (rounds es)
+          within e l = omega arith
 
 -- One unit. ----
 
-kept_sound : (P : UnitMemory → Type 0) → ((m n : UnitMemory) → P m → HiddenStep m n → P n) → IsKept (IsSound P)
-kept_sound P closed e before s after h split o = sound_effect P closed e before s after h split o
+-- where a way leads nobody has got something whose load isn't open
+leads_open : (number k b : ℕ) (w : Branch) (m : UnitMemory) → Leads w m → (ls : List WatchedLoad)
+    → map (λ (l : Watched). l.number) w.loads ≡ map (λ (l : WatchedLoad). l.number) ls
+    → find (is_under number) ls ≡ None → list_any (got_byte number k b) m.loads ≡ true → ⊥
+leads_open number k b w m r ls same f h = opened w m r (none_open w.loads ls same f) h
+  where
+    none_open : (ws : List Watched) (ks : List WatchedLoad)
+        → map (λ (l : Watched). l.number) ws ≡ map (λ (l : WatchedLoad). l.number) ks
+        → find (is_under number) ks ≡ None → list_any (is_watched number) ws ≡ false
+    none_open [] ks e g = refl
+    none_open (x ∷ xs) [] e g = cc
+    none_open (x ∷ xs) (y ∷ ys) e g =
+        let first : x.number ≡ y.number = cc in
+        let others : map (λ (l : Watched). l.number) xs ≡ map (λ (l : WatchedLoad). l.number) ys = cc in
+        elim (cases_Bool (is_under number y)) [
+          | inl t ↦ let z : Some y ≡ None = rw t at g in cc
+          | inr n ↦ rw (ap (λ i. i == number) first ∙ n) (none_open xs ys others (rw n at g))
+        ]
 
-or_either : (a b : Bool) → (a || b) ≡ true → (a ≡ true) ⊎ (b ≡ true)
-or_either true b h = inl refl
-or_either false b h = inr h
+    on_none : (v : Word) (ws : List Watched) (ms : List OpenLoad) → AreWatched v ws ms → list_any (is_watched number) ws ≡ false
+        → list_any (got_byte number k b) ms ≡ true → ⊥
+    on_none v [] [] a n t = cc
+    on_none v [] (y ∷ ys) a n t = absurd a
+    on_none v (x ∷ xs) [] a n t = absurd a
+    on_none v (x ∷ xs) (y ∷ ys) a n t = elim (cases_Bool (is_watched number x)) [
+      | inl u ↦ let z : true ≡ false = rw u at n in cc
+      | inr u ↦
+          let away : is_load number y ≡ false = ap (λ i. i == number) (sym a.0.0) ∙ u in
+          on_none v xs ys a.1 (rw u at n) (rw away at t)
+    ]
 
-within : (a n : ℕ) → a ≤ n → a < suc n
-within a n l = omega arith
+    mapped : (v : Word) (ws : List Watched) → list_any (is_watched number) (map (with_word v) ws) ≡ list_any (is_watched number) ws
+    mapped v [] = refl
+    mapped v (x ∷ xs) = ap (λ c. is_watched number x || c) (mapped v xs)
 
-unit_set : (image : List ℕ) (rest : Rest) (history : List HistoryEvent) (unit : UnitPlace) (es : List Branch)
-    → StandsFor (untouched image rest unit) unit es history → (number k b : ℕ) → b < 256
-    → (has (byte_set number k es) b ≡ true) ↔ MayGet image rest history unit number k b
-unit_set image rest history unit es s number k b l =
-    let P : UnitMemory → Type 0 = MayBe unit (untouched image rest unit) history in
-    let closed : (m n : UnitMemory) → P m → HiddenStep m n → P n = λ m n r step. steps history m n r step in
-    let same = has_byte_set number k es b l in
-    let sound : Each (IsSound P) es = s.sound in (
-      λ h. elim (or_either (list_any (shows number k b) es) (is_reached (shows number k b) (rounds es) es) (sym same ∙ h)) [
-        | inl t ↦ any_got number k b P es sound t
-        | inr t ↦ reached_got number k b P (kept_sound P closed) (rounds es) es sound t
-      ],
-      λ g.
-          let way : One (LeadsWithin g.0 (suc (rounds es))) es =
-          one_weaker (λ e. Leads e g.0 × (undone e.stores ≤ rounds es)) (LeadsWithin g.0 (suc (rounds es)))
-          (λ e p. (p.0, within (undone e.stores) (rounds es) p.1)) es (one_rounds (λ e. Leads e g.0) 0 es (s.complete g.0 g.1)) in
-          same
-          ∙ leads_reached (shows number k b) g.0 (λ x o. loads_show number k b x x.loads g.0.loads o.loads g.2) (rounds es) es way,
+    opened : (x : Branch) (n : UnitMemory) → Leads x n → list_any (is_watched number) x.loads ≡ false
+        → list_any (got_byte number k b) n.loads ≡ true → ⊥
+    opened x n (now o) none t = on_none x.word x.loads n.loads o.loads none t
+    opened x n (later before s rest split open_ q) none t =
+        opened (effect_of x before s rest) n q (mapped x.word x.loads ∙ none) t
+
+same_numbers : (path : List Stood) (ls : List WatchedLoad)
+    → map (λ (l : Watched). l.number) (map (watched path) ls) ≡ map (λ (l : WatchedLoad). l.number) ls
+same_numbers path [] = refl
+same_numbers path (l ∷ ls) = ap (λ ns. l.number ∷ ns) (same_numbers path ls)
+
+unit_law : (image : List ℕ) (rest : Rest) (history : List HistoryEvent) (unit : UnitPlace) (u : Ways)
+    → StandsFor (untouched image rest unit) unit u history → (number : ℕ) → IsAlone (is_under number) u.loads → (k b : ℕ)
+    → (is_shown (find (is_under number) u.loads) k b (reached u) ≡ true) ↔ MayGet image rest history unit number k b
+unit_law image rest history unit u s number alone k b = go (find (is_under number) u.loads) refl
+  where
+    P : UnitMemory → Type 0
+    P = MayBe unit (untouched image rest unit) history
+
+    closed : (m n : UnitMemory) → P m → HiddenStep m n → P n
+    closed m n r step = steps history m n r step
+
+    go : (load : Option WatchedLoad) → find (is_under number) u.loads ≡ load
+        → (is_shown load k b (reached u) ≡ true) ↔ MayGet image rest history unit number k b
+    go None f = (
+      λ h. cc,
+      λ g. absurd (one_elim (OneWay u.loads (λ x. Leads x g.0)) ⊥ u.pairs (s.complete g.0 g.1)
+          (λ e w. leads_open number k b (way_on u.loads e w.0) g.0 w.2 u.loads (same_numbers w.0 u.loads) f g.2)),
     )
+    go (Some l) f =
+        let n : ℕ = rounds u.pairs in
+        let sound : Each (λ e. EachWay u.loads (SoundOn P) e × IsPairBy u.moment e) u.pairs =
+        each_both (EachWay u.loads (SoundOn P)) (IsPairBy u.moment) u.pairs s.sound s.timely in (
+          λ h. elim (or_either (list_any (shows_byte l.since k b) u.pairs)
+              (list_any (shows_byte l.since k b) (reached_in u.loads u.moment n u.pairs))
+              (sym (list_any-append (shows_byte l.since k b) u.pairs (reached_in u.loads u.moment n u.pairs)) ∙ h)) [
+                | inl t ↦ any_got u.loads u.moment s.asked number k b l f P closed u.pairs sound t
+                | inr t ↦ reached_got u.loads u.moment s.asked number k b l f P closed n u.pairs sound t
+              ],
+          λ g. is_reached u.loads u.moment s.asked number k b l f alone g.0 g.2 u.pairs (s.complete g.0 g.1),
+        )
 
 -- All bytes of a load. ----
 
-set_law : (h : Held) (lost : List ℕ) (history : List HistoryEvent) → StandsBut h lost history → (number a b : ℕ) → b < 256
-    → (has (set_at h number a) b ≡ true) ↔ MayReturn lost h.image h.rest h.size history number a b
-set_law h lost history s number a b l = elim (s.units (a / h.size)) [
-  | inl p ↦
-      let none : has_way (h.units (a / h.size)) ≡ false = ap has_way p.1 in
-      (λ t. inl p.0, λ r. rw none (has-all_bytes b ∙ lt-ltb b 256 l))
+set_law : (h : Held) (lost : List ℕ) (history : List HistoryEvent) → StandsBut h lost history → (number a b : ℕ) (o : Operation)
+    → find (has_number number) (opened_by history).loads ≡ Some o
+    → (may_get_at h number a b ≡ true) ↔ MayReturn lost h.image h.rest h.size history number a b
+set_law h lost history s number a b o open_ = elim (s.units (a / h.size)) [
+  | inl p ↦ (λ t. inl p.0, λ r. rw p.1 refl)
   | inr p ↦
-      let u = unit_set h.image h.rest history (unit_at h.size (a / h.size)) (h.units (a / h.size)) p.1.0 number (a % h.size) b l in (
+      let unit : UnitPlace = unit_at h.size (a / h.size) in
+      let alone : IsAlone (is_under number) (h.units (a / h.size)).loads =
+      alone_under h.image h.rest unit history (h.units (a / h.size)) s.formed p.1.0 p.1.1 number o open_ in
+      let u = unit_law h.image h.rest history unit (h.units (a / h.size)) p.1.0 number alone (a % h.size) b in (
         λ t. inr (p.0, u.0 (rw p.1.1 at t)),
         λ r. elim r [ inl y ↦ let z : true ≡ false = sym y ∙ p.0 in cc | inr g ↦ rw p.1.1 (u.1 g.1) ],
       )
 ]
 
+asks_some : (load : Option Operation) (a : ℕ) → asks load a ≡ true → (o : Operation) × (load ≡ Some o)
+asks_some None a h = cc
+asks_some (Some o) a h = (o, refl)
+
 -- the answer of a call for one byte, over what is kept and over the history
-pub byte_law : {E : Type 0} (r : Result (Option ByteSet) E) (h : Held) (number a : ℕ) → IfOk r (λ set. set ≡ byte_of h number a)
+pub byte_law : {E : Type 0} (r : Result (Option ByteSet) E) (h : Held) (number a : ℕ) → IfOk r (IsByteOf h number a)
     → (lost : List ℕ) (history : List HistoryEvent) → StandsBut h lost history
     → IfOk r (IsSetOf lost h.image h.rest h.size history number a)
 byte_law (Err e) h number a p lost history s = tt
-byte_law (Ok x) h number a p lost history s = subst (IsSetOf lost h.image h.rest h.size history number a) (sym p) law
-  where
-    opened : find (has_number number) h.opened.loads ≡ find (has_number number) (opened_by history).loads
-    opened = ap (λ o. find (has_number number) o.loads) s.opened
+byte_law (Ok None) h number a p lost history s = ap (λ o. asks (find (has_number number) o.loads) a) (sym s.opened) ∙ p
+byte_law (Ok (Some set)) h number a p lost history s =
+    let there : asks (find (has_number number) (opened_by history).loads) a ≡ true =
+    ap (λ o. asks (find (has_number number) o.loads) a) (sym s.opened) ∙ p.0 in
+    let o = asks_some (find (has_number number) (opened_by history).loads) a there in
+    (there, λ b l. let law = set_law h lost history s number a b o.0 o.1 in (λ t. law.0 (sym (p.1 b l) ∙ t), λ m. p.1 b l ∙ law.1 m))
 
-    law : IsSetOf lost h.image h.rest h.size history number a (byte_of h number a)
-    law = elim (cases_Bool (asks (find (has_number number) h.opened.loads) a)) [
-      | inl t ↦ rw t (ap (λ o. asks o a) (sym opened) ∙ t, λ b l. set_law h lost history s number a b l)
-      | inr f ↦ rw f (ap (λ o. asks o a) (sym opened) ∙ f)
-    ]
+sets_at : (h : Held) (number a : ℕ) (n from : ℕ) (sets : List ByteSet) → AreSetsFrom h number a from n sets
+    → (i : ℕ) (set : ByteSet) → slice_get sets i ≡ Some set
+    → (i < n) × IsSet (may_get_at h number (address_of a (from + i))) set
+sets_at h number a zero from [] r i set e = let x : None ≡ Some set = e in cc
+sets_at h number a zero from (x ∷ xs) r i set e = absurd r
+sets_at h number a (suc n) from [] r i set e = absurd r
+sets_at h number a (suc n) from (x ∷ xs) r zero set e =
+    let both : Some x ≡ Some set = e in
+    let same : x ≡ set = cc in
+    let here : from + 0 ≡ from = omega arith in (
+      omega arith,
+      subst (IsSet (may_get_at h number (address_of a (from + 0)))) same
+          (subst (λ j. IsSet (may_get_at h number (address_of a j)) x) (sym here) r.0),
+    )
+sets_at h number a (suc n) from (x ∷ xs) r (suc i) set e =
+    let q = sets_at h number a n (from + 1) xs r.1 i set e in
+    let next : from + 1 + i ≡ from + suc i = omega arith in
+    (omega (arith, q.0), subst (λ j. IsSet (may_get_at h number (address_of a j)) set) next q.1)
 
-sets_at : (h : Held) (number a : ℕ) (n from i : ℕ) (set : ByteSet) → slice_get (sets_from h number a from n) i ≡ Some set
-    → (i < n) × (set ≡ set_at h number (address_of a (from + i)))
-sets_at h number a zero from i set e = let x : None ≡ Some set = e in cc
-sets_at h number a (suc n) from zero set e =
-    let same : Some (set_at h number (address_of a from)) ≡ Some set = e in
-    let here : from + 0 ≡ from = omega arith in
-    let first : set ≡ set_at h number (address_of a from) = cc in
-    (omega arith, first ∙ ap (λ i. set_at h number (address_of a i)) (sym here))
-sets_at h number a (suc n) from (suc i) set e =
-    let r = sets_at h number a n (from + 1) i set e in
-    let next : from + 1 + i ≡ from + suc i = omega arith in (omega (arith, r.0), r.1 ∙ ap (λ j. set_at h number (address_of a j)) next)
-
-sets_length : (h : Held) (number a n from : ℕ) → length (sets_from h number a from n) ≡ n
-sets_length h number a zero from = refl
-sets_length h number a (suc n) from = ap suc (sets_length h number a n (from + 1))
+sets_length : (h : Held) (number a n from : ℕ) (sets : List ByteSet) → AreSetsFrom h number a from n sets → length sets ≡ n
+sets_length h number a zero from [] r = refl
+sets_length h number a zero from (x ∷ xs) r = absurd r
+sets_length h number a (suc n) from [] r = absurd r
+sets_length h number a (suc n) from (x ∷ xs) r = ap suc (sets_length h number a n (from + 1) xs r.1)
 
 sets_law : (h : Held) (lost : List ℕ) (history : List HistoryEvent) → StandsBut h lost history → (number : ℕ) (o : Operation)
-    → find (has_number number) h.opened.loads ≡ Some o
-    → AreSetsOf lost h.image h.rest h.size history number (sets_from h number o.address 0 o.length)
-sets_law h lost history s number o e =
+    → find (has_number number) h.opened.loads ≡ Some o → (sets : List ByteSet) → AreSetsFrom h number o.address 0 o.length sets
+    → AreSetsOf lost h.image h.rest h.size history number sets
+sets_law h lost history s number o e sets r =
     let found : find (has_number number) (opened_by history).loads ≡ Some o =
     ap (λ x. find (has_number number) x.loads) (sym s.opened) ∙ e in
     let end : o.address + o.length ≤ 18446744073709551616 =
@@ -344,20 +509,19 @@ sets_law h lost history s number o e =
     record {
       load = o;
       open_ = found;
-      length_ = sets_length h number o.address o.length 0;
+      length_ = sets_length h number o.address o.length 0 sets r;
       exact = λ i set get b l.
-          let r = sets_at h number o.address o.length 0 i set get in
-          let inside : i < o.length = r.0 in
+          let q = sets_at h number o.address o.length 0 sets r i set get in
+          let inside : i < o.length = q.0 in
           let there : address_of o.address (0 + i) ≡ o.address + i = omega arith in
-          let same : set ≡ set_at h number (o.address + i) = r.1 ∙ ap (set_at h number) there in
-          let law = set_law h lost history s number (o.address + i) b l in
-          (λ t. law.0 (ap (λ x. has x b) (sym same) ∙ t), λ m. ap (λ x. has x b) same ∙ law.1 m);
+          let same : has set b ≡ may_get_at h number (o.address + i) b = q.1 b l ∙ ap (λ x. may_get_at h number x b) there in
+          let law = set_law h lost history s number (o.address + i) b o found in
+          (λ t. law.0 (sym same ∙ t), λ m. same ∙ law.1 m);
     }
 
 -- the answer of a call, over what is kept and over the history
 pub may_law : {X E : Type 0} (r : Result X E) (items : X → List ByteSet) (h : Held) (number : ℕ) → IfOk r (λ x. HasSets h number (items x))
     → (lost : List ℕ) (history : List HistoryEvent) → StandsBut h lost history
     → IfOk r (λ x. AreSetsOf lost h.image h.rest h.size history number (items x))
-may_law (Ok x) items h number p lost history s =
-    subst (AreSetsOf lost h.image h.rest h.size history number) (sym p.2) (sets_law h lost history s number p.0 p.1)
+may_law (Ok x) items h number p lost history s = sets_law h lost history s number p.0 p.1 (items x) p.2
 may_law (Err e) items h number p lost history s = tt

@@ -5,7 +5,7 @@ use Rattle.std.specs.Cmp.Lexicographic.{pointwise}
 use mathlib.Core.Bool.{beq}
 use Rattle.std.proofs.lemmas.Bool.{and_parts}
 use Rattle.atomic_histories.specs.declared.unit.OpenStore.{OpenStore}
-use Rattle.atomic_histories.specs.Branches.{is_same_word, is_same_store}
+use Rattle.atomic_histories.specs.Followed.{is_same_word, is_same_store}
 
 same_byte : (a b : Option ℕ) → option_eq ◌==◌ a b ≡ true → a ≡ b
 same_byte None None h = refl

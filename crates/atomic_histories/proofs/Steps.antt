@@ -5,17 +5,16 @@ use Rattle.atomic_histories.specs.Words.{written}
 use Rattle.atomic_histories.specs.Law.{OpenLoad, UnitMemory, HiddenStep, done_store, done_load}
 use Rattle.atomic_histories.specs.Branches.{Watched, Branch, with_word, effect_of}
 use Rattle.atomic_histories.specs.Stands.{MayHaveGot, IsWatched, AreWatched, IsOn, Leads, now, later}
-use Rattle.atomic_histories.proofs.Lists.{one_left, one_last, one_split}
 
 abbrev Word : Type 0
 Word = List (Option ℕ)
 
 -- The word is overwritten. ----
 
-got_on : (w v : Word) (past : List Word) (g : Option Word) → MayHaveGot w past g → MayHaveGot v (past ++ w ∷ []) g
+got_on : (w v : Word) (past : List Word) (g : Option Word) → MayHaveGot w past g → MayHaveGot v (w ∷ past) g
 got_on w v past None h = tt
-got_on w v past (Some x) (inl e) = inr (one_last (λ y. x ≡ y) past w e)
-got_on w v past (Some x) (inr a) = inr (one_left (λ y. x ≡ y) past (w ∷ []) a)
+got_on w v past (Some x) (inl e) = inr (inl e)
+got_on w v past (Some x) (inr a) = inr (inr a)
 
 watched_on : (w v : Word) (ls : List Watched) (ms : List OpenLoad) → AreWatched w ls ms → AreWatched v (map (with_word w) ls) ms
 watched_on w v [] [] h = tt
@@ -76,7 +75,7 @@ take_all Q w c (m ∷ ms) (n ∷ ns) t q =
 
 -- a load, before the word was overwritten
 before_effect : (w v : Word) (l : Watched) (m : OpenLoad) (g : Option Word) → m.got ≡ g → IsWatched v (with_word w l) m
-    → MayHaveGot v (l.words ++ w ∷ []) g
+    → MayHaveGot v (w ∷ l.words) g
     → (m0 : OpenLoad) × (IsWatched w l m0 × ((m0 ≡ m) ⊎ ((m0.got ≡ None) × (m ≡ done_load v m0))))
 before_effect w v l m None e h g = (m, ((h.0, h.1, subst (λ x. MayHaveGot w l.words x) (sym e) tt), inl refl))
 before_effect w v l m (Some x) e h (inl x_v) =
@@ -84,7 +83,7 @@ before_effect w v l m (Some x) e h (inl x_v) =
     ap (λ y. record { number = m.number; address = m.address; got = y }) (e ∙ ap Some x_v) in
     (record { number = m.number; address = m.address; got = None }, ((h.0, h.1, tt), inr (refl, made)))
 before_effect w v l m (Some x) e h (inr o) =
-    let got : MayHaveGot w l.words (Some x) = elim (one_split (λ y. x ≡ y) l.words w o) [ inl b ↦ inr b | inr b ↦ inl b ] in
+    let got : MayHaveGot w l.words (Some x) = elim o [ inl b ↦ inl b | inr b ↦ inr b ] in
     (m, ((h.0, h.1, subst (λ y. MayHaveGot w l.words y) (sym e) got), inl refl))
 
 before_effects : (w v : Word) (ls : List Watched) (ms : List OpenLoad) → AreWatched v (map (with_word w) ls) ms

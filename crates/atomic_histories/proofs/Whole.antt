@@ -1,47 +1,110 @@
 -- All units together: what is kept after an event is of the history with it, and an event is refused exactly if it is none of the law.
-use Rattle.std.proofs.Common.{◌≡◌, ℕ, zero, suc, ◌+◌, ◌/◌, ◌<◌, ◌≤◌, Bool, true, false, ◌&&◌, ◌||◌, not, ◌==◌, if◌then◌else◌, nat_lt, nat_le, List, [], ◌∷◌, ◌++◌, map, fold, Option, Some, None, is_none, is_some, Result, Ok, Err, OnOk, inl, inr, refl, sym, ap, ◌∙◌, subst, append_assoc, append-nil, leb-true, ltb-true, arith}
-use Rattle.std.specs.List.{list_any, list_all}
+use Rattle.std.proofs.Common.{◌≡◌, ℕ, zero, suc, ◌+◌, ◌/◌, ◌<◌, ◌≤◌, Bool, true, false, ◌&&◌, ◌||◌, not, ◌==◌, if◌then◌else◌, nat_lt, nat_le, List, [], ◌∷◌, ◌++◌, map, fold, length, Option, Some, None, is_none, is_some, Result, Ok, Err, OnOk, inl, inr, refl, sym, ap, ◌∙◌, subst, append_assoc, append-nil, leb-true, ltb-true, arith}
+use Rattle.std.specs.List.{list_any, list_all, find}
 use Rattle.std.proofs.lemmas.Bool.{cases_Bool, cases_lt, and_parts, and_from}
 use Rattle.std.proofs.lemmas.List.Folds.{list_all-append}
 use Rattle.memory_histories.specs.declared.events.HistoryEvent.{HistoryEvent}
 use Rattle.memory_histories.specs.declared.events.HistoryEvent.TheVariants.{LoadRequest, LoadResponse, StoreRequest, StoreResponse}
 use Rattle.memory_histories.specs.declared.events.Rest.{Rest}
 use Rattle.atomic_histories.specs.declared.unit.OpenStore.{OpenStore}
+use Rattle.atomic_histories.specs.declared.unit.Operation.{Operation}
 use Rattle.atomic_histories.specs.declared.unit.UnitPlace.{UnitPlace}
 use Rattle.atomic_histories.specs.Words.{written, at_unit, stored_byte, is_at}
-use Rattle.atomic_histories.specs.Operations.{Opened, none_opened, opened_after, opened_by, form_fault}
-use Rattle.atomic_histories.specs.Law.{OpenLoad, UnitMemory, HiddenStep, MayBe, steps, sees, untouched, done_store, is_store, may_answer_store, without_store, unit_at, is_formed, IsAtomicAt}
-use Rattle.atomic_histories.specs.Branches.{Branch, branches_after, branch_with_load, branch_with_store, answered}
-use Rattle.atomic_histories.specs.Stands.{One, Leads, StandsFor}
-use Rattle.atomic_histories.specs.Held.{Held, nothing_held, has_way, covered, units_of, is_among, ways_after, unit_after, is_without, is_stuck, stuck_from, first_stuck, Stands, is_lost, StandsBut}
+use Rattle.atomic_histories.specs.Operations.{Opened, none_opened, opened_after, opened_by, has_number, form_fault}
+use Rattle.atomic_histories.specs.Law.{is_load, OpenLoad, UnitMemory, HiddenStep, MayBe, steps, sees, untouched, done_store, is_store, may_answer_store, without_store, unit_at, is_formed, IsAtomicAt}
+use Rattle.atomic_histories.specs.declared.unit.WatchedLoad.{WatchedLoad}
+use Rattle.atomic_histories.specs.Followed.{Pair, Ways, no_ways, has_pair, has_way, watched, met, is_under, is_first, word_aim, effect_aim, Aim, answered_load, pair_cut, pair_with_store, pair_without_store, ways_with_load, ways_with_store, ways_after, loads_without}
+use Rattle.atomic_histories.specs.Pasts.{Stood, oldest}
+use Rattle.atomic_histories.specs.Stands.{One, OneWay, AreWatched, Leads, StandsFor}
+use Rattle.atomic_histories.specs.Held.{Held, nothing_held, covered, units_of, is_among, changed, unit_after, is_without, is_stuck, stuck_from, first_stuck, Stands, is_lost, StandsBut}
 use Rattle.atomic_histories.specs.Lost.{IsAtomicBut}
 use Rattle.atomic_histories.specs.Judge.{IsTaken, IsForgotten}
-use Rattle.atomic_histories.proofs.Exact.{stands_first, stands_after, stands_passed, some_state, no_state}
-use Rattle.atomic_histories.proofs.Links.{fit_by, linked, opened_more, passes}
+use Rattle.atomic_histories.proofs.Alone.{IsAlone, alone}
+use Rattle.atomic_histories.proofs.Exact.{IsAloneFor, stands_first, stands_after, stands_passed, some_state, no_state}
+use Rattle.atomic_histories.proofs.Links.{fit_by, linked, open_load, opened_more, passes}
 
 -- Ways that are left. ----
 
-way_from_one : (P : Branch → Type 0) (es : List Branch) → One P es → has_way es ≡ true
-way_from_one P [] h = absurd h
-way_from_one P (e ∷ es) h = refl
+pair_from_one : (P : Pair → Type 0) (es : List Pair) → One P es → has_pair es ≡ true
+pair_from_one P [] h = absurd h
+pair_from_one P (e ∷ es) h = refl
 
-way_map : (f : Branch → Branch) (es : List Branch) → has_way es ≡ true → has_way (map f es) ≡ true
-way_map f [] h = cc
-way_map f (e ∷ es) h = refl
+pair_map : (f : Pair → Pair) (es : List Pair) → has_pair es ≡ true → has_pair (map f es) ≡ true
+pair_map f [] h = cc
+pair_map f (e ∷ es) h = refl
 
-way_if : (b : Bool) (f : Branch → Branch) (es : List Branch) → has_way es ≡ true → has_way (if b then map f es else es) ≡ true
-way_if true f es h = way_map f es h
-way_if false f es h = h
+way_if_load : (b : Bool) (number address : ℕ) (u : Ways) → has_way u ≡ true → has_way (if b then ways_with_load number address u else u) ≡ true
+way_if_load true number address u h = h
+way_if_load false number address u h = h
 
-pub state_from : (start : UnitMemory) (unit : UnitPlace) (history : List HistoryEvent) (es : List Branch) → StandsFor start unit es history
-    → has_way es ≡ true → (m : UnitMemory) × MayBe unit start history m
-state_from start unit history [] s h = cc
-state_from start unit history (e ∷ es) s h = some_state start unit e es history s
+way_if_store : (b : Bool) (number : ℕ) (bytes : List (Option ℕ)) (u : Ways) → has_way u ≡ true
+    → has_way (if b then ways_with_store number bytes u else u) ≡ true
+way_if_store true number bytes u h = pair_map (pair_with_store number bytes) u.pairs h
+way_if_store false number bytes u h = h
 
-pub none_from : (start : UnitMemory) (unit : UnitPlace) (history : List HistoryEvent) (es : List Branch) → StandsFor start unit es history
-    → has_way es ≡ false → ¬ ((m : UnitMemory) × MayBe unit start history m)
-none_from start unit history [] s h = no_state start unit history s
-none_from start unit history (e ∷ es) s h = cc
+some_pair : (es : List Pair) → has_pair es ≡ true → (e : Pair) × (rest : List Pair) × (es ≡ e ∷ rest)
+some_pair [] h = cc
+some_pair (e ∷ es) h = (e, es, refl)
+
+pub no_pair : (es : List Pair) → has_pair es ≡ false → es ≡ []
+no_pair [] h = refl
+no_pair (e ∷ es) h = cc
+
+pub state_from : (start : UnitMemory) (unit : UnitPlace) (history : List HistoryEvent) (u : Ways) → StandsFor start unit u history
+    → has_way u ≡ true → (m : UnitMemory) × MayBe unit start history m
+state_from start unit history u s h =
+    let p = some_pair u.pairs h in
+    let r = some_state start unit u p.0 p.1 p.2 history s in
+    (r.1, r.3)
+
+pub none_from : (start : UnitMemory) (unit : UnitPlace) (history : List HistoryEvent) (u : Ways) → StandsFor start unit u history
+    → has_way u ≡ false → ¬ ((m : UnitMemory) × MayBe unit start history m)
+none_from start unit history u s h = no_state start unit u (no_pair u.pairs h) history s
+
+-- The load that is answered. ----
+
+or_parts : (a b : Bool) → (a || b) ≡ false → (a ≡ false) × (b ≡ false)
+or_parts true b h = cc
+or_parts false b h = (refl, h)
+
+-- the loads of a state on a way are under the same numbers as those that are watched
+alone_watched : (number : ℕ) (w : List (Option ℕ)) (path : List Stood) (ls : List WatchedLoad) (ms : List OpenLoad)
+    → AreWatched w (map (watched path) ls) ms → IsAlone (is_load number) ms → IsAlone (is_under number) ls
+alone_watched number w path [] ms h a = tt
+alone_watched number w path (l ∷ ls) [] h a = absurd h
+alone_watched number w path (l ∷ ls) (m ∷ ms) h a = (
+  λ t. none ls ms h.1 (a.0 (ap (λ n. n == number) (sym h.0.0) ∙ t)),
+  alone_watched number w path ls ms h.1 a.1,
+)
+  where
+    none : (ks : List WatchedLoad) (ns : List OpenLoad) → AreWatched w (map (watched path) ks) ns → list_any (is_load number) ns ≡ false
+        → list_any (is_under number) ks ≡ false
+    none [] ns i e = refl
+    none (k ∷ ks) [] i e = absurd i
+    none (k ∷ ks) (n ∷ ns) i e =
+        let p = or_parts (is_load number n) (list_any (is_load number) ns) e in
+        rw (ap (λ x. x == number) i.0.0 ∙ p.0) (none ks ns i.1 p.1)
+
+-- no other load that is open at the unit has the number of one that is open in the history
+pub alone_under : (image : List ℕ) (rest : Rest) (unit : UnitPlace) (history : List HistoryEvent) (u : Ways)
+    → is_formed none_opened history ≡ true → StandsFor (untouched image rest unit) unit u history → has_way u ≡ true → (number : ℕ)
+    → (o : Operation) → find (has_number number) (opened_by history).loads ≡ Some o → IsAlone (is_under number) u.loads
+alone_under image rest unit history u formed s way number o open_ =
+    let p = some_pair u.pairs way in
+    let r = some_state (untouched image rest unit) unit u p.0 p.1 p.2 history s in
+    let one : IsAlone (is_load number) r.1.loads =
+    alone unit number r.1 (opened_by history) (linked image rest unit r.3) (fit_by history formed).loads.0 o open_ in
+    alone_watched number p.0.word r.0 u.loads r.1.loads r.2.loads one
+
+pub alone_for : (image : List ℕ) (rest : Rest) (unit : UnitPlace) (history : List HistoryEvent) (event : HistoryEvent) (u : Ways)
+    → is_formed none_opened history ≡ true → form_fault (opened_by history) event ≡ None
+    → StandsFor (untouched image rest unit) unit u history → has_way u ≡ true → IsAloneFor u event
+alone_for image rest unit history (LoadRequest number address n) u formed f s way = tt
+alone_for image rest unit history (LoadResponse number bytes) u formed f s way =
+    let o = open_load (find (has_number number) (opened_by history).loads) (length bytes.now) f in
+    alone_under image rest unit history u formed s way number o.0 o.1
+alone_for image rest unit history (StoreRequest number address bytes enables) u formed f s way = tt
+alone_for image rest unit history (StoreResponse number) u formed f s way = tt
 
 -- A store may always be answered. ----
 
@@ -107,17 +170,17 @@ IsNoAnswer event = Unit {0}
 
 -- what is no load's answer leaves a way
 pub way_left : (start : UnitMemory) (unit : UnitPlace) (history : List HistoryEvent) (event : HistoryEvent) → IsNoAnswer event
-    → (es : List Branch) → StandsFor start unit es history → has_way es ≡ true
-    → has_way (branches_after unit es event) ≡ true
-way_left start unit history (LoadRequest number address n) a es s h = way_if (is_at unit address n) (branch_with_load number address) es h
-way_left start unit history (LoadResponse number bytes) a es s h = absurd a
-way_left start unit history (StoreRequest number address bytes enables) a es s h =
-    let stored : List (Option ℕ) =
-    at_unit unit (stored_byte address bytes.now enables) in way_if (list_any is_some stored) (branch_with_store number stored) es h
-way_left start unit history (StoreResponse number) a es s h =
-    let n = store_answered start unit history number (state_from start unit history es s h) in
-    let after = stands_after start unit es history (StoreResponse number) s in
-    way_from_one (λ e. Leads e n.0) (branches_after unit es (StoreResponse number)) (after.complete n.0 n.1)
+    → (u : Ways) → StandsFor start unit u history → has_way u ≡ true
+    → has_way (ways_after unit u event) ≡ true
+way_left start unit history (LoadRequest number address n) a u s h = way_if_load (is_at unit address n) number address u h
+way_left start unit history (LoadResponse number bytes) a u s h = absurd a
+way_left start unit history (StoreRequest number address bytes enables) a u s h =
+    let stored : List (Option ℕ) = at_unit unit (stored_byte address bytes.now enables) in
+    way_if_store (list_any is_some stored) number stored u h
+way_left start unit history (StoreResponse number) a u s h =
+    let n = store_answered start unit history number (state_from start unit history u s h) in
+    let after = stands_after start unit u history (StoreResponse number) tt s in
+    pair_from_one (OneWay u.loads (λ b. Leads b n.0)) (ways_after unit u (StoreResponse number)).pairs (after.complete n.0 n.1)
 
 -- The first unit that is stuck. ----
 
@@ -150,32 +213,63 @@ stuck_some h event k (suc n) i e = elim (cases_Bool (is_stuck h event k)) [
       )
 ]
 
-way_stays : (before after : List Branch) → is_without before after ≡ false → has_way before ≡ true → has_way after ≡ true
-way_stays [] after h w = cc
-way_stays (e ∷ es) [] h w = cc
-way_stays (e ∷ es) (d ∷ ds) h w = refl
-
-way_lost : (before after : List Branch) → is_without before after ≡ true → (has_way before ≡ true) × (has_way after ≡ false)
-way_lost [] after h = cc
-way_lost (e ∷ es) [] h = (refl, refl)
-way_lost (e ∷ es) (d ∷ ds) h = cc
-
-none_after : (unit : UnitPlace) (event : HistoryEvent) → branches_after unit [] event ≡ []
-unfolding answered
-none_after unit (LoadRequest number address n) = none_if (is_at unit address n) (branch_with_load number address)
+way_stays : (before after : Ways) → is_without before after ≡ false → has_way before ≡ true → has_way after ≡ true
+way_stays before after h w = stays (has_way before) (has_way after) h w
   where
-    none_if : (b : Bool) (f : Branch → Branch) → (if b then map f [] else []) ≡ []
-    none_if true f = refl
-    none_if false f = refl
-none_after unit (LoadResponse number bytes) = refl
-none_after unit (StoreRequest number address bytes enables) =
+    stays : (a b : Bool) → (a && not b) ≡ false → a ≡ true → b ≡ true
+    stays true true h w = refl
+    stays true false h w = cc
+    stays false b h w = cc
+
+way_lost : (before after : Ways) → is_without before after ≡ true → (has_way before ≡ true) × (has_way after ≡ false)
+way_lost before after h = lost (has_way before) (has_way after) h
+  where
+    lost : (a b : Bool) → (a && not b) ≡ true → (a ≡ true) × (b ≡ false)
+    lost true false h = (refl, refl)
+    lost true true h = cc
+    lost false b h = cc
+
+-- No way leads on where there is none. ----
+
+met_none : (loads : List WatchedLoad) (moment n : ℕ) (aim : Aim) → met loads moment n aim [] [] ≡ []
+met_none loads moment zero aim = refl
+met_none loads moment (suc n) aim = met_none loads moment n aim
+
+answered_none : (unit : UnitPlace) (bytes : List ℕ) (load : Option WatchedLoad) (loads : List WatchedLoad) (moment : ℕ) (es : List Pair)
+    → es ≡ [] → answered_load unit bytes load (record { loads = loads; moment = moment; pairs = es }) ≡ []
+answered_none unit bytes None loads moment es h = h
+answered_none unit bytes (Some l) loads moment es h =
+    subst (λ xs. answered_load unit bytes (Some l) (record { loads = loads; moment = moment; pairs = xs }) ≡ []) (sym h)
+    (met_none loads moment 1 (word_aim unit l.address bytes))
+
+none_mapped : (b : Bool) (f : Pair → Pair) (es : List Pair) → es ≡ [] → has_pair (if b then map f es else es) ≡ false
+none_mapped true f es h = ap (λ xs. has_pair (map f xs)) h
+none_mapped false f es h = ap has_pair h
+
+none_after : (unit : UnitPlace) (u : Ways) (event : HistoryEvent) → has_way u ≡ false → has_way (ways_after unit u event) ≡ false
+none_after unit u (LoadRequest number address n) h = none_if (is_at unit address n)
+  where
+    none_if : (b : Bool) → has_way (if b then ways_with_load number address u else u) ≡ false
+    none_if true = h
+    none_if false = h
+none_after unit u (LoadResponse number bytes) h =
+    none_mapped (is_first number u.loads) (pair_cut (oldest (loads_without number u.loads)))
+    (answered_load unit bytes.now (find (is_under number) u.loads) u)
+    (answered_none unit bytes.now (find (is_under number) u.loads) u.loads u.moment u.pairs (no_pair u.pairs h))
+none_after unit u (StoreRequest number address bytes enables) h =
     none_if (list_any is_some (at_unit unit (stored_byte address bytes.now enables)))
-    (branch_with_store number (at_unit unit (stored_byte address bytes.now enables)))
   where
-    none_if : (b : Bool) (f : Branch → Branch) → (if b then map f [] else []) ≡ []
-    none_if true f = refl
-    none_if false f = refl
-none_after unit (StoreResponse number) = refl
+    none_if : (b : Bool) → has_way (if b then ways_with_store number (at_unit unit (stored_byte address bytes.now enables)) u else u) ≡ false
+    none_if true =
+        ap (λ xs. has_pair (map (pair_with_store number (at_unit unit (stored_byte address bytes.now enables))) xs)) (no_pair u.pairs h)
+    none_if false = h
+none_after unit u (StoreResponse number) h =
+    let none : ways_after unit (record { loads = u.loads; moment = u.moment; pairs = [] }) (StoreResponse number)
+    ≡ record { loads = u.loads; moment = u.moment; pairs = [] } =
+    ap (λ (xs : List Pair). record { loads = u.loads; moment = u.moment; pairs = map (pair_without_store number) xs })
+    (met_none u.loads u.moment 1 (effect_aim number)) in
+    ap (λ xs. has_way (ways_after unit (record { loads = u.loads; moment = u.moment; pairs = xs }) (StoreResponse number))) (no_pair u.pairs h)
+    ∙ ap has_way none
 
 -- Events. ----
 
@@ -194,8 +288,8 @@ stands_all_first image rest size l =
 
 module _ (h : Held) (lost : List ℕ) (history : List HistoryEvent) (event : HistoryEvent) (s : StandsBut h lost history)
     (formed : form_fault h.opened event ≡ None) where
-  abbrev Now : ℕ → List Branch → Type 0
-  Now k es = Stands h.image h.rest (history ++ event ∷ []) (unit_at h.size k) es
+  abbrev Now : ℕ → Ways → Type 0
+  Now k u = Stands h.image h.rest (history ++ event ∷ []) (unit_at h.size k) u
 
   abbrev first : ℕ
   first = (covered h.opened event).0 / h.size
@@ -215,8 +309,10 @@ module _ (h : Held) (lost : List ℕ) (history : List HistoryEvent) (event : His
       (linked h.image h.rest (unit_at h.size k) r) formless
       (subst (λ o. is_among h.size (covered o event) k ≡ false) s.opened out)) a
 
-  touched : (k : ℕ) → Stands h.image h.rest history (unit_at h.size k) (h.units k) → Now k (ways_after h event k)
-  touched k a = stands_after (untouched h.image h.rest (unit_at h.size k)) (unit_at h.size k) (h.units k) history event a
+  touched : (k : ℕ) → Stands h.image h.rest history (unit_at h.size k) (h.units k) → has_way (h.units k) ≡ true → Now k (changed h event k)
+  touched k a way =
+      stands_after (untouched h.image h.rest (unit_at h.size k)) (unit_at h.size k) (h.units k) history event
+      (alone_for h.image h.rest (unit_at h.size k) history event (h.units k) s.formed formless a way) a
 
   range : (k : ℕ) → is_among h.size (covered h.opened event) k ≡ true → (first ≤ k) × (k < first + count)
   range k t = let p = and_parts (nat_le first k) (nat_lt k (first + count)) t in (leb-true first k p.0, ltb-true k (first + count) p.1)
@@ -228,15 +324,15 @@ module _ (h : Held) (lost : List ℕ) (history : List HistoryEvent) (event : His
   after_at none k a = elim (cases_Bool (is_among h.size (covered h.opened event) k)) [
     | inl t ↦
         let r = range k t in
-        let w : has_way (ways_after h event k) ≡ true =
-        way_stays (h.units k) (ways_after h event k) (stuck_none h event first count none k r.0 r.1) a.1.1 in
-        rw t (touched k a.1.0, w)
+        let w : has_way (changed h event k) ≡ true =
+        way_stays (h.units k) (changed h event k) (stuck_none h event first count none k r.0 r.1) a.1.1 in
+        rw t (touched k a.1.0 a.1.1, w)
     | inr f ↦ rw f (passed k f a.1.0, a.1.1)
   ]
 
-  lost_after : (k : ℕ) → h.units k ≡ [] → unit_after h event k ≡ []
+  lost_after : (k : ℕ) → has_way (h.units k) ≡ false → has_way (unit_after h event k) ≡ false
   lost_after k e = elim (cases_Bool (is_among h.size (covered h.opened event) k)) [
-    | inl t ↦ rw t (ap (λ es. branches_after (unit_at h.size k) es event) e ∙ none_after (unit_at h.size k) event)
+    | inl t ↦ rw t (none_after (unit_at h.size k) (h.units k) event e)
     | inr f ↦ rw f e
   ]
 
@@ -250,10 +346,10 @@ module _ (h : Held) (lost : List ℕ) (history : List HistoryEvent) (event : His
     formed = formed_after;
     opened = t.opened ∙ (ap (λ o. opened_after o event) s.opened ∙ sym (opened_more none_opened history event));
     units = λ k. elim (s.units k) [
-      | inl a ↦ inl (a.0, t.units k ∙ lost_after k a.1)
+      | inl a ↦ inl (a.0, ap has_way (t.units k) ∙ lost_after k a.1)
       | inr a ↦
           let r = after_at t.ways k a in
-          inr (a.0, (same next t k (subst (λ es. Now k es) (sym (t.units k)) r.0), subst (λ es. has_way es ≡ true) (sym (t.units k)) r.1))
+          inr (a.0, (same next t k (subst (λ u. Now k u) (sym (t.units k)) r.0), subst (λ u. has_way u ≡ true) (sym (t.units k)) r.1))
     ];
   }
     where
@@ -280,23 +376,23 @@ module _ (h : Held) (lost : List ℕ) (history : List HistoryEvent) (event : His
       × ((j : ℕ) → j < k → is_lost j lost ≡ false → IsAtomicAt h.image h.rest (unit_at h.size j) (history ++ event ∷ []))
   refused_at k e =
       let r = stuck_some h event first count k e in
-      let w = way_lost (h.units k) (ways_after h event k) r.0 in
+      let w = way_lost (h.units k) (changed h event k) r.0 in
       let here : (is_lost k lost ≡ false) × (Stands h.image h.rest history (unit_at h.size k) (h.units k) × (has_way (h.units k) ≡ true)) =
       elim (s.units k) [
-        | inl a ↦ let y : has_way (h.units k) ≡ false = ap has_way a.1 in let z : true ≡ false = sym w.0 ∙ y in cc
+        | inl a ↦ let z : true ≡ false = sym w.0 ∙ a.1 in cc
         | inr a ↦ a
       ] in (
         here.0,
-        none_from (untouched h.image h.rest (unit_at h.size k)) (unit_at h.size k) (history ++ event ∷ []) (ways_after h event k)
-            (touched k here.1.0) w.1,
+        none_from (untouched h.image h.rest (unit_at h.size k)) (unit_at h.size k) (history ++ event ∷ []) (changed h event k)
+            (touched k here.1.0 here.1.1) w.1,
         λ j l there. elim (s.units j) [
           | inl a ↦ let y : true ≡ false = sym a.0 ∙ there in cc
           | inr a ↦ elim (cases_Bool (is_among h.size (covered h.opened event) j)) [
             | inl t ↦
-                let way : has_way (ways_after h event j) ≡ true =
-                way_stays (h.units j) (ways_after h event j) (r.1 j (range j t).0 l) a.1.1 in
-                state_from (untouched h.image h.rest (unit_at h.size j)) (unit_at h.size j) (history ++ event ∷ []) (ways_after h event j)
-                (touched j a.1.0) way
+                let way : has_way (changed h event j) ≡ true =
+                way_stays (h.units j) (changed h event j) (r.1 j (range j t).0 l) a.1.1 in
+                state_from (untouched h.image h.rest (unit_at h.size j)) (unit_at h.size j) (history ++ event ∷ []) (changed h event j)
+                (touched j a.1.0 a.1.1) way
             | inr f ↦ state_from (untouched h.image h.rest (unit_at h.size j)) (unit_at h.size j) (history ++ event ∷ []) (h.units j)
                 (passed j f a.1.0) a.1.1
           ]
@@ -307,11 +403,11 @@ module _ (h : Held) (lost : List ℕ) (history : List HistoryEvent) (event : His
   pub only_answers : IsNoAnswer event → (k : ℕ) → first_stuck h event ≡ Some k → ⊥
   only_answers other k e =
       let r = stuck_some h event first count k e in
-      let w = way_lost (h.units k) (ways_after h event k) r.0 in
+      let w = way_lost (h.units k) (changed h event k) r.0 in
       elim (s.units k) [
-        | inl a ↦ let y : has_way (h.units k) ≡ false = ap has_way a.1 in let z : true ≡ false = sym w.0 ∙ y in cc
+        | inl a ↦ let z : true ≡ false = sym w.0 ∙ a.1 in cc
         | inr a ↦
-            let left : has_way (ways_after h event k) ≡ true =
+            let left : has_way (changed h event k) ≡ true =
             way_left (untouched h.image h.rest (unit_at h.size k)) (unit_at h.size k) history event other (h.units k) a.1.0 a.1.1 in
             let z : true ≡ false = sym left ∙ w.1 in cc
       ]
@@ -325,11 +421,13 @@ stands_forgotten h next number t lost history s = record {
   formed = s.formed;
   opened = t.opened ∙ s.opened;
   units = λ k. elim (cases_Bool (number == k)) [
-    | inl e ↦ inl (rw e refl, t.units k ∙ rw e refl)
+    | inl e ↦
+        let none : next.units k ≡ no_ways = t.units k ∙ rw e refl in
+        inl (rw e refl, ap has_way none)
     | inr f ↦
         let kept : next.units k ≡ h.units k = t.units k ∙ rw f refl in
         elim (s.units k) [
-          | inl a ↦ inl (rw f a.0, kept ∙ a.1)
+          | inl a ↦ inl (rw f a.0, ap has_way kept ∙ a.1)
           | inr a ↦ inr (
             rw f a.0,
             (

@@ -1,5 +1,7 @@
 -- Worked histories of the atomic law, each decided by computing the ways that a unit may have gone.
-use Rattle.std.proofs.Common.{ℕ, ◌≡◌, Bool, true, false, List, [], ◌∷◌, ◌++◌, fold, refl}
+use Rattle.std.proofs.Common.{ℕ, ◌≡◌, Bool, true, false, ◌&&◌, ◌||◌, not, List, [], ◌∷◌, ◌++◌, fold, refl, ap}
+use Rattle.std.specs.List.{list_any}
+use Rattle.std.proofs.lemmas.Bool.{and_parts}
 use Rattle.std.specs.Borrow.{Bor}
 use Rattle.memory_histories.specs.declared.events.HistoryEvent.{HistoryEvent}
 use Rattle.memory_histories.specs.declared.events.HistoryEvent.TheVariants.{LoadRequest, LoadResponse, StoreRequest, StoreResponse}
@@ -8,39 +10,80 @@ use Rattle.memory_histories.specs.declared.events.Rest.TheVariants.{Zeros, Unkno
 use Rattle.atomic_histories.specs.declared.unit.UnitPlace.{UnitPlace}
 use Rattle.atomic_histories.specs.Words.{written, is_word_of}
 use Rattle.atomic_histories.specs.Law.{IsAtomicAt, untouched}
-use Rattle.atomic_histories.specs.Branches.{Branch, first_branch, branches_after, answered, covers, joins}
+use Rattle.atomic_histories.specs.Followed.{Ways, first_ways, has_way, is_same_pair, is_under, ways_after}
 use Rattle.atomic_histories.specs.Stands.{StandsFor}
-use Rattle.atomic_histories.proofs.Exact.{stands_by, some_state, no_state}
-
-abbrev has_way : List Branch → Bool
-has_way [] = false
-has_way (e ∷ es) = true
+use Rattle.atomic_histories.proofs.Alone.{IsAlone}
+use Rattle.atomic_histories.proofs.Exact.{IsAloneFor, AlwaysAlone, stands_by}
+use Rattle.atomic_histories.proofs.Whole.{state_from, none_from}
 
 -- the unit of two bytes at 4096
 abbrev pair : UnitPlace
 pair = record { first = 4096; size = 2 }
 
-abbrev ways : Rest → List HistoryEvent → List Branch
-ways rest history = fold (branches_after pair) (first_branch [] rest pair ∷ []) history
+abbrev ways : Rest → List HistoryEvent → Ways
+ways rest history = fold (ways_after pair) (first_ways [] rest pair) history
 
-from_way : (rest : Rest) (history : List HistoryEvent) (es : List Branch) → StandsFor (untouched [] rest pair) pair es history
-    → has_way es ≡ true → IsAtomicAt [] rest pair history
-from_way rest history [] s h = cc
-from_way rest history (e ∷ es) s h = some_state (untouched [] rest pair) pair e es history s
+-- Each load is the only one under its number. ----
 
-from_none : (rest : Rest) (history : List HistoryEvent) (es : List Branch) → StandsFor (untouched [] rest pair) pair es history
-    → has_way es ≡ false → ¬ (IsAtomicAt [] rest pair history)
-from_none rest history [] s h = no_state (untouched [] rest pair) pair history s
-from_none rest history (e ∷ es) s h = cc
+abbrev is_alone : {X : Type 0} → (X → Bool) → List X → Bool
+is_alone p [] = true
+is_alone p (x ∷ xs) = (not (p x) || not (list_any p xs)) && is_alone p xs
 
-passes : (history : List HistoryEvent) → has_way (ways Zeros history) ≡ true → IsAtomicAt [] Zeros pair history
-passes history h = from_way Zeros history (ways Zeros history) (stands_by [] Zeros pair history) h
+alone_one : (a b : Bool) → (not a || not b) ≡ true → a ≡ true → b ≡ false
+alone_one true true h t = cc
+alone_one true false h t = refl
+alone_one false b h t = cc
 
-stops : (history : List HistoryEvent) → has_way (ways Zeros history) ≡ false → ¬ (IsAtomicAt [] Zeros pair history)
-stops history h = from_none Zeros history (ways Zeros history) (stands_by [] Zeros pair history) h
+alone_from : {X : Type 0} (p : X → Bool) (xs : List X) → is_alone p xs ≡ true → IsAlone p xs
+alone_from p [] h = tt
+alone_from p (x ∷ xs) h =
+    let r = and_parts (not (p x) || not (list_any p xs)) (is_alone p xs) h in
+    (alone_one (p x) (list_any p xs) r.0, alone_from p xs r.1)
 
-unknown_passes : (history : List HistoryEvent) → has_way (ways Unknown history) ≡ true → IsAtomicAt [] Unknown pair history
-unknown_passes history h = from_way Unknown history (ways Unknown history) (stands_by [] Unknown pair history) h
+abbrev is_alone_for : Ways → HistoryEvent → Bool
+is_alone_for u (LoadResponse number bytes) = is_alone (is_under number) u.loads
+is_alone_for u event = true
+
+abbrev are_alone : Ways → List HistoryEvent → Bool
+are_alone u [] = true
+are_alone u (event ∷ events) = is_alone_for u event && are_alone (ways_after pair u event) events
+
+event_alone : (u : Ways) (event : HistoryEvent) → is_alone_for u event ≡ true → IsAloneFor u event
+event_alone u (LoadRequest number address n) h = tt
+event_alone u (LoadResponse number bytes) h = alone_from (is_under number) u.loads h
+event_alone u (StoreRequest number address bytes enables) h = tt
+event_alone u (StoreResponse number) h = tt
+
+always : (u : Ways) (history : List HistoryEvent) → are_alone u history ≡ true → AlwaysAlone pair u history
+always u [] h = tt
+always u (event ∷ events) h =
+    let r = and_parts (is_alone_for u event) (are_alone (ways_after pair u event) events) h in
+    (event_alone u event r.0, always (ways_after pair u event) events r.1)
+
+-- The law, decided. ----
+
+-- whether the loads are alone, and whether a way is left
+abbrev decided : Rest → List HistoryEvent → Bool × Bool
+decided rest history = (are_alone (first_ways [] rest pair) history, has_way (ways rest history))
+
+alone_in : (rest : Rest) (history : List HistoryEvent) (b : Bool) → decided rest history ≡ (true, b)
+    → StandsFor (untouched [] rest pair) pair (ways rest history) history
+alone_in rest history b h =
+    stands_by [] rest pair history (always (first_ways [] rest pair) history (ap (λ (p : Bool × Bool). p.0) h))
+
+passes_by : (rest : Rest) (history : List HistoryEvent) → decided rest history ≡ (true, true) → IsAtomicAt [] rest pair history
+passes_by rest history h =
+    state_from (untouched [] rest pair) pair history (ways rest history) (alone_in rest history true h) (ap (λ (p : Bool × Bool). p.1) h)
+
+passes : (history : List HistoryEvent) → decided Zeros history ≡ (true, true) → IsAtomicAt [] Zeros pair history
+passes history h = passes_by Zeros history h
+
+stops : (history : List HistoryEvent) → decided Zeros history ≡ (true, false) → ¬ (IsAtomicAt [] Zeros pair history)
+stops history h =
+    none_from (untouched [] Zeros pair) pair history (ways Zeros history) (alone_in Zeros history false h) (ap (λ (p : Bool × Bool). p.1) h)
+
+unknown_passes : (history : List HistoryEvent) → decided Unknown history ≡ (true, true) → IsAtomicAt [] Unknown pair history
+unknown_passes history h = passes_by Unknown history h
 
 abbrev bytes : List ℕ → Bor (List ℕ)
 bytes xs = record { ref_ptr = (0, 0); now = xs }
@@ -56,35 +99,35 @@ two_stores = StoreRequest 1 4096 (bytes (17 ∷ 17 ∷ [])) 3 ∷ StoreRequest 2
 
 -- while a store is open, loads may see what was there before, then what it stores
 pub old_then_new : IsAtomicAt [] Zeros pair (StoreRequest 1 4096 (bytes (90 ∷ [])) 1 ∷ [] ++ load 1 1 (0 ∷ []) ++ load 2 1 (90 ∷ []))
-unfolding written is_word_of answered covers joins
+unfolding written is_word_of is_same_pair
 old_then_new = passes (StoreRequest 1 4096 (bytes (90 ∷ [])) 1 ∷ [] ++ load 1 1 (0 ∷ []) ++ load 2 1 (90 ∷ [])) refl
 
 -- new then old: one load sees the store, and a later one doesn't. The regular law lets it through
 pub new_then_old : ¬ (IsAtomicAt [] Zeros pair (StoreRequest 1 4096 (bytes (90 ∷ [])) 1 ∷ [] ++ load 1 1 (90 ∷ []) ++ load 2 1 (0 ∷ [])))
-unfolding written is_word_of answered covers joins
+unfolding written is_word_of is_same_pair
 new_then_old = stops (StoreRequest 1 4096 (bytes (90 ∷ [])) 1 ∷ [] ++ load 1 1 (90 ∷ []) ++ load 2 1 (0 ∷ [])) refl
 
 -- two overlapping stores: a load behind them sees either, and not what stood there before
 pub the_first_of_two : IsAtomicAt [] Zeros pair (two_stores ++ load 1 2 (17 ∷ 17 ∷ []))
-unfolding written is_word_of answered covers joins
+unfolding written is_word_of is_same_pair
 the_first_of_two = passes (two_stores ++ load 1 2 (17 ∷ 17 ∷ [])) refl
 
 pub the_second_of_two : IsAtomicAt [] Zeros pair (two_stores ++ load 1 2 (34 ∷ 34 ∷ []))
-unfolding written is_word_of answered covers joins
+unfolding written is_word_of is_same_pair
 the_second_of_two = passes (two_stores ++ load 1 2 (34 ∷ 34 ∷ [])) refl
 
 pub none_of_two : ¬ (IsAtomicAt [] Zeros pair (two_stores ++ load 1 2 (0 ∷ 0 ∷ [])))
-unfolding written is_word_of answered covers joins
+unfolding written is_word_of is_same_pair
 none_of_two = stops (two_stores ++ load 1 2 (0 ∷ 0 ∷ [])) refl
 
 -- a torn word: no order gives it. The regular law lets it through
 pub a_torn_word : ¬ (IsAtomicAt [] Zeros pair (two_stores ++ load 1 2 (17 ∷ 34 ∷ [])))
-unfolding written is_word_of answered covers joins
+unfolding written is_word_of is_same_pair
 a_torn_word = stops (two_stores ++ load 1 2 (17 ∷ 34 ∷ [])) refl
 
 -- two loads behind them see the same
 pub both_of_two : ¬ (IsAtomicAt [] Zeros pair (two_stores ++ load 1 2 (17 ∷ 17 ∷ []) ++ load 1 2 (34 ∷ 34 ∷ [])))
-unfolding written is_word_of answered covers joins
+unfolding written is_word_of is_same_pair
 both_of_two = stops (two_stores ++ load 1 2 (17 ∷ 17 ∷ []) ++ load 1 2 (34 ∷ 34 ∷ [])) refl
 
 -- a store of the first byte alone settles that byte, and leaves its neighbour's choice
@@ -92,16 +135,16 @@ abbrev one_byte_stored : List HistoryEvent
 one_byte_stored = two_stores ++ StoreRequest 3 4096 (bytes (51 ∷ 51 ∷ [])) 1 ∷ StoreResponse 3 ∷ []
 
 pub a_neighbour_stays : IsAtomicAt [] Zeros pair (one_byte_stored ++ load 1 2 (51 ∷ 34 ∷ []))
-unfolding written is_word_of answered covers joins
+unfolding written is_word_of is_same_pair
 a_neighbour_stays = passes (one_byte_stored ++ load 1 2 (51 ∷ 34 ∷ [])) refl
 
 pub a_byte_is_settled : ¬ (IsAtomicAt [] Zeros pair (one_byte_stored ++ load 1 2 (17 ∷ 17 ∷ [])))
-unfolding written is_word_of answered covers joins
+unfolding written is_word_of is_same_pair
 a_byte_is_settled = stops (one_byte_stored ++ load 1 2 (17 ∷ 17 ∷ [])) refl
 
 -- a byte that no store has covered may be anything, each time
 pub unknown_each_time : IsAtomicAt [] Unknown pair (load 1 2 (1 ∷ 2 ∷ []) ++ load 1 2 (3 ∷ 4 ∷ []))
-unfolding written is_word_of answered covers joins
+unfolding written is_word_of is_same_pair
 unknown_each_time = unknown_passes (load 1 2 (1 ∷ 2 ∷ []) ++ load 1 2 (3 ∷ 4 ∷ [])) refl
 
 -- a load that is open while a store is answered may have got either word, and which one it got binds the loads behind it
@@ -110,7 +153,7 @@ pub an_open_load_binds : ¬
     (StoreRequest 1 4096 (bytes (17 ∷ 17 ∷ [])) 3 ∷ StoreRequest 2 4096
     (bytes (34 ∷ 34 ∷ [])) 3 ∷ StoreResponse 1 ∷ LoadRequest 1 4096 2 ∷ LoadResponse 1
     (bytes (34 ∷ 34 ∷ [])) ∷ LoadRequest 2 4096 2 ∷ LoadResponse 2 (bytes (17 ∷ 17 ∷ [])) ∷ []))
-unfolding written is_word_of answered covers joins
+unfolding written is_word_of is_same_pair
 an_open_load_binds = stops
     (StoreRequest 1 4096 (bytes (17 ∷ 17 ∷ [])) 3 ∷ StoreRequest 2 4096
     (bytes (34 ∷ 34 ∷ [])) 3 ∷ StoreResponse 1 ∷ LoadRequest 1 4096 2 ∷ LoadResponse 1

@@ -1,19 +1,14 @@
 -- Events that are taken where a unit's way stands, with no search, and what is kept before the operations that are open change.
-use Rattle.std.specs.Prelude.{ℕ, ◌≡◌, Bool, true, false, List, [], ◌∷◌, None}
+use Rattle.std.specs.Prelude.{ℕ, ◌≡◌, Bool, true, false, None}
 use Rattle.memory_histories.specs.declared.events.HistoryEvent.{HistoryEvent}
 use Rattle.atomic_histories.specs.declared.unit.UnitPlace.{UnitPlace}
-use Rattle.atomic_histories.specs.Branches.{Branch, branches_after}
+use Rattle.atomic_histories.specs.Followed.{Ways, ways_after}
 use Rattle.atomic_histories.specs.Held.{Held, is_without, first_stuck, unit_after}
 
--- a way became the one that was found, or it is as it was
-abbrev pub IsAlone : List Branch → Branch → Branch → Bool → Type 0
-IsAlone found before after true = found ≡ after ∷ []
-IsAlone found before after false = after ≡ before
-
 -- a unit's ways became those that an event leads to, or they are as they were
-abbrev pub IsUnitTaken : UnitPlace → HistoryEvent → List Branch → List Branch → Bool → Type 0
+abbrev pub IsUnitTaken : UnitPlace → HistoryEvent → Ways → Ways → Bool → Type 0
 IsUnitTaken unit event before after true =
-    (after ≡ branches_after unit before event) × (is_without before (branches_after unit before event) ≡ false)
+    (after ≡ ways_after unit before event) × (is_without before (ways_after unit before event) ≡ false)
 IsUnitTaken unit event before after false = after ≡ before
 
 -- the units that an event touches took it, and the operations that are open are not yet those after it

@@ -8,28 +8,29 @@ use Rattle.atomic_histories.specs.declared.unit.Operation.{Operation}
 use Rattle.atomic_histories.specs.declared.unit.UnitPlace.{UnitPlace}
 use Rattle.atomic_histories.specs.Operations.{Opened, none_opened, opened_by, has_number}
 use Rattle.atomic_histories.specs.Law.{untouched, unit_at, is_formed}
-use Rattle.atomic_histories.specs.Branches.{Branch, first_branch, branches_after, is_too_wide}
+use Rattle.atomic_histories.specs.Followed.{Ways, first_ways, has_way, ways_after, is_too_wide}
 use Rattle.atomic_histories.specs.Stands.{StandsFor}
 
--- of each unit, by its number, the ways that it may have gone; a unit that was forgotten has none
+-- of each unit, by its number, the ways that it may have gone, and how many words are kept of what stood there since the request of
+-- the oldest load that is open; a unit that was forgotten has no ways
 pub record Held : Type 0 where
   pub image : List ℕ
   pub rest : Rest
   pub size : ℕ
   pub opened : Opened
-  pub units : ℕ → List Branch
-
--- the ways of a unit that no operation has touched
-abbrev pub first_ways : List ℕ → Rest → UnitPlace → List Branch
-first_ways image rest unit = first_branch image rest unit ∷ []
+  pub units : ℕ → Ways
+  pub words : ℕ → ℕ
 
 abbrev pub nothing_held : List ℕ → Rest → ℕ → Held
 nothing_held image rest size =
-    record { image = image; rest = rest; size = size; opened = none_opened; units = λ k. first_ways image rest (unit_at size k) }
-
-abbrev pub has_way : List Branch → Bool
-has_way [] = false
-has_way (e ∷ es) = true
+    record {
+      image = image;
+      rest = rest;
+      size = size;
+      opened = none_opened;
+      units = λ k. first_ways image rest (unit_at size k);
+      words = λ k. 0;
+    }
 
 -- The units that an event touches. ----
 
@@ -55,25 +56,25 @@ is_among size p k = nat_le (p.0 / size) k && nat_lt k (p.0 / size + units_of siz
 
 -- An event. ----
 
-abbrev pub ways_after : Held → HistoryEvent → ℕ → List Branch
-ways_after h event k = branches_after (unit_at h.size k) (h.units k) event
+abbrev pub changed : Held → HistoryEvent → ℕ → Ways
+changed h event k = ways_after (unit_at h.size k) (h.units k) event
 
 -- what is kept of unit k after an event
-abbrev pub unit_after : Held → HistoryEvent → ℕ → List Branch
-unit_after h event k = if is_among h.size (covered h.opened event) k then ways_after h event k else h.units k
+abbrev pub unit_after : Held → HistoryEvent → ℕ → Ways
+unit_after h event k = if is_among h.size (covered h.opened event) k then changed h event k else h.units k
 
 -- whether no way is left, where there was one
-abbrev pub is_without : List Branch → List Branch → Bool
+abbrev pub is_without : Ways → Ways → Bool
 is_without before after = has_way before && not (has_way after)
 
 -- whether an event leaves a unit no way, which had one
 abbrev pub is_stuck : Held → HistoryEvent → ℕ → Bool
-is_stuck h event k = is_without (h.units k) (ways_after h event k)
+is_stuck h event k = is_without (h.units k) (changed h event k)
 
 -- what is kept after an event of n units from number k on
-abbrev pub ways_from : Held → HistoryEvent → ℕ → ℕ → List (List Branch)
+abbrev pub ways_from : Held → HistoryEvent → ℕ → ℕ → List Ways
 ways_from h event k zero = []
-ways_from h event k (suc n) = ways_after h event k ∷ ways_from h event (k + 1) n
+ways_from h event k (suc n) = changed h event k ∷ ways_from h event (k + 1) n
 
 -- the first of n units from number k on that an event leaves no way
 abbrev pub stuck_from : Held → HistoryEvent → ℕ → ℕ → Option ℕ
@@ -87,7 +88,7 @@ first_stuck h event =
 -- an event needs too many ways at the unit that begins at an address, one of n units from number k on
 abbrev pub IsWideFrom : ℕ → Held → HistoryEvent → ℕ → ℕ → ℕ → Type 0
 IsWideFrom limit h event k n address =
-    (j : ℕ) × (k ≤ j) × (j < k + n) × (address ≡ j * h.size) × (is_too_wide limit (unit_at h.size j) (h.units j) event ≡ true)
+    (j : ℕ) × (k ≤ j) × (j < k + n) × (address ≡ j * h.size) × (is_too_wide limit (unit_at h.size j) (h.words j) (h.units j) event ≡ true)
 
 -- one of those that it touches
 abbrev pub IsWide : ℕ → Held → HistoryEvent → ℕ → Type 0
@@ -97,8 +98,8 @@ IsWide limit h event address =
 -- Of which histories it is kept. ----
 
 -- the ways of this unit are those of the history
-abbrev pub Stands : List ℕ → Rest → List HistoryEvent → UnitPlace → List Branch → Type 0
-Stands image rest history unit es = StandsFor (untouched image rest unit) unit es history
+abbrev pub Stands : List ℕ → Rest → List HistoryEvent → UnitPlace → Ways → Type 0
+Stands image rest history unit u = StandsFor (untouched image rest unit) unit u history
 
 -- whether unit k is among those that were forgotten
 abbrev pub is_lost : ℕ → List ℕ → Bool
@@ -107,7 +108,7 @@ is_lost k lost = list_any (λ j. j == k) lost
 -- nothing is kept of a forgotten unit, and of another the ways that are the history's
 abbrev pub StandsAt : Held → List ℕ → List HistoryEvent → ℕ → Type 0
 StandsAt h lost history k =
-    ((is_lost k lost ≡ true) × (h.units k ≡ []))
+    ((is_lost k lost ≡ true) × (has_way (h.units k) ≡ false))
     ⊎ ((is_lost k lost ≡ false) × (Stands h.image h.rest history (unit_at h.size k) (h.units k) × (has_way (h.units k) ≡ true)))
 
 -- what is kept is of this history, once these units were forgotten

@@ -8,7 +8,7 @@ use Rattle.memory_histories.specs.declared.events.HistoryFault.TheVariants.{Wron
 use Rattle.memory_histories.specs.declared.events.Rest.{Rest}
 use Rattle.atomic_histories.specs.declared.unit.Operation.{Operation}
 use Rattle.atomic_histories.specs.declared.unit.UnitPlace.{UnitPlace}
-use Rattle.atomic_histories.specs.declared.memory.KeptUnit.{KeptUnit}
+use Rattle.atomic_histories.specs.declared.kept.KeptUnit.{KeptUnit}
 use Rattle.atomic_histories.specs.declared.search.Stop.{Stop}
 use Rattle.atomic_histories.specs.declared.search.Stop.TheVariants.{TooManyWays, NoMemory}
 use Rattle.atomic_histories.specs.declared.memory.UnitSize.{UnitSize}
@@ -17,11 +17,11 @@ use Rattle.atomic_histories.specs.declared.memory.AtomicFault.{AtomicFault}
 use Rattle.atomic_histories.specs.declared.memory.AtomicFault.TheVariants.{Refused, Undecided, OutOfMemory}
 use Rattle.atomic_histories.specs.declared.memory.AtomicMemory.{AtomicMemory}
 use Rattle.atomic_histories.specs.Operations.{opened_by, opened_after, has_number, form_fault}
-use Rattle.atomic_histories.specs.Branches.{Branch, branches_after, is_too_wide}
+use Rattle.atomic_histories.specs.Followed.{Ways, no_ways, first_ways, ways_after, is_too_wide}
 use Rattle.atomic_histories.specs.Law.{IsAtomic, FaultIs, unit_at}
 use Rattle.atomic_histories.specs.Lost.{IsAtomicBut, FaultIsBut}
-use Rattle.atomic_histories.specs.Held.{Held, first_ways, covered, units_of, is_without, ways_from, stuck_from, IsWideFrom, unit_after, first_stuck, IsWide}
-use Rattle.atomic_histories.specs.Shown.{shown_all}
+use Rattle.atomic_histories.specs.Held.{Held, covered, units_of, is_without, ways_from, stuck_from, IsWideFrom, unit_after, first_stuck, IsWide}
+use Rattle.atomic_histories.specs.Shown.{shown_unit, words_in}
 
 abbrev pub bytes_of : UnitSize → ℕ
 bytes_of One = 1
@@ -30,15 +30,17 @@ bytes_of Four = 4
 bytes_of Eight = 8
 
 -- the ways of a unit: those that are kept, or those before the first operation
-abbrev pub shown_unit : KeptUnit → List Branch
-shown_unit u = shown_all u.ways.items
-
-abbrev pub kept_or : Option KeptUnit → List Branch → List Branch
+abbrev pub kept_or : Option KeptUnit → Ways → Ways
 kept_or (Some u) first = shown_unit u
 kept_or None first = first
 
-abbrev pub kept_at : List ℕ → Rest → ℕ → (ℕ → Option KeptUnit) → ℕ → List Branch
+abbrev pub kept_at : List ℕ → Rest → ℕ → (ℕ → Option KeptUnit) → ℕ → Ways
 kept_at image rest size kept k = kept_or (kept k) (first_ways image rest (unit_at size k))
+
+-- how many words are kept of what stood there
+abbrev pub words_of : Option KeptUnit → ℕ
+words_of (Some u) = words_in u.stretches.items
+words_of None = 0
 
 -- what it keeps
 abbrev pub held : AtomicMemory → Held
@@ -48,6 +50,7 @@ held m = record {
   size = bytes_of m.size;
   opened = record { loads = m.loads.items; stores = m.stores.items };
   units = kept_at m.image.items m.rest (bytes_of m.size) (get nat_eq m.units);
+  words = λ k. words_of (get nat_eq m.units k);
 }
 
 -- what memory had before the first event, and the size of its units
@@ -78,14 +81,15 @@ put_from f k [] j = f j
 put_from f k (u ∷ us) j = if k == j then Some u else put_from f (k + 1) us j
 
 -- why a unit has no ways after an event
-abbrev pub ChangedFaultIs : ℕ → UnitPlace → List Branch → HistoryEvent → List Operation → AtomicFault → Type 0
-ChangedFaultIs limit unit es event loads (Refused cause) =
-    (is_without es (branches_after unit es event) ≡ true) × (cause ≡ WrongByte (place_in loads event unit.first))
-ChangedFaultIs limit unit es event loads (Undecided address) = (address ≡ unit.first) × (is_too_wide limit unit es event ≡ true)
-ChangedFaultIs limit unit es event loads OutOfMemory = Unit {0}
+abbrev pub ChangedFaultIs : ℕ → UnitPlace → ℕ → Ways → HistoryEvent → List Operation → AtomicFault → Type 0
+ChangedFaultIs limit unit words u event loads (Refused cause) =
+    (is_without u (ways_after unit u event) ≡ true) × (cause ≡ WrongByte (place_in loads event unit.first))
+ChangedFaultIs limit unit words u event loads (Undecided address) =
+    (address ≡ unit.first) × (is_too_wide limit unit words u event ≡ true)
+ChangedFaultIs limit unit words u event loads OutOfMemory = Unit {0}
 
 abbrev pub UnitFaultIs : ℕ → Held → HistoryEvent → ℕ → AtomicFault → Type 0
-UnitFaultIs limit h event k fault = ChangedFaultIs limit (unit_at h.size k) (h.units k) event h.opened.loads fault
+UnitFaultIs limit h event k fault = ChangedFaultIs limit (unit_at h.size k) (h.words k) (h.units k) event h.opened.loads fault
 
 -- why n units from number k on have none
 abbrev pub ChangeFaultIs : ℕ → Held → HistoryEvent → ℕ → ℕ → AtomicFault → Type 0
@@ -95,7 +99,7 @@ ChangeFaultIs limit h event k n (Undecided address) = IsWideFrom limit h event k
 ChangeFaultIs limit h event k n OutOfMemory = Unit {0}
 
 -- what the units that an event touches have after it, if it is of the law
-pub record IsLeft (h : Held) (event : HistoryEvent) (found : List (List Branch)) : Type 0 where
+pub record IsLeft (h : Held) (event : HistoryEvent) (found : List Ways) : Type 0 where
   pub formed : form_fault h.opened event ≡ None
   pub left : first_stuck h event ≡ None
   pub ways : found ≡ (let p = covered h.opened event in ways_from h event (p.0 / h.size) (units_of h.size p.0 p.1))
@@ -116,7 +120,7 @@ pub record IsForgotten (h : Held) (number : ℕ) (next : Held) : Type 0 where
   pub rest : next.rest ≡ h.rest
   pub size : next.size ≡ h.size
   pub opened : next.opened ≡ h.opened
-  pub units : (k : ℕ) → next.units k ≡ (if number == k then [] else h.units k)
+  pub units : (k : ℕ) → next.units k ≡ (if number == k then no_ways else h.units k)
 
 -- what each fault of a step says of the event, over what is kept and over the history
 abbrev pub KeptFaultIs : ℕ → Held → HistoryEvent → AtomicFault → Type 0

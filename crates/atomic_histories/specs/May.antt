@@ -1,19 +1,22 @@
 -- What an open load may return: of each byte for itself.
-use Rattle.std.specs.Prelude.{ℕ, zero, suc, ◌≡◌, ◌+◌, ◌*◌, ◌/◌, ◌%◌, ◌<◌, ◌⊎◌, ◌↔◌, min, Bool, true, false, ◌&&◌, ◌||◌, if◌then◌else◌, ◌==◌, nat_lt, nat_le, List, [], ◌∷◌, length, get_or, Option, Some, None, slice_get}
-use Rattle.std.specs.List.{list_any, fold, find}
+use Rattle.std.specs.Prelude.{ℕ, zero, suc, ◌≡◌, ◌+◌, ◌*◌, ◌/◌, ◌%◌, ◌<◌, ◌⊎◌, ◌↔◌, min, Bool, true, false, ◌&&◌, ◌||◌, if◌then◌else◌, ◌==◌, nat_lt, nat_le, List, [], ◌∷◌, ◌++◌, length, get_or, Option, Some, None, slice_get}
+use Rattle.std.specs.List.{list_any, find}
 use Rattle.memory_histories.specs.declared.events.HistoryEvent.{HistoryEvent}
 use Rattle.memory_histories.specs.declared.events.HistoryFault.TheVariants.{NotOpen}
 use Rattle.memory_histories.specs.declared.events.Rest.{Rest}
 use Rattle.memory_histories.specs.declared.sets.ByteSet.{ByteSet}
-use Rattle.memory_histories.specs.Sets.{has, with_byte, no_bytes, all_bytes}
+use Rattle.memory_histories.specs.Sets.{has}
 use Rattle.atomic_histories.specs.declared.unit.Operation.{Operation}
 use Rattle.atomic_histories.specs.declared.unit.UnitPlace.{UnitPlace}
 use Rattle.atomic_histories.specs.declared.memory.AtomicFault.{AtomicFault}
 use Rattle.atomic_histories.specs.declared.memory.AtomicFault.TheVariants.{Refused, Undecided, OutOfMemory}
 use Rattle.atomic_histories.specs.Operations.{opened_by, has_number}
 use Rattle.atomic_histories.specs.Law.{OpenLoad, UnitMemory, MayBe, untouched, unit_at, is_load}
-use Rattle.atomic_histories.specs.Branches.{Watched, Branch, is_watched, never, next_after, rounds, are_too_many}
-use Rattle.atomic_histories.specs.Held.{Held, has_way, is_lost}
+use Rattle.atomic_histories.specs.declared.unit.WatchedLoad.{WatchedLoad}
+use Rattle.atomic_histories.specs.declared.search.TheConstants.{MOST_WORDS}
+use Rattle.atomic_histories.specs.Pasts.{shows}
+use Rattle.atomic_histories.specs.Followed.{Pair, Ways, never, next_after, rounds, are_too_many, has_way, is_under}
+use Rattle.atomic_histories.specs.Held.{Held, is_lost}
 
 -- In the law's words. ----
 
@@ -68,39 +71,35 @@ IsSetOf lost image rest size history number a (Some set) =
 
 -- On the ways that are followed. ----
 
-abbrev pub with_lane : ByteSet → Option ℕ → ByteSet
-with_lane set (Some b) = with_byte set b
-with_lane set None = all_bytes
+-- the pairs to which ways lead from these, once more stores have taken effect, in so many rounds
+abbrev pub reached_in : List WatchedLoad → ℕ → ℕ → List Pair → List Pair
+reached_in loads moment zero es = []
+reached_in loads moment (suc n) es = let next = next_after loads moment never es in next ++ reached_in loads moment n next
 
-abbrev pub with_words : ℕ → ByteSet → List (List (Option ℕ)) → ByteSet
-with_words k set words = fold (λ s w. with_lane s (lane_of k w)) set words
+abbrev pub reached : Ways → List Pair
+reached u = u.pairs ++ reached_in u.loads u.moment (rounds u.pairs) u.pairs
 
--- what a load may have got on a way
-abbrev pub with_load_bytes : ℕ → ℕ → Branch → ByteSet → Watched → ByteSet
-with_load_bytes number k e set l =
-    if is_watched number l then with_words k (with_lane set (lane_of k e.word)) l.words else set
+-- whether a load since a moment may have got a byte in a lane on one of the ways to a pair
+abbrev pub shows_byte : ℕ → ℕ → ℕ → Pair → Bool
+shows_byte since k b e = may_show (lane_of k e.word) b || shows (λ w. may_show (lane_of k w) b) since e.past
 
-abbrev pub with_way_bytes : ℕ → ℕ → ByteSet → Branch → ByteSet
-with_way_bytes number k set e = fold (with_load_bytes number k e) set e.loads
+-- on one of the ways to these pairs
+abbrev pub is_shown : Option WatchedLoad → ℕ → ℕ → List Pair → Bool
+is_shown None k b es = false
+is_shown (Some l) k b es = list_any (shows_byte l.since k b) es
 
-abbrev pub with_ways_bytes : ℕ → ℕ → ByteSet → List Branch → ByteSet
-with_ways_bytes number k set es = fold (with_way_bytes number k) set es
+-- a byte may be got in a lane: of a unit that was forgotten each may
+abbrev pub may_get : ℕ → ℕ → ℕ → Ways → Bool
+may_get number k b u = if has_way u then is_shown (find (is_under number) u.loads) k b (reached u) else true
 
--- and on those that stores lead to from these, one after the other
-abbrev pub reached_bytes : ℕ → ℕ → ℕ → ByteSet → List Branch → ByteSet
-reached_bytes number k zero set es = set
-reached_bytes number k (suc n) set es = let next = next_after never es in reached_bytes number k n (with_ways_bytes number k set next) next
+-- whether there are too many pairs among those that as many stores lead to
+abbrev pub is_reach_over : ℕ → List WatchedLoad → ℕ → ℕ → List Pair → Bool
+is_reach_over limit loads moment zero es = false
+is_reach_over limit loads moment (suc n) es =
+    let next = next_after loads moment never es in are_too_many limit next || is_reach_over limit loads moment n next
 
-abbrev pub byte_set : ℕ → ℕ → List Branch → ByteSet
-byte_set number k es = reached_bytes number k (rounds es) (with_ways_bytes number k no_bytes es) es
-
--- whether there are too many ways among those that as many stores lead to
-abbrev pub is_reach_over : ℕ → ℕ → List Branch → Bool
-is_reach_over limit zero es = false
-is_reach_over limit (suc n) es = let next = next_after never es in are_too_many limit next || is_reach_over limit n next
-
-abbrev pub is_reach_wide : ℕ → List Branch → Bool
-is_reach_wide limit es = is_reach_over limit (rounds es) es
+abbrev pub is_reach_wide : ℕ → ℕ → Ways → Bool
+is_reach_wide limit words u = nat_lt MOST_WORDS words || is_reach_over limit u.loads u.moment (rounds u.pairs) u.pairs
 
 -- All bytes of a load. ----
 
@@ -108,19 +107,25 @@ is_reach_wide limit es = is_reach_over limit (rounds es) es
 abbrev pub address_of : ℕ → ℕ → ℕ
 address_of a i = min (a + i) 18446744073709551615
 
-abbrev pub ways_set : ℕ → ℕ → List Branch → ByteSet
-ways_set number k es = if has_way es then byte_set number k es else all_bytes
+-- a set is that of what a load may get
+abbrev pub IsSet : (ℕ → Bool) → ByteSet → Type 0
+IsSet is set = (b : ℕ) → b < 256 → has set b ≡ is b
 
-abbrev pub set_at : Held → ℕ → ℕ → ByteSet
-set_at h number a = ways_set number (a % h.size) (h.units (a / h.size))
+abbrev pub may_get_at : Held → ℕ → ℕ → ℕ → Bool
+may_get_at h number a b = may_get number (a % h.size) b (h.units (a / h.size))
 
-abbrev pub sets_from : Held → ℕ → ℕ → ℕ → ℕ → List ByteSet
-sets_from h number a i zero = []
-sets_from h number a i (suc n) = set_at h number (address_of a i) ∷ sets_from h number a (i + 1) n
+-- the sets of n bytes from byte i on
+abbrev pub AreSetsFrom : Held → ℕ → ℕ → ℕ → ℕ → List ByteSet → Type 0
+AreSetsFrom h number a i zero [] = Unit {0}
+AreSetsFrom h number a i zero (set ∷ sets) = ⊥
+AreSetsFrom h number a i (suc n) [] = ⊥
+AreSetsFrom h number a i (suc n) (set ∷ sets) =
+    IsSet (may_get_at h number (address_of a i)) set × AreSetsFrom h number a (i + 1) n sets
 
 -- the ways lead to too many at the unit that begins at an address, in which byte a lies
 abbrev pub IsWideByte : ℕ → Held → ℕ → ℕ → Type 0
-IsWideByte limit h a address = (address ≡ a / h.size * h.size) × (is_reach_wide limit (h.units (a / h.size)) ≡ true)
+IsWideByte limit h a address =
+    (address ≡ a / h.size * h.size) × (is_reach_wide limit (h.words (a / h.size)) (h.units (a / h.size)) ≡ true)
 
 -- in which one of n bytes from a on lies
 abbrev pub IsWideLoad : ℕ → Held → ℕ → ℕ → ℕ → Type 0
@@ -139,10 +144,11 @@ IsNoVerdict IsWideAt (Undecided address) = IsWideAt address
 IsNoVerdict IsWideAt OutOfMemory = Unit {0}
 
 -- the set of the byte at an address, if the load that is open under this number asks for it
-abbrev pub byte_of : Held → ℕ → ℕ → Option ByteSet
-byte_of h number a = if asks (find (has_number number) h.opened.loads) a then Some (set_at h number a) else None
+abbrev pub IsByteOf : Held → ℕ → ℕ → Option ByteSet → Type 0
+IsByteOf h number a None = asks (find (has_number number) h.opened.loads) a ≡ false
+IsByteOf h number a (Some set) = (asks (find (has_number number) h.opened.loads) a ≡ true) × IsSet (may_get_at h number a) set
 
 -- the sets of the load that is open under this number
 abbrev pub HasSets : Held → ℕ → List ByteSet → Type 0
 HasSets h number sets =
-    (o : Operation) × (find (has_number number) h.opened.loads ≡ Some o) × (sets ≡ sets_from h number o.address 0 o.length)
+    (o : Operation) × (find (has_number number) h.opened.loads ≡ Some o) × AreSetsFrom h number o.address 0 o.length sets

@@ -1,30 +1,292 @@
-//! Events that are taken where a unit's way stands, with no search.
+//! Events that a unit takes where it stands, with no search.
 
-ghost use Rattle.std.specs.Prelude.{◌≡◌, ◌≢◌, IfOk, OnErr, nat_eq, ℕ, List, ◌∷◌, []};
+ghost use Rattle.std.specs.Prelude.{◌≡◌, ◌≢◌, ◌∷◌, [], true, false, length, slice_index_or, None, Some, IfOk, IfSome, OnErr, nat_eq, ℕ};
 ghost use Rattle.std.specs.HashMap.{get};
-ghost use Rattle.atomic_histories.specs.AtOnce.{IsAlone, IsUnitTaken};
-ghost use Rattle.atomic_histories.specs.Branches.{Branch, branches_after};
-ghost use Rattle.atomic_histories.specs.Judge.{kept_or, shown_unit};
-ghost use Rattle.atomic_histories.specs.Shown.{shown};
+ghost use Rattle.std.specs.List.{find};
+ghost use Rattle.atomic_histories.specs.declared.unit.OpenStore.{OpenStore};
+ghost use Rattle.atomic_histories.specs.declared.pairs.FollowedPair.{FollowedPair};
+ghost use Rattle.atomic_histories.specs.AtOnce.{IsUnitTaken};
+ghost use Rattle.atomic_histories.specs.Words.{is_word_of};
+ghost use Rattle.atomic_histories.specs.Pasts.{begins, cut_for, got, missed, oldest, overwritten};
+ghost use Rattle.atomic_histories.specs.Law.{done_store, may_answer_store};
+ghost use Rattle.atomic_histories.specs.Followed.{Ways, is_answer, is_under, loads_without, moment_with, answered_load, answered_store, ways_without_load, ways_without_store};
+ghost use Rattle.atomic_histories.specs.Judge.{kept_or, words_of};
+ghost use Rattle.atomic_histories.specs.Shown.{past_at, pasts, shown, shown_unit};
+ghost use Rattle.atomic_histories.specs.Taken.{IsUnitKept, IsTakenTo, IsNextWord};
 
-use crate::memory::KeptUnit;
-use crate::search::MOST_WORDS;
-use crate::unit::UnitPlace;
-use crate::ways::Way;
-use crate::words::{has_byte, is_at, stored_word};
+use crate::kept::KeptUnit;
+use crate::loads::{end_load, find_load, oldest_without};
+use crate::pairs::FollowedPair;
+use crate::stretches::{Before, Stretch, overwrite};
+use crate::unit::{OpenStore, UnitPlace, WatchedLoad, Word};
+use crate::words::{has_byte, is_at, is_word_of, stored_word, write};
 use memory_histories::HistoryEvent;
 use std::alloc::{AllocError, Global};
 use std::collections::HashMap;
 
-// The way takes an event, if it leads to one way alone. `false` says that a search is needed: the way is as it was.
-fn take_alone(
+// Whether a unit's ways have come to one pair, so that a search would follow one at a time, and there is room for the
+// word that it may overwrite.
+fn is_ready(unit: &KeptUnit, limit: usize) -> bool
+    ensures { result ≡ true → length unit.now.pairs.items ≡ 1 }
+{
+    limit != 0 && unit.pairs.len() == 1 && unit.stretches.len() < unit.room
+}
+
+// Whether a load's answer is that of a word.
+fn is_word_for(place: UnitPlace, load: &WatchedLoad, bytes: &[u8], word: &Word) -> bool
+    ensures { result ≡ is_word_of place.first word.now load.now.address bytes.now }
+{
+    is_word_of(place.first, word, load.address, bytes)
+}
+
+// Whether a load may have got its answer from a word that stood there before, on a past of words that stood there one
+// after the other. Then none of its ways is one on which it hasn't. None is looked for before a word that was overwritten
+// before the load's request: those were overwritten earlier still.
+fn has_stood(
+    place: UnitPlace,
+    load: &WatchedLoad,
+    bytes: &[u8],
+    stretches: &[Stretch],
+    past: Before,
+) -> bool
+    ensures got { result ≡ true → got (is_answer place load.now.address load.now.since bytes.now) (past_at (pasts stretches.now) past) ≡ Some (past_at (pasts stretches.now) past) }
+    ensures missed { result ≡ true → missed (is_answer place load.now.address load.now.since bytes.now) (past_at (pasts stretches.now) past) ≡ None }
+{
+    let mut before = past;
+    let mut end = stretches.len();
+    while let Before::Behind(i) = before {
+        if i >= end {
+            return false;
+        }
+        match stretches[i] {
+            Stretch::Overwritten {
+                word,
+                moment,
+                before: earlier,
+            } => {
+                if moment < load.since {
+                    return false;
+                }
+                if is_word_for(place, load, bytes, &word) {
+                    return true;
+                }
+                before = earlier;
+                end = i;
+            }
+            Stretch::Either { one: _, other: _ } => return false,
+        }
+    }
+    false
+}
+
+// Whether a load may have got its answer from the word of now, or from one before it, on each way to a pair.
+fn has_answer(
+    place: UnitPlace,
+    load: &WatchedLoad,
+    bytes: &[u8],
+    stretches: &[Stretch],
+    pair: &FollowedPair,
+) -> bool
+    ensures { result ≡ true → (u : Ways) → u.pairs ≡ shown stretches.now pair.now ∷ [] → answered_load place bytes.now (Some load.now) u ≡ u.pairs }
+{
+    is_word_for(place, load, bytes, &pair.word)
+        || has_stood(place, load, bytes, stretches, pair.past)
+}
+
+// What stood there before, once the word of now is overwritten: nothing that is asked for if no load is open.
+fn past_on(
+    stretches: &mut Vec<Stretch>,
+    loads: &[WatchedLoad],
+    moment: u64,
+    word: Word,
+    past: Before,
+) -> Result<Before, AllocError>
+    ensures past { IfOk result (λ b. past_at (pasts stretches.new.items) b ≡ overwritten loads.now moment word (past_at (pasts stretches.old.items) past)) }
+    ensures err { OnErr result (stretches.new.items ≡ stretches.old.items) }
+{
+    if loads.is_empty() {
+        return Ok(Before::Nothing);
+    }
+    overwrite(stretches, word, moment, past)
+}
+
+// The same behind a load's answer, where nothing stood there before: only a load that is left may ask for the word.
+// `None` is for a load that is left and was requested behind the last moment, which never comes.
+fn past_behind(
+    stretches: &mut Vec<Stretch>,
+    loads: &[WatchedLoad],
+    number: u64,
+    moment: u64,
+    word: Word,
+) -> Result<Option<Before>, AllocError>
+    ensures some { IfOk result (λ past. IfSome past (λ b. past_at (pasts stretches.new.items) b ≡ overwritten (loads_without number loads.now) moment word begins)) }
+    ensures cut { IfOk result (λ past. IfSome past (λ b. cut_for (oldest (loads_without number loads.now)) (overwritten (loads_without number loads.now) moment word begins) ≡ overwritten (loads_without number loads.now) moment word begins)) }
+    ensures none { IfOk result (λ past. past ≡ None → stretches.new.items ≡ stretches.old.items) }
+    ensures err { OnErr result (stretches.new.items ≡ stretches.old.items) }
+{
+    match oldest_without(loads, number) {
+        None => Ok(Some(Before::Nothing)),
+        Some(since) => {
+            if moment < since {
+                return Ok(None);
+            }
+            let past = overwrite(stretches, word, moment, Before::Nothing)?;
+            Ok(Some(past))
+        }
+    }
+}
+
+// The word that the one store of a pair makes, if it is an answer's, and neither was the word of now nor one before it.
+fn next_word(place: UnitPlace, pair: &FollowedPair, address: u64, bytes: &[u8]) -> Option<Word>
+    ensures { IfSome result (IsNextWord place address bytes.now pair.now) }
+{
+    if pair.past != Before::Nothing || pair.stores.len() != 1 || pair.stores[0].is_done {
+        return None;
+    }
+    if is_word_of(place.first, &pair.word, address, bytes) {
+        return None;
+    }
+    let mut word = pair.word;
+    write(&mut word, &pair.stores[0].bytes);
+    if is_word_of(place.first, &word, address, bytes) {
+        Some(word)
+    } else {
+        None
+    }
+}
+
+// The one store of a pair has taken effect.
+fn take_effect(pair: &mut FollowedPair, word: Word, past: Before)
+    requires { length pair.old.stores.items ≡ 1 }
+    ensures word { pair.new.word ≡ word }
+    ensures past { pair.new.past ≡ past }
+    ensures stores { (s : OpenStore) → pair.old.stores.items ≡ s ∷ [] → pair.new.stores.items ≡ done_store s ∷ [] }
+{
+    let store = pair.stores[0];
+    pair.stores[0] = OpenStore {
+        is_done: true,
+        ..store
+    };
+    pair.word = word;
+    pair.past = past;
+}
+
+impl KeptUnit {
+    // No load is open under this number from now on, and there is nothing that it alone may ask for.
+    fn drop_load(&mut self, number: u64)
+        ensures loads { self.new.loads.items ≡ loads_without number self.old.loads.items }
+        ensures moment { self.new.moment ≡ moment_with self.old.moment (loads_without number self.old.loads.items) }
+        ensures pairs { self.new.pairs ≡ self.old.pairs }
+        ensures stretches { self.new.stretches ≡ self.old.stretches }
+    {
+        end_load(&mut self.loads, number);
+        if self.loads.is_empty() {
+            self.moment = 0;
+        }
+    }
+
+    // A load is answered, if it may have got the word of now, or that which the one store makes.
+    fn answer_load_at_once(
+        &mut self,
+        alloc: Global,
+        place: UnitPlace,
+        number: u64,
+        bytes: &[u8],
+    ) -> Result<bool, AllocError>
+        requires { length self.old.pairs.items ≡ 1 }
+        ensures ok { IfOk result (IsTakenTo (ways_without_load number (shown_unit self.old) (answered_load place bytes.now (find (is_under number) (shown_unit self.old).loads) (shown_unit self.old))) self.old self.new) }
+        ensures err { OnErr result (IsUnitKept self.old self.new) }
+    {
+        match find_load(self.loads.as_slice(), number) {
+            None => Ok(false),
+            Some(load) => {
+                let stretches = self.stretches.as_slice();
+                if has_answer(place, &load, bytes, stretches, &self.pairs[0]) {
+                    self.close_load(alloc, number)?;
+                    return Ok(true);
+                }
+                self.answer_later_load(place, number, load, bytes)
+            }
+        }
+    }
+
+    // A load is answered, if it can't have got the word of now but may have got that which the one store makes.
+    fn answer_later_load(
+        &mut self,
+        place: UnitPlace,
+        number: u64,
+        load: WatchedLoad,
+        bytes: &[u8],
+    ) -> Result<bool, AllocError>
+        requires one { length self.old.pairs.items ≡ 1 }
+        requires load { find (is_under number) self.old.loads.items ≡ Some load }
+        ensures ok { IfOk result (IsTakenTo (ways_without_load number (shown_unit self.old) (answered_load place bytes.now (Some load) (shown_unit self.old))) self.old self.new) }
+        ensures err { OnErr result (IsUnitKept self.old self.new) }
+    {
+        let word = match next_word(place, &self.pairs[0], load.address, bytes) {
+            None => return Ok(false),
+            Some(word) => word,
+        };
+        let now = self.pairs[0].word;
+        let loads = self.loads.as_slice();
+        let past = match past_behind(&mut self.stretches, loads, number, self.moment, now)? {
+            None => return Ok(false),
+            Some(past) => past,
+        };
+        take_effect(&mut self.pairs[0], word, past);
+        self.drop_load(number);
+        Ok(true)
+    }
+
+    // A store is answered, if it has taken effect, or if it takes effect now and no other store is open.
+    fn answer_store_at_once(&mut self, number: u64) -> Result<bool, AllocError>
+        requires { length self.old.pairs.items ≡ 1 }
+        ensures ok { IfOk result (IsTakenTo (ways_without_store number (shown_unit self.old) (answered_store number (shown_unit self.old))) self.old self.new) }
+        ensures err { OnErr result (IsUnitKept self.old self.new) }
+    {
+        if self.pairs[0].has_effect(number) {
+            self.close_store(number);
+            return Ok(true);
+        }
+        if self.pairs[0].stores.len() != 1 {
+            return Ok(false);
+        }
+        self.answer_last_store(number)
+    }
+
+    // The one store is answered, which takes effect.
+    fn answer_last_store(&mut self, number: u64) -> Result<bool, AllocError>
+        requires one { length self.old.pairs.items ≡ 1 }
+        requires last { (d : FollowedPair) → length (slice_index_or self.old.pairs.items 0 d).stores.items ≡ 1 }
+        requires waits { (d : FollowedPair) → may_answer_store number (slice_index_or self.old.pairs.items 0 d).stores.items ≡ false }
+        ensures ok { IfOk result (IsTakenTo (ways_without_store number (shown_unit self.old) (answered_store number (shown_unit self.old))) self.old self.new) }
+        ensures err { OnErr result (IsUnitKept self.old self.new) }
+    {
+        let now = self.pairs[0].word;
+        let past = self.pairs[0].past;
+        let loads = self.loads.as_slice();
+        let past = past_on(&mut self.stretches, loads, self.moment, now, past)?;
+        let pair = &mut self.pairs[0];
+        let store = pair.stores[0];
+        write(&mut pair.word, &store.bytes);
+        pair.stores.clear();
+        pair.past = past;
+        Ok(true)
+    }
+}
+
+// The unit takes an event, if no search is needed for it. None would be stopped there, since it would follow one pair
+// at a time.
+pub(crate) fn take_at_once(
     alloc: Global,
     place: UnitPlace,
-    way: &mut Way,
+    unit: &mut KeptUnit,
     event: HistoryEvent,
+    limit: usize,
 ) -> Result<bool, AllocError>
-    ensures ok { IfOk result (λ taken. IsAlone (branches_after place (shown way.old ∷ []) event.entry) (shown way.old) (shown way.new) taken) }
-    ensures err { OnErr result (shown way.new ≡ shown way.old) }
+    ensures ok { IfOk result (λ taken. IsUnitTaken place event.entry (shown_unit unit.old) (shown_unit unit.new) taken) }
+    ensures same { IfOk result (λ taken. taken ≡ false → IsUnitKept unit.old unit.new) }
+    ensures err { OnErr result (IsUnitKept unit.old unit.new) }
 {
     match event {
         HistoryEvent::LoadRequest {
@@ -33,12 +295,15 @@ fn take_alone(
             length,
         } => {
             if is_at(place, address, length) {
-                way.open_load(alloc, number, address)?;
+                unit.request_load(number, address)?;
             }
             Ok(true)
         }
         HistoryEvent::LoadResponse { number, bytes } => {
-            way.answer_load(alloc, place, number, bytes)
+            if !is_ready(unit, limit) {
+                return Ok(false);
+            }
+            unit.answer_load_at_once(alloc, place, number, bytes)
         }
         HistoryEvent::StoreRequest {
             number,
@@ -48,30 +313,17 @@ fn take_alone(
         } => {
             let stored = stored_word(place, address, bytes, enables);
             if has_byte(stored) {
-                way.open_store(number, stored)?;
+                unit.request_store(number, stored)?;
             }
             Ok(true)
         }
-        HistoryEvent::StoreResponse { number } => way.answer_store(number),
+        HistoryEvent::StoreResponse { number } => {
+            if !is_ready(unit, limit) {
+                return Ok(false);
+            }
+            unit.answer_store_at_once(number)
+        }
     }
-}
-
-// The unit takes an event, if it has one way and that leads to one way alone. No search would be stopped there, since
-// it would follow one way at a time, and that with at most one word more before it.
-pub(crate) fn take_at_once(
-    alloc: Global,
-    place: UnitPlace,
-    unit: &mut KeptUnit,
-    event: HistoryEvent,
-    limit: usize,
-) -> Result<bool, AllocError>
-    ensures ok { IfOk result (λ taken. IsUnitTaken place event.entry (shown_unit unit.old) (shown_unit unit.new) taken) }
-    ensures err { OnErr result (shown_unit unit.new ≡ shown_unit unit.old) }
-{
-    if limit == 0 || unit.ways.len() != 1 || unit.ways[0].words_before() >= MOST_WORDS {
-        return Ok(false);
-    }
-    take_alone(alloc, place, &mut unit.ways[0], event)
 }
 
 // The unit of this number takes it, if it is kept.
@@ -83,9 +335,11 @@ pub(crate) fn take_at(
     event: HistoryEvent,
     limit: usize,
 ) -> Result<bool, AllocError>
-    ensures ok { IfOk result (λ taken. (first : List Branch) → IsUnitTaken place event.entry (kept_or (get nat_eq units.old number) first) (kept_or (get nat_eq units.new number) first) taken) }
+    ensures ok { IfOk result (λ taken. (first : Ways) → IsUnitTaken place event.entry (kept_or (get nat_eq units.old number) first) (kept_or (get nat_eq units.new number) first) taken) }
+    ensures same { IfOk result (λ taken. taken ≡ false → words_of (get nat_eq units.new number) ≡ words_of (get nat_eq units.old number)) }
     ensures others { (k : ℕ) → k ≢ number → get nat_eq units.new k ≡ get nat_eq units.old k }
-    ensures err { OnErr result ((first : List Branch) → kept_or (get nat_eq units.new number) first ≡ kept_or (get nat_eq units.old number) first) }
+    ensures err { OnErr result ((first : Ways) → kept_or (get nat_eq units.new number) first ≡ kept_or (get nat_eq units.old number) first) }
+    ensures err_words { OnErr result (words_of (get nat_eq units.new number) ≡ words_of (get nat_eq units.old number)) }
 {
     match units.get_mut(&number) {
         Some(unit) => take_at_once(alloc, place, unit, event, limit),

@@ -5,7 +5,9 @@
 ghost use Rattle.std.specs.Prelude.{ℕ, List};
 ghost use Rattle.memory_histories.specs.declared.events.HistoryEvent.{HistoryEvent};
 ghost use Rattle.memory_histories.specs.declared.events.Rest.{Rest};
+ghost use Rattle.atomic_histories.specs.Held.{Held};
 ghost use Rattle.atomic_histories.specs.MayLaws.{SetIsOfAnswers, SetsAreOfAnswers, UnitsChooseAlone};
+ghost use Rattle.atomic_histories.specs.Wide.{NoSetsAreMuch, UndecidedIsMuch};
 
 /// What [`may_return`](crate::AtomicMemory::may_return) tells is what the load may return if it ended now:
 /// a byte is in the set at a place exactly if there is an answer, of bytes, that has it there and that
@@ -26,4 +28,17 @@ pub fn set_is_of_answers()
 /// unit. Within a unit the bytes are of one word.
 pub fn units_choose_alone()
     ensures { (lost : List ℕ) (image : List ℕ) (rest : Rest) (size : ℕ) (history : List HistoryEvent) (number : ℕ) → UnitsChooseAlone lost image rest size history number }
+{}
+
+/// [`Undecided`](crate::AtomicFault::Undecided) says something of the history, whoever judges it. If
+/// [`step`](crate::AtomicMemory::step) answers so, then the unit may be in more states than the limit, each with another
+/// word or with other stores in effect, before the event that wasn't taken; or more words are kept there than
+/// [`MOST_WORDS`](crate::MOST_WORDS).
+pub fn undecided_is_much()
+    ensures { (limit : ℕ) (h : Held) (lost : List ℕ) (history : List HistoryEvent) (event : HistoryEvent) (address : ℕ) → UndecidedIsMuch limit h lost history event address }
+{}
+
+/// So it does where there are no sets of what a load [`may_return`](crate::AtomicMemory::may_return).
+pub fn no_sets_are_much()
+    ensures { (limit : ℕ) (h : Held) (lost : List ℕ) (history : List HistoryEvent) (a n address : ℕ) → NoSetsAreMuch limit h lost history a n address }
 {}

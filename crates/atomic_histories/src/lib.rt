@@ -4,22 +4,30 @@
 //! operations take effect, come between the events.
 #![tactic(auto)]
 
+mod answers;
 mod at_once;
 mod faults;
 mod followed;
 mod forms;
 mod hopes;
+mod kept;
 pub mod laws;
 mod loads;
 mod may;
 mod memory;
+mod moves;
+mod pairs;
 mod search;
+mod shown_bytes;
+mod splits;
+mod stretches;
 mod unit;
 mod units;
-mod ways;
 mod words;
 
-pub use memory::{AtomicFault, AtomicMemory, DEFAULT_LIMIT, KeptUnit, UnitSize};
+pub use kept::KeptUnit;
+pub use memory::{AtomicFault, AtomicMemory, DEFAULT_LIMIT, UnitSize};
+pub use pairs::{FollowedPair, Wanted};
 pub use search::{MOST_WORDS, Stop};
+pub use stretches::{Before, Stretch};
 pub use unit::{OpenStore, Operation, UnitPlace, WatchedLoad, Word};
-pub use ways::{Wanted, Way};

@@ -1,126 +1,87 @@
 //! What an open load may return, on the ways that a unit may have gone.
 
-ghost use Rattle.std.specs.Prelude.{◌≡◌, ◌<◌, [], get_or, None, length, nat_lt, IfOk, IfErr};
-ghost use Rattle.std.specs.List.{fold};
+ghost use Rattle.std.specs.Prelude.{◌≡◌, ◌<◌, Some, IfOk, IfErr};
 ghost use Rattle.memory_histories.specs.Sets.{no_bytes};
-ghost use Rattle.atomic_histories.specs.Branches.{never, next_after, rounds};
-ghost use Rattle.atomic_histories.specs.May.{with_lane, with_words, with_load_bytes, with_way_bytes, with_ways_bytes, reached_bytes, byte_set, is_reach_over, is_reach_wide, ways_set, lane_of};
-ghost use Rattle.atomic_histories.specs.Shown.{shown_load, shown, shown_all, StopIs};
+ghost use Rattle.atomic_histories.specs.Followed.{rounds};
+ghost use Rattle.atomic_histories.specs.MaySets.{with_pair_bytes, with_pairs_bytes};
+ghost use Rattle.atomic_histories.specs.May.{IsSet, is_shown, may_get, reached, is_reach_over, is_reach_wide};
+ghost use Rattle.atomic_histories.specs.Shown.{shown_unit, words_in, StopIs};
 
-use crate::followed::Followed;
-use crate::loads::is_watched;
-use crate::search::{Stop, are_too_many, copied, round, rounds};
-use crate::unit::{WatchedLoad, Word};
-use crate::ways::{Wanted, Way};
+use crate::kept::KeptUnit;
+use crate::loads::find_load;
+use crate::pairs::FollowedPair;
+use crate::search::{Asked, Stop, reached};
+use crate::shown_bytes::{set_of, stretch_sets, with_lane};
+use crate::unit::WatchedLoad;
 use memory_histories::ByteSet;
-use std::alloc::{AllocError, Global};
+use std::alloc::Global;
 
-// The set with this byte, or with all if nothing is known of it.
-fn with_lane(set: ByteSet, byte: Option<u8>) -> ByteSet
-    ensures { result ≡ with_lane set byte }
-{
-    match byte {
-        Some(byte) => set.with(byte),
-        None => ByteSet::all(),
-    }
-}
-
-// The set with what these words have in a lane.
-fn with_words(set: ByteSet, words: &[Word], lane: usize) -> ByteSet
+// The set with what a load may have got in a lane on the ways to a pair.
+fn with_pair(set: ByteSet, pair: &FollowedPair, sets: &[ByteSet], lane: usize) -> ByteSet
     requires { lane < 8 }
-    ensures { result ≡ with_words lane set words.now }
+    ensures { result ≡ with_pair_bytes lane sets.now set pair.now }
 {
-    words
-        .iter()
-        .fold(set, |set, word| with_lane(set, word[lane]))
+    with_lane(set.union(set_of(sets, pair.past)), pair.word[lane])
 }
 
-// The set with what a load may have got on a way.
-fn with_load(set: ByteSet, way: &Way, load: &WatchedLoad, number: u64, lane: usize) -> ByteSet
+// On the ways to one of these pairs.
+fn with_pairs(pairs: &[FollowedPair], sets: &[ByteSet], lane: usize) -> ByteSet
     requires { lane < 8 }
-    ensures { result ≡ with_load_bytes number lane (shown way.now) set (shown_load load.now) }
+    ensures { result ≡ with_pairs_bytes lane sets.now no_bytes pairs.now }
 {
-    if is_watched(load, number) {
-        let set = with_lane(set, way.word[lane]);
-        with_words(set, load.before.as_slice(), lane)
-    } else {
-        set
-    }
+    pairs.iter().fold(ByteSet::none(), |set, pair| {
+        with_pair(set, pair, sets, lane)
+    })
 }
 
-// The set with what the load under this number may have got on a way.
-#[tactic(auto, using(crate::proofs::Watching::fold_loads))]
-fn with_way(set: ByteSet, way: &Way, number: u64, lane: usize) -> ByteSet
-    requires { lane < 8 }
-    ensures { result ≡ with_way_bytes number lane set (shown way.now) }
-{
-    way.loads
-        .iter()
-        .fold(set, |set, load| with_load(set, way, load, number, lane))
-}
-
-// On one of these ways.
-#[tactic(auto, using(crate::proofs::Loops::fold_shown))]
-fn with_ways(set: ByteSet, ways: &[Way], number: u64, lane: usize) -> ByteSet
-    requires { lane < 8 }
-    ensures { result ≡ with_ways_bytes number lane set (shown_all ways.now) }
-{
-    ways.iter()
-        .fold(set, |set, way| with_way(set, way, number, lane))
-}
-
-// The ways that one more store leads to from these.
-fn ways_on(alloc: Global, ways: &[Way]) -> Result<Vec<Way>, AllocError>
-    ensures { IfOk result (λ next. shown_all next.items ≡ next_after never (shown_all ways.now)) }
-{
-    let mut out = Followed::new(alloc);
-    round(alloc, ways, Wanted::Never, &mut out)
-}
-
-// What the load under this number may get in a lane, on these ways and on those that stores lead to: not
-// too many ways are followed at a time.
-#[tactic(auto, using(crate::proofs::Loops::reach_stop, crate::proofs::Loops::reach_go, crate::proofs::Loops::bytes_go))]
-fn byte_set(
+// What an open load may get in a lane, on these ways and on those that stores lead to: not too many pairs are followed
+// at a time.
+#[tactic(auto, using(crate::proofs::ShownBytes::pairs_shown))]
+fn load_set(
     alloc: Global,
-    ways: &[Way],
+    kept: &KeptUnit,
+    load: WatchedLoad,
+    lane: usize,
+    limit: usize,
+) -> Result<ByteSet, Stop>
+    requires { lane < 8 }
+    ensures set { IfOk result (IsSet (λ b. is_shown (Some load) lane b (reached (shown_unit kept.now)))) }
+    ensures stop { IfErr result (StopIs (is_reach_over limit (shown_unit kept.now).loads (shown_unit kept.now).moment (rounds (shown_unit kept.now).pairs) (shown_unit kept.now).pairs)) }
+{
+    let mut unit = kept.copied(alloc)?;
+    let asked = Asked {
+        loads: unit.loads.as_slice(),
+        moment: unit.moment,
+    };
+    let pairs = reached(
+        alloc,
+        &mut unit.stretches,
+        asked,
+        unit.pairs.as_slice(),
+        limit,
+    )?;
+    let sets = stretch_sets(alloc, unit.stretches.as_slice(), load.since, lane)?;
+    Ok(with_pairs(pairs.as_slice(), sets.as_slice(), lane))
+}
+
+// The same of the load under a number, at a unit that may be forgotten.
+#[tactic(auto, using(crate::proofs::MaySteps::forgotten_set, crate::proofs::MaySteps::unknown_set, crate::proofs::MaySteps::known_set, crate::proofs::MaySteps::reach_wide))]
+pub(crate) fn unit_set(
+    alloc: Global,
+    kept: &KeptUnit,
     number: u64,
     lane: usize,
     limit: usize,
 ) -> Result<ByteSet, Stop>
     requires { lane < 8 }
-    ensures set { IfOk result (λ set. set ≡ byte_set number lane (shown_all ways.now)) }
-    ensures stop { IfErr result (StopIs (is_reach_wide limit (shown_all ways.now))) }
+    ensures set { IfOk result (IsSet (λ b. may_get number lane b (shown_unit kept.now))) }
+    ensures stop { IfErr result (StopIs (is_reach_wide limit (words_in kept.now.stretches.items) (shown_unit kept.now))) }
 {
-    let mut set = with_ways(ByteSet::none(), ways, number, lane);
-    let mut left = rounds(ways);
-    let mut frontier = copied(alloc, ways)?;
-    while left > 0 {
-        let next = ways_on(alloc, frontier.as_slice())?;
-        if are_too_many(alloc, next.as_slice(), limit)? {
-            return Err(Stop::TooManyWays);
-        }
-        set = with_ways(set, next.as_slice(), number, lane);
-        frontier = next;
-        left -= 1;
-    }
-    Ok(set)
-}
-
-// The same of a unit, which may be forgotten.
-#[tactic(auto, using(crate::proofs::Ranges::way_shown))]
-pub(crate) fn ways_set(
-    alloc: Global,
-    ways: &[Way],
-    number: u64,
-    lane: usize,
-    limit: usize,
-) -> Result<ByteSet, Stop>
-    requires { lane < 8 }
-    ensures set { IfOk result (λ set. set ≡ ways_set number lane (shown_all ways.now)) }
-    ensures stop { IfErr result (StopIs (is_reach_wide limit (shown_all ways.now))) }
-{
-    if ways.is_empty() {
+    if kept.pairs.is_empty() {
         return Ok(ByteSet::all());
     }
-    byte_set(alloc, ways, number, lane, limit)
+    match find_load(kept.loads.as_slice(), number) {
+        None => Ok(ByteSet::none()),
+        Some(load) => load_set(alloc, kept, load, lane, limit),
+    }
 }

@@ -9,19 +9,20 @@ ghost use Rattle.atomic_histories.specs.Operations.{opened_after, form_fault, ha
 ghost use Rattle.atomic_histories.specs.Law.{IsAtomic, unit_at};
 ghost use Rattle.atomic_histories.specs.AtOnce.{AreTaken, AreTakenOrSame};
 ghost use Rattle.atomic_histories.specs.Lost.{IsAtomicBut};
-ghost use Rattle.atomic_histories.specs.Held.{nothing_held, covered, ways_after, ways_from, is_stuck, stuck_from, StandsForAll, StandsBut};
-ghost use Rattle.atomic_histories.specs.May.{asks, AreSetsOf, IsSetOf, HasSets, byte_of, address_of, LoadFaultIs, IsNoVerdict, IsWideByte, IsWideLoad, set_at, sets_from};
-ghost use Rattle.atomic_histories.specs.Judge.{bytes_of, fault_of, held, limit_of, shown_unit, HasSameMemory, IsTaken, IsForgotten, IsLeft, UnitFaultIs, ChangeFaultIs, KeptFaultIs, StepFaultIs, StepFaultIsBut};
+ghost use Rattle.atomic_histories.specs.Held.{nothing_held, covered, changed, ways_from, is_stuck, stuck_from, StandsForAll, StandsBut};
+ghost use Rattle.atomic_histories.specs.May.{asks, AreSetsOf, IsSetOf, HasSets, IsByteOf, IsSet, may_get_at, AreSetsFrom, address_of, LoadFaultIs, IsNoVerdict, IsWideByte, IsWideLoad};
+ghost use Rattle.atomic_histories.specs.Judge.{bytes_of, fault_of, held, limit_of, HasSameMemory, IsTaken, IsForgotten, IsLeft, UnitFaultIs, ChangeFaultIs, KeptFaultIs, StepFaultIs, StepFaultIsBut};
+ghost use Rattle.atomic_histories.specs.Shown.{shown_unit};
 
 use crate::at_once::take_at;
 use crate::forms::{close, form_fault, open_under};
-use crate::may::ways_set;
+use crate::kept::KeptUnit;
+use crate::may::unit_set;
 use crate::search::Stop;
 use crate::unit::{Operation, UnitPlace};
 use crate::units::{
     add_unit, changed_unit, covered, put_unit, put_units, units_of, untouched_unit,
 };
-use crate::ways::Way;
 use memory_histories::{ByteSet, HistoryEvent, HistoryFault, Rest};
 use std::alloc::{AllocError, Global};
 use std::collections::HashMap;
@@ -53,20 +54,14 @@ impl UnitSize {
     }
 }
 
-/// The ways that a unit may have gone which an operation has touched: none once it was forgotten.
-#[derive(Drop)]
-pub struct KeptUnit {
-    pub(crate) ways: Vec<Way>,
-}
-
 /// Why an event was not taken. After each of these what is kept stands for the same histories as before.
 #[derive(Clone, Copy, PartialEq, Eq, Debug)]
 pub enum AtomicFault {
     /// The history with this event is none of the law.
     Refused(HistoryFault),
     /// Too many ways would have to be followed at the unit that begins at this address: there is no
-    /// verdict. They would come to more pairs of a word and the stores in effect than the limit, or have
-    /// more words before now than [`MOST_WORDS`](crate::MOST_WORDS).
+    /// verdict. They would come to more pairs of a word and the stores in effect than the limit, or more
+    /// words are kept of what stood there before than [`MOST_WORDS`](crate::MOST_WORDS).
     Undecided { address: u64 },
     /// There was too little memory.
     OutOfMemory,
@@ -208,7 +203,7 @@ impl AtomicMemory {
     }
 
     fn kept_byte(&self, number: u64, address: u64) -> Result<Option<ByteSet>, AtomicFault>
-        ensures ok { IfOk result (λ set. set ≡ byte_of (held self.now) number address) }
+        ensures ok { IfOk result (IsByteOf (held self.now) number address) }
         ensures fault { IfErr result (IsNoVerdict (IsWideByte (limit_of self.now) (held self.now) address)) }
     {
         if !asks(open_under(self.loads.as_slice(), number), address) {
@@ -229,14 +224,14 @@ impl AtomicMemory {
     }
 
     // What the load under this number may return, of so many bytes from an address on.
-    #[tactic(auto, using(crate::proofs::Ranges::sets_more))]
+    #[tactic(auto, using(crate::proofs::MaySteps::one_set_more))]
     fn sets_from(
         &self,
         number: u64,
         address: u64,
         length: usize,
     ) -> Result<Vec<ByteSet>, AtomicFault>
-        ensures sets { IfOk result (λ sets. sets.items ≡ sets_from (held self.now) number address 0 length) }
+        ensures sets { IfOk result (λ sets. AreSetsFrom (held self.now) number address 0 length sets.items) }
         ensures fault { IfErr result (IsNoVerdict (IsWideLoad (limit_of self.now) (held self.now) address length)) }
     {
         let mut sets = Vec::new(self.alloc);
@@ -248,16 +243,16 @@ impl AtomicMemory {
     }
 
     // Of the byte at an address.
-    #[tactic(auto, using(crate::proofs::Ranges::lane_below, crate::proofs::Ranges::untouched_set, crate::proofs::Ranges::stopped_set))]
+    #[tactic(auto, using(crate::proofs::MaySteps::lane_below, crate::proofs::MaySteps::untouched_set, crate::proofs::MaySteps::stopped_set))]
     fn set_at(&self, number: u64, address: u64) -> Result<ByteSet, AtomicFault>
-        ensures set { IfOk result (λ set. set ≡ set_at (held self.now) number address) }
+        ensures set { IfOk result (IsSet (may_get_at (held self.now) number address)) }
         ensures fault { IfErr result (IsNoVerdict (IsWideByte (limit_of self.now) (held self.now) address)) }
     {
         let place = address % self.size.bytes();
         let lane = place as usize;
         match self.units.get(&(address / self.size.bytes())) {
             Some(unit) => {
-                match ways_set(self.alloc, unit.ways.as_slice(), number, lane, self.limit) {
+                match unit_set(self.alloc, unit, number, lane, self.limit) {
                     Ok(set) => Ok(set),
                     Err(stop) => Err(fault_of(stop, address.saturating_sub(place))),
                 }
@@ -287,8 +282,7 @@ impl AtomicMemory {
         ensures limit { limit_of self.new ≡ limit_of self.old }
     {
         self.reserve(1)?;
-        let ways = Vec::new(self.alloc);
-        put_unit(&mut self.units, number, KeptUnit { ways });
+        put_unit(&mut self.units, number, KeptUnit::forgotten(self.alloc));
         Ok(())
     }
 
@@ -335,7 +329,7 @@ impl AtomicMemory {
         self.stores.reserve(1)
     }
 
-    // The one unit that an event touches takes it where its way stands, if it can.
+    // The one unit that an event touches takes it where it stands, if it can.
     #[tactic(auto, using(crate::proofs::AtOnce::number_fits, crate::proofs::Ranges::sized))]
     fn takes_at_once(&mut self, event: HistoryEvent) -> Result<bool, AllocError>
         ensures ok { IfOk result (λ taken. AreTakenOrSame (held self.old) event.entry (held self.new) taken) }
@@ -377,7 +371,7 @@ impl AtomicMemory {
     }
 
     // There is room for so many more units.
-    #[tactic(auto, using(crate::proofs::Ranges::same_units))]
+    #[tactic(auto, using(crate::proofs::Ranges::same_units, crate::proofs::Ranges::same_words))]
     fn reserve(&mut self, count: usize) -> Result<(), AllocError>
         ensures held { held self.new ≡ held self.old }
         ensures room { OnOk result (count ≤ spare self.new.units) }
@@ -443,7 +437,7 @@ impl AtomicMemory {
     // The ways of one unit, once an event has come.
     fn changed(&self, event: HistoryEvent, number: u64) -> Result<KeptUnit, AtomicFault>
         requires fits { number * bytes_of self.now.size < 2 ^ 64 }
-        ensures unit { IfOk result (λ u. shown_unit u ≡ ways_after (held self.now) event.entry number) }
+        ensures unit { IfOk result (λ u. shown_unit u ≡ changed (held self.now) event.entry number) }
         ensures left { OnOk result (is_stuck (held self.now) event.entry number ≡ false) }
         ensures fault { IfErr result (UnitFaultIs (limit_of self.now) (held self.now) event.entry number) }
     {
@@ -473,7 +467,7 @@ impl AtomicMemory {
     fn open_or_close(&mut self, event: HistoryEvent)
         requires loads { vec_len self.old.loads < vec_capacity self.old.loads }
         requires stores { vec_len self.old.stores < vec_capacity self.old.stores }
-        ensures held { held self.new ≡ record { image = (held self.old).image; rest = (held self.old).rest; size = (held self.old).size; opened = opened_after (held self.old).opened event.entry; units = (held self.old).units } }
+        ensures held { held self.new ≡ record { image = (held self.old).image; rest = (held self.old).rest; size = (held self.old).size; opened = opened_after (held self.old).opened event.entry; units = (held self.old).units; words = (held self.old).words } }
         ensures limit { limit_of self.new ≡ limit_of self.old }
     {
         match event {

@@ -1,28 +1,29 @@
-//! Lists of the ways that a unit may have gone, and what events make of them.
+//! The search for pairs on which an answer's goal is met.
 
-ghost use Rattle.std.specs.Prelude.{◌≡◌, ◌+◌, ◌<◌, if◌then◌else◌, [], suc, map, take, drop, length, slice_index_or, IfOk, IfErr, OnOk};
+ghost use Rattle.std.specs.Prelude.{◌≡◌, ◌+◌, ◌<◌, ◌++◌, ◌||◌, [], ◌∷◌, List, length, take, drop, slice_index_or, IfOk, IfErr, OnOk};
 ghost use Rattle.std.specs.List.{filter};
 ghost use Rattle.atomic_histories.specs.declared.unit.OpenStore.{OpenStore};
-ghost use Rattle.atomic_histories.specs.Branches.{with_branch, with_hopeful, effect_of, out_of, next_of, has_more_words, are_too_many, with_branches, effects, out_after, next_after, met, rounds, answered, needs_more, is_too_wide, branch_with_load, branch_with_store, branches_after};
+ghost use Rattle.atomic_histories.specs.declared.stretches.Stretch.{Stretch};
+ghost use Rattle.atomic_histories.specs.Pasts.{overwritten as overwritten_past};
+ghost use Rattle.atomic_histories.specs.Followed.{pair_after, cons_effect, effects, effects_from, with_pairs, out_of, next_of, out_after, next_after, rounds, found as found_pairs, are_too_many, needs_more, never};
+ghost use Rattle.atomic_histories.specs.May.{reached_in, is_reach_over};
 ghost use Rattle.atomic_histories.specs.Marks.{IsFollowed};
-ghost use Rattle.atomic_histories.specs.Shown.{shown, shown_all, aim_of, goal_of, without_of, StopIs};
+ghost use Rattle.atomic_histories.specs.Shown.{past_at, pasts, shown, shown_all, IsIn, AreIn, Grows, aim_of, StopIs};
 
-use crate::followed::{Followed, pairs};
-use crate::unit::{UnitPlace, Word};
-use crate::ways::{Wanted, Way};
-use crate::words::{has_byte, is_at, stored_word};
-use memory_histories::HistoryEvent;
+use crate::followed::Followed;
+use crate::pairs::{FollowedPair, Wanted};
+use crate::stretches::{Before, Stretch, overwrite};
+use crate::unit::WatchedLoad;
 use std::alloc::{AllocError, Global};
 
-/// How many words before the one of now are followed at a time, on all ways that a unit may have gone
-/// together. Of each way those count that the open load with the most of them may have got.
+/// How many words are kept at a unit of what stood there since the request of the oldest load that is open.
 pub const MOST_WORDS: usize = 65_536;
 
 /// Why there is no verdict.
 #[derive(Clone, Copy, PartialEq, Eq, Debug)]
 pub enum Stop {
     /// More pairs of a word and the stores in effect would have to be followed than the limit allows, or
-    /// more words before now than [`MOST_WORDS`].
+    /// more words are kept than [`MOST_WORDS`].
     TooManyWays,
     /// There was too little memory.
     NoMemory,
@@ -39,261 +40,270 @@ impl From<AllocError> for Stop {
     }
 }
 
-// The way on from this one on which store `i` takes effect is followed, unless it has taken effect, or no more
-// stores could make the way what is wanted.
+// The loads that are open while stores take effect, and the moment.
+#[derive(Clone, Copy)]
+pub(crate) struct Asked<'a> {
+    pub(crate) loads: &'a [WatchedLoad],
+    pub(crate) moment: u64,
+}
+
+// The word of a pair is overwritten: what stood there before, once one more of its stores has taken effect.
+fn overwritten(
+    stretches: &mut Vec<Stretch>,
+    asked: Asked,
+    pair: &FollowedPair,
+) -> Result<Before, AllocError>
+    ensures past { IfOk result (λ b. past_at (pasts stretches.new.items) b ≡ overwritten_past asked.entry.loads.now asked.entry.moment pair.now.word (past_at (pasts stretches.old.items) pair.now.past)) }
+    ensures is_in { IfOk result (λ b. IsIn stretches.new.items b) }
+    ensures grows { OnOk result (Grows stretches.old.items stretches.new.items) }
+{
+    if asked.loads.is_empty() {
+        return Ok(Before::Nothing);
+    }
+    overwrite(stretches, pair.word, asked.moment, pair.past)
+}
+
+// The pair to which the ways go on from this one when store `i` takes effect is followed, unless it has taken effect, or no
+// more stores could make the pair what is wanted.
 fn add_effect(
     alloc: Global,
-    ways: &mut Followed,
-    way: &Way,
+    stretches: &mut Vec<Stretch>,
+    next: &mut Followed,
+    pair: &FollowedPair,
+    past: Before,
     i: usize,
     wanted: Wanted,
 ) -> Result<(), AllocError>
-    requires place { i < length way.now.stores.items }
-    requires followed { IsFollowed ways.old }
-    ensures ways { OnOk result ((d : OpenStore) → shown_all ways.new.ways.items ≡ (if (slice_index_or way.now.stores.items i d).is_done then shown_all ways.old.ways.items else with_hopeful (aim_of wanted.entry).hope (shown_all ways.old.ways.items) (effect_of (shown way.now) (take i way.now.stores.items) (slice_index_or way.now.stores.items i d) (drop (i + 1) way.now.stores.items)))) }
-    ensures followed { OnOk result (IsFollowed ways.new) }
+    requires place { i < length pair.now.stores.items }
+    requires followed { IsFollowed next.old }
+    requires pairs { AreIn stretches.old.items next.old.pairs.items }
+    requires past { IsIn stretches.old.items past }
+    ensures pairs { OnOk result ((d : OpenStore) → shown_all stretches.new.items next.new.pairs.items ≡ with_pairs (shown_all stretches.old.items next.old.pairs.items) (filter (aim_of wanted.entry).hope (cons_effect (slice_index_or pair.now.stores.items i d).is_done (pair_after (past_at (pasts stretches.old.items) past) (shown stretches.old.items pair.now) (take i pair.now.stores.items) (slice_index_or pair.now.stores.items i d) (drop (i + 1) pair.now.stores.items)) []))) }
+    ensures are_in { OnOk result (AreIn stretches.new.items next.new.pairs.items) }
+    ensures grows { OnOk result (Grows stretches.old.items stretches.new.items) }
+    ensures followed { OnOk result (IsFollowed next.new) }
 {
-    let store = way.stores[i];
+    let store = pair.stores[i];
     if store.is_done {
         return Ok(());
     }
-    let on = way.effect(alloc, i)?;
+    let on = pair.after(alloc, i, past)?;
     if on.hopes(wanted) {
-        ways.add(on)?;
+        next.add(stretches, on)?;
     }
     Ok(())
 }
 
-// The ways on from this one: one more of its stores takes effect.
-fn add_effects(
+// The same for each of its stores.
+fn add_effects_after(
     alloc: Global,
-    ways: &mut Followed,
-    way: &Way,
+    stretches: &mut Vec<Stretch>,
+    next: &mut Followed,
+    pair: &FollowedPair,
+    past: Before,
     wanted: Wanted,
 ) -> Result<(), AllocError>
-    requires { IsFollowed ways.old }
-    ensures ways { OnOk result (shown_all ways.new.ways.items ≡ with_branches (shown_all ways.old.ways.items) (filter (aim_of wanted.entry).hope (effects (shown way.now)))) }
-    ensures followed { OnOk result (IsFollowed ways.new) }
+    requires followed { IsFollowed next.old }
+    requires pairs { AreIn stretches.old.items next.old.pairs.items }
+    requires past { IsIn stretches.old.items past }
+    ensures pairs { OnOk result (shown_all stretches.new.items next.new.pairs.items ≡ with_pairs (shown_all stretches.old.items next.old.pairs.items) (filter (aim_of wanted.entry).hope (effects_from (past_at (pasts stretches.old.items) past) (shown stretches.old.items pair.now) [] pair.now.stores.items))) }
+    ensures are_in { OnOk result (AreIn stretches.new.items next.new.pairs.items) }
+    ensures grows { OnOk result (Grows stretches.old.items stretches.new.items) }
+    ensures followed { OnOk result (IsFollowed next.new) }
 {
-    for i in 0..way.stores.len() {
-        add_effect(alloc, ways, way, i, wanted)?;
+    for i in 0..pair.stores.len() {
+        add_effect(alloc, stretches, next, pair, past, i, wanted)?;
     }
     Ok(())
 }
 
-// A way that is wanted is put out, and from another stores take effect.
+// The pairs to which the ways go on from this one: one more of its stores takes effect. Its word is overwritten once for
+// all of them.
+fn add_effects(
+    alloc: Global,
+    stretches: &mut Vec<Stretch>,
+    asked: Asked,
+    next: &mut Followed,
+    pair: &FollowedPair,
+    wanted: Wanted,
+) -> Result<(), AllocError>
+    requires pair { IsIn stretches.old.items pair.now.past }
+    requires followed { IsFollowed next.old }
+    requires pairs { AreIn stretches.old.items next.old.pairs.items }
+    ensures pairs { OnOk result (shown_all stretches.new.items next.new.pairs.items ≡ with_pairs (shown_all stretches.old.items next.old.pairs.items) (filter (aim_of wanted.entry).hope (effects asked.entry.loads.now asked.entry.moment (shown stretches.old.items pair.now)))) }
+    ensures are_in { OnOk result (AreIn stretches.new.items next.new.pairs.items) }
+    ensures grows { OnOk result (Grows stretches.old.items stretches.new.items) }
+    ensures followed { OnOk result (IsFollowed next.new) }
+{
+    if pair.is_done() {
+        return Ok(());
+    }
+    let past = overwritten(stretches, asked, pair)?;
+    add_effects_after(alloc, stretches, next, pair, past, wanted)
+}
+
+// A pair that is wanted is put out, and from another stores take effect.
 fn follow(
     alloc: Global,
-    way: &Way,
+    stretches: &mut Vec<Stretch>,
+    asked: Asked,
+    pair: FollowedPair,
     wanted: Wanted,
     out: &mut Followed,
     next: &mut Followed,
 ) -> Result<(), AllocError>
-    requires out { IsFollowed out.old }
-    requires next { IsFollowed next.old }
-    ensures out { OnOk result (shown_all out.new.ways.items ≡ out_of (goal_of wanted.entry) (shown_all out.old.ways.items) (shown way.now)) }
-    ensures next { OnOk result (shown_all next.new.ways.items ≡ next_of (aim_of wanted.entry) (shown_all next.old.ways.items) (shown way.now)) }
+    requires pair { IsIn stretches.old.items pair.past }
+    requires out_followed { IsFollowed out.old }
+    requires next_followed { IsFollowed next.old }
+    requires out_in { AreIn stretches.old.items out.old.pairs.items }
+    requires next_in { AreIn stretches.old.items next.old.pairs.items }
+    ensures out { OnOk result (shown_all stretches.new.items out.new.pairs.items ≡ out_of (aim_of wanted.entry).goal (shown_all stretches.old.items out.old.pairs.items) (shown stretches.old.items pair)) }
+    ensures next { OnOk result (shown_all stretches.new.items next.new.pairs.items ≡ next_of asked.entry.loads.now asked.entry.moment (aim_of wanted.entry) (shown_all stretches.old.items next.old.pairs.items) (shown stretches.old.items pair)) }
+    ensures out_in { OnOk result (AreIn stretches.new.items out.new.pairs.items) }
+    ensures next_in { OnOk result (AreIn stretches.new.items next.new.pairs.items) }
+    ensures grows { OnOk result (Grows stretches.old.items stretches.new.items) }
     ensures out_followed { OnOk result (IsFollowed out.new) }
     ensures next_followed { OnOk result (IsFollowed next.new) }
 {
-    if way.meets(wanted) {
-        let found = way.copy(alloc)?;
-        out.add(found)?;
+    if pair.meets(wanted) {
+        out.add(stretches, pair)?;
         return Ok(());
     }
-    add_effects(alloc, next, way, wanted)?;
+    add_effects(alloc, stretches, asked, next, &pair, wanted)?;
     Ok(())
 }
 
-// One round of the search: those of the ways that are wanted are put out, and from the others stores
-// take effect.
-pub(crate) fn round(
+// One round of the search: those of the pairs that are wanted are put out, and from the others stores take effect.
+fn round(
     alloc: Global,
-    ways: &[Way],
+    stretches: &mut Vec<Stretch>,
+    asked: Asked,
+    pairs: Vec<FollowedPair>,
     wanted: Wanted,
     out: &mut Followed,
-) -> Result<Vec<Way>, AllocError>
-    requires { IsFollowed out.old }
-    ensures out { OnOk result (shown_all out.new.ways.items ≡ out_after (goal_of wanted.entry) (shown_all out.old.ways.items) (shown_all ways.now)) }
+) -> Result<Vec<FollowedPair>, AllocError>
+    requires pairs { AreIn stretches.old.items pairs.items }
+    requires followed { IsFollowed out.old }
+    requires out_in { AreIn stretches.old.items out.old.pairs.items }
+    ensures out { OnOk result (shown_all stretches.new.items out.new.pairs.items ≡ out_after (aim_of wanted.entry).goal (shown_all stretches.old.items out.old.pairs.items) (shown_all stretches.old.items pairs.items)) }
+    ensures next { IfOk result (λ next. shown_all stretches.new.items next.items ≡ next_after asked.entry.loads.now asked.entry.moment (aim_of wanted.entry) (shown_all stretches.old.items pairs.items)) }
+    ensures out_in { OnOk result (AreIn stretches.new.items out.new.pairs.items) }
+    ensures next_in { IfOk result (λ next. AreIn stretches.new.items next.items) }
+    ensures grows { OnOk result (Grows stretches.old.items stretches.new.items) }
     ensures followed { OnOk result (IsFollowed out.new) }
-    ensures next { IfOk result (λ next. shown_all next.items ≡ next_after (aim_of wanted.entry) (shown_all ways.now)) }
 {
-    let mut next = Followed::new(alloc);
-    for way in ways {
-        follow(alloc, way, wanted, out, &mut next)?;
+    let mut next = Followed::of(alloc, Vec::new(alloc))?;
+    for pair in pairs {
+        follow(alloc, stretches, asked, pair, wanted, out, &mut next)?;
     }
-    Ok(next.ways)
+    Ok(next.pairs)
 }
 
 // How many rounds the search takes at most, but for the first.
-#[tactic(auto, using(crate::proofs::Loops::rounds_shown))]
-pub(crate) fn rounds(ways: &[Way]) -> usize
-    ensures { result ≡ rounds (shown_all ways.now) }
+fn rounds(pairs: &[FollowedPair]) -> usize
+    ensures { (ss : List Stretch) → result ≡ rounds (shown_all ss pairs.now) }
 {
-    ways.iter().fold(0, |most, way| most.max(way.stores.len()))
+    pairs
+        .iter()
+        .fold(0, |most, pair| most.max(pair.stores.len()))
 }
 
-// Whether all ways together have more words before than so many.
-#[tactic(auto, using(crate::proofs::Loops::words_over, crate::proofs::Loops::words_step, crate::proofs::Loops::words_all))]
-fn has_more_words(ways: &[Way], most: usize) -> bool
-    ensures { result ≡ has_more_words most (shown_all ways.now) }
+// Whether more pairs are followed at a time, or found, than the limit.
+#[tactic(auto, using(crate::proofs::Loops::length_shown))]
+fn are_too_many(limit: usize, pairs: &[FollowedPair], found: &[FollowedPair]) -> bool
+    ensures { (ss : List Stretch) → result ≡ (are_too_many limit (shown_all ss pairs.now) || are_too_many limit (shown_all ss found.now)) }
 {
-    let mut left = most;
-    for way in ways {
-        let before = way.words_before();
-        if left < before {
-            return true;
-        }
-        left -= before;
-    }
-    false
+    limit < pairs.len() || limit < found.len()
 }
 
-// Whether these are too many ways to be followed at a time.
-#[tactic(auto, using(crate::proofs::Loops::few_pairs))]
-pub(crate) fn are_too_many(alloc: Global, ways: &[Way], limit: usize) -> Result<bool, AllocError>
-    ensures { IfOk result (λ many. many ≡ are_too_many limit (shown_all ways.now)) }
+// From these pairs on stores take effect, until what is wanted is met, beside those on which it was found already: not too
+// many pairs are followed at a time.
+pub(crate) fn search(
+    alloc: Global,
+    stretches: &mut Vec<Stretch>,
+    asked: Asked,
+    found: Vec<FollowedPair>,
+    pairs: Vec<FollowedPair>,
+    wanted: Wanted,
+    limit: usize,
+) -> Result<Vec<FollowedPair>, Stop>
+    requires found { AreIn stretches.old.items found.items }
+    requires pairs { AreIn stretches.old.items pairs.items }
+    ensures found { IfOk result (λ f. shown_all stretches.new.items f.items ≡ found_pairs asked.entry.loads.now asked.entry.moment (aim_of wanted.entry) (shown_all stretches.old.items found.items) (shown_all stretches.old.items pairs.items)) }
+    ensures are_in { IfOk result (λ f. AreIn stretches.new.items f.items) }
+    ensures grows { OnOk result (Grows stretches.old.items stretches.new.items) }
+    ensures stop { IfErr result (StopIs (needs_more limit asked.entry.loads.now asked.entry.moment (aim_of wanted.entry) (shown_all stretches.old.items found.items) (shown_all stretches.old.items pairs.items))) }
 {
-    if has_more_words(ways, MOST_WORDS) {
-        return Ok(true);
-    }
-    if ways.len() <= limit {
-        return Ok(false);
-    }
-    Ok(limit < pairs(alloc, ways)?)
-}
-
-// From these ways on stores take effect, until what is wanted is met: not too many ways are followed at
-// a time.
-#[tactic(auto, using(crate::proofs::Loops::over_stop, crate::proofs::Loops::over_go))]
-fn search(alloc: Global, ways: &[Way], wanted: Wanted, limit: usize) -> Result<Vec<Way>, Stop>
-    ensures found { IfOk result (λ found. shown_all found.items ≡ met (suc (rounds (shown_all ways.now))) (aim_of wanted.entry) [] (shown_all ways.now)) }
-    ensures stop { IfErr result (StopIs (needs_more limit (aim_of wanted.entry) (shown_all ways.now))) }
-{
-    let mut found = Followed::new(alloc);
-    let mut left = rounds(ways);
-    let mut frontier = round(alloc, ways, wanted, &mut found)?;
+    let mut left = rounds(pairs.as_slice());
+    let mut out = Followed::of(alloc, found)?;
+    let mut frontier = round(alloc, stretches, asked, pairs, wanted, &mut out)?;
     while left > 0 {
-        if are_too_many(alloc, frontier.as_slice(), limit)? {
+        if are_too_many(limit, frontier.as_slice(), out.pairs.as_slice()) {
             return Err(Stop::TooManyWays);
         }
-        if are_too_many(alloc, found.ways.as_slice(), limit)? {
-            return Err(Stop::TooManyWays);
-        }
-        let next = round(alloc, frontier.as_slice(), wanted, &mut found)?;
-        frontier = next;
+        frontier = round(alloc, stretches, asked, frontier, wanted, &mut out)?;
         left -= 1;
     }
-    Ok(found.ways)
+    Ok(out.pairs)
 }
 
-// The ways after an answer.
-#[tactic(auto, unfolding(crate::specs::Branches::answered))]
-fn answered(alloc: Global, ways: &[Way], wanted: Wanted, limit: usize) -> Result<Vec<Way>, Stop>
-    ensures after { IfOk result (λ after. shown_all after.items ≡ answered (aim_of wanted.entry) (without_of wanted.entry) (shown_all ways.now)) }
-    ensures stop { IfErr result (StopIs (needs_more limit (aim_of wanted.entry) (shown_all ways.now))) }
+// The same pairs.
+pub(crate) fn copied(alloc: Global, pairs: &[FollowedPair]) -> Result<Vec<FollowedPair>, AllocError>
+    ensures shown { IfOk result (λ same. (ss : List Stretch) → shown_all ss same.items ≡ shown_all ss pairs.now) }
+    ensures are_in { IfOk result (λ same. (ss : List Stretch) → AreIn ss pairs.now → AreIn ss same.items) }
 {
-    let found = search(alloc, ways, wanted, limit)?;
-    let after = without(alloc, found.as_slice(), wanted)?;
-    Ok(after)
-}
-
-// These ways without the operation that is answered.
-fn without(alloc: Global, ways: &[Way], wanted: Wanted) -> Result<Vec<Way>, AllocError>
-    ensures { IfOk result (λ after. shown_all after.items ≡ with_branches [] (map (without_of wanted.entry) (shown_all ways.now))) }
-{
-    let mut after = Followed::new(alloc);
-    for way in ways {
-        let left = way.answered(alloc, wanted)?;
-        after.add(left)?;
+    let mut same = Vec::new(alloc);
+    for pair in pairs {
+        let copy = pair.with_past(alloc, pair.past)?;
+        same.push(copy)?;
     }
-    Ok(after.ways)
+    Ok(same)
 }
 
-// A load is requested.
-fn with_load(alloc: Global, ways: &[Way], number: u64, address: u64) -> Result<Vec<Way>, AllocError>
-    ensures { IfOk result (λ after. shown_all after.items ≡ map (branch_with_load number address) (shown_all ways.now)) }
-{
-    let mut after = Vec::new(alloc);
-    for way in ways {
-        let more = way.with_load(alloc, number, address)?;
-        after.push(more)?;
-    }
-    Ok(after)
-}
-
-// A store is requested.
-fn with_store(alloc: Global, ways: &[Way], number: u64, bytes: Word) -> Result<Vec<Way>, AllocError>
-    ensures { IfOk result (λ after. shown_all after.items ≡ map (branch_with_store number bytes) (shown_all ways.now)) }
-{
-    let mut after = Vec::new(alloc);
-    for way in ways {
-        let more = way.with_store(alloc, number, bytes)?;
-        after.push(more)?;
-    }
-    Ok(after)
-}
-
-// The same ways.
-pub(crate) fn copied(alloc: Global, ways: &[Way]) -> Result<Vec<Way>, AllocError>
-    ensures { IfOk result (λ after. shown_all after.items ≡ shown_all ways.now) }
-{
-    let mut after = Vec::new(alloc);
-    for way in ways {
-        let same = way.copy(alloc)?;
-        after.push(same)?;
-    }
-    Ok(after)
-}
-
-// The ways after an event: none if it is none of the law.
-pub(crate) fn ways_after(
+// The pairs that stores lead to from these, in one round.
+fn reach(
     alloc: Global,
-    unit: UnitPlace,
-    ways: &[Way],
-    event: HistoryEvent,
-    limit: usize,
-) -> Result<Vec<Way>, Stop>
-    ensures after { IfOk result (λ after. shown_all after.items ≡ branches_after unit (shown_all ways.now) event.entry) }
-    ensures stop { IfErr result (StopIs (is_too_wide limit unit (shown_all ways.now) event.entry)) }
+    stretches: &mut Vec<Stretch>,
+    asked: Asked,
+    pairs: &[FollowedPair],
+) -> Result<Vec<FollowedPair>, AllocError>
+    requires { AreIn stretches.old.items pairs.now }
+    ensures next { IfOk result (λ next. shown_all stretches.new.items next.items ≡ next_after asked.entry.loads.now asked.entry.moment never (shown_all stretches.old.items pairs.now)) }
+    ensures are_in { IfOk result (λ next. AreIn stretches.new.items next.items) }
+    ensures grows { OnOk result (Grows stretches.old.items stretches.new.items) }
 {
-    match event {
-        HistoryEvent::LoadRequest {
-            number,
-            address,
-            length,
-        } => {
-            let after = if is_at(unit, address, length) {
-                with_load(alloc, ways, number, address)?
-            } else {
-                copied(alloc, ways)?
-            };
-            Ok(after)
-        }
-        HistoryEvent::LoadResponse { number, bytes } => {
-            let wanted = Wanted::Answer {
-                unit,
-                number,
-                bytes,
-            };
-            answered(alloc, ways, wanted, limit)
-        }
-        HistoryEvent::StoreRequest {
-            number,
-            address,
-            bytes,
-            enables,
-        } => {
-            let stored = stored_word(unit, address, bytes, enables);
-            let after = if has_byte(stored) {
-                with_store(alloc, ways, number, stored)?
-            } else {
-                copied(alloc, ways)?
-            };
-            Ok(after)
-        }
-        HistoryEvent::StoreResponse { number } => {
-            answered(alloc, ways, Wanted::Effect { number }, limit)
-        }
+    let mut next = Followed::of(alloc, Vec::new(alloc))?;
+    for pair in pairs {
+        add_effects(alloc, stretches, asked, &mut next, pair, Wanted::Never)?;
     }
+    Ok(next.pairs)
+}
+
+// These pairs, and those that stores lead to from them: not too many that as many stores lead to.
+pub(crate) fn reached(
+    alloc: Global,
+    stretches: &mut Vec<Stretch>,
+    asked: Asked,
+    pairs: &[FollowedPair],
+    limit: usize,
+) -> Result<Vec<FollowedPair>, Stop>
+    requires { AreIn stretches.old.items pairs.now }
+    ensures reached { IfOk result (λ r. shown_all stretches.new.items r.items ≡ shown_all stretches.old.items pairs.now ++ reached_in asked.entry.loads.now asked.entry.moment (rounds (shown_all stretches.old.items pairs.now)) (shown_all stretches.old.items pairs.now)) }
+    ensures are_in { IfOk result (λ r. AreIn stretches.new.items r.items) }
+    ensures grows { OnOk result (Grows stretches.old.items stretches.new.items) }
+    ensures stop { IfErr result (StopIs (is_reach_over limit asked.entry.loads.now asked.entry.moment (rounds (shown_all stretches.old.items pairs.now)) (shown_all stretches.old.items pairs.now))) }
+{
+    let mut all = copied(alloc, pairs)?;
+    let mut from = 0;
+    let mut left = rounds(pairs);
+    while left > 0 {
+        let mut next = reach(alloc, stretches, asked, &all[from..])?;
+        if limit < next.len() {
+            return Err(Stop::TooManyWays);
+        }
+        from = all.len();
+        all.append(&mut next)?;
+        left -= 1;
+    }
+    Ok(all)
 }

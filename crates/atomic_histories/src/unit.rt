@@ -35,13 +35,14 @@ pub struct OpenStore {
     pub is_done: bool,
 }
 
-/// An open load at a unit, on one of the ways that the unit may have gone.
-#[derive(Drop)]
+/// An open load at a unit.
+#[derive(Clone, Copy, PartialEq, Eq, Debug)]
 pub struct WatchedLoad {
     /// The number of the load.
     pub number: u64,
     /// The address of its first byte.
     pub address: u64,
-    /// The words that it may have got beside the one that stands there now.
-    pub before: Vec<Word>,
+    /// The moment of its request: it may have got the words that were overwritten at this moment or later.
+    /// A moment is how many loads had been requested at the unit by then, since there were none.
+    pub since: u64,
 }

@@ -2,16 +2,16 @@
 
 ghost use Rattle.std.specs.Prelude.{◌≡◌, ◌+◌, ◌-◌, ◌*◌, ◌/◌, ◌^◌, ◌<◌, ◌≤◌, length, nat_eq, ℕ, ◌++◌, ◌∷◌, [], false, IfOk, IfErr, OnOk};
 ghost use Rattle.std.specs.HashMap.{get, spare};
-ghost use Rattle.std.specs.List.{find};
-ghost use Rattle.atomic_histories.specs.Branches.{branches_after, is_too_wide};
-ghost use Rattle.atomic_histories.specs.Held.{bytes_of_open, covered, units_of, first_ways, is_without};
-ghost use Rattle.atomic_histories.specs.Judge.{bytes_of, place_from, place_in, put_from, shown_unit, ChangedFaultIs};
+ghost use Rattle.atomic_histories.specs.Followed.{first_ways, ways_after};
+ghost use Rattle.atomic_histories.specs.Held.{bytes_of_open, covered, units_of, is_without};
+ghost use Rattle.atomic_histories.specs.Judge.{bytes_of, place_from, place_in, put_from, ChangedFaultIs};
+ghost use Rattle.atomic_histories.specs.Shown.{shown_unit, words_in};
 
+use crate::answers::ways_after;
 use crate::forms::open_under;
-use crate::memory::{AtomicFault, KeptUnit, UnitSize, fault_of};
-use crate::search::ways_after;
+use crate::kept::KeptUnit;
+use crate::memory::{AtomicFault, UnitSize, fault_of};
 use crate::unit::{Operation, UnitPlace};
-use crate::ways::Way;
 use crate::words::initial_word;
 use memory_histories::{HistoryEvent, HistoryFault, Rest};
 use std::alloc::{AllocError, Global};
@@ -70,11 +70,10 @@ pub(crate) fn untouched_unit(
     image: &[u8],
     rest: Rest,
 ) -> Result<KeptUnit, AllocError>
-    ensures { IfOk result (λ u. shown_unit u ≡ first_ways image.now rest place) }
+    ensures shown { IfOk result (λ u. shown_unit u ≡ first_ways image.now rest place) }
+    ensures stretches { IfOk result (λ u. u.stretches.items ≡ []) }
 {
-    let mut ways = Vec::new(alloc);
-    ways.push(Way::untouched(alloc, initial_word(place, image, rest)))?;
-    Ok(KeptUnit { ways })
+    KeptUnit::untouched(alloc, initial_word(place, image, rest))
 }
 
 pub(crate) fn add_unit(units: &mut Vec<KeptUnit>, unit: KeptUnit) -> Result<(), AllocError>
@@ -94,19 +93,19 @@ pub(crate) fn changed_unit(
     limit: usize,
     loads: &[Operation],
 ) -> Result<KeptUnit, AtomicFault>
-    ensures unit { IfOk result (λ u. shown_unit u ≡ branches_after place (shown_unit unit.now) event.entry) }
-    ensures left { OnOk result (is_without (shown_unit unit.now) (branches_after place (shown_unit unit.now) event.entry) ≡ false) }
-    ensures fault { IfErr result (ChangedFaultIs limit place (shown_unit unit.now) event.entry loads.now) }
+    ensures unit { IfOk result (λ u. shown_unit u ≡ ways_after place (shown_unit unit.now) event.entry) }
+    ensures left { OnOk result (is_without (shown_unit unit.now) (ways_after place (shown_unit unit.now) event.entry) ≡ false) }
+    ensures fault { IfErr result (ChangedFaultIs limit place (words_in unit.now.stretches.items) (shown_unit unit.now) event.entry loads.now) }
 {
-    let ways = match ways_after(alloc, place, unit.ways.as_slice(), event, limit) {
-        Ok(ways) => ways,
+    let after = match ways_after(alloc, place, unit, event, limit) {
+        Ok(after) => after,
         Err(stop) => return Err(fault_of(stop, place.first)),
     };
-    if ways.is_empty() && !unit.ways.is_empty() {
+    if after.pairs.is_empty() && !unit.pairs.is_empty() {
         let place = place_in(loads, event, place.first);
         return Err(AtomicFault::Refused(HistoryFault::WrongByte { place }));
     }
-    Ok(KeptUnit { ways })
+    Ok(after)
 }
 
 // These units are kept from now on, the first under this number.

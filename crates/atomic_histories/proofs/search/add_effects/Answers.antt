@@ -1,21 +1,32 @@
-use Rattle.std.proofs.Common.{◌<◌, [], false, length, filter, arith}
-use Rattle.atomic_histories.specs.declared.unit.OpenStore.{OpenStore}
-use Rattle.atomic_histories.specs.Branches.{with_branches, effects}
-use Rattle.atomic_histories.specs.Shown.{shown, shown_all, aim_of}
-use Rattle.atomic_histories.proofs.Loops.{effects_more}
+use Rattle.std.proofs.Common.{List, [], filter, sym, ap, ap₂, ◌∙◌}
+use Rattle.std.proofs.lemmas.Result.{on_ok_weaker}
+use Rattle.atomic_histories.specs.Pasts.{Past, overwritten}
+use Rattle.atomic_histories.specs.Followed.{Pair, with_pairs, effects_from}
+use Rattle.atomic_histories.specs.Shown.{past_at, pasts, shown, shown_all, aim_of}
+use Rattle.atomic_histories.proofs.Frames.{shown_grown, pair_grown}
+use Rattle.atomic_histories.proofs.Loops.{effects_done}
 use Rattle.atomic_histories.proofs.search.add_effects.Goals as goal
 
-pub loop-i-preserved : goal.loop-i-preserved
-loop-i-preserved c =
-    let e = shown c.args.way.now in
+pub returns-then-is_done-clause-pairs : goal.returns-then-is_done-clause-pairs
+returns-then-is_done-clause-pairs c =
+    let ss = c.args.stretches.now.items in
+    let pair = c.args.pair.now in
+    let e = shown ss pair in
+    let none = effects_done (overwritten c.args.asked.loads.now c.args.asked.moment e.word e.past) e [] e.stores (sym (c.if-is_done.ensures)) in
+    ap (λ es. with_pairs (shown_all ss c.args.next.now.pairs.items) (filter (aim_of c.args.wanted).hope es)) (sym none)
+
+pub returns-clause-pairs : goal.returns-clause-pairs
+returns-clause-pairs c =
+    let ss = c.args.stretches.now.items in
+    let ts = c.overwritten.new.stretches.items in
+    let pair = c.args.pair.now in
     let hope = (aim_of c.args.wanted).hope in
-    let stores = c.args.way.now.stores.items in
-    let i = c.loop-i.i in
-    let none : OpenStore = record { number = 0; bytes = []; is_done = false } in
-    let below : i < length stores = omega arith in
-    record {
-      whole = effects_more hope e stores i none (shown_all c.loop-i.ways.ways.items) (shown_all c.add_effect.new.ways.ways.items)
-          (with_branches (shown_all c.args.ways.now.ways.items) (filter hope (effects e))) below (c.in_ok-add_effect.ensures.ways none)
-          c.loop-i.invariant.whole;
-      followed = c.in_ok-add_effect.ensures.followed;
-    }
+    let before = c.in_ok-past.ensures in
+    let same = shown_grown ss ts before.grows c.args.next.now.pairs.items c.requires.pairs in
+    let here = pair_grown ss ts before.grows pair c.requires.pair in
+    let on : List Pair → Past → Pair → List Pair =
+    λ es past e. with_pairs es (filter hope (effects_from past e [] pair.stores.items)) in
+    on_ok_weaker c.add_effects_after.result
+    (λ h. h ∙ ap (λ es. on es (past_at (pasts ts) c.in_ok-past.past) (shown ts pair)) same
+    ∙ ap₂ (on (shown_all ss c.args.next.now.pairs.items)) before.past here)
+    c.add_effects_after.ensures.pairs

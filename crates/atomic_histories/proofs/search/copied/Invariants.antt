@@ -1,7 +1,11 @@
-use Rattle.std.proofs.Common.{◌≡◌, ◌++◌, drop}
-use Rattle.atomic_histories.specs.Shown.{shown_all}
+use Rattle.std.proofs.Common.{◌≡◌, ◌++◌, List, drop}
+use Rattle.atomic_histories.specs.declared.stretches.Stretch.{Stretch}
+use Rattle.atomic_histories.specs.Shown.{shown_all, AreIn}
 use Rattle.atomic_histories.proofs.search.copied.Given as goal
 
 -- with those that are left it is the whole
-abbrev pub invariant-loop-way : goal.invariant-loop-way
-invariant-loop-way l = shown_all l.after.items ++ shown_all (drop l.way-index l.ways) ≡ shown_all l.ways
+abbrev pub invariant-loop-pair : goal.invariant-loop-pair
+invariant-loop-pair l = record {
+  shown : (ss : List Stretch) → shown_all ss l.same.items ++ shown_all ss (drop l.pair-index l.pairs) ≡ shown_all ss l.pairs;
+  are_in : (ss : List Stretch) → AreIn ss l.pairs → AreIn ss (l.same.items ++ drop l.pair-index l.pairs);
+}

@@ -1,7 +1,9 @@
 use Rattle.std.proofs.Common.{◌+◌, ◌-◌, ◌++◌, ◌∷◌, [], map, length, ap, ◌∙◌, length-append, arith}
 use Rattle.atomic_histories.specs.Held.{ways_from}
-use Rattle.atomic_histories.specs.Judge.{held, limit_of, shown_unit, ChangeFaultIs}
-use Rattle.atomic_histories.proofs.Ranges.{ways_more, stuck_step, fault_at, pass_on}
+use Rattle.atomic_histories.specs.Judge.{held, limit_of, ChangeFaultIs}
+use Rattle.atomic_histories.specs.Shown.{shown_unit}
+use Rattle.atomic_histories.proofs.Ranges.{ways_more, stuck_step, fault_at}
+use Rattle.atomic_histories.proofs.Parts.{pass_on}
 use Rattle.atomic_histories.proofs.memory.AtomicMemory.changes_from.Goals as goal
 
 pub loop-j-preserved : goal.loop-j-preserved

@@ -1,6 +1,7 @@
 use Rattle.std.proofs.Common.{◌≡◌, ◌+◌, ◌-◌, ◌++◌, map, length}
 use Rattle.atomic_histories.specs.Held.{ways_from, stuck_from}
-use Rattle.atomic_histories.specs.Judge.{held, shown_unit}
+use Rattle.atomic_histories.specs.Judge.{held}
+use Rattle.atomic_histories.specs.Shown.{shown_unit}
 use Rattle.atomic_histories.proofs.memory.AtomicMemory.changes_from.Given as goal
 
 -- with those that are left it is the whole, and none so far is stuck

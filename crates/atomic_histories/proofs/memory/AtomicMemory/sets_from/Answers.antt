@@ -1,8 +1,21 @@
-use Rattle.std.proofs.Common.{subst, arith}
-use Rattle.atomic_histories.specs.May.{IsWideByte, IsWideLoad, IsNoVerdict}
+use Rattle.std.proofs.Common.{◌+◌, sym, subst, arith}
+use Rattle.atomic_histories.specs.May.{IsSet, may_get_at, address_of, AreSetsFrom, IsWideByte, IsWideLoad, IsNoVerdict}
 use Rattle.atomic_histories.specs.Judge.{held, limit_of}
-use Rattle.atomic_histories.proofs.Ranges.{no_set, pass_on}
+use Rattle.atomic_histories.proofs.MaySteps.{one_set_more, no_set}
+use Rattle.atomic_histories.proofs.Parts.{pass_on}
 use Rattle.atomic_histories.proofs.memory.AtomicMemory.sets_from.Goals as goal
+
+pub loop-i-preserved : goal.loop-i-preserved
+loop-i-preserved c =
+    let h = held c.args.self.now in
+    let number = c.args.number in
+    let address = c.args.address in
+    let i = c.loop-i.i in
+    let set = c.in_ok-set.set in
+    let here : IsSet (may_get_at h number (address_of address i)) set =
+    subst (λ a. IsSet (may_get_at h number a) set) c.byte_address.ensures c.in_ok-set.ensures.set in
+    subst (λ items. AreSetsFrom h number address 0 (i + 1) items) (sym c.in_ok-push_set.ensures)
+    (one_set_more h number address i c.loop-i.sets.items set c.loop-i.invariant here)
 
 pub returns-in_err-set-clause-fault : goal.returns-in_err-set-clause-fault
 returns-in_err-set-clause-fault c =

@@ -1,7 +1,8 @@
 use Rattle.std.proofs.Common.{◌/◌, nat_eq, length, ap, ap₂, ◌∙◌}
 use Rattle.std.specs.HashMap.{get}
 use Rattle.atomic_histories.specs.Law.{unit_at}
-use Rattle.atomic_histories.specs.Held.{Held, first_ways, covered}
+use Rattle.atomic_histories.specs.Followed.{first_ways}
+use Rattle.atomic_histories.specs.Held.{Held, covered}
 use Rattle.atomic_histories.specs.Judge.{held, bytes_of}
 use Rattle.atomic_histories.proofs.Ranges.{step_fits, taken_unit}
 use Rattle.atomic_histories.proofs.memory.AtomicMemory.take_by_search.Goals as goal

@@ -1,6 +1,6 @@
-use Rattle.std.proofs.Common.{◌/◌, nat_eq, List, IfOk, ap, ap₂, subst, rules, arith}
+use Rattle.std.proofs.Common.{◌/◌, nat_eq, IfOk, ap, ap₂, subst, rules, arith}
 use Rattle.std.specs.HashMap.{get}
-use Rattle.atomic_histories.specs.Branches.{Branch}
+use Rattle.atomic_histories.specs.Followed.{Ways}
 use Rattle.atomic_histories.specs.AtOnce.{IsUnitTaken}
 use Rattle.atomic_histories.specs.Judge.{held, kept_or}
 use Rattle.atomic_histories.proofs.AtOnce.{taken_at, untaken_at}
@@ -14,12 +14,12 @@ returns-clause-ok c =
     let number = c.covered-address.result.0 / c.bytes.result in
     let here = ap₂ ◌/◌ (ap (λ p. p.0) c.covered-address.ensures) c.bytes.ensures in
     taken_at c.take_at.result h.image h.rest h.size h.opened c.args.event f g number here (search (rules, arith))
-    (subst (λ p. IfOk c.take_at.result (λ taken. (first : List Branch) →
+    (subst (λ p. IfOk c.take_at.result (λ taken. (first : Ways) →
     IsUnitTaken p c.args.event (kept_or (f number) first) (kept_or (g number) first) taken))
-    c.place-place.ensures c.take_at.ensures.ok) c.take_at.ensures.others
+    c.place-place.ensures c.take_at.ensures.ok) c.take_at.ensures.same c.take_at.ensures.others
 
 pub returns-clause-err : goal.returns-clause-err
 returns-clause-err c =
     let h = held c.args.self.now in
     untaken_at c.take_at.result h.image h.rest h.size h.opened (get nat_eq c.args.self.now.units) (get nat_eq c.take_at.new.units)
-    (c.covered-address.result.0 / c.bytes.result) c.take_at.ensures.err c.take_at.ensures.others
+    (c.covered-address.result.0 / c.bytes.result) c.take_at.ensures.err c.take_at.ensures.err_words c.take_at.ensures.others

@@ -1,0 +1,111 @@
+-- Steps towards what an open load may return: the sets of its bytes one after the other, and why there are none.
+use Rattle.std.proofs.Common.{◌≡◌, ℕ, zero, suc, ◌+◌, ◌-◌, ◌*◌, ◌/◌, ◌%◌, ◌<◌, false, nat_lt, ◌||◌, true, List, [], ◌∷◌, ◌++◌, length, Option, None, refl, sym, ap, ◌∙◌, subst, arith, Bool, Some}
+use Rattle.std.proofs.lemmas.Nat.{div-add-mod'}
+use Rattle.std.specs.List.{find}
+use Rattle.std.proofs.lemmas.Bool.{lt-ltb}
+use Rattle.memory_histories.specs.declared.sets.ByteSet.{ByteSet}
+use Rattle.memory_histories.specs.declared.events.Rest.{Rest}
+use Rattle.memory_histories.specs.Sets.{no_bytes, all_bytes}
+use Rattle.memory_histories.proofs.ByteSets.{has-no_bytes, has-all_bytes}
+use Rattle.atomic_histories.specs.declared.unit.UnitPlace.{UnitPlace}
+use Rattle.atomic_histories.specs.declared.unit.WatchedLoad.{WatchedLoad}
+use Rattle.atomic_histories.specs.declared.stretches.Stretch.{Stretch}
+use Rattle.atomic_histories.specs.declared.pairs.FollowedPair.{FollowedPair}
+use Rattle.atomic_histories.specs.declared.kept.KeptUnit.{KeptUnit}
+use Rattle.atomic_histories.specs.declared.memory.UnitSize.{UnitSize}
+use Rattle.atomic_histories.specs.declared.memory.UnitSize.TheVariants.{One, Two, Four, Eight}
+use Rattle.atomic_histories.specs.declared.memory.AtomicFault.{AtomicFault}
+use Rattle.atomic_histories.specs.declared.memory.AtomicFault.TheVariants.{Refused, Undecided, OutOfMemory}
+use Rattle.atomic_histories.specs.declared.search.Stop.{Stop}
+use Rattle.atomic_histories.specs.declared.search.Stop.TheVariants.{TooManyWays, NoMemory}
+use Rattle.atomic_histories.specs.declared.search.TheConstants.{MOST_WORDS}
+use Rattle.atomic_histories.specs.Followed.{Ways, first_ways, rounds, is_under}
+use Rattle.atomic_histories.specs.Held.{Held}
+use Rattle.atomic_histories.specs.Judge.{bytes_of, fault_of, kept_or}
+use Rattle.atomic_histories.specs.May.{IsSet, is_shown, reached, may_get, may_get_at, address_of, AreSetsFrom, is_reach_over, is_reach_wide, IsWideByte, IsWideLoad, IsNoVerdict}
+use Rattle.atomic_histories.specs.Shown.{shown_all, StopIs}
+
+-- the lane that a byte lies in
+pub lane_below : (size : UnitSize) (a : ℕ) → a % bytes_of size < 8
+lane_below One a = omega arith
+lane_below Two a = omega arith
+lane_below Four a = omega arith
+lane_below Eight a = omega arith
+
+-- no load is open at a unit that no operation has touched
+pub untouched_set : (o : Option KeptUnit) (image : List ℕ) (rest : Rest) (unit : UnitPlace) (number k : ℕ) → o ≡ None
+    → IsSet (λ b. may_get number k b (kept_or o (first_ways image rest unit))) no_bytes
+untouched_set None image rest unit number k h = λ b l. has-no_bytes b
+untouched_set (Some u) image rest unit number k h = cc
+
+-- each byte may be got at a unit that was forgotten
+pub forgotten_set : (number k : ℕ) (ss : List Stretch) (ps : List FollowedPair) (loads : List WatchedLoad) (moment : ℕ) → length ps ≡ 0
+    → IsSet (λ b. may_get number k b (record { loads = loads; moment = moment; pairs = shown_all ss ps })) all_bytes
+forgotten_set number k ss [] loads moment h = λ b l. has-all_bytes b ∙ lt-ltb b 256 l
+forgotten_set number k ss (p ∷ ps) loads moment h = absurd (omega arith)
+
+-- none where no load is open under the number
+pub unknown_set : (number k : ℕ) (ss : List Stretch) (ps : List FollowedPair) (loads : List WatchedLoad) (moment : ℕ)
+    → (length ps ≡ 0 → ⊥) → find (is_under number) loads ≡ None
+    → IsSet (λ b. may_get number k b (record { loads = loads; moment = moment; pairs = shown_all ss ps })) no_bytes
+unknown_set number k ss [] loads moment h f = absurd (h refl)
+unknown_set number k ss (p ∷ ps) loads moment h f =
+    λ b l. has-no_bytes b ∙ ap (λ o. is_shown o k b (reached (record { loads = loads; moment = moment; pairs = shown_all ss (p ∷ ps) }))) (sym f)
+
+-- those of a load that is
+pub known_set : (number k : ℕ) (ss : List Stretch) (ps : List FollowedPair) (loads : List WatchedLoad) (moment : ℕ) (load : WatchedLoad)
+    (set : ByteSet) → (length ps ≡ 0 → ⊥) → find (is_under number) loads ≡ Some load
+    → IsSet (λ b. is_shown (Some load) k b (reached (record { loads = loads; moment = moment; pairs = shown_all ss ps }))) set
+    → IsSet (λ b. may_get number k b (record { loads = loads; moment = moment; pairs = shown_all ss ps })) set
+known_set number k ss [] loads moment load set h f s = absurd (h refl)
+known_set number k ss (p ∷ ps) loads moment load set h f s =
+    λ b l. s b l ∙ ap (λ o. is_shown o k b (reached (record { loads = loads; moment = moment; pairs = shown_all ss (p ∷ ps) }))) (sym f)
+
+-- the set of the next byte
+sets_pushed : (h : Held) (number a from n : ℕ) (sets : List ByteSet) (set : ByteSet) → AreSetsFrom h number a from n sets
+    → IsSet (may_get_at h number (address_of a (from + n))) set → AreSetsFrom h number a from (suc n) (sets ++ set ∷ [])
+sets_pushed h number a from zero [] set r s =
+    let here : from + 0 ≡ from = omega arith in (subst (λ i. IsSet (may_get_at h number (address_of a i)) set) here s, tt)
+sets_pushed h number a from zero (x ∷ xs) set r s = absurd r
+sets_pushed h number a from (suc n) [] set r s = absurd r
+sets_pushed h number a from (suc n) (x ∷ xs) set r s =
+    let next : from + suc n ≡ from + 1 + n = omega arith in
+    (r.0, sets_pushed h number a (from + 1) n xs set r.1 (subst (λ i. IsSet (may_get_at h number (address_of a i)) set) next s))
+
+pub one_set_more : (h : Held) (number a i : ℕ) (sets : List ByteSet) (set : ByteSet) → AreSetsFrom h number a 0 i sets
+    → IsSet (may_get_at h number (address_of a i)) set → AreSetsFrom h number a 0 (i + 1) (sets ++ set ∷ [])
+one_set_more h number a i sets set r s =
+    let next : suc i ≡ i + 1 = omega arith in
+    let here : i ≡ 0 + i = omega arith in
+    subst (λ n. AreSetsFrom h number a 0 n (sets ++ set ∷ [])) next
+    (sets_pushed h number a 0 i sets set r (subst (λ n. IsSet (may_get_at h number (address_of a n)) set) here s))
+
+-- No verdict. ----
+
+unit_start : (a m : ℕ) → a - a % m ≡ a / m * m
+unit_start a m = minus (a / m * m) (a % m) a (div-add-mod' a m)
+  where
+    minus : (x y a : ℕ) → x + y ≡ a → a - y ≡ x
+    minus x y a e = omega arith
+
+-- a search that was stopped at the unit in which a byte lies
+pub stopped_set : (limit : ℕ) (h : Held) (a : ℕ) (stop : Stop) → StopIs (is_reach_wide limit (h.words (a / h.size)) (h.units (a / h.size))) stop
+    → IsNoVerdict (IsWideByte limit h a) (fault_of stop (a - a % h.size))
+stopped_set limit h a TooManyWays w = (unit_start a h.size, w)
+stopped_set limit h a NoMemory w = tt
+
+pub no_set : (fault : AtomicFault) (limit : ℕ) (h : Held) (a n i : ℕ) → i < n
+    → IsNoVerdict (IsWideByte limit h (address_of a i)) fault → IsNoVerdict (IsWideLoad limit h a n) fault
+no_set (Refused cause) limit h a n i l f = f
+no_set (Undecided address) limit h a n i l f = (i, l, f)
+no_set OutOfMemory limit h a n i l f = tt
+
+-- a search among those that ways lead to is stopped by the limit alone
+pub reach_wide : (limit words : ℕ) (u : Ways) (stop : Stop) → StopIs (is_reach_over limit u.loads u.moment (rounds u.pairs) u.pairs) stop
+    → StopIs (is_reach_wide limit words u) stop
+reach_wide limit words u TooManyWays w = right_true (nat_lt MOST_WORDS words) (is_reach_over limit u.loads u.moment (rounds u.pairs) u.pairs) w
+  where
+    right_true : (a b : Bool) → b ≡ true → (a || b) ≡ true
+    right_true true b h = refl
+    right_true false b h = h
+reach_wide limit words u NoMemory w = tt

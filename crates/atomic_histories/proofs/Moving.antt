@@ -1,0 +1,152 @@
+-- Where stretches went.
+use Rattle.std.proofs.Common.{◌≡◌, ℕ, zero, suc, ◌+◌, ◌<◌, ◌≤◌, Bool, true, if◌then◌else◌, nat_lt, List, [], ◌∷◌, ◌++◌, length, get_or, take, drop, length-append, refl, subst, sym, ap, ap₂, ◌∙◌, add-one, take-suc, arith, inl, inr}
+use Rattle.std.proofs.lemmas.List.{get_or_append_left, get_or_past}
+use Rattle.std.proofs.lemmas.Bool.{cases_order, cases_lt}
+use Rattle.std.proofs.Math.Seq.{take-length, take-append_seam}
+use Rattle.atomic_histories.specs.declared.stretches.Before.{Before}
+use Rattle.atomic_histories.specs.declared.stretches.Before.TheVariants.{Nothing, Behind}
+use Rattle.atomic_histories.specs.declared.stretches.Stretch.{Stretch}
+use Rattle.atomic_histories.specs.declared.stretches.Stretch.TheVariants.{Overwritten, Either}
+use Rattle.atomic_histories.specs.declared.pairs.FollowedPair.{FollowedPair}
+use Rattle.atomic_histories.specs.declared.moves.Moved.{Moved}
+use Rattle.atomic_histories.specs.Pasts.{Past, begins, after, either, merged, cut}
+use Rattle.atomic_histories.specs.Stands.{Each}
+use Rattle.atomic_histories.specs.Shown.{past_at, past_of, pasts, IsIn, Grows}
+use Rattle.atomic_histories.specs.Shares.{moved_in, moved_to, moved_stretch, cut_of, AreMoved, is_used, IsUsedBelow, RefersToUsed, StayUsed}
+use Rattle.atomic_histories.proofs.Lists.{each_weaker, each_append}
+use Rattle.atomic_histories.proofs.Frames.{past_grown, in_grown}
+use Rattle.atomic_histories.proofs.Shares.{at_push, past_push, pasts_take, pasts_length}
+
+-- One stretch more. ----
+
+same_more : (used : Before → Bool) (to : Past → Past) (place : ℕ) (ps : List Past) (past : Past) (m : Moved) (ts : List Stretch) (r : Before)
+    → to begins ≡ begins → length ps ≡ place → length m.places.items ≡ place
+    → ((b : Before) → used b ≡ true → past_at (pasts m.stretches.items) (moved_to m b) ≡ to (past_at ps b))
+    → ((b : Before) → IsIn m.stretches.items (moved_to m b)) → Grows m.stretches.items ts
+    → (used (Behind place) ≡ true → past_at (pasts ts) r ≡ to past)
+    → (b : Before) → used b ≡ true → past_at (pasts ts) (moved_in (m.places.items ++ r ∷ []) b) ≡ to (past_at (ps ++ past ∷ []) b)
+same_more used to place ps past m ts r bare long placed same is_in g here Nothing u = sym bare
+same_more used to place ps past m ts r bare long placed same is_in g here (Behind k) u = elim (cases_order k place) [
+  | inl e ↦ rw (at_push m.places.items r Nothing k (e ∙ sym placed), at_push ps past begins k (e ∙ sym long))
+      (here (subst (λ x. used (Behind x) ≡ true) e u))
+  | inr o ↦ elim o [
+    | inl b ↦ rw
+        (get_or_append_left m.places.items (r ∷ []) Nothing k (omega (arith, b, placed)), get_or_append_left ps (past ∷ []) begins k (omega (arith, b, long)))
+        (past_grown m.stretches.items ts g (moved_to m (Behind k)) (is_in (Behind k)) ∙ same (Behind k) u)
+    | inr a ↦ rw (past_push m.places.items r Nothing k (omega (arith, a, placed)), past_push ps past begins k (omega (arith, a, long))) (sym bare)
+  ]
+]
+
+in_more : (place : ℕ) (m : Moved) (ts : List Stretch) (r : Before) → length m.places.items ≡ place
+    → ((b : Before) → IsIn m.stretches.items (moved_to m b)) → Grows m.stretches.items ts → IsIn ts r
+    → (b : Before) → IsIn ts (moved_in (m.places.items ++ r ∷ []) b)
+in_more place m ts r placed is_in g i Nothing = tt
+in_more place m ts r placed is_in g i (Behind k) = elim (cases_order k place) [
+  | inl e ↦ rw (at_push m.places.items r Nothing k (e ∙ sym placed)) i
+  | inr o ↦ elim o [
+    | inl b ↦ rw (get_or_append_left m.places.items (r ∷ []) Nothing k (omega (arith, b, placed)))
+        (in_grown m.stretches.items ts g (moved_to m (Behind k)) (is_in (Behind k)))
+    | inr a ↦ rw (past_push m.places.items r Nothing k (omega (arith, a, placed))) tt
+  ]
+]
+
+pub moved_more : (used : Before → Bool) (to : Past → Past) (place : ℕ) (ss : List Stretch) (s : Stretch) (m n : Moved) (r : Before)
+    → place < length ss → s ≡ get_or ss place s → to begins ≡ begins → AreMoved used to place ss m
+    → Grows m.stretches.items n.stretches.items → n.places.items ≡ m.places.items ++ r ∷ [] → IsIn n.stretches.items r
+    → (used (Behind place) ≡ true → past_at (pasts n.stretches.items) r ≡ to (past_of (pasts (take place ss)) s))
+    → AreMoved used to (place + 1) ss n
+moved_more used to place ss s m n r p e bare h g new i here =
+    let ps = pasts (take place ss) in
+    let past = past_of ps s in
+    let more = pasts_take ss place s p e in
+    let long = pasts_length ss place (omega (arith, p)) in
+    let same : (b : Before) → used b ≡ true
+    → past_at (pasts n.stretches.items) (moved_in (m.places.items ++ r ∷ []) b) ≡ to (past_at (ps ++ past ∷ []) b) =
+    same_more used to place ps past m n.stretches.items r bare long h.places h.same h.is_in g here in
+    let in_all : (b : Before) → IsIn n.stretches.items (moved_in (m.places.items ++ r ∷ []) b) =
+    in_more place m n.stretches.items r h.places h.is_in g i in
+    record {
+      same = λ b u. rw (more, new) (same b u);
+      is_in = λ b. rw new (in_all b);
+      places = ap length new ∙ length-append m.places.items (r ∷ []) ∙ ap (λ k. k + 1) h.places;
+    }
+
+-- all of them
+pub moved_all : (used : Before → Bool) (to : Past → Past) (place : ℕ) (ss : List Stretch) (m : Moved) → place ≡ length ss
+    → AreMoved used to place ss m → (b : Before) → used b ≡ true
+    → past_at (pasts m.stretches.items) (moved_to m b) ≡ to (past_at (pasts ss) b)
+moved_all used to place ss m p h b u = h.same b u ∙ ap (λ xs. to (past_at (pasts xs) b)) (ap (λ k. take k ss) p ∙ take-length ss)
+
+-- What was overwritten before a moment is cut. ----
+
+pub cut_law : (since place : ℕ) (ss : List Stretch) (s : Stretch) (m : Moved) → AreMoved (λ b. true) (cut since) place ss m
+    → cut_of since (λ b. past_at (pasts m.stretches.items) (moved_to m b)) s ≡ cut since (past_of (pasts (take place ss)) s)
+cut_law since place ss (Overwritten word moment b) m h =
+    ap (λ q. if nat_lt moment since then q else after word moment q) (h.same b refl)
+cut_law since place ss (Either one other) m h = ap₂ merged (h.same one refl) (h.same other refl)
+
+-- Stretches that are used are kept. ----
+
+same_below : (used : List Bool) (place : ℕ) (ss : List Stretch) (m : Moved) → place ≤ length ss
+    → AreMoved (is_used used) (λ p. p) place ss m → (b : Before) → IsUsedBelow used place b
+    → past_at (pasts m.stretches.items) (moved_to m b) ≡ past_at (pasts (take place ss)) b
+same_below used place ss m p h Nothing u = refl
+same_below used place ss m p h (Behind k) u = elim (cases_lt k place) [
+  | inl b ↦ h.same (Behind k) (u b)
+  | inr a ↦
+      rw (get_or_past m.places.items k Nothing (omega (arith, h.places, a)), get_or_past (pasts (take place ss)) k begins (omega (arith, pasts_length ss place p, a))) refl
+]
+
+pub kept_law : (used : List Bool) (place : ℕ) (ss : List Stretch) (s : Stretch) (m : Moved) → place ≤ length ss
+    → AreMoved (is_used used) (λ p. p) place ss m → RefersToUsed used place s
+    → past_of (pasts m.stretches.items) (moved_stretch m s) ≡ past_of (pasts (take place ss)) s
+kept_law used place ss (Overwritten word moment b) m p h u = ap (after word moment) (same_below used place ss m p h b u)
+kept_law used place ss (Either one other) m p h u =
+    ap₂ either (same_below used place ss m p h one u.0) (same_below used place ss m p h other u.1)
+
+-- Which are used. ----
+
+pub below_used : (used : List Bool) (end : ℕ) (b : Before) → length used ≡ end → IsUsedBelow used end b → is_used used b ≡ true
+below_used used end Nothing l u = refl
+below_used used end (Behind k) l u = elim (cases_lt k end) [
+  | inl b ↦ u b
+  | inr a ↦ get_or_past used k true (omega (arith, l, a))
+]
+
+pub stays_used : (old new : List Bool) (b : Before) → StayUsed old new → is_used old b ≡ true → is_used new b ≡ true
+stays_used old new Nothing s u = refl
+stays_used old new (Behind k) s u = s k u
+
+pub same_at : {X : Type 0} (xs : List X) (k : ℕ) (d e : X) → k < length xs → get_or xs k d ≡ get_or xs k e
+same_at [] k d e h = absurd (omega (arith, h))
+same_at (x ∷ xs) zero d e h = refl
+same_at (x ∷ xs) (suc k) d e h = same_at xs k d e (omega (arith, h))
+
+pub pairs_stay : (old new : List Bool) (ps : List FollowedPair) → StayUsed old new → Each (λ p. is_used old p.past ≡ true) ps
+    → Each (λ p. is_used new p.past ≡ true) ps
+pairs_stay old new ps stay h =
+    each_weaker (λ p. is_used old p.past ≡ true) (λ p. is_used new p.past ≡ true) (λ p u. stays_used old new p.past stay u) ps h
+
+-- what a slice of a list was written to stands in the list
+pub used_written : (new old : List Bool) (end : ℕ) (ps : List FollowedPair) → length new ≡ end → Each (λ p. is_used new p.past ≡ true) ps
+    → Each (λ p. is_used (take end (new ++ drop (length new) old)) p.past ≡ true) ps
+used_written new old end ps l h =
+    let whole : take end (new ++ drop (length new) old) ≡ new = rw (← l) (take-append_seam new (drop (length new) old)) in
+    subst (λ used. Each (λ p. is_used used p.past ≡ true) ps) (sym whole) h
+
+-- one pair more
+pub pairs_more : (old new : List Bool) (ps : List FollowedPair) (p : FollowedPair) (i end : ℕ) → i < length ps → p ≡ get_or ps i p
+    → length new ≡ end → StayUsed old new → IsUsedBelow new end p.past
+    → Each (λ q. is_used old q.past ≡ true) (take i ps) → Each (λ q. is_used new q.past ≡ true) (take (i + 1) ps)
+pairs_more old new ps p i end l e long stay here h =
+    let more : take (i + 1) ps ≡ take i ps ++ p ∷ [] = rw add-one (take-suc ps i p l ∙ ap (λ x. take i ps ++ x ∷ []) (sym e)) in
+    rw more (each_append (λ q. is_used new q.past ≡ true) (take i ps) (p ∷ []) (pairs_stay old new (take i ps) stay h) (below_used new end p.past long here, tt))
+
+-- the pasts of pairs are where their references went
+pub pairs_moved : (used : List Bool) (ss : List Stretch) (m : Moved) (ps : List FollowedPair)
+    → ((b : Before) → is_used used b ≡ true → past_at (pasts m.stretches.items) (moved_to m b) ≡ past_at (pasts ss) b)
+    → Each (λ p. is_used used p.past ≡ true) ps
+    → Each (λ p. past_at (pasts m.stretches.items) (moved_to m p.past) ≡ past_at (pasts ss) p.past) ps
+pairs_moved used ss m ps same h =
+    each_weaker (λ p. is_used used p.past ≡ true) (λ p. past_at (pasts m.stretches.items) (moved_to m p.past) ≡ past_at (pasts ss) p.past)
+    (λ p u. same p.past u) ps h

@@ -1,0 +1,133 @@
+-- The pairs on whose ways a load may have got its answer, and the others: what is gathered of them one by one.
+use Rattle.std.proofs.Common.{◌≡◌, ℕ, zero, suc, ◌+◌, ◌<◌, Result, Ok, Err, IfOk, IfErr, IsErrAnd, Bool, true, false, List, [], ◌∷◌, ◌++◌, filter, length, drop, get_or, Option, Some, None, refl, sym, ap, ◌∙◌, subst, append_assoc, add-one, drop-cons, inl, inr, arith}
+use Rattle.std.proofs.lemmas.Bool.{cases_Bool}
+use Rattle.atomic_histories.specs.declared.unit.UnitPlace.{UnitPlace}
+use Rattle.atomic_histories.specs.declared.unit.WatchedLoad.{WatchedLoad}
+use Rattle.atomic_histories.specs.declared.stretches.Before.{Before}
+use Rattle.atomic_histories.specs.declared.stretches.Stretch.{Stretch}
+use Rattle.atomic_histories.specs.declared.pairs.FollowedPair.{FollowedPair}
+use Rattle.atomic_histories.specs.declared.splits.Split.{Split}
+use Rattle.atomic_histories.specs.declared.search.Stop.{Stop}
+use Rattle.atomic_histories.specs.Words.{is_word_of}
+use Rattle.atomic_histories.specs.Pasts.{Past, got, missed}
+use Rattle.atomic_histories.specs.Branches.{may_come}
+use Rattle.atomic_histories.specs.Followed.{Pair, Aim, found, needs_more, word_aim, is_answer, cons_any, pair_on, pair_missed, gathered, with_hope}
+use Rattle.atomic_histories.specs.Stands.{Each}
+use Rattle.atomic_histories.specs.Shares.{got_of, missed_of, past_any, IsShare}
+use Rattle.atomic_histories.specs.Parts.{IsPart, AreParts}
+use Rattle.atomic_histories.specs.Shown.{past_at, pasts, shown, shown_all, IsIn, AreIn, Grows, StopIs}
+use Rattle.atomic_histories.proofs.Frames.{in_grown, past_grown}
+
+pub each_nth : {X : Type 0} (P : X → Type 0) (xs : List X) (i : ℕ) (d : X) → i < length xs → Each P xs → P (get_or xs i d)
+each_nth P [] i d h a = absurd (omega arith)
+each_nth P (x ∷ xs) zero d h a = a.0
+each_nth P (x ∷ xs) (suc i) d h a = each_nth P xs i d (omega arith) a.1
+
+-- one part more of what is gathered so
+pub part_more : (gather : List Pair → List Pair) (part : Pair → List Pair) → ((e : Pair) (es : List Pair) → gather (e ∷ es) ≡ part e ++ gather es)
+    → (ss : List Stretch) (ps : List FollowedPair) (i : ℕ) (p : FollowedPair) (es added more whole : List Pair) → i < length ps
+    → p ≡ get_or ps i p → more ≡ es ++ added → added ≡ part (shown ss p) → es ++ gather (shown_all ss (drop i ps)) ≡ whole
+    → more ++ gather (shown_all ss (drop (i + 1) ps)) ≡ whole
+part_more gather part step ss ps i p es added more whole h is e a inv =
+    let rest : List Pair = gather (shown_all ss (drop (i + 1) ps)) in
+    let left : gather (shown_all ss (drop i ps)) ≡ part (shown ss p) ++ rest =
+    ap (λ qs. gather (shown_all ss qs)) (parts_left) ∙ step (shown ss p) (shown_all ss (drop (i + 1) ps)) in
+    ap (λ xs. xs ++ rest) e ∙ (append_assoc es added rest
+    ∙ (ap (λ xs. es ++ (xs ++ rest)) a ∙ (ap (λ xs. es ++ xs) (sym left) ∙ inv)))
+  where
+    parts_left : drop i ps ≡ p ∷ drop (i + 1) ps
+    parts_left = rw (add-one, drop-cons ps i p h, ← is) refl
+
+pub got_step : (f : Pair → Option Pair) (e : Pair) (es : List Pair) → gathered f (e ∷ es) ≡ cons_any (f e) [] ++ gathered f es
+got_step f e es = front (f e)
+  where
+    front : (x : Option Pair) → cons_any x (gathered f es) ≡ cons_any x [] ++ gathered f es
+    front None = refl
+    front (Some y) = refl
+
+pub missed_step : (aim : Aim) (f : Pair → Option Pair) (e : Pair) (es : List Pair)
+    → with_hope aim (gathered f (e ∷ es)) ≡ filter aim.hope (cons_any (f e) []) ++ with_hope aim (gathered f es)
+missed_step aim f e es = front (f e)
+  where
+    front : (x : Option Pair)
+        → filter aim.hope (cons_any x (gathered f es)) ≡ filter aim.hope (cons_any x []) ++ filter aim.hope (gathered f es)
+    front None = refl
+    front (Some y) = elim (cases_Bool (aim.hope y)) [ inl t ↦ rw t refl | inr n ↦ rw n refl ]
+
+-- One pair. ----
+
+hoped : (hope : Pair → Bool) (e : Pair) (x : Option Past) → ((p : Past) → hope (record { word = e.word; stores = e.stores; past = p }) ≡ true)
+    → cons_any (pair_on e x) [] ≡ filter hope (cons_any (pair_on e x) [])
+hoped hope e None t = refl
+hoped hope e (Some p) t = rw (t p) refl
+
+unhoped : (hope : Pair → Bool) (e : Pair) (x : Option Past) → ((p : Past) → hope (record { word = e.word; stores = e.stores; past = p }) ≡ false)
+    → [] ≡ filter hope (cons_any (pair_on e x) [])
+unhoped hope e None n = refl
+unhoped hope e (Some p) n = rw (n p) refl
+
+not_got : (unit : UnitPlace) (bytes : List ℕ) (l : WatchedLoad) (e : Pair) → is_word_of unit.first e.word l.address bytes ≡ false
+    → pair_missed unit bytes l e ≡ pair_on e (missed (is_answer unit l.address l.since bytes) e.past)
+not_got unit bytes l e n = rw n refl
+
+pub missed_part : (unit : UnitPlace) (bytes : List ℕ) (l : WatchedLoad) (ss : List Stretch) (s : Split) (p : FollowedPair) (r : Option Before)
+    → IsPart unit bytes l ss s p → r ≡ missed_of s p.past → is_word_of unit.first p.word l.address bytes ≡ false
+    → may_come unit l.address bytes p.word p.stores.items ≡ true
+    → cons_any (pair_on (shown ss p) (past_any (pasts ss) r)) []
+    ≡ filter (word_aim unit l.address bytes).hope (cons_any (pair_missed unit bytes l (shown ss p)) [])
+missed_part unit bytes l ss s p r is e n t =
+    let hope : Pair → Bool = (word_aim unit l.address bytes).hope in
+    let pair : Pair = shown ss p in
+    ap (λ x. cons_any (pair_on pair (past_any (pasts ss) x)) []) e
+    ∙ (ap (λ x. cons_any (pair_on pair x) []) is.missed.shows
+    ∙ (hoped hope pair (missed (is_answer unit l.address l.since bytes) pair.past) (λ x. t)
+    ∙ ap (λ x. filter hope (cons_any x [])) (sym (not_got unit bytes l pair n))))
+
+pub lost_part : (unit : UnitPlace) (bytes : List ℕ) (l : WatchedLoad) (ss : List Stretch) (p : FollowedPair)
+    → is_word_of unit.first p.word l.address bytes ≡ false → may_come unit l.address bytes p.word p.stores.items ≡ false
+    → [] ≡ filter (word_aim unit l.address bytes).hope (cons_any (pair_missed unit bytes l (shown ss p)) [])
+lost_part unit bytes l ss p n t =
+    let hope : Pair → Bool = (word_aim unit l.address bytes).hope in
+    let pair : Pair = shown ss p in
+    unhoped hope pair (missed (is_answer unit l.address l.since bytes) pair.past) (λ x. t)
+    ∙ ap (λ x. filter hope (cons_any x [])) (sym (not_got unit bytes l pair n))
+
+-- All pairs. ----
+
+-- what a split says of them
+pub are_parts : (unit : UnitPlace) (bytes : List ℕ) (l : WatchedLoad) (ss ts : List Stretch) (s : Split) → Grows ss ts
+    → ((b : Before) → IsIn ss b → IsShare ts (got_of s b) (got (is_answer unit l.address l.since bytes) (past_at (pasts ss) b)))
+    → ((b : Before) → IsIn ss b → IsShare ts (missed_of s b) (missed (is_answer unit l.address l.since bytes) (past_at (pasts ss) b)))
+    → (ps : List FollowedPair) → AreIn ss ps → AreParts unit bytes l ts s ps
+are_parts unit bytes l ss ts s g a b [] h = tt
+are_parts unit bytes l ss ts s g a b (p ∷ ps) h = (here, are_parts unit bytes l ss ts s g a b ps h.1)
+  where
+    same : past_at (pasts ss) p.past ≡ past_at (pasts ts) p.past
+    same = sym (past_grown ss ts g p.past h.0)
+
+    here : IsPart unit bytes l ts s p
+    here = record {
+      is_in = in_grown ss ts g p.past h.0;
+      got = subst (λ x. IsShare ts (got_of s p.past) (got (is_answer unit l.address l.since bytes) x)) same (a p.past h.0);
+      missed = subst (λ x. IsShare ts (missed_of s p.past) (missed (is_answer unit l.address l.since bytes) x)) same (b p.past h.0);
+    }
+
+-- what is found from the same pairs, with the same loads open
+pub found_same : {A E : Type 0} (r : Result A E) (shows : A → List Pair) (ks ls : List WatchedLoad) (moment : ℕ) (aim : Aim) (as_ bs cs ds : List Pair)
+    → ks ≡ ls → as_ ≡ bs → cs ≡ ds → IfOk r (λ x. shows x ≡ found ks moment aim as_ cs) → IfOk r (λ x. shows x ≡ found ls moment aim bs ds)
+found_same r shows ks ls moment aim as_ bs cs ds e f g h =
+    subst (λ xs. IfOk r (λ x. shows x ≡ found xs moment aim bs ds)) e
+    (subst (λ xs. IfOk r (λ x. shows x ≡ found ks moment aim xs ds)) f
+    (subst (λ xs. IfOk r (λ x. shows x ≡ found ks moment aim as_ xs)) g h))
+
+pub stop_same : {A : Type 0} (r : Result A Stop) (limit : ℕ) (ks ls : List WatchedLoad) (moment : ℕ) (aim : Aim) (as_ bs cs ds : List Pair)
+    → ks ≡ ls → as_ ≡ bs → cs ≡ ds → IfErr r (StopIs (needs_more limit ks moment aim as_ cs)) → IfErr r (StopIs (needs_more limit ls moment aim bs ds))
+stop_same r limit ks ls moment aim as_ bs cs ds e f g h =
+    subst (λ xs. IfErr r (StopIs (needs_more limit xs moment aim bs ds))) e
+    (subst (λ xs. IfErr r (StopIs (needs_more limit ks moment aim xs ds))) f
+    (subst (λ xs. IfErr r (StopIs (needs_more limit ks moment aim as_ xs))) g h))
+
+-- what is said of an error that is passed on
+pub pass_on : {A E : Type 0} (r : Result A E) (e : E) (P : E → Type 0) → IsErrAnd r (λ f. f ≡ e) → P e → IfErr r P
+pass_on (Ok x) e P h p = tt
+pass_on (Err f) e P h p = subst P (sym h) p

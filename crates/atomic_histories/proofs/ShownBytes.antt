@@ -1,0 +1,112 @@
+-- The sets of what stood there are of what a load may have got.
+use Rattle.std.proofs.Common.{◌≡◌, ℕ, zero, suc, ◌<◌, Bool, true, false, ◌||◌, nat_le, List, [], ◌∷◌, ◌++◌, fold, get_or, Option, Some, None, inl, inr, refl, sym, ap, ◌∙◌}
+use Rattle.std.specs.List.{list_any}
+use Rattle.std.proofs.lemmas.Bool.{cases_Bool, lt-ltb}
+use Rattle.memory_histories.specs.declared.sets.ByteSet.{ByteSet}
+use Rattle.memory_histories.specs.Sets.{has, union, no_bytes}
+use Rattle.memory_histories.proofs.ByteSets.{has-with_byte, has-union, has-no_bytes, has-all_bytes}
+use Rattle.atomic_histories.specs.declared.stretches.Before.{Before}
+use Rattle.atomic_histories.specs.declared.stretches.Before.TheVariants.{Nothing, Behind}
+use Rattle.atomic_histories.specs.declared.stretches.Stretch.{Stretch}
+use Rattle.atomic_histories.specs.declared.stretches.Stretch.TheVariants.{Overwritten, Either}
+use Rattle.atomic_histories.specs.declared.pairs.FollowedPair.{FollowedPair}
+use Rattle.atomic_histories.specs.Pasts.{Past, begins, shows}
+use Rattle.atomic_histories.specs.May.{lane_of, may_show, shows_byte, IsSet}
+use Rattle.atomic_histories.specs.MaySets.{with_lane, set_of, stretch_set, stretch_sets, with_pair_bytes, with_pairs_bytes}
+use Rattle.atomic_histories.specs.Shown.{past_at, past_of, pasts, shown, shown_all}
+
+or_true : (a : Bool) → (a || true) ≡ true
+or_true true = refl
+or_true false = refl
+
+or_none : (a : Bool) → (a || false) ≡ a
+or_none true = refl
+or_none false = refl
+
+or_swap : (a b : Bool) → (a || b) ≡ (b || a)
+or_swap true true = refl
+or_swap true false = refl
+or_swap false true = refl
+or_swap false false = refl
+
+or_assoc : (a b c : Bool) → ((a || b) || c) ≡ (a || (b || c))
+or_assoc true b c = refl
+or_assoc false b c = refl
+
+has_lane : (set : ByteSet) (x : Option ℕ) (b : ℕ) → b < 256 → has (with_lane set x) b ≡ (has set b || may_show x b)
+has_lane set (Some c) b l = has-with_byte set c b
+has_lane set None b l = has-all_bytes b ∙ (lt-ltb b 256 l ∙ sym (or_true (has set b)))
+
+module _ (since k b : ℕ) (l : b < 256) where
+  abbrev is : List (Option ℕ) → Bool
+  is = λ w. may_show (lane_of k w) b
+
+  -- the sets of so many stretches are of their pasts
+  abbrev Agree : List ByteSet → List Past → Type 0
+  Agree [] [] = Unit {0}
+  Agree [] (p ∷ ps) = ⊥
+  Agree (s ∷ ss) [] = ⊥
+  Agree (s ∷ ss) (p ∷ ps) = (has s b ≡ shows is since p) × Agree ss ps
+
+  agree_at : (sets : List ByteSet) (ps : List Past) → Agree sets ps → (i : ℕ) → has (get_or sets i no_bytes) b ≡ shows is since (get_or ps i begins)
+  agree_at [] [] a i = has-no_bytes b
+  agree_at [] (p ∷ ps) a i = absurd a
+  agree_at (s ∷ ss) [] a i = absurd a
+  agree_at (s ∷ ss) (p ∷ ps) a zero = a.0
+  agree_at (s ∷ ss) (p ∷ ps) a (suc i) = agree_at ss ps a.1 i
+
+  agree_of : (sets : List ByteSet) (ps : List Past) → Agree sets ps → (r : Before) → has (set_of sets r) b ≡ shows is since (past_at ps r)
+  agree_of sets ps a Nothing = has-no_bytes b
+  agree_of sets ps a (Behind i) = agree_at sets ps a i
+
+  agree_more : (sets : List ByteSet) (ps : List Past) (s : ByteSet) (p : Past) → Agree sets ps → has s b ≡ shows is since p
+      → Agree (sets ++ s ∷ []) (ps ++ p ∷ [])
+  agree_more [] [] s p a e = (e, tt)
+  agree_more [] (q ∷ qs) s p a e = absurd a
+  agree_more (x ∷ xs) [] s p a e = absurd a
+  agree_more (x ∷ xs) (q ∷ qs) s p a e = (a.0, agree_more xs qs s p a.1 e)
+
+  one_agrees : (sets : List ByteSet) (ps : List Past) → Agree sets ps → (s : Stretch)
+      → has (stretch_set since k sets s) b ≡ shows is since (past_of ps s)
+  one_agrees sets ps a (Overwritten word moment before) = elim (cases_Bool (nat_le since moment)) [
+    | inl t ↦ rw t (has_lane (set_of sets before) (lane_of k word) b l
+        ∙ (ap (λ x. x || is word) (agree_of sets ps a before) ∙ or_swap (shows is since (past_at ps before)) (is word)))
+    | inr f ↦ rw f (agree_of sets ps a before)
+  ]
+  one_agrees sets ps a (Either one other) =
+      has-union (set_of sets one) (set_of sets other) b
+      ∙ (ap (λ x. x || has (set_of sets other) b) (agree_of sets ps a one)
+      ∙ ap (λ x. shows is since (past_at ps one) || x) (agree_of sets ps a other))
+
+  all_agree : (sets : List ByteSet) (ps : List Past) → Agree sets ps → (ss : List Stretch)
+      → Agree (fold (λ xs s. xs ++ stretch_set since k xs s ∷ []) sets ss) (fold (λ qs s. qs ++ past_of qs s ∷ []) ps ss)
+  all_agree sets ps a [] = a
+  all_agree sets ps a (s ∷ ss) =
+      all_agree (sets ++ stretch_set since k sets s ∷ []) (ps ++ past_of ps s ∷ [])
+      (agree_more sets ps (stretch_set since k sets s) (past_of ps s) a (one_agrees sets ps a s)) ss
+
+  sets_agree : (ss : List Stretch) → Agree (stretch_sets since k ss) (pasts ss)
+  sets_agree ss = all_agree [] [] tt ss
+
+  pair_bytes : (ss : List Stretch) (set : ByteSet) (p : FollowedPair)
+      → has (with_pair_bytes k (stretch_sets since k ss) set p) b ≡ (has set b || shows_byte since k b (shown ss p))
+  pair_bytes ss set p =
+      let before : Bool = shows is since (past_at (pasts ss) p.past) in
+      has_lane (union set (set_of (stretch_sets since k ss) p.past)) (lane_of k p.word) b l
+      ∙ (ap (λ x. x || is p.word) (has-union set (set_of (stretch_sets since k ss) p.past) b
+      ∙ ap (λ x. has set b || x) (agree_of (stretch_sets since k ss) (pasts ss) (sets_agree ss) p.past))
+      ∙ (or_assoc (has set b) before (is p.word) ∙ ap (λ x. has set b || x) (or_swap before (is p.word))))
+
+  pairs_bytes : (ss : List Stretch) (set : ByteSet) (ps : List FollowedPair)
+      → has (with_pairs_bytes k (stretch_sets since k ss) set ps) b ≡ (has set b || list_any (shows_byte since k b) (shown_all ss ps))
+  pairs_bytes ss set [] = sym (or_none (has set b))
+  pairs_bytes ss set (p ∷ ps) =
+      pairs_bytes ss (with_pair_bytes k (stretch_sets since k ss) set p) ps
+      ∙ (ap (λ x. x || list_any (shows_byte since k b) (shown_all ss ps)) (pair_bytes ss set p)
+      ∙ or_assoc (has set b) (shows_byte since k b (shown ss p)) (list_any (shows_byte since k b) (shown_all ss ps)))
+
+-- the set of what a load since a moment may have got on the ways to some pairs
+pub pairs_shown : (since k : ℕ) (ss : List Stretch) (ps : List FollowedPair)
+    → IsSet (λ b. list_any (shows_byte since k b) (shown_all ss ps)) (with_pairs_bytes k (stretch_sets since k ss) no_bytes ps)
+pairs_shown since k ss ps =
+    λ b l. pairs_bytes since k b l ss no_bytes ps ∙ ap (λ x. x || list_any (shows_byte since k b) (shown_all ss ps)) (has-no_bytes b)

@@ -1,0 +1,31 @@
+use Rattle.std.proofs.Common.{◌<◌, [], length, arith}
+use Rattle.atomic_histories.specs.Followed.{cons_any, gathered, pair_got, pair_on}
+use Rattle.atomic_histories.specs.Parts.{IsPart}
+use Rattle.atomic_histories.specs.Shares.{past_any}
+use Rattle.atomic_histories.specs.Shown.{pasts, shown, shown_all}
+use Rattle.std.proofs.Common.{ap, subst, sym}
+use Rattle.atomic_histories.proofs.Parts.{each_nth, part_more, got_step}
+use Rattle.atomic_histories.proofs.answers.pairs_got.Goals as goal
+
+pub loop-pair-preserved : goal.loop-pair-preserved
+loop-pair-preserved c =
+    let unit = c.args.unit in
+    let bytes = c.args.bytes.now in
+    let load = c.args.load.now in
+    let split = c.args.split.now in
+    let pairs = c.args.pairs.now in
+    let i = c.loop-pair.pair-index in
+    let pair = c.pair-item.result in
+    let f = pair_got unit bytes load in
+    let below : i < length pairs = omega (arith, c.loop-pair-test.true) in
+    record {
+      shown = λ ss parts.
+          let part = subst (IsPart unit bytes load ss split) (sym c.pair-item.is) (each_nth (IsPart unit bytes load ss split) pairs i pair below parts) in
+          part_more (gathered f) (λ e. cons_any (f e) []) (got_step f) ss pairs i pair (shown_all ss c.loop-pair.parts.items)
+          (cons_any (pair_on (shown ss pair) (past_any (pasts ss) c.past_got-past.result)) []) (shown_all ss c.add_part.new.parts.items)
+          (gathered f (shown_all ss pairs)) below c.pair-item.is (c.in_ok-add_part.ensures.shown ss)
+          (ap (λ x. cons_any x []) (c.past_got-past.ensures.pair ss part)) (c.loop-pair.invariant.shown ss parts);
+      are_in = λ ss parts.
+          let part = subst (IsPart unit bytes load ss split) (sym c.pair-item.is) (each_nth (IsPart unit bytes load ss split) pairs i pair below parts) in
+          c.in_ok-add_part.ensures.are_in ss (c.loop-pair.invariant.are_in ss parts) (c.past_got-past.ensures.is_in ss part);
+    }

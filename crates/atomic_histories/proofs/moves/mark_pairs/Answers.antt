@@ -1,0 +1,11 @@
+use Rattle.std.proofs.Common.{◌≡◌, length, rules}
+use Rattle.atomic_histories.proofs.Moving.{pairs_more}
+use Rattle.atomic_histories.proofs.moves.mark_pairs.Goals as goal
+
+pub loop-pair-preserved : goal.loop-pair-preserved
+loop-pair-preserved c =
+    let p = c.pair-item in
+    let went = c.mark.ensures in
+    let long : length c.mark.new.used ≡ length c.loop-pair.used = search rules in
+    pairs_more c.loop-pair.used c.mark.new.used c.args.pairs.now p.result c.loop-pair.pair-index (length c.loop-pair.used)
+    c.loop-pair-test.true p.is long went.stay went.marked c.loop-pair.invariant

@@ -1,0 +1,8 @@
+use Rattle.std.proofs.Common.{◌≡◌, length, rules}
+use Rattle.atomic_histories.proofs.Moving.{used_written}
+use Rattle.atomic_histories.proofs.moves.used_by.Goals as goal
+
+pub returns-clause-used : goal.returns-clause-used
+returns-clause-used c =
+    let long : length c.mark_all.new.used ≡ c.in_ok-used.used.len = search rules in
+    used_written c.mark_all.new.used c.in_ok-used.used.items c.in_ok-used.used.len c.args.pairs.now long c.mark_all.ensures.used
