@@ -1,5 +1,5 @@
 -- Worked examples, each checked by computing.
-use Rattle.std.specs.Prelude.{◌≡◌, ℕ, ◌*◌, zero, false, IsTrue, List, [], ◌∷◌, ◌++◌, map, slice_set}
+use Rattle.std.specs.Prelude.{◌≡◌, ℕ, ◌+◌, ◌-◌, ◌*◌, zero, false, IsTrue, List, [], ◌∷◌, ◌++◌, map, slice_set}
 use Rattle.std.proofs.Common.{refl}
 use Rattle.std.specs.List.{range_with_len}
 use Rattle.flat_model.specs.declared.Word.{Word}
@@ -12,6 +12,7 @@ use Rattle.flat_model.specs.declared.Answer.TheVariants.{Accepted, Moved, Value,
 use Rattle.flat_model.specs.Words.{has, joined, merged}
 use Rattle.input_stack.specs.Stack.{stack_word}
 use Rattle.memory_banks.specs.Banks.{with_command, served}
+use Rattle.miss_registers.specs.declared.TheConstants.{MAX_WAITING}
 use Rattle.miss_registers.specs.Registers as regs
 use Rattle.cache_unit.specs.declared.Sizes.{Sizes}
 use Rattle.cache_directory.specs.Frames as dir
@@ -190,11 +191,28 @@ dirty_victim : Gives shape_S (block_fetched 0 ++ (Store 0 (word 170 0 0 0) (lane
 unfolding all_steps
 dirty_victim = refl
 
-four_loads_of_one_word : Gives (record shape_S { replies = 8 }) ((Load 1 5, Accepted) ∷ (Load 2 5, Accepted) ∷ (Store 5 (word 255 0 0 0) (lanes 1), Accepted) ∷ (Load 3 5, Accepted) ∷ (Load 4 5, Accepted) ∷ (Load 5 5, Refused TargetsFull) ∷ (Serve 1, Moved) ∷ (Arrive 1 0, Moved) ∷ (Load 5 5, Accepted) ∷ (Process 0, Moved) ∷ (Take 0, Value 5 (word 255 0 0 0)) ∷ (Take 0, Value 1 (word 5 0 0 0)) ∷ (Take 0, Value 2 (word 5 0 0 0)) ∷ (Take 0, Value 3 (word 255 0 0 0)) ∷ (Take 0, Value 4 (word 255 0 0 0)) ∷ [])
+-- two loads of a word before a store of it, and as many behind that as may wait for the word
+abbrev waiting_loads : List (Event × Answer)
+waiting_loads =
+    (Load 1 5, Accepted) ∷ (Load 2 5, Accepted) ∷ (Store 5 (word 255 0 0 0) (lanes 1), Accepted) ∷ map (λ tag. (Load tag 5, Accepted)) (range_with_len 3 (MAX_WAITING - 2))
+
+-- one more is refused
+abbrev one_too_many : List (Event × Answer)
+one_too_many = waiting_loads ++ (Load (MAX_WAITING + 1) 5, Refused TargetsFull) ∷ []
+
+-- until the word has come
+abbrev one_more : List (Event × Answer)
+one_more = one_too_many ++ (Serve 1, Moved) ∷ (Arrive 1 0, Moved) ∷ (Load (MAX_WAITING + 1) 5, Accepted) ∷ []
+
+-- shape S, with replies for more loads than that
+abbrev many_replies : Sizes
+many_replies = record shape_S { replies = 2 * MAX_WAITING }
+
+four_loads_of_one_word : Gives many_replies (one_more ++ (Process 0, Moved) ∷ (Take 0, Value (MAX_WAITING + 1) (word 255 0 0 0)) ∷ (Take 0, Value 1 (word 5 0 0 0)) ∷ (Take 0, Value 2 (word 5 0 0 0)) ∷ map (λ tag. (Take 0, Value tag (word 255 0 0 0))) (range_with_len 3 (MAX_WAITING - 2)))
 unfolding all_steps
 four_loads_of_one_word = refl
 
-four_loads_of_one_word_weights : (weight (after (record shape_S { replies = 8 }) ((Load 1 5, Accepted) ∷ (Load 2 5, Accepted) ∷ (Store 5 (word 255 0 0 0) (lanes 1), Accepted) ∷ (Load 3 5, Accepted) ∷ (Load 4 5, Accepted) ∷ (Load 5 5, Refused TargetsFull) ∷ [])) ≡ 19) × (weight (after (record shape_S { replies = 8 }) ((Load 1 5, Accepted) ∷ (Load 2 5, Accepted) ∷ (Store 5 (word 255 0 0 0) (lanes 1), Accepted) ∷ (Load 3 5, Accepted) ∷ (Load 4 5, Accepted) ∷ (Load 5 5, Refused TargetsFull) ∷ (Serve 1, Moved) ∷ (Arrive 1 0, Moved) ∷ (Load 5 5, Accepted) ∷ [])) ≡ 18) × (weight (after (record shape_S { replies = 8 }) ((Load 1 5, Accepted) ∷ (Load 2 5, Accepted) ∷ (Store 5 (word 255 0 0 0) (lanes 1), Accepted) ∷ (Load 3 5, Accepted) ∷ (Load 4 5, Accepted) ∷ (Load 5 5, Refused TargetsFull) ∷ (Serve 1, Moved) ∷ (Arrive 1 0, Moved) ∷ (Load 5 5, Accepted) ∷ (Process 0, Moved) ∷ [])) ≡ 17)
+four_loads_of_one_word_weights : (weight (after many_replies one_too_many) ≡ MAX_WAITING + 15) × (weight (after many_replies one_more) ≡ MAX_WAITING + 14) × (weight (after many_replies (one_more ++ (Process 0, Moved) ∷ [])) ≡ MAX_WAITING + 13)
 unfolding all_steps
 four_loads_of_one_word_weights = (refl, refl, refl)
 
