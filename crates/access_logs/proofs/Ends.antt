@@ -12,12 +12,13 @@ use Rattle.access_logs.specs.declared.fault.NoRoom.{NoRoom}
 use Rattle.access_logs.specs.declared.fault.LogFault.{LogFault}
 use Rattle.access_logs.specs.declared.fault.LogFault.TheVariants as log
 use Rattle.access_logs.specs.Logs.{LogState, fault_by, Requested, HaltsAt, Ends}
+use Rattle.access_logs.specs.declared.pages.TheConstants.{MAX_PAGES}
 use Rattle.access_logs.specs.declared.writing.TheConstants.{MOST_LOG_LINES}
 
 -- what a collector of lines, with its writer, its state, its room and its fault, has done
 abbrev pub Went : {W S : Type 0} (took : W → List ℕ → W → Type 0) (access_in : List ℕ → Result (Option Access) LineFault) (wr : S → W) (st : S → LogState) (rm : S → ℕ) (nr : S → Option NoRoom) → S → List (List ℕ) → S → Type 0
 Went took access_in wr st rm nr s texts t =
-    Requested took access_in (rm t) (wr s) texts (wr t) (st t) × (rm t ≡ rm s) × (rm t ≤ 1024) × (nr t ≡ None)
+    Requested took access_in (rm t) (wr s) texts (wr t) (st t) × (rm t ≡ rm s) × (rm t ≤ MAX_PAGES) × (nr t ≡ None)
 
 -- a fault of what was read is none of the collector's own
 told : {R W : Type 0} (gave : R → List ℕ → R → Type 0) (failed : R → R → Type 0) {took : W → List ℕ → W → Type 0} (refused unflushed : W → W → Type 0) {access_in : List ℕ → Result (Option Access) LineFault} {room : ℕ} (r r' : R) {w v w' : W} {s : LogState} (texts : List (List ℕ)) (e : TraceFault)

@@ -25,6 +25,7 @@ use Rattle.access_logs.specs.Requests.{load_of, store_of, loads_of, stores_of, r
 use Rattle.access_logs.specs.Logs.{LogState, log_start, access_told, state_after, requests_for, state_behind, requests_in, groups_for, groups_in, fault_by}
 use Rattle.access_logs.specs.Reads.{HasRoom, LogSays, FindsNoRoom, LogFails, Kept, KeptMore, Halts, HaltsAt}
 use Rattle.access_logs.proofs.Logs.{state_more, requests_more}
+use Rattle.access_logs.specs.declared.pages.TheConstants.{MAX_PAGES}
 use Rattle.access_logs.specs.declared.writing.TheConstants.{MOST_LOG_LINES}
 
 -- ---- how many requests an access has
@@ -143,7 +144,7 @@ kept_line text a e p q = kept_with text (Some a) e p q.state (ap (λ x. x.lines)
 -- what a collector of lines, with its state, its room, what it keeps and its fault, has done
 abbrev pub Went : {S : Type 0} (access_in : List ℕ → Result (Option Access) LineFault) (st : S → LogState) (rm : S → ℕ) (rq : S → List Event) (ac : S → List AccessGroup) (ft : S → Option LogFault) → S → List (List ℕ) → S → Type 0
 Went access_in st rm rq ac ft s texts t =
-    Kept access_in (rm t) texts (st t) (rq t) (ac t) × (rm t ≡ rm s) × (rm t ≤ 1024) × (ft t ≡ None)
+    Kept access_in (rm t) texts (st t) (rq t) (ac t) × (rm t ≡ rm s) × (rm t ≤ MAX_PAGES) × (ft t ≡ None)
 
 -- how one stops
 abbrev pub Stopped : {S : Type 0} (access_in : List ℕ → Result (Option Access) LineFault) (st : S → LogState) (rm : S → ℕ) (rq : S → List Event) (ft : S → Option LogFault) → S → List ℕ → S → Type 0

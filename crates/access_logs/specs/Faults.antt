@@ -1,5 +1,6 @@
 -- The texts of faults.
 use Rattle.std.specs.Prelude.{ℕ, ◌*◌, if◌then◌else◌, nat_le, List, ◌++◌, codes, decimal}
+use Rattle.flat_model.specs.declared.limits.TheConstants.{MAX_WORDS}
 use Rattle.trace_text.specs.Faults.{trace_fault_text}
 use Rattle.access_logs.specs.declared.fault.NoRoom.{NoRoom}
 use Rattle.access_logs.specs.declared.fault.LogFault.{LogFault}
@@ -9,7 +10,7 @@ use Rattle.access_logs.specs.declared.pages.TheConstants.{PAGE_WORDS, MAX_PAGES}
 -- how many words would do, if any
 unfoldable pub remedy_text : ℕ → List ℕ
 remedy_text pages =
-    if nat_le pages MAX_PAGES then decimal (pages * PAGE_WORDS) ++ codes " words would do" else codes "memory has at most 1048576 words"
+    if nat_le pages MAX_PAGES then decimal (pages * PAGE_WORDS) ++ codes " words would do" else codes "memory has at most " ++ decimal MAX_WORDS ++ codes " words"
 
 -- a number behind its name
 abbrev pub number_text : List ℕ → ℕ → List ℕ

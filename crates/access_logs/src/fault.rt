@@ -4,6 +4,7 @@ ghost use Rattle.std.specs.Fmt.{WritesOnOk};
 ghost use Rattle.access_logs.specs.Faults.{place_text, remedy_text};
 
 use crate::pages::{MAX_PAGES, PAGE_WORDS};
+use flat_model::MAX_WORDS;
 use std::alloc::AllocError;
 use std::error::Error;
 use std::fmt;
@@ -35,7 +36,7 @@ impl NoRoom {
         if self.pages <= u64::from(MAX_PAGES) {
             write!(f, "{} words would do", self.pages * PAGE_WORDS)
         } else {
-            f.write_str("memory has at most 1048576 words")
+            write!(f, "memory has at most {MAX_WORDS} words")
         }
     }
 }

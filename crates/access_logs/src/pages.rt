@@ -6,13 +6,14 @@ ghost use Rattle.access_logs.specs.Pages.{found_in, memory_word, with_page, page
 
 use crate::access::Access;
 use arrayvec::ArrayVec;
+use flat_model::MAX_WORDS;
 use std::marker::Model;
 
 /// How many words a page has.
 pub const PAGE_WORDS: u64 = 1024;
 
 /// How many pages memory has at most.
-pub const MAX_PAGES: u32 = 1024;
+pub const MAX_PAGES: u32 = MAX_WORDS / PAGE_WORDS as u32;
 
 /// How many pages are kept: an access that finds no room has touched two more than memory has.
 const MAX_KEPT: usize = MAX_PAGES as usize + 2;
