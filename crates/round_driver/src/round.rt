@@ -11,12 +11,12 @@ use crate::machine::{command_count, has_answer, has_stack_room, used_registers};
 use crate::note::Note;
 use crate::schedule::Schedule;
 use arrayvec::ArrayVec;
-use flat_model::{Answer, Event};
+use flat_model::{Answer, Event, MAX_BANKS};
 use machine_core::{Lookup, ShapedMachine};
 
 /// The most that is told of a round: of each bank, one arrival, the stack, the replies, the write
 /// queue, and one request.
-pub(crate) const MOST_NOTES: usize = 24;
+pub(crate) const MOST_NOTES: usize = MAX_BANKS as usize + 8;
 
 // What is told of a round.
 pub(crate) type Notes = ArrayVec<Note, MOST_NOTES>;
