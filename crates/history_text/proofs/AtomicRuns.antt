@@ -12,8 +12,8 @@ use Rattle.atomic_histories.specs.declared.memory.AtomicFault.TheVariants as ato
 use Rattle.atomic_histories.specs.declared.unit.UnitPlace.{UnitPlace}
 use Rattle.atomic_histories.specs.Operations.{Opened, none_opened, opened_after, opened_by, form_fault}
 use Rattle.atomic_histories.specs.Law.{UnitMemory, untouched, seen, MayBe, starts, steps, sees, unit_at, is_formed, IsAtomicAt, IsAtomic, IsWrongPlace, FaultIs}
-use Rattle.atomic_histories.specs.Branches.{Branch}
-use Rattle.atomic_histories.specs.Stands.{Each, IsOn, StandsFor}
+use Rattle.atomic_histories.specs.Followed.{Pair, Ways}
+use Rattle.atomic_histories.specs.Stands.{Each, EachWay, IsOn, StandsFor}
 use Rattle.atomic_histories.specs.Held.{Held, nothing_held, IsWide, StandsForAll, StandsBut}
 use Rattle.atomic_histories.specs.May.{IsSetOf}
 use Rattle.atomic_histories.specs.Judge.{held, limit_of, HasSameMemory, StepFaultIs}
@@ -85,17 +85,22 @@ atomic_too image rest size es e f a h = record {
 
 -- ---- what is kept
 
-unit_stands : (start : UnitMemory) (unit : UnitPlace) (bs : List Branch) (es : List HistoryEvent) (e f : HistoryEvent) → Alike e f → Alike f e
-    → StandsFor start unit bs (es ++ e ∷ []) → StandsFor start unit bs (es ++ f ∷ [])
-unit_stands start unit bs es e f a b s = record {
-  sound = each_of bs s.sound;
+unit_stands : (start : UnitMemory) (unit : UnitPlace) (u : Ways) (es : List HistoryEvent) (e f : HistoryEvent) → Alike e f → Alike f e
+    → StandsFor start unit u (es ++ e ∷ []) → StandsFor start unit u (es ++ f ∷ [])
+unit_stands start unit u es e f a b s = record {
+  asked = s.asked;
+  timely = s.timely;
+  apart = s.apart;
+  alike = s.alike;
+  sound = each_of u.pairs s.sound;
   complete = λ m may. s.complete m (may_be unit start es f e b (es ++ f ∷ []) m may refl);
 }
   where
-    each_of : (cs : List Branch) → Each (λ c. (m : UnitMemory) → IsOn c m → MayBe unit start (es ++ e ∷ []) m) cs
-        → Each (λ c. (m : UnitMemory) → IsOn c m → MayBe unit start (es ++ f ∷ []) m) cs
+    each_of : (ps : List Pair) → Each (EachWay u.loads (λ c. (m : UnitMemory) → IsOn c m → MayBe unit start (es ++ e ∷ []) m)) ps
+        → Each (EachWay u.loads (λ c. (m : UnitMemory) → IsOn c m → MayBe unit start (es ++ f ∷ []) m)) ps
     each_of [] h = tt
-    each_of (c ∷ cs) h = (λ m on. may_be unit start es e f a (es ++ e ∷ []) m (h.0 m on) refl, each_of cs h.1)
+    each_of (p ∷ ps) h =
+        (λ path has m on. may_be unit start es e f a (es ++ e ∷ []) m (h.0 path has m on) refl, each_of ps h.1)
 
 all_stand : (k : Held) (es : List HistoryEvent) (e f : HistoryEvent) → Alike e f → Alike f e → StandsForAll k (es ++ e ∷ []) → StandsForAll k (es ++ f ∷ [])
 all_stand k es e f a b s = record {
