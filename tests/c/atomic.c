@@ -102,22 +102,17 @@ static void sets(void) {
     CHECK(kroft_history_free(&h) == KROFT_DONE);
 }
 
-enum { WORDS = 2000, STORES = 8, UNIT = 64 };
+enum { STORES = 13, UNIT = 64 };
 
-/* A load of two bytes that stays open while many stores to its second byte are made, one behind the other, and eight more
-   that are open at once: each order of these makes a way with all the words that the load may have got. */
+/* A load of two bytes that stays open, and thirteen stores to its second byte that are open at once: of each of those that have
+   taken effect any may have been the last, which makes 5,544 pairs of six of twelve and one that was the last. */
 static void crowd(kroft_history *h) {
-    uint32_t k;
     uint8_t byte;
     CHECK(kroft_load_request(h, 1, UNIT, 2) == KROFT_LAWFUL);
-    for (k = 0; k < WORDS; k++) {
-        byte = (uint8_t)(k % 100 + 100);
-        CHECK(kroft_store_request(h, 1, UNIT + 1, &byte, 1, 1) == KROFT_LAWFUL && kroft_store_response(h, 1) == KROFT_LAWFUL);
-    }
     for (byte = 1; byte <= STORES; byte++) CHECK(kroft_store_request(h, byte, UNIT + 1, &byte, 1, 1) == KROFT_LAWFUL);
 }
 
-/* The answer of a store leaves too many words. Nothing is told as a fault, the unit is forgotten, and the rest is judged on. */
+/* The answer of a store needs too many pairs. Nothing is told as a fault, the unit is forgotten, and the rest is judged on. */
 static void undecided_store(void) {
     static const uint8_t zero[1] = {0}, other[1] = {99};
     uint8_t row[KROFT_SET_BYTES], all[KROFT_SET_BYTES];

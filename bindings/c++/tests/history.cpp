@@ -81,16 +81,12 @@ void reasons() {
 void undecided() {
     kroft::History history(kroft::Law::Atomic);
     check(bool(history.load_request(7, 0x43, 1)), "a load that stays open");
-    for (unsigned k = 0; k < 2000; k++) {
-        uint8_t byte = static_cast<uint8_t>(k % 100 + 100);
-        check(history.store_request(1, 0x43, &byte, 1) && history.store_response(1), "a store behind another");
-    }
-    for (uint8_t number = 1; number <= 8; number++) check(bool(history.store_request(number, 0x43, &number, 1)), "a store");
+    for (uint8_t number = 1; number <= 13; number++) check(bool(history.store_request(number, 0x43, &number, 1)), "a store");
     check(!history.undecided(), "nothing undecided yet");
-    kroft::HistoryVerdict said = history.store_response(8);
+    kroft::HistoryVerdict said = history.store_response(13);
     check(!said && said.is_undecided() && history.undecided() == 0x40u, "undecided");
     history.forget(*history.undecided());
-    check(bool(history.store_response(8)) && !history.undecided(), "forgotten");
+    check(bool(history.store_response(13)) && !history.undecided(), "forgotten");
     const uint8_t wrong[1] = {1};
     check(history.load_request(1, 0x48, 1) && !history.load_response(1, wrong, 1), "another unit");
     for (bool forgets : {false, true}) {

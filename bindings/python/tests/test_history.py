@@ -115,23 +115,20 @@ class Histories(unittest.TestCase):
                 history.load_response(1, b"\x22\x22")
 
     def test_a_unit_without_a_verdict_is_forgotten(self) -> None:
-        """A load stays open while many stores are made, and eight more are open at once: too many words."""
+        """A load stays open, and thirteen stores are open at once: too many pairs of a word and the stores in effect."""
         with History(Law.ATOMIC) as history:
             history.load_request(1, 0x43, 1)
-            for number in range(2000):
-                history.store_request(1, 0x43, bytes([number % 100 + 100]))
-                history.store_response(1)
-            for number in range(1, 9):
+            for number in range(1, 14):
                 history.store_request(number, 0x43, bytes([number]))
             with self.assertRaises(Undecided) as undecided:
-                history.store_response(8)
+                history.store_response(13)
             self.assertEqual(undecided.exception.address, 0x40)
             with self.assertRaises(Undecided) as asked:
                 history.may_return(1, 0x43)
             self.assertIsNone(asked.exception.address)
-            self.assertEqual(len(history.open_stores()), 8)
+            self.assertEqual(len(history.open_stores()), 13)
             history.forget(0x47)
-            for number in range(1, 9):
+            for number in range(1, 14):
                 history.store_response(number)
             self.assertEqual(history.may_return(1, 0x43), set(range(256)))
             history.load_response(1, b"\x77")

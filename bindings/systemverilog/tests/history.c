@@ -184,12 +184,11 @@ static void undecided(void) {
     int k;
     begin(KROFT_ATOMIC_LAW, 0);
     EXPECT(load(7, 0x43, 0) == KROFT_SV_RIGHT);
-    for (k = 0; k < 2000; k++) EXPECT(store(1, 0x43, (uint8_t)(k % 100 + 100), 0) == KROFT_SV_RIGHT && stored(1) == KROFT_SV_RIGHT);
-    for (k = 1; k <= 8; k++) EXPECT(store((uint64_t)k, 0x43, (uint8_t)k, 0) == KROFT_SV_RIGHT);
+    for (k = 1; k <= 13; k++) EXPECT(store((uint64_t)k, 0x43, (uint8_t)k, 0) == KROFT_SV_RIGHT);
     EXPECT(kroft_sv_undecided(history, &address) == 0 && address == 0);
-    EXPECT(stored(8) == KROFT_SV_UNDECIDED && says("store 8 of 1 bytes at 0x43: undecided: too many ways in one unit, at 0x40"));
-    EXPECT(kroft_sv_open_count(history) == 9 && kroft_sv_undecided(history, &address) == 1 && address == 0x40);
-    EXPECT(kroft_sv_forget(history, address) == 1 && stored(8) == KROFT_SV_RIGHT && kroft_sv_undecided(history, &address) == 0);
+    EXPECT(stored(13) == KROFT_SV_UNDECIDED && says("store 13 of 1 bytes at 0x43: undecided: too many ways in one unit, at 0x40"));
+    EXPECT(kroft_sv_open_count(history) == 14 && kroft_sv_undecided(history, &address) == 1 && address == 0x40);
+    EXPECT(kroft_sv_forget(history, address) == 1 && stored(13) == KROFT_SV_RIGHT && kroft_sv_undecided(history, &address) == 0);
     EXPECT(value(7, 0x99) == KROFT_SV_RIGHT && load(1, 0x48, 0) == KROFT_SV_RIGHT && value(1, 1) == KROFT_SV_WRONG_DATA);
 }
 
