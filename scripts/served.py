@@ -20,7 +20,9 @@ class Served:
     def __init__(self, folder):
         environment = {**os.environ, "TMPDIR": str(folder)}
         self.folder = folder
-        self.process = subprocess.Popen([TOP / "kroft-page"], stdout=subprocess.PIPE, stderr=subprocess.PIPE, text=True, env=environment)
+        # A shell without job control starts what it runs beside it with SIGINT ignored, and that is inherited.
+        self.process = subprocess.Popen([TOP / "kroft-page"], stdout=subprocess.PIPE, stderr=subprocess.PIPE, text=True, env=environment,
+                                        preexec_fn=lambda: signal.signal(signal.SIGINT, signal.SIG_DFL))
         self.address = self.process.stdout.readline().strip()
         found = re.fullmatch(r"http://127\.0\.0\.1:(\d+)/([\w-]{20,})/", self.address)
         if not found:
