@@ -14,14 +14,18 @@ void __wrap_free(void *at);
 
 /* How many allocations are still granted, and how many blocks are held. */
 static long granted, held;
+/* The most bytes that a block was asked to have. */
+static size_t largest;
 
 void *__wrap_malloc(size_t size) {
+    if (size > largest) largest = size;
     void *at = granted-- > 0 ? __real_malloc(size) : NULL;
     held += at != NULL;
     return at;
 }
 
 void *__wrap_realloc(void *at, size_t size) {
+    if (size > largest) largest = size;
     return granted-- > 0 ? __real_realloc(at, size) : NULL;
 }
 
@@ -141,6 +145,30 @@ static void many_stores(void) {
     CHECK(kroft_history_free(&h) == KROFT_DONE && held == 0);
 }
 
+/* A history of 20,000 stores to one place by a law, at no moment of which less than one load is open: behind the first 2,000 no block is
+   larger than those before, and there are no more of them. */
+static void stays_small(uint32_t law) {
+    kroft_history h = KROFT_NO_HISTORY;
+    size_t most = 0;
+    long before = 0, blocks = 0;
+    unsigned k;
+    granted = 10000000;
+    largest = 0;
+    CHECK(kroft_history_open(&h, law, law == KROFT_ATOMIC_LAW ? 8 : 1, KROFT_ZEROS, NULL, 0) == KROFT_DONE);
+    CHECK(kroft_load_request(&h, 0, 8, 4) == KROFT_LAWFUL);
+    for (k = 0; k < 20000; k++) {
+        const uint8_t bytes[4] = {(uint8_t)k, (uint8_t)(k >> 8), 1, 2};
+        CHECK(kroft_load_request(&h, k + 1, 8, 4) == KROFT_LAWFUL && kroft_store_request(&h, k, 8, bytes, 4, 15) == KROFT_LAWFUL);
+        CHECK(kroft_store_response(&h, k) == KROFT_LAWFUL && kroft_load_response(&h, k, bytes, 4) == KROFT_LAWFUL);
+        if (k < 2000) {
+            most = largest;
+            if (held > before) before = held;
+        } else if (held > blocks) blocks = held;
+    }
+    CHECK(largest == most && blocks <= before);
+    CHECK(kroft_history_free(&h) == KROFT_DONE && held == 0);
+}
+
 /* Rounds that are begun in a machine with rounds, each allocation refused in turn: those that were begun before go on. No round
    allocates, and what ends gives its memory back. */
 static void rounds(kroft_handle *handle) {
@@ -204,5 +232,7 @@ int main(void) {
     histories();
     questions();
     many_stores();
+    stays_small(KROFT_REGULAR_LAW);
+    stays_small(KROFT_ATOMIC_LAW);
     return checks_end("refused");
 }
