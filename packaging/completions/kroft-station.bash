@@ -7,7 +7,7 @@ _kroft_station() {
     --asks) COMPREPLY=($(compgen -W '' -- "$word")); return ;;
     --seed) COMPREPLY=($(compgen -W '' -- "$word")); return ;;
     --threads) COMPREPLY=($(compgen -W '' -- "$word")); return ;;
-    --journal) COMPREPLY=($(compgen -f -- "$word")); return ;;
+    --journal) mapfile -t COMPREPLY < <(compgen -f -- "$word"); compopt -o filenames 2>/dev/null; return ;;
     --stations) COMPREPLY=($(compgen -W '' -- "$word")); return ;;
   esac
   for ((k = 1; k < COMP_CWORD; k++)); do

@@ -3,9 +3,9 @@ _kroft() {
   local word=${COMP_WORDS[COMP_CWORD]} before=${COMP_WORDS[COMP_CWORD - 1]} command= k
   COMPREPLY=()
   case $before in
-    --shape) COMPREPLY=($(compgen -f -- "$word")); return ;;
-    --machine) COMPREPLY=($(compgen -f -- "$word")); return ;;
-    --image) COMPREPLY=($(compgen -f -- "$word")); return ;;
+    --shape) mapfile -t COMPREPLY < <(compgen -f -- "$word"); compopt -o filenames 2>/dev/null; return ;;
+    --machine) mapfile -t COMPREPLY < <(compgen -f -- "$word"); compopt -o filenames 2>/dev/null; return ;;
+    --image) mapfile -t COMPREPLY < <(compgen -f -- "$word"); compopt -o filenames 2>/dev/null; return ;;
     --format) COMPREPLY=($(compgen -W 'text csv json' -- "$word")); return ;;
     --latency) COMPREPLY=($(compgen -W '' -- "$word")); return ;;
     --busy) COMPREPLY=($(compgen -W '' -- "$word")); return ;;
