@@ -45,6 +45,14 @@ source_folders() {
   crates_below "$1" | sed 's|.*|crates/&/src crates/&/specs crates/&/proofs|'
 }
 
+# find_sources CRATE WORDS..: finds the sources of a crate and of those below it. (What an editor leaves beside them is none.)
+find_sources() {
+  crate=$1
+  shift
+  # (unquoted: names without spaces; not each crate has each folder)
+  find $(source_folders "$crate") -type f \( -name '*.rt' -o -name '*.antt' \) "$@" 2>/dev/null || :
+}
+
 # making_files CRATE: what else the bytes of a crate's files hang on.
 making_files() {
   case $1 in
@@ -57,8 +65,7 @@ making_files() {
 sum_of() {
   {
     crates_below "$1" | while IFS= read -r crate; do grep "^${crate}[ :]" crates.txt || :; done
-    # (unquoted: names without spaces; not each crate has each folder)
-    { find $(source_folders "$1") $(making_files "$1") -type f -print0 2>/dev/null || :; } | LC_ALL=C sort -z | xargs -0 sha256sum
+    { find_sources "$1" -print0; making_files "$1" | tr ' \n' '\0\0'; } | LC_ALL=C sort -z | xargs -0 sha256sum
   } | sha256sum | cut -d ' ' -f 1
 }
 
