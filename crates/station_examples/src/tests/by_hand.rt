@@ -482,7 +482,7 @@ const STORY: Story = Story {
 
 static STORIES: [Story; 11] = [
     Story {
-        name: "a load, audited at each step",
+        name: "station_by_hand: a load, audited at each step",
         stages: &LOAD,
         settled: true,
         ..STORY
@@ -501,33 +501,33 @@ static STORIES: [Story; 11] = [
         ..STORY
     },
     Story {
-        name: "a full journal",
+        name: "journal_full: a full journal",
         journal: 1,
         stages: &FULL_JOURNAL,
         ..STORY
     },
     Story {
-        name: "a full ring of asks",
+        name: "full_rings: a full ring of asks",
         stages: &FULL_ASKS,
         ..STORY
     },
     Story {
-        name: "a full ring of verdicts",
+        name: "full_rings: a full ring of verdicts",
         stages: &FULL_VERDICTS,
         ..STORY
     },
     Story {
-        name: "a full ring of commands",
+        name: "full_rings: a full ring of commands",
         stages: &FULL_COMMANDS,
         ..STORY
     },
     Story {
-        name: "a full ring of tellings",
+        name: "full_rings: a full ring of tellings",
         stages: &FULL_TELLINGS,
         ..STORY
     },
     Story {
-        name: "an uncalled word",
+        name: "uncalled_word: an uncalled word",
         raw: Some(0),
         journal: 8,
         stages: &UNCALLED_WORD,
@@ -535,7 +535,7 @@ static STORIES: [Story; 11] = [
         ..STORY
     },
     Story {
-        name: "too many answers",
+        name: "too_many_answers: an answer too many",
         raw: Some(0),
         journal: 8,
         stages: &TOO_MANY_ANSWERS,
@@ -543,7 +543,7 @@ static STORIES: [Story; 11] = [
         ..STORY
     },
     Story {
-        name: "a wrong answer, and a stray one",
+        name: "raw_bank: a wrong answer, and a stray one",
         raw: Some(1),
         stages: &WRONG_ANSWER,
         fault: Some(SideFault::Stray {

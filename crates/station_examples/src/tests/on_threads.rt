@@ -121,7 +121,7 @@ const TWO_LOADS: [Told; 4] = [Told::Accepted, VALUE, Told::Accepted, VALUE];
 
 /// Port 0 asks for a word that a held bank has; port 1 is served from the other bank meanwhile.
 pub(crate) const HELD_BANK: Run = Run {
-    name: "a held bank",
+    name: "station_on_threads: a held bank",
     rule: Rule::HeldBank,
     journal: 1_000,
     scripts: &[
@@ -186,7 +186,7 @@ const PREFETCHED: Entry = Entry::Step {
 
 static RUNS: [Run; 12] = [
     Run {
-        name: "an empty script",
+        name: "empty_scripts_on_threads: an empty script",
         scripts: &[&[]],
         lists: Some(&[Tellings::InOrder(&[])]),
         facts: &[
@@ -197,7 +197,7 @@ static RUNS: [Run; 12] = [
         ..RUN
     },
     Run {
-        name: "all five threads run at the same time",
+        name: "empty_scripts_on_threads: all five threads run at the same time",
         rule: Rule::Meeting,
         scripts: &[&[], &[]],
         lists: Some(&[Tellings::InOrder(&[]), Tellings::InOrder(&[])]),
@@ -243,7 +243,7 @@ static RUNS: [Run; 12] = [
     },
     // What a bank was sent that never goes is left.
     Run {
-        name: "a silent bank",
+        name: "turn_limit: a silent bank",
         rule: Rule::Holds(Actor::Bank(0)),
         turns: 100_000,
         scripts: &[&[Ask::Load { tag: 1, at: 0 }]],
@@ -252,7 +252,7 @@ static RUNS: [Run; 12] = [
     },
     // Nothing has happened.
     Run {
-        name: "no turns",
+        name: "turn_limit: no turns",
         turns: 0,
         scripts: &[&[]],
         facts: &[Fact::Entries(0), Fact::Audit(Audit::Clean)],
@@ -260,7 +260,7 @@ static RUNS: [Run; 12] = [
     },
     // The prefetch takes the journal's one entry, and Done finds none.
     Run {
-        name: "a full journal",
+        name: "turn_limit: a full journal",
         journal: 1,
         turns: 100_000,
         scripts: &[&[Ask::Prefetch { at: 0 }]],
