@@ -1,5 +1,6 @@
 -- The load that is open under a number, at a unit: there is one if it has a byte there, and no other has its number.
-use Rattle.std.proofs.Common.{◌≡◌, ℕ, ◌⊎◌, Bool, true, false, ◌||◌, ◌==◌, List, [], ◌∷◌, ◌++◌, map, filter, Option, Some, None, inl, inr, refl, sym, ap, ◌∙◌, subst, eqb-true}
+use Rattle.std.proofs.Common.{◌≡◌, ℕ, ◌⊎◌, Bool, true, false, ◌||◌, ◌==◌, List, [], ◌∷◌, ◌++◌, map, filter, Option, Some, None, inl, inr}
+use Rattle.std.proofs.Common.{refl, sym, ap, ◌∙◌, subst, eqb-true}
 use Rattle.std.specs.List.{list_any, find}
 use Rattle.std.proofs.lemmas.Bool.{cases_Bool, and_parts}
 use Rattle.atomic_histories.specs.declared.unit.Operation.{Operation}
@@ -8,7 +9,8 @@ use Rattle.atomic_histories.specs.Operations.{Opened, has_number}
 use Rattle.atomic_histories.specs.Law.{OpenLoad, UnitMemory, is_load}
 use Rattle.atomic_histories.specs.Stands.{Each, One}
 use Rattle.atomic_histories.specs.May.{may_show, lane_of, has_got, got_byte}
-use Rattle.atomic_histories.proofs.Lists.{each_map, each_unmap, each_filter, each_append, each_weaker, one_weaker, one_map, one_unmap, one_filter}
+use Rattle.atomic_histories.proofs.Lists.{each_map, each_unmap, each_filter, each_append, each_weaker, one_weaker, one_map, one_unmap}
+use Rattle.atomic_histories.proofs.Lists.{one_filter}
 use Rattle.atomic_histories.proofs.Links.{AreDistinct, load_key, key, is_of, IsLinked}
 
 abbrev Word : Type 0

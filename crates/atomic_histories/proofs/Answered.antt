@@ -1,5 +1,6 @@
 -- A load is answered: the ways on which it may have got its answer, and those on which that may still come.
-use Rattle.std.proofs.Common.{◌≡◌, ℕ, ◌⊎◌, Bool, true, false, ◌||◌, not, nat_le, if◌then◌else◌, List, [], ◌∷◌, map, filter, Option, Some, None, inl, inr, refl, sym, ap, ◌∙◌, subst}
+use Rattle.std.proofs.Common.{◌≡◌, ℕ, ◌⊎◌, Bool, true, false, ◌||◌, not, nat_le, if◌then◌else◌, List, [], ◌∷◌, map, filter, Option, Some}
+use Rattle.std.proofs.Common.{None, inl, inr, refl, sym, ap, ◌∙◌, subst}
 use Rattle.std.specs.List.{list_all, list_any, find}
 use Rattle.std.proofs.lemmas.Bool.{cases_Bool, and_from}
 use Rattle.atomic_histories.specs.declared.unit.OpenStore.{OpenStore}
@@ -9,12 +10,14 @@ use Rattle.atomic_histories.specs.Words.{is_word_of}
 use Rattle.atomic_histories.specs.Law.{UnitMemory, may_answer_load}
 use Rattle.atomic_histories.specs.Pasts.{Past, Stood, Has, IsBy, got, missed, oldest, cut_for, seen_since}
 use Rattle.atomic_histories.specs.Branches.{Watched, Branch, with_word, effect_of, is_watched, may_have, has_answer, branch_without_load}
-use Rattle.atomic_histories.specs.Followed.{Pair, Aim, watched, way_on, word_aim, is_under, is_answer, pair_on, pair_got, pair_missed, cons_any, gathered, with_hope, pair_cut, moment_with, loads_without}
+use Rattle.atomic_histories.specs.Followed.{Pair, Aim, watched, way_on, word_aim, is_under, is_answer, pair_on, pair_got, pair_missed}
+use Rattle.atomic_histories.specs.Followed.{cons_any, gathered, with_hope, pair_cut, moment_with, loads_without}
 use Rattle.atomic_histories.specs.Stands.{Each, One, EachWay, OneWay, IsAsked, IsPairBy, Leads}
 use Rattle.atomic_histories.proofs.Lists.{one_weaker, one_filter, each_weaker, each_map}
 use Rattle.atomic_histories.proofs.Alone.{IsAlone, found_each}
 use Rattle.atomic_histories.proofs.MayCome.{IsLate, late_hope, late_answer}
-use Rattle.atomic_histories.proofs.Paths.{HasAny, got_has, has_got, missed_has, has_missed, cut_path, cut_has, has_cut, IsAnyBy, by_got, by_missed, by_cut, watched_cut, oldest_none, oldest_first, some_path}
+use Rattle.atomic_histories.proofs.Paths.{HasAny, got_has, has_got, missed_has, has_missed, cut_path, cut_has, has_cut, IsAnyBy, by_got}
+use Rattle.atomic_histories.proofs.Paths.{by_missed, by_cut, watched_cut, oldest_none, oldest_first, some_path}
 use Rattle.atomic_histories.proofs.Found.{IsFor}
 
 abbrev Word : Type 0
@@ -193,7 +196,8 @@ module _ (loads : List WatchedLoad) (moment : ℕ) (asked : Each (IsAsked moment
       → Late (effect_of (way_on loads e path) before s after)
   late_more e path before s after off late k f =
       let there : find (is_watched number) (map (with_word e.word) (map (watched path) loads)) ≡ Some (with_word e.word (watched path l)) =
-      find_mapped (with_word e.word) (is_watched number) (map (watched path) loads) (watched path l) (find_watched number path loads l open_) in
+      find_mapped (with_word e.word) (is_watched number) (map (watched path) loads) (watched path l)
+      (find_watched number path loads l open_) in
       let same : with_word e.word (watched path l) ≡ k = some_same (with_word e.word (watched path l)) k (sym there ∙ f) in
       let none : (is_word_of unit.first e.word l.address bytes
       || list_any (λ w. is_word_of unit.first w l.address bytes) (seen_since l.since path)) ≡ false =
@@ -203,7 +207,8 @@ module _ (loads : List WatchedLoad) (moment : ℕ) (asked : Each (IsAsked moment
   module _ (m : UnitMemory) (may : may_answer_load unit number bytes m.loads ≡ true) where
     pub is_for : IsFor loads moment asked m Late aim
     is_for = record {
-      here = λ e path late o. late_answer unit number bytes (way_on loads e path) (watched path l) m (find_watched number path loads l open_)
+      here = λ e path late o. late_answer unit number bytes (way_on loads e path) (watched path l) m
+          (find_watched number path loads l open_)
           late may o;
       stays = late_more;
       hopes = λ e path late r. late_hope unit number bytes (way_on loads e path) (watched path l) m (find_watched number path loads l open_)

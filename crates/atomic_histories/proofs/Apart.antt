@@ -1,5 +1,6 @@
 -- Each pair is followed once, and the open stores of all pairs are the same, but for whether they have taken effect.
-use Rattle.std.proofs.Common.{◌≡◌, ℕ, zero, suc, Bool, true, false, ◌&&◌, ◌||◌, not, ◌==◌, if◌then◌else◌, List, [], ◌∷◌, ◌++◌, map, filter, fold, Option, Some, None, is_some, inl, inr, refl, sym, ap, ap₂, ◌∙◌}
+use Rattle.std.proofs.Common.{◌≡◌, ℕ, zero, suc, Bool, true, false, ◌&&◌, ◌||◌, not, ◌==◌, if◌then◌else◌, List, [], ◌∷◌, ◌++◌, map, filter}
+use Rattle.std.proofs.Common.{fold, Option, Some, None, is_some, inl, inr, refl, sym, ap, ap₂, ◌∙◌}
 use Rattle.std.specs.List.{list_any, find}
 use Rattle.std.specs.Option.{option_eq}
 use Rattle.std.specs.Cmp.Lexicographic.{pointwise}
@@ -14,7 +15,11 @@ use Rattle.atomic_histories.specs.declared.unit.WatchedLoad.{WatchedLoad}
 use Rattle.atomic_histories.specs.Words.{at_unit, stored_byte, is_at, is_word_of}
 use Rattle.atomic_histories.specs.Law.{done_store, is_store, may_answer_store}
 use Rattle.atomic_histories.specs.Pasts.{Past, got, missed, oldest}
-use Rattle.atomic_histories.specs.Followed.{Pair, Ways, Aim, effects, is_same_word, is_same_store, is_same_pair, with_pair, with_pairs, effect_aim, word_aim, next_of, out_after, next_after, met, rounds, is_under, is_answer, pair_on, pair_got, pair_missed, cons_any, gathered, with_hope, answered_load, answered_store, pair_without_store, pair_with_store, pair_cut, ways_with_load, ways_with_store, ways_after, is_first, loads_without}
+use Rattle.atomic_histories.specs.Followed.{Pair, Ways, Aim, effects, is_same_word, is_same_store, is_same_pair, with_pair, with_pairs}
+use Rattle.atomic_histories.specs.Followed.{effect_aim, word_aim, next_of, out_after, next_after, met, rounds, is_under, is_answer, pair_on}
+use Rattle.atomic_histories.specs.Followed.{pair_got, pair_missed, cons_any, gathered, with_hope, answered_load, answered_store}
+use Rattle.atomic_histories.specs.Followed.{pair_without_store, pair_with_store, pair_cut, ways_with_load, ways_with_store, ways_after}
+use Rattle.atomic_histories.specs.Followed.{is_first, loads_without}
 use Rattle.atomic_histories.specs.Stands.{Each, IsAsked, IsOther, AreApart, store_key, IsOfStores}
 use Rattle.atomic_histories.proofs.Lists.{each_weaker, each_map, each_filter, each_both, snoc_same}
 use Rattle.atomic_histories.proofs.Found.{IsJoint, IsKept, each_with, met_sound}
@@ -80,7 +85,8 @@ apart_next loads moment aim next (e ∷ es) a = elim (cases_Bool (aim.goal e)) [
       rw f (apart_next loads moment aim (with_pairs next on) es (apart_withs next on a))
 ]
 
-apart_met : (loads : List WatchedLoad) (moment n : ℕ) (aim : Aim) (out es : List Pair) → AreApart out → AreApart (met loads moment n aim out es)
+apart_met : (loads : List WatchedLoad) (moment n : ℕ) (aim : Aim) (out es : List Pair) → AreApart out
+    → AreApart (met loads moment n aim out es)
 apart_met loads moment zero aim out es a = a
 apart_met loads moment (suc n) aim out es a =
     apart_met loads moment n aim (out_after aim.goal out es) (next_after loads moment aim es) (apart_out aim.goal out es a)
@@ -99,7 +105,8 @@ apart_map R f keeps (e ∷ es) r a = (
 abbrev KeepsPair : (Pair → Option Pair) → Type 0
 KeepsPair f = (e g : Pair) → f e ≡ Some g → (e.word ≡ g.word) × (e.stores ≡ g.stores)
 
-gathered_other : (f : Pair → Option Pair) → KeepsPair f → (d : Pair) (es : List Pair) → Each (IsOther d) es → Each (IsOther d) (gathered f es)
+gathered_other : (f : Pair → Option Pair) → KeepsPair f → (d : Pair) (es : List Pair) → Each (IsOther d) es
+    → Each (IsOther d) (gathered f es)
 gathered_other f keeps d [] a = tt
 gathered_other f keeps d (e ∷ es) a = put (f e) refl (gathered_other f keeps d es a.1)
   where
@@ -229,7 +236,8 @@ store_shaped true number bytes u s =
 store_shaped false number bytes u s = s
 
 -- the pairs of an answer
-answered_shape : (unit : UnitPlace) (bytes : List ℕ) (load : Option WatchedLoad) (u : Ways) → Each (IsAsked u.moment) u.loads → (s : IsShaped u)
+answered_shape : (unit : UnitPlace) (bytes : List ℕ) (load : Option WatchedLoad) (u : Ways) → Each (IsAsked u.moment) u.loads
+    → (s : IsShaped u)
     → AreApart (answered_load unit bytes load u) × Each (IsOfStores s.alike.0) (answered_load unit bytes load u)
 answered_shape unit bytes None u asked s = (s.apart, s.alike.1)
 answered_shape unit bytes (Some l) u asked s =
@@ -261,7 +269,8 @@ store_answered number u asked s =
     let R : Pair → Type 0 = λ e. IsOfStores keys e × (may_answer_store number e.stores ≡ true) in
     let joint : IsJoint R = λ f e h a b. a in
     let there : Each R (answered_store number u) =
-    met_sound u.loads u.moment asked (IsOfStores keys) R (keys_joint keys) joint (keys_kept u.loads u.moment asked keys) (suc (rounds u.pairs))
+    met_sound u.loads u.moment asked (IsOfStores keys) R (keys_joint keys) joint (keys_kept u.loads u.moment asked keys)
+    (suc (rounds u.pairs))
     (effect_aim number) (λ e a t. (a, t)) [] u.pairs tt s.alike.1 in (
       apart_map R (pair_without_store number)
           (λ e g p q n w t. n w (same_filtered number e.stores g.stores (p.0 ∙ sym q.0) p.1 q.1 t)) (answered_store number u) there

@@ -1,5 +1,7 @@
 -- Events that a unit takes where it stands: what the search would find, and what is kept of the units.
-use Rattle.std.proofs.Common.{◌≡◌, ◌≢◌, ℕ, zero, suc, ◌+◌, ◌*◌, ◌/◌, ◌<◌, ◌≤◌, Bool, true, false, ◌&&◌, ◌||◌, not, ◌==◌, if◌then◌else◌, List, [], ◌∷◌, filter, fold, max, min, length, take, get_or, Option, Some, None, Result, Ok, Err, IfOk, OnErr, inl, inr, refl, sym, ap, ap₂, ◌∙◌, subst, arith}
+use Rattle.std.proofs.Common.{◌≡◌, ◌≢◌, ℕ, zero, suc, ◌+◌, ◌*◌, ◌/◌, ◌<◌, ◌≤◌, Bool, true, false, ◌&&◌, ◌||◌, not, ◌==◌, if◌then◌else◌}
+use Rattle.std.proofs.Common.{List, [], ◌∷◌, filter, fold, max, min, length, take, get_or, Option, Some, None, Result, Ok, Err, IfOk, OnErr}
+use Rattle.std.proofs.Common.{inl, inr, refl, sym, ap, ap₂, ◌∙◌, subst, arith}
 use Rattle.std.specs.List.{find, list_all, range_with_len}
 use Rattle.std.proofs.Math.Path.{fun_ext}
 use Rattle.std.proofs.lemmas.List.{length-take-le, take-take, get_or-take}
@@ -22,7 +24,10 @@ use Rattle.atomic_histories.specs.Words.{byte_for, written, is_as_it_stood, is_w
 use Rattle.atomic_histories.specs.Law.{unit_at, may_answer_store, done_store}
 use Rattle.atomic_histories.specs.Pasts.{Past, Stood, stood, begins, after, got, missed, oldest, earlier, cut_for, overwritten}
 use Rattle.atomic_histories.specs.Branches.{gives, may_come_in, may_come}
-use Rattle.atomic_histories.specs.Followed.{Pair, Ways, Aim, first_ways, has_way, effect_aim, word_aim, pair_after, cons_effect, effects_from, effects, with_pair, with_pairs, out_after, next_after, met, rounds, found, is_under, is_first, loads_without, moment_with, is_answer, pair_got, pair_missed, gathered, with_hope, answered_load, answered_store, ways_without_load}
+use Rattle.atomic_histories.specs.Followed.{Pair, Ways, Aim, first_ways, has_way, effect_aim, word_aim, pair_after, cons_effect}
+use Rattle.atomic_histories.specs.Followed.{effects_from, effects, with_pair, with_pairs, out_after, next_after, met, rounds, found}
+use Rattle.atomic_histories.specs.Followed.{is_under, is_first, loads_without, moment_with, is_answer, pair_got, pair_missed, gathered}
+use Rattle.atomic_histories.specs.Followed.{with_hope, answered_load, answered_store, ways_without_load}
 use Rattle.atomic_histories.specs.Held.{Held, covered, units_of, changed, is_among}
 use Rattle.atomic_histories.specs.Judge.{bytes_of, kept_or, kept_at, words_of, IsTaken}
 use Rattle.atomic_histories.specs.Shown.{past_at, past_of, pasts}
@@ -236,7 +241,8 @@ behind number moment (k ∷ ks) l es word new stores is cut_ = elim (cases_Bool 
   | inr n ↦ rw n refl
 ]
 
-pub later_taken : (unit : UnitPlace) (bytes : List ℕ) (number : ℕ) (l : WatchedLoad) (u : Ways) (e : Pair) (s : OpenStore) → u.pairs ≡ e ∷ []
+pub later_taken : (unit : UnitPlace) (bytes : List ℕ) (number : ℕ) (l : WatchedLoad) (u : Ways) (e : Pair) (s : OpenStore)
+    → u.pairs ≡ e ∷ []
     → e.stores ≡ s ∷ [] → s.is_done ≡ false → e.past ≡ begins → find (is_under number) u.loads ≡ Some l
     → is_word_of unit.first e.word l.address bytes ≡ false → is_word_of unit.first (written s.bytes e.word) l.address bytes ≡ true
     → cut_for (oldest (loads_without number u.loads)) (overwritten (loads_without number u.loads) u.moment e.word begins)
@@ -252,7 +258,9 @@ pub later_taken : (unit : UnitPlace) (bytes : List ℕ) (number : ℕ) (l : Watc
     } ≡ ways_without_load number u (answered_load unit bytes (Some l) u)
 later_taken unit bytes number l u e s one store open_ past is f t cut_ =
     behind number u.moment u.loads l u.pairs e.word (written s.bytes e.word) (done_store s ∷ []) is cut_
-    ∙ (ap (λ p. ways_without_load number u (record { word = written s.bytes e.word; stores = done_store s ∷ []; past = overwritten u.loads u.moment e.word p } ∷ [])) (sym past)
+    ∙ (ap (λ p. ways_without_load number u
+    (record { word = written s.bytes e.word; stores = done_store s ∷ []; past = overwritten u.loads u.moment e.word p } ∷ []))
+    (sym past)
     ∙ ap (ways_without_load number u) (sym (load_next unit bytes l u e s one store open_ past f t)))
 
 pub load_left : (number : ℕ) (u : Ways) (e : Pair) → has_way (ways_without_load number u (e ∷ [])) ≡ true
@@ -363,7 +371,14 @@ untaken_at (Err e) image rest size opened f g number same words others =
 
 -- the operations that are open change behind the units
 pub taken_open : (h room mid next : Held) (event : HistoryEvent) → form_fault h.opened event ≡ None → room ≡ h → AreTaken room event mid
-    → next ≡ record { image = mid.image; rest = mid.rest; size = mid.size; opened = opened_after mid.opened event; units = mid.units; words = mid.words }
+    → next ≡ record {
+      image = mid.image;
+      rest = mid.rest;
+      size = mid.size;
+      opened = opened_after mid.opened event;
+      units = mid.units;
+      words = mid.words;
+    }
     → IsTaken h event next
 taken_open h room mid next event formed same taken_there e =
     let taken : AreTaken h event mid = subst (λ x. AreTaken x event mid) same taken_there in

@@ -1,5 +1,7 @@
 -- Enables beyond the 64 that a number has, and steps of the loops over bytes.
-use Rattle.std.proofs.Common.{◌≡◌, ℕ, zero, suc, ◌+◌, ◌-◌, ◌/◌, ◌%◌, ◌^◌, ◌<◌, ◌≤◌, true, ◌&&◌, ◌||◌, ◌==◌, List, [], ◌∷◌, ◌++◌, length, take, drop, get_or, set, Option, None, slice_get, nat_le, refl, sym, ap, ap₂, ◌∙◌, append_assoc, add-one, drop-cons, take-append-drop, append-nil, drop-set-lt, arith}
+use Rattle.std.proofs.Common.{◌≡◌, ℕ, zero, suc, ◌+◌, ◌-◌, ◌/◌, ◌%◌, ◌^◌, ◌<◌, ◌≤◌, true, ◌&&◌, ◌||◌, ◌==◌, List, [], ◌∷◌, ◌++◌, length}
+use Rattle.std.proofs.Common.{take, drop, get_or, set, Option, None, slice_get, nat_le, refl, sym, ap, ap₂, ◌∙◌, append_assoc, add-one}
+use Rattle.std.proofs.Common.{drop-cons, take-append-drop, append-nil, drop-set-lt, arith}
 use Rattle.std.proofs.lemmas.Bool.{le-leb}
 use Rattle.std.proofs.lemmas.Nat.Bits.{bit_at_above}
 use Rattle.std.proofs.lemmas.List.{at_drop_more, take_more_set, drop_all}

@@ -1,5 +1,6 @@
 -- An event on a way: it leads to what the law makes of its states with the event, and to nothing else.
-use Rattle.std.proofs.Common.{◌≡◌, ℕ, ◌⊎◌, Bool, true, false, ◌&&◌, ◌||◌, not, List, [], ◌∷◌, ◌++◌, filter, Option, Some, None, inl, inr, refl, sym, ap, ◌∙◌, subst, append_assoc}
+use Rattle.std.proofs.Common.{◌≡◌, ℕ, ◌⊎◌, Bool, true, false, ◌&&◌, ◌||◌, not, List, [], ◌∷◌, ◌++◌, filter, Option, Some, None, inl, inr}
+use Rattle.std.proofs.Common.{refl, sym, ap, ◌∙◌, subst, append_assoc}
 use Rattle.std.specs.List.{list_all}
 use Rattle.std.proofs.lemmas.Bool.{and_parts, and_from}
 use Rattle.std.proofs.lemmas.List.{map-append}
@@ -7,8 +8,10 @@ use Rattle.std.proofs.lemmas.List.Elements.{filter-append}
 use Rattle.std.proofs.lemmas.List.Folds.{list_all-append}
 use Rattle.atomic_histories.specs.declared.unit.OpenStore.{OpenStore}
 use Rattle.atomic_histories.specs.Words.{written}
-use Rattle.atomic_histories.specs.Law.{OpenLoad, UnitMemory, HiddenStep, done_store, done_load, is_store, may_answer_store, with_load, with_store, without_store}
-use Rattle.atomic_histories.specs.Branches.{Watched, Branch, with_word, effect_of, has_effect, branch_without_store, branch_with_load, branch_with_store}
+use Rattle.atomic_histories.specs.Law.{OpenLoad, UnitMemory, HiddenStep, done_store, done_load, is_store, may_answer_store, with_load}
+use Rattle.atomic_histories.specs.Law.{with_store, without_store}
+use Rattle.atomic_histories.specs.Branches.{Watched, Branch, with_word, effect_of, has_effect, branch_without_store, branch_with_load}
+use Rattle.atomic_histories.specs.Branches.{branch_with_store}
 use Rattle.atomic_histories.specs.Stands.{MayHaveGot, IsWatched, AreWatched, IsOn, Leads, now, later}
 
 abbrev Word : Type 0
@@ -32,7 +35,8 @@ leads_watched l {e} {m} (now o) =
     now (record {
       word = o.word;
       stores = o.stores;
-      loads = watched_push e.word e.loads m.loads l (record { number = l.number; address = l.address; got = None }) o.loads (refl, refl, tt);
+      loads = watched_push e.word e.loads m.loads l (record { number = l.number; address = l.address; got = None }) o.loads
+          (refl, refl, tt);
     })
 leads_watched l {e} {m} (later before s after split open_ r) =
     let n : UnitMemory = with_load l.number l.address m in

@@ -1,5 +1,6 @@
 -- The ways that are followed are exact: after each event they lead to what the unit may be, and to nothing else.
-use Rattle.std.proofs.Common.{◌≡◌, ℕ, suc, ◌+◌, ◌≤◌, Bool, true, false, if◌then◌else◌, List, [], ◌∷◌, ◌++◌, map, Option, Some, None, is_some, fold, append_assoc, append-nil, inl, inr, refl, sym, ap, ◌∙◌, subst, arith}
+use Rattle.std.proofs.Common.{◌≡◌, ℕ, suc, ◌+◌, ◌≤◌, Bool, true, false, if◌then◌else◌, List, [], ◌∷◌, ◌++◌, map, Option, Some, None}
+use Rattle.std.proofs.Common.{is_some, fold, append_assoc, append-nil, inl, inr, refl, sym, ap, ◌∙◌, subst, arith}
 use Rattle.std.specs.List.{list_any, find}
 use Rattle.std.proofs.lemmas.List.{map-append}
 use Rattle.memory_histories.specs.declared.events.HistoryEvent.{HistoryEvent}
@@ -8,10 +9,14 @@ use Rattle.memory_histories.specs.declared.events.Rest.{Rest}
 use Rattle.atomic_histories.specs.declared.unit.UnitPlace.{UnitPlace}
 use Rattle.atomic_histories.specs.declared.unit.WatchedLoad.{WatchedLoad}
 use Rattle.atomic_histories.specs.Words.{at_unit, stored_byte, is_at}
-use Rattle.atomic_histories.specs.Law.{OpenLoad, UnitMemory, HiddenStep, MayBe, starts, steps, sees, untouched, seen, with_load, with_store, without_load, without_store, may_answer_load, may_answer_store}
+use Rattle.atomic_histories.specs.Law.{OpenLoad, UnitMemory, HiddenStep, MayBe, starts, steps, sees, untouched, seen, with_load, with_store}
+use Rattle.atomic_histories.specs.Law.{without_load, without_store, may_answer_load, may_answer_store}
 use Rattle.atomic_histories.specs.Pasts.{Stood}
 use Rattle.atomic_histories.specs.Branches.{Watched, Branch, has_answer, branch_with_load, branch_with_store}
-use Rattle.atomic_histories.specs.Followed.{Pair, Ways, Aim, first_ways, watched, way_on, rounds, effect_aim, word_aim, is_under, is_first, pair_got, pair_missed, gathered, with_hope, answered_load, answered_store, pair_without_store, pair_with_store, ways_with_load, ways_with_store, ways_without_load, ways_without_store, ways_after, loads_without}
+use Rattle.atomic_histories.specs.Followed.{Pair, Ways, Aim, first_ways, watched, way_on, rounds, effect_aim, word_aim, is_under, is_first}
+use Rattle.atomic_histories.specs.Followed.{pair_got, pair_missed, gathered, with_hope, answered_load, answered_store, pair_without_store}
+use Rattle.atomic_histories.specs.Followed.{pair_with_store, ways_with_load, ways_with_store, ways_without_load, ways_without_store}
+use Rattle.atomic_histories.specs.Followed.{ways_after, loads_without}
 use Rattle.atomic_histories.specs.Stands.{Each, One, EachWay, OneWay, IsAsked, IsPairBy, AreWatched, IsOn, Leads, now, StandsFor}
 use Rattle.atomic_histories.proofs.Lists.{snoc_same, one_weaker, one_map, each_weaker, each_map, each_both, each_append, each_filter}
 use Rattle.atomic_histories.proofs.Alone.{IsAlone}
@@ -19,9 +24,11 @@ use Rattle.atomic_histories.proofs.Apart.{IsShaped, event_shaped}
 use Rattle.atomic_histories.proofs.Steps.{leads_on}
 use Rattle.atomic_histories.proofs.Paths.{some_path, by_weaker, path_by, seen_none}
 use Rattle.atomic_histories.proofs.Found.{IsJoint, IsSound, IsFor, sound_joint, sound_kept, each_joint, met_sound, found_complete}
-use Rattle.atomic_histories.proofs.Events.{leads_with_load, sound_with_load, leads_with_store, sound_with_store, leads_without_store, sound_without_store}
+use Rattle.atomic_histories.proofs.Events.{leads_with_load, sound_with_load, leads_with_store, sound_with_store, leads_without_store}
+use Rattle.atomic_histories.proofs.Events.{sound_without_store}
 use Rattle.atomic_histories.proofs.Answering.{sound_without_load, leads_without_load}
-use Rattle.atomic_histories.proofs.Answered.{HasAnswers, answers_none, word_answers, got_sound, missed_sound, is_for, split_complete, way_without, each_cut, one_cut, left_asked, moment_asked, moment_by}
+use Rattle.atomic_histories.proofs.Answered.{HasAnswers, answers_none, word_answers, got_sound, missed_sound, is_for, split_complete}
+use Rattle.atomic_histories.proofs.Answered.{way_without, each_cut, one_cut, left_asked, moment_asked, moment_by}
 
 -- the states on a way have a property
 abbrev pub SoundOn : (UnitMemory → Type 0) → Branch → Type 0
@@ -68,7 +75,8 @@ asked_more : (n : ℕ) (ls : List WatchedLoad) → Each (IsAsked n) ls → Each 
 asked_more n ls a = each_weaker (IsAsked n) (IsAsked (n + 1)) (λ l h. omega (arith, h)) ls a
 
 timely_more : (n : ℕ) (es : List Pair) → Each (IsPairBy n) es → Each (IsPairBy (n + 1)) es
-timely_more n es a = let less : n ≤ n + 1 = omega arith in each_weaker (IsPairBy n) (IsPairBy (n + 1)) (λ e h. by_weaker n (n + 1) less e.past h) es a
+timely_more n es a =
+    let less : n ≤ n + 1 = omega arith in each_weaker (IsPairBy n) (IsPairBy (n + 1)) (λ e h. by_weaker n (n + 1) less e.past h) es a
 
 requested_load_fits : (number address : ℕ) (P Q : UnitMemory → Type 0) → IsClosed Q → (b : Bool)
     → ((m n : UnitMemory) → P m → Some (if b then with_load number address m else m) ≡ Some n → Q n)
@@ -91,7 +99,8 @@ requested_load_fits number address P Q closed true f u s =
 requested_load_fits number address P Q closed false f u s = record {
   asked = s.asked;
   timely = s.timely;
-  sound = each_weaker (EachWay u.loads (SoundOn P)) (EachWay u.loads (SoundOn Q)) (λ e h path has m o. f m m (h path has m o) refl) u.pairs s.sound;
+  sound = each_weaker (EachWay u.loads (SoundOn P)) (EachWay u.loads (SoundOn Q))
+      (λ e h path has m o. f m m (h path has m o) refl) u.pairs s.sound;
 }
 
 one_both : (P Q : Pair → Type 0) (es : List Pair) → One P es → Each Q es → One (λ e. P e × Q e) es
@@ -133,7 +142,8 @@ requested_store_fits number bytes P Q true f u s = record {
 requested_store_fits number bytes P Q false f u s = record {
   asked = s.asked;
   timely = s.timely;
-  sound = each_weaker (EachWay u.loads (SoundOn P)) (EachWay u.loads (SoundOn Q)) (λ e h path has m o. f m m (h path has m o) refl) u.pairs s.sound;
+  sound = each_weaker (EachWay u.loads (SoundOn P)) (EachWay u.loads (SoundOn Q))
+      (λ e h path has m o. f m m (h path has m o) refl) u.pairs s.sound;
 }
 
 requested_store_leads : (number : ℕ) (bytes : List (Option ℕ)) (b : Bool) (m n : UnitMemory)
@@ -195,7 +205,8 @@ effect_is_for loads moment asked number m may = record {
 }
 
 -- of those that are found each has what the goal says
-answered_store_leads : (number : ℕ) (m : UnitMemory) → may_answer_store number m.stores ≡ true → (u : Ways) → Each (IsAsked u.moment) u.loads
+answered_store_leads : (number : ℕ) (m : UnitMemory) → may_answer_store number m.stores ≡ true → (u : Ways)
+    → Each (IsAsked u.moment) u.loads
     → LeadsTo u m
     → LeadsTo (ways_without_store number u (answered_store number u)) (without_store number m)
 answered_store_leads number m may u asked o =
@@ -237,7 +248,8 @@ answered_load_right unit number bytes P closed u s alone (Some l) h =
     let aim : Aim = word_aim unit l.address bytes in
     let all : Each S u.pairs = each_both (EachWay u.loads (SoundOn P)) (IsPairBy u.moment) u.pairs s.sound s.timely in
     let joint : IsJoint S = sound_joint u.loads u.moment s.asked P in
-    let both : IsJoint R = λ g e i a b. (joint g e i a.0 b.0, each_joint u.loads (λ x. has_answer unit number bytes x ≡ true) g e i a.1 b.1) in
+    let both : IsJoint R =
+    λ g e i a b. (joint g e i a.0 b.0, each_joint u.loads (λ x. has_answer unit number bytes x ≡ true) g e i a.1 b.1) in
     let missed : List Pair = gathered (pair_missed unit bytes l) u.pairs in
     met_sound u.loads u.moment s.asked S R joint both (sound_kept u.loads u.moment s.asked P closed) (suc (rounds (with_hope aim missed)))
     aim (λ e a t. (a, word_answers u.loads u.moment s.asked unit number bytes l h alone e t)) (gathered (pair_got unit bytes l) u.pairs)

@@ -1,5 +1,6 @@
 -- The search for the pairs on which a goal is met: what it finds was reached by stores that took effect, and it finds each way there.
-use Rattle.std.proofs.Common.{◌≡◌, ℕ, zero, suc, ◌+◌, ◌<◌, ◌≤◌, ◌⊎◌, Bool, true, false, List, [], ◌∷◌, ◌++◌, length, map, max, filter, fold, inl, inr, refl, sym, ap, ◌∙◌, subst, append_assoc, append-nil, arith}
+use Rattle.std.proofs.Common.{◌≡◌, ℕ, zero, suc, ◌+◌, ◌<◌, ◌≤◌, ◌⊎◌, Bool, true, false, List, [], ◌∷◌, ◌++◌, length, map, max, filter, fold}
+use Rattle.std.proofs.Common.{inl, inr, refl, sym, ap, ◌∙◌, subst, append_assoc, append-nil, arith}
 use Rattle.std.specs.Cmp.Lexicographic.{pointwise}
 use Rattle.std.proofs.lemmas.Bool.{cases_Bool, and_parts}
 use Rattle.atomic_histories.specs.declared.unit.OpenStore.{OpenStore}
@@ -7,7 +8,9 @@ use Rattle.atomic_histories.specs.declared.unit.WatchedLoad.{WatchedLoad}
 use Rattle.atomic_histories.specs.Law.{UnitMemory, HiddenStep, done_store}
 use Rattle.atomic_histories.specs.Pasts.{Past, Stood, stood, Has, overwritten}
 use Rattle.atomic_histories.specs.Branches.{Branch, effect_of}
-use Rattle.atomic_histories.specs.Followed.{Pair, Aim, watched, way_on, pair_after, cons_effect, effects_from, effects, is_same_word, is_same_store, is_same_pair, merged_pair, with_pair, with_pairs, out_of, next_of, out_after, next_after, met, rounds, found}
+use Rattle.atomic_histories.specs.Followed.{Pair, Aim, watched, way_on, pair_after, cons_effect, effects_from, effects, is_same_word}
+use Rattle.atomic_histories.specs.Followed.{is_same_store, is_same_pair, merged_pair, with_pair, with_pairs, out_of, next_of, out_after}
+use Rattle.atomic_histories.specs.Followed.{next_after, met, rounds, found}
 use Rattle.atomic_histories.specs.Stands.{Each, One, EachWay, OneWay, IsAsked, IsPairBy, IsOn, Leads, now, later}
 use Rattle.atomic_histories.proofs.Lists.{one_weaker, one_none, one_or, one_filter, each_filter}
 use Rattle.atomic_histories.proofs.SameWords.{same_word, same_stores}
@@ -184,7 +187,8 @@ module _ (loads : List WatchedLoad) (moment : ℕ) (asked : Each (IsAsked moment
   on_path e before s after path h = made loads asked
     where
       made : (ls : List WatchedLoad) → Each (IsAsked moment) ls → (more : List Stood) × Has (overwritten ls moment e.word e.past) more
-          × (way_on ls (pair_after (overwritten ls moment e.word e.past) e before s after) more ≡ effect_of (way_on ls e path) before s after)
+          × (way_on ls (pair_after (overwritten ls moment e.word e.past) e before s after) more
+          ≡ effect_of (way_on ls e path) before s after)
       made [] a = ([], refl, refl)
       made (l ∷ ls) a =
           let more : map (watched (stood e.word moment ∷ path)) (l ∷ ls) ≡ (effect_of (way_on (l ∷ ls) e path) before s after).loads =
@@ -199,7 +203,8 @@ module _ (loads : List WatchedLoad) (moment : ℕ) (asked : Each (IsAsked moment
     where
       made : (ls : List WatchedLoad) → Each (IsAsked moment) ls → Has (overwritten ls moment e.word e.past) more
           → (path : List Stood) × Has e.past path
-          × (way_on ls (pair_after (overwritten ls moment e.word e.past) e before s after) more ≡ effect_of (way_on ls e path) before s after)
+          × (way_on ls (pair_after (overwritten ls moment e.word e.past) e before s after) more
+          ≡ effect_of (way_on ls e path) before s after)
       made [] a g = let r = some_path e.past in (r.0, r.1, refl)
       made (l ∷ ls) a g =
           let same : map (watched more) (l ∷ ls) ≡ (effect_of (way_on (l ∷ ls) e g.0) before s after).loads =

@@ -1,5 +1,6 @@
 -- Steps of the loops over the pairs of a unit, and what is shown of them.
-use Rattle.std.proofs.Common.{◌≡◌, ℕ, zero, suc, ◌+◌, ◌<◌, ◌⊎◌, true, false, min, fold, List, [], ◌∷◌, ◌++◌, map, length, take, drop, get_or, set, Some, None, refl, sym, ap, ap₂, ◌∙◌, subst, inl, inr, add-one, drop-cons, append_assoc, arith}
+use Rattle.std.proofs.Common.{◌≡◌, ℕ, zero, suc, ◌+◌, ◌<◌, ◌⊎◌, true, false, min, fold, List, [], ◌∷◌, ◌++◌, map, length, take, drop}
+use Rattle.std.proofs.Common.{get_or, set, Some, None, refl, sym, ap, ap₂, ◌∙◌, subst, inl, inr, add-one, drop-cons, append_assoc, arith}
 use Rattle.std.specs.List.{All, list_all}
 use Rattle.std.proofs.lemmas.Bool.{cases_lt, and_parts, lt-leb, le-ltb}
 use Rattle.std.proofs.lemmas.List.{map-append, take_more_set, drop-set-lt}
@@ -83,7 +84,8 @@ dropped ss ts ps qs rs e f = ap (shown_all ts) (f ∙ ap (map dropped_pair) e) �
     each [] = refl
     each (p ∷ ps) = ap (λ es. pair_cut None (shown ss p) ∷ es) (each ps)
 
-pub cut_shown : (m : Moved) (since : ℕ) (ss rr ts : List Stretch) (ps qs rs : List FollowedPair) → rr ≡ ss → rs ≡ ps → qs ≡ map (moved_pair m) rs
+pub cut_shown : (m : Moved) (since : ℕ) (ss rr ts : List Stretch) (ps qs rs : List FollowedPair) → rr ≡ ss → rs ≡ ps
+    → qs ≡ map (moved_pair m) rs
     → ((b : Before) → past_at (pasts ts) (moved_to m b) ≡ cut since (past_at (pasts rr) b))
     → shown_all ts qs ≡ map (pair_cut (Some since)) (shown_all ss ps)
 cut_shown m since ss rr ts ps qs rs d e f same =
@@ -100,7 +102,8 @@ cut_shown m since ss rr ts ps qs rs d e f same =
 abbrev IsKept : ℕ → List Past → Type 0
 IsKept since ps = (b : Before) → past_at ps b ≡ cut since (past_at ps b)
 
-last_or : (ps : List Past) (p : Past) (place : ℕ) → (get_or (ps ++ p ∷ []) place begins ≡ get_or ps place begins) ⊎ (get_or (ps ++ p ∷ []) place begins ≡ p)
+last_or : (ps : List Past) (p : Past) (place : ℕ)
+    → (get_or (ps ++ p ∷ []) place begins ≡ get_or ps place begins) ⊎ (get_or (ps ++ p ∷ []) place begins ≡ p)
 last_or [] p zero = inr refl
 last_or [] p (suc place) = inl refl
 last_or (q ∷ ps) p zero = inl refl

@@ -1,5 +1,6 @@
 -- Words by their lanes, and what holds of each byte that a unit may have.
-use Rattle.std.proofs.Common.{◌≡◌, ℕ, zero, suc, ◌+◌, ◌<◌, ◌⊎◌, Bool, true, false, not, if◌then◌else◌, nat_lt, List, [], ◌∷◌, ◌++◌, Option, Some, None, is_some, inl, inr, refl, sym, ◌∙◌, subst, arith}
+use Rattle.std.proofs.Common.{◌≡◌, ℕ, zero, suc, ◌+◌, ◌<◌, ◌⊎◌, Bool, true, false, not, if◌then◌else◌, nat_lt, List, [], ◌∷◌, ◌++◌, Option}
+use Rattle.std.proofs.Common.{Some, None, is_some, inl, inr, refl, sym, ◌∙◌, subst, arith}
 use Rattle.std.specs.List.{list_any}
 use Rattle.std.proofs.lemmas.Bool.{cases_lt, and_parts, and_from, lt-ltb, le-ltb}
 use Rattle.std.proofs.lemmas.List.{get_or_past}
@@ -8,7 +9,8 @@ use Rattle.memory_histories.specs.declared.events.HistoryEvent.{HistoryEvent}
 use Rattle.memory_histories.specs.declared.events.HistoryEvent.TheVariants.{LoadRequest, LoadResponse, StoreRequest, StoreResponse}
 use Rattle.atomic_histories.specs.declared.unit.UnitPlace.{UnitPlace}
 use Rattle.atomic_histories.specs.Words.{at_unit, at_lane, stored_byte, byte_for, is_at, written, is_as_it_stood, is_word_of}
-use Rattle.atomic_histories.specs.Law.{UnitMemory, HiddenStep, MayBe, starts, steps, sees, done_store, done_load, is_store, is_load, may_answer_load, may_answer_store, with_load, with_store, without_load, without_store, seen}
+use Rattle.atomic_histories.specs.Law.{UnitMemory, HiddenStep, MayBe, starts, steps, sees, done_store, done_load, is_store, is_load}
+use Rattle.atomic_histories.specs.Law.{may_answer_load, may_answer_store, with_load, with_store, without_load, without_store, seen}
 use Rattle.atomic_histories.specs.Stands.{Each}
 use Rattle.atomic_histories.specs.May.{lane_of}
 use Rattle.atomic_histories.proofs.Lists.{each_append, each_at, each_replace, each_filter, each_split}

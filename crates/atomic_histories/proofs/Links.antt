@@ -1,5 +1,8 @@
 -- What is open at a unit is what is open in the history and has a byte there.
-use Rattle.std.proofs.Common.{◌≡◌, ℕ, suc, ◌+◌, ◌-◌, ◌*◌, ◌/◌, ◌<◌, ◌≤◌, Bool, true, false, ◌&&◌, ◌||◌, not, ◌==◌, if◌then◌else◌, nat_lt, nat_le, List, [], ◌∷◌, ◌++◌, map, fold, length, filter, min, Option, Some, None, is_none, is_some, slice_get, inl, inr, refl, sym, ap, ap₂, ◌∙◌, subst, append-nil, eqb-true, eq-eqb, leb-true, div-lt_iff_lt-mul, le-div_iff_mul-le, suc-mul, ltb-true, arith}
+use Rattle.std.proofs.Common.{◌≡◌, ℕ, suc, ◌+◌, ◌-◌, ◌*◌, ◌/◌, ◌<◌, ◌≤◌, Bool, true, false, ◌&&◌, ◌||◌, not, ◌==◌, if◌then◌else◌, nat_lt}
+use Rattle.std.proofs.Common.{nat_le, List, [], ◌∷◌, ◌++◌, map, fold, length, filter, min, Option, Some, None, is_none, is_some, slice_get}
+use Rattle.std.proofs.Common.{inl, inr, refl, sym, ap, ap₂, ◌∙◌, subst, append-nil, eqb-true, eq-eqb, leb-true, div-lt_iff_lt-mul}
+use Rattle.std.proofs.Common.{le-div_iff_mul-le, suc-mul, ltb-true, arith}
 use Rattle.std.specs.List.{list_any, find, range_with_len}
 use Rattle.std.specs.Int.{bit_at}
 use Rattle.std.proofs.lemmas.Bool.{cases_Bool, cases_lt, and_parts, and_from, lt-ltb, le-ltb, le-leb, lt-leb}
@@ -15,8 +18,11 @@ use Rattle.atomic_histories.specs.declared.unit.OpenStore.{OpenStore}
 use Rattle.atomic_histories.specs.declared.unit.Operation.{Operation}
 use Rattle.atomic_histories.specs.declared.unit.UnitPlace.{UnitPlace}
 use Rattle.atomic_histories.specs.Words.{at_unit, at_lane, stored_byte, is_at}
-use Rattle.atomic_histories.specs.Operations.{Opened, none_opened, opened_after, opened_by, has_number, without_number, answer_fault, form_fault}
-use Rattle.atomic_histories.specs.Law.{OpenLoad, UnitMemory, HiddenStep, MayBe, starts, steps, sees, untouched, done_store, done_load, is_store, is_load, may_answer_load, may_answer_store, with_load, with_store, without_load, without_store, seen, unit_at, is_formed}
+use Rattle.atomic_histories.specs.Operations.{Opened, none_opened, opened_after, opened_by, has_number, without_number, answer_fault}
+use Rattle.atomic_histories.specs.Operations.{form_fault}
+use Rattle.atomic_histories.specs.Law.{OpenLoad, UnitMemory, HiddenStep, MayBe, starts, steps, sees, untouched, done_store, done_load}
+use Rattle.atomic_histories.specs.Law.{is_store, is_load, may_answer_load, may_answer_store, with_load, with_store, without_load}
+use Rattle.atomic_histories.specs.Law.{without_store, seen, unit_at, is_formed}
 use Rattle.atomic_histories.specs.Stands.{Each, One}
 use Rattle.atomic_histories.specs.Held.{bytes_of_open, covered, units_of, is_among}
 use Rattle.atomic_histories.proofs.Lists.{one_left, one_last, each_weaker, each_append}

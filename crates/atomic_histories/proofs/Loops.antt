@@ -1,5 +1,6 @@
 -- Steps of the loops over pairs.
-use Rattle.std.proofs.Common.{◌≡◌, ℕ, zero, suc, ◌+◌, ◌-◌, ◌<◌, Bool, true, false, ◌||◌, List, [], ◌∷◌, ◌++◌, fold, filter, length, take, drop, get_or, set, refl, sym, ap, subst, ◌∙◌, add-one, take-suc, drop-cons, append_assoc, inl, inr, arith}
+use Rattle.std.proofs.Common.{◌≡◌, ℕ, zero, suc, ◌+◌, ◌-◌, ◌<◌, Bool, true, false, ◌||◌, List, [], ◌∷◌, ◌++◌, fold, filter, length, take}
+use Rattle.std.proofs.Common.{drop, get_or, set, refl, sym, ap, subst, ◌∙◌, add-one, take-suc, drop-cons, append_assoc, inl, inr, arith}
 use Rattle.std.specs.List.{list_all}
 use Rattle.std.proofs.lemmas.Bool.{cases_Bool, and_parts}
 use Rattle.std.proofs.lemmas.List.{map-append, set_split, drop_all, length-map, append-nil, take_rest}
@@ -9,7 +10,8 @@ use Rattle.atomic_histories.specs.declared.stretches.Stretch.{Stretch}
 use Rattle.atomic_histories.specs.declared.pairs.FollowedPair.{FollowedPair}
 use Rattle.atomic_histories.specs.Law.{done_store}
 use Rattle.atomic_histories.specs.Pasts.{Past}
-use Rattle.atomic_histories.specs.Followed.{Pair, Aim, with_pairs, cons_effect, pair_after, effects_from, out_of, next_of, out_after, next_after, met, are_too_many, is_over, never}
+use Rattle.atomic_histories.specs.Followed.{Pair, Aim, with_pairs, cons_effect, pair_after, effects_from, out_of, next_of, out_after}
+use Rattle.atomic_histories.specs.Followed.{next_after, met, are_too_many, is_over, never}
 use Rattle.atomic_histories.specs.May.{reached_in, is_reach_over}
 use Rattle.atomic_histories.specs.Shown.{past_at, pasts, shown, shown_all, IsIn, AreIn, Grows}
 use Rattle.atomic_histories.proofs.Lists.{each_replace}
@@ -52,7 +54,8 @@ copied_more ss same ps p copy next i h is n e a =
     rw (n, append_assoc) (each_replace (λ q. IsIn ss q.past) same p copy (drop (i + 1) ps) (λ b. subst (IsIn ss) (sym e) b)
     (subst (λ xs. AreIn ss (same ++ xs)) (pair_here ps p i h is) a))
 
-pub copied_all : (ss : List Stretch) (same ps : List FollowedPair) (i : ℕ) → length ps < i + 1 → AreIn ss (same ++ drop i ps) → AreIn ss same
+pub copied_all : (ss : List Stretch) (same ps : List FollowedPair) (i : ℕ) → length ps < i + 1 → AreIn ss (same ++ drop i ps)
+    → AreIn ss same
 copied_all ss same ps i h a =
     let none : drop i ps ≡ [] = drop_all i ps (omega (arith, h)) in
     subst (AreIn ss) (ap (λ xs. same ++ xs) none ∙ append-nil same) a

@@ -1,5 +1,6 @@
 -- Pairs beside their marks: ways to one pair have one mark.
-use Rattle.std.proofs.Common.{◌≡◌, ℕ, zero, suc, ◌+◌, ◌<◌, ◌≤◌, true, false, ◌==◌, List, [], ◌∷◌, map, fold, drop, length, get_or, add-one, refl, sym, ap, ap₂, ◌∙◌, eq-eqb, inl, inr, arith}
+use Rattle.std.proofs.Common.{◌≡◌, ℕ, zero, suc, ◌+◌, ◌<◌, ◌≤◌, true, false, ◌==◌, List, [], ◌∷◌, map, fold, drop, length, get_or, add-one}
+use Rattle.std.proofs.Common.{refl, sym, ap, ap₂, ◌∙◌, eq-eqb, inl, inr, arith}
 use Rattle.std.specs.Cmp.Lexicographic.{pointwise}
 use Rattle.std.proofs.lemmas.Bool.{cases_Bool, cases_lt, and_parts}
 use Rattle.std.proofs.lemmas.List.{drop_all, get_or-map, length-map}

@@ -1,5 +1,6 @@
 -- A way on which no more stores can make the word of an answer isn't followed, and nothing is lost by that.
-use Rattle.std.proofs.Common.{◌≡◌, ℕ, zero, suc, ◌+◌, ◌⊎◌, Bool, true, false, ◌&&◌, ◌||◌, not, List, [], ◌∷◌, ◌++◌, get_or, Option, Some, None, inl, inr, refl, sym, ap, ◌∙◌, subst}
+use Rattle.std.proofs.Common.{◌≡◌, ℕ, zero, suc, ◌+◌, ◌⊎◌, Bool, true, false, ◌&&◌, ◌||◌, not, List, [], ◌∷◌, ◌++◌, get_or, Option, Some}
+use Rattle.std.proofs.Common.{None, inl, inr, refl, sym, ap, ◌∙◌, subst}
 use Rattle.std.specs.List.{list_all, list_any, find, range_with_len}
 use Rattle.std.proofs.lemmas.Bool.{cases_Bool, and_parts, and_from}
 use Rattle.std.proofs.lemmas.List.Folds.{list_any-append, list_all-map}
@@ -7,7 +8,8 @@ use Rattle.atomic_histories.specs.declared.unit.OpenStore.{OpenStore}
 use Rattle.atomic_histories.specs.declared.unit.UnitPlace.{UnitPlace}
 use Rattle.atomic_histories.specs.Words.{byte_for, written, is_as_it_stood, is_word_of}
 use Rattle.atomic_histories.specs.Law.{UnitMemory, done_store, may_answer_load}
-use Rattle.atomic_histories.specs.Branches.{Watched, Branch, with_word, effect_of, is_watched, gives, may_come_in, may_come, may_have, has_answer}
+use Rattle.atomic_histories.specs.Branches.{Watched, Branch, with_word, effect_of, is_watched, gives, may_come_in, may_come, may_have}
+use Rattle.atomic_histories.specs.Branches.{has_answer}
 use Rattle.atomic_histories.specs.Stands.{IsOn, Leads, now, later}
 use Rattle.atomic_histories.proofs.Answering.{answer_on}
 use Rattle.atomic_histories.proofs.Lanes.{word_lane}
@@ -159,7 +161,8 @@ module _ (unit : UnitPlace) (number : ℕ) (bytes : List ℕ) (e : Branch) (befo
   pub hope_before : has_hope unit number bytes (effect_of e before s after) ≡ true → has_hope unit number bytes e ≡ true
   unfolding on
   hope_before h =
-      all_weaker (λ l. hopes unit number bytes (effect_of e before s after) (with_word e.word l)) (hopes unit number bytes e) hopes_before e.loads
+      all_weaker (λ l. hopes unit number bytes (effect_of e before s after) (with_word e.word l))
+      (hopes unit number bytes e) hopes_before e.loads
       (sym (list_all-map (hopes unit number bytes (effect_of e before s after)) (with_word e.word) e.loads) ∙ h)
 
 -- All loads. ----

@@ -1,5 +1,7 @@
 -- What an open load may return is what the answers have that would be taken now.
-use Rattle.std.proofs.Common.{◌≡◌, ℕ, zero, suc, ◌+◌, ◌-◌, ◌*◌, ◌/◌, ◌%◌, ◌<◌, ◌≤◌, ◌↔◌, Bool, true, false, ◌||◌, not, ◌==◌, if◌then◌else◌, nat_le, nat_lt, List, [], ◌∷◌, ◌++◌, map, length, Option, Some, None, slice_get, inl, inr, refl, sym, ap, ◌∙◌, subst, leb-true, ltb-true, eqb-true, eq-eqb, arith}
+use Rattle.std.proofs.Common.{◌≡◌, ℕ, zero, suc, ◌+◌, ◌-◌, ◌*◌, ◌/◌, ◌%◌, ◌<◌, ◌≤◌, ◌↔◌, Bool, true, false, ◌||◌, not, ◌==◌, if◌then◌else◌}
+use Rattle.std.proofs.Common.{nat_le, nat_lt, List, [], ◌∷◌, ◌++◌, map, length, Option, Some, None, slice_get, inl, inr, refl, sym, ap, ◌∙◌}
+use Rattle.std.proofs.Common.{subst, leb-true, ltb-true, eqb-true, eq-eqb, arith}
 use Rattle.std.specs.Borrow.{Bor}
 use Rattle.std.specs.List.{All, find, list_any, range_with_len}
 use Rattle.std.proofs.Math.Nat.{mod-lt}
@@ -18,11 +20,13 @@ use Rattle.atomic_histories.specs.declared.unit.Operation.{Operation}
 use Rattle.atomic_histories.specs.declared.unit.UnitPlace.{UnitPlace}
 use Rattle.atomic_histories.specs.Words.{first_byte, initial_byte, byte_for, enabled_byte, stored_byte, is_as_it_stood, is_word_of}
 use Rattle.atomic_histories.specs.Operations.{none_opened, opened_by, has_number, form_fault, answer_fault}
-use Rattle.atomic_histories.specs.Law.{OpenLoad, UnitMemory, MayBe, starts, steps, sees, untouched, done_load, is_load, is_got, may_answer_load, without_load, seen, unit_at, is_formed, IsAtomicAt}
+use Rattle.atomic_histories.specs.Law.{OpenLoad, UnitMemory, MayBe, starts, steps, sees, untouched, done_load, is_load, is_got}
+use Rattle.atomic_histories.specs.Law.{may_answer_load, without_load, seen, unit_at, is_formed, IsAtomicAt}
 use Rattle.atomic_histories.specs.Stands.{Each, One}
 use Rattle.atomic_histories.specs.Held.{is_lost}
 use Rattle.atomic_histories.specs.May.{lane_of, may_show, has_got, got_byte, MayGet, MayReturn, asks}
-use Rattle.atomic_histories.specs.MayLaws.{IsByte, StoresBytes, IsOfLaw, MayAnswer, HasAnswer, HasAnswerFor, SetsAreOfAnswers, SetIsOfAnswers, AreSameIn, HasAnswerIn, UnitsChooseAlone}
+use Rattle.atomic_histories.specs.MayLaws.{IsByte, StoresBytes, IsOfLaw, MayAnswer, HasAnswer, HasAnswerFor, SetsAreOfAnswers}
+use Rattle.atomic_histories.specs.MayLaws.{SetIsOfAnswers, AreSameIn, HasAnswerIn, UnitsChooseAlone}
 use Rattle.atomic_histories.proofs.Lists.{one_elim, one_each, one_any, one_weaker, each_weaker, each_both, each_at, all_each, each_all}
 use Rattle.atomic_histories.proofs.Links.{AreDistinct, is_of, fit_by, linked}
 use Rattle.atomic_histories.proofs.Whole.{formed_more}

@@ -1,5 +1,6 @@
 -- Steps towards what an open load may return: the sets of its bytes one after the other, and why there are none.
-use Rattle.std.proofs.Common.{◌≡◌, ℕ, zero, suc, ◌+◌, ◌-◌, ◌*◌, ◌/◌, ◌%◌, ◌<◌, false, nat_lt, ◌||◌, true, List, [], ◌∷◌, ◌++◌, length, Option, None, refl, sym, ap, ◌∙◌, subst, arith, Bool, Some}
+use Rattle.std.proofs.Common.{◌≡◌, ℕ, zero, suc, ◌+◌, ◌-◌, ◌*◌, ◌/◌, ◌%◌, ◌<◌, false, nat_lt, ◌||◌, true, List, [], ◌∷◌, ◌++◌, length}
+use Rattle.std.proofs.Common.{Option, None, refl, sym, ap, ◌∙◌, subst, arith, Bool, Some}
 use Rattle.std.proofs.lemmas.Nat.{div-add-mod'}
 use Rattle.std.specs.List.{find}
 use Rattle.std.proofs.lemmas.Bool.{lt-ltb}
@@ -22,7 +23,8 @@ use Rattle.atomic_histories.specs.declared.search.TheConstants.{MOST_WORDS}
 use Rattle.atomic_histories.specs.Followed.{Ways, first_ways, rounds, is_under}
 use Rattle.atomic_histories.specs.Held.{Held}
 use Rattle.atomic_histories.specs.Judge.{bytes_of, fault_of, kept_or}
-use Rattle.atomic_histories.specs.May.{IsSet, is_shown, reached, may_get, may_get_at, address_of, AreSetsFrom, is_reach_over, is_reach_wide, IsWideByte, IsWideLoad, IsNoVerdict}
+use Rattle.atomic_histories.specs.May.{IsSet, is_shown, reached, may_get, may_get_at, address_of, AreSetsFrom, is_reach_over, is_reach_wide}
+use Rattle.atomic_histories.specs.May.{IsWideByte, IsWideLoad, IsNoVerdict}
 use Rattle.atomic_histories.specs.Shown.{shown_all, StopIs}
 
 -- the lane that a byte lies in
@@ -50,7 +52,8 @@ pub unknown_set : (number k : ℕ) (ss : List Stretch) (ps : List FollowedPair) 
     → IsSet (λ b. may_get number k b (record { loads = loads; moment = moment; pairs = shown_all ss ps })) no_bytes
 unknown_set number k ss [] loads moment h f = absurd (h refl)
 unknown_set number k ss (p ∷ ps) loads moment h f =
-    λ b l. has-no_bytes b ∙ ap (λ o. is_shown o k b (reached (record { loads = loads; moment = moment; pairs = shown_all ss (p ∷ ps) }))) (sym f)
+    λ b l. has-no_bytes b ∙ ap (λ o. is_shown o k b (reached (record { loads = loads; moment = moment; pairs = shown_all ss (p ∷ ps) })))
+    (sym f)
 
 -- those of a load that is
 pub known_set : (number k : ℕ) (ss : List Stretch) (ps : List FollowedPair) (loads : List WatchedLoad) (moment : ℕ) (load : WatchedLoad)
@@ -89,7 +92,8 @@ unit_start a m = minus (a / m * m) (a % m) a (div-add-mod' a m)
     minus x y a e = omega arith
 
 -- a search that was stopped at the unit in which a byte lies
-pub stopped_set : (limit : ℕ) (h : Held) (a : ℕ) (stop : Stop) → StopIs (is_reach_wide limit (h.words (a / h.size)) (h.units (a / h.size))) stop
+pub stopped_set : (limit : ℕ) (h : Held) (a : ℕ) (stop : Stop)
+    → StopIs (is_reach_wide limit (h.words (a / h.size)) (h.units (a / h.size))) stop
     → IsNoVerdict (IsWideByte limit h a) (fault_of stop (a - a % h.size))
 stopped_set limit h a TooManyWays w = (unit_start a h.size, w)
 stopped_set limit h a NoMemory w = tt
@@ -103,7 +107,8 @@ no_set OutOfMemory limit h a n i l f = tt
 -- a search among those that ways lead to is stopped by the limit alone
 pub reach_wide : (limit words : ℕ) (u : Ways) (stop : Stop) → StopIs (is_reach_over limit u.loads u.moment (rounds u.pairs) u.pairs) stop
     → StopIs (is_reach_wide limit words u) stop
-reach_wide limit words u TooManyWays w = right_true (nat_lt MOST_WORDS words) (is_reach_over limit u.loads u.moment (rounds u.pairs) u.pairs) w
+reach_wide limit words u TooManyWays w =
+    right_true (nat_lt MOST_WORDS words) (is_reach_over limit u.loads u.moment (rounds u.pairs) u.pairs) w
   where
     right_true : (a b : Bool) → b ≡ true → (a || b) ≡ true
     right_true true b h = refl

@@ -1,5 +1,6 @@
 -- A pair is put to those that are followed, or its ways to those that have come there.
-use Rattle.std.proofs.Common.{◌≡◌, ℕ, zero, suc, ◌+◌, ◌<◌, ◌≤◌, Bool, true, false, List, [], ◌∷◌, ◌++◌, map, length, take, drop, get_or, set, Some, None, refl, sym, ap, ap₂, ◌∙◌, add-one, length-set, inl, inr, nat_lt, arith}
+use Rattle.std.proofs.Common.{◌≡◌, ℕ, zero, suc, ◌+◌, ◌<◌, ◌≤◌, Bool, true, false, List, [], ◌∷◌, ◌++◌, map, length, take, drop, get_or}
+use Rattle.std.proofs.Common.{set, Some, None, refl, sym, ap, ap₂, ◌∙◌, add-one, length-set, inl, inr, nat_lt, arith}
 use Rattle.std.specs.List.{position, position_or_len}
 use Rattle.std.proofs.lemmas.Bool.{cases_Bool, lt-ltb, le-ltb, ltb-false}
 use Rattle.std.proofs.lemmas.List.Sums.{position_or_len_is, fails_before_first}

@@ -1,5 +1,6 @@
 -- Where stretches went.
-use Rattle.std.proofs.Common.{◌≡◌, ℕ, zero, suc, ◌+◌, ◌<◌, ◌≤◌, Bool, true, if◌then◌else◌, nat_lt, List, [], ◌∷◌, ◌++◌, length, get_or, take, drop, length-append, refl, subst, sym, ap, ap₂, ◌∙◌, add-one, take-suc, arith, inl, inr}
+use Rattle.std.proofs.Common.{◌≡◌, ℕ, zero, suc, ◌+◌, ◌<◌, ◌≤◌, Bool, true, if◌then◌else◌, nat_lt, List, [], ◌∷◌, ◌++◌, length, get_or}
+use Rattle.std.proofs.Common.{take, drop, length-append, refl, subst, sym, ap, ap₂, ◌∙◌, add-one, take-suc, arith, inl, inr}
 use Rattle.std.proofs.lemmas.List.{get_or_append_left, get_or_past}
 use Rattle.std.proofs.lemmas.Bool.{cases_order, cases_lt}
 use Rattle.std.proofs.Math.Seq.{take-length, take-append_seam}
@@ -19,7 +20,8 @@ use Rattle.atomic_histories.proofs.Shares.{at_push, past_push, pasts_take, pasts
 
 -- One stretch more. ----
 
-same_more : (used : Before → Bool) (to : Past → Past) (place : ℕ) (ps : List Past) (past : Past) (m : Moved) (ts : List Stretch) (r : Before)
+same_more : (used : Before → Bool) (to : Past → Past) (place : ℕ) (ps : List Past) (past : Past) (m : Moved) (ts : List Stretch)
+    (r : Before)
     → to begins ≡ begins → length ps ≡ place → length m.places.items ≡ place
     → ((b : Before) → used b ≡ true → past_at (pasts m.stretches.items) (moved_to m b) ≡ to (past_at ps b))
     → ((b : Before) → IsIn m.stretches.items (moved_to m b)) → Grows m.stretches.items ts
@@ -30,10 +32,14 @@ same_more used to place ps past m ts r bare long placed same is_in g here (Behin
   | inl e ↦ rw (at_push m.places.items r Nothing k (e ∙ sym placed), at_push ps past begins k (e ∙ sym long))
       (here (subst (λ x. used (Behind x) ≡ true) e u))
   | inr o ↦ elim o [
-    | inl b ↦ rw
-        (get_or_append_left m.places.items (r ∷ []) Nothing k (omega (arith, b, placed)), get_or_append_left ps (past ∷ []) begins k (omega (arith, b, long)))
+    | inl b ↦ rw (
+      get_or_append_left m.places.items (r ∷ []) Nothing k (omega (arith, b, placed)),
+      get_or_append_left ps (past ∷ []) begins k
+          (omega (arith, b, long)),
+    )
         (past_grown m.stretches.items ts g (moved_to m (Behind k)) (is_in (Behind k)) ∙ same (Behind k) u)
-    | inr a ↦ rw (past_push m.places.items r Nothing k (omega (arith, a, placed)), past_push ps past begins k (omega (arith, a, long))) (sym bare)
+    | inr a ↦ rw (past_push m.places.items r Nothing k (omega (arith, a, placed)), past_push ps past begins k (omega (arith, a, long)))
+        (sym bare)
   ]
 ]
 
@@ -94,7 +100,11 @@ same_below used place ss m p h Nothing u = refl
 same_below used place ss m p h (Behind k) u = elim (cases_lt k place) [
   | inl b ↦ h.same (Behind k) (u b)
   | inr a ↦
-      rw (get_or_past m.places.items k Nothing (omega (arith, h.places, a)), get_or_past (pasts (take place ss)) k begins (omega (arith, pasts_length ss place p, a))) refl
+      rw (
+        get_or_past m.places.items k Nothing (omega (arith, h.places, a)),
+        get_or_past (pasts (take place ss)) k begins
+            (omega (arith, pasts_length ss place p, a)),
+      ) refl
 ]
 
 pub kept_law : (used : List Bool) (place : ℕ) (ss : List Stretch) (s : Stretch) (m : Moved) → place ≤ length ss
@@ -140,7 +150,8 @@ pub pairs_more : (old new : List Bool) (ps : List FollowedPair) (p : FollowedPai
     → Each (λ q. is_used old q.past ≡ true) (take i ps) → Each (λ q. is_used new q.past ≡ true) (take (i + 1) ps)
 pairs_more old new ps p i end l e long stay here h =
     let more : take (i + 1) ps ≡ take i ps ++ p ∷ [] = rw add-one (take-suc ps i p l ∙ ap (λ x. take i ps ++ x ∷ []) (sym e)) in
-    rw more (each_append (λ q. is_used new q.past ≡ true) (take i ps) (p ∷ []) (pairs_stay old new (take i ps) stay h) (below_used new end p.past long here, tt))
+    rw more (each_append (λ q. is_used new q.past ≡ true) (take i ps) (p ∷ []) (pairs_stay old new (take i ps) stay h)
+    (below_used new end p.past long here, tt))
 
 -- the pasts of pairs are where their references went
 pub pairs_moved : (used : List Bool) (ss : List Stretch) (m : Moved) (ps : List FollowedPair)

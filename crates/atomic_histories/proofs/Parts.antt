@@ -1,5 +1,7 @@
 -- The pairs on whose ways a load may have got its answer, and the others: what is gathered of them one by one.
-use Rattle.std.proofs.Common.{◌≡◌, ℕ, zero, suc, ◌+◌, ◌<◌, Result, Ok, Err, IfOk, IfErr, IsErrAnd, Bool, true, false, List, [], ◌∷◌, ◌++◌, filter, length, drop, get_or, Option, Some, None, refl, sym, ap, ◌∙◌, subst, append_assoc, add-one, drop-cons, inl, inr, arith}
+use Rattle.std.proofs.Common.{◌≡◌, ℕ, zero, suc, ◌+◌, ◌<◌, Result, Ok, Err, IfOk, IfErr, IsErrAnd, Bool, true, false, List, [], ◌∷◌, ◌++◌}
+use Rattle.std.proofs.Common.{filter, length, drop, get_or, Option, Some, None, refl, sym, ap, ◌∙◌, subst, append_assoc, add-one, drop-cons}
+use Rattle.std.proofs.Common.{inl, inr, arith}
 use Rattle.std.proofs.lemmas.Bool.{cases_Bool}
 use Rattle.atomic_histories.specs.declared.unit.UnitPlace.{UnitPlace}
 use Rattle.atomic_histories.specs.declared.unit.WatchedLoad.{WatchedLoad}
@@ -11,7 +13,8 @@ use Rattle.atomic_histories.specs.declared.search.Stop.{Stop}
 use Rattle.atomic_histories.specs.Words.{is_word_of}
 use Rattle.atomic_histories.specs.Pasts.{Past, got, missed}
 use Rattle.atomic_histories.specs.Branches.{may_come}
-use Rattle.atomic_histories.specs.Followed.{Pair, Aim, found, needs_more, word_aim, is_answer, cons_any, pair_on, pair_missed, gathered, with_hope}
+use Rattle.atomic_histories.specs.Followed.{Pair, Aim, found, needs_more, word_aim, is_answer, cons_any, pair_on, pair_missed, gathered}
+use Rattle.atomic_histories.specs.Followed.{with_hope}
 use Rattle.atomic_histories.specs.Stands.{Each}
 use Rattle.atomic_histories.specs.Shares.{got_of, missed_of, past_any, IsShare}
 use Rattle.atomic_histories.specs.Parts.{IsPart, AreParts}
@@ -24,7 +27,8 @@ each_nth P (x ∷ xs) zero d h a = a.0
 each_nth P (x ∷ xs) (suc i) d h a = each_nth P xs i d (omega arith) a.1
 
 -- one part more of what is gathered so
-pub part_more : (gather : List Pair → List Pair) (part : Pair → List Pair) → ((e : Pair) (es : List Pair) → gather (e ∷ es) ≡ part e ++ gather es)
+pub part_more : (gather : List Pair → List Pair) (part : Pair → List Pair)
+    → ((e : Pair) (es : List Pair) → gather (e ∷ es) ≡ part e ++ gather es)
     → (ss : List Stretch) (ps : List FollowedPair) (i : ℕ) (p : FollowedPair) (es added more whole : List Pair) → i < length ps
     → p ≡ get_or ps i p → more ≡ es ++ added → added ≡ part (shown ss p) → es ++ gather (shown_all ss (drop i ps)) ≡ whole
     → more ++ gather (shown_all ss (drop (i + 1) ps)) ≡ whole
@@ -56,12 +60,14 @@ missed_step aim f e es = front (f e)
 
 -- One pair. ----
 
-hoped : (hope : Pair → Bool) (e : Pair) (x : Option Past) → ((p : Past) → hope (record { word = e.word; stores = e.stores; past = p }) ≡ true)
+hoped : (hope : Pair → Bool) (e : Pair) (x : Option Past)
+    → ((p : Past) → hope (record { word = e.word; stores = e.stores; past = p }) ≡ true)
     → cons_any (pair_on e x) [] ≡ filter hope (cons_any (pair_on e x) [])
 hoped hope e None t = refl
 hoped hope e (Some p) t = rw (t p) refl
 
-unhoped : (hope : Pair → Bool) (e : Pair) (x : Option Past) → ((p : Past) → hope (record { word = e.word; stores = e.stores; past = p }) ≡ false)
+unhoped : (hope : Pair → Bool) (e : Pair) (x : Option Past)
+    → ((p : Past) → hope (record { word = e.word; stores = e.stores; past = p }) ≡ false)
     → [] ≡ filter hope (cons_any (pair_on e x) [])
 unhoped hope e None n = refl
 unhoped hope e (Some p) n = rw (n p) refl
@@ -70,7 +76,8 @@ not_got : (unit : UnitPlace) (bytes : List ℕ) (l : WatchedLoad) (e : Pair) →
     → pair_missed unit bytes l e ≡ pair_on e (missed (is_answer unit l.address l.since bytes) e.past)
 not_got unit bytes l e n = rw n refl
 
-pub missed_part : (unit : UnitPlace) (bytes : List ℕ) (l : WatchedLoad) (ss : List Stretch) (s : Split) (p : FollowedPair) (r : Option Before)
+pub missed_part : (unit : UnitPlace) (bytes : List ℕ) (l : WatchedLoad) (ss : List Stretch) (s : Split) (p : FollowedPair)
+    (r : Option Before)
     → IsPart unit bytes l ss s p → r ≡ missed_of s p.past → is_word_of unit.first p.word l.address bytes ≡ false
     → may_come unit l.address bytes p.word p.stores.items ≡ true
     → cons_any (pair_on (shown ss p) (past_any (pasts ss) r)) []
@@ -113,7 +120,8 @@ are_parts unit bytes l ss ts s g a b (p ∷ ps) h = (here, are_parts unit bytes 
     }
 
 -- what is found from the same pairs, with the same loads open
-pub found_same : {A E : Type 0} (r : Result A E) (shows : A → List Pair) (ks ls : List WatchedLoad) (moment : ℕ) (aim : Aim) (as_ bs cs ds : List Pair)
+pub found_same : {A E : Type 0} (r : Result A E) (shows : A → List Pair) (ks ls : List WatchedLoad) (moment : ℕ) (aim : Aim)
+    (as_ bs cs ds : List Pair)
     → ks ≡ ls → as_ ≡ bs → cs ≡ ds → IfOk r (λ x. shows x ≡ found ks moment aim as_ cs) → IfOk r (λ x. shows x ≡ found ls moment aim bs ds)
 found_same r shows ks ls moment aim as_ bs cs ds e f g h =
     subst (λ xs. IfOk r (λ x. shows x ≡ found xs moment aim bs ds)) e
@@ -121,7 +129,8 @@ found_same r shows ks ls moment aim as_ bs cs ds e f g h =
     (subst (λ xs. IfOk r (λ x. shows x ≡ found ks moment aim as_ xs)) g h))
 
 pub stop_same : {A : Type 0} (r : Result A Stop) (limit : ℕ) (ks ls : List WatchedLoad) (moment : ℕ) (aim : Aim) (as_ bs cs ds : List Pair)
-    → ks ≡ ls → as_ ≡ bs → cs ≡ ds → IfErr r (StopIs (needs_more limit ks moment aim as_ cs)) → IfErr r (StopIs (needs_more limit ls moment aim bs ds))
+    → ks ≡ ls → as_ ≡ bs → cs ≡ ds → IfErr r (StopIs (needs_more limit ks moment aim as_ cs))
+    → IfErr r (StopIs (needs_more limit ls moment aim bs ds))
 stop_same r limit ks ls moment aim as_ bs cs ds e f g h =
     subst (λ xs. IfErr r (StopIs (needs_more limit xs moment aim bs ds))) e
     (subst (λ xs. IfErr r (StopIs (needs_more limit ks moment aim xs ds))) f

@@ -1,9 +1,11 @@
 -- What stood there on the ways of a past.
-use Rattle.std.proofs.Common.{◌≡◌, ℕ, ◌+◌, ◌<◌, ◌≤◌, ◌⊎◌, Bool, true, false, ◌||◌, not, nat_lt, nat_le, min, List, [], ◌∷◌, map, filter, fold, Option, Some, None, inl, inr, refl, sym, ap, ◌∙◌, subst, arith}
+use Rattle.std.proofs.Common.{◌≡◌, ℕ, ◌+◌, ◌<◌, ◌≤◌, ◌⊎◌, Bool, true, false, ◌||◌, not, nat_lt, nat_le, min, List, [], ◌∷◌, map, filter}
+use Rattle.std.proofs.Common.{fold, Option, Some, None, inl, inr, refl, sym, ap, ◌∙◌, subst, arith}
 use Rattle.std.specs.List.{list_any}
 use Rattle.std.proofs.lemmas.Bool.{cases_Bool, cases_lt, lt-ltb, le-ltb, le-leb, lt-leb}
 use Rattle.atomic_histories.specs.declared.unit.WatchedLoad.{WatchedLoad}
-use Rattle.atomic_histories.specs.Pasts.{Past, begins, after, either, Stood, stood, Has, IsBy, merged, merged_any, after_any, got, missed, cut, earlier, oldest, overwritten, seen_since}
+use Rattle.atomic_histories.specs.Pasts.{Past, begins, after, either, Stood, stood, Has, IsBy, merged, merged_any, after_any, got, missed}
+use Rattle.atomic_histories.specs.Pasts.{cut, earlier, oldest, overwritten, seen_since}
 use Rattle.atomic_histories.specs.Branches.{with_word}
 use Rattle.atomic_histories.specs.Followed.{watched}
 use Rattle.atomic_histories.specs.Stands.{Each, IsAsked}

@@ -1,5 +1,7 @@
 -- The units that bytes lie in, and steps of the loops over units.
-use Rattle.std.proofs.Common.{◌≡◌, ℕ, zero, suc, ◌+◌, ◌-◌, ◌*◌, ◌/◌, ◌<◌, ◌≤◌, true, false, ◌&&◌, ◌==◌, if◌then◌else◌, nat_lt, nat_le, List, [], ◌∷◌, ◌++◌, map, length, Option, None, Some, inl, inr, refl, sym, ap, ◌∙◌, subst, ne_eqb, eq-eqb, append_assoc, mul-le-mul_right, mul-le-mul_left, suc-mul, arith}
+use Rattle.std.proofs.Common.{◌≡◌, ℕ, zero, suc, ◌+◌, ◌-◌, ◌*◌, ◌/◌, ◌<◌, ◌≤◌, true, false, ◌&&◌, ◌==◌, if◌then◌else◌, nat_lt, nat_le, List}
+use Rattle.std.proofs.Common.{[], ◌∷◌, ◌++◌, map, length, Option, None, Some, inl, inr, refl, sym, ap, ◌∙◌, subst, ne_eqb, eq-eqb}
+use Rattle.std.proofs.Common.{append_assoc, mul-le-mul_right, mul-le-mul_left, suc-mul, arith}
 use Rattle.std.proofs.Math.Path.{fun_ext}
 use Rattle.std.proofs.lemmas.Bool.{cases_Bool, cases_eq, cases_lt, and_from, lt-ltb, le-ltb, lt-leb, le-leb}
 use Rattle.std.proofs.lemmas.List.{map-append}
@@ -18,7 +20,8 @@ use Rattle.atomic_histories.specs.Shown.{shown_unit, words_in, StopIs}
 use Rattle.atomic_histories.specs.declared.search.Stop.{Stop}
 use Rattle.atomic_histories.specs.declared.search.Stop.TheVariants.{TooManyWays, NoMemory}
 use Rattle.atomic_histories.specs.declared.unit.Operation.{Operation}
-use Rattle.atomic_histories.specs.Judge.{bytes_of, fault_of, ChangedFaultIs, kept_or, kept_at, words_of, put_from, UnitFaultIs, ChangeFaultIs}
+use Rattle.atomic_histories.specs.Judge.{bytes_of, fault_of, ChangedFaultIs, kept_or, kept_at, words_of, put_from, UnitFaultIs}
+use Rattle.atomic_histories.specs.Judge.{ChangeFaultIs}
 
 pub units_fit : (size : UnitSize) (a n : ℕ) → a < 18446744073709551616
     → (a / bytes_of size + units_of (bytes_of size) a n) * bytes_of size ≤ 18446744073709551616
@@ -182,14 +185,16 @@ stopped_unit limit place words u event loads TooManyWays w = (refl, w)
 stopped_unit limit place words u event loads NoMemory w = tt
 
 -- a unit that no operation has touched is what is kept where nothing is
-pub kept_none : (image : List ℕ) (rest : Rest) (size : ℕ) (f : ℕ → Option KeptUnit) (k : ℕ) (place : UnitPlace) (u : KeptUnit) (bytes : List ℕ)
+pub kept_none : (image : List ℕ) (rest : Rest) (size : ℕ) (f : ℕ → Option KeptUnit) (k : ℕ) (place : UnitPlace) (u : KeptUnit)
+    (bytes : List ℕ)
     → None ≡ f k → bytes ≡ image → place ≡ unit_at size k → shown_unit u ≡ first_ways bytes rest place
     → shown_unit u ≡ kept_at image rest size f k
 kept_none image rest size f k place u bytes none same at_ e =
     e ∙ (ap (λ bs. first_ways bs rest place) same
     ∙ (ap (first_ways image rest) at_ ∙ ap (λ o. kept_or o (first_ways image rest (unit_at size k))) none))
 
-pub words_none : (f : ℕ → Option KeptUnit) (k : ℕ) (u : KeptUnit) → None ≡ f k → u.stretches.items ≡ [] → words_in u.stretches.items ≡ words_of (f k)
+pub words_none : (f : ℕ → Option KeptUnit) (k : ℕ) (u : KeptUnit) → None ≡ f k → u.stretches.items ≡ []
+    → words_in u.stretches.items ≡ words_of (f k)
 words_none f k u none e = ap words_in e ∙ ap words_of none
 
 -- what is said of a unit in one place is said in the same

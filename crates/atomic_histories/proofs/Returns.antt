@@ -1,5 +1,7 @@
 -- What an open load may return is what the ways show that are followed.
-use Rattle.std.proofs.Common.{◌≡◌, ℕ, zero, suc, ◌+◌, ◌/◌, ◌%◌, ◌<◌, ◌≤◌, ◌⊎◌, ◌↔◌, Bool, true, false, ◌&&◌, ◌||◌, ◌==◌, nat_le, List, [], ◌∷◌, ◌++◌, map, filter, length, Option, Some, None, Result, Ok, Err, IfOk, slice_get, inl, inr, refl, sym, ap, ◌∙◌, subst, arith}
+use Rattle.std.proofs.Common.{◌≡◌, ℕ, zero, suc, ◌+◌, ◌/◌, ◌%◌, ◌<◌, ◌≤◌, ◌⊎◌, ◌↔◌, Bool, true, false, ◌&&◌, ◌||◌, ◌==◌, nat_le, List, []}
+use Rattle.std.proofs.Common.{◌∷◌, ◌++◌, map, filter, length, Option, Some, None, Result, Ok, Err, IfOk, slice_get, inl, inr, refl, sym, ap}
+use Rattle.std.proofs.Common.{◌∙◌, subst, arith}
 use Rattle.std.specs.List.{list_any, find}
 use Rattle.std.proofs.lemmas.Bool.{cases_Bool, and_parts, and_from}
 use Rattle.std.proofs.lemmas.List.Folds.{list_any-append}
@@ -15,14 +17,17 @@ use Rattle.atomic_histories.specs.Law.{OpenLoad, UnitMemory, HiddenStep, MayBe, 
 use Rattle.atomic_histories.specs.Pasts.{Past, begins, after, either, Stood, stood, Has, shows, seen_since}
 use Rattle.atomic_histories.specs.Branches.{Watched, Branch, with_word, effect_of, is_watched}
 use Rattle.atomic_histories.specs.Followed.{Pair, Ways, never, watched, way_on, effects, is_under, next_after, rounds}
-use Rattle.atomic_histories.specs.Stands.{Each, One, EachWay, OneWay, IsAsked, IsPairBy, MayHaveGot, IsWatched, AreWatched, IsOn, Leads, now, later, StandsFor}
+use Rattle.atomic_histories.specs.Stands.{Each, One, EachWay, OneWay, IsAsked, IsPairBy, MayHaveGot, IsWatched, AreWatched, IsOn, Leads}
+use Rattle.atomic_histories.specs.Stands.{now, later, StandsFor}
 use Rattle.atomic_histories.specs.Held.{Held, StandsBut}
-use Rattle.atomic_histories.specs.May.{lane_of, may_show, has_got, got_byte, MayGet, MayReturn, AreSetsOf, IsSetOf, asks, reached_in, reached, shows_byte, is_shown, IsSet, may_get_at, address_of, AreSetsFrom, IsByteOf, HasSets}
+use Rattle.atomic_histories.specs.May.{lane_of, may_show, has_got, got_byte, MayGet, MayReturn, AreSetsOf, IsSetOf, asks, reached_in}
+use Rattle.atomic_histories.specs.May.{reached, shows_byte, is_shown, IsSet, may_get_at, address_of, AreSetsFrom, IsByteOf, HasSets}
 use Rattle.atomic_histories.proofs.Lists.{one_weaker, one_none, one_or, one_elim, each_both}
 use Rattle.atomic_histories.proofs.Alone.{IsAlone, found_each}
 use Rattle.atomic_histories.proofs.Answered.{find_watched}
 use Rattle.atomic_histories.proofs.Exact.{SoundOn}
-use Rattle.atomic_histories.proofs.Found.{leads_split, sound_joint, sound_kept, next_sound, next_finds, one_taken, undone, one_rounds, LeadsWithin}
+use Rattle.atomic_histories.proofs.Found.{leads_split, sound_joint, sound_kept, next_sound, next_finds, one_taken, undone, one_rounds}
+use Rattle.atomic_histories.proofs.Found.{LeadsWithin}
 use Rattle.atomic_histories.proofs.Links.{fit_by, found_fit, inside_end}
 use Rattle.atomic_histories.proofs.Whole.{alone_under}
 

@@ -1,5 +1,6 @@
 -- What is left of stretches.
-use Rattle.std.proofs.Common.{◌≡◌, ℕ, ◌+◌, ◌<◌, ◌≤◌, Bool, true, false, List, [], ◌∷◌, ◌++◌, length, get_or, take, drop, length-append, Option, Result, Ok, Err, OnOk, Some, None, refl, subst, sym, ap, ap₂, ◌∙◌, add-one, take-suc, arith, inl, inr}
+use Rattle.std.proofs.Common.{◌≡◌, ℕ, ◌+◌, ◌<◌, ◌≤◌, Bool, true, false, List, [], ◌∷◌, ◌++◌, length, get_or, take, drop, length-append}
+use Rattle.std.proofs.Common.{Option, Result, Ok, Err, OnOk, Some, None, refl, subst, sym, ap, ap₂, ◌∙◌, add-one, take-suc, arith, inl, inr}
 use Rattle.std.proofs.lemmas.List.{get_or_append_left, get_or_past, length-take-le, take-append-le, take-append-drop}
 use Rattle.std.proofs.lemmas.Bool.{cases_order, cases_lt}
 use Rattle.std.proofs.Math.Seq.{get_or-append_seam}
@@ -47,7 +48,8 @@ pushed left bare ps p ss shares share l h here Nothing = h Nothing
 pushed left bare ps p ss shares share l h here (Behind k) = elim (cases_order k (length ps)) [
   | inl e ↦ rw (at_push shares share bare k (e ∙ sym l), at_push ps p begins k e) here
   | inr o ↦ elim o [
-    | inl b ↦ rw (get_or_append_left shares (share ∷ []) bare k (omega (arith, b, l)), get_or_append_left ps (p ∷ []) begins k b) (h (Behind k))
+    | inl b ↦ rw (get_or_append_left shares (share ∷ []) bare k (omega (arith, b, l)), get_or_append_left ps (p ∷ []) begins k b)
+        (h (Behind k))
     | inr a ↦ rw (past_push shares share bare k (omega (arith, a, l)), past_push ps p begins k a) (h Nothing)
   ]
 ]
@@ -55,7 +57,8 @@ pushed left bare ps p ss shares share l h here (Behind k) = elim (cases_order k 
 pub pasts_take : (ss : List Stretch) (place : ℕ) (s : Stretch) → place < length ss → s ≡ get_or ss place s
     → pasts (take (place + 1) ss) ≡ pasts (take place ss) ++ past_of (pasts (take place ss)) s ∷ []
 pasts_take ss place s p e =
-    let more : take (place + 1) ss ≡ take place ss ++ s ∷ [] = rw add-one (take-suc ss place s p ∙ ap (λ x. take place ss ++ x ∷ []) (sym e)) in
+    let more : take (place + 1) ss ≡ take place ss ++ s ∷ [] =
+    rw add-one (take-suc ss place s p ∙ ap (λ x. take place ss ++ x ∷ []) (sym e)) in
     ap pasts more ∙ pasts_push (take place ss) s
 
 pub pasts_length : (ss : List Stretch) (place : ℕ) → place ≤ length ss → length (pasts (take place ss)) ≡ place
@@ -139,13 +142,15 @@ two_same bare place ss ts s one other shares share more n p e g is l i j whole m
 -- What is left of it. ----
 
 -- a share shows what is left of the past before a place
-shown_share : (left : Past → Option Past) (bare : Option Before) (place : ℕ) (ss ts : List Stretch) (b : Before) (shares : List (Option Before))
+shown_share : (left : Past → Option Past) (bare : Option Before) (place : ℕ) (ss ts : List Stretch) (b : Before)
+    (shares : List (Option Before))
     (share : Option Before) → AreShares left bare place ss shares → Grows ss ts → share ≡ share_in bare shares b
     → past_any (pasts ts) share ≡ left (past_at (pasts (take place ss)) b)
 shown_share left bare place ss ts b shares share h g i =
     past_any_grown ss ts g share (subst (IsInAny ss) (sym i) (h b).is_in) ∙ ap (past_any (pasts ss)) i ∙ (h b).shows
 
-pub word_left : (left : Past → Option Past) (bare : Option Before) (place : ℕ) (ss ts us : List Stretch) (word : List (Option ℕ)) (moment : ℕ)
+pub word_left : (left : Past → Option Past) (bare : Option Before) (place : ℕ) (ss ts us : List Stretch) (word : List (Option ℕ))
+    (moment : ℕ)
     (b : Before) (shares : List (Option Before)) (share r : Option Before)
     → left (after word moment (past_at (pasts (take place ss)) b)) ≡ after_any word moment (left (past_at (pasts (take place ss)) b))
     → AreShares left bare place ss shares → Grows ss ts → share ≡ share_in bare shares b
@@ -167,7 +172,8 @@ two_left left bare place ss ts us one other shares share more r law h g i j here
     ∙ sym law) here
 
 -- the shares of one stretch more, of which each is among the last stretches
-pub split_more : (is : Stood → Bool) (place : ℕ) (ss us : List Stretch) (s : Stretch) (split new : Split) (past : Past) (g m : Option Before)
+pub split_more : (is : Stood → Bool) (place : ℕ) (ss us : List Stretch) (s : Stretch) (split new : Split) (past : Past)
+    (g m : Option Before)
     → place < length ss → s ≡ get_or ss place s → past_of (pasts (take place ss)) s ≡ past → Grows ss us → IsSplit is place ss split
     → IsShare us g (got is past) → IsShare us m (missed is past)
     → new.got.items ≡ split.got.items ++ g ∷ [] → new.missed.items ≡ split.missed.items ++ m ∷ []
@@ -189,7 +195,8 @@ whole_got is ss place s word moment b p e of t = record {
   is_in = p;
 }
 
-pub whole_missed : (is : Stood → Bool) (ss : List Stretch) (word : List (Option ℕ)) (moment : ℕ) (past : Past) → is (stood word moment) ≡ true
+pub whole_missed : (is : Stood → Bool) (ss : List Stretch) (word : List (Option ℕ)) (moment : ℕ) (past : Past)
+    → is (stood word moment) ≡ true
     → IsShare ss None (missed is (after word moment past))
 whole_missed is ss word moment past t = record { shows = rw t refl; is_in = tt }
 

@@ -1,5 +1,6 @@
 -- The sets of what stood there are of what a load may have got.
-use Rattle.std.proofs.Common.{◌≡◌, ℕ, zero, suc, ◌<◌, Bool, true, false, ◌||◌, nat_le, List, [], ◌∷◌, ◌++◌, fold, get_or, Option, Some, None, inl, inr, refl, sym, ap, ◌∙◌}
+use Rattle.std.proofs.Common.{◌≡◌, ℕ, zero, suc, ◌<◌, Bool, true, false, ◌||◌, nat_le, List, [], ◌∷◌, ◌++◌, fold, get_or, Option, Some}
+use Rattle.std.proofs.Common.{None, inl, inr, refl, sym, ap, ◌∙◌}
 use Rattle.std.specs.List.{list_any}
 use Rattle.std.proofs.lemmas.Bool.{cases_Bool, lt-ltb}
 use Rattle.memory_histories.specs.declared.sets.ByteSet.{ByteSet}
@@ -48,7 +49,8 @@ module _ (since k b : ℕ) (l : b < 256) where
   Agree (s ∷ ss) [] = ⊥
   Agree (s ∷ ss) (p ∷ ps) = (has s b ≡ shows is since p) × Agree ss ps
 
-  agree_at : (sets : List ByteSet) (ps : List Past) → Agree sets ps → (i : ℕ) → has (get_or sets i no_bytes) b ≡ shows is since (get_or ps i begins)
+  agree_at : (sets : List ByteSet) (ps : List Past) → Agree sets ps → (i : ℕ)
+      → has (get_or sets i no_bytes) b ≡ shows is since (get_or ps i begins)
   agree_at [] [] a i = has-no_bytes b
   agree_at [] (p ∷ ps) a i = absurd a
   agree_at (s ∷ ss) [] a i = absurd a

@@ -1,5 +1,7 @@
 -- All units together: what is kept after an event is of the history with it, and an event is refused exactly if it is none of the law.
-use Rattle.std.proofs.Common.{◌≡◌, ℕ, zero, suc, ◌+◌, ◌/◌, ◌<◌, ◌≤◌, Bool, true, false, ◌&&◌, ◌||◌, not, ◌==◌, if◌then◌else◌, nat_lt, nat_le, List, [], ◌∷◌, ◌++◌, map, fold, length, Option, Some, None, is_none, is_some, Result, Ok, Err, OnOk, inl, inr, refl, sym, ap, ◌∙◌, subst, append_assoc, append-nil, leb-true, ltb-true, arith}
+use Rattle.std.proofs.Common.{◌≡◌, ℕ, zero, suc, ◌+◌, ◌/◌, ◌<◌, ◌≤◌, Bool, true, false, ◌&&◌, ◌||◌, not, ◌==◌, if◌then◌else◌, nat_lt}
+use Rattle.std.proofs.Common.{nat_le, List, [], ◌∷◌, ◌++◌, map, fold, length, Option, Some, None, is_none, is_some, Result, Ok, Err, OnOk}
+use Rattle.std.proofs.Common.{inl, inr, refl, sym, ap, ◌∙◌, subst, append_assoc, append-nil, leb-true, ltb-true, arith}
 use Rattle.std.specs.List.{list_any, list_all, find}
 use Rattle.std.proofs.lemmas.Bool.{cases_Bool, cases_lt, and_parts, and_from}
 use Rattle.std.proofs.lemmas.List.Folds.{list_all-append}
@@ -11,12 +13,16 @@ use Rattle.atomic_histories.specs.declared.unit.Operation.{Operation}
 use Rattle.atomic_histories.specs.declared.unit.UnitPlace.{UnitPlace}
 use Rattle.atomic_histories.specs.Words.{written, at_unit, stored_byte, is_at}
 use Rattle.atomic_histories.specs.Operations.{Opened, none_opened, opened_after, opened_by, has_number, form_fault}
-use Rattle.atomic_histories.specs.Law.{is_load, OpenLoad, UnitMemory, HiddenStep, MayBe, steps, sees, untouched, done_store, is_store, may_answer_store, without_store, unit_at, is_formed, IsAtomicAt}
+use Rattle.atomic_histories.specs.Law.{is_load, OpenLoad, UnitMemory, HiddenStep, MayBe, steps, sees, untouched, done_store, is_store}
+use Rattle.atomic_histories.specs.Law.{may_answer_store, without_store, unit_at, is_formed, IsAtomicAt}
 use Rattle.atomic_histories.specs.declared.unit.WatchedLoad.{WatchedLoad}
-use Rattle.atomic_histories.specs.Followed.{Pair, Ways, no_ways, has_pair, has_way, watched, met, is_under, is_first, word_aim, effect_aim, Aim, answered_load, pair_cut, pair_with_store, pair_without_store, ways_with_load, ways_with_store, ways_after, loads_without}
+use Rattle.atomic_histories.specs.Followed.{Pair, Ways, no_ways, has_pair, has_way, watched, met, is_under, is_first, word_aim, effect_aim}
+use Rattle.atomic_histories.specs.Followed.{Aim, answered_load, pair_cut, pair_with_store, pair_without_store, ways_with_load}
+use Rattle.atomic_histories.specs.Followed.{ways_with_store, ways_after, loads_without}
 use Rattle.atomic_histories.specs.Pasts.{Stood, oldest}
 use Rattle.atomic_histories.specs.Stands.{One, OneWay, AreWatched, Leads, StandsFor}
-use Rattle.atomic_histories.specs.Held.{Held, nothing_held, covered, units_of, is_among, changed, unit_after, is_without, is_stuck, stuck_from, first_stuck, Stands, is_lost, StandsBut}
+use Rattle.atomic_histories.specs.Held.{Held, nothing_held, covered, units_of, is_among, changed, unit_after, is_without, is_stuck}
+use Rattle.atomic_histories.specs.Held.{stuck_from, first_stuck, Stands, is_lost, StandsBut}
 use Rattle.atomic_histories.specs.Lost.{IsAtomicBut}
 use Rattle.atomic_histories.specs.Judge.{IsTaken, IsForgotten}
 use Rattle.atomic_histories.proofs.Alone.{IsAlone, alone}
@@ -33,7 +39,8 @@ pair_map : (f : Pair → Pair) (es : List Pair) → has_pair es ≡ true → has
 pair_map f [] h = cc
 pair_map f (e ∷ es) h = refl
 
-way_if_load : (b : Bool) (number address : ℕ) (u : Ways) → has_way u ≡ true → has_way (if b then ways_with_load number address u else u) ≡ true
+way_if_load : (b : Bool) (number address : ℕ) (u : Ways) → has_way u ≡ true
+    → has_way (if b then ways_with_load number address u else u) ≡ true
 way_if_load true number address u h = h
 way_if_load false number address u h = h
 
@@ -259,7 +266,8 @@ none_after unit u (LoadResponse number bytes) h =
 none_after unit u (StoreRequest number address bytes enables) h =
     none_if (list_any is_some (at_unit unit (stored_byte address bytes.now enables)))
   where
-    none_if : (b : Bool) → has_way (if b then ways_with_store number (at_unit unit (stored_byte address bytes.now enables)) u else u) ≡ false
+    none_if : (b : Bool)
+        → has_way (if b then ways_with_store number (at_unit unit (stored_byte address bytes.now enables)) u else u) ≡ false
     none_if true =
         ap (λ xs. has_pair (map (pair_with_store number (at_unit unit (stored_byte address bytes.now enables))) xs)) (no_pair u.pairs h)
     none_if false = h
@@ -268,7 +276,8 @@ none_after unit u (StoreResponse number) h =
     ≡ record { loads = u.loads; moment = u.moment; pairs = [] } =
     ap (λ (xs : List Pair). record { loads = u.loads; moment = u.moment; pairs = map (pair_without_store number) xs })
     (met_none u.loads u.moment 1 (effect_aim number)) in
-    ap (λ xs. has_way (ways_after unit (record { loads = u.loads; moment = u.moment; pairs = xs }) (StoreResponse number))) (no_pair u.pairs h)
+    ap (λ xs. has_way (ways_after unit (record { loads = u.loads; moment = u.moment; pairs = xs }) (StoreResponse number)))
+    (no_pair u.pairs h)
     ∙ ap has_way none
 
 -- Events. ----

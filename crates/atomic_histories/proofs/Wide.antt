@@ -1,5 +1,6 @@
 -- Where a search would follow more pairs than the limit, the unit may be in as many states that differ.
-use Rattle.std.proofs.Common.{◌≡◌, ℕ, zero, suc, ltb-true, ◌/◌, ◌<◌, ◌≤◌, ◌⊎◌, Bool, true, false, ◌||◌, nat_lt, List, [], ◌∷◌, map, length, Option, Some, None, inl, inr, refl, sym, ap, ◌∙◌, subst, arith}
+use Rattle.std.proofs.Common.{◌≡◌, ℕ, zero, suc, ltb-true, ◌/◌, ◌<◌, ◌≤◌, ◌⊎◌, Bool, true, false, ◌||◌, nat_lt, List, [], ◌∷◌, map, length}
+use Rattle.std.proofs.Common.{Option, Some, None, inl, inr, refl, sym, ap, ◌∙◌, subst, arith}
 use Rattle.std.specs.List.{find}
 use Rattle.std.proofs.lemmas.Bool.{le-ltb}
 use Rattle.memory_histories.specs.declared.events.HistoryEvent.{HistoryEvent}
@@ -9,7 +10,9 @@ use Rattle.atomic_histories.specs.declared.unit.UnitPlace.{UnitPlace}
 use Rattle.atomic_histories.specs.declared.unit.WatchedLoad.{WatchedLoad}
 use Rattle.atomic_histories.specs.declared.search.TheConstants.{MOST_WORDS}
 use Rattle.atomic_histories.specs.Law.{UnitMemory, HiddenStep, MayBe, steps, untouched, unit_at}
-use Rattle.atomic_histories.specs.Followed.{Pair, Ways, Aim, never, way_on, out_after, next_after, rounds, is_under, is_over, are_too_many, needs_more, effect_aim, word_aim, pair_got, pair_missed, gathered, with_hope, load_needs_more, is_too_wide}
+use Rattle.atomic_histories.specs.Followed.{Pair, Ways, Aim, never, way_on, out_after, next_after, rounds, is_under, is_over, are_too_many}
+use Rattle.atomic_histories.specs.Followed.{needs_more, effect_aim, word_aim, pair_got, pair_missed, gathered, with_hope, load_needs_more}
+use Rattle.atomic_histories.specs.Followed.{is_too_wide}
 use Rattle.atomic_histories.specs.Stands.{Each, EachWay, IsPairBy, IsAsked, AreApart, StandsFor}
 use Rattle.atomic_histories.specs.Held.{Held, StandsBut}
 use Rattle.atomic_histories.specs.May.{address_of, is_reach_over, is_reach_wide}
@@ -53,7 +56,8 @@ module _ (loads : List WatchedLoad) (moment : ℕ) (asked : Each (IsAsked moment
         | inr later ↦ over_many limit n aim (out_after aim.goal out es) (next_after loads moment aim es) (apart_out aim.goal out es a)
             (apart_next loads moment aim [] es tt)
             (out_sound loads moment asked S S (sound_joint loads moment asked P) aim.goal (λ e r y. r) out es s t)
-            (next_sound loads moment asked S (sound_joint loads moment asked P) (sound_kept loads moment asked P closed) aim [] es tt t) later
+            (next_sound loads moment asked S (sound_joint loads moment asked P) (sound_kept loads moment asked P closed) aim [] es tt t)
+            later
       ]
 
   pub more_many : (limit : ℕ) (aim : Aim) (out es : List Pair) → AreApart out → Each S out → Each S es
@@ -88,7 +92,8 @@ module _ (loads : List WatchedLoad) (moment : ℕ) (asked : Each (IsAsked moment
   state_is e s =
       let p = some_path e.past in
       let r = state_on (way_on loads e p.0) in
-      s.0 p.0 p.1 (record { word = e.word; stores = e.stores; loads = r.0.loads }) (record { word = refl; stores = refl; loads = r.1.loads })
+      s.0 p.0 p.1 (record { word = e.word; stores = e.stores; loads = r.0.loads })
+      (record { word = refl; stores = refl; loads = r.1.loads })
 
   states_differ : (es : List Pair) → AreApart es → AllDiffer (map state_of es)
   unfolding state_of
@@ -98,7 +103,8 @@ module _ (loads : List WatchedLoad) (moment : ℕ) (asked : Each (IsAsked moment
   pub many_states : (limit : ℕ) → AreMany limit S
       → (ms : List UnitMemory) × (limit < length ms) × Each P ms × AllDiffer ms
   many_states limit m =
-      let more : limit < length (map state_of m.0) = subst (λ n. limit < n) (sym (length_mapped state_of m.0)) (ltb-true limit (length m.0) m.1) in
+      let more : limit < length (map state_of m.0) =
+      subst (λ n. limit < n) (sym (length_mapped state_of m.0)) (ltb-true limit (length m.0) m.1) in
       (map state_of m.0, more, each_map state_of P m.0 (each_weaker S (λ e. P (state_of e)) state_is m.0 m.3), states_differ m.0 m.2)
 
 -- Units. ----
@@ -155,7 +161,8 @@ no_over : (limit : ℕ) (loads : List WatchedLoad) (moment n : ℕ) (aim : Aim) 
 no_over limit loads moment zero aim = refl
 no_over limit loads moment (suc n) aim = rw (few limit) (no_over limit loads moment n aim)
 
-no_load : (limit : ℕ) (unit : UnitPlace) (bytes : List ℕ) (load : Option WatchedLoad) (loads : List WatchedLoad) (moment : ℕ) (es : List Pair)
+no_load : (limit : ℕ) (unit : UnitPlace) (bytes : List ℕ) (load : Option WatchedLoad) (loads : List WatchedLoad) (moment : ℕ)
+    (es : List Pair)
     → es ≡ [] → load_needs_more limit unit bytes load (record { loads = loads; moment = moment; pairs = es }) ≡ false
 no_load limit unit bytes None loads moment es h = refl
 no_load limit unit bytes (Some l) loads moment es h =

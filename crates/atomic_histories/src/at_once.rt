@@ -17,7 +17,7 @@ ghost use Rattle.atomic_histories.specs.Taken.{IsUnitKept, IsTakenTo, IsNextWord
 use crate::kept::KeptUnit;
 use crate::loads::{end_load, find_load, oldest_without};
 use crate::pairs::FollowedPair;
-use crate::stretches::{Before, Stretch, overwrite};
+use crate::stretches::{Before, Stretch, overwrite, past_on};
 use crate::unit::{OpenStore, UnitPlace, WatchedLoad, Word};
 use crate::words::{has_byte, is_at, is_word_of, stored_word, write};
 use memory_histories::HistoryEvent;
@@ -93,24 +93,7 @@ fn has_answer(
         || has_stood(place, load, bytes, stretches, pair.past)
 }
 
-// What stood there before, once the word of now is overwritten: nothing that is asked for if no load is open.
-fn past_on(
-    stretches: &mut Vec<Stretch>,
-    loads: &[WatchedLoad],
-    moment: u64,
-    word: Word,
-    past: Before,
-) -> Result<Before, AllocError>
-    ensures past { IfOk result (λ b. past_at (pasts stretches.new.items) b ≡ overwritten loads.now moment word (past_at (pasts stretches.old.items) past)) }
-    ensures err { OnErr result (stretches.new.items ≡ stretches.old.items) }
-{
-    if loads.is_empty() {
-        return Ok(Before::Nothing);
-    }
-    overwrite(stretches, word, moment, past)
-}
-
-// The same behind a load's answer, where nothing stood there before: only a load that is left may ask for the word.
+// What stood there before, once the word of now is overwritten behind a load's answer, where nothing stood there before: only a load that is left may ask for the word.
 // `None` is for a load that is left and was requested behind the last moment, which never comes.
 fn past_behind(
     stretches: &mut Vec<Stretch>,

@@ -4,7 +4,6 @@ ghost use Rattle.std.specs.Prelude.{◌≡◌, ◌+◌, ◌<◌, ◌++◌, ◌||
 ghost use Rattle.std.specs.List.{filter};
 ghost use Rattle.atomic_histories.specs.declared.unit.OpenStore.{OpenStore};
 ghost use Rattle.atomic_histories.specs.declared.stretches.Stretch.{Stretch};
-ghost use Rattle.atomic_histories.specs.Pasts.{overwritten as overwritten_past};
 ghost use Rattle.atomic_histories.specs.Followed.{pair_after, cons_effect, effects, effects_from, with_pairs, out_of, next_of, out_after, next_after, rounds, found as found_pairs, are_too_many, needs_more, never};
 ghost use Rattle.atomic_histories.specs.May.{reached_in, is_reach_over};
 ghost use Rattle.atomic_histories.specs.Marks.{IsFollowed};
@@ -12,7 +11,7 @@ ghost use Rattle.atomic_histories.specs.Shown.{past_at, pasts, shown, shown_all,
 
 use crate::followed::Followed;
 use crate::pairs::{FollowedPair, Wanted};
-use crate::stretches::{Before, Stretch, overwrite};
+use crate::stretches::{Before, Stretch, past_on};
 use crate::unit::WatchedLoad;
 use std::alloc::{AllocError, Global};
 
@@ -45,22 +44,6 @@ impl From<AllocError> for Stop {
 pub(crate) struct Asked<'a> {
     pub(crate) loads: &'a [WatchedLoad],
     pub(crate) moment: u64,
-}
-
-// The word of a pair is overwritten: what stood there before, once one more of its stores has taken effect.
-fn overwritten(
-    stretches: &mut Vec<Stretch>,
-    asked: Asked,
-    pair: &FollowedPair,
-) -> Result<Before, AllocError>
-    ensures past { IfOk result (λ b. past_at (pasts stretches.new.items) b ≡ overwritten_past asked.entry.loads.now asked.entry.moment pair.now.word (past_at (pasts stretches.old.items) pair.now.past)) }
-    ensures is_in { IfOk result (λ b. IsIn stretches.new.items b) }
-    ensures grows { OnOk result (Grows stretches.old.items stretches.new.items) }
-{
-    if asked.loads.is_empty() {
-        return Ok(Before::Nothing);
-    }
-    overwrite(stretches, pair.word, asked.moment, pair.past)
 }
 
 // The pair to which the ways go on from this one when store `i` takes effect is followed, unless it has taken effect, or no
@@ -138,7 +121,7 @@ fn add_effects(
     if pair.is_done() {
         return Ok(());
     }
-    let past = overwritten(stretches, asked, pair)?;
+    let past = past_on(stretches, asked.loads, asked.moment, pair.word, pair.past)?;
     add_effects_after(alloc, stretches, next, pair, past, wanted)
 }
 

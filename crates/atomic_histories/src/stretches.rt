@@ -2,11 +2,11 @@
 //! refers to those before it. They are kept in a list in which a stretch stands behind those that it refers to.
 
 ghost use Rattle.std.specs.Prelude.{◌≡◌, ◌<◌, ◌+◌, ◌^◌, true, length, IfOk, OnOk, OnErr};
-ghost use Rattle.atomic_histories.specs.Pasts.{after, merged};
+ghost use Rattle.atomic_histories.specs.Pasts.{after, merged, overwritten};
 ghost use Rattle.atomic_histories.specs.declared.stretches.Before.{Before};
 ghost use Rattle.atomic_histories.specs.Shown.{past_at, past_of, pasts, IsIn, Grows, words_in, count_word};
 
-use crate::unit::Word;
+use crate::unit::{WatchedLoad, Word};
 use std::alloc::{AllocError, Global};
 
 /// What stood in a unit before a word.
@@ -82,6 +82,25 @@ pub(crate) fn overwrite(
             before,
         },
     )
+}
+
+// What stood there before, once the word of now is overwritten: nothing that is asked for if no load is open.
+pub(crate) fn past_on(
+    stretches: &mut Vec<Stretch>,
+    loads: &[WatchedLoad],
+    moment: u64,
+    word: Word,
+    past: Before,
+) -> Result<Before, AllocError>
+    ensures past { IfOk result (λ b. past_at (pasts stretches.new.items) b ≡ overwritten loads.now moment word (past_at (pasts stretches.old.items) past)) }
+    ensures is_in { IfOk result (λ b. IsIn stretches.new.items b) }
+    ensures grows { OnOk result (Grows stretches.old.items stretches.new.items) }
+    ensures err { OnErr result (stretches.new.items ≡ stretches.old.items) }
+{
+    if loads.is_empty() {
+        return Ok(Before::Nothing);
+    }
+    overwrite(stretches, word, moment, past)
 }
 
 // A past with the ways of two.

@@ -34,7 +34,8 @@ returns-clause-found c =
     let ss = u.stretches.items in
     let ts = c.split_stretches.new.stretches.items in
     let grows = c.in_ok-split.ensures.grows in
-    let parts = are_parts unit bytes load ss ts split grows c.in_ok-split.ensures.got c.in_ok-split.ensures.missed u.pairs.items c.requires in
+    let parts =
+    are_parts unit bytes load ss ts split grows c.in_ok-split.ensures.got c.in_ok-split.ensures.missed u.pairs.items c.requires in
     let aim = word_aim unit load.address bytes in
     let same = shown_grown ss ts grows u.pairs.items c.requires in
     let got = c.in_ok-got.ensures.shown ts (subst (AreParts unit bytes load ts split) (sym c.as_slice.ensures.value) parts)
@@ -58,7 +59,8 @@ returns-clause-stop c =
     let ss = u.stretches.items in
     let ts = c.split_stretches.new.stretches.items in
     let grows = c.in_ok-split.ensures.grows in
-    let parts = are_parts unit bytes load ss ts split grows c.in_ok-split.ensures.got c.in_ok-split.ensures.missed u.pairs.items c.requires in
+    let parts =
+    are_parts unit bytes load ss ts split grows c.in_ok-split.ensures.got c.in_ok-split.ensures.missed u.pairs.items c.requires in
     let aim = word_aim unit load.address bytes in
     let same = shown_grown ss ts grows u.pairs.items c.requires in
     let got = c.in_ok-got.ensures.shown ts (subst (AreParts unit bytes load ts split) (sym c.as_slice.ensures.value) parts)

@@ -20,12 +20,16 @@ loop-pair-preserved c =
     let below : i < length pairs = omega (arith, c.loop-pair-test.true) in
     record {
       shown = λ ss parts.
-          let part = subst (IsPart unit bytes load ss split) (sym c.pair-item.is) (each_nth (IsPart unit bytes load ss split) pairs i pair below parts) in
+          let part =
+          subst (IsPart unit bytes load ss split) (sym c.pair-item.is)
+          (each_nth (IsPart unit bytes load ss split) pairs i pair below parts) in
           part_more (gathered f) (λ e. cons_any (f e) []) (got_step f) ss pairs i pair (shown_all ss c.loop-pair.parts.items)
           (cons_any (pair_on (shown ss pair) (past_any (pasts ss) c.past_got-past.result)) []) (shown_all ss c.add_part.new.parts.items)
           (gathered f (shown_all ss pairs)) below c.pair-item.is (c.in_ok-add_part.ensures.shown ss)
           (ap (λ x. cons_any x []) (c.past_got-past.ensures.pair ss part)) (c.loop-pair.invariant.shown ss parts);
       are_in = λ ss parts.
-          let part = subst (IsPart unit bytes load ss split) (sym c.pair-item.is) (each_nth (IsPart unit bytes load ss split) pairs i pair below parts) in
+          let part =
+          subst (IsPart unit bytes load ss split) (sym c.pair-item.is)
+          (each_nth (IsPart unit bytes load ss split) pairs i pair below parts) in
           c.in_ok-add_part.ensures.are_in ss (c.loop-pair.invariant.are_in ss parts) (c.past_got-past.ensures.is_in ss part);
     }

@@ -9,6 +9,8 @@ use Rattle.atomic_histories.proofs.answers.pairs_missed.Given as goal
 abbrev pub invariant-loop-pair : goal.invariant-loop-pair
 invariant-loop-pair l = record {
   shown : (ss : List Stretch) → AreParts l.unit l.bytes l.load ss l.split l.pairs
-      → shown_all ss l.parts.items ++ with_hope (word_aim l.unit l.load.address l.bytes) (gathered (pair_missed l.unit l.bytes l.load) (shown_all ss (drop l.pair-index l.pairs))) ≡ with_hope (word_aim l.unit l.load.address l.bytes) (gathered (pair_missed l.unit l.bytes l.load) (shown_all ss l.pairs));
+      → shown_all ss l.parts.items ++ with_hope (word_aim l.unit l.load.address l.bytes)
+      (gathered (pair_missed l.unit l.bytes l.load) (shown_all ss (drop l.pair-index l.pairs)))
+      ≡ with_hope (word_aim l.unit l.load.address l.bytes) (gathered (pair_missed l.unit l.bytes l.load) (shown_all ss l.pairs));
   are_in : (ss : List Stretch) → AreParts l.unit l.bytes l.load ss l.split l.pairs → AreIn ss l.parts.items;
 }

@@ -60,6 +60,7 @@ loop-before-preserved c =
       got = λ g. kept.got
           (got_later is (past_at (pasts (take end ss)) c.loop-before.before) (past_at (pasts (take i ss)) earlier) word moment here not_ g);
       missed = λ m. kept.missed
-          (missed_later is (past_at (pasts (take end ss)) c.loop-before.before) (past_at (pasts (take i ss)) earlier) word moment here not_ m);
+          (missed_later is (past_at (pasts (take end ss)) c.loop-before.before)
+          (past_at (pasts (take i ss)) earlier) word moment here not_ m);
       within = omega (arith, kept.within, c.if-i-end.false);
     }

@@ -43,6 +43,7 @@ loop-from-preserved c =
       others = λ ss d. below_more (λ k. is_this ss p (get_or ps k d) ≡ false) at
           (λ k h. passed ss ps p d c.args.marks.now c.args.mark c.loop-from.from at
           c.requires.marks c.requires.mark c.next_with-at.ensures.place (c.loop-from.invariant.others ss d) k h (omega (arith, h, below)))
-          (ap (is_this ss p) (same_default ps at d f below ∙ sym c.index-pairs-at.is) ∙ (sym (c.is_same.ensures ss ss) ∙ c.if-is_same.false));
+          (ap (is_this ss p) (same_default ps at d f below ∙ sym c.index-pairs-at.is) ∙
+          (sym (c.is_same.ensures ss ss) ∙ c.if-is_same.false));
       most = omega (arith, below);
     }

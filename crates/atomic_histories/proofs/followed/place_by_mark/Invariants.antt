@@ -8,7 +8,8 @@ use Rattle.atomic_histories.proofs.followed.place_by_mark.Given as goal
 -- it is none of those so far
 abbrev pub invariant-loop-from : goal.invariant-loop-from
 invariant-loop-from l = record {
-  others : (ss : List Stretch) (d : FollowedPair) (k : ℕ) → k < l.from → is_same_pair (shown ss (get_or l.pairs k d)) (shown ss l.pair) ≡ false;
+  others : (ss : List Stretch) (d : FollowedPair) (k : ℕ) → k < l.from
+      → is_same_pair (shown ss (get_or l.pairs k d)) (shown ss l.pair) ≡ false;
   most : l.from ≤ length l.pairs;
 }
 

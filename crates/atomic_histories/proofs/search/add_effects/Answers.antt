@@ -12,13 +12,14 @@ returns-then-is_done-clause-pairs c =
     let ss = c.args.stretches.now.items in
     let pair = c.args.pair.now in
     let e = shown ss pair in
-    let none = effects_done (overwritten c.args.asked.loads.now c.args.asked.moment e.word e.past) e [] e.stores (sym (c.if-is_done.ensures)) in
+    let none =
+    effects_done (overwritten c.args.asked.loads.now c.args.asked.moment e.word e.past) e [] e.stores (sym (c.if-is_done.ensures)) in
     ap (λ es. with_pairs (shown_all ss c.args.next.now.pairs.items) (filter (aim_of c.args.wanted).hope es)) (sym none)
 
 pub returns-clause-pairs : goal.returns-clause-pairs
 returns-clause-pairs c =
     let ss = c.args.stretches.now.items in
-    let ts = c.overwritten.new.stretches.items in
+    let ts = c.past_on.new.stretches.items in
     let pair = c.args.pair.now in
     let hope = (aim_of c.args.wanted).hope in
     let before = c.in_ok-past.ensures in

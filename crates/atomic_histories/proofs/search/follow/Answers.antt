@@ -14,7 +14,8 @@ returns-then-meets-clause-next c =
 
 pub returns-then-meets-clause-next_in : goal.returns-then-meets-clause-next_in
 returns-then-meets-clause-next_in c =
-    are_in_grown c.args.stretches.now.items c.add.new.stretches.items c.in_ok-add.ensures.grows c.args.next.now.pairs.items c.requires.next_in
+    are_in_grown c.args.stretches.now.items c.add.new.stretches.items c.in_ok-add.ensures.grows c.args.next.now.pairs.items
+    c.requires.next_in
 
 pub returns-clause-out : goal.returns-clause-out
 returns-clause-out c =

@@ -73,7 +73,9 @@ loop-left-preserved c =
           kept.are_in more some next kept.reached;
       over = ap (λ ps. is_reach_over limit loads moment (left - 1) (shown_all us ps)) behind
           ∙ sym (reach_go limit loads moment left (shown_all ts from) (shown_all us found) next few some) ∙ kept.over;
-      are_in = subst (AreIn us) (sym more) (each_append (λ p. IsIn us p.past) all found (are_in_grown ts us went.grows all kept.are_in) went.are_in);
+      are_in =
+          subst (AreIn us) (sym more)
+          (each_append (λ p. IsIn us p.past) all found (are_in_grown ts us went.grows all kept.are_in) went.are_in);
       grows = grows_more ss ts us kept.grows went.grows;
       most = omega (arith, count, ap length more, length-append all found);
     }

@@ -10,7 +10,8 @@ invariant-loop-left l = record {
   reached : shown_all l.stretches.items l.all.items
       ++ reached_in l.asked.loads.now l.asked.moment l.left (shown_all l.stretches.items (drop l.from l.all.items))
       ≡ shown_all l.fn.stretches.items l.pairs
-      ++ reached_in l.asked.loads.now l.asked.moment (rounds (shown_all l.fn.stretches.items l.pairs)) (shown_all l.fn.stretches.items l.pairs);
+      ++ reached_in l.asked.loads.now l.asked.moment (rounds (shown_all l.fn.stretches.items l.pairs))
+      (shown_all l.fn.stretches.items l.pairs);
   over : is_reach_over l.limit l.asked.loads.now l.asked.moment l.left (shown_all l.stretches.items (drop l.from l.all.items))
       ≡ is_reach_over l.limit l.asked.loads.now l.asked.moment (rounds (shown_all l.fn.stretches.items l.pairs))
       (shown_all l.fn.stretches.items l.pairs);

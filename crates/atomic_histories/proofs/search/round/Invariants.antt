@@ -7,8 +7,10 @@ use Rattle.atomic_histories.proofs.search.round.Given as goal
 -- with those that are left it is the whole
 abbrev pub invariant-loop-pair : goal.invariant-loop-pair
 invariant-loop-pair l = record {
-  out : out_after (aim_of l.wanted).goal (shown_all l.stretches.items l.out.pairs.items) (shown_all l.fn.stretches.items (drop (length l.yielded) l.fn.pairs.items))
-      ≡ out_after (aim_of l.wanted).goal (shown_all l.fn.stretches.items l.fn.out.pairs.items) (shown_all l.fn.stretches.items l.fn.pairs.items);
+  out : out_after (aim_of l.wanted).goal (shown_all l.stretches.items l.out.pairs.items)
+      (shown_all l.fn.stretches.items (drop (length l.yielded) l.fn.pairs.items))
+      ≡ out_after (aim_of l.wanted).goal (shown_all l.fn.stretches.items l.fn.out.pairs.items)
+      (shown_all l.fn.stretches.items l.fn.pairs.items);
   next : fold (next_of l.asked.loads.now l.asked.moment (aim_of l.wanted)) (shown_all l.stretches.items l.next.pairs.items)
       (shown_all l.fn.stretches.items (drop (length l.yielded) l.fn.pairs.items))
       ≡ next_after l.asked.loads.now l.asked.moment (aim_of l.wanted) (shown_all l.fn.stretches.items l.fn.pairs.items);

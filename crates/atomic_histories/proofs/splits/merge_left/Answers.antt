@@ -12,9 +12,11 @@ returns-in_default-clause-past c =
     let one : c.args.one_left ≡ c.args.one = search rules in
     let other : c.args.other_left ≡ c.args.other = search rules in
     let whole = c.requires.same one other in
-    let both : past_at (pasts ss) (Behind c.args.place) ≡ either (past_at (pasts ss) c.args.one_left) (past_at (pasts ss) c.args.other_left) =
+    let both : past_at (pasts ss) (Behind c.args.place)
+    ≡ either (past_at (pasts ss) c.args.one_left) (past_at (pasts ss) c.args.other_left) =
     rw (one, other) whole in
     elim c.in_default.branch [
-      | in_default-via-in-Nothing+in_default w ↦ both ∙ sym (merged_other ss c.args.one_left c.args.other_left _ w.in_default.is-1 c.requires.other)
+      | in_default-via-in-Nothing+in_default w ↦ both ∙ sym
+          (merged_other ss c.args.one_left c.args.other_left _ w.in_default.is-1 c.requires.other)
       | in_default-via-in_default w ↦ both ∙ sym (merged_one ss c.args.one_left c.args.other_left _ w.in_default.is-0 c.requires.one)
     ]

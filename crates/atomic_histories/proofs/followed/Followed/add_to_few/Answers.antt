@@ -7,7 +7,8 @@ use Rattle.atomic_histories.proofs.followed.Followed.add_to_few.Goals as goal
 pub merge_at-requires-clause-place : goal.merge_at-requires-clause-place
 merge_at-requires-clause-place c =
     let ss = c.args.stretches.now.items in
-    is_inside ss c.args.pair c.args.self.now.pairs.items c.as_slice.result.now c.in-Some.place c.as_slice.ensures.value (c.in-Some.ensures ss)
+    is_inside ss c.args.pair c.args.self.now.pairs.items c.as_slice.result.now c.in-Some.place c.as_slice.ensures.value
+    (c.in-Some.ensures ss)
 
 pub returns-in-Some-clause-pairs : goal.returns-in-Some-clause-pairs
 returns-in-Some-clause-pairs c =
@@ -22,6 +23,7 @@ pub returns-in_ok-push-in-None-clause-pairs : goal.returns-in_ok-push-in-None-cl
 returns-in_ok-push-in-None-clause-pairs c =
     let ss = c.args.stretches.now.items in
     on_ok_weaker c.note_many.result
-    (λ h. put_behind ss c.args.pair c.args.self.now.pairs.items c.as_slice.result.now c.note_many.new.self.pairs.items c.as_slice.ensures.value
+    (λ h. put_behind ss c.args.pair c.args.self.now.pairs.items c.as_slice.result.now c.note_many.new.self.pairs.items
+    c.as_slice.ensures.value
     (c.in-None.ensures ss) (ap (λ v. v.items) h ∙ c.in_ok-push-in-None.ensures.items))
     c.note_many.ensures.pairs

@@ -4,7 +4,8 @@ use Rattle.atomic_histories.proofs.followed.Followed.merge_at.Goals as goal
 
 pub returns-clause-pairs : goal.returns-clause-pairs
 returns-clause-pairs c = λ e is.
-    merged_at c.args.stretches.now.items c.merge.new.stretches.items c.in_ok-merged.ensures.grows c.args.self.now.pairs.items c.requires.pairs
+    merged_at c.args.stretches.now.items c.merge.new.stretches.items c.in_ok-merged.ensures.grows c.args.self.now.pairs.items
+    c.requires.pairs
     c.args.place c.index.result.now c.index_mut.result.now c.in_ok-merged.merged c.args.past e c.requires.place c.index.ensures
     c.index_mut.ensures.value c.in_ok-merged.ensures.past is
 

@@ -5,7 +5,8 @@ use Rattle.atomic_histories.specs.Followed.{is_answer}
 use Rattle.atomic_histories.specs.Shown.{past_at, past_of, pasts}
 use Rattle.atomic_histories.specs.Shares.{IsShare}
 use Rattle.atomic_histories.proofs.Frames.{grows_same, grows_more}
-use Rattle.atomic_histories.proofs.Shares.{share_grown, none_got, none_missed, word_same, two_same, word_left, two_left, split_more, whole_got, whole_missed, got_word, missed_word, on_ok_both}
+use Rattle.atomic_histories.proofs.Shares.{share_grown, none_got, none_missed, word_same, two_same, word_left, two_left, split_more}
+use Rattle.atomic_histories.proofs.Shares.{whole_got, whole_missed, got_word, missed_word, on_ok_both}
 use Rattle.atomic_histories.proofs.splits.Split.add.Goals as goal
 
 pub returns-then-is_answer-clause-split : goal.returns-then-is_answer-clause-split
@@ -41,7 +42,8 @@ pub left_of_two-requires-clause-same : goal.left_of_two-requires-clause-same
 left_of_two-requires-clause-same c =
     let ss = c.args.stretches.now.items in
     two_same None c.args.place ss ss c.index.result.now c.in-Either.one c.in-Either.other c.args.self.now.got.items c.got.result
-    c.got-in-Either.result none_got c.requires.place c.index.ensures (grows_same ss) c.in-Either.is c.requires.split.got_places c.got.ensures
+    c.got-in-Either.result none_got c.requires.place c.index.ensures
+    (grows_same ss) c.in-Either.is c.requires.split.got_places c.got.ensures
     c.got-in-Either.ensures
 
 pub left_of_two-requires-in-Either-clause-same : goal.left_of_two-requires-in-Either-clause-same
@@ -70,7 +72,8 @@ returns-in_ok-missed-in-Overwritten-clause-split c =
     (got_word is o.word o.moment before other) c.requires.split.got (grows_same ss) c.got-got.ensures first.ensures.share) in
     let missed_here : IsShare us second.missed (missed is past) =
     word_left (missed is) (Some Nothing) place ss ts us o.word o.moment o.before split.missed.items c.missed-missed.result second.missed
-    (missed_word is o.word o.moment before other) c.requires.split.missed first.ensures.grows c.missed-missed.ensures second.ensures.share in
+    (missed_word is o.word o.moment before other) c.requires.split.missed first.ensures.grows c.missed-missed.ensures second.ensures.share
+    in
     on_ok_both c.push-in-Overwritten.result
     (split_more is place ss us c.index.result.now split c.push-in-Overwritten.new.self past first.got second.missed c.requires.place
     c.index.ensures (ap (past_of (pasts (take place ss))) o.is) (grows_more ss ts us first.ensures.grows second.ensures.grows)
