@@ -34,16 +34,21 @@ pub const DEFAULT_LIMIT: usize = 4096;
 /// How many bytes a unit of memory has: at each aligned unit an operation takes effect at one moment.
 #[derive(Clone, Copy, PartialEq, Eq, Debug)]
 pub enum UnitSize {
+    /// A unit is one byte: no two bytes of an operation need one moment.
     One,
+    /// Of two bytes, from each even address on.
     Two,
+    /// Of four bytes, from each address on that is a multiple of 4.
     Four,
+    /// Of eight bytes, from each address on that is a multiple of 8.
     Eight,
 }
 
 impl UnitSize {
-    /// The number of bytes.
+    /// The number of bytes, which is never 0: an address may be divided by it.
     pub fn bytes(self) -> u64
-        ensures { result ≡ bytes_of self }
+        ensures bytes { result ≡ bytes_of self }
+        ensures above { 0 < result }
     {
         match self {
             UnitSize::One => 1,

@@ -9,7 +9,7 @@ returns-clause-ok c =
     let h = held c.args.self.now in
     let next = held c.kept_forget.new.self in
     forgotten_law c.kept_forget.result h next (c.args.address / bytes_of c.args.self.now.size)
-    (subst (λ n. OnOk c.kept_forget.result (IsForgotten h (c.args.address / n) next)) c.bytes.ensures c.kept_forget.ensures.ok)
+    (subst (λ n. OnOk c.kept_forget.result (IsForgotten h (c.args.address / n) next)) c.bytes.ensures.bytes c.kept_forget.ensures.ok)
 
 pub returns-clause-memory : goal.returns-clause-memory
 returns-clause-memory c =

@@ -10,7 +10,7 @@ use Rattle.atomic_histories.proofs.memory.AtomicMemory.take_by_search.Goals as g
 pub put_units-requires-clause-fits : goal.put_units-requires-clause-fits
 put_units-requires-clause-fits c =
     let h = held c.args.self.now in
-    let size = c.bytes.ensures ∙ ap (λ (x : Held). x.size) c.in_ok-reserve.ensures.held in
+    let size = c.bytes.ensures.bytes ∙ ap (λ (x : Held). x.size) c.in_ok-reserve.ensures.held in
     step_fits (covered h.opened c.args.event).0 c.covered-address.result.0 h.size c.bytes.result (length c.in_ok-changes.changes.items)
     (ap (λ p. p.0) c.covered-address.ensures) size
     c.in_ok-changes.ensures.fits
@@ -21,7 +21,7 @@ returns-clause-ok c =
     let more = c.reserve.new.self in
     let same = c.in_ok-reserve.ensures.held in
     let left = c.in_ok-changes.ensures.ok in
-    let size = c.bytes.ensures ∙ ap (λ (x : Held). x.size) same in
+    let size = c.bytes.ensures.bytes ∙ ap (λ (x : Held). x.size) same in
     record {
       ways = left.left;
       image = ap (λ (x : Held). x.image) same;

@@ -12,7 +12,7 @@ returns-clause-ok c =
     let f = get nat_eq c.args.self.now.units in
     let g = get nat_eq c.take_at.new.units in
     let number = c.covered-address.result.0 / c.bytes.result in
-    let here = ap₂ ◌/◌ (ap (λ p. p.0) c.covered-address.ensures) c.bytes.ensures in
+    let here = ap₂ ◌/◌ (ap (λ p. p.0) c.covered-address.ensures) c.bytes.ensures.bytes in
     taken_at c.take_at.result h.image h.rest h.size h.opened c.args.event f g number here (search (rules, arith))
     (subst (λ p. IfOk c.take_at.result (λ taken. (first : Ways) →
     IsUnitTaken p c.args.event (kept_or (f number) first) (kept_or (g number) first) taken))
