@@ -43,13 +43,6 @@ lane_stored a (b ∷ bs) e (suc k) =
     let s : a + suc k ≡ (a + 1) + k = omega arith in
     rw (ne_eqb a (a + suc k) (λ x. omega arith), bit_at-suc e k, s) (lane_stored (a + 1) bs (e / 2) k)
 
-pub lane_indexed : (a : ℕ) (ls : List (Option ℕ)) (k : ℕ) (l : Option ℕ) → slice_get ls k ≡ Some l → lane_at a ls (a + k) ≡ l
-lane_indexed a [] k l h = cc
-lane_indexed a (x ∷ ls) zero l h = rw (eq-eqb a (a + 0) (omega arith)) cc
-lane_indexed a (x ∷ ls) (suc k) l h =
-    let s : a + suc k ≡ (a + 1) + k = omega arith in
-    rw (ne_eqb a (a + suc k) (λ x. omega arith), s) (lane_indexed (a + 1) ls k l h)
-
 -- The bytes. ----
 
 pub store_lanes : (n a : ℕ) (bs : List ℕ) (e t : ℕ) → store_bytes n a bs e t ≡ lane_bytes n a (lanes_of bs e) t None

@@ -223,10 +223,6 @@ past_after n t stores timely s =
     ∙ (list_any-or (overwrites_now s) (λ o. is_open n o && ((o.address == s.address) && is_before s.ended o.began)) stores
     ∙ ap (λ x. is_past stores s || x) (sym (list_any-filter (is_open n) (λ e. (e.address == s.address) && is_before s.ended e.began) stores)))
 
-not_or : (x y : Bool) → not (x || y) ≡ (not x && not y)
-not_or true y = refl
-not_or false y = refl
-
 -- what overwrites a byte lies in its unit
 dropped_test : (x u y : Bool) → (x ≡ true → u ≡ true) → (x && (u && y)) ≡ (x && y)
 dropped_test true u y h = rw (h refl) refl

@@ -1,5 +1,5 @@
 -- The parts of stores, and the bytes that they stand for.
-use Rattle.std.proofs.Common.{◌≡◌, ◌≢◌, ℕ, zero, suc, ◌+◌, ◌*◌, ◌/◌, ◌<◌, ◌≤◌, Bool, true, false, ◌&&◌, ◌||◌, not, if◌then◌else◌, ◌==◌, List, [], ◌∷◌, ◌++◌, map, take, length, Option, None, Some, get_or, refl, sym, ap, ap₂, ◌∙◌, inl, inr, arith, append_assoc, append-nil, Vec, Global, Result, Ok, Err}
+use Rattle.std.proofs.Common.{◌≡◌, ◌≢◌, ℕ, zero, suc, ◌+◌, ◌*◌, ◌/◌, ◌<◌, ◌≤◌, Bool, true, false, ◌&&◌, ◌||◌, not, if◌then◌else◌, ◌==◌, List, [], ◌∷◌, ◌++◌, map, take, length, Option, None, get_or, refl, sym, ap, ap₂, ◌∙◌, inl, inr, arith, append_assoc, append-nil, Vec, Global, Result, Ok, Err}
 use Rattle.std.specs.Prelude.{is_some, IfOk}
 use Rattle.std.specs.List.{filter, list_any, fold}
 use Rattle.std.proofs.lemmas.Bool.{cases_Bool, cases_lt, eq-eqb, eqb-true, eqb-false}
@@ -10,10 +10,10 @@ use Rattle.memory_histories.specs.declared.windows.StoreByte.{StoreByte}
 use Rattle.memory_histories.specs.declared.parts.StorePart.{StorePart}
 use Rattle.memory_histories.specs.declared.sets.ByteSet.{ByteSet}
 use Rattle.memory_histories.specs.declared.kept.OpenByte.{OpenByte}
-use Rattle.memory_histories.specs.Sets.{with_byte, no_bytes}
+use Rattle.memory_histories.specs.Sets.{with_byte}
 use Rattle.memory_histories.specs.Windows.{is_open}
 use Rattle.memory_histories.specs.Regular.{is_before}
-use Rattle.memory_histories.specs.Kept.{with_stores, is_covered_by, first_set, is_in, is_dropped, answered_at, answered_after, after_stores}
+use Rattle.memory_histories.specs.Kept.{with_stores, is_covered_by, is_in, is_dropped, answered_at, answered_after, after_stores}
 use Rattle.memory_histories.specs.Parts.{lane_bytes, lane_at, eight, part_bytes, parts_bytes, is_open_part, has_lane, is_open_with, part_at, with_known, cleared, cleared_lanes, without_part, without_parts, answered_part, is_part_in, joined_parts}
 use Rattle.memory_histories.proofs.Lists.{and_false, filter-agree, filter-filter}
 use Rattle.memory_histories.proofs.Lanes.{byte_at, lane_before, lane_past, set_lanes, covered_lanes, answered_lanes, any_lane, all_pass, none_passes, same_pass, any_at, clear_lanes, no_lane}
@@ -89,25 +89,6 @@ any_there [] x = refl
 any_there (p ∷ ps) x =
     list_any-append (λ s. s.address == x) (part_bytes p) (parts_bytes ps)
     ∙ ap₂ (λ a b. a || b) (covered_lanes p.number p.began p.ended (8 * p.unit) (eight p) x) (any_there ps x)
-
--- what a load may return at an address, if no store is open there and this is what memory had before the first
-abbrev pub seen_set : List StoreByte → ℕ → ByteSet → ByteSet
-seen_set answered x first = with_stores answered x (first_set (is_covered_by answered x) first)
-
-by_parts : (ps : List StorePart) (x : ℕ) (first : ByteSet) → seen_set (parts_bytes ps) x first
-    ≡ fold (λ s p. with_known s (part_at p x)) (first_set (list_any (λ p. is_some (part_at p x)) ps) first) ps
-by_parts ps x first =
-    ap (λ c. with_stores (parts_bytes ps) x (first_set c first)) (any_there ps x)
-    ∙ fold_lanes ps x (first_set (list_any (λ p. is_some (part_at p x)) ps) first)
-
--- a part without a byte at the address is passed over, and one with a byte hides what memory had before
-pub seen_past : (p : StorePart) (ps : List StorePart) (x : ℕ) (first : ByteSet) → part_at p x ≡ None
-    → seen_set (parts_bytes ps) x first ≡ seen_set (parts_bytes (p ∷ ps)) x first
-seen_past p ps x first e = by_parts ps x first ∙ sym (by_parts (p ∷ ps) x first ∙ rw e refl)
-
-pub seen_at : (p : StorePart) (ps : List StorePart) (x b : ℕ) (first : ByteSet) → part_at p x ≡ Some b
-    → with_stores (parts_bytes ps) x (with_byte no_bytes b) ≡ seen_set (parts_bytes (p ∷ ps)) x first
-seen_at p ps x b first e = fold_lanes ps x (with_byte no_bytes b) ∙ sym (by_parts (p ∷ ps) x first ∙ rw e refl)
 
 -- a byte of an open load once one part more of a store is requested
 pub shown_more : (xs ys : List StoreByte) (o : OpenByte) → after_stores (xs ++ ys) o ≡ after_stores ys (after_stores xs o)

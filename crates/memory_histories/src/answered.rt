@@ -1,9 +1,9 @@
 //! The bytes of answered stores that a load may still see, by unit of eight aligned addresses.
 
-ghost use Rattle.std.specs.Prelude.{◌≡◌, ◌+◌, ◌≤◌, ◌<◌, ◌++◌, ◌∷◌, [], ℕ, true, IfOk, OnOk, OnErr, None, map, nat_eq, length, vec_len, vec_capacity};
+ghost use Rattle.std.specs.Prelude.{◌≡◌, ◌+◌, ◌≤◌, ◌<◌, ◌++◌, ◌∷◌, [], ℕ, IfOk, OnOk, OnErr, None, map, nat_eq, length, vec_len, vec_capacity};
 ghost use Rattle.std.specs.HashMap.{get, spare};
 ghost use Rattle.std.specs.List.{All, filter, list_any};
-ghost use Rattle.memory_histories.specs.Kept.{joined, answered_after};
+ghost use Rattle.memory_histories.specs.Kept.{answered_after};
 ghost use Rattle.memory_histories.specs.Parts.{part_bytes, parts_bytes, has_lane, without_part, without_parts, answered_part, joined_parts};
 ghost use Rattle.memory_histories.specs.Shown.{parts_in, answered_in, is_of_unit, put_units, IsAfter, HasUnit};
 

@@ -1,6 +1,6 @@
 //! The judge of the flat law.
 
-ghost use Rattle.std.specs.Prelude.{◌≡◌, ◌+◌, ◌<◌, ◌≤◌, ◌^◌, ◌++◌, [], ◌∷◌, true, length, None, Some, map, not, IfOk, IfErr, OnOk, OnErr, vec_len, vec_capacity, nat_eq};
+ghost use Rattle.std.specs.Prelude.{◌≡◌, ◌+◌, ◌<◌, ◌≤◌, ◌^◌, ◌++◌, [], ◌∷◌, true, length, None, Some, not, IfOk, IfErr, OnOk, OnErr, vec_len, vec_capacity, nat_eq};
 ghost use Rattle.std.specs.List.{filter, find, list_any};
 ghost use Rattle.std.specs.HashMap.{get, spare};
 ghost use Rattle.std.specs.Option.{option_map};
@@ -9,10 +9,12 @@ ghost use Rattle.memory_histories.specs.Flat.{opening, initial, is_of, is_at, is
 ghost use Rattle.memory_histories.specs.FlatShown.{shown, standing, owed_set, FlatFaultIs, IsOwedSet};
 
 use crate::events::{HistoryEvent, HistoryFault, MAX_LENGTH, Rest, StepFault};
+use crate::forms::{
+    has_enabled, is_inside, load_request_fault, store_request_fault, store_response_fault,
+};
 use crate::reasons::{Owed, StoreName};
-use crate::regular::{load_request_fault, store_request_fault, store_response_fault, wrong_byte};
+use crate::regular::wrong_byte;
 use crate::sets::ByteSet;
-use crate::windows::{has_enabled, is_inside};
 use std::alloc::{AllocError, Global};
 use std::collections::HashMap;
 

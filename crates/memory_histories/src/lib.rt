@@ -11,6 +11,7 @@ mod answered;
 mod events;
 mod faults;
 mod flat;
+mod forms;
 mod kept;
 mod loads;
 mod parts;
@@ -23,6 +24,9 @@ mod windows;
 pub use answered::{KeptUnit, UnitChange};
 pub use events::{HistoryEvent, HistoryFault, MAX_LENGTH, Rest, StepFault};
 pub use flat::{FlatHistory, OwedByte};
+pub use forms::{
+    has_enabled, is_inside, load_request_fault, store_request_fault, store_response_fault,
+};
 pub use kept::OpenByte;
 pub use loads::OpenLoad;
 pub use parts::StorePart;
@@ -30,5 +34,6 @@ pub use reasons::{Owed, StoreName};
 pub use regular::RegularMemory;
 pub use sets::ByteSet;
 pub use windows::{
-    LoadByte, StoreByte, add_store, is_at, is_before, is_initial, is_inside, is_of, may_return,
+    LoadByte, StoreByte, add_store, is_at, is_before, is_covered, is_initial, is_of,
+    is_overwritten, may_return,
 };

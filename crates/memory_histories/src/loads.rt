@@ -1,6 +1,6 @@
 //! The open loads with what they may return.
 
-ghost use Rattle.std.specs.Prelude.{◌≡◌, ◌+◌, ◌*◌, ◌≤◌, ◌<◌, ◌&&◌, ◌++◌, true, IfSome, not, length, map, take, drop, nat_lt};
+ghost use Rattle.std.specs.Prelude.{◌≡◌, ◌≤◌, ◌<◌, ◌&&◌, ◌++◌, true, IfSome, not, length, map, take, drop, nat_lt};
 ghost use Rattle.std.specs.List.{filter, find, fold, list_any, position};
 ghost use Rattle.std.specs.Option.{option_map};
 ghost use Rattle.memory_histories.specs.Sets.{has};

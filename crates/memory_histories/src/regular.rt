@@ -1,11 +1,11 @@
 //! The judge of the regular law.
 
-ghost use Rattle.std.specs.Prelude.{◌≡◌, ◌+◌, ◌<◌, ◌++◌, true, length, None, Some, map, not, IfSome, IfOk, IfErr, OnOk, OnErr};
+ghost use Rattle.std.specs.Prelude.{◌≡◌, ◌<◌, ◌++◌, true, length, None, Some, map, not, IfSome, IfOk, IfErr, OnOk, OnErr};
 ghost use Rattle.std.specs.List.{filter, find, list_any};
 ghost use Rattle.std.specs.Option.{option_map};
 ghost use Rattle.memory_histories.specs.declared.events.HistoryEvent.TheVariants.{LoadRequest, LoadResponse, StoreRequest, StoreResponse};
 ghost use Rattle.memory_histories.specs.Windows.{Windows, opening, is_open, store_bytes, load_bytes, windows_after};
-ghost use Rattle.memory_histories.specs.Regular.{fault, is_inside, wrong_byte, load_request_fault, store_request_fault, store_response_fault};
+ghost use Rattle.memory_histories.specs.Regular.{fault, is_inside, wrong_byte};
 ghost use Rattle.memory_histories.specs.Kept.{opened_at, after_stores, answered_after, kept_fault, kept_step, is_open_of, is_open_at, StandsFor};
 ghost use Rattle.memory_histories.specs.Shown.{kept, FaultIs, KeptFaultIs, StepFaultIs, IsSetOf};
 ghost use Rattle.memory_histories.specs.Parts.{IsOnly};
@@ -13,12 +13,14 @@ ghost use Rattle.memory_histories.specs.Loads.{IsOnlyLoad};
 
 use crate::answered::{KeptUnit, answer_part, changes, put_changes};
 use crate::events::{HistoryEvent, HistoryFault, MAX_LENGTH, Rest, StepFault};
+use crate::forms::{
+    has_enabled, is_inside, load_request_fault, store_request_fault, store_response_fault,
+};
 use crate::kept::{add_store, end_store, has_open_at, only_part, open_load, open_store};
 use crate::loads::{OpenLoad, end_load, has_open_load, load_response_fault, only_load, open_set};
 use crate::parts::{MAX_PARTS, StorePart, has_open};
 use crate::sets::ByteSet;
 use crate::spares::take_spare;
-use crate::windows::{has_enabled, is_inside};
 use std::alloc::{AllocError, Global};
 use std::collections::HashMap;
 
@@ -387,43 +389,8 @@ impl RegularMemory {
         Ok(())
     }
 }
-// Of the faults of an event, the first in the order of its own list.
-pub(crate) fn load_request_fault(inside: bool, used: bool) -> Option<HistoryFault>
-    ensures { result ≡ load_request_fault inside used }
-{
-    if !inside {
-        Some(HistoryFault::OutOfRange)
-    } else if used {
-        Some(HistoryFault::NumberInUse)
-    } else {
-        None
-    }
-}
 
-pub(crate) fn store_request_fault(inside: bool, any: bool, used: bool) -> Option<HistoryFault>
-    ensures { result ≡ store_request_fault inside any used }
-{
-    if !inside {
-        Some(HistoryFault::OutOfRange)
-    } else if !any {
-        Some(HistoryFault::NoByteEnabled)
-    } else if used {
-        Some(HistoryFault::NumberInUse)
-    } else {
-        None
-    }
-}
-
-pub(crate) fn store_response_fault(used: bool) -> Option<HistoryFault>
-    ensures { result ≡ store_response_fault used }
-{
-    if used {
-        None
-    } else {
-        Some(HistoryFault::NotOpen)
-    }
-}
-
+// The fault of an answer whose first wrong byte stands at this place, if it has one.
 pub(crate) fn wrong_byte(place: Option<usize>) -> Option<HistoryFault>
     ensures { result ≡ wrong_byte place }
 {

@@ -1,12 +1,11 @@
 //! The bytes of operations with their windows, and the regular law over lists of them.
 
-ghost use Rattle.std.specs.Prelude.{◌≡◌, ◌+◌, ◌≤◌, ◌↔◌, ◌++◌, ◌^◌, IsTrue, length, map, not, vec_len, vec_capacity, slice_get};
-ghost use Rattle.std.specs.List.{filter, list_any};
-ghost use Rattle.memory_histories.specs.Windows.{store_bytes, load_bytes, is_open, is_of, is_at};
+ghost use Rattle.std.specs.Prelude.{◌≡◌, ◌+◌, ◌≤◌, ◌↔◌, ◌++◌, ◌^◌, IsTrue, length, vec_len, vec_capacity, slice_get};
+ghost use Rattle.memory_histories.specs.Windows.{store_bytes, is_of, is_at};
 ghost use Rattle.memory_histories.specs.Hidden.{Explains};
-ghost use Rattle.memory_histories.specs.Regular.{is_initial, is_rest, is_before, overwrites, is_overwritten, is_left, is_covered, is_inside, has_enabled, may_return_byte, MayReturn};
+ghost use Rattle.memory_histories.specs.Regular.{is_initial, is_rest, is_before, is_overwritten, is_left, is_covered, may_return_byte, MayReturn};
 
-use crate::events::{MAX_LENGTH, Rest};
+use crate::events::Rest;
 
 /// One enabled byte of a store, and the window of its store: a store of many bytes is many stores of
 /// a byte, which begin and end together.
@@ -33,29 +32,6 @@ pub struct LoadByte {
     pub address: u64,
     /// The event that requested it, counted from 0.
     pub began: u64,
-}
-
-/// Whether an operation of so many bytes has as many as one may have, 1 to 64, and none of them lies at 2^64 or
-/// beyond.
-pub fn is_inside(address: u64, length: usize) -> bool
-    ensures { result ≡ is_inside address length }
-{
-    1 <= length && (length <= MAX_LENGTH && u128::from(address) + length as u128 <= 1 << 64)
-}
-
-#[tactic(auto, using(crate::proofs::Loops::has_enabled_more))]
-// Whether one of the bytes is enabled.
-pub(crate) fn has_enabled(bytes: &[u8], enables: u64) -> bool
-    ensures { result ≡ has_enabled bytes.now enables }
-{
-    let mut left = enables;
-    for _byte in bytes {
-        if left % 2 == 1 {
-            return true;
-        }
-        left /= 2;
-    }
-    false
 }
 
 /// Whether memory may have had the byte at this address before the first store: it is the image's, or the one
@@ -88,9 +64,9 @@ pub fn is_before(ended: Option<u64>, moment: u64) -> bool
     }
 }
 
-// Whether another store to the byte was requested after the response of this one, and answered before
-// the moment.
-fn is_overwritten(stores: &[StoreByte], store: &StoreByte, moment: u64) -> bool
+/// Whether another store to the byte was requested after the response of this one, and answered before
+/// the moment: then a load that is requested at this moment can't get what this store left.
+pub fn is_overwritten(stores: &[StoreByte], store: &StoreByte, moment: u64) -> bool
     ensures { result ≡ is_overwritten stores.now store.now moment }
 {
     stores.iter().any(|other| {
@@ -109,8 +85,9 @@ fn is_left(stores: &[StoreByte], load: &LoadByte, byte: u8) -> bool
     })
 }
 
-// Whether a store to the byte was answered before the load's request.
-fn is_covered(stores: &[StoreByte], load: &LoadByte) -> bool
+/// Whether a store to the byte was answered before the load's request: then the load can't get what memory
+/// had before the first store.
+pub fn is_covered(stores: &[StoreByte], load: &LoadByte) -> bool
     ensures { result ≡ is_covered stores.now load.now }
 {
     stores.iter().any(|store| store.address == load.address && is_before(store.ended, load.began))

@@ -1,6 +1,6 @@
 use Rattle.std.proofs.Common.{◌≡◌, drop}
 use Rattle.memory_histories.specs.Regular.{has_enabled}
-use Rattle.memory_histories.proofs.windows.has_enabled.Given as goal
+use Rattle.memory_histories.proofs.forms.has_enabled.Given as goal
 
 -- what is left says what the whole does
 abbrev pub invariant-loop-byte : goal.invariant-loop-byte

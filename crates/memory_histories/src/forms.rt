@@ -1,0 +1,73 @@
+//! Which events are malformed, whatever law a history is judged by.
+
+ghost use Rattle.std.specs.Prelude.{◌≡◌, length};
+ghost use Rattle.memory_histories.specs.Regular.{is_inside, has_enabled, load_request_fault, store_request_fault, store_response_fault};
+
+use crate::events::{HistoryFault, MAX_LENGTH};
+
+/// Whether an operation of so many bytes has as many as one may have, 1 to 64, and none of them lies at 2^64 or
+/// beyond.
+pub fn is_inside(address: u64, length: usize) -> bool
+    ensures { result ≡ is_inside address length }
+{
+    1 <= length && (length <= MAX_LENGTH && u128::from(address) + length as u128 <= 1 << 64)
+}
+
+/// Whether one of a store's bytes is enabled. Bit `k` of `enables` is the enable of byte `k`; bits beyond the
+/// last byte have no meaning.
+#[tactic(auto, using(crate::proofs::Loops::has_enabled_more))]
+pub fn has_enabled(bytes: &[u8], enables: u64) -> bool
+    ensures { result ≡ has_enabled bytes.now enables }
+{
+    let mut left = enables;
+    for _byte in bytes {
+        if left % 2 == 1 {
+            return true;
+        }
+        left /= 2;
+    }
+    false
+}
+
+/// Why a load's request is malformed, if it is: of the faults that hold, the first in the order of
+/// [`HistoryFault`]. `inside` says whether its bytes are those of an operation ([`is_inside`]), and `used`
+/// whether a load is open under its number.
+pub fn load_request_fault(inside: bool, used: bool) -> Option<HistoryFault>
+    ensures { result ≡ load_request_fault inside used }
+{
+    if !inside {
+        Some(HistoryFault::OutOfRange)
+    } else if used {
+        Some(HistoryFault::NumberInUse)
+    } else {
+        None
+    }
+}
+
+/// The same of a store's request. `any` says whether one of its bytes is enabled ([`has_enabled`]), and
+/// `used` whether a store is open under its number.
+pub fn store_request_fault(inside: bool, any: bool, used: bool) -> Option<HistoryFault>
+    ensures { result ≡ store_request_fault inside any used }
+{
+    if !inside {
+        Some(HistoryFault::OutOfRange)
+    } else if !any {
+        Some(HistoryFault::NoByteEnabled)
+    } else if used {
+        Some(HistoryFault::NumberInUse)
+    } else {
+        None
+    }
+}
+
+/// Why a store's response is malformed, if it is: no store is open under its number. `used` says whether
+/// one is.
+pub fn store_response_fault(used: bool) -> Option<HistoryFault>
+    ensures { result ≡ store_response_fault used }
+{
+    if used {
+        None
+    } else {
+        Some(HistoryFault::NotOpen)
+    }
+}
