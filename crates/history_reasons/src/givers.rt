@@ -2,12 +2,11 @@
 
 ghost use Rattle.std.specs.Prelude.{◌≡◌, ◌<◌, ◌&&◌, ◌↔◌, ◌++◌, not, map, length, IfOk, OnOk, slice_get};
 ghost use Rattle.std.specs.List.{Contains};
-ghost use Rattle.memory_histories.specs.Regular.{MayReturn, is_overwritten, is_covered, is_initial};
+ghost use Rattle.memory_histories.specs.Regular.{MayReturn, is_covered, is_initial};
 ghost use Rattle.history_reasons.specs.declared.givers.Source.{Source as Giver};
-ghost use Rattle.std.specs.List.{filter};
 ghost use Rattle.history_reasons.specs.Sources.{IsSource, gives, givers, initial_source, sources, taken_at_once, at_request};
 
-use memory_histories::{LoadByte, Rest, StoreByte, is_before, is_initial};
+use memory_histories::{LoadByte, Rest, StoreByte, is_covered, is_initial, is_overwritten};
 use std::alloc::{AllocError, Global};
 
 /// Where a load may get a byte from.
@@ -86,23 +85,6 @@ fn gives(stores: &[StoreByte], load: &LoadByte, byte: u8, store: &StoreByte) -> 
 {
     store.address == load.address
         && (store.byte == byte && !is_overwritten(stores, store, load.began))
-}
-
-// Whether another store to the byte was requested after the response of this one, and answered before the moment.
-fn is_overwritten(stores: &[StoreByte], store: &StoreByte, moment: u64) -> bool
-    ensures { result ≡ is_overwritten stores.now store.now moment }
-{
-    stores.iter().any(|other| {
-        other.address == store.address
-            && (is_before(store.ended, other.began) && is_before(other.ended, moment))
-    })
-}
-
-// Whether a store to the byte was answered before the load's request.
-fn is_covered(stores: &[StoreByte], load: &LoadByte) -> bool
-    ensures { result ≡ is_covered stores.now load.now }
-{
-    stores.iter().any(|store| store.address == load.address && is_before(store.ended, load.began))
 }
 
 // The stores as the flat law has them for a load: each takes effect at its request, so it is as if it were answered then, and

@@ -8,7 +8,7 @@ ghost use Rattle.history_reasons.specs.Loads.{asks_for, byte_at, without_load};
 use memory_histories::LoadByte;
 
 /// An open load: it asks for so many bytes from an address on.
-#[derive(Clone, Copy, PartialEq, Eq, Debug)]
+#[derive(Clone, Copy)]
 pub struct OpenLoad {
     pub(crate) number: u64,
     pub(crate) address: u64,

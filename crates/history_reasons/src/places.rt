@@ -7,7 +7,7 @@ ghost use Rattle.history_reasons.specs.Places.{is_place_of, ended_from, ended_at
 use crate::stores::{KeptStore, end_store};
 
 /// An open store of so many bytes at most: it stands at this place, unless none of them is enabled or it is forgotten.
-#[derive(Clone, Copy, PartialEq, Eq, Debug)]
+#[derive(Clone, Copy)]
 pub struct StorePlace {
     pub(crate) number: u64,
     pub(crate) address: u64,

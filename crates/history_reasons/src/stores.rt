@@ -1,6 +1,6 @@
 //! The stores of a log: each with all its bytes, since most answers are right, and no byte of theirs is looked at.
 
-ghost use Rattle.std.specs.Prelude.{◌≡◌, ◌≤◌, ◌<◌, ◌==◌, ◌+◌, if◌then◌else◌, None, length, get_or, slice_get, take, drop, vec_len, vec_capacity, count_ones};
+ghost use Rattle.std.specs.Prelude.{◌≡◌, ◌≤◌, ◌<◌, ◌==◌, ◌+◌, if◌then◌else◌, None, length, get_or, slice_get, take, vec_len, vec_capacity, count_ones};
 ghost use Rattle.std.specs.Int.{bit_at};
 ghost use Rattle.std.specs.Int.Count.{ones_in};
 ghost use Rattle.memory_histories.specs.Parts.{lane_at};
@@ -11,7 +11,7 @@ use memory_histories::{MAX_LENGTH, StoreByte};
 
 /// A store: its bytes from an address on, those of them that are enabled, and the window of the store. Those in front of
 /// place `from` are forgotten.
-#[derive(Clone, Copy, PartialEq, Eq, Debug)]
+#[derive(Clone, Copy)]
 pub struct KeptStore {
     pub(crate) number: u64,
     pub(crate) address: u64,

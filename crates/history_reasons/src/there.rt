@@ -1,7 +1,7 @@
 //! Why a load may not return a byte, and where it may get it from, by stores that are kept whole: of each it looks at the
 //! byte at the load's address alone.
 
-ghost use Rattle.std.specs.Prelude.{◌≡◌, ◌==◌, ◌&&◌, not, IfOk};
+ghost use Rattle.std.specs.Prelude.{◌≡◌, IfOk};
 ghost use Rattle.memory_histories.specs.Regular.{may_return_byte, is_left, is_overwritten, is_covered, overwrites};
 ghost use Rattle.history_reasons.specs.Reasons.{stores_byte, covers, last_reason};
 ghost use Rattle.history_reasons.specs.Stores.{stored_there, last_there};
