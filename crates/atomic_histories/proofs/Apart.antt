@@ -143,13 +143,6 @@ missed_keeps unit bytes l e g h = elim (cases_Bool (is_word_of unit.first e.word
   | inr f ↦ on_keeps e g (missed (is_answer unit l.address l.since bytes) e.past) (rw f at h)
 ]
 
-pub filtered_apart : (p : Pair → Bool) (es : List Pair) → AreApart es → AreApart (filter p es)
-filtered_apart p [] a = tt
-filtered_apart p (e ∷ es) a = elim (cases_Bool (p e)) [
-  | inl t ↦ rw t (each_filter (IsOther e) p es a.0, filtered_apart p es a.1)
-  | inr f ↦ rw f (filtered_apart p es a.1)
-]
-
 -- The open stores of a pair. ----
 
 abbrev Keys : Type 0

@@ -26,7 +26,7 @@ use Rattle.atomic_histories.specs.Pasts.{Past, Stood, stood, begins, after, got,
 use Rattle.atomic_histories.specs.Branches.{gives, may_come_in, may_come}
 use Rattle.atomic_histories.specs.Followed.{Pair, Ways, Aim, first_ways, has_way, effect_aim, word_aim, pair_after, cons_effect}
 use Rattle.atomic_histories.specs.Followed.{effects_from, effects, with_pair, with_pairs, out_after, next_after, met, rounds, found}
-use Rattle.atomic_histories.specs.Followed.{is_under, is_first, loads_without, moment_with, is_answer, pair_got, pair_missed, gathered}
+use Rattle.atomic_histories.specs.Followed.{is_under, is_first, loads_without, moment_with, pair_got, pair_missed, gathered}
 use Rattle.atomic_histories.specs.Followed.{with_hope, answered_load, answered_store, ways_without_load}
 use Rattle.atomic_histories.specs.Held.{Held, covered, units_of, changed, is_among}
 use Rattle.atomic_histories.specs.Judge.{bytes_of, kept_or, kept_at, words_of, IsTaken}
@@ -157,10 +157,6 @@ stood_at ss end i d b earlier word moment l le is at_ =
     ap (past_at (pasts (take end ss))) at_
     ∙ stands_in ss end i s l le (sym is ∙ same_at ss i d s (omega (arith, l, le)))
 
-pub may_answer : (unit : UnitPlace) (address since : ℕ) (bytes : List ℕ) (word : Word) (moment : ℕ) (b : Bool) → since ≤ moment
-    → is_word_of unit.first word address bytes ≡ b → is_answer unit address since bytes (stood word moment) ≡ b
-may_answer unit address since bytes word moment b le e = rw (le-leb since moment le) e
-
 pub got_here : (is : Stood → Bool) (p q : Past) (word : Word) (moment : ℕ) → p ≡ after word moment q → is (stood word moment) ≡ true
     → got is p ≡ Some p
 got_here is p q word moment e t = subst (λ x. got is x ≡ Some x) (sym e) (rw t refl)
@@ -201,11 +197,6 @@ some_oldest since (l ∷ ls) h = some_oldest (min since l.since) ls h
 pub behind_none : (ls : List WatchedLoad) (moment : ℕ) (word : Word) → oldest ls ≡ None → overwritten ls moment word begins ≡ begins
 behind_none [] moment word h = refl
 behind_none (l ∷ ls) moment word h = absurd (some_oldest l.since ls h)
-
-pub behind_some : (ls : List WatchedLoad) (moment since : ℕ) (word : Word) → oldest ls ≡ Some since
-    → overwritten ls moment word begins ≡ after word moment begins
-behind_some [] moment since word h = cc
-behind_some (l ∷ ls) moment since word h = refl
 
 pub cut_none : (ls : List WatchedLoad) (moment : ℕ) (word : Word) → oldest ls ≡ None
     → cut_for (oldest ls) (overwritten ls moment word begins) ≡ overwritten ls moment word begins

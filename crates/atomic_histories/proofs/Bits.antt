@@ -1,21 +1,16 @@
 -- Enables beyond the 64 that a number has, and steps of the loops over bytes.
-use Rattle.std.proofs.Common.{◌≡◌, ℕ, zero, suc, ◌+◌, ◌-◌, ◌/◌, ◌%◌, ◌^◌, ◌<◌, ◌≤◌, true, ◌&&◌, ◌||◌, ◌==◌, List, [], ◌∷◌, ◌++◌, length}
+use Rattle.std.proofs.Common.{◌≡◌, ℕ, zero, suc, ◌+◌, ◌-◌, ◌^◌, ◌<◌, ◌≤◌, true, ◌&&◌, ◌==◌, List, [], ◌∷◌, ◌++◌, length}
 use Rattle.std.proofs.Common.{take, drop, get_or, set, Option, None, slice_get, nat_le, refl, sym, ap, ap₂, ◌∙◌, append_assoc, add-one}
 use Rattle.std.proofs.Common.{drop-cons, take-append-drop, append-nil, drop-set-lt, arith}
 use Rattle.std.proofs.lemmas.Bool.{le-leb}
 use Rattle.std.proofs.lemmas.Nat.Bits.{bit_at_above}
 use Rattle.std.proofs.lemmas.List.{at_drop_more, take_more_set, drop_all}
 use Rattle.std.specs.Option.{option_eq}
-use Rattle.memory_histories.specs.Regular.{has_enabled}
 use Rattle.atomic_histories.specs.Followed.{is_same_word, are_same_lanes}
 use Rattle.atomic_histories.specs.Words.{enabled_byte, byte_for, stored_byte, written_byte, written, is_as_it_stood, is_word_of}
 
 pub none_above : (bytes : List ℕ) (enables k : ℕ) → enables < 2 ^ 64 → 64 ≤ k → enabled_byte bytes enables k ≡ None
 none_above bytes enables k l h = rw (bit_at_above enables 64 k l h) refl
-
-pub has_enabled_more : (bs : List ℕ) (i e : ℕ) → i < length bs
-    → has_enabled (drop i bs) e ≡ ((e % 2 == 1) || has_enabled (drop (i + 1) bs) (e / 2))
-has_enabled_more bs i e h = at_drop_more (λ xs. has_enabled xs e) bs i 0 h
 
 pub word_more : (f : ℕ) (ws : List (Option ℕ)) (k a : ℕ) (bs : List ℕ) → k < length ws
     → is_word_of (f + k) (drop k ws) a bs ≡

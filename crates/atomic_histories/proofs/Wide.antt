@@ -152,11 +152,6 @@ module _ (image : List ℕ) (rest : Rest) (unit : UnitPlace) (history : List His
 few : (limit : ℕ) → nat_lt limit 0 ≡ false
 few limit = let least : 0 ≤ limit = omega arith in le-ltb limit 0 least
 
--- no search is needed where there is no way
-no_reach : (limit : ℕ) (loads : List WatchedLoad) (moment n : ℕ) → is_reach_over limit loads moment n [] ≡ false
-no_reach limit loads moment zero = refl
-no_reach limit loads moment (suc n) = rw (few limit) (no_reach limit loads moment n)
-
 no_over : (limit : ℕ) (loads : List WatchedLoad) (moment n : ℕ) (aim : Aim) → is_over limit loads moment n aim [] [] ≡ false
 no_over limit loads moment zero aim = refl
 no_over limit loads moment (suc n) aim = rw (few limit) (no_over limit loads moment n aim)

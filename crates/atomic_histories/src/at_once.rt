@@ -6,7 +6,6 @@ ghost use Rattle.std.specs.List.{find};
 ghost use Rattle.atomic_histories.specs.declared.unit.OpenStore.{OpenStore};
 ghost use Rattle.atomic_histories.specs.declared.pairs.FollowedPair.{FollowedPair};
 ghost use Rattle.atomic_histories.specs.AtOnce.{IsUnitTaken};
-ghost use Rattle.atomic_histories.specs.Words.{is_word_of};
 ghost use Rattle.atomic_histories.specs.Pasts.{begins, cut_for, got, missed, oldest, overwritten};
 ghost use Rattle.atomic_histories.specs.Law.{done_store, may_answer_store};
 ghost use Rattle.atomic_histories.specs.Followed.{Ways, is_answer, is_under, loads_without, moment_with, answered_load, answered_store, ways_without_load, ways_without_store};
@@ -17,6 +16,7 @@ ghost use Rattle.atomic_histories.specs.Taken.{IsUnitKept, IsTakenTo, IsNextWord
 use crate::kept::KeptUnit;
 use crate::loads::{end_load, find_load, oldest_without};
 use crate::pairs::FollowedPair;
+use crate::splits::is_answer;
 use crate::stretches::{Before, Stretch, overwrite, past_on};
 use crate::unit::{OpenStore, UnitPlace, WatchedLoad, Word};
 use crate::words::{has_byte, is_at, is_word_of, stored_word, write};
@@ -30,13 +30,6 @@ fn is_ready(unit: &KeptUnit, limit: usize) -> bool
     ensures { result ≡ true → length unit.now.pairs.items ≡ 1 }
 {
     limit != 0 && unit.pairs.len() == 1 && unit.stretches.len() < unit.room
-}
-
-// Whether a load's answer is that of a word.
-fn is_word_for(place: UnitPlace, load: &WatchedLoad, bytes: &[u8], word: &Word) -> bool
-    ensures { result ≡ is_word_of place.first word.now load.now.address bytes.now }
-{
-    is_word_of(place.first, word, load.address, bytes)
 }
 
 // Whether a load may have got its answer from a word that stood there before, on a past of words that stood there one
@@ -64,11 +57,11 @@ fn has_stood(
                 moment,
                 before: earlier,
             } => {
+                if is_answer(place, load, bytes, &word, moment) {
+                    return true;
+                }
                 if moment < load.since {
                     return false;
-                }
-                if is_word_for(place, load, bytes, &word) {
-                    return true;
                 }
                 before = earlier;
                 end = i;
@@ -89,7 +82,7 @@ fn has_answer(
 ) -> bool
     ensures { result ≡ true → (u : Ways) → u.pairs ≡ shown stretches.now pair.now ∷ [] → answered_load place bytes.now (Some load.now) u ≡ u.pairs }
 {
-    is_word_for(place, load, bytes, &pair.word)
+    is_word_of(place.first, &pair.word, load.address, bytes)
         || has_stood(place, load, bytes, stretches, pair.past)
 }
 

@@ -1,6 +1,6 @@
 //! Faults as they are told.
 
-ghost use Rattle.std.specs.Prelude.{Some, ◌≡◌};
+ghost use Rattle.std.specs.Prelude.{Some};
 ghost use Rattle.atomic_histories.specs.Faults as texts;
 
 use crate::memory::AtomicFault;

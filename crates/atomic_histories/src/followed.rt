@@ -1,6 +1,6 @@
 //! Pairs that are followed, each once, found by their marks.
 
-ghost use Rattle.std.specs.Prelude.{◌≡◌, ◌+◌, ◌<◌, ◌≤◌, ◌++◌, ◌∷◌, [], take, drop, length, map, List, slice_index_or, OnOk, IfOk};
+ghost use Rattle.std.specs.Prelude.{◌≡◌, ◌+◌, ◌<◌, ◌≤◌, ◌++◌, ◌∷◌, take, drop, length, map, List, slice_index_or, OnOk, IfOk};
 ghost use Rattle.std.specs.List.{position};
 ghost use Rattle.atomic_histories.specs.Followed.{Pair, is_same_pair, merged_pair, with_pair};
 ghost use Rattle.atomic_histories.specs.declared.followed.TheConstants.{MARKED};

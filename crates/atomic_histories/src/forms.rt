@@ -1,27 +1,14 @@
 //! Which operations are open, and which events are malformed.
 
-ghost use Rattle.std.specs.Prelude.{◌≡◌, ◌++◌, ◌∷◌, [], length, not, OnOk, OnErr};
-ghost use Rattle.std.specs.List.{filter, find, list_any};
-ghost use Rattle.memory_histories.specs.Regular.{load_request_fault, store_request_fault, store_response_fault, is_inside, has_enabled};
+ghost use Rattle.std.specs.Prelude.{◌≡◌, length};
+ghost use Rattle.std.specs.List.{find, list_any};
 ghost use Rattle.atomic_histories.specs.Operations.{has_number, without_number, answer_fault, form_fault};
 
 use crate::unit::Operation;
-use memory_histories::{HistoryEvent, HistoryFault, is_inside};
-
-#[tactic(auto, using(crate::proofs::Bits::has_enabled_more))]
-// Whether one of the bytes is enabled.
-fn has_enabled(bytes: &[u8], enables: u64) -> bool
-    ensures { result ≡ has_enabled bytes.now enables }
-{
-    let mut left = enables;
-    for _byte in bytes {
-        if left % 2 == 1 {
-            return true;
-        }
-        left /= 2;
-    }
-    false
-}
+use memory_histories::{
+    HistoryEvent, HistoryFault, has_enabled, is_inside, load_request_fault, store_request_fault,
+    store_response_fault,
+};
 
 // Whether an operation has this number.
 fn has_number(operation: &Operation, number: u64) -> bool
@@ -56,42 +43,7 @@ pub(crate) fn close(operations: &mut Vec<Operation>, number: u64)
     operations.retain(|operation| !has_number(operation, number));
 }
 
-fn load_request_fault(inside: bool, used: bool) -> Option<HistoryFault>
-    ensures { result ≡ load_request_fault inside used }
-{
-    if !inside {
-        Some(HistoryFault::OutOfRange)
-    } else if used {
-        Some(HistoryFault::NumberInUse)
-    } else {
-        None
-    }
-}
-
-fn store_request_fault(inside: bool, any: bool, used: bool) -> Option<HistoryFault>
-    ensures { result ≡ store_request_fault inside any used }
-{
-    if !inside {
-        Some(HistoryFault::OutOfRange)
-    } else if !any {
-        Some(HistoryFault::NoByteEnabled)
-    } else if used {
-        Some(HistoryFault::NumberInUse)
-    } else {
-        None
-    }
-}
-
-fn store_response_fault(used: bool) -> Option<HistoryFault>
-    ensures { result ≡ store_response_fault used }
-{
-    if used {
-        None
-    } else {
-        Some(HistoryFault::NotOpen)
-    }
-}
-
+// Why the answer of so many bytes is malformed, of the load that is open under its number.
 fn answer_fault(load: Option<Operation>, length: usize) -> Option<HistoryFault>
     ensures { result ≡ answer_fault load length }
 {

@@ -19,6 +19,7 @@ use crate::forms::{close, form_fault, open_under};
 use crate::kept::KeptUnit;
 use crate::may::unit_set;
 use crate::search::Stop;
+use crate::shown_bytes::push_set;
 use crate::unit::{Operation, UnitPlace};
 use crate::units::{
     add_unit, changed_unit, covered, put_unit, put_units, units_of, untouched_unit,
@@ -59,16 +60,19 @@ impl UnitSize {
     }
 }
 
-/// Why an event was not taken. After each of these what is kept stands for the same histories as before.
+/// Why an event was not taken, or what a load may return is not told. After each of these what is kept stands
+/// for the same histories as before.
 #[derive(Clone, Copy, PartialEq, Eq, Debug)]
 pub enum AtomicFault {
-    /// The history with this event is none of the law.
+    /// The history with this event is none of the law. Where the question is what a load may return: none is
+    /// open under the number.
     Refused(HistoryFault),
     /// Too many ways would have to be followed at the unit that begins at this address: there is no
     /// verdict. They would come to more pairs of a word and the stores in effect than the limit, or more
     /// words are kept of what stood there before than [`MOST_WORDS`](crate::MOST_WORDS).
     Undecided { address: u64 },
-    /// There was too little memory.
+    /// There was too little memory. A load's request is refused so too if 2^64 - 1 loads have been requested
+    /// at one of its units since none was open there: no moment behind the last has a number.
     OutOfMemory,
 }
 
@@ -190,6 +194,7 @@ impl AtomicMemory {
     ///
     /// `Refused` has the cause `NotOpen`: no load is open under the number. `Undecided`: the ways of the
     /// unit that begins at its address lead to too many at a time, and nothing is known of the sets.
+    /// `OutOfMemory`: there was too little memory to find them.
     pub fn may_return(&self, number: u64) -> Result<Vec<ByteSet>, AtomicFault>
         ensures ok { (lost : List ℕ) → (history : List HistoryEvent) → StandsBut (held self.now) lost history → IfOk result (λ sets. AreSetsOf lost (held self.now).image (held self.now).rest (held self.now).size history number sets.items) }
         ensures fault { IfErr result (LoadFaultIs (limit_of self.now) (held self.now) (find (has_number number) (held self.now).opened.loads)) }
@@ -198,8 +203,8 @@ impl AtomicMemory {
     }
 
     /// The same of one byte: what the load that is open under this number may return for the byte at an
-    /// address if it ended now, or `None` if no such load asks for that byte. `Undecided` is as there, and
-    /// `Refused` never comes.
+    /// address if it ended now, or `None` if no such load asks for that byte. `Undecided` and `OutOfMemory`
+    /// are as there, and `Refused` never comes.
     pub fn byte_may_return(&self, number: u64, address: u64) -> Result<Option<ByteSet>, AtomicFault>
         ensures ok { (lost : List ℕ) → (history : List HistoryEvent) → StandsBut (held self.now) lost history → IfOk result (IsSetOf lost (held self.now).image (held self.now).rest (held self.now).size history number address) }
         ensures fault { IfErr result (IsNoVerdict (IsWideByte (limit_of self.now) (held self.now) address)) }
@@ -515,13 +520,6 @@ fn asks(load: Option<Operation>, address: u64) -> bool
                 && u128::from(address) < u128::from(load.address) + load.length as u128
         }
     }
-}
-
-fn push_set(sets: &mut Vec<ByteSet>, set: ByteSet) -> Result<(), AllocError>
-    ensures { OnOk result (sets.new.items ≡ sets.old.items ++ set ∷ []) }
-{
-    sets.push(set)?;
-    Ok(())
 }
 
 // The address of byte `i`.

@@ -1,6 +1,6 @@
 //! Stretches that are copied, without those that no way needs any more.
 
-ghost use Rattle.std.specs.Prelude.{◌≡◌, ◌<◌, ◌≤◌, true, [], length, IfOk, OnOk};
+ghost use Rattle.std.specs.Prelude.{◌≡◌, ◌≤◌, true, [], length, IfOk, OnOk};
 ghost use Rattle.atomic_histories.specs.declared.stretches.Before.{Before};
 ghost use Rattle.atomic_histories.specs.Pasts.{cut};
 ghost use Rattle.atomic_histories.specs.Stands.{Each};

@@ -1,6 +1,6 @@
 //! Pairs of a word and of open stores, some in effect, to which the ways of a unit may have come.
 
-ghost use Rattle.std.specs.Prelude.{◌≡◌, ◌<◌, ◌+◌, ◌++◌, ◌∷◌, not, true, length, take, drop, slice_index_or, List, IfOk};
+ghost use Rattle.std.specs.Prelude.{◌≡◌, ◌<◌, ◌+◌, ◌++◌, ◌∷◌, not, length, take, drop, slice_index_or, List, IfOk};
 ghost use Rattle.std.specs.List.{filter, list_all};
 ghost use Rattle.atomic_histories.specs.declared.unit.OpenStore.{OpenStore};
 ghost use Rattle.atomic_histories.specs.declared.stretches.Stretch.{Stretch};

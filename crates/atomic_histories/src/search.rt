@@ -1,6 +1,6 @@
 //! The search for pairs on which an answer's goal is met.
 
-ghost use Rattle.std.specs.Prelude.{◌≡◌, ◌+◌, ◌<◌, ◌++◌, ◌||◌, [], ◌∷◌, List, length, take, drop, slice_index_or, IfOk, IfErr, OnOk};
+ghost use Rattle.std.specs.Prelude.{◌≡◌, ◌+◌, ◌<◌, ◌++◌, ◌||◌, [], List, length, take, drop, slice_index_or, IfOk, IfErr, OnOk};
 ghost use Rattle.std.specs.List.{filter};
 ghost use Rattle.atomic_histories.specs.declared.unit.OpenStore.{OpenStore};
 ghost use Rattle.atomic_histories.specs.declared.stretches.Stretch.{Stretch};
@@ -15,7 +15,8 @@ use crate::stretches::{Before, Stretch, past_on};
 use crate::unit::WatchedLoad;
 use std::alloc::{AllocError, Global};
 
-/// How many words are kept at a unit of what stood there since the request of the oldest load that is open.
+/// How many words are kept at most at a unit of what stood there since the request of the oldest load that is
+/// open, if an answer is to have a verdict.
 pub const MOST_WORDS: usize = 65_536;
 
 /// Why there is no verdict.
@@ -231,7 +232,7 @@ pub(crate) fn search(
 }
 
 // The same pairs.
-pub(crate) fn copied(alloc: Global, pairs: &[FollowedPair]) -> Result<Vec<FollowedPair>, AllocError>
+fn copied(alloc: Global, pairs: &[FollowedPair]) -> Result<Vec<FollowedPair>, AllocError>
     ensures shown { IfOk result (λ same. (ss : List Stretch) → shown_all ss same.items ≡ shown_all ss pairs.now) }
     ensures are_in { IfOk result (λ same. (ss : List Stretch) → AreIn ss pairs.now → AreIn ss same.items) }
 {

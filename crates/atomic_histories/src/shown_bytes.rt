@@ -55,7 +55,8 @@ fn stretch_set(sets: &[ByteSet], stretch: &Stretch, since: u64, lane: usize) -> 
     }
 }
 
-fn push_set(sets: &mut Vec<ByteSet>, set: ByteSet) -> Result<(), AllocError>
+// One set more.
+pub(crate) fn push_set(sets: &mut Vec<ByteSet>, set: ByteSet) -> Result<(), AllocError>
     ensures { OnOk result (sets.new.items ≡ sets.old.items ++ set ∷ []) }
 {
     sets.push(set)?;

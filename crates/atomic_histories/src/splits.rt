@@ -1,6 +1,6 @@
 //! Of each stretch what is left of it on the ways on which a load may have got its answer, and on the others.
 
-ghost use Rattle.std.specs.Prelude.{◌≡◌, ◌<◌, ◌+◌, ◌++◌, [], ◌∷◌, true, length, Some, IfOk, OnOk};
+ghost use Rattle.std.specs.Prelude.{◌≡◌, ◌<◌, ◌+◌, ◌++◌, [], ◌∷◌, length, Some, IfOk, OnOk};
 ghost use Rattle.atomic_histories.specs.declared.stretches.Before.{Before};
 ghost use Rattle.atomic_histories.specs.declared.stretches.Before.TheVariants.{Behind};
 ghost use Rattle.atomic_histories.specs.Pasts.{after, either, stood, got, missed, merged, merged_any, after_any};
@@ -21,7 +21,13 @@ pub(crate) struct Split {
 }
 
 // Whether a load may have got its answer from a word that was overwritten at a moment.
-fn is_answer(unit: UnitPlace, load: &WatchedLoad, bytes: &[u8], word: &Word, moment: u64) -> bool
+pub(crate) fn is_answer(
+    unit: UnitPlace,
+    load: &WatchedLoad,
+    bytes: &[u8],
+    word: &Word,
+    moment: u64,
+) -> bool
     ensures { result ≡ is_answer unit load.now.address load.now.since bytes.now (stood word.now moment) }
 {
     load.since <= moment && is_word_of(unit.first, word, load.address, bytes)

@@ -1,9 +1,8 @@
 //! What stood in a unit, on all ways that it may have gone: stretches of time with one word each, each of which
 //! refers to those before it. They are kept in a list in which a stretch stands behind those that it refers to.
 
-ghost use Rattle.std.specs.Prelude.{◌≡◌, ◌<◌, ◌+◌, ◌^◌, true, length, IfOk, OnOk, OnErr};
+ghost use Rattle.std.specs.Prelude.{◌≡◌, ◌<◌, ◌+◌, ◌^◌, IfOk, OnOk, OnErr};
 ghost use Rattle.atomic_histories.specs.Pasts.{after, merged, overwritten};
-ghost use Rattle.atomic_histories.specs.declared.stretches.Before.{Before};
 ghost use Rattle.atomic_histories.specs.Shown.{past_at, past_of, pasts, IsIn, Grows, words_in, count_word};
 
 use crate::unit::{WatchedLoad, Word};
@@ -37,16 +36,6 @@ pub enum Stretch {
         /// The other.
         other: Before,
     },
-}
-
-// Whether a reference is to one of these stretches.
-pub(crate) fn is_in(stretches: &[Stretch], before: Before) -> bool
-    ensures { result ≡ true → IsIn stretches.now before }
-{
-    match before {
-        Before::Nothing => true,
-        Before::Behind(place) => place < stretches.len(),
-    }
 }
 
 // One more stretch, and a reference to it.

@@ -1,4 +1,4 @@
-//! The judge of one unit.
+//! What a unit of memory is, and the operations that are open there.
 
 /// What is known of the bytes of a unit, in eight places: nothing where there is `None`.
 pub type Word = [Option<u8>; 8];

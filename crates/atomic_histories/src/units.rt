@@ -1,6 +1,6 @@
 //! The units that an event touches.
 
-ghost use Rattle.std.specs.Prelude.{◌≡◌, ◌+◌, ◌-◌, ◌*◌, ◌/◌, ◌^◌, ◌<◌, ◌≤◌, length, nat_eq, ℕ, ◌++◌, ◌∷◌, [], false, IfOk, IfErr, OnOk};
+ghost use Rattle.std.specs.Prelude.{◌≡◌, ◌+◌, ◌*◌, ◌/◌, ◌^◌, ◌<◌, ◌≤◌, length, nat_eq, ℕ, ◌++◌, ◌∷◌, [], false, IfOk, IfErr, OnOk};
 ghost use Rattle.std.specs.HashMap.{get, spare};
 ghost use Rattle.atomic_histories.specs.Followed.{first_ways, ways_after};
 ghost use Rattle.atomic_histories.specs.Held.{bytes_of_open, covered, units_of, is_without};

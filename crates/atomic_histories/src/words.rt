@@ -1,6 +1,6 @@
 //! The bytes of one aligned unit of memory.
 
-ghost use Rattle.std.specs.Prelude.{◌≡◌, ◌==◌, ◌+◌, ◌<◌, None, get_or, is_some, slice_get};
+ghost use Rattle.std.specs.Prelude.{◌≡◌, ◌==◌, ◌<◌, None, get_or, is_some, slice_get};
 ghost use Rattle.std.specs.Option.{option_eq};
 ghost use Rattle.atomic_histories.specs.Followed.{is_same_word, are_same_lanes};
 ghost use Rattle.std.specs.List.{list_any};
