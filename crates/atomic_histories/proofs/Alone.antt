@@ -2,7 +2,7 @@
 use Rattle.std.proofs.Common.{◌≡◌, ℕ, ◌⊎◌, Bool, true, false, ◌||◌, ◌==◌, List, [], ◌∷◌, ◌++◌, map, filter, Option, Some, None, inl, inr}
 use Rattle.std.proofs.Common.{refl, sym, ap, ◌∙◌, subst, eqb-true}
 use Rattle.std.specs.List.{list_any, find}
-use Rattle.std.proofs.lemmas.Bool.{cases_Bool, and_parts}
+use Rattle.std.proofs.lemmas.Bool.{cases_Bool, and_parts, or_parts}
 use Rattle.atomic_histories.specs.declared.unit.Operation.{Operation}
 use Rattle.atomic_histories.specs.declared.unit.UnitPlace.{UnitPlace}
 use Rattle.atomic_histories.specs.Operations.{Opened, has_number}
@@ -15,10 +15,6 @@ use Rattle.atomic_histories.proofs.Links.{AreDistinct, load_key, key, is_of, IsL
 
 abbrev Word : Type 0
 Word = List (Option ℕ)
-
-or_parts : (a b : Bool) → (a || b) ≡ false → (a ≡ false) × (b ≡ false)
-or_parts true b h = cc
-or_parts false b h = (refl, h)
 
 -- what holds of the elements that pass a test none passes
 pub each_none : {X : Type 0} (P : X → Type 0) (p : X → Bool) (xs : List X) → list_any p xs ≡ false → Each (λ x. p x ≡ true → P x) xs

@@ -2,7 +2,7 @@
 use Rattle.std.proofs.Common.{◌≡◌, ℕ, ◌⊎◌, Bool, true, false, ◌||◌, not, nat_le, if◌then◌else◌, List, [], ◌∷◌, map, filter, Option, Some}
 use Rattle.std.proofs.Common.{None, inl, inr, refl, sym, ap, ◌∙◌, subst}
 use Rattle.std.specs.List.{list_all, list_any, find}
-use Rattle.std.proofs.lemmas.Bool.{cases_Bool, and_from}
+use Rattle.std.proofs.lemmas.Bool.{cases_Bool, and_from, or_left, or_right}
 use Rattle.atomic_histories.specs.declared.unit.OpenStore.{OpenStore}
 use Rattle.atomic_histories.specs.declared.unit.UnitPlace.{UnitPlace}
 use Rattle.atomic_histories.specs.declared.unit.WatchedLoad.{WatchedLoad}
@@ -50,14 +50,6 @@ seen_answer unit address since bytes (s ∷ path) = elim (cases_Bool (nat_le sin
   | inr f ↦ rw f (seen_answer unit address since bytes path)
 ]
 
-right_true : (a b : Bool) → b ≡ true → (a || b) ≡ true
-right_true true b h = refl
-right_true false b h = h
-
-left_true : (a b : Bool) → a ≡ true → (a || b) ≡ true
-left_true true b h = refl
-left_true false b h = cc
-
 -- no load is in the way of an answer if the one under its number isn't
 all_answer : (unit : UnitPlace) (number : ℕ) (bytes : List ℕ) (b : Branch) (path : List Stood) (l : WatchedLoad) (ls : List WatchedLoad)
     → Each (λ x. is_under number x ≡ true → x ≡ l) ls → may_have unit bytes b (watched path l) ≡ true
@@ -69,7 +61,7 @@ all_answer unit number bytes b path l (x ∷ xs) a h =
       | inl t ↦
           let have : may_have unit bytes b (watched path x) ≡ true = ap (λ y. may_have unit bytes b (watched path y)) (a.0 t) ∙ h in
           and_from (not (is_watched number (watched path x)) || may_have unit bytes b (watched path x)) _
-          (right_true (not (is_watched number (watched path x))) (may_have unit bytes b (watched path x)) have) rest
+          (or_right (not (is_watched number (watched path x))) (may_have unit bytes b (watched path x)) have) rest
       | inr f ↦ rw f rest
     ]
 
@@ -111,12 +103,12 @@ module _ (loads : List WatchedLoad) (moment : ℕ) (asked : Each (IsAsked moment
     pub word_answers : (e : Pair) → is_word_of unit.first e.word l.address bytes ≡ true → HasAnswers loads unit number bytes e
     word_answers e h =
         λ path has. all_answer unit number bytes (way_on loads e path) path l loads each_one
-        (left_true (is_word_of unit.first e.word l.address bytes) _ h)
+        (or_left (is_word_of unit.first e.word l.address bytes) _ h)
 
     past_answers : (e : Pair) (path : List Stood) → list_any is path ≡ true → has_answer unit number bytes (way_on loads e path) ≡ true
     past_answers e path h =
         all_answer unit number bytes (way_on loads e path) path l loads each_one
-        (right_true (is_word_of unit.first e.word l.address bytes) _ (sym (seen_answer unit l.address l.since bytes path) ∙ h))
+        (or_right (is_word_of unit.first e.word l.address bytes) _ (sym (seen_answer unit l.address l.since bytes path) ∙ h))
 
     got_on : (S : Branch → Type 0) (e : Pair) (p : Option Past) → ((path : List Stood) → HasAny p path → HasAny (got is e.past) path)
         → IsAnyBy moment p → EachWay loads S e

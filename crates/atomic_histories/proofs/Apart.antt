@@ -6,7 +6,7 @@ use Rattle.std.specs.Option.{option_eq}
 use Rattle.std.specs.Cmp.Lexicographic.{pointwise}
 use mathlib.Core.Bool.{beq}
 use Rattle.std.proofs.lemmas.Bool.{cases_Bool, and_parts, and_from, eq-eqb}
-use Rattle.std.proofs.lemmas.List.{map-append}
+use Rattle.std.proofs.lemmas.List.{map-append, same_from_push}
 use Rattle.memory_histories.specs.declared.events.HistoryEvent.{HistoryEvent}
 use Rattle.memory_histories.specs.declared.events.HistoryEvent.TheVariants.{LoadRequest, LoadResponse, StoreRequest, StoreResponse}
 use Rattle.atomic_histories.specs.declared.unit.OpenStore.{OpenStore}
@@ -21,7 +21,7 @@ use Rattle.atomic_histories.specs.Followed.{pair_got, pair_missed, cons_any, gat
 use Rattle.atomic_histories.specs.Followed.{pair_without_store, pair_with_store, pair_cut, ways_with_load, ways_with_store, ways_after}
 use Rattle.atomic_histories.specs.Followed.{is_first, loads_without}
 use Rattle.atomic_histories.specs.Stands.{Each, IsAsked, IsOther, AreApart, store_key, IsOfStores}
-use Rattle.atomic_histories.proofs.Lists.{each_weaker, each_map, each_filter, each_both, snoc_same}
+use Rattle.atomic_histories.proofs.Lists.{each_weaker, each_map, each_filter, each_both}
 use Rattle.atomic_histories.proofs.Found.{IsJoint, IsKept, each_with, met_sound}
 
 -- What isn't found to be one pair is none. ----
@@ -218,7 +218,7 @@ store_shaped true number bytes u s =
     let keys : Keys = s.alike.0 in
     record {
       apart = apart_map (IsOfStores keys) (pair_with_store number bytes)
-          (λ e g p q n w t. n w (snoc_same e.stores g.stores new new t).0) u.pairs s.alike.1 s.apart;
+          (λ e g p q n w t. n w (same_from_push e.stores g.stores new new t).0) u.pairs s.alike.1 s.apart;
       alike = (
         keys ++ store_key new ∷ [],
         each_map (pair_with_store number bytes) (IsOfStores (keys ++ store_key new ∷ [])) u.pairs

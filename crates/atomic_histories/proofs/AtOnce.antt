@@ -1,11 +1,12 @@
 -- Events that a unit takes where it stands: what the search would find, and what is kept of the units.
 use Rattle.std.proofs.Common.{◌≡◌, ◌≢◌, ℕ, zero, suc, ◌+◌, ◌*◌, ◌/◌, ◌<◌, ◌≤◌, Bool, true, false, ◌&&◌, ◌||◌, not, ◌==◌, if◌then◌else◌}
-use Rattle.std.proofs.Common.{List, [], ◌∷◌, filter, fold, max, min, length, take, get_or, Option, Some, None, Result, Ok, Err, IfOk, OnErr}
+use Rattle.std.proofs.Common.{List, [], ◌∷◌, filter, max, length, take, get_or, Option, Some, None, Result, Ok, Err, IfOk, OnErr}
 use Rattle.std.proofs.Common.{inl, inr, refl, sym, ap, ap₂, ◌∙◌, subst, arith}
 use Rattle.std.specs.List.{find, list_all, range_with_len}
 use Rattle.std.proofs.Math.Path.{fun_ext}
 use Rattle.std.proofs.lemmas.List.{length-take-le, take-take, get_or-take}
 use Rattle.std.proofs.lemmas.Bool.{cases_Bool, cases_eq, cases_lt, and_parts, and_from, lt-ltb, le-ltb, lt-leb, le-leb, eq-eqb, ne_eqb}
+use Rattle.std.proofs.lemmas.Bool.{or_left, or_right}
 use Rattle.memory_histories.specs.declared.events.HistoryEvent.{HistoryEvent}
 use Rattle.memory_histories.specs.declared.events.Rest.{Rest}
 use Rattle.atomic_histories.specs.declared.unit.OpenStore.{OpenStore}
@@ -33,6 +34,7 @@ use Rattle.atomic_histories.specs.Judge.{bytes_of, kept_or, kept_at, words_of, I
 use Rattle.atomic_histories.specs.Shown.{past_at, past_of, pasts}
 use Rattle.atomic_histories.proofs.Shares.{stands}
 use Rattle.atomic_histories.proofs.Moving.{same_at}
+use Rattle.atomic_histories.proofs.KeptUnits.{some_oldest}
 use Rattle.atomic_histories.specs.AtOnce.{IsUnitTaken, AreTaken, AreTakenOrSame}
 
 abbrev Word : Type 0
@@ -76,14 +78,6 @@ found_next loads moment aim e s one open_ f t hope =
     ∙ (ap (λ es. met loads moment 1 aim [] es) next ∙ out_here aim.goal on t))
 
 -- Hope for the word that a store makes. ----
-
-or_left : (a b : Bool) → a ≡ true → (a || b) ≡ true
-or_left true b h = refl
-or_left false b h = cc
-
-or_right : (a b : Bool) → b ≡ true → (a || b) ≡ true
-or_right true b h = refl
-or_right false b h = h
 
 word_lane : (first : ℕ) (w : Word) (a : ℕ) (bs : List ℕ) (j : ℕ) → is_word_of first w a bs ≡ true
     → is_as_it_stood (get_or w j None) (byte_for a bs (first + j)) ≡ true
@@ -189,10 +183,6 @@ load_next unit bytes l u e s one store open_ past f t =
     ∙ found_next u.loads u.moment aim e s store open_ f t (word_hope unit l.address bytes on.word on.stores t)
 
 -- What an open load may ask for, once another is answered. ----
-
-some_oldest : (since : ℕ) (ls : List WatchedLoad) → fold earlier (Some since) ls ≡ None → ⊥
-some_oldest since [] h = cc
-some_oldest since (l ∷ ls) h = some_oldest (min since l.since) ls h
 
 pub behind_none : (ls : List WatchedLoad) (moment : ℕ) (word : Word) → oldest ls ≡ None → overwritten ls moment word begins ≡ begins
 behind_none [] moment word h = refl

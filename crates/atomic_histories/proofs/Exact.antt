@@ -2,7 +2,7 @@
 use Rattle.std.proofs.Common.{◌≡◌, ℕ, suc, ◌+◌, ◌≤◌, Bool, true, false, if◌then◌else◌, List, [], ◌∷◌, ◌++◌, map, Option, Some, None}
 use Rattle.std.proofs.Common.{is_some, fold, append_assoc, append-nil, inl, inr, refl, sym, ap, ◌∙◌, subst, arith}
 use Rattle.std.specs.List.{list_any, find}
-use Rattle.std.proofs.lemmas.List.{map-append}
+use Rattle.std.proofs.lemmas.List.{map-append, same_from_push}
 use Rattle.memory_histories.specs.declared.events.HistoryEvent.{HistoryEvent}
 use Rattle.memory_histories.specs.declared.events.HistoryEvent.TheVariants.{LoadRequest, LoadResponse, StoreRequest, StoreResponse}
 use Rattle.memory_histories.specs.declared.events.Rest.{Rest}
@@ -18,7 +18,7 @@ use Rattle.atomic_histories.specs.Followed.{pair_got, pair_missed, gathered, wit
 use Rattle.atomic_histories.specs.Followed.{pair_with_store, ways_with_load, ways_with_store, ways_without_load, ways_without_store}
 use Rattle.atomic_histories.specs.Followed.{ways_after, loads_without}
 use Rattle.atomic_histories.specs.Stands.{Each, One, EachWay, OneWay, IsAsked, IsPairBy, AreWatched, IsOn, Leads, now, StandsFor}
-use Rattle.atomic_histories.proofs.Lists.{snoc_same, one_weaker, one_map, each_weaker, each_map, each_both, each_append, each_filter}
+use Rattle.atomic_histories.proofs.Lists.{one_weaker, one_map, each_weaker, each_map, each_both, each_append, each_filter, no_snoc}
 use Rattle.atomic_histories.proofs.Alone.{IsAlone}
 use Rattle.atomic_histories.proofs.Apart.{IsShaped, event_shaped}
 use Rattle.atomic_histories.proofs.Steps.{leads_on}
@@ -337,10 +337,6 @@ event_leads unit (StoreResponse number) m n h u asked by o =
 
 -- Histories. ----
 
-no_snoc : {X : Type 0} (xs : List X) (x : X) → xs ++ x ∷ [] ≡ [] → ⊥
-no_snoc [] x h = cc
-no_snoc (a ∷ xs) x h = cc
-
 -- a step on one of the ways
 one_step : (u : Ways) (m n : UnitMemory) → HiddenStep m n → LeadsTo u m → LeadsTo u n
 one_step u m n step o =
@@ -361,7 +357,7 @@ later_complete start unit u v history event before next xs m starts h = absurd (
 later_complete start unit u v history event before next xs m (steps hs k n r step) h =
     one_step v k n step (later_complete start unit u v history event before next hs k r h)
 later_complete start unit u v history event before next xs m (sees hs last k n r e) h =
-    let p = snoc_same hs history last event h in
+    let p = same_from_push hs history last event h in
     let there : MayBe unit start history k = subst (λ x. MayBe unit start x k) p.0 r in
     next k n there (subst (λ x. seen unit k x ≡ Some n) p.1 e) (before k there)
 

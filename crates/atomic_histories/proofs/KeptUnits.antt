@@ -171,7 +171,7 @@ copied_shown m ss rr ts ps qs rs ks d e g f same =
 
 -- The moment, once a load is answered. ----
 
-some_oldest : (since : ℕ) (ls : List WatchedLoad) → fold earlier (Some since) ls ≡ None → ⊥
+pub some_oldest : (since : ℕ) (ls : List WatchedLoad) → fold earlier (Some since) ls ≡ None → ⊥
 some_oldest since [] h = cc
 some_oldest since (l ∷ ls) h = some_oldest (min since l.since) ls h
 

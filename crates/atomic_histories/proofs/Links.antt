@@ -5,7 +5,7 @@ use Rattle.std.proofs.Common.{inl, inr, refl, sym, ap, ap₂, ◌∙◌, subst, 
 use Rattle.std.proofs.Common.{le-div_iff_mul-le, suc-mul, ltb-true, arith}
 use Rattle.std.specs.List.{list_any, find, range_with_len}
 use Rattle.std.specs.Int.{bit_at}
-use Rattle.std.proofs.lemmas.Bool.{cases_Bool, cases_lt, and_parts, and_from, lt-ltb, le-ltb, le-leb, lt-leb}
+use Rattle.std.proofs.lemmas.Bool.{cases_Bool, cases_lt, and_parts, and_from, lt-ltb, le-ltb, le-leb, lt-leb, or_parts}
 use Rattle.std.proofs.lemmas.List.{map-append}
 use Rattle.std.proofs.lemmas.List.Elements.{filter-append}
 use Rattle.std.proofs.lemmas.List.Folds.{list_any-append}
@@ -90,10 +90,6 @@ or_false : (a b : Bool) → a ≡ false → b ≡ false → (a || b) ≡ false
 or_false true b h i = h
 or_false false b h i = i
 
-or_parts : (a b : Bool) → (a || b) ≡ false → (a ≡ false) × (b ≡ false)
-or_parts true b h = cc
-or_parts false b h = (refl, h)
-
 eq_false_sym : (a b : ℕ) → (a == b) ≡ false → (b == a) ≡ false
 eq_false_sym a b h = elim (cases_Bool (b == a)) [
   | inl t ↦ let x : (a == b) ≡ true = eq-eqb a b (sym (eqb-true b a t)) in let y : true ≡ false = sym x ∙ h in cc
@@ -166,7 +162,7 @@ fit_after o (StoreRequest number address bytes enables) a f =
 fit_after o (StoreResponse number) a f =
     record { loads = a.loads; stores = (distinct_filtered number o.stores a.stores.0, inside_filtered number o.stores a.stores.1) }
 
-none_is : {X : Type 0} (o : Option X) → is_none o ≡ true → o ≡ None
+pub none_is : {X : Type 0} (o : Option X) → is_none o ≡ true → o ≡ None
 none_is None h = refl
 none_is (Some x) h = cc
 

@@ -123,15 +123,7 @@ one_any p (x ∷ xs) (inr h) = elim (cases_Bool (p x)) [
   | inr f ↦ rw f (one_any p xs h)
 ]
 
--- lists that are the same with one element more
-pub snoc_same : {X : Type 0} (xs ys : List X) (x y : X) → xs ++ x ∷ [] ≡ ys ++ y ∷ [] → (xs ≡ ys) × (x ≡ y)
-snoc_same [] [] x y h = (refl, cc)
-snoc_same [] (b ∷ []) x y h = cc
-snoc_same [] (b ∷ c ∷ ys) x y h = cc
-snoc_same (a ∷ []) [] x y h = cc
-snoc_same (a ∷ c ∷ xs) [] x y h = cc
-snoc_same (a ∷ xs) (b ∷ ys) x y h =
-    let first : a ≡ b = cc in
-    let others : xs ++ x ∷ [] ≡ ys ++ y ∷ [] = cc in
-    let r = snoc_same xs ys x y others in
-    (λ i. first i ∷ r.0 i, r.1)
+-- a list with a last element is not the empty one
+pub no_snoc : {X : Type 0} (xs : List X) (x : X) → xs ++ x ∷ [] ≡ [] → ⊥
+no_snoc [] x h = cc
+no_snoc (a ∷ xs) x h = cc

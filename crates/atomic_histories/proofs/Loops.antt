@@ -2,7 +2,7 @@
 use Rattle.std.proofs.Common.{◌≡◌, ℕ, zero, suc, ◌+◌, ◌-◌, ◌<◌, Bool, true, false, ◌||◌, List, [], ◌∷◌, ◌++◌, fold, filter, length, take}
 use Rattle.std.proofs.Common.{drop, get_or, set, refl, sym, ap, subst, ◌∙◌, add-one, take-suc, drop-cons, append_assoc, inl, inr, arith}
 use Rattle.std.specs.List.{list_all}
-use Rattle.std.proofs.lemmas.Bool.{cases_Bool, and_parts}
+use Rattle.std.proofs.lemmas.Bool.{cases_Bool, and_parts, or_left}
 use Rattle.std.proofs.lemmas.List.{map-append, set_split, drop_all, length-map, append-nil, take_rest}
 use Rattle.atomic_histories.specs.declared.unit.OpenStore.{OpenStore}
 use Rattle.atomic_histories.specs.declared.unit.WatchedLoad.{WatchedLoad}
@@ -131,13 +131,9 @@ next_met ls moment aim next e h = rw h refl
 pub out_unmet : (goal : Pair → Bool) (out : List Pair) (e : Pair) → goal e ≡ false → out ≡ out_of goal out e
 out_unmet goal out e h = rw h refl
 
-or_left : (a b : Bool) → a ≡ true → (a || b) ≡ true
-or_left true b h = refl
-or_left false b h = cc
-
-or_right : (a b : Bool) → a ≡ false → (a || b) ≡ b
-or_right true b h = cc
-or_right false b h = refl
+or_behind : (a b : Bool) → a ≡ false → (a || b) ≡ b
+or_behind true b h = cc
+or_behind false b h = refl
 
 -- the rounds of a search
 pub over_go : (limit : ℕ) (ls : List WatchedLoad) (moment n : ℕ) (aim : Aim) (out es : List Pair)
@@ -145,7 +141,7 @@ pub over_go : (limit : ℕ) (ls : List WatchedLoad) (moment n : ℕ) (aim : Aim)
     → is_over limit ls moment n aim out es ≡ is_over limit ls moment (n - 1) aim (out_after aim.goal out es) (next_after ls moment aim es)
 over_go limit ls moment zero aim out es h p = absurd (omega arith)
 over_go limit ls moment (suc n) aim out es h p = let e : suc n - 1 ≡ n =
-    omega arith in rw e (or_right (are_too_many limit es || are_too_many limit out)
+    omega arith in rw e (or_behind (are_too_many limit es || are_too_many limit out)
     (is_over limit ls moment n aim (out_after aim.goal out es) (next_after ls moment aim es)) h)
 
 -- the pairs once one round more has gone
@@ -168,7 +164,7 @@ pub reach_go : (limit : ℕ) (ls : List WatchedLoad) (moment n : ℕ) (es next :
 reach_go limit ls moment zero es next e h p = absurd (omega arith)
 reach_go limit ls moment (suc n) es next e h p =
     let m : suc n - 1 ≡ n = omega arith in
-    rw m (or_right (are_too_many limit (next_after ls moment never es)) (is_reach_over limit ls moment n (next_after ls moment never es))
+    rw m (or_behind (are_too_many limit (next_after ls moment never es)) (is_reach_over limit ls moment n (next_after ls moment never es))
     (ap (are_too_many limit) (sym e) ∙ h) ∙ ap (is_reach_over limit ls moment n) (sym e))
 
 reached_go : (ls : List WatchedLoad) (moment n : ℕ) (es next : List Pair) → next ≡ next_after ls moment never es → 0 < n

@@ -2,7 +2,7 @@
 use Rattle.std.proofs.Common.{◌≡◌, ℕ, zero, suc, ◌+◌, ◌⊎◌, Bool, true, false, ◌&&◌, ◌||◌, not, List, [], ◌∷◌, ◌++◌, get_or, Option, Some}
 use Rattle.std.proofs.Common.{None, inl, inr, refl, sym, ap, ◌∙◌, subst}
 use Rattle.std.specs.List.{list_all, list_any, find, range_with_len}
-use Rattle.std.proofs.lemmas.Bool.{cases_Bool, and_parts, and_from}
+use Rattle.std.proofs.lemmas.Bool.{cases_Bool, and_parts, and_from, or_cases, or_left, or_right}
 use Rattle.std.proofs.lemmas.List.Folds.{list_any-append, list_all-map}
 use Rattle.atomic_histories.specs.declared.unit.OpenStore.{OpenStore}
 use Rattle.atomic_histories.specs.declared.unit.UnitPlace.{UnitPlace}
@@ -16,18 +16,6 @@ use Rattle.atomic_histories.proofs.Lanes.{word_lane}
 
 abbrev Word : Type 0
 Word = List (Option ℕ)
-
-or_either : (a b : Bool) → (a || b) ≡ true → (a ≡ true) ⊎ (b ≡ true)
-or_either true b h = inl refl
-or_either false b h = inr h
-
-left_true : (a b : Bool) → a ≡ true → (a || b) ≡ true
-left_true true b h = refl
-left_true false b h = cc
-
-right_true : (a b : Bool) → b ≡ true → (a || b) ≡ true
-right_true true b h = refl
-right_true false b h = h
 
 all_weaker : {X : Type 0} (p q : X → Bool) → ((x : X) → p x ≡ true → q x ≡ true) → (xs : List X) → list_all p xs ≡ true
     → list_all q xs ≡ true
@@ -64,34 +52,34 @@ any_undone : (k : ℕ) (answer : Option ℕ) (before : List OpenStore) (s : Open
     → list_any (writes k answer) (before ++ s ∷ after) ≡ true
 any_undone k answer before s after h =
     let p : OpenStore → Bool = writes k answer in
-    elim (or_either (list_any p before) (list_any p after) (sym (list_any-append p before (done_store s ∷ after)) ∙ h)) [
-      | inl t ↦ any_between p before s after (left_true (list_any p before) (p s || list_any p after) t)
+    elim (or_cases (list_any p before) (list_any p after) (sym (list_any-append p before (done_store s ∷ after)) ∙ h)) [
+      | inl t ↦ any_between p before s after (or_left (list_any p before) (p s || list_any p after) t)
       | inr t ↦ any_between p before s after
-          (right_true (list_any p before) (p s || list_any p after) (right_true (p s) (list_any p after) t))
+          (or_right (list_any p before) (p s || list_any p after) (or_right (p s) (list_any p after) t))
     ]
 
 -- what an effect writes in a lane, the store may still write before it
 new_before : (k b : ℕ) (word : Word) (before : List OpenStore) (s : OpenStore) (after : List OpenStore) (answer : Option ℕ)
     → s.is_done ≡ false → get_or s.bytes k None ≡ Some b → is_as_it_stood (Some b) answer ≡ true
     → may_come_in k word (before ++ s ∷ after) answer ≡ true
-new_before k b word before s after None open_ w t = left_true (is_as_it_stood (get_or word k None) None) _ (none_asked (get_or word k None))
+new_before k b word before s after None open_ w t = or_left (is_as_it_stood (get_or word k None) None) _ (none_asked (get_or word k None))
 new_before k b word before s after (Some c) open_ w t =
     let p : OpenStore → Bool = writes k (Some c) in
     let here : p s ≡ true = rw (open_, w) t in
-    right_true (is_as_it_stood (get_or word k None) (Some c)) (list_any p (before ++ s ∷ after))
+    or_right (is_as_it_stood (get_or word k None) (Some c)) (list_any p (before ++ s ∷ after))
     (any_between p before s after
-    (right_true (list_any p before) (p s || list_any p after) (left_true (p s) (list_any p after) here)))
+    (or_right (list_any p before) (p s || list_any p after) (or_left (p s) (list_any p after) here)))
 
 come_before : (k : ℕ) (word : Word) (before : List OpenStore) (s : OpenStore) (after : List OpenStore) (answer : Option ℕ)
     → s.is_done ≡ false → may_come_in k (written s.bytes word) (before ++ done_store s ∷ after) answer ≡ true
     → may_come_in k word (before ++ s ∷ after) answer ≡ true
 come_before k word before s after answer open_ h =
     let p : OpenStore → Bool = writes k answer in
-    elim (or_either (is_as_it_stood (get_or (written s.bytes word) k None) answer) (list_any p (before ++ done_store s ∷ after)) h) [
-      | inr t ↦ right_true (is_as_it_stood (get_or word k None) answer) (list_any p (before ++ s ∷ after))
+    elim (or_cases (is_as_it_stood (get_or (written s.bytes word) k None) answer) (list_any p (before ++ done_store s ∷ after)) h) [
+      | inr t ↦ or_right (is_as_it_stood (get_or word k None) answer) (list_any p (before ++ s ∷ after))
           (any_undone k answer before s after t)
       | inl t ↦ elim (lane_written s.bytes word k) [
-        | inl same ↦ left_true (is_as_it_stood (get_or word k None) answer) (list_any p (before ++ s ∷ after))
+        | inl same ↦ or_left (is_as_it_stood (get_or word k None) answer) (list_any p (before ++ s ∷ after))
             (ap (λ x. is_as_it_stood x answer) (sym same) ∙ t)
         | inr new ↦ new_before k new.0 word before s after answer open_ new.2 (ap (λ x. is_as_it_stood x answer) (sym new.1) ∙ t)
       ]
@@ -133,7 +121,7 @@ module _ (unit : UnitPlace) (number : ℕ) (bytes : List ℕ) (e : Branch) (befo
     where
       lane : (k : ℕ) → may_come_in k e.word e.stores (byte_for l.address bytes (unit.first + k)) ≡ true
       lane k =
-          come l k (left_true (is_as_it_stood (get_or on.word k None) (byte_for l.address bytes (unit.first + k))) _
+          come l k (or_left (is_as_it_stood (get_or on.word k None) (byte_for l.address bytes (unit.first + k))) _
           (word_lane unit.first on.word l.address bytes k h))
 
       all_from : (ks : List ℕ) → list_all (λ k. may_come_in k e.word e.stores (byte_for l.address bytes (unit.first + k))) ks ≡ true
@@ -145,15 +133,15 @@ module _ (unit : UnitPlace) (number : ℕ) (bytes : List ℕ) (e : Branch) (befo
       let is : Word → Bool = λ w. is_word_of unit.first w l.address bytes in
       let have : Bool = may_have unit bytes e l in
       let may : Bool = comes unit bytes e l in
-      let done : (have || may) ≡ true → hopes unit number bytes e l ≡ true = right_true (not (is_watched number l)) (have || may) in
-      elim (or_either (not (is_watched number l))
+      let done : (have || may) ≡ true → hopes unit number bytes e l ≡ true = or_right (not (is_watched number l)) (have || may) in
+      elim (or_cases (not (is_watched number l))
       (may_have unit bytes on (with_word e.word l) || comes unit bytes on (with_word e.word l)) h) [
-        | inl t ↦ left_true (not (is_watched number l)) (have || may) t
-        | inr a ↦ elim (or_either (may_have unit bytes on (with_word e.word l)) (comes unit bytes on (with_word e.word l)) a) [
-          | inr c ↦ done (right_true have may (all_come l c))
-          | inl b ↦ elim (or_either (is on.word) (is e.word || list_any is l.words) b) [
-            | inl c ↦ done (right_true have may (word_comes l c))
-            | inr c ↦ done (left_true have may c)
+        | inl t ↦ or_left (not (is_watched number l)) (have || may) t
+        | inr a ↦ elim (or_cases (may_have unit bytes on (with_word e.word l)) (comes unit bytes on (with_word e.word l)) a) [
+          | inr c ↦ done (or_right have may (all_come l c))
+          | inl b ↦ elim (or_cases (is on.word) (is e.word || list_any is l.words) b) [
+            | inl c ↦ done (or_right have may (word_comes l c))
+            | inr c ↦ done (or_left have may c)
           ]
         ]
       ]
@@ -173,9 +161,9 @@ answer_hopes unit number bytes e h =
     all_weaker (λ l. not (is_watched number l) || may_have unit bytes e l) (hopes unit number bytes e) weaker e.loads h
   where
     weaker : (l : Watched) → (not (is_watched number l) || may_have unit bytes e l) ≡ true → hopes unit number bytes e l ≡ true
-    weaker l t = elim (or_either (not (is_watched number l)) (may_have unit bytes e l) t) [
-      | inl a ↦ left_true (not (is_watched number l)) _ a
-      | inr b ↦ right_true (not (is_watched number l)) _ (left_true (may_have unit bytes e l) (comes unit bytes e l) b)
+    weaker l t = elim (or_cases (not (is_watched number l)) (may_have unit bytes e l) t) [
+      | inl a ↦ or_left (not (is_watched number l)) _ a
+      | inr b ↦ or_right (not (is_watched number l)) _ (or_left (may_have unit bytes e l) (comes unit bytes e l) b)
     ]
 
 -- a way that leads to a state with the answer hopes for it
@@ -196,7 +184,7 @@ word_may_come unit address bytes word stores h = all_from (range_with_len 0 8)
     all_from [] = refl
     all_from (k ∷ ks) =
         and_from (may_come_in k word stores (byte_for address bytes (unit.first + k))) _
-        (left_true (is_as_it_stood (get_or word k None) (byte_for address bytes (unit.first + k))) _
+        (or_left (is_as_it_stood (get_or word k None) (byte_for address bytes (unit.first + k))) _
         (word_lane unit.first word address bytes k h)) (all_from ks)
 
 all_found : (p q : Watched → Bool) (ls : List Watched) (l : Watched) → list_all p ls ≡ true → find q ls ≡ Some l
@@ -226,9 +214,9 @@ late_hope unit number bytes e l m f late g r =
     let is : Word → Bool = λ w. is_word_of unit.first w l.address bytes in
     let p = all_found (hopes unit number bytes e) (is_watched number) e.loads l (hope_leads unit number bytes g r) f in
     let have : (may_have unit bytes e l || comes unit bytes e l) ≡ true = rw p.1 at p.0 in
-    elim (or_either (may_have unit bytes e l) (comes unit bytes e l) have) [
+    elim (or_cases (may_have unit bytes e l) (comes unit bytes e l) have) [
       | inr c ↦ c
-      | inl b ↦ elim (or_either (is e.word) (list_any is l.words) b) [
+      | inl b ↦ elim (or_cases (is e.word) (list_any is l.words) b) [
         | inl c ↦ word_may_come unit l.address bytes e.word e.stores c
         | inr c ↦ let x : true ≡ false = sym c ∙ late l f in cc
       ]
@@ -244,7 +232,7 @@ late_answer unit number bytes e l m f late g o =
     let p = all_found (λ k. not (is_watched number k) || may_have unit bytes e k) (is_watched number) e.loads l
     (answer_on unit number bytes m g e o) f in
     let have : may_have unit bytes e l ≡ true = rw p.1 at p.0 in
-    elim (or_either (is e.word) (list_any is l.words) have) [
+    elim (or_cases (is e.word) (list_any is l.words) have) [
       | inl c ↦ c
       | inr c ↦ let x : true ≡ false = sym c ∙ late l f in cc
     ]

@@ -7,7 +7,7 @@ use Rattle.std.specs.List.{All, find, list_any, range_with_len}
 use Rattle.std.proofs.Math.Nat.{mod-lt}
 use Rattle.std.proofs.lemmas.Nat.{div-mul-add, mod-mul-add, div-add-mod'}
 use Rattle.std.proofs.lemmas.Bool.{cases_Bool, cases_lt, and_parts, and_from, lt-ltb, lt-leb, le-leb}
-use Rattle.std.proofs.lemmas.List.{get_or_past}
+use Rattle.std.proofs.lemmas.List.{get_or_past, same_from_push}
 use Rattle.std.proofs.lemmas.List.Elements.{All-head, All-tail, All-map}
 use Rattle.std.proofs.lemmas.List.FromFn.{get_or-map-range_with_len, length-map-range_with_len}
 use Rattle.std.proofs.lemmas.Option.{slice_get_within, slice_get_past, slice_get_read}
@@ -28,8 +28,9 @@ use Rattle.atomic_histories.specs.May.{lane_of, may_show, has_got, got_byte, May
 use Rattle.atomic_histories.specs.MayLaws.{IsByte, StoresBytes, IsOfLaw, MayAnswer, HasAnswer, HasAnswerFor, SetsAreOfAnswers}
 use Rattle.atomic_histories.specs.MayLaws.{SetIsOfAnswers, AreSameIn, HasAnswerIn, UnitsChooseAlone}
 use Rattle.atomic_histories.proofs.Lists.{one_elim, one_each, one_any, one_weaker, each_weaker, each_both, each_at, all_each, each_all}
+use Rattle.atomic_histories.proofs.Lists.{no_snoc}
 use Rattle.atomic_histories.proofs.Links.{AreDistinct, is_of, fit_by, linked}
-use Rattle.atomic_histories.proofs.Whole.{formed_more}
+use Rattle.atomic_histories.proofs.Whole.{formed_more, then_some}
 use Rattle.atomic_histories.proofs.Verdict.{formed_last}
 use Rattle.atomic_histories.proofs.Lanes.{AreLanes, HasGot, Holds, Writes, holds, word_lane, lane_word, unit_lane}
 use Rattle.atomic_histories.proofs.Alone.{IsAlone, alone, has_address, is_there, HaveGot, each_none, shown_word, the_load, got_between}
@@ -89,22 +90,6 @@ holds_first image rest unit h = record {
 
 -- Answers at a unit. ----
 
-snoc_same : {X : Type 0} (xs ys : List X) (x y : X) → xs ++ x ∷ [] ≡ ys ++ y ∷ [] → (xs ≡ ys) × (x ≡ y)
-snoc_same [] [] x y h = (refl, cc)
-snoc_same [] (b ∷ []) x y h = cc
-snoc_same [] (b ∷ c ∷ ys) x y h = cc
-snoc_same (a ∷ []) [] x y h = cc
-snoc_same (a ∷ c ∷ xs) [] x y h = cc
-snoc_same (a ∷ xs) (b ∷ ys) x y h =
-    let first : a ≡ b = cc in
-    let others : xs ++ x ∷ [] ≡ ys ++ y ∷ [] = cc in
-    let r = snoc_same xs ys x y others in
-    (λ i. first i ∷ r.0 i, r.1)
-
-no_snoc : {X : Type 0} (xs : List X) (x : X) → xs ++ x ∷ [] ≡ [] → ⊥
-no_snoc [] x h = cc
-no_snoc (a ∷ xs) x h = cc
-
 -- the unit before the last event
 seen_last : (start : UnitMemory) (unit : UnitPlace) (history : List HistoryEvent) (event : HistoryEvent) (xs : List HistoryEvent)
     (m : UnitMemory) → MayBe unit start xs m → xs ≡ history ++ event ∷ []
@@ -112,16 +97,12 @@ seen_last : (start : UnitMemory) (unit : UnitPlace) (history : List HistoryEvent
 seen_last start unit history event xs m starts h = absurd (no_snoc history event (sym h))
 seen_last start unit history event xs m (steps hs k n r step) h = seen_last start unit history event hs k r h
 seen_last start unit history event xs m (sees hs last k n r e) h =
-    let p = snoc_same hs history last event h in
+    let p = same_from_push hs history last event h in
     (k, (n, (subst (λ x. MayBe unit start x k) p.0 r, subst (λ x. seen unit k x ≡ Some n) p.1 e)))
 
 -- whether a load doesn't stand in the way of an answer
 abbrev lets : UnitPlace → ℕ → List ℕ → OpenLoad → Bool
 lets unit number bytes l = not (is_load number l) || is_got unit l.address bytes l.got
-
-then_some : {X : Type 0} (b : Bool) (x : X) → b ≡ true → (if b then Some x else None) ≡ Some x
-then_some true x h = refl
-then_some false x h = cc
 
 -- a state in which no load stands in the way of an answer
 abbrev Lets : List ℕ → Rest → List HistoryEvent → UnitPlace → ℕ → List ℕ → Type 0

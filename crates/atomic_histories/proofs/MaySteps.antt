@@ -1,9 +1,9 @@
 -- Steps towards what an open load may return: the sets of its bytes one after the other, and why there are none.
-use Rattle.std.proofs.Common.{◌≡◌, ℕ, zero, suc, ◌+◌, ◌-◌, ◌*◌, ◌/◌, ◌%◌, ◌<◌, false, nat_lt, ◌||◌, true, List, [], ◌∷◌, ◌++◌, length}
-use Rattle.std.proofs.Common.{Option, None, refl, sym, ap, ◌∙◌, subst, arith, Bool, Some}
+use Rattle.std.proofs.Common.{◌≡◌, ℕ, zero, suc, ◌+◌, ◌-◌, ◌*◌, ◌/◌, ◌%◌, ◌<◌, nat_lt, List, [], ◌∷◌, ◌++◌, length}
+use Rattle.std.proofs.Common.{Option, None, refl, sym, ap, ◌∙◌, subst, arith, Some}
 use Rattle.std.proofs.lemmas.Nat.{div-add-mod'}
 use Rattle.std.specs.List.{find}
-use Rattle.std.proofs.lemmas.Bool.{lt-ltb}
+use Rattle.std.proofs.lemmas.Bool.{lt-ltb, or_right}
 use Rattle.memory_histories.specs.declared.sets.ByteSet.{ByteSet}
 use Rattle.memory_histories.specs.declared.events.Rest.{Rest}
 use Rattle.memory_histories.specs.Sets.{no_bytes, all_bytes}
@@ -108,9 +108,5 @@ no_set OutOfMemory limit h a n i l f = tt
 pub reach_wide : (limit words : ℕ) (u : Ways) (stop : Stop) → StopIs (is_reach_over limit u.loads u.moment (rounds u.pairs) u.pairs) stop
     → StopIs (is_reach_wide limit words u) stop
 reach_wide limit words u TooManyWays w =
-    right_true (nat_lt MOST_WORDS words) (is_reach_over limit u.loads u.moment (rounds u.pairs) u.pairs) w
-  where
-    right_true : (a b : Bool) → b ≡ true → (a || b) ≡ true
-    right_true true b h = refl
-    right_true false b h = h
+    or_right (nat_lt MOST_WORDS words) (is_reach_over limit u.loads u.moment (rounds u.pairs) u.pairs) w
 reach_wide limit words u NoMemory w = tt

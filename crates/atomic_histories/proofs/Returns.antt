@@ -3,7 +3,7 @@ use Rattle.std.proofs.Common.{◌≡◌, ℕ, zero, suc, ◌+◌, ◌/◌, ◌%�
 use Rattle.std.proofs.Common.{◌∷◌, ◌++◌, map, filter, length, Option, Some, None, Result, Ok, Err, IfOk, slice_get, inl, inr, refl, sym, ap}
 use Rattle.std.proofs.Common.{◌∙◌, subst, arith}
 use Rattle.std.specs.List.{list_any, find}
-use Rattle.std.proofs.lemmas.Bool.{cases_Bool, and_parts, and_from}
+use Rattle.std.proofs.lemmas.Bool.{cases_Bool, and_parts, and_from, or_cases}
 use Rattle.std.proofs.lemmas.List.Folds.{list_any-append}
 use Rattle.memory_histories.specs.declared.events.HistoryEvent.{HistoryEvent}
 use Rattle.memory_histories.specs.declared.events.Rest.{Rest}
@@ -41,10 +41,6 @@ or_left_true false b h = cc
 or_right_true : (a b : Bool) → b ≡ true → (a || b) ≡ true
 or_right_true true b h = refl
 or_right_true false b h = h
-
-or_either : (a b : Bool) → (a || b) ≡ true → (a ≡ true) ⊎ (b ≡ true)
-or_either true b h = inl refl
-or_either false b h = inr h
 
 -- One way. ----
 
@@ -145,7 +141,7 @@ loads_show number k b e (l ∷ ls) (m ∷ ms) a h = elim (cases_Bool (got_byte n
 past_shows : (is : Word → Bool) (since : ℕ) (p : Past) → shows is since p ≡ true
     → (path : List Stood) × Has p path × (list_any is (seen_since since path) ≡ true)
 past_shows is since begins h = cc
-past_shows is since (after w t p) h = elim (or_either (nat_le since t && is w) (shows is since p) h) [
+past_shows is since (after w t p) h = elim (or_cases (nat_le since t && is w) (shows is since p) h) [
   | inl y ↦
       let q = and_parts (nat_le since t) (is w) y in
       let r = some_way p in
@@ -163,7 +159,7 @@ past_shows is since (after w t p) h = elim (or_either (nat_le since t && is w) (
       | inl s ↦ rw s (or_right_true (is w) (list_any is (seen_since since path)) y)
       | inr s ↦ rw s y
     ]
-past_shows is since (either p q) h = elim (or_either (shows is since p) (shows is since q) h) [
+past_shows is since (either p q) h = elim (or_cases (shows is since p) (shows is since q) h) [
   | inl y ↦ let r = past_shows is since p y in (r.0, inl r.1, r.2)
   | inr y ↦ let r = past_shows is since q y in (r.0, inr r.1, r.2)
 ]
@@ -175,7 +171,7 @@ shows_past is since begins path has h =
 shows_past is since (after w t p) path has h =
     let there : list_any is (seen_since since (stood w t ∷ has.0)) ≡ true = ap (λ q. list_any is (seen_since since q)) (sym has.1) ∙ h in
     elim (cases_Bool (nat_le since t)) [
-      | inl s ↦ elim (or_either (is w) (list_any is (seen_since since has.0)) (rw s at there)) [
+      | inl s ↦ elim (or_cases (is w) (list_any is (seen_since since has.0)) (rw s at there)) [
         | inl y ↦ rw s (or_left_true (is w) (shows is since p) y)
         | inr y ↦ or_right_true (nat_le since t && is w) (shows is since p) (shows_past is since p has.0 has.2 y)
       ]
@@ -216,7 +212,7 @@ module _ (loads : List WatchedLoad) (moment : ℕ) (asked : Each (IsAsked moment
   -- a way that shows what a pair does
   way_shows : (e : Pair) → shown e ≡ true
       → (path : List Stood) × Has e.past path × (list_any (shows_load number k b (way_on loads e path)) (map (watched path) loads) ≡ true)
-  way_shows e h = elim (or_either (is e.word) (shows is l.since e.past) h) [
+  way_shows e h = elim (or_cases (is e.word) (shows is l.since e.past) h) [
     | inl y ↦
         let r = any_way e.past in (
           r.0,
@@ -252,7 +248,7 @@ module _ (loads : List WatchedLoad) (moment : ℕ) (asked : Each (IsAsked moment
     any_got : (es : List Pair) → Each Sound es → list_any shown es ≡ true
         → (m : UnitMemory) × P m × (list_any (got_byte number k b) m.loads ≡ true)
     any_got [] a h = cc
-    any_got (e ∷ es) a h = elim (or_either (shown e) (list_any shown es) h) [
+    any_got (e ∷ es) a h = elim (or_cases (shown e) (list_any shown es) h) [
       | inl t ↦ pair_got e a.0 t
       | inr f ↦ any_got es a.1 f
     ]
@@ -264,7 +260,7 @@ module _ (loads : List WatchedLoad) (moment : ℕ) (asked : Each (IsAsked moment
         let next : List Pair = next_after loads moment never es in
         let each : Each Sound next =
         next_sound loads moment asked Sound (sound_joint loads moment asked P) (sound_kept loads moment asked P closed) never [] es tt a in
-        elim (or_either (list_any shown next) (list_any shown (reached_in loads moment n next))
+        elim (or_cases (list_any shown next) (list_any shown (reached_in loads moment n next))
         (sym (list_any-append shown next (reached_in loads moment n next)) ∙ h)) [
           | inl t ↦ any_got next each t
           | inr f ↦ reached_got n next each f
@@ -278,14 +274,14 @@ module _ (loads : List WatchedLoad) (moment : ℕ) (asked : Each (IsAsked moment
         → list_any (shows_load number k b (way_on loads e path)) (map (watched path) ls) ≡ true → shown e ≡ true
     one_shows e path has [] a h = cc
     one_shows e path has (x ∷ xs) a h =
-        elim (or_either (shows_load number k b (way_on loads e path) (watched path x)) _ h) [
+        elim (or_cases (shows_load number k b (way_on loads e path) (watched path x)) _ h) [
           | inr r ↦ one_shows e path has xs a.1 r
           | inl t ↦
               let p = and_parts (is_under number x) (is e.word || list_any is (seen_since x.since path)) t in
               let same : x ≡ l = a.0 p.0 in
               let there : (is e.word || list_any is (seen_since l.since path)) ≡ true =
               ap (λ (y : WatchedLoad). is e.word || list_any is (seen_since y.since path)) (sym same) ∙ p.1 in
-              elim (or_either (is e.word) (list_any is (seen_since l.since path)) there) [
+              elim (or_cases (is e.word) (list_any is (seen_since l.since path)) there) [
                 | inl y ↦ or_left_true (is e.word) (shows is l.since e.past) y
                 | inr y ↦ or_right_true (is e.word) (shows is l.since e.past) (shows_past is l.since e.past path has y)
               ]
@@ -436,7 +432,7 @@ unit_law image rest history unit u s number alone k b = go (find (is_under numbe
         let n : ℕ = rounds u.pairs in
         let sound : Each (λ e. EachWay u.loads (SoundOn P) e × IsPairBy u.moment e) u.pairs =
         each_both (EachWay u.loads (SoundOn P)) (IsPairBy u.moment) u.pairs s.sound s.timely in (
-          λ h. elim (or_either (list_any (shows_byte l.since k b) u.pairs)
+          λ h. elim (or_cases (list_any (shows_byte l.since k b) u.pairs)
               (list_any (shows_byte l.since k b) (reached_in u.loads u.moment n u.pairs))
               (sym (list_any-append (shows_byte l.since k b) u.pairs (reached_in u.loads u.moment n u.pairs)) ∙ h)) [
                 | inl t ↦ any_got u.loads u.moment s.asked number k b l f P closed u.pairs sound t

@@ -20,14 +20,10 @@ use Rattle.atomic_histories.specs.declared.memory.AtomicMemory.{AtomicMemory}
 use Rattle.atomic_histories.specs.declared.memory.AtomicFault.TheVariants.{Refused, Undecided, OutOfMemory}
 use Rattle.atomic_histories.specs.Judge.{held, place_from, place_in, HasSameMemory, IsTaken, IsForgotten, KeptFaultIs, StepFaultIs}
 use Rattle.atomic_histories.specs.Judge.{StepFaultIsBut}
-use Rattle.atomic_histories.proofs.Links.{open_load}
+use Rattle.atomic_histories.proofs.Links.{open_load, none_is}
 use Rattle.atomic_histories.proofs.Whole.{stands_all_first, stands_all_after, atomic_after, refused_at, only_answers}
 
 -- Malformed events. ----
-
-none_is : {X : Type 0} (o : Option X) → is_none o ≡ true → o ≡ None
-none_is None h = refl
-none_is (Some x) h = cc
 
 pub formed_last : (o : Opened) (history : List HistoryEvent) (event : HistoryEvent) → is_formed o (history ++ event ∷ []) ≡ true
     → form_fault (fold opened_after o history) event ≡ None

@@ -3,7 +3,7 @@ use Rattle.std.proofs.Common.{◌≡◌, ℕ, zero, suc, ◌+◌, ◌/◌, ◌<�
 use Rattle.std.proofs.Common.{nat_le, List, [], ◌∷◌, ◌++◌, map, fold, length, Option, Some, None, is_none, is_some, Result, Ok, Err, OnOk}
 use Rattle.std.proofs.Common.{inl, inr, refl, sym, ap, ◌∙◌, subst, append_assoc, append-nil, leb-true, ltb-true, arith}
 use Rattle.std.specs.List.{list_any, list_all, find}
-use Rattle.std.proofs.lemmas.Bool.{cases_Bool, cases_lt, and_parts, and_from}
+use Rattle.std.proofs.lemmas.Bool.{cases_Bool, cases_lt, and_parts, and_from, or_parts}
 use Rattle.std.proofs.lemmas.List.Folds.{list_all-append}
 use Rattle.memory_histories.specs.declared.events.HistoryEvent.{HistoryEvent}
 use Rattle.memory_histories.specs.declared.events.HistoryEvent.TheVariants.{LoadRequest, LoadResponse, StoreRequest, StoreResponse}
@@ -69,10 +69,6 @@ pub none_from : (start : UnitMemory) (unit : UnitPlace) (history : List HistoryE
 none_from start unit history u s h = no_state start unit u (no_pair u.pairs h) history s
 
 -- The load that is answered. ----
-
-or_parts : (a b : Bool) → (a || b) ≡ false → (a ≡ false) × (b ≡ false)
-or_parts true b h = cc
-or_parts false b h = (refl, h)
 
 -- the loads of a state on a way are under the same numbers as those that are watched
 alone_watched : (number : ℕ) (w : List (Option ℕ)) (path : List Stood) (ls : List WatchedLoad) (ms : List OpenLoad)
@@ -157,7 +153,7 @@ none_done : all_done [] ≡ true
 unfolding all_done
 none_done = refl
 
-then_some : {X : Type 0} (b : Bool) (x : X) → b ≡ true → (if b then Some x else None) ≡ Some x
+pub then_some : {X : Type 0} (b : Bool) (x : X) → b ≡ true → (if b then Some x else None) ≡ Some x
 then_some true x h = refl
 then_some false x h = cc
 

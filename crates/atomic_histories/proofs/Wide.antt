@@ -1,8 +1,8 @@
 -- Where a search would follow more pairs than the limit, the unit may be in as many states that differ.
-use Rattle.std.proofs.Common.{◌≡◌, ℕ, zero, suc, ltb-true, ◌/◌, ◌<◌, ◌≤◌, ◌⊎◌, Bool, true, false, ◌||◌, nat_lt, List, [], ◌∷◌, map, length}
+use Rattle.std.proofs.Common.{◌≡◌, ℕ, zero, suc, ltb-true, ◌/◌, ◌<◌, ◌≤◌, ◌⊎◌, true, false, ◌||◌, nat_lt, List, [], ◌∷◌, map, length}
 use Rattle.std.proofs.Common.{Option, Some, None, inl, inr, refl, sym, ap, ◌∙◌, subst, arith}
 use Rattle.std.specs.List.{find}
-use Rattle.std.proofs.lemmas.Bool.{le-ltb}
+use Rattle.std.proofs.lemmas.Bool.{le-ltb, or_cases}
 use Rattle.memory_histories.specs.declared.events.HistoryEvent.{HistoryEvent}
 use Rattle.memory_histories.specs.declared.events.HistoryEvent.TheVariants.{LoadRequest, LoadResponse, StoreRequest, StoreResponse}
 use Rattle.memory_histories.specs.declared.events.Rest.{Rest}
@@ -25,10 +25,6 @@ use Rattle.atomic_histories.proofs.Apart.{apart_out, apart_next, gathered_apart,
 use Rattle.atomic_histories.proofs.Exact.{SoundOn, state_on}
 use Rattle.atomic_histories.proofs.Whole.{no_pair}
 
-or_either : (a b : Bool) → (a || b) ≡ true → (a ≡ true) ⊎ (b ≡ true)
-or_either true b h = inl refl
-or_either false b h = inr h
-
 -- Pairs and states. ----
 
 length_mapped : {X Y : Type 0} (f : X → Y) (xs : List X) → length (map f xs) ≡ length xs
@@ -48,8 +44,8 @@ module _ (loads : List WatchedLoad) (moment : ℕ) (asked : Each (IsAsked moment
       → is_over limit loads moment n aim out es ≡ true → AreMany limit S
   over_many limit zero aim out es a b s t h = cc
   over_many limit (suc n) aim out es a b s t h =
-      elim (or_either (are_too_many limit es || are_too_many limit out) _ h) [
-        | inl now ↦ elim (or_either (are_too_many limit es) (are_too_many limit out) now) [
+      elim (or_cases (are_too_many limit es || are_too_many limit out) _ h) [
+        | inl now ↦ elim (or_cases (are_too_many limit es) (are_too_many limit out) now) [
           | inl y ↦ (es, y, b, t)
           | inr y ↦ (out, y, a, s)
         ]
@@ -74,7 +70,7 @@ module _ (loads : List WatchedLoad) (moment : ℕ) (asked : Each (IsAsked moment
       let next : List Pair = next_after loads moment never es in
       let t : Each S next =
       next_sound loads moment asked S (sound_joint loads moment asked P) (sound_kept loads moment asked P closed) never [] es tt s in
-      elim (or_either (are_too_many limit next) (is_reach_over limit loads moment n next) h) [
+      elim (or_cases (are_too_many limit next) (is_reach_over limit loads moment n next) h) [
         | inl y ↦ (next, y, apart_next loads moment never [] es tt, t)
         | inr y ↦ reach_many limit n next t y
       ]
@@ -209,18 +205,18 @@ module _ (limit : ℕ) (h : Held) (lost : List ℕ) (history : List HistoryEvent
 
   wide_much : (k : ℕ) (event : HistoryEvent) → is_too_wide limit (unit_at h.size k) (h.words k) (h.units k) event ≡ true → Much k
   wide_much k (LoadRequest number address n) t = cc
-  wide_much k (LoadResponse number bytes) t = elim (or_either (nat_lt MOST_WORDS (h.words k)) _ t) [
+  wide_much k (LoadResponse number bytes) t = elim (or_cases (nat_lt MOST_WORDS (h.words k)) _ t) [
     | inl y ↦ inl (ltb-true MOST_WORDS (h.words k) y)
     | inr y ↦ by_load k number bytes.now y
   ]
   wide_much k (StoreRequest number address bytes enables) t = cc
-  wide_much k (StoreResponse number) t = elim (or_either (nat_lt MOST_WORDS (h.words k)) _ t) [
+  wide_much k (StoreResponse number) t = elim (or_cases (nat_lt MOST_WORDS (h.words k)) _ t) [
     | inl y ↦ inl (ltb-true MOST_WORDS (h.words k) y)
     | inr y ↦ by_store k number y
   ]
 
   reach_wide_much : (k : ℕ) → is_reach_wide limit (h.words k) (h.units k) ≡ true → Much k
-  reach_wide_much k t = elim (or_either (nat_lt MOST_WORDS (h.words k)) _ t) [
+  reach_wide_much k t = elim (or_cases (nat_lt MOST_WORDS (h.words k)) _ t) [
     | inl y ↦ inl (ltb-true MOST_WORDS (h.words k) y)
     | inr y ↦ by_reach k y
   ]

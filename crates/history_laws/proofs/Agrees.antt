@@ -1,5 +1,5 @@
 -- Which operations are open, as both laws count them.
-use Rattle.std.proofs.Common.{◌≡◌, ℕ, Bool, true, false, ◌&&◌, ◌||◌, not, ◌==◌, List, [], ◌∷◌, ◌++◌, map, length, fold, Option, Some, None, inl, inr, refl, sym, ap, ◌∙◌, subst, eqb-true}
+use Rattle.std.proofs.Common.{◌≡◌, ℕ, Bool, true, false, ◌&&◌, ◌||◌, not, ◌==◌, List, [], ◌∷◌, ◌++◌, map, length, fold, None, inl, inr, refl, sym, ap, ◌∙◌, subst, eqb-true}
 use Rattle.std.specs.Prelude.{is_none}
 use Rattle.std.specs.List.{list_any}
 use Rattle.std.proofs.lemmas.Bool.{cases_Bool, and_parts, and_from, eq-eqb}
@@ -19,12 +19,9 @@ use Rattle.history_laws.proofs.Pieces.{Marked, false_true}
 use Rattle.history_laws.proofs.Open.{Loads, loads_more, loads_fewer, load_formed, store_formed, inside_some, marked_after}
 use Rattle.history_laws.proofs.Words.{any_new}
 use Rattle.history_laws.proofs.Fits.{after_cases}
+use Rattle.atomic_histories.proofs.Links.{none_is}
 
 -- Prefixes of a history that isn't malformed. ----
-
-none_is : {X : Type 0} (o : Option X) → is_none o ≡ true → o ≡ None
-none_is None h = refl
-none_is (Some x) h = cc
 
 pub formed_parts : (o : Opened) (history : List HistoryEvent) (event : HistoryEvent) → is_formed o (history ++ event ∷ []) ≡ true
     → (is_formed o history ≡ true) × (form_fault (fold opened_after o history) event ≡ None)

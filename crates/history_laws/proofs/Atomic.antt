@@ -5,11 +5,12 @@ use Rattle.std.specs.Borrow.{Bor}
 use Rattle.std.specs.List.{All, find, list_any}
 use Rattle.std.proofs.lemmas.Bool.{cases_Bool, and_parts}
 use Rattle.std.proofs.lemmas.List.Sums.{fold-append}
+use Rattle.std.proofs.lemmas.List.{same_from_push}
 use Rattle.memory_histories.specs.declared.events.HistoryEvent.{HistoryEvent}
 use Rattle.memory_histories.specs.declared.events.HistoryEvent.TheVariants.{LoadRequest, LoadResponse, StoreRequest, StoreResponse}
 use Rattle.memory_histories.specs.declared.events.Rest.{Rest}
 use Rattle.memory_histories.specs.declared.windows.StoreByte.{StoreByte}
-use Rattle.memory_histories.specs.Windows.{Windows, is_open, is_of, windows_after}
+use Rattle.memory_histories.specs.Windows.{Windows, windows_after}
 use Rattle.memory_histories.specs.Windows as windows
 use Rattle.memory_histories.specs.Regular.{is_inside, has_enabled, load_request_fault, load_response_fault, store_request_fault, store_response_fault, may_return, may_return_byte, fault, regular_run}
 use Rattle.memory_histories.specs.Kept.{Kept, kept_after, IsTimely, StandsFor}
@@ -20,9 +21,10 @@ use Rattle.atomic_histories.specs.Words.{at_unit, initial_byte, stored_byte, byt
 use Rattle.atomic_histories.specs.Operations.{Opened, none_opened, opened_after, opened_by, has_number, form_fault}
 use Rattle.atomic_histories.specs.Law.{OpenLoad, UnitMemory, HiddenStep, MayBe, starts, steps, sees, untouched, is_load, is_got, may_answer_load, may_answer_store, with_load, with_store, without_load, without_store, seen, unit_at, is_formed, IsAtomicAt}
 use Rattle.atomic_histories.specs.Stands.{Each}
-use Rattle.atomic_histories.proofs.Lists.{one_each}
+use Rattle.atomic_histories.proofs.Lists.{one_each, no_snoc, all_each, one_elim}
+use Rattle.atomic_histories.proofs.Links.{none_is}
 use Rattle.history_laws.specs.Laws.{IsByte, ReturnsBytes, IsUnitSize, AtomicIsRegular}
-use Rattle.history_laws.proofs.Lists.{snoc_same, no_snoc, each_all, all_each, one_elim, each_find, each_get}
+use Rattle.history_laws.proofs.Lists.{each_all, each_find, each_get}
 use Rattle.history_laws.proofs.Pieces.{Marked, is_number, IsSome}
 use Rattle.history_laws.proofs.Open.{no_loads, loads_any, loads_under, no_fault, store_formed, answer_formed, marked_after}
 use Rattle.history_laws.proofs.Words.{lane, lane_unit, word_lane, byte_inside}
@@ -37,7 +39,7 @@ pub seen_last : (start : UnitMemory) (unit : UnitPlace) (history : List HistoryE
 seen_last start unit history event xs m starts h = absurd (no_snoc history event (sym h))
 seen_last start unit history event xs m (steps hs k n r step) h = seen_last start unit history event hs k r h
 seen_last start unit history event xs m (sees hs last k n r e) h =
-    let p = snoc_same hs history last event h in
+    let p = same_from_push hs history last event h in
     (k, (n, (subst (λ x. MayBe unit start x k) p.0 r, subst (λ x. seen unit k x ≡ Some n) p.1 e)))
 
 pub moments_before : (image : List ℕ) (rest : Rest) (unit : UnitPlace) (past future : List HistoryEvent) → IsAtomicAt image rest unit (past
@@ -208,10 +210,6 @@ module _ (image : List ℕ) (rest : Rest) (unit : UnitPlace) (j : ℕ) (within :
       (λ l q. allowed_load past n bytes.now k named b small is_b l q.0 q.1)
 
 -- The law. ----
-
-none_is : {X : Type 0} (o : Option X) → is_none o ≡ true → o ≡ None
-none_is None h = refl
-none_is (Some x) h = cc
 
 each_named : (ks : List (Marked ℕ)) (k : Marked ℕ) (n : ℕ) → find (is_number n) ks ≡ Some k → k.operation.number ≡ n
 each_named [] k n h = cc

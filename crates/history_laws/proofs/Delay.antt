@@ -13,8 +13,8 @@ use Rattle.atomic_histories.specs.declared.unit.UnitPlace.{UnitPlace}
 use Rattle.atomic_histories.specs.Words.{at_unit, stored_byte, is_at, is_word_of}
 use Rattle.atomic_histories.specs.Law.{OpenLoad, UnitMemory, HiddenStep, MayBe, starts, steps, sees, done_load, is_load, is_got, may_answer_load, may_answer_store, with_load, with_store, without_load, without_store, seen}
 use Rattle.atomic_histories.specs.Stands.{Each}
-use Rattle.atomic_histories.proofs.Lists.{each_weaker, each_map}
-use Rattle.history_laws.proofs.Lists.{each_split, all_each, each_passes, each_always, false_if}
+use Rattle.atomic_histories.proofs.Lists.{each_weaker, each_map, each_split, all_each}
+use Rattle.history_laws.proofs.Lists.{each_passes, each_always, false_if}
 use Rattle.history_laws.proofs.Pieces.{false_true}
 
 some_same : {X : Type 0} (x y : X) → Some x ≡ Some y → x ≡ y

@@ -18,8 +18,9 @@ use Rattle.atomic_histories.specs.Words.{at_unit, first_byte, initial_byte, stor
 use Rattle.atomic_histories.specs.Law.{OpenLoad, UnitMemory, done_store, done_load, is_store, is_load, may_answer_store, with_load, with_store, without_load, without_store}
 use Rattle.atomic_histories.specs.Stands.{Each, One}
 use Rattle.atomic_histories.proofs.Lists.{each_weaker, each_append, each_map, each_both, one_weaker, one_left, one_last, one_map, one_each}
+use Rattle.atomic_histories.proofs.Lists.{one_filter, each_replace, each_at, all_each}
 use Rattle.history_laws.specs.Laws.{IsByte}
-use Rattle.history_laws.proofs.Lists.{each_all, each_passing, one_filter, one_unfilter, one_split, one_right, one_replace, one_replaced, each_replace, each_at, one_at, one_never, or_more, each_always, any_one, any_none, all_each, false_if, or_true}
+use Rattle.history_laws.proofs.Lists.{each_all, each_passing, one_unfilter, one_split, one_right, one_replace, one_replaced, one_at, one_never, or_more, each_always, any_one, any_none, false_if, or_true}
 use Rattle.history_laws.proofs.Pieces.{Marked, is_number, false_true}
 use Rattle.history_laws.proofs.Words.{lane, lane_written, length_written, lane_unit, stored_new, each_new, IsNewByte, new_byte}
 

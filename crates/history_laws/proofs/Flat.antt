@@ -19,7 +19,7 @@ use Rattle.memory_histories.specs.declared.reasons.Owed.TheVariants as owed
 use Rattle.memory_histories.specs.declared.reasons.StoreName.{StoreName}
 use Rattle.memory_histories.specs.declared.flat.OwedByte.{OwedByte}
 use Rattle.memory_histories.specs.Regular.{is_inside, has_enabled, load_request_fault, load_response_fault, store_request_fault, store_response_fault, wrong_byte, wrong_place}
-use Rattle.memory_histories.specs.Flat.{Flat, initial, with_value, with_bytes, stored, is_paid_by, may_return, is_of, is_open, flat_fault, flat_after, flat_step, flat_run}
+use Rattle.memory_histories.specs.Flat.{Flat, initial, with_value, with_bytes, stored, is_paid_by, may_return, is_of, is_open, flat_fault, flat_after, flat_run}
 use Rattle.memory_histories.specs.Flat as flat
 use Rattle.memory_histories.proofs.Lists.{list_any-kept, list_any-filter}
 use Rattle.atomic_histories.specs.declared.unit.Operation.{Operation}
@@ -29,10 +29,10 @@ use Rattle.atomic_histories.specs.Words.{at_lane, at_unit, first_byte, initial_b
 use Rattle.atomic_histories.specs.Operations.{Opened, none_opened, opened_after, has_number, form_fault}
 use Rattle.atomic_histories.specs.Law.{OpenLoad, UnitMemory, MayBe, starts, steps, sees, untouched, done_store, done_load, is_store, is_load, is_got, may_answer_load, may_answer_store, with_load, with_store, without_load, without_store, unit_at, is_formed}
 use Rattle.atomic_histories.specs.Stands.{Each, One}
-use Rattle.atomic_histories.proofs.Lists.{each_weaker, each_append, one_weaker, one_left, one_last}
+use Rattle.atomic_histories.proofs.Lists.{each_weaker, each_append, one_weaker, one_left, one_last, each_filter, one_filter}
 use Rattle.history_laws.specs.Laws.{FlatIsAtomic, FlatIsRegular}
 use Rattle.history_laws.proofs.Atomic.{atomic_is_regular}
-use Rattle.history_laws.proofs.Lists.{each_filter, each_passing, each_passes, one_filter, any_one, any_none, each_always, false_if, or_true}
+use Rattle.history_laws.proofs.Lists.{each_passing, each_passes, any_one, any_none, each_always, false_if, or_true}
 use Rattle.history_laws.proofs.Pieces.{Marked, is_number, AreDifferent, bytes_of, piece, false_true}
 use Rattle.history_laws.proofs.Open.{Loads, no_loads, loads_any, loads_more, loads_fewer, loads_under, length_bytes, load_formed, inside_some, marked_after}
 use Rattle.history_laws.proofs.Words.{lane_map, zero_plus, lane_word, stored_inside, enabled_first, enabled_next}

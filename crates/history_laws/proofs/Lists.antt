@@ -1,45 +1,16 @@
--- The last event of a list, what holds of each element or of one of them, and tests.
-use Rattle.std.proofs.Common.{◌≡◌, ℕ, zero, suc, Some, slice_get, Bool, true, false, ◌||◌, ◌⊎◌, List, [], ◌∷◌, ◌++◌, map, inl, inr, refl, subst}
+-- What holds of each element of a list or of one of them, and tests.
+use Rattle.std.proofs.Common.{◌≡◌, ℕ, zero, suc, Some, slice_get, Bool, true, false, ◌||◌, ◌⊎◌, List, [], ◌∷◌, ◌++◌, inl, inr, refl, subst}
 use Rattle.std.specs.List.{All, filter, find, list_any, list_all}
 use Rattle.std.proofs.lemmas.Bool.{cases_Bool}
 use Rattle.std.proofs.lemmas.List.Elements.{All-head, All-tail}
 use Rattle.atomic_histories.specs.Stands.{Each, One}
 use Rattle.atomic_histories.proofs.Lists.{one_weaker}
 
--- The last element. ----
-
-pub snoc_same : {X : Type 0} (xs ys : List X) (x y : X) → xs ++ x ∷ [] ≡ ys ++ y ∷ [] → (xs ≡ ys) × (x ≡ y)
-snoc_same [] [] x y h = (refl, cc)
-snoc_same [] (b ∷ []) x y h = cc
-snoc_same [] (b ∷ c ∷ ys) x y h = cc
-snoc_same (a ∷ []) [] x y h = cc
-snoc_same (a ∷ c ∷ xs) [] x y h = cc
-snoc_same (a ∷ xs) (b ∷ ys) x y h =
-    let first : a ≡ b = cc in
-    let others : xs ++ x ∷ [] ≡ ys ++ y ∷ [] = cc in
-    let r = snoc_same xs ys x y others in
-    (λ i. first i ∷ r.0 i, r.1)
-
-pub no_snoc : {X : Type 0} (xs : List X) (x : X) → xs ++ x ∷ [] ≡ [] → ⊥
-no_snoc [] x h = cc
-no_snoc (a ∷ xs) x h = cc
-
 -- Each and one. ----
 
 pub each_all : {X : Type 0} (P : X → Type 0) (xs : List X) → All P xs → Each P xs
 each_all P [] h = tt
 each_all P (x ∷ xs) h = (All-head P x xs h, each_all P xs (All-tail P x xs h))
-
-pub each_split : {X : Type 0} (P : X → Type 0) (xs ys : List X) → Each P (xs ++ ys) → Each P xs × Each P ys
-each_split P [] ys h = (tt, h)
-each_split P (x ∷ xs) ys h = let r = each_split P xs ys h.1 in ((h.0, r.0), r.1)
-
-pub each_filter : {X : Type 0} (P : X → Type 0) (p : X → Bool) (xs : List X) → Each P xs → Each P (filter p xs)
-each_filter P p [] h = tt
-each_filter P p (x ∷ xs) h = elim (cases_Bool (p x)) [
-  | inl e ↦ rw e (h.0, each_filter P p xs h.1)
-  | inr e ↦ rw e (each_filter P p xs h.1)
-]
 
 -- what holds of those that pass
 pub each_passing : {X : Type 0} (P : X → Type 0) (p : X → Bool) (xs : List X) → Each (λ x. p x ≡ true → P x) xs → Each P (filter p xs)
@@ -58,25 +29,12 @@ pub one_right : {X : Type 0} (P : X → Type 0) (xs ys : List X) → One P ys �
 one_right P [] ys h = h
 one_right P (x ∷ xs) ys h = inr (one_right P xs ys h)
 
-pub one_filter : {X : Type 0} (P : X → Type 0) (p : X → Bool) (xs : List X) → One (λ x. P x × (p x ≡ true)) xs → One P (filter p xs)
-one_filter P p [] h = absurd h
-one_filter P p (x ∷ xs) (inl h) = rw h.1 (inl h.0)
-one_filter P p (x ∷ xs) (inr h) = elim (cases_Bool (p x)) [
-  | inl e ↦ rw e (inr (one_filter P p xs h))
-  | inr e ↦ rw e (one_filter P p xs h)
-]
-
 pub one_unfilter : {X : Type 0} (P : X → Type 0) (p : X → Bool) (xs : List X) → One P (filter p xs) → One P xs
 one_unfilter P p [] h = absurd h
 one_unfilter P p (x ∷ xs) h = elim (cases_Bool (p x)) [
   | inl e ↦ let g : One P (x ∷ filter p xs) = (rw e at h) in elim g [ inl a ↦ inl a | inr b ↦ inr (one_unfilter P p xs b) ]
   | inr e ↦ inr (one_unfilter P p xs (rw e at h))
 ]
-
-pub one_unmap : {X Y : Type 0} (f : X → Y) (P : Y → Type 0) (xs : List X) → One P (map f xs) → One (λ x. P (f x)) xs
-one_unmap f P [] h = absurd h
-one_unmap f P (x ∷ xs) (inl p) = inl p
-one_unmap f P (x ∷ xs) (inr h) = inr (one_unmap f P xs h)
 
 -- Tests. ----
 
@@ -96,13 +54,6 @@ any_one p (x ∷ xs) (inr h) = rw (any_one p xs h) (or_true (p x))
 pub any_none : {X : Type 0} (p : X → Bool) (xs : List X) → Each (λ x. p x ≡ false) xs → list_any p xs ≡ false
 any_none p [] h = refl
 any_none p (x ∷ xs) h = rw (h.0, any_none p xs h.1) refl
-
-pub all_each : {X : Type 0} (p : X → Bool) (xs : List X) → list_all p xs ≡ true → Each (λ x. p x ≡ true) xs
-all_each p [] h = tt
-all_each p (x ∷ xs) h = elim (cases_Bool (p x)) [
-  | inl e ↦ (e, all_each p xs (rw e at h))
-  | inr e ↦ let f : false ≡ true = (rw e at h) in cc
-]
 
 pub each_passes : {X : Type 0} (p : X → Bool) (xs : List X) → Each (λ x. p x ≡ true) xs → list_all p xs ≡ true
 each_passes p [] h = refl
@@ -132,15 +83,6 @@ one_replaced P [] x y after (inr h) = inl (inr h)
 one_replaced P (z ∷ before) x y after (inl p) = inl (inl p)
 one_replaced P (z ∷ before) x y after (inr h) = elim (one_replaced P before x y after h) [ inl a ↦ inl (inr a) | inr p ↦ inr p ]
 
-pub each_replace : {X : Type 0} (P : X → Type 0) (before : List X) (x y : X) (after : List X) → (P x → P y) → Each P (before ++ x ∷ after)
-    → Each P (before ++ y ∷ after)
-each_replace P [] x y after f h = (f h.0, h.1)
-each_replace P (z ∷ before) x y after f h = (h.0, each_replace P before x y after f h.1)
-
-pub each_at : {X : Type 0} (P : X → Type 0) (before : List X) (x : X) (after : List X) → Each P (before ++ x ∷ after) → P x
-each_at P [] x after h = h.0
-each_at P (z ∷ before) x after h = each_at P before x after h.1
-
 pub one_at : {X : Type 0} (P : X → Type 0) (before : List X) (x : X) (after : List X) → P x → One P (before ++ x ∷ after)
 one_at P [] x after p = inl p
 one_at P (z ∷ before) x after p = inr (one_at P before x after p)
@@ -158,11 +100,6 @@ pub or_more : (x y z : Bool) → (x || z) ≡ true → ((x || y) || z) ≡ true
 or_more true y z h = refl
 or_more false true z h = refl
 or_more false false z h = h
-
-pub one_elim : {X : Type 0} (P : X → Type 0) (Q : Type 0) (xs : List X) → One P xs → ((x : X) → P x → Q) → Q
-one_elim P Q [] h f = absurd h
-one_elim P Q (x ∷ xs) (inl p) f = f x p
-one_elim P Q (x ∷ xs) (inr h) f = one_elim P Q xs h f
 
 pub each_find : {X : Type 0} (P : X → Type 0) (p : X → Bool) (xs : List X) (x : X) → Each P xs → find p xs ≡ Some x → P x
 each_find P p [] x h e = cc

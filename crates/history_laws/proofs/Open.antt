@@ -12,8 +12,7 @@ use Rattle.memory_histories.proofs.Lists.{list_any-map, filter-map, find-map}
 use Rattle.atomic_histories.specs.declared.unit.Operation.{Operation}
 use Rattle.atomic_histories.specs.Stands.{Each}
 use Rattle.atomic_histories.specs.Operations.{has_number, without_number, answer_fault}
-use Rattle.atomic_histories.proofs.Lists.{each_append}
-use Rattle.history_laws.proofs.Lists.{each_filter}
+use Rattle.atomic_histories.proofs.Lists.{each_append, each_filter}
 use Rattle.history_laws.proofs.Pieces.{Marked, operation_of, is_number, AreDifferent, IsSome, bytes_of, all_bytes, any_bytes, bytes_under, bytes_without, bytes_more, each_paid, different_more, different_fewer, no_wrong_place}
 
 -- Events that aren't malformed. ----

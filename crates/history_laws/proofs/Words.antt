@@ -43,9 +43,6 @@ lane_map g (suc n) i (suc j) h = lane_map g n (i + 1) j (omega arith) ∙ ap g (
 pub lane_unit : (unit : UnitPlace) (f : ℕ → Option ℕ) (j : ℕ) → j < unit.size → j < 8 → lane (at_unit unit f) j ≡ f (unit.first + j)
 lane_unit unit f j h l = lane_map (at_lane unit f) 8 0 j l ∙ (ap (at_lane unit f) (zero_plus j) ∙ rw (lt-ltb j unit.size h) refl)
 
-pub length_unit : (unit : UnitPlace) (f : ℕ → Option ℕ) → length (at_unit unit f) ≡ 8
-length_unit unit f = refl
-
 pub word_lane : (first : ℕ) (ws : List (Option ℕ)) (a : ℕ) (bs : List ℕ) (j : ℕ) → is_word_of first ws a bs ≡ true
     → is_as_it_stood (lane ws j) (byte_for a bs (first + j)) ≡ true
 unfolding is_word_of
