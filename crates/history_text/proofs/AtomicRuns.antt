@@ -8,6 +8,7 @@ use Rattle.memory_histories.specs.declared.events.HistoryFault.TheVariants.{OutO
 use Rattle.memory_histories.specs.declared.events.Rest.{Rest}
 use Rattle.memory_histories.specs.declared.sets.ByteSet.{ByteSet}
 use Rattle.atomic_histories.specs.declared.memory.AtomicMemory.{AtomicMemory}
+use Rattle.atomic_histories.specs.declared.memory.AtomicFault.{AtomicFault}
 use Rattle.atomic_histories.specs.declared.memory.AtomicFault.TheVariants as atomic
 use Rattle.atomic_histories.specs.declared.unit.UnitPlace.{UnitPlace}
 use Rattle.atomic_histories.specs.Operations.{Opened, none_opened, opened_after, opened_by, form_fault}
@@ -18,7 +19,7 @@ use Rattle.atomic_histories.specs.Held.{Held, nothing_held, IsWide, StandsForAll
 use Rattle.atomic_histories.specs.May.{IsSetOf}
 use Rattle.atomic_histories.specs.Judge.{held, limit_of, HasSameMemory, StepFaultIs}
 use Rattle.history_text.specs.Lines.{plain}
-use Rattle.history_text.specs.Laws.{Law}
+use Rattle.history_text.specs.Laws.{Law, JudgeFaultIs, of_atomic}
 use Rattle.history_text.specs.AtomicLaw.{Began, IsTooWide, IsRefused, IsToldSet, law_from, began, law_of, Took}
 
 -- ---- events that are told apart by where their bytes lie alone
@@ -178,7 +179,7 @@ took_still m n after events t same limit = record {
   stands = subst (λ (h : Held). StandsForAll h events) (sym same) t.stands;
 }
 
-pub refused : (m n : AtomicMemory) (events : List HistoryEvent) (event : HistoryEvent) (cause : HistoryFault) → Took m events n
+refused : (m n : AtomicMemory) (events : List HistoryEvent) (event : HistoryEvent) (cause : HistoryFault) → Took m events n
     → StepFaultIs (limit_of n) (held n) events event (atomic.Refused cause) → (law_of m).refuses events (plain event) cause
 refused m n events event cause t (why, broken) =
     let h = held n in
@@ -188,7 +189,7 @@ refused m n events event cause t (why, broken) =
     } in
     subst (λ (b : Began). IsRefused b events (plain event) cause) (same_began h (held m) t.memory) here
 
-pub undecided : (m n : AtomicMemory) (events : List HistoryEvent) (event : HistoryEvent) (address : ℕ) → Took m events n
+undecided : (m n : AtomicMemory) (events : List HistoryEvent) (event : HistoryEvent) (address : ℕ) → Took m events n
     → StepFaultIs (limit_of n) (held n) events event (atomic.Undecided address) → (law_of m).undecides events (plain event) address
 undecided m n events event address t (formed, wide) =
     let h = held n in
@@ -203,6 +204,13 @@ undecided m n events event address t (formed, wide) =
     } in
     subst (λ l. IsTooWide (began (held m)) l events (plain event) address) t.limit
     (subst (λ (b : Began). IsTooWide b (limit_of n) events (plain event) address) (same_began h (held m) t.memory) here)
+
+-- what a fault of a step says of the event, the judge's says of it
+pub faulty : (m n : AtomicMemory) (events : List HistoryEvent) (event : HistoryEvent) (f : AtomicFault) → Took m events n
+    → StepFaultIs (limit_of n) (held n) events event f → JudgeFaultIs (law_of m) events (plain event) (of_atomic f)
+faulty m n events event (atomic.Refused cause) t here = refused m n events event cause t here
+faulty m n events event (atomic.Undecided address) t here = undecided m n events event address t here
+faulty m n events event atomic.OutOfMemory t here = tt
 
 -- ---- the sets of bytes
 

@@ -6,11 +6,13 @@ use Rattle.memory_histories.specs.declared.events.HistoryEvent.{HistoryEvent}
 use Rattle.memory_histories.specs.declared.events.HistoryEvent.TheVariants.{LoadRequest, LoadResponse, StoreRequest, StoreResponse}
 use Rattle.memory_histories.specs.declared.events.HistoryFault.{HistoryFault}
 use Rattle.memory_histories.specs.declared.events.Rest.{Rest}
+use Rattle.memory_histories.specs.declared.events.StepFault.{StepFault}
+use Rattle.memory_histories.specs.declared.events.StepFault.TheVariants as step
 use Rattle.memory_histories.specs.declared.flat.FlatHistory.{FlatHistory}
 use Rattle.memory_histories.specs.Flat.{Flat, opening, flat_fault, flat_after, flat_step, flat_run}
-use Rattle.memory_histories.specs.FlatShown.{shown}
+use Rattle.memory_histories.specs.FlatShown.{shown, FlatFaultIs}
 use Rattle.history_text.specs.Lines.{plain}
-use Rattle.history_text.specs.Laws.{Law}
+use Rattle.history_text.specs.Laws.{Law, JudgeFaultIs, of_step}
 use Rattle.history_text.specs.FlatLaw.{law_from, flat_law, law_of, Took}
 use Rattle.history_text.proofs.Runs.{through}
 
@@ -67,13 +69,20 @@ took_more m n after events event (new, run) step =
 pub took_still : (m n after : FlatHistory) (events : List HistoryEvent) → Took m events n → shown after ≡ shown n → Took m events after
 took_still m n after events (new, run) same = (new, run ∙ ap Some (sym same))
 
-pub refused : (m n : FlatHistory) (events : List HistoryEvent) (event : HistoryEvent) (cause : HistoryFault) → Took m events n
+refused : (m n : FlatHistory) (events : List HistoryEvent) (event : HistoryEvent) (cause : HistoryFault) → Took m events n
     → flat_fault (shown n) event ≡ Some cause → (law_of m).refuses events (plain event) cause
 refused m n events event cause (new, run) here = (shown n, run, plain_fault (shown n) event ∙ here)
 
-pub too_long : (m n : FlatHistory) (events : List HistoryEvent) → Took m events n → (shown n).moment ≡ 18446744073709551615
+too_long : (m n : FlatHistory) (events : List HistoryEvent) → Took m events n → (shown n).moment ≡ 18446744073709551615
     → length events ≡ 18446744073709551615
 too_long m n events (new, run) full = omega (arith, moment_is (shown m) events (shown n) run, new, full)
+
+-- what a fault of a step says of the event, the judge's says of it
+pub faulty : (m n : FlatHistory) (events : List HistoryEvent) (event : HistoryEvent) (f : StepFault) → Took m events n
+    → FlatFaultIs (shown n) event f → JudgeFaultIs (law_of m) events (plain event) (of_step f)
+faulty m n events event (step.Refused cause) took here = refused m n events event cause took here
+faulty m n events event step.TooLong took here = too_long m n events took here.1
+faulty m n events event step.OutOfMemory took here = tt
 
 -- ---- a new judge
 

@@ -46,9 +46,6 @@ read_char {pending = pending} b h ne short few = record {
 
 -- ---- whether a byte ends a line
 
-pub texts_ended : (b : ℕ) (texts : List (List ℕ)) (pending : List ℕ) → b ≡ 10 → texts ++ pending ∷ [] ≡ texts_with b texts pending
-texts_ended b texts pending is = sym (ap (λ x. texts_with x texts pending) is)
-
 pub texts_same : (b : ℕ) (texts : List (List ℕ)) (pending : List ℕ) → b ≢ 10 → texts ≡ texts_with b texts pending
 texts_same b texts pending ne =
     let no : (b == 10) ≡ false = grind (arith, nat_tests) in
@@ -293,8 +290,3 @@ passed_on (Err f) e P same p = subst P (sym same) p
 pub left_less : (pending : List ℕ) (count number : ℕ) → length pending ≤ MAX_PAIR → number < 2 ^ 64 → number ≡ count + 1
     → bytes_left number [] + 1 ≤ bytes_left count pending
 left_less pending count number short fits at = omega (arith, short, fits, at)
-
--- and so does a byte that ends none
-pub left_fewer : (pending : List ℕ) (count b : ℕ) → length pending + 1 ≤ MAX_PAIR
-    → bytes_left count (pending ++ b ∷ []) + 1 ≤ bytes_left count pending
-left_fewer pending count b short = omega (arith, short, length-append pending (b ∷ []))

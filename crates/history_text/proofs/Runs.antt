@@ -6,13 +6,15 @@ use Rattle.memory_histories.specs.declared.events.HistoryEvent.{HistoryEvent}
 use Rattle.memory_histories.specs.declared.events.HistoryEvent.TheVariants.{LoadRequest, LoadResponse, StoreRequest, StoreResponse}
 use Rattle.memory_histories.specs.declared.events.HistoryFault.{HistoryFault}
 use Rattle.memory_histories.specs.declared.events.Rest.{Rest}
+use Rattle.memory_histories.specs.declared.events.StepFault.{StepFault}
+use Rattle.memory_histories.specs.declared.events.StepFault.TheVariants as step
 use Rattle.memory_histories.specs.declared.regular.RegularMemory.{RegularMemory}
 use Rattle.memory_histories.specs.Windows.{Windows, opening, windows_after}
 use Rattle.memory_histories.specs.Regular.{fault, regular_step, regular_run}
 use Rattle.memory_histories.specs.Kept.{Kept, StandsFor}
-use Rattle.memory_histories.specs.Shown.{kept}
+use Rattle.memory_histories.specs.Shown.{kept, StepFaultIs}
 use Rattle.history_text.specs.Lines.{plain}
-use Rattle.history_text.specs.Laws.{Law}
+use Rattle.history_text.specs.Laws.{Law, JudgeFaultIs, of_step}
 use Rattle.history_text.specs.RegularLaw.{regular_law, law_of, Took}
 
 -- ---- an event, wherever its bytes lie
@@ -75,16 +77,23 @@ took_more m n after events event (w, run, stands) step =
 pub took_still : (m n after : RegularMemory) (events : List HistoryEvent) → Took m events n → kept after ≡ kept n → Took m events after
 took_still m n after events (w, run, stands) same = (w, run, subst (λ (k : Kept). StandsFor k w) (sym same) stands)
 
-pub refused : (m n : RegularMemory) (events : List HistoryEvent) (event : HistoryEvent) (cause : HistoryFault) → Took m events n
+refused : (m n : RegularMemory) (events : List HistoryEvent) (event : HistoryEvent) (cause : HistoryFault) → Took m events n
     → ((w : Windows) → StandsFor (kept n) w → fault w event ≡ Some cause) → (law_of m).refuses events (plain event) cause
 refused m n events event cause (w, run, stands) here = (w, run, plain_fault w event ∙ here w stands)
 
-pub too_long : (m n : RegularMemory) (events : List HistoryEvent) (event : HistoryEvent) → Took m events n
+too_long : (m n : RegularMemory) (events : List HistoryEvent) (event : HistoryEvent) → Took m events n
     → ((w : Windows) → StandsFor (kept n) w → (fault w event ≡ None) × (w.moment ≡ 18446744073709551615))
     → length events ≡ 18446744073709551615
 too_long m n events event (w, run, stands) here =
     let at = moment_is (opening (kept m).image (kept m).rest) events w run in
     omega (arith, at, (here w stands).1)
+
+-- what a fault of a step says of the event, the judge's says of it
+pub faulty : (m n : RegularMemory) (events : List HistoryEvent) (event : HistoryEvent) (f : StepFault) → Took m events n
+    → ((w : Windows) → StandsFor (kept n) w → StepFaultIs w event f) → JudgeFaultIs (law_of m) events (plain event) (of_step f)
+faulty m n events event (step.Refused cause) took here = refused m n events event cause took here
+faulty m n events event step.TooLong took here = too_long m n events event took here
+faulty m n events event step.OutOfMemory took here = tt
 
 -- ---- a new judge
 

@@ -3,6 +3,10 @@ use Rattle.std.specs.Prelude.{◌≡◌, ℕ, Option, List, length}
 use Rattle.memory_histories.specs.declared.events.HistoryEvent.{HistoryEvent}
 use Rattle.memory_histories.specs.declared.events.HistoryFault.{HistoryFault}
 use Rattle.memory_histories.specs.declared.sets.ByteSet.{ByteSet}
+use Rattle.memory_histories.specs.declared.events.StepFault.{StepFault}
+use Rattle.memory_histories.specs.declared.events.StepFault.TheVariants as step
+use Rattle.atomic_histories.specs.declared.memory.AtomicFault.{AtomicFault}
+use Rattle.atomic_histories.specs.declared.memory.AtomicFault.TheVariants as atomic
 use Rattle.history_text.specs.declared.judge.JudgeFault.{JudgeFault}
 use Rattle.history_text.specs.declared.judge.JudgeFault.TheVariants.{Refused, Undecided, TooLong, OutOfMemory}
 
@@ -28,3 +32,14 @@ JudgeFaultIs law events event (Refused cause) = law.refuses events event cause
 JudgeFaultIs law events event (Undecided address) = law.undecides events event address
 JudgeFaultIs law events event TooLong = length events ≡ 18446744073709551615
 JudgeFaultIs law events event OutOfMemory = Unit {0}
+
+-- why an event was not taken, by each law's judge, in the words of all of them
+abbrev pub of_step : StepFault → JudgeFault
+of_step (step.Refused cause) = Refused cause
+of_step step.TooLong = TooLong
+of_step step.OutOfMemory = OutOfMemory
+
+abbrev pub of_atomic : AtomicFault → JudgeFault
+of_atomic (atomic.Refused cause) = Refused cause
+of_atomic (atomic.Undecided address) = Undecided address
+of_atomic atomic.OutOfMemory = OutOfMemory

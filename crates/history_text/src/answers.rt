@@ -3,7 +3,7 @@ ghost use Rattle.std.specs.Prelude.{◌≡◌, ◌<◌, ◌++◌, Some, codes};
 ghost use Rattle.std.specs.Fmt.{WritesOnOk};
 ghost use Rattle.std.specs.List.{flat_map};
 ghost use Rattle.trace_text.specs.Fields.{byte_text, hex_digit as digit_of};
-ghost use Rattle.history_text.specs.Answers.{bytes_in_set as set_bytes, joined_bytes, source_text, allowed_text, alternatives_text, overwritten_text, overwritten_there_text, address_text, law_text, kind_text, cause_text, refusal_text, open_text as text_of_open, end_text, verdict_text, verdict_status};
+ghost use Rattle.history_text.specs.Answers.{bytes_in_set as set_bytes, joined_bytes, source_text, allowed_text, alternatives_text, overwritten_text, overwritten_there_text, address_text, law_text, kind_text, cause_text, refusal_text, open_text as text_of_open, verdict_text, verdict_status};
 
 use arrayvec::ArrayVec;
 use memory_histories::ByteSet;
@@ -406,16 +406,26 @@ impl fmt::Display for RefusalCause {
             RefusalCause::NoMoment {
                 address,
                 overwritten,
-            } => {
-                let address = Address(*address);
-                let overwritten = OverwrittenThere(*overwritten);
-                write!(
-                    f,
-                    "returned what stood at no moment in the unit with {address}{overwritten}"
-                )
-            }
+            } => write_no_moment(f, *address, *overwritten),
         }
     }
+}
+
+// What a load returned that stood at no moment in its unit.
+fn write_no_moment<W: fmt::Write>(
+    f: &mut fmt::Formatter<W>,
+    address: u64,
+    overwritten: Option<OverwrittenByte>,
+) -> fmt::Result
+    ensures { WritesOnOk W.write_str_gives f.old result
+        (cause_text (RefusalCause.NoMoment address overwritten)) f.new }
+{
+    let address = Address(address);
+    let overwritten = OverwrittenThere(overwritten);
+    write!(
+        f,
+        "returned what stood at no moment in the unit with {address}{overwritten}"
+    )
 }
 
 /// `line 9: load 7 isn't open`.

@@ -1,6 +1,6 @@
 //! A history is read as it comes, and judged.
 
-ghost use Rattle.std.specs.Prelude.{◌≡◌, ◌<◌, ℕ, List, [], length};
+ghost use Rattle.std.specs.Prelude.{◌≡◌, ◌<◌, [], length};
 ghost use Rattle.history_text.specs.Histories.{HasRead, Judges, ended_by};
 ghost use Rattle.history_text.specs.Notes.{Telling, AreNotesOf, opening_windows};
 ghost use Rattle.history_text.specs.Told.{Begin, law_begun, told_by};

@@ -1,6 +1,6 @@
 //! A judge of histories, event by event.
 
-ghost use Rattle.std.specs.Prelude.{◌≡◌, ℕ, ◌++◌, ◌∷◌, [], List, OnOk, OnErr, IfOk, IfErr};
+ghost use Rattle.std.specs.Prelude.{◌++◌, ◌∷◌, [], List, OnOk, OnErr, IfOk, IfErr};
 ghost use Rattle.memory_histories.specs.declared.events.HistoryEvent.{HistoryEvent as Event};
 ghost use Rattle.history_text.specs.Lines.{plain};
 ghost use Rattle.history_text.specs.Laws.{Law, JudgeFaultIs};
@@ -22,6 +22,36 @@ pub enum JudgeFault {
     TooLong,
     /// There was too little memory.
     OutOfMemory,
+}
+
+impl From<StepFault> for JudgeFault {
+    ghost use Rattle.std.specs.Prelude.{◌≡◌};
+    ghost use Rattle.history_text.specs.Laws.{of_step};
+
+    ghost from_gives = { λ e f. f ≡ of_step e };
+
+    fn from(fault: StepFault) -> JudgeFault {
+        match fault {
+            StepFault::Refused(cause) => JudgeFault::Refused(cause),
+            StepFault::TooLong => JudgeFault::TooLong,
+            StepFault::OutOfMemory => JudgeFault::OutOfMemory,
+        }
+    }
+}
+
+impl From<AtomicFault> for JudgeFault {
+    ghost use Rattle.std.specs.Prelude.{◌≡◌};
+    ghost use Rattle.history_text.specs.Laws.{of_atomic};
+
+    ghost from_gives = { λ e f. f ≡ of_atomic e };
+
+    fn from(fault: AtomicFault) -> JudgeFault {
+        match fault {
+            AtomicFault::Refused(cause) => JudgeFault::Refused(cause),
+            AtomicFault::Undecided { address } => JudgeFault::Undecided { address },
+            AtomicFault::OutOfMemory => JudgeFault::OutOfMemory,
+        }
+    }
 }
 
 /// A judge of histories by one law, event by event.
@@ -67,12 +97,8 @@ impl HistoryJudge for RegularMemory {
     ghost took = { Took };
 
     fn judge(&mut self, event: HistoryEvent) -> Result<(), JudgeFault> {
-        match self.step(event) {
-            Ok(()) => Ok(()),
-            Err(StepFault::Refused(fault)) => Err(JudgeFault::Refused(fault)),
-            Err(StepFault::TooLong) => Err(JudgeFault::TooLong),
-            Err(StepFault::OutOfMemory) => Err(JudgeFault::OutOfMemory),
-        }
+        self.step(event)?;
+        Ok(())
     }
 
     fn allowed(&self, number: u64, address: u64) -> Option<ByteSet> {
@@ -92,12 +118,8 @@ impl HistoryJudge for FlatHistory {
     ghost took = { Took };
 
     fn judge(&mut self, event: HistoryEvent) -> Result<(), JudgeFault> {
-        match self.step(event) {
-            Ok(()) => Ok(()),
-            Err(StepFault::Refused(cause)) => Err(JudgeFault::Refused(cause)),
-            Err(StepFault::TooLong) => Err(JudgeFault::TooLong),
-            Err(StepFault::OutOfMemory) => Err(JudgeFault::OutOfMemory),
-        }
+        self.step(event)?;
+        Ok(())
     }
 
     fn allowed(&self, number: u64, address: u64) -> Option<ByteSet> {
@@ -117,12 +139,8 @@ impl HistoryJudge for AtomicMemory {
     ghost took = { Took };
 
     fn judge(&mut self, event: HistoryEvent) -> Result<(), JudgeFault> {
-        match self.step(event) {
-            Ok(()) => Ok(()),
-            Err(AtomicFault::Refused(fault)) => Err(JudgeFault::Refused(fault)),
-            Err(AtomicFault::Undecided { address }) => Err(JudgeFault::Undecided { address }),
-            Err(AtomicFault::OutOfMemory) => Err(JudgeFault::OutOfMemory),
-        }
+        self.step(event)?;
+        Ok(())
     }
 
     fn allowed(&self, _number: u64, _address: u64) -> Option<ByteSet> {

@@ -1,6 +1,6 @@
 //! A judge, and what the events that it took add up to.
 
-ghost use Rattle.std.specs.Prelude.{◌≡◌, ℕ, ◌+◌, ◌<◌, ◌^◌, ◌++◌, ◌∷◌, [], List, length, not, ◌==◌, Some, None, OnOk, IfOk, IfErr};
+ghost use Rattle.std.specs.Prelude.{◌≡◌, ◌+◌, ◌<◌, ◌^◌, ◌++◌, ◌∷◌, [], List, length, not, ◌==◌, Some, None, OnOk, IfOk, IfErr};
 ghost use Rattle.std.specs.List.{filter};
 ghost use Rattle.memory_histories.specs.declared.events.HistoryEvent.{HistoryEvent as Event};
 ghost use Rattle.history_text.specs.Lines.{seen};

@@ -172,27 +172,10 @@ impl StoreNotes {
         ensures { (t : Telling) (w : Windows) → AreNotesOf self.now t w
             → result ≡ overwritten_in t w load bytes.now place }
     {
-        let found = self.log.unit_reason(
-            unit_bytes(self.unit),
-            load.number,
-            load.address,
-            bytes,
-            place,
-        );
+        let found = self
+            .log
+            .unit_reason(self.unit.bytes(), load.number, load.address, bytes, place);
         overwritten_of(load, bytes, found)
-    }
-}
-
-// How many bytes a unit has.
-fn unit_bytes(unit: UnitSize) -> u64
-    ensures bytes { result ≡ bytes_of unit }
-    ensures some { 0 < result }
-{
-    match unit {
-        UnitSize::One => 1,
-        UnitSize::Two => 2,
-        UnitSize::Four => 4,
-        UnitSize::Eight => 8,
     }
 }
 

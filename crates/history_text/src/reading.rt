@@ -1,6 +1,6 @@
 //! The lines of a history, byte by byte.
 
-ghost use Rattle.std.specs.Prelude.{◌≡◌, ◌≤◌, ◌<◌, ◌+◌, Ok, ℕ, List, [], ◌∷◌, ◌++◌, length, IfSome, IfNone, IfErr, OnOk};
+ghost use Rattle.std.specs.Prelude.{◌≡◌, ◌≤◌, ◌<◌, ◌+◌, Ok, ℕ, List, [], ◌∷◌, ◌++◌, length, IfErr, OnOk};
 ghost use Rattle.trace_text.specs.declared.fault.TheConstants.{MAX_PAIR};
 ghost use Rattle.history_text.specs.Lines.{line_of, seen_by};
 ghost use Rattle.history_text.specs.Operations.{no_counts};

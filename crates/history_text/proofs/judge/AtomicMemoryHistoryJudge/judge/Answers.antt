@@ -1,16 +1,23 @@
-use Rattle.std.proofs.Common.{subst}
-use Rattle.atomic_histories.specs.declared.memory.AtomicFault.{AtomicFault}
-use Rattle.atomic_histories.specs.Judge.{held, limit_of, StepFaultIs}
-use Rattle.history_text.proofs.AtomicRuns.{took_more, refused}
+use Rattle.std.specs.Prelude.{List}
+use Rattle.memory_histories.specs.declared.events.HistoryEvent.{HistoryEvent}
+use Rattle.atomic_histories.specs.declared.memory.AtomicMemory.{AtomicMemory}
+use Rattle.history_text.specs.declared.judge.JudgeFault.{JudgeFault}
+use Rattle.history_text.specs.Lines.{plain}
+use Rattle.history_text.specs.Laws.{JudgeFaultIs, of_atomic}
+use Rattle.history_text.specs.AtomicLaw.{law_of, Took}
+use Rattle.history_text.proofs.AtomicRuns.{took_more, faulty}
+use Rattle.history_text.proofs.LinesRead.{passed_on}
 use Rattle.history_text.proofs.judge.AtomicMemoryHistoryJudge.judge.Goals as goal
 
-pub returns-in-Ok-clause-ok : goal.returns-in-Ok-clause-ok
-returns-in-Ok-clause-ok c start events took =
-    let e = c.in-Ok.ensures in
-    took_more start c.args.self.now c.step.new.self events c.args.event took e.memory e.limit (e.ok events took.stands)
+pub returns-clause-ok : goal.returns-clause-ok
+returns-clause-ok c start events took =
+    let e = c.step.ensures in
+    took_more start c.args.self.now c.step.new.self events c.args.event took e.memory e.limit (c.in_ok-step.ensures.ok events took.stands)
 
-pub returns-in-Err-Refused-clause-fault : goal.returns-in-Err-Refused-clause-fault
-returns-in-Err-Refused-clause-fault c start events took =
+pub returns-in_err-step-clause-fault : goal.returns-in_err-step-clause-fault
+returns-in_err-step-clause-fault c =
     let n = c.args.self.now in
-    let Says : AtomicFault → Type 0 = StepFaultIs (limit_of n) (held n) events c.args.event in
-    refused start n events c.args.event c.in-Err-Refused.fault took (subst Says c.in-Err-Refused.field-0-is (c.in-Err-Refused.ensures.fault events took.stands))
+    let Says : JudgeFault → Type 0 =
+    λ f. (start : AtomicMemory) (events : List HistoryEvent) → Took start events n → JudgeFaultIs (law_of start) events (plain c.args.event) f in
+    passed_on c.from_residual.result (of_atomic c.in_err-step.field-0.0) Says c.from_residual.ensures.1
+    (λ start events took. faulty start n events c.args.event c.in_err-step.field-0.0 took (c.in_err-step.ensures.fault events took.stands))

@@ -1,13 +1,21 @@
-use Rattle.std.proofs.Common.{subst}
-use Rattle.memory_histories.specs.declared.events.StepFault.{StepFault}
-use Rattle.memory_histories.specs.FlatShown.{shown, FlatFaultIs}
-use Rattle.history_text.proofs.FlatRuns.{took_more, too_long}
+use Rattle.std.specs.Prelude.{List}
+use Rattle.memory_histories.specs.declared.events.HistoryEvent.{HistoryEvent}
+use Rattle.memory_histories.specs.declared.flat.FlatHistory.{FlatHistory}
+use Rattle.history_text.specs.declared.judge.JudgeFault.{JudgeFault}
+use Rattle.history_text.specs.Lines.{plain}
+use Rattle.history_text.specs.Laws.{JudgeFaultIs, of_step}
+use Rattle.history_text.specs.FlatLaw.{law_of, Took}
+use Rattle.history_text.proofs.FlatRuns.{took_more, faulty}
+use Rattle.history_text.proofs.LinesRead.{passed_on}
 use Rattle.history_text.proofs.judge.FlatHistoryHistoryJudge.judge.Goals as goal
 
-pub returns-in-Ok-clause-ok : goal.returns-in-Ok-clause-ok
-returns-in-Ok-clause-ok c start events took = took_more start c.args.self.now c.step.new.self events c.args.event took c.in-Ok.ensures.ok
+pub returns-clause-ok : goal.returns-clause-ok
+returns-clause-ok c start events took = took_more start c.args.self.now c.step.new.self events c.args.event took c.in_ok-step.ensures.ok
 
-pub returns-in-Err-TooLong-clause-fault : goal.returns-in-Err-TooLong-clause-fault
-returns-in-Err-TooLong-clause-fault c start events took =
-    let Says : StepFault → Type 0 = FlatFaultIs (shown c.args.self.now) c.args.event in
-    too_long start c.args.self.now events took (subst Says c.in-Err-TooLong.field-0-is c.in-Err-TooLong.ensures.fault).1
+pub returns-in_err-step-clause-fault : goal.returns-in_err-step-clause-fault
+returns-in_err-step-clause-fault c =
+    let n = c.args.self.now in
+    let Says : JudgeFault → Type 0 =
+    λ f. (start : FlatHistory) (events : List HistoryEvent) → Took start events n → JudgeFaultIs (law_of start) events (plain c.args.event) f in
+    passed_on c.from_residual.result (of_step c.in_err-step.field-0.0) Says c.from_residual.ensures.1
+    (λ start events took. faulty start n events c.args.event c.in_err-step.field-0.0 took c.in_err-step.ensures.fault)

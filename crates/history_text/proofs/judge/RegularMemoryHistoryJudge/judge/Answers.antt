@@ -1,15 +1,21 @@
-use Rattle.std.proofs.Common.{subst}
-use Rattle.memory_histories.specs.declared.events.StepFault.{StepFault}
-use Rattle.memory_histories.specs.Windows.{Windows}
-use Rattle.memory_histories.specs.Kept.{StandsFor}
-use Rattle.memory_histories.specs.Shown.{kept, StepFaultIs}
-use Rattle.history_text.proofs.Runs.{took_more, too_long}
+use Rattle.std.specs.Prelude.{List}
+use Rattle.memory_histories.specs.declared.events.HistoryEvent.{HistoryEvent}
+use Rattle.memory_histories.specs.declared.regular.RegularMemory.{RegularMemory}
+use Rattle.history_text.specs.declared.judge.JudgeFault.{JudgeFault}
+use Rattle.history_text.specs.Lines.{plain}
+use Rattle.history_text.specs.Laws.{JudgeFaultIs, of_step}
+use Rattle.history_text.specs.RegularLaw.{law_of, Took}
+use Rattle.history_text.proofs.Runs.{took_more, faulty}
+use Rattle.history_text.proofs.LinesRead.{passed_on}
 use Rattle.history_text.proofs.judge.RegularMemoryHistoryJudge.judge.Goals as goal
 
-pub returns-in-Ok-clause-ok : goal.returns-in-Ok-clause-ok
-returns-in-Ok-clause-ok c start events took = took_more start c.args.self.now c.step.new.self events c.args.event took c.in-Ok.ensures.ok
+pub returns-clause-ok : goal.returns-clause-ok
+returns-clause-ok c start events took = took_more start c.args.self.now c.step.new.self events c.args.event took c.in_ok-step.ensures.ok
 
-pub returns-in-Err-TooLong-clause-fault : goal.returns-in-Err-TooLong-clause-fault
-returns-in-Err-TooLong-clause-fault c start events took =
-    let Says : StepFault → Type 0 = λ f. (w : Windows) → StandsFor (kept c.args.self.now) w → StepFaultIs w c.args.event f in
-    too_long start c.args.self.now events c.args.event took (subst Says c.in-Err-TooLong.field-0-is c.in-Err-TooLong.ensures.fault)
+pub returns-in_err-step-clause-fault : goal.returns-in_err-step-clause-fault
+returns-in_err-step-clause-fault c =
+    let n = c.args.self.now in
+    let Says : JudgeFault → Type 0 =
+    λ f. (start : RegularMemory) (events : List HistoryEvent) → Took start events n → JudgeFaultIs (law_of start) events (plain c.args.event) f in
+    passed_on c.from_residual.result (of_step c.in_err-step.field-0.0) Says c.from_residual.ensures.1
+    (λ start events took. faulty start n events c.args.event c.in_err-step.field-0.0 took c.in_err-step.ensures.fault)
