@@ -6,6 +6,7 @@ use Rattle.memory_histories.specs.declared.events.HistoryFault.{HistoryFault}
 use Rattle.memory_histories.specs.declared.events.Rest.{Rest}
 use Rattle.memory_histories.specs.declared.sets.ByteSet.{ByteSet}
 use Rattle.atomic_histories.specs.declared.memory.AtomicMemory.{AtomicMemory}
+use Rattle.atomic_histories.specs.declared.memory.AtomicFault.{AtomicFault}
 use Rattle.atomic_histories.specs.declared.memory.AtomicFault.TheVariants as atomic
 use Rattle.atomic_histories.specs.Operations.{Opened, none_opened, opened_after, form_fault}
 use Rattle.atomic_histories.specs.Law.{is_formed}
@@ -14,6 +15,8 @@ use Rattle.atomic_histories.specs.Held.{Held, nothing_held, IsWide, StandsBut}
 use Rattle.atomic_histories.specs.May as may
 use Rattle.atomic_histories.specs.Judge.{held, limit_of, HasSameMemory, StepFaultIsBut}
 use Rattle.history_handles.specs.Atomic.{Atomic, opening, with_event, forgetting, IsLawful, IsRefused, IsFormed, IsHeld, followed, IsJudgeOf, IsUndecided, IsUndecidedByte}
+use Rattle.history_handles.specs.Faults.{of_atomic}
+use Rattle.history_handles.specs.Kept.{AtomicFaultIs, NoSetIs}
 
 moved : (h : Held) (a : Atomic) → IsHeld h a → (P : List ℕ → Rest → ℕ → Type 0) → P h.image h.rest h.size → P a.image a.rest a.size
 moved h a k P p =
@@ -51,14 +54,14 @@ still m n a k same limit = record {
   limit = limit ∙ k.limit;
 }
 
-pub refused : (m : AtomicMemory) (a : Atomic) (event : HistoryEvent) (cause : HistoryFault) → IsJudgeOf m a
+refused : (m : AtomicMemory) (a : Atomic) (event : HistoryEvent) (cause : HistoryFault) → IsJudgeOf m a
     → StepFaultIsBut a.lost (limit_of m) (held m) a.events event (atomic.Refused cause) → IsRefused a event cause
 refused m a event cause k t = (
   moved (held m) a k.kept (λ i r s. FaultIsBut a.lost i r s a.events event cause) t.0,
   moved (held m) a k.kept (λ i r s. ¬ (IsAtomicBut a.lost i r s (a.events ++ event ∷ []))) t.1,
 )
 
-pub undecided : (m : AtomicMemory) (a : Atomic) (event : HistoryEvent) (address : ℕ) → IsJudgeOf m a
+undecided : (m : AtomicMemory) (a : Atomic) (event : HistoryEvent) (address : ℕ) → IsJudgeOf m a
     → StepFaultIsBut a.lost (limit_of m) (held m) a.events event (atomic.Undecided address) → IsUndecided a event address
 undecided m a event address k t = record {
   formed = t.0;
@@ -67,19 +70,31 @@ undecided m a event address k t = record {
   wide = subst (λ n. IsWide n (held m) event address) k.limit t.1;
 }
 
+pub faulty : (m : AtomicMemory) (a : Atomic) (event : HistoryEvent) (f : AtomicFault) → IsJudgeOf m a
+    → StepFaultIsBut a.lost (limit_of m) (held m) a.events event f → AtomicFaultIs a event (of_atomic f)
+faulty m a event (atomic.Refused cause) k t = refused m a event cause k t
+faulty m a event (atomic.Undecided address) k t = undecided m a event address k t
+faulty m a event atomic.OutOfMemory k t = t
+
 -- what a load may return
 pub set_found : (m : AtomicMemory) (a : Atomic) (number address : ℕ) (set : Option ByteSet) → IsJudgeOf m a
     → may.IsSetOf a.lost (held m).image (held m).rest (held m).size a.events number address set
     → may.IsSetOf a.lost a.image a.rest a.size a.events number address set
 set_found m a number address set k t = moved (held m) a k.kept (λ i r s. may.IsSetOf a.lost i r s a.events number address set) t
 
-pub wide_byte : (m : AtomicMemory) (a : Atomic) (byte address : ℕ) → IsJudgeOf m a → may.IsWideByte (limit_of m) (held m) byte address
+wide_byte : (m : AtomicMemory) (a : Atomic) (byte address : ℕ) → IsJudgeOf m a → may.IsWideByte (limit_of m) (held m) byte address
     → IsUndecidedByte a byte address
 wide_byte m a byte address k t = record {
   kept = held m;
   is_kept = k.kept;
   wide = subst (λ n. may.IsWideByte n (held m) byte address) k.limit t;
 }
+
+pub no_set : (m : AtomicMemory) (a : Atomic) (byte : ℕ) (f : AtomicFault) → IsJudgeOf m a
+    → may.IsNoVerdict (may.IsWideByte (limit_of m) (held m) byte) f → NoSetIs a byte (of_atomic f)
+no_set m a byte (atomic.Refused cause) k t = absurd t
+no_set m a byte (atomic.Undecided address) k t = wide_byte m a byte address k t
+no_set m a byte atomic.OutOfMemory k t = tt
 
 -- a unit is forgotten
 pub forgot : (m n : AtomicMemory) (a : Atomic) (address : ℕ) → IsJudgeOf m a → HasSameMemory (held n) (held m) → limit_of n ≡ limit_of m

@@ -1,5 +1,7 @@
 -- a mark that isn't 0
 pub mod Nonzero
+-- why an event was not taken
+pub mod StepFaults
 -- the judge of the atomic law
 pub mod AtomicJudge
 pub mod Found

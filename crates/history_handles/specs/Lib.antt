@@ -3,6 +3,7 @@ pub mod Atomic
 pub mod History
 pub mod Rows
 pub mod Session
+pub mod Faults
 -- what is kept of them
 pub mod Kept
 pub mod KeptSession

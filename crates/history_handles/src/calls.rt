@@ -13,8 +13,9 @@ use std::alloc::Global;
 /// A load of `length` bytes from `address` on is requested under this number.
 ///
 /// 0: the history with it is one of its law. 11: it has no byte or more than 64, or runs beyond the
-/// last address. 13: a load is open under the number. 104: the history has 2^64 - 1 events. 101:
-/// there was too little memory. 3: the handle is closed. After each but 0 the history is as it was.
+/// last address. 13: a load is open under the number. 104: the history has 2^64 - 1 events; never by the
+/// atomic law. 101: there was too little memory. 3: the handle is closed. After each but 0 the history
+/// is as it was.
 pub fn load_request(
     alloc: Global,
     handle: &mut HistoryHandle,
@@ -41,9 +42,10 @@ pub fn load_request(
 ///
 /// 0: the history with it is one of its law. 14: no load is open under the number. 15: the load was
 /// requested with another length. 16: the load may not return one of the bytes. 105: there is no
-/// verdict, since too many ways would have to be followed at one of its units ([`undecided`] says at
-/// which, and once it is forgotten there is one); the atomic law alone says so. 104, 101 and 3 as of
-/// [`load_request`]. After each but 0 the history is as it was.
+/// verdict, since too many ways would have to be followed at one of its units, or more than 65,536 words
+/// are kept of what stood there before ([`undecided`] says at which, and once it is forgotten there is
+/// one); the atomic law alone says so. 104, 101 and 3 as of [`load_request`]. After each but 0 the
+/// history is as it was.
 ///
 /// [`undecided`]: crate::undecided
 pub fn load_response(alloc: Global, handle: &mut HistoryHandle, number: u64, bytes: &[u8]) -> u32

@@ -10,7 +10,6 @@ ghost use Rattle.history_reasons.specs.Log.{HasRoom};
 use crate::faults::{ForgetFault, JudgeFault};
 use crate::judge::{Judge, Law};
 use crate::rows::{Operation, row_of};
-use atomic_histories::UnitSize;
 use history_reasons::{FoundReason, StoreLog};
 use memory_histories::{ByteSet, HistoryEvent, Rest};
 use std::alloc::{AllocError, Global};
@@ -221,10 +220,7 @@ fn unit_bytes(law: Law) -> u64
 {
     match law {
         Law::Regular | Law::Flat => 1,
-        Law::Atomic(UnitSize::One) => 1,
-        Law::Atomic(UnitSize::Two) => 2,
-        Law::Atomic(UnitSize::Four) => 4,
-        Law::Atomic(UnitSize::Eight) => 8,
+        Law::Atomic(unit) => unit.bytes(),
     }
 }
 

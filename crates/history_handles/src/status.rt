@@ -32,10 +32,11 @@ pub(crate) const OPEN_ALREADY: u32 = 102;
 /// No law has this number, or no memory begins so; of a unit to be forgotten: the law has none.
 pub(crate) const NO_LAW: u32 = 103;
 
-/// The history has as many events as can be counted.
+/// The history has as many events as can be counted; never by the atomic law.
 pub(crate) const TOO_LONG: u32 = 104;
 
-/// There is no verdict: too many ways would have to be followed at a unit.
+/// There is no verdict: too many ways would have to be followed at a unit, or more than 65,536 words are kept of
+/// what stood there before.
 pub(crate) const UNDECIDED: u32 = 105;
 
 // The number of a fault.

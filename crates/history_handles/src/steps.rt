@@ -1,5 +1,5 @@
 //! The judges' answers by each law, in the words that all laws share.
-ghost use Rattle.std.specs.Prelude.{◌≡◌, None, IfOk, IfErr, OnOk, OnErr};
+ghost use Rattle.std.specs.Prelude.{◌≡◌, None, IfErr, OnOk, OnErr};
 ghost use Rattle.memory_histories.specs.Windows.{Windows, windows_after};
 ghost use Rattle.memory_histories.specs.Regular.{fault};
 ghost use Rattle.memory_histories.specs.Flat.{Flat, flat_fault, flat_after};
@@ -10,10 +10,8 @@ ghost use Rattle.history_handles.specs.Atomic.{Atomic, with_event, forgetting, I
 ghost use Rattle.history_handles.specs.Kept.{ExactFaultIs, AtomicFaultIs, IsExactlyFound, IsAtomicallyFound, IsAtomicSet};
 
 use crate::faults::JudgeFault;
-use atomic_histories::{AtomicFault, AtomicMemory};
-use memory_histories::{
-    ByteSet, FlatHistory, HistoryEvent, HistoryFault, RegularMemory, StepFault,
-};
+use atomic_histories::AtomicMemory;
+use memory_histories::{ByteSet, FlatHistory, HistoryEvent, HistoryFault, RegularMemory};
 use std::alloc::AllocError;
 
 // A fault of a law that finds faults alone.
@@ -40,12 +38,8 @@ pub(crate) fn step_regular(
         → IfErr result (ExactFaultIs (fault w event.entry) w.moment) }
     ensures unchanged { OnErr result (kept memory.new ≡ kept memory.old) }
 {
-    match memory.step(event) {
-        Ok(()) => Ok(()),
-        Err(StepFault::Refused(cause)) => Err(JudgeFault::Refused(cause)),
-        Err(StepFault::TooLong) => Err(JudgeFault::TooLong),
-        Err(StepFault::OutOfMemory) => Err(JudgeFault::OutOfMemory),
-    }
+    memory.step(event)?;
+    Ok(())
 }
 
 // The flat law takes one event.
@@ -59,12 +53,8 @@ pub(crate) fn step_flat(memory: &mut FlatHistory, event: HistoryEvent) -> Result
         → IfErr result (ExactFaultIs (flat_fault f event.entry) f.moment) }
     ensures unchanged { OnErr result (shown memory.new ≡ shown memory.old) }
 {
-    match memory.step(event) {
-        Ok(()) => Ok(()),
-        Err(StepFault::Refused(cause)) => Err(JudgeFault::Refused(cause)),
-        Err(StepFault::TooLong) => Err(JudgeFault::TooLong),
-        Err(StepFault::OutOfMemory) => Err(JudgeFault::OutOfMemory),
-    }
+    memory.step(event)?;
+    Ok(())
 }
 
 // The atomic law takes one event.
@@ -81,12 +71,8 @@ pub(crate) fn step_atomic(memory: &mut AtomicMemory, event: HistoryEvent) -> Res
         → IsJudgeOf memory.old a
         → OnErr result (IsJudgeOf memory.new a) }
 {
-    match memory.step(event) {
-        Ok(()) => Ok(()),
-        Err(AtomicFault::Refused(cause)) => Err(JudgeFault::Refused(cause)),
-        Err(AtomicFault::Undecided { address }) => Err(JudgeFault::Undecided { address }),
-        Err(AtomicFault::OutOfMemory) => Err(JudgeFault::OutOfMemory),
-    }
+    memory.step(event)?;
+    Ok(())
 }
 
 // What it would say of an event.
@@ -98,9 +84,7 @@ pub(crate) fn found_atomic(memory: &AtomicMemory, event: HistoryEvent) -> Option
 {
     match memory.fault(event) {
         None => None,
-        Some(AtomicFault::Refused(cause)) => Some(JudgeFault::Refused(cause)),
-        Some(AtomicFault::Undecided { address }) => Some(JudgeFault::Undecided { address }),
-        Some(AtomicFault::OutOfMemory) => Some(JudgeFault::OutOfMemory),
+        Some(fault) => Some(JudgeFault::from(fault)),
     }
 }
 
@@ -114,12 +98,8 @@ pub(crate) fn set_atomic(
         → IsJudgeOf memory.now a
         → IsAtomicSet a number address result }
 {
-    match memory.byte_may_return(number, address) {
-        Ok(set) => Ok(set),
-        Err(AtomicFault::Refused(cause)) => Err(JudgeFault::Refused(cause)),
-        Err(AtomicFault::Undecided { address }) => Err(JudgeFault::Undecided { address }),
-        Err(AtomicFault::OutOfMemory) => Err(JudgeFault::OutOfMemory),
-    }
+    let set = memory.byte_may_return(number, address)?;
+    Ok(set)
 }
 
 // It forgets the unit in which the byte at an address lies.

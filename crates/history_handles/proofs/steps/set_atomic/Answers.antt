@@ -1,25 +1,15 @@
-use Rattle.std.proofs.Common.{subst}
-use Rattle.atomic_histories.specs.declared.memory.AtomicFault.{AtomicFault}
-use Rattle.atomic_histories.specs.May.{IsNoVerdict, IsWideByte}
-use Rattle.atomic_histories.specs.Judge.{held, limit_of}
-use Rattle.history_handles.proofs.AtomicJudge.{set_found, wide_byte}
+use Rattle.history_handles.specs.Faults.{of_atomic}
+use Rattle.history_handles.specs.Kept.{IsAtomicSet}
+use Rattle.history_handles.proofs.StepFaults.{passed_on}
+use Rattle.history_handles.proofs.AtomicJudge.{set_found, no_set}
 use Rattle.history_handles.proofs.steps.set_atomic.Goals as goal
 
-pub returns-in-Ok : goal.returns-in-Ok
-returns-in-Ok c a k =
-    set_found c.args.memory.now a c.args.number c.args.address c.in-Ok.set k (c.in-Ok.ensures.ok a.lost a.events k.kept.stands)
+pub returns : goal.returns
+returns c a k =
+    set_found c.args.memory.now a c.args.number c.args.address c.in_ok-set.set k (c.in_ok-set.ensures.ok a.lost a.events k.kept.stands)
 
-pub returns-in-Err-Refused : goal.returns-in-Err-Refused
-returns-in-Err-Refused c a k =
-    let m = c.args.memory.now in let e = c.in-Err-Refused in
-    let Says : AtomicFault → Type 0 = IsNoVerdict (IsWideByte (limit_of m) (held m) c.args.address) in
-    absurd (subst Says e.field-0-is e.ensures.fault)
-
-pub returns-in-Err-Undecided : goal.returns-in-Err-Undecided
-returns-in-Err-Undecided c a k =
-    let m = c.args.memory.now in let e = c.in-Err-Undecided in
-    let Says : AtomicFault → Type 0 = IsNoVerdict (IsWideByte (limit_of m) (held m) c.args.address) in
-    wide_byte m a c.args.address e.address k (subst Says e.field-0-is e.ensures.fault)
-
-pub returns-in-Err-OutOfMemory : goal.returns-in-Err-OutOfMemory
-returns-in-Err-OutOfMemory c a k = tt
+pub returns-in_err-set : goal.returns-in_err-set
+returns-in_err-set c a k =
+    let f = c.in_err-set.field-0.0 in
+    passed_on c.from_residual.result (IsAtomicSet a c.args.number c.args.address) (of_atomic f) c.from_residual.ensures.1
+    (no_set c.args.memory.now a c.args.address f k c.in_err-set.ensures.fault)

@@ -1,28 +1,17 @@
-use Rattle.std.proofs.Common.{subst}
-use Rattle.atomic_histories.specs.declared.memory.AtomicFault.{AtomicFault}
-use Rattle.atomic_histories.specs.Judge.{held, limit_of, StepFaultIsBut}
-use Rattle.history_handles.proofs.AtomicJudge.{lawful, taken, refused, undecided}
+use Rattle.std.specs.Prelude.{IfErr}
+use Rattle.history_handles.specs.Faults.{of_atomic}
+use Rattle.history_handles.specs.Kept.{AtomicFaultIs}
+use Rattle.history_handles.proofs.StepFaults.{passed_on}
+use Rattle.history_handles.proofs.AtomicJudge.{lawful, taken, faulty}
 use Rattle.history_handles.proofs.steps.step_atomic.Goals as goal
 
-pub returns-in-Ok-clause-ok : goal.returns-in-Ok-clause-ok
-returns-in-Ok-clause-ok c a k =
-    let m = c.args.memory.now in let t = c.in-Ok.ensures.ok_but a.lost a.events k.kept.stands in
-    (lawful m a c.args.event k t.0, taken m c.step.new.self a c.args.event k c.in-Ok.ensures.memory c.in-Ok.ensures.limit t.1)
+pub returns-clause-ok : goal.returns-clause-ok
+returns-clause-ok c a k =
+    let m = c.args.memory.now in let e = c.step.ensures in let t = c.in_ok-step.ensures.ok_but a.lost a.events k.kept.stands in
+    (lawful m a c.args.event k t.0, taken m c.step.new.self a c.args.event k e.memory e.limit t.1)
 
-pub returns-in-Err-Refused-clause-fault : goal.returns-in-Err-Refused-clause-fault
-returns-in-Err-Refused-clause-fault c a k =
-    let m = c.args.memory.now in let e = c.in-Err-Refused in
-    let Says : AtomicFault → Type 0 = StepFaultIsBut a.lost (limit_of m) (held m) a.events c.args.event in
-    refused m a c.args.event e.cause k (subst Says e.field-0-is (e.ensures.fault_but a.lost a.events k.kept.stands))
-
-pub returns-in-Err-Undecided-clause-fault : goal.returns-in-Err-Undecided-clause-fault
-returns-in-Err-Undecided-clause-fault c a k =
-    let m = c.args.memory.now in let e = c.in-Err-Undecided in
-    let Says : AtomicFault → Type 0 = StepFaultIsBut a.lost (limit_of m) (held m) a.events c.args.event in
-    undecided m a c.args.event e.address k (subst Says e.field-0-is (e.ensures.fault_but a.lost a.events k.kept.stands))
-
-pub returns-in-Err-OutOfMemory-clause-fault : goal.returns-in-Err-OutOfMemory-clause-fault
-returns-in-Err-OutOfMemory-clause-fault c a k =
-    let m = c.args.memory.now in let e = c.in-Err-OutOfMemory in
-    let Says : AtomicFault → Type 0 = StepFaultIsBut a.lost (limit_of m) (held m) a.events c.args.event in
-    subst Says e.field-0-is (e.ensures.fault_but a.lost a.events k.kept.stands)
+pub returns-in_err-step-clause-fault : goal.returns-in_err-step-clause-fault
+returns-in_err-step-clause-fault c a k =
+    let f = c.in_err-step.field-0.0 in
+    passed_on c.from_residual.result (λ r. IfErr r (AtomicFaultIs a c.args.event)) (of_atomic f) c.from_residual.ensures.1
+    (faulty c.args.memory.now a c.args.event f k (c.in_err-step.ensures.fault_but a.lost a.events k.kept.stands))
