@@ -17,7 +17,8 @@ returns-clause-ok c start events took =
 pub returns-in_err-step-clause-fault : goal.returns-in_err-step-clause-fault
 returns-in_err-step-clause-fault c =
     let n = c.args.self.now in
+    let event = plain c.args.event in
     let Says : JudgeFault → Type 0 =
-    λ f. (start : AtomicMemory) (events : List HistoryEvent) → Took start events n → JudgeFaultIs (law_of start) events (plain c.args.event) f in
+    λ f. (start : AtomicMemory) (events : List HistoryEvent) → Took start events n → JudgeFaultIs (law_of start) events event f in
     passed_on c.from_residual.result (of_atomic c.in_err-step.field-0.0) Says c.from_residual.ensures.1
     (λ start events took. faulty start n events c.args.event c.in_err-step.field-0.0 took (c.in_err-step.ensures.fault events took.stands))
