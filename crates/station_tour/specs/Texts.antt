@@ -2,7 +2,7 @@
 use Rattle.std.specs.Prelude.{ℕ, ◌==◌, if◌then◌else◌, List, ◌++◌, Option, Some, None, codes, decimal}
 use Rattle.station_parts.specs.Texts.{renew_fault_text}
 use Rattle.station_tour.specs.declared.fault.StationFault.{StationFault}
-use Rattle.station_tour.specs.declared.fault.StationFault.TheVariants.{CommandLine, Shape, TurnLimit, Renewal, Io, OutOfMemory}
+use Rattle.station_tour.specs.declared.fault.StationFault.TheVariants.{CommandLine, Shape, TurnLimit, Renewal, Journal, Io, OutOfMemory}
 use Rattle.station_tour.specs.declared.rates.Server.{Server}
 use Rattle.station_tour.specs.declared.rates.Server.TheVariants.{Core, Mutex, Hand, Threads, Shared}
 
@@ -12,6 +12,7 @@ station_fault_text (CommandLine fault) = None
 station_fault_text Shape = Some (codes "the shape is out of range")
 station_fault_text TurnLimit = Some (codes "turn limit")
 station_fault_text (Renewal fault) = Some (renew_fault_text fault)
+station_fault_text (Journal fault) = None
 station_fault_text (Io fault) = None
 station_fault_text OutOfMemory = Some (codes "out of memory")
 

@@ -49,8 +49,12 @@ const NAME: &str = "kroft-station";
 // The name of a file that stands for standard output.
 const STANDARD_OUTPUT: &str = "-";
 
+const ASKS_HELP: &str = "How often each port asks, 1 to 4294967295 [default: 12]";
+
 // The most asks of a port that are measured.
 const MEASURED_ASKS: i64 = 10_000;
+
+const MEASURED_ASKS_HELP: &str = "How often each port asks, 1 to 10000 [default: 12]";
 
 // The most threads of a tour: one for the cache side, one for each port and one for each of its four banks.
 const MOST_THREADS: u32 = MAX_PORTS + 5;
@@ -100,13 +104,8 @@ fn flag<'a>(alloc: Global, name: &'a str, help: &'a str) -> Arg<'a> {
 }
 
 // How often each port asks, at most so often.
-fn asks<'a>(alloc: Global, most: i64) -> Arg<'a> {
-    number(
-        alloc,
-        "asks",
-        most,
-        "How often each port asks [default: 12]",
-    )
+fn asks<'a>(alloc: Global, most: i64, help: &'a str) -> Arg<'a> {
+    number(alloc, "asks", most, help)
 }
 
 fn seed<'a>(alloc: Global) -> Arg<'a> {
@@ -114,7 +113,7 @@ fn seed<'a>(alloc: Global) -> Arg<'a> {
         alloc,
         "seed",
         i64::from(u32::MAX),
-        "What the numbers and scripts are drawn by [default: 1]",
+        "What the numbers and scripts are drawn by, 1 to 4294967295 [default: 1]",
     )
 }
 
@@ -123,7 +122,7 @@ fn stations<'a>(alloc: Global) -> Arg<'a> {
         alloc,
         "stations",
         1_000_000,
-        "How many stations are run [default: 4]",
+        "How many stations are run, 1 to 1000000 [default: 4]",
     )
 }
 
@@ -188,7 +187,7 @@ fn soak_arguments<'a>(alloc: Global) -> Result<Vec<Arg<'a>>, AllocError> {
 
 fn rates_arguments<'a>(alloc: Global) -> Result<Vec<Arg<'a>>, AllocError> {
     let mut args = Vec::new(alloc);
-    push_argument(&mut args, asks(alloc, MEASURED_ASKS))?;
+    push_argument(&mut args, asks(alloc, MEASURED_ASKS, MEASURED_ASKS_HELP))?;
     push_argument(&mut args, seed(alloc))?;
     push_argument(&mut args, core_once(alloc))?;
     push_argument(&mut args, hand_once(alloc))?;
@@ -198,7 +197,7 @@ fn rates_arguments<'a>(alloc: Global) -> Result<Vec<Arg<'a>>, AllocError> {
 fn tour_arguments<'a>(alloc: Global) -> Result<Vec<Arg<'a>>, AllocError> {
     let mut args = Vec::new(alloc);
     push_argument(&mut args, ports(alloc))?;
-    push_argument(&mut args, asks(alloc, i64::from(u32::MAX)))?;
+    push_argument(&mut args, asks(alloc, i64::from(u32::MAX), ASKS_HELP))?;
     push_argument(&mut args, seed(alloc))?;
     push_argument(&mut args, threads(alloc))?;
     push_argument(&mut args, journal(alloc))?;

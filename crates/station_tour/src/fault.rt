@@ -17,7 +17,9 @@ pub(crate) enum StationFault {
     TurnLimit,
     /// The station couldn't go on with a new journal.
     Renewal(RenewFault),
-    /// A stream or the clock failed.
+    /// The file or the stream of the journal failed.
+    Journal(io::Error),
+    /// Another stream or the clock failed.
     Io(io::Error),
     /// There was too little memory.
     OutOfMemory,
@@ -37,6 +39,7 @@ impl fmt::Display for StationFault {
             StationFault::Shape => f.write_str("the shape is out of range"),
             StationFault::TurnLimit => f.write_str("turn limit"),
             StationFault::Renewal(fault) => write!(f, "{fault}"),
+            StationFault::Journal(fault) => write!(f, "journal: {fault}"),
             StationFault::Io(fault) => write!(f, "{fault}"),
             StationFault::OutOfMemory => f.write_str("out of memory"),
         }
@@ -50,7 +53,7 @@ impl StationFault {
             StationFault::Renewal(RenewFault::NotClean(_)) => 1,
             StationFault::CommandLine(_) => 2,
             StationFault::Shape => 3,
-            StationFault::Io(_) => 4,
+            StationFault::Journal(_) | StationFault::Io(_) => 4,
             StationFault::TurnLimit | StationFault::Renewal(_) | StationFault::OutOfMemory => 5,
         }
     }

@@ -40,11 +40,19 @@ fn main(rt: HostRuntime) -> ExitCode {
                 }
             }
         Err(fault) => {
-            let _told = eprintln!(rt; "{fault}");
+            let _told = tell_fault(&rt.stderr(), &fault);
             fault.status()
         }
     };
     ExitCode::from(status)
+}
+
+// Tells why the program ends. What is told of the command line has an end of line of its own.
+fn tell_fault<E: Print>(errors: &E, fault: &StationFault) -> io::Result<()> {
+    match fault {
+        StationFault::CommandLine(_) => print!(errors; "{fault}"),
+        _ => println!(errors; "{fault}"),
+    }
 }
 
 // Does what the command line asks for. The status is 1 if something wrong was found.
@@ -115,9 +123,12 @@ fn show_tour<R: AllocGlobal + Clock + Env + Files + Threads + Sync, W: Write, E:
         Show::Story => tour(rt, output, &mut nowhere, errors, plan, threads, pages),
         Show::Journal => tour(rt, &mut nowhere, output, errors, plan, threads, pages),
         Show::StoryAndFile(name) => {
-            let mut file = BufWriter::new(alloc, fs::create(rt, name.as_str())?)?;
+            let journal = fs::create(rt, name.as_str()).map_err(|fault| StationFault::Journal(
+                fault,
+            ))?;
+            let mut file = BufWriter::new(alloc, journal)?;
             let is_good = tour(rt, output, &mut file, errors, plan, threads, pages)?;
-            file.flush()?;
+            file.flush().map_err(|fault| StationFault::Journal(fault))?;
             Ok(is_good)
         }
     }

@@ -155,9 +155,9 @@ fn tell_segment<J: Write, E: Write>(
     pages: Pages,
     segment: &Segment,
     course: &Course,
-) -> io::Result<()> {
+) -> Result<(), StationFault> {
     if pages.journal {
-        tell_journal(journal, &segment.journal)?;
+        tell_journal(journal, &segment.journal).map_err(|fault| StationFault::Journal(fault))?;
     }
     if pages.progress {
         tell_progress(errors, &course.tally, course.took)?;
