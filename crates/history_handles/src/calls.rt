@@ -1,5 +1,5 @@
 //! The events of a history behind a handle.
-ghost use Rattle.std.specs.Prelude.{◌≡◌, None, Option};
+ghost use Rattle.std.specs.Prelude.{Option};
 ghost use Rattle.memory_histories.specs.declared.events.HistoryEvent.TheVariants.{LoadRequest, LoadResponse, StoreRequest, StoreResponse};
 ghost use Rattle.history_handles.specs.Session.{Session};
 ghost use Rattle.history_handles.specs.Behind.{IsBehind};

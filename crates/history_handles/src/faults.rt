@@ -49,7 +49,7 @@ impl From<AtomicFault> for JudgeFault {
 }
 
 /// Why no unit was forgotten.
-#[derive(Clone, Copy, PartialEq, Eq, Debug)]
+#[derive(Clone, Copy)]
 pub(crate) enum ForgetFault {
     /// The law judges each byte for itself, and forgets none.
     NoUnits,
