@@ -48,8 +48,9 @@ pub extern "C" fn kroft_history_free(alloc: Global, handle: &mut HistoryHandle) 
 /// A load of `length` bytes from `address` on is requested under this number.
 ///
 /// 0: the history with it is one of its law. 11: it has no byte or more than 64, or runs beyond the
-/// last address. 13: a load is open under the number. 104: the history has 2^64 - 1 events. 101:
-/// there was too little memory. 3: the handle is closed. After each but 0 the history is as it was.
+/// last address. 13: a load is open under the number. 104: the history has 2^64 - 1 events; never by the
+/// atomic law. 101: there was too little memory. 3: the handle is closed. After each but 0 the history
+/// is as it was.
 #[unsafe(no_mangle)]
 pub extern "C" fn kroft_load_request(
     alloc: Global,
@@ -69,9 +70,10 @@ pub extern "C" fn kroft_load_request(
 ///
 /// 0: the history with it is one of its law. 14: no load is open under the number. 15: the load was
 /// requested with another length. 16: the load may not return one of the bytes. 105: there is no
-/// verdict, since too many ways would have to be followed at one of its units ([`kroft_undecided`] says at
-/// which, and once it is forgotten there is one); the atomic law alone says so. 104, 101 and 3 as of
-/// [`kroft_load_request`]. After each but 0 the history is as it was.
+/// verdict, since too many ways would have to be followed at one of its units, or more than 65,536 words
+/// are kept of what stood there before ([`kroft_undecided`] says at which, and once it is forgotten there is
+/// one); the atomic law alone says so. 104, 101 and 3 as of [`kroft_load_request`]. After each but 0 the
+/// history is as it was.
 #[unsafe(no_mangle)]
 pub extern "C" fn kroft_load_response(
     alloc: Global,
@@ -131,8 +133,9 @@ pub extern "C" fn kroft_store_response(
 ///
 /// 1: `set` is it. 0: no such load asks for that byte. 2: `set` hasn't 32 bytes. 3: the handle is
 /// closed. By the atomic law it is the set of this byte alone, and there may be no verdict: 105 says
-/// that too many ways would have to be followed at its unit, and 101 that there was too little memory.
-/// After each but 1 `set` is as it was; the history is so after each.
+/// that too many ways would have to be followed at its unit, or that more than 65,536 words are kept of
+/// what stood there before, and 101 that there was too little memory. After each but 1 `set` is as it
+/// was; the history is so after each.
 #[unsafe(no_mangle)]
 pub extern "C" fn kroft_may_return(
     alloc: Global,
