@@ -218,6 +218,29 @@ fn flat_takes<R: Abort>(rt: &R, memory: &mut FlatHistory, events: &[HistoryEvent
     }
 }
 
+/// Asserts that a flat memory may return this byte at this address for an open load, and no other.
+fn flat_returns<R: Abort>(rt: &R, memory: &FlatHistory, number: u64, address: u64, wanted: u8) {
+    let set = memory.may_return(number, address);
+    assert!(rt; set.is_some());
+    if let Some(set) = set {
+        for byte in 0..=u8::MAX {
+            assert_eq!(rt; set.contains(byte), byte == wanted, "byte {byte}");
+        }
+    }
+}
+
+/// Asserts that a flat memory has these faults at these events, one after the other, and steps so.
+fn flat_faults<R: Abort>(
+    rt: &R,
+    memory: &mut FlatHistory,
+    rows: &[(HistoryEvent, Option<HistoryFault>)],
+) {
+    for (event, fault) in rows {
+        assert_eq!(rt; memory.fault(*event), *fault);
+        assert_eq!(rt; flat_refusal(rt, memory, *event), *fault);
+    }
+}
+
 /// A load is owed what stood there at its request: a store that is requested before it, answered or
 /// not, and no later one.
 #[test]
@@ -242,13 +265,7 @@ fn effect_at_the_request(rt: HostRuntime) -> Result<(), Fail> {
     assert_eq!(rt; memory.owed(2, PLACE + 2), None);
     assert_eq!(rt; memory.owed(3, PLACE), None);
     flat_takes(&rt, &mut memory, &[store(8, &[0x33, 0x33], 3), stored(8)]);
-    let set = memory.may_return(2, PLACE + 1);
-    assert!(rt; set.is_some());
-    if let Some(set) = set {
-        for byte in 0..=u8::MAX {
-            assert_eq!(rt; set.contains(byte), byte == 0x22, "byte {byte}");
-        }
-    }
+    flat_returns(&rt, &memory, 2, PLACE + 1, 0x22);
     let rows: [(HistoryEvent, Option<HistoryFault>); 6] = [
         (
             loaded(2, &[0x33, 0x33]),
@@ -266,10 +283,7 @@ fn effect_at_the_request(rt: HostRuntime) -> Result<(), Fail> {
         (loaded(1, &[0, 0]), None),
         (stored(7), None),
     ];
-    for (event, fault) in rows {
-        assert_eq!(rt; memory.fault(event), fault);
-        assert_eq!(rt; flat_refusal(&rt, &mut memory, event), fault);
-    }
+    flat_faults(&rt, &mut memory, &rows);
     Ok(())
 }
 
