@@ -90,13 +90,6 @@ record Quiet (taken told : List Told) (loads values : ℕ) : Type 0 where
   all : taken ≡ told
   paid : loads ≡ values
 
--- lists that are one behind the other, and no longer than the first
-same_front : {X : Type 0} (xs ys zs : List X) → xs ++ ys ≡ zs → length zs ≤ length xs → ys ≡ []
-same_front xs ys zs e few =
-    let whole = length-append xs ys in
-    let same = ap length e in
-    nil_from_length ys (omega arith)
-
 port_quiet : (p : ℕ) (script offered : List Ask) (taken : List Told) (entries : List Entry) (loads values : ℕ)
     → Tallies (asks_of p entries) (told_of p entries) loads values → values ≤ loads → IsHeard p script offered taken entries
     → Quiet taken (told_of p entries) loads values

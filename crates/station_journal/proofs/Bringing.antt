@@ -26,12 +26,6 @@ use Rattle.station_journal.specs.Side.{SideTells, IsLost}
 use Rattle.station_journal.proofs.Counting.{reads_few}
 use Rattle.station_journal.proofs.Telling.{tells_word}
 
--- all banks' words, where one bank's are the same and the others' are
-pub all_same : (popped popped' : ℕ → List BankAnswer) (bank : ℕ) → popped' bank ≡ popped bank
-    → ((b : ℕ) → b ≢ bank → popped' b ≡ popped b) → (b : ℕ) → popped' b ≡ popped b
-all_same popped popped' bank here others b =
-    ⊎_elim (λ e. ap popped' e ∙ here ∙ ap popped (sym e)) (others b) (cases_eq b bank)
-
 -- no word was popped
 pub none_popped : (u : UnitState) (sent : ℕ → List Command) (popped popped' : ℕ → List BankAnswer) (fault : Option SideFault)
     (entries : List Entry)

@@ -3,9 +3,8 @@ use Rattle.std.proofs.Common.{◌≡◌, ℕ, ◌+◌, Bool, true, false, cond, 
 use Rattle.std.proofs.lemmas.List.Elements.{filter-append}
 use Rattle.miss_registers.proofs.Tags.{count_by-append}
 use Rattle.station_journal.specs.declared.asks.Ask.{Ask}
-use Rattle.station_journal.specs.declared.asks.Ask.TheVariants.{Done}
 use Rattle.station_journal.specs.declared.asks.Told.{Told}
-use Rattle.station_journal.specs.Conversation.{is_value, verdicts_in, value_count, is_final, accepted_load, accepted_loads, Follows, IsUnderWay, Converses}
+use Rattle.station_journal.specs.Conversation.{is_value, verdicts_in, value_count, is_final, accepted_load, accepted_loads, Follows, IsUnderWay}
 
 -- ---- one verdict more
 
@@ -39,12 +38,6 @@ verdicts-next : (taken : List Told) (told : Told) → is_value told ≡ false
 verdicts-next taken told none =
     filter-append (λ (t : Told). not (is_value t)) taken (told ∷ []) ∙ ap (λ b. verdicts_in taken ++ cond (not b) (told ∷ []) []) none
 
-verdicts-same : (taken : List Told) (told : Told) → is_value told ≡ true → verdicts_in (taken ++ told ∷ []) ≡ verdicts_in taken
-verdicts-same taken told one =
-    filter-append (λ (t : Told). not (is_value t)) taken (told ∷ [])
-    ∙ ap (λ b. verdicts_in taken ++ cond (not b) (told ∷ []) []) one
-    ∙ append-nil (verdicts_in taken)
-
 value-one : (told : Told) → value_count (told ∷ []) ≡ cond {A = ℕ} (is_value told) 1 0
 value-one told = go (is_value told)
   where
@@ -56,23 +49,6 @@ values-next : (taken : List Told) (told : Told) → value_count (taken ++ told �
 values-next taken told = count_by-append is_value taken (told ∷ []) ∙ ap (λ n. value_count taken + n) (value-one told)
 
 -- ---- the steps of a port
-
--- it has offered nothing and was told nothing
-pub under_way_at_first : (script : List Ask) → IsUnderWay script script [] 0 0 [] []
-under_way_at_first script =
-    record { asked = []; offered_is = refl; follows = refl; loads_are = refl; values_are = refl }
-
--- it offers an ask, where none is unjudged
-pub under_way_offered : (script left : List Ask) (loads values : ℕ) (offered : List Ask) (taken : List Told) (ask : Ask)
-    → IsUnderWay script left [] loads values offered taken → IsUnderWay script left (ask ∷ []) loads values (offered ++ ask ∷ []) taken
-under_way_offered script left loads values offered taken ask h =
-    record {
-      asked = h.asked;
-      offered_is = ap (λ l. l ++ ask ∷ []) (h.offered_is ∙ append-nil h.asked);
-      follows = h.follows;
-      loads_are = h.loads_are;
-      values_are = h.values_are;
-    }
 
 -- it is told a verdict on its ask
 pub under_way_judged : (script more : List Ask) (ask : Ask) (loads values : ℕ) (offered : List Ask) (taken : List Told) (verdict : Told)
@@ -90,30 +66,4 @@ under_way_judged script more ask loads values offered taken verdict none h =
       follows = subst (λ v. Follows script (h.asked ++ ask ∷ []) v (cond (is_final verdict) more (ask ∷ more))) (sym verdicts) follows;
       loads_are = ap (accepted_loads (h.asked ++ ask ∷ [])) verdicts ∙ more_loads ∙ ap (λ n. n + accepted_load ask verdict) h.loads_are;
       values_are = omega (arith, h.values_are);
-    }
-
--- it is told a value
-pub under_way_valued : (script left unjudged : List Ask) (loads values : ℕ) (offered : List Ask) (taken : List Told) (told : Told)
-    → is_value told ≡ true → IsUnderWay script left unjudged loads values offered taken
-    → IsUnderWay script left unjudged loads (values + 1) offered (taken ++ told ∷ [])
-under_way_valued script left unjudged loads values offered taken told one h =
-    let verdicts = verdicts-same taken told one in
-    let more_values = values-next taken told ∙ ap (λ b. value_count taken + cond {A = ℕ} b 1 0) one in
-    record {
-      asked = h.asked;
-      offered_is = h.offered_is;
-      follows = subst (λ v. Follows script h.asked v left) (sym verdicts) h.follows;
-      loads_are = ap (accepted_loads h.asked) verdicts ∙ h.loads_are;
-      values_are = omega (arith, h.values_are);
-    }
-
--- its script is through, it has offered Done, and it was told as many values as loads were accepted
-pub under_way_ended : (script : List Ask) (loads values : ℕ) (offered : List Ask) (taken : List Told) → loads ≡ values
-    → IsUnderWay script [] (Done ∷ []) loads values offered taken → Converses script offered taken
-under_way_ended script loads values offered taken same h =
-    record {
-      asked = h.asked;
-      offered_is = h.offered_is;
-      follows = h.follows;
-      answered = h.values_are ∙ sym same ∙ sym h.loads_are;
     }

@@ -1,6 +1,6 @@
 -- What a cache side's journal says stays true with each step, and where the banks are at hand it is
 -- true of them.
-use Rattle.std.proofs.Common.{◌≡◌, ◌≢◌, ℕ, zero, suc, ◌+◌, ◌<◌, ◌≤◌, Bool, true, false, cond, ◌==◌, nat_lt, List, [], ◌∷◌, ◌++◌, length, slice_get, Option, Some, None, refl, sym, ap, ap₂, ◌∙◌, subst, arith, append-nil, length-append, eq-eqb, lt-ltb, ◌⊎◌, inl, inr}
+use Rattle.std.proofs.Common.{◌≡◌, ◌≢◌, ℕ, zero, suc, ◌+◌, ◌<◌, ◌≤◌, cond, ◌==◌, List, [], ◌∷◌, ◌++◌, length, slice_get, Option, Some, None, refl, sym, ap, ap₂, ◌∙◌, subst, arith, append-nil, length-append, eq-eqb, lt-ltb, ◌⊎◌, inl, inr}
 use Rattle.std.specs.List.{count_by}
 use Rattle.std.proofs.lemmas.Bool.{cases_eq, ne_eqb}
 use Rattle.flat_model.specs.declared.Event.{Event}
@@ -12,7 +12,7 @@ use Rattle.memory_banks.specs.declared.BankAnswer.{BankAnswer}
 use Rattle.memory_banks.specs.Banks.{answers_to, commands_for}
 use Rattle.memory_banks.specs.Memory.{is_read}
 use Rattle.cache_unit.specs.declared.Sizes.{Sizes}
-use Rattle.cache_unit.specs.State.{Cache, opening_cache}
+use Rattle.cache_unit.specs.State.{Cache}
 use Rattle.cache_unit.specs.Steps.{Stepped, arrive_step}
 use Rattle.machine_core.specs.Law.{IsLawful}
 use Rattle.station_journal.specs.declared.journal.Source.{Source}
@@ -27,20 +27,6 @@ use Rattle.station_journal.proofs.Knowing.{walks-append, walks_same, come-more, 
 use Rattle.station_journal.proofs.Standing.{answers_to-append}
 use Rattle.station_journal.proofs.Recording.{Recorded, arrive_recorded}
 use Rattle.station_journal.proofs.Walking.{walk_is_flat, fit_as, led_as}
-
--- ---- the beginning
-
-pub tells_nothing : (z : Sizes) → SideTells z (opening_cache z) (λ b. []) (λ b. []) None []
-tells_nothing z =
-    record {
-      stand = opening_stand z;
-      come = λ b. [];
-      walks = refl;
-      unit = refl;
-      commands = λ b l. refl;
-      words = λ b l. refl;
-      all = λ b. refl;
-    }
 
 -- ---- a step
 
