@@ -7,20 +7,7 @@ use Rattle.rtrb.proofs.consumer.Consumer.TheSendSync as consumer
 use Rattle.station_journal.proofs.asks.Ask.TheSendSync as ask
 use Rattle.station_journal.proofs.asks.Told.TheSendSync as told
 use Rattle.std.proofs.alloc.Global.TheSendSync as global
-use Rattle.station_parts.specs.contracts.port.Port.{the_row, the_field}
-
-pub port_sent : IsSend the_row
-port_sent =
-    search (
-      sendable,
-      crosses,
-      producer.the_field_send,
-      consumer.the_field_send,
-      ask.the_send,
-      told.the_send,
-      any.the_send,
-      global.the_send,
-    ) depth 40
+use Rattle.station_parts.specs.contracts.port.Port.{the_field}
 
 -- the same where it is a field
 pub port_field_sent : IsSend the_field.row

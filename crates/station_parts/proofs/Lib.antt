@@ -14,5 +14,4 @@ pub mod ReplySteps
 pub mod Auditing
 pub mod FreeSlots
 pub mod Renewing
-pub mod PortAsking
 pub mod Crossing

@@ -1,10 +1,10 @@
 -- A renewal: what was audited stays as it was found, but for the journal and the ports' leave to offer again.
-use Rattle.std.proofs.Common.{◌≡◌, ℕ, ◌+◌, ◌<◌, ◌≤◌, Bool, cond, false, List, [], ◌∷◌, ◌++◌, map, length, position, slice_index_or, Option, Some, None, refl, sym, ap, ap₂, ◌∙◌, subst, append-nil, append_assoc, length-append, arith}
+use Rattle.std.proofs.Common.{◌≡◌, ℕ, ◌+◌, ◌<◌, ◌≤◌, cond, false, List, [], ◌∷◌, ◌++◌, map, length, position, slice_index_or, Option, Some, refl, sym, ap, ap₂, ◌∙◌, subst, append-nil, append_assoc, length-append, arith}
 use Rattle.std.specs.List.{All, position_from}
 use Rattle.std.proofs.lemmas.Iterator.Adapters.{position_from-zero}
 use Rattle.std.specs.Global.{Vec}
 use Rattle.std.specs.declared.alloc.Global.{Global}
-use Rattle.rtrb.specs.Ring.{sent, known_items}
+use Rattle.rtrb.specs.Ring.{known_items}
 use Rattle.rtrb.specs.declared.consumer.Consumer.{Consumer}
 use Rattle.rtrb.specs.declared.AnyItems.{AnyItems}
 use Rattle.memory_banks.specs.declared.BankAnswer.{BankAnswer}
@@ -17,14 +17,12 @@ use Rattle.station_parts.specs.declared.bank.BankSide.{BankSide}
 use Rattle.station_parts.specs.declared.parts.CacheSide.{CacheSide}
 use Rattle.station_parts.specs.declared.parts.Audit.{Audit}
 use Rattle.station_parts.specs.Segments.{whole_of}
-use Rattle.station_parts.specs.Ids.{port_id, cache_id}
-use Rattle.station_parts.specs.Rings.{pops_from, pushes_to}
-use Rattle.station_parts.specs.Ids.{line_ring}
-use Rattle.station_parts.specs.Rows.{received_at, pushed_at, room_at, sent_at, free_at, popped_at, come_to, sent_over}
-use Rattle.station_parts.specs.Words.{offered, offered_before, taken, has_ended, known_tellings, known_commands, told_in_all, known_places, earlier_of, held_of, journal_of}
+use Rattle.station_parts.specs.Ids.{port_id}
+use Rattle.station_parts.specs.Rows.{received_at, pushed_at, room_at, sent_at, free_at, popped_at}
+use Rattle.station_parts.specs.Words.{offered, offered_before, taken, has_ended, known_tellings, known_commands, known_places, earlier_of, held_of, journal_of}
 use Rattle.station_parts.specs.Promises.{AreWhole}
-use Rattle.station_parts.specs.Audited.{IsSeen, AreAtMost, LeavesCache, LeavesPorts, holds_item, first_ring, finding, audit_of}
-use Rattle.station_parts.specs.Renewed.{noted_after, GoesOn, RenewsCache, ResumesPorts}
+use Rattle.station_parts.specs.Audited.{AreAtMost, LeavesCache, LeavesPorts, holds_item, first_ring, finding, audit_of}
+use Rattle.station_parts.specs.Renewed.{GoesOn, RenewsCache, ResumesPorts}
 use Rattle.station_parts.proofs.Looking.{row_length}
 
 -- one segment more
@@ -93,28 +91,7 @@ whole_still entries looked new ids offers takes whole =
 -- ---- the cache side
 
 module _ {W B R D : ℕ} where
-  pub noted_still : (old new : CacheSide W B R D) → cache_id new ≡ cache_id old → journal_of new ≡ journal_of old
-      → noted_after new ≡ noted_after old
-  noted_still old new ids journal = ap₂ (λ js n. length js + n) journal (ap (λ i. i.limit) ids)
-
   module _ (looked new : CacheSide W B R D) (rest : GoesOn looked new) where
-    pub id_goes_on : cache_id new ≡ cache_id looked
-    id_goes_on =
-        let asks = rest.asks in
-        let tellings = rest.tellings in
-        let row = rest.row in
-        let answers = rest.answers in
-        let unit = rest.unit in
-        let limit = rest.limit in
-        λ i. record {
-          asks = map pops_from (asks i).items;
-          told = map pushes_to (tellings i).items;
-          commands = map line_ring (row i).lines.items;
-          answers = map pops_from (answers i).items;
-          sizes = (unit i).sizes;
-          limit = limit i;
-        }
-
     pub journal_goes_on : earlier_of new ≡ journal_of looked → held_of new ≡ [] → journal_of new ≡ journal_of looked
     journal_goes_on earlier held = ap₂ (λ xs ys. xs ++ ys) earlier held ∙ append-nil (journal_of looked)
 
@@ -139,16 +116,6 @@ module _ {W B R D : ℕ} where
         }
 
     module _ (ports again : List Port) (banks : List BankSide) where
-      pub seen_still : map offered again ≡ map offered ports → map told_in_all again ≡ map told_in_all ports
-          → IsSeen looked ports banks → IsSeen new again banks
-      seen_still offers tells seen =
-          record {
-            asks = ap (λ a. map come_to a.items) rest.asks ∙ seen.asks ∙ sym offers;
-            told = tells ∙ seen.told ∙ sym (ap (λ t. map sent t.items) rest.tellings);
-            commands = seen.commands ∙ sym (ap (λ r. map sent_over r.lines.items) rest.row);
-            answers = ap (λ a. map come_to a.items) rest.answers ∙ seen.answers;
-          }
-
       abbrev found_with : Option SideFault → List (Consumer Ask Global AnyItems) → Option ℕ → List (Consumer BankAnswer Global AnyItems)
           → Cache → Audit
       found_with fault asks told answers cache =

@@ -1,21 +1,12 @@
 -- Looks, and none, at the far ends of rings.
-use Rattle.std.proofs.Common.{◌≡◌, ℕ, List, [], ◌++◌, refl, sym, ap, ◌∙◌, subst, append-nil, append_assoc, arith}
+use Rattle.std.proofs.Common.{ℕ, List, [], ◌++◌, sym, ap, ◌∙◌, subst, append-nil, append_assoc}
 use mathlib.Core.List.{IsPrefix}
 use Rattle.std.specs.declared.alloc.Global.{Global}
-use Rattle.rtrb.specs.Ring.{received, known_items, ConsumerLooked, ProducerLooked}
 use Rattle.rtrb.specs.declared.consumer.Consumer.{Consumer}
-use Rattle.rtrb.specs.declared.producer.Producer.{Producer}
 use Rattle.rtrb.specs.declared.AnyItems.{AnyItems}
-use Rattle.station_parts.specs.Rows.{received_at, known_at, only, PopsAt}
+use Rattle.station_parts.specs.Rows.{received_at, known_at, PopsAt}
 use Rattle.station_parts.proofs.Rows.{only-none}
 use Rattle.station_parts.proofs.SideMakes.{popped_none, known_more}
-
--- an end that doesn't look knows what it knew
-pub items_unseen : {T : Type 0} (c : Consumer T Global AnyItems) → ConsumerLooked c c
-items_unseen c = (((refl, refl, refl, refl), refl), refl, ([], append-nil (known_items c)))
-
-pub places_unseen : {T : Type 0} (p : Producer T Global AnyItems) → ProducerLooked p p
-places_unseen p = (((refl, refl, refl, refl), refl), refl, omega arith)
 
 pub prefix_steps : {T : Type 0} (xs ys zs : List T) → IsPrefix xs ys → IsPrefix ys zs → IsPrefix xs zs
 prefix_steps xs ys zs (more, p) (rest, q) = (more ++ rest, sym (append_assoc xs more rest) ∙ ap (λ l. l ++ rest) p ∙ q)

@@ -8,7 +8,7 @@ use rtrb::{Consumer, Producer};
 
 /// When an end looks at its far end before it is used. A look costs the more the more often the far
 /// end moves, since what it reads was written by another processor.
-#[derive(Clone, Copy, PartialEq, Eq, Debug)]
+#[derive(Clone, Copy, PartialEq, Eq)]
 pub(crate) enum Look {
     /// Before each use.
     First,
