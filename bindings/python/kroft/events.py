@@ -4,6 +4,7 @@ import struct
 from dataclasses import dataclass
 from typing import Dict, Union
 
+from .data import Buffer, bytes_of
 from .errors import Cause
 
 
@@ -159,10 +160,11 @@ def answer_of(row: bytes) -> Answer:
     return plain[kind]
 
 
-def _word(word: bytes) -> bytes:
-    if len(word) != 4:
-        raise ValueError(f"a word is four bytes, not {len(word)}")
-    return bytes(word)
+def _word(word: Buffer) -> bytes:
+    data = bytes_of(word)
+    if len(data) != 4:
+        raise ValueError(f"a word is four bytes, not {len(data)}")
+    return data
 
 
 def _row(form: struct.Struct, *members: object) -> bytes:

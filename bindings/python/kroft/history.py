@@ -3,16 +3,15 @@
 import ctypes as c
 import enum
 from types import TracebackType
-from typing import FrozenSet, List, NamedTuple, Optional, Type, Union
+from typing import FrozenSet, List, NamedTuple, Optional, Type
 
+from .data import Buffer, bytes_of
 from .errors import Access, Closed, KroftError, Unanswered
 from .library import HandleRow, OperationRow, ReasonRow, library
 
 _LAWFUL, _FOUND, _CLOSED, _WRONG_BYTE, _OUT_OF_MEMORY, _NO_LAW, _UNDECIDED = 0, 1, 3, 16, 101, 103, 105
 _FIRST_OVERWRITTEN, _STORE_OVERWRITTEN = 2, 3
 _SET_BYTES = 32
-
-Buffer = Union[bytes, bytearray, memoryview]
 
 
 class Law(enum.IntEnum):
@@ -103,7 +102,7 @@ class History:
         if self.unit not in ((1, 2, 4, 8) if self.law == Law.ATOMIC else (1,)):
             raise ValueError(f"no unit of the {self.law.name.lower()} law: {self.unit}")
         self._library = library()
-        data = bytes(image)
+        data = bytes_of(image)
         opened = (self.law, self.unit, int(unknown), c.c_char_p(data), len(data))
         status = self._library.kroft_history_open(c.byref(self._handle), *opened)
         if status == _OUT_OF_MEMORY:
@@ -116,7 +115,7 @@ class History:
 
     def load_response(self, number: int, data: Buffer) -> None:
         """The load that is open under the number is answered with these bytes."""
-        got = bytes(data)
+        got = bytes_of(data)
         event = f"load {number} returns {got.hex()}"
         try:
             self._tell(event, "kroft_load_response", number, c.c_char_p(got), len(got))
@@ -127,7 +126,7 @@ class History:
 
     def store_request(self, number: int, address: int, data: Buffer, enables: Optional[int] = None) -> None:
         """A store of the bytes whose enable is set is requested: bit `k` of `enables` is that of byte `k`; none: all are."""
-        stored = bytes(data)
+        stored = bytes_of(data)
         mask = 2**64 - 1 if enables is None else enables
         event = f"store {number} of {len(stored)} bytes at {address:#x}"
         self._tell(event, "kroft_store_request", number, address, c.c_char_p(stored), len(stored), mask)

@@ -7,8 +7,9 @@ under tags, as the library does.
 import ctypes as c
 import struct
 from types import TracebackType
-from typing import Callable, Container, Dict, Iterator, List, NamedTuple, Optional, Tuple, Type, Union
+from typing import Callable, Container, Dict, Iterator, List, NamedTuple, Optional, Tuple, Type
 
+from .data import Buffer, bytes_of
 from .errors import Access, NotFlat, Reason, Unanswered
 from .events import Answer, Event, Value, answer_row, event_row
 from .library import TAGS, Due, Word, fast_step, library
@@ -34,8 +35,6 @@ _TAKEN, _ACCEPTED = _EVENT(8, 0, 0, 0, 0, b""), _ANSWER(0, 0, 0, b"")
 _PAGE_WORDS, _TABLE_SIZE = c.c_size_t(PAGE_BYTES // 4), c.c_size_t(TAGS)
 _LANES = [[lane for lane in range(_WORD) if mask >> lane & 1] for mask in range(16)]  # the bytes of a mask
 
-BytesLike = Union[bytes, bytearray, memoryview]
-
 
 class StepJudge:
     """The judge of one step at a time, over a memory of words: `image` has four bytes for each.
@@ -45,12 +44,13 @@ class StepJudge:
     >>> judge.step(Take(), Value(tag=7, word=bytes(4)))
     """
 
-    def __init__(self, image: BytesLike) -> None:
-        if len(image) % _WORD:
+    def __init__(self, image: Buffer) -> None:
+        words = bytes_of(image)
+        if len(words) % _WORD:
             raise ValueError("an image has four bytes for each word")
         self._library = library()
-        self._words = (c.c_char * max(len(image), 1)).from_buffer_copy(bytes(image) or b"\0")
-        self._count = len(image) // _WORD
+        self._words = (c.c_char * max(len(words), 1)).from_buffer_copy(words or b"\0")
+        self._count = len(words) // _WORD
         self._due = (Due * TAGS)()
 
     def step(self, event: Event, answer: Answer) -> None:
@@ -89,7 +89,7 @@ class StepJudge:
         rows = event_row(event), answer_row(answer)
         number = self._library.kroft_flat_why(self._words, self._count, self._due, TAGS, *rows, c.byref(right))
         if number == _WRONG_WORD and isinstance(answer, Value):
-            return NotFlat(Reason.WRONG_DATA, owed=bytes(right), got=answer.word)
+            return NotFlat(Reason.WRONG_DATA, owed=bytes(right), got=bytes_of(answer.word))
         return NotFlat(_REASONS.get(number, Reason.BROKEN_LIBRARY))
 
 
@@ -149,15 +149,16 @@ class FlatJudge:
         self._check(access, self._loads)
         self._loads[id] = _Owed(access, [self._load_word(part) for part in self._parts(access)])
 
-    def value(self, id: object, data: BytesLike) -> None:
+    def value(self, id: object, data: Buffer) -> None:
         """A load's value came, as many bytes as it asked for. NotFlat: WRONG_DATA, and the load has its answer and its
         id is free; or NOTHING_OWED."""
-        load = self._end_load(id, data)
-        owed = bytearray(data)
+        got = bytes_of(data)
+        load = self._end_load(id, len(got))
+        owed = bytearray(got)
         for part, table, tag in load.parts:
-            self._take_word(part, table, tag, data, owed)
-        if owed != data:
-            raise NotFlat(Reason.WRONG_DATA, load.access, bytes(owed), bytes(data))
+            self._take_word(part, table, tag, got, owed)
+        if owed != got:
+            raise NotFlat(Reason.WRONG_DATA, load.access, bytes(owed), got)
 
     def failed_load(self, id: object) -> None:
         """A load was answered with an error: it is owed nothing any more. Or NOTHING_OWED."""
@@ -165,19 +166,21 @@ class FlatJudge:
         for part, table, tag in load.parts:
             self._pay_word(part, table, tag)
 
-    def store(self, id: object, address: int, data: BytesLike, enables: Optional[int] = None) -> None:
+    def store(self, id: object, address: int, data: Buffer, enables: Optional[int] = None) -> None:
         """A store was accepted: its bytes are as `data` from now on, and it waits for its answer. Else, with nothing
         changed, a NotFlat: BAD_SIZE, OUT_OF_RANGE, NO_LANES or ID_IN_USE."""
-        access = self._request("store", id, address, len(data), enables)
+        stored = bytes_of(data)
+        access = self._request("store", id, address, len(stored), enables)
         self._check(access, self._stores)
-        self._write(access, data)
+        self._write(access, stored)
         self._stores[id] = access
 
-    def post(self, id: object, address: int, data: BytesLike, enables: Optional[int] = None) -> None:
+    def post(self, id: object, address: int, data: Buffer, enables: Optional[int] = None) -> None:
         """A store was accepted that no answer follows. Else as `store`, but for ID_IN_USE."""
-        access = self._request("store", id, address, len(data), enables)
+        stored = bytes_of(data)
+        access = self._request("store", id, address, len(stored), enables)
         self._check(access, ())
-        self._write(access, data)
+        self._write(access, stored)
 
     def stored(self, id: object) -> None:
         """A store's answer came. Or NOTHING_OWED."""
@@ -243,7 +246,7 @@ class FlatJudge:
     def _page(self, number: int) -> _Page:
         page = self._pages.get(number)
         if page is None:
-            data = bytearray(PAGE_BYTES if self._image is None else self._image(number * PAGE_BYTES))
+            data = bytearray(PAGE_BYTES if self._image is None else bytes_of(self._image(number * PAGE_BYTES)))
             if len(data) != PAGE_BYTES:
                 raise ValueError(f"an image of {len(data)} bytes for a page of {PAGE_BYTES}")
             page = self._pages[number] = _Page(data, (c.c_char * PAGE_BYTES).from_buffer(data))
@@ -267,9 +270,9 @@ class FlatJudge:
         return part, table, tag
 
     # Takes a word of a load; where it is wrong, `owed` gets what it should be. The tag is free after it.
-    def _take_word(self, part: _Part, table: _Table, tag: int, data: BytesLike, owed: bytearray) -> None:
+    def _take_word(self, part: _Part, table: _Table, tag: int, data: bytes, owed: bytearray) -> None:
         page, _, lanes, begin = part
-        word = bytes(data[begin : begin + _WORD]) if lanes == 0b1111 else self._filled_up(part, table, tag, data)
+        word = data[begin : begin + _WORD] if lanes == 0b1111 else self._filled_up(part, table, tag, data)
         answer = _ANSWER(_VALUE, 0, tag, word)
         if self._step(page.words, _PAGE_WORDS, table.due, _TABLE_SIZE, _TAKEN, answer) == _FLAT:
             table.free.append(tag)
@@ -279,7 +282,7 @@ class FlatJudge:
             owed[begin + lane] = right[lane]
 
     # The enabled bytes of a word of a load, and the others as they are owed.
-    def _filled_up(self, part: _Part, table: _Table, tag: int, data: BytesLike) -> bytes:
+    def _filled_up(self, part: _Part, table: _Table, tag: int, data: bytes) -> bytes:
         word = bytearray(self._owed_word(table, tag))
         for lane in _LANES[part[2]]:
             word[lane] = data[part[3] + lane]
@@ -300,21 +303,21 @@ class FlatJudge:
         return self._owed_row.raw
 
     # Stores the words. A store uses no tag, so any table does.
-    def _write(self, access: Access, data: BytesLike) -> None:
+    def _write(self, access: Access, data: bytes) -> None:
         due = self._tables[0].due
-        padded = bytes(_WORD) + bytes(data) + bytes(_WORD)
+        padded = bytes(_WORD) + data + bytes(_WORD)
         for page, at, lanes, begin in self._parts(access):
             event = _EVENT(_STORE, 0, lanes, at, 0, padded[begin + _WORD : begin + 2 * _WORD])
             if self._step(page.words, _PAGE_WORDS, due, _TABLE_SIZE, event, _ACCEPTED) != _FLAT:
                 raise NotFlat(Reason.BROKEN_LIBRARY)
 
-    def _end_load(self, id: object, data: Optional[BytesLike]) -> _Owed:
+    def _end_load(self, id: object, size: Optional[int]) -> _Owed:
         self.calls += 1
         load = self._loads.get(id)
         if load is None:
             raise NotFlat(Reason.NOTHING_OWED, self._stray("load", id))
-        if data is not None and len(data) != load.access.size:
-            raise ValueError(f"a value of {len(data)} bytes for a load of {load.access.size}")
+        if size is not None and size != load.access.size:
+            raise ValueError(f"a value of {size} bytes for a load of {load.access.size}")
         del self._loads[id]
         return load
 

@@ -5,6 +5,7 @@ import enum
 from types import TracebackType
 from typing import Dict, Iterable, Iterator, List, NamedTuple, Optional, Tuple, Type, TypeVar, Union
 
+from .data import Buffer, bytes_of
 from .errors import BadShape, Cause, Closed, InRounds, KroftError, NoRounds, Refused, ShapeFault
 from .events import (
     Accepted,
@@ -209,11 +210,11 @@ class Machine:
     [Value(tag=7, word=b'\\x00\\x00\\x00\\x00')]
     """
 
-    def __init__(self, shape: Shape = Shape(), image: Optional[bytes] = None) -> None:
+    def __init__(self, shape: Shape = Shape(), image: Optional[Buffer] = None) -> None:
         self._handle = HandleRow()
         self.shape = shape
         self._library = library()
-        data = bytes(4 * shape.words) if image is None else bytes(image)
+        data = bytes(4 * shape.words) if image is None else bytes_of(image)
         if len(data) % 4:
             raise ValueError("an image has four bytes for each word")
         if any(not 0 <= number < 2**32 for number in shape):

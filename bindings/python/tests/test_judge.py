@@ -1,5 +1,6 @@
 """The judges: their verdicts one by one, and over a cache that is right or has a bug."""
 
+import array
 import contextlib
 import random
 import time
@@ -104,6 +105,24 @@ class Accesses(Causes):
         judge.store(1, 0x100, b"x")
         with self.fails(Reason.FAILED):
             judge.failed_store(1)
+
+    def test_wide_items_are_counted_by_their_bytes(self) -> None:
+        ones = memoryview(array.array("I", [0x11111111] * 4))
+        with FlatJudge(image=lambda address: memoryview(array.array("I", [0x22222222] * 1024))) as judge:
+            judge.store(1, 0, ones)
+            judge.stored(1)
+            judge.post(1, 16, ones)
+            self.assertEqual(judge.memory(0, 36), b"\x11" * 32 + b"\x22" * 4)
+            judge.load(1, 0, 4)
+            with self.assertRaises(ValueError):
+                judge.value(1, ones)
+            with self.fails(Reason.WRONG_DATA) as wrong:
+                judge.value(1, memoryview(array.array("I", [0x11111110])))
+            self.assertEqual(wrong.exception.got, b"\x10\x11\x11\x11")
+            judge.load(1, 0, 16)
+            judge.value(1, ones)
+        steps = StepJudge(ones)
+        self.assertEqual(steps.memory(), b"\x11" * 16)
 
     def test_a_lost_answer_is_seen_at_the_end(self) -> None:
         with self.assertRaises(kroft.Unanswered) as lost:

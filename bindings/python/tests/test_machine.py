@@ -1,5 +1,6 @@
 """The machine, driven as a Python programmer would."""
 
+import array
 import gc
 import random
 import unittest
@@ -190,6 +191,16 @@ class Machines(unittest.TestCase):
             shape = Shape(ways, block_words, regs, depth, 64, 4, 4, 64, 64, 8)
             with self.subTest(shape=shape), Machine(shape):
                 pass
+
+    def test_wide_items_are_counted_by_their_bytes(self) -> None:
+        words = memoryview(array.array("I", [0x11111111] * SMALL.words))
+        with Machine(SMALL, words) as machine:
+            self.assertEqual(machine.memory(), b"\x11" * 256)
+            machine.store(1, memoryview(array.array("H", [0x2222] * 2)))
+            with self.assertRaises(ValueError):
+                machine.store(1, array.array("I", [1, 2, 3, 4]))  # type: ignore[arg-type]
+            list(machine.pump())
+            self.assertEqual(machine.frame_word(0, 1).word, b"\x22" * 4)
 
     def test_a_closed_machine_says_so(self) -> None:
         machine = Machine(SMALL)
