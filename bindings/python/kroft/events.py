@@ -2,7 +2,7 @@
 
 import struct
 from dataclasses import dataclass
-from typing import Dict, Union
+from typing import Any, Callable, Dict, Tuple, Type, Union
 
 from .data import Buffer, bytes_of
 from .errors import Cause
@@ -110,26 +110,37 @@ Answer = Union[Accepted, Moved, Value, Nothing, Refusal]
 
 _EVENT = struct.Struct("=IHBxII4s")  # kind, tag, lanes, at, place, word
 _ANSWER = struct.Struct("=IIH4s2x")  # kind, cause, tag, word
-_KINDS = {Load: 0, Store: 1, Prefetch: 2, Evict: 3, Drain: 4, Serve: 5, Arrive: 6, Process: 7, Take: 8}
+
+_Members = Dict[Type[Any], Callable[[Any], Tuple[object, ...]]]  # the members of a row, by the class that has them
+_EVENTS: _Members = {
+    Load: lambda it: (0, it.tag, 0, it.at, 0, b""),
+    Store: lambda it: (1, 0, it.lanes, it.at, 0, _word(it.word)),
+    Prefetch: lambda it: (2, 0, 0, it.at, 0, b""),
+    Evict: lambda it: (3, 0, 0, it.block, 0, b""),
+    Drain: lambda it: (4, 0, 0, 0, 0, b""),
+    Serve: lambda it: (5, 0, 0, it.bank, 0, b""),
+    Arrive: lambda it: (6, 0, 0, it.bank, it.place, b""),
+    Process: lambda it: (7, 0, 0, 0, it.place, b""),
+    Take: lambda it: (8, 0, 0, 0, it.place, b""),
+}
+_ANSWERS: _Members = {
+    Accepted: lambda it: (0, 0, 0, b""),
+    Moved: lambda it: (1, 0, 0, b""),
+    Value: lambda it: (2, 0, it.tag, _word(it.word)),
+    Nothing: lambda it: (3, 0, 0, b""),
+    Refusal: lambda it: (4, int(it.cause), 0, b""),
+}
 
 
 def event_row(event: Event) -> bytes:
-    """The row of kroft.h of an event. ValueError if a number or a word isn't one."""
-    kind = _KINDS[type(event)]
-    tag = getattr(event, "tag", 0)
-    lanes = getattr(event, "lanes", 0)
-    word = getattr(event, "word", b"\0\0\0\0")
-    at = next((getattr(event, name) for name in ("at", "block", "bank") if hasattr(event, name)), 0)
-    return _row(_EVENT, kind, tag, lanes, at, getattr(event, "place", 0), _word(word))
+    """The row of kroft.h of an event, or of one of a class below an event's. ValueError if a number or a word isn't one;
+    TypeError if it is no event."""
+    return _row(_EVENT, *_members(_EVENTS, event, "event"))
 
 
 def answer_row(answer: Answer) -> bytes:
-    """The row of kroft.h of an answer. ValueError if a number or a word isn't one."""
-    if isinstance(answer, Value):
-        return _row(_ANSWER, 2, 0, answer.tag, _word(answer.word))
-    if isinstance(answer, Refusal):
-        return _row(_ANSWER, 4, int(answer.cause), 0, b"")
-    return _row(_ANSWER, {Accepted: 0, Moved: 1, Nothing: 3}[type(answer)], 0, 0, b"")
+    """The row of kroft.h of an answer, as `event_row` has that of an event."""
+    return _row(_ANSWER, *_members(_ANSWERS, answer, "answer"))
 
 
 def event_of(row: bytes) -> Event:
@@ -158,6 +169,13 @@ def answer_of(row: bytes) -> Answer:
         return Refusal(Cause(cause))
     plain: Dict[int, Answer] = {0: Accepted(), 1: Moved(), 3: Nothing()}
     return plain[kind]
+
+
+def _members(forms: _Members, of: object, kind: str) -> Tuple[object, ...]:
+    form = next((forms[it] for it in type(of).__mro__ if it in forms), None)
+    if form is None:
+        raise TypeError(f"no {kind}: {of!r}")
+    return form(of)
 
 
 def _word(word: Buffer) -> bytes:

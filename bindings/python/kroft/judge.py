@@ -312,12 +312,13 @@ class FlatJudge:
                 raise NotFlat(Reason.BROKEN_LIBRARY)
 
     def _end_load(self, id: object, size: Optional[int]) -> _Owed:
-        self.calls += 1
         load = self._loads.get(id)
         if load is None:
+            self.calls += 1
             raise NotFlat(Reason.NOTHING_OWED, self._stray("load", id))
         if size is not None and size != load.access.size:
             raise ValueError(f"a value of {size} bytes for a load of {load.access.size}")
+        self.calls += 1
         del self._loads[id]
         return load
 

@@ -267,7 +267,8 @@ class Machine:
         answer arrives, one word is processed, one reply taken and one word written back; and the request at hand is
         asked, again and again until it is accepted or denied. With `busy` below `latency` a bank begins a command each
         `busy` rounds at most; otherwise it has one at a time. ValueError if the latency isn't 0 to 1000, if there are
-        more than 16777216 requests, or if one is no load, store, prefetch or eviction; nothing was asked then."""
+        more than 16777216 requests, or if one is an event but no load, store, prefetch or eviction, and TypeError if it is
+        no event; nothing was asked then."""
         rows = b"".join(map(event_row, requests))
         busy = latency if busy is None else busy
         if not (0 <= latency < 2**32 and 0 <= busy < 2**32):

@@ -54,6 +54,20 @@ class Histories(unittest.TestCase):
             history.load_response(1, b"\x01\x02")
             history.store_response(1)
 
+    def test_a_number_is_no_data(self) -> None:
+        with self.assertRaises(TypeError):
+            History(image=5)  # type: ignore[arg-type]
+        with History() as history:
+            history.load_request(1, 0, 4)
+            for data in (4, "abcd", None):
+                with self.subTest(data=data):
+                    with self.assertRaises(TypeError):
+                        history.load_response(1, data)  # type: ignore[arg-type]
+                    with self.assertRaises(TypeError):
+                        history.store_request(1, 0, data)  # type: ignore[arg-type]
+            self.assertEqual((len(history.open_loads()), history.open_stores()), (1, []))
+            history.load_response(1, bytes(4))
+
     def test_what_is_lost_is_told_at_the_end(self) -> None:
         with self.assertRaises(Unanswered) as lost:
             with History() as history:

@@ -63,6 +63,21 @@ class Steps(Causes):
         with self.assertRaises(ValueError):
             StepJudge(bytes(7))
 
+    def test_classes_below_those_of_events_and_answers(self) -> None:
+        class Traced(Load):
+            block = lanes = place = 3  # (of the same names as members of other events)
+
+        class Late(Value):
+            pass
+
+        judge = StepJudge(bytes(8))
+        judge.step(Traced(7, 1), Accepted())
+        judge.step(Take(), Late(7, bytes(4)))
+        with self.assertRaises(TypeError):
+            judge.step(Take(), None)  # type: ignore[arg-type]
+        with self.assertRaises(TypeError):
+            judge.step(Accepted(), Accepted())  # type: ignore[arg-type]
+
     def test_memory_without_words(self) -> None:
         with self.fails(Reason.OUT_OF_RANGE):
             StepJudge(b"").step(Load(0, 0), Accepted())
@@ -105,6 +120,20 @@ class Accesses(Causes):
         judge.store(1, 0x100, b"x")
         with self.fails(Reason.FAILED):
             judge.failed_store(1)
+
+    def test_what_is_no_data_changes_nothing(self) -> None:
+        with FlatJudge() as judge:
+            judge.load(1, 0, 4)
+            for data in ("abcd", 4, None, [0, 0, 0, 0]):
+                with self.subTest(data=data):
+                    with self.assertRaises(TypeError):
+                        judge.value(1, data)  # type: ignore[arg-type]
+                    with self.assertRaises(TypeError):
+                        judge.store(2, 0, data)  # type: ignore[arg-type]
+            with self.assertRaises(ValueError):
+                judge.value(1, bytes(5))
+            self.assertEqual((judge.calls, len(judge.unanswered())), (1, 1))
+            judge.value(1, bytes(4))
 
     def test_wide_items_are_counted_by_their_bytes(self) -> None:
         ones = memoryview(array.array("I", [0x11111111] * 4))

@@ -192,6 +192,25 @@ class Machines(unittest.TestCase):
             with self.subTest(shape=shape), Machine(shape):
                 pass
 
+    def test_classes_below_those_of_events(self) -> None:
+        class Traced(Load):
+            word = b"name"  # (of the same name as a member of a store)
+
+        with Machine(SMALL) as machine:
+            self.assertEqual(machine.apply(Traced(7, 5)), Accepted())
+            self.assertEqual(machine.drive([Traced(8, 5)]).accepted, 1)
+            for wrong in (1, None, Accepted(), "load"):
+                with self.subTest(wrong=wrong):
+                    with self.assertRaises(TypeError):
+                        machine.apply(wrong)  # type: ignore[arg-type]
+                    with self.assertRaises(TypeError):
+                        machine.drive([Load(1, 1), wrong])  # type: ignore[list-item]
+            self.assertEqual(machine.drive([]).accepted, 0)
+            with self.assertRaises(TypeError):
+                Machine(SMALL, 256)  # type: ignore[arg-type]
+            with self.assertRaises(TypeError):
+                machine.store(1, 4)  # type: ignore[arg-type]
+
     def test_wide_items_are_counted_by_their_bytes(self) -> None:
         words = memoryview(array.array("I", [0x11111111] * SMALL.words))
         with Machine(SMALL, words) as machine:
