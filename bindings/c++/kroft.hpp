@@ -164,18 +164,22 @@ struct Range {
 inline constexpr size_t PAGE_BYTES = 4096;
 
 /// What memory holds at first: writes the PAGE_BYTES bytes from `address` on, a multiple of PAGE_BYTES, to
-/// `bytes`, which are zeros before.
+/// `bytes`, which are zeros before. If it throws, it is asked again when the page is touched again.
 using Image = std::function<void(uint64_t address, uint8_t *bytes)>;
 
 /// Judges accesses by flat memory: each takes effect at its request.
 ///
 /// Memory takes a page of PAGE_BYTES when one of its bytes is touched for the first time, and the judge's
 /// table half a megabyte for each 65,536 words that are owed at once. One judge is used by one thread at a
-/// time. It may be moved, not copied.
+/// time. It may be moved, not copied; std::logic_error from a call of one that was moved from. A load or a store
+/// that throws, as its image or std::bad_alloc do, wasn't told.
 class FlatJudge {
 public:
     /// A judge of memory with these addresses, and with these bytes at first: zeros if no image is given.
-    explicit FlatJudge(Range addresses = {}, Image first_bytes = {}) : range(addresses), image(std::move(first_bytes)) {}
+    explicit FlatJudge(Range addresses = {}, Image first_bytes = {}) : held(std::make_unique<State>()) {
+        held->range = addresses;
+        held->image = std::move(first_bytes);
+    }
 
     FlatJudge(FlatJudge &&) noexcept = default;
     FlatJudge &operator=(FlatJudge &&) noexcept = default;
@@ -184,12 +188,14 @@ public:
     /// BadSize, OutOfRange or IdInUse. Loads and stores have ids of their own each; an id is free again once
     /// its answer came.
     [[nodiscard]] Verdict load(uint64_t id, uint64_t address, unsigned size, uint64_t enables = ALL_BYTES) {
-        Load load;
-        load.access = request(Kind::Load, id, address, size, enables);
-        if (Reason reason = fault_of(load.access, loads.count(id)); reason != Reason::Nothing)
-            return verdict(reason, load.access);
-        Verdict result = verdict(Reason::Nothing, load.access);
-        for_each_word(load.access, [&](const Part &part) {
+        Access access = request(Kind::Load, id, address, size, enables);
+        if (Reason reason = fault_of(access, state().loads.count(id)); reason != Reason::Nothing) return verdict(reason, access);
+        make_pages(access);
+        make_tags();
+        Load &load = state().loads[id];
+        load.access = access;
+        Verdict result = verdict(Reason::Nothing, access);
+        for_each_word(access, [&](const Part &part) {
             load.tags[load.words] = take_tag();
             kroft_event event{};
             event.kind = KROFT_LOAD;
@@ -197,18 +203,17 @@ public:
             event.at = part.at;
             if (!step(part.page, load.tags[load.words++], event, accepted())) result.reason = Reason::BrokenLibrary;
         });
-        loads.emplace(id, load);
         return result;
     }
 
     /// A load's value came: `data` has as many bytes as the load asked for. WrongData, or NothingOwed: then
     /// nothing changed. A load with a wrong value has its answer, and its id is free.
     [[nodiscard]] Verdict value(uint64_t id, const void *data) {
-        call++;
-        auto found = loads.find(id);
-        if (found == loads.end()) return stray(Kind::Load, id);
+        state().call++;
+        auto found = state().loads.find(id);
+        if (found == state().loads.end()) return stray(Kind::Load, id);
         Load load = found->second;
-        loads.erase(found);
+        state().loads.erase(found);
         Verdict result = verdict(Reason::Nothing, load.access);
         unsigned word = 0;
         for_each_word(load.access, [&](const Part &part) {
@@ -230,15 +235,21 @@ public:
     [[nodiscard]] Verdict store(uint64_t id, uint64_t address, unsigned size, const void *data,
                                 uint64_t enables = ALL_BYTES) {
         Access access = request(Kind::Store, id, address, size, enables);
-        Verdict result = write(access, stores.count(id), data);
-        if (result) stores.emplace(id, access);
+        if (Reason reason = fault_of(access, state().stores.count(id)); reason != Reason::Nothing) return verdict(reason, access);
+        make_pages(access);
+        state().stores.emplace(id, access);
+        Verdict result = write(access, data);
+        if (!result) state().stores.erase(id);
         return result;
     }
 
     /// A store was accepted that no answer follows. Else BadSize, OutOfRange or NoBytes.
     [[nodiscard]] Verdict post(uint64_t id, uint64_t address, unsigned size, const void *data,
                                uint64_t enables = ALL_BYTES) {
-        return write(request(Kind::Store, id, address, size, enables), 0, data);
+        Access access = request(Kind::Store, id, address, size, enables);
+        if (Reason reason = fault_of(access, 0); reason != Reason::Nothing) return verdict(reason, access);
+        make_pages(access);
+        return write(access, data);
     }
 
     /// A store's answer came. Or NothingOwed.
@@ -252,20 +263,20 @@ public:
     /// come to rest, these answers are lost.
     std::vector<Access> unanswered() const {
         std::vector<Access> open;
-        for (const auto &entry : loads) open.push_back(entry.second.access);
-        for (const auto &entry : stores) open.push_back(entry.second);
+        for (const auto &entry : state().loads) open.push_back(entry.second.access);
+        for (const auto &entry : state().stores) open.push_back(entry.second);
         std::sort(open.begin(), open.end(), [](const Access &a, const Access &b) { return a.call < b.call; });
         return open;
     }
 
     /// How many accesses wait for their answers.
-    size_t unanswered_count() const { return loads.size() + stores.size(); }
+    size_t unanswered_count() const { return state().loads.size() + state().stores.size(); }
 
     /// The byte that memory holds at an address now.
     uint8_t byte_at(uint64_t address) { return page_of(address).words[word_in_page(address)].b[address % WORD]; }
 
     /// How many words the library's judge has been asked about.
-    uint64_t steps() const { return step_count; }
+    uint64_t steps() const { return state().step_count; }
 
 private:
     static constexpr unsigned WORD = sizeof(kroft_word);
@@ -300,14 +311,14 @@ private:
     }
 
     Access request(Kind kind, uint64_t id, uint64_t address, unsigned size, uint64_t enables) {
-        call++;
+        state().call++;
         if (size < MAX_SIZE) enables &= (uint64_t{1} << size) - 1;
-        return {kind, id, address, size, enables, call};
+        return {kind, id, address, size, enables, state().call};
     }
 
     Reason fault_of(const Access &access, size_t in_use) const {
         if (access.size < 1 || access.size > MAX_SIZE) return Reason::BadSize;
-        if (!range.has(access.address, access.size)) return Reason::OutOfRange;
+        if (!state().range.has(access.address, access.size)) return Reason::OutOfRange;
         if (access.kind == Kind::Store && access.enables == 0) return Reason::NoBytes;
         return in_use ? Reason::IdInUse : Reason::Nothing;
     }
@@ -316,7 +327,7 @@ private:
         Verdict result;
         result.reason = reason;
         result.access = access;
-        result.call = call;
+        result.call = state().call;
         return result;
     }
 
@@ -340,33 +351,45 @@ private:
         }
     }
 
+    // Makes the pages of an access before its first step, for an image may throw.
+    void make_pages(const Access &access) {
+        for_each_word(access, [](const Part &) {});
+    }
+
     Page &page_of(uint64_t address) {
+        State &now = state();
         uint64_t number = address / PAGE_BYTES;
-        if (last_page && number == last_number) return *last_page;
-        std::unique_ptr<Page> &page = pages[number];
-        if (!page) {
-            page = std::make_unique<Page>();
-            if (image) image(number * PAGE_BYTES, reinterpret_cast<uint8_t *>(page->words.data()));
+        if (now.last_page && number == now.last_number) return *now.last_page;
+        auto found = now.pages.find(number);
+        if (found == now.pages.end()) {
+            auto page = std::make_unique<Page>();
+            if (now.image) now.image(number * PAGE_BYTES, reinterpret_cast<uint8_t *>(page->words.data()));
+            found = now.pages.emplace(number, std::move(page)).first;
         }
-        last_number = number;
-        last_page = page.get();
-        return *page;
+        now.last_number = number;
+        now.last_page = found->second.get();
+        return *now.last_page;
+    }
+
+    // Makes a table if the tags that are left may be too few for an access.
+    void make_tags() {
+        State &now = state();
+        if (now.free_tags.size() < MAX_WORDS && now.new_tag + MAX_WORDS > now.tables.size() * KROFT_TAGS)
+            now.tables.emplace_back(KROFT_TAGS);
     }
 
     // A tag that is owed nothing: its low 16 bits are the judge's, the others say in which table.
     uint32_t take_tag() {
-        if (!free_tags.empty()) {
-            uint32_t tag = free_tags.back();
-            free_tags.pop_back();
-            return tag;
-        }
-        if (new_tag / KROFT_TAGS == tables.size()) tables.emplace_back(KROFT_TAGS);
-        return new_tag++;
+        State &now = state();
+        if (now.free_tags.empty()) return now.new_tag++;
+        uint32_t tag = now.free_tags.back();
+        now.free_tags.pop_back();
+        return tag;
     }
 
     bool step(Page &page, uint32_t tag, const kroft_event &event, const kroft_answer &answer) {
-        std::vector<kroft_due> &due = tables[tag / KROFT_TAGS];
-        step_count++;
+        std::vector<kroft_due> &due = state().tables[tag / KROFT_TAGS];
+        state().step_count++;
         return kroft_flat_step(page.words.data(), page.words.size(), due.data(), due.size(), &event, &answer) == KROFT_FLAT;
     }
 
@@ -379,7 +402,7 @@ private:
         answer.kind = KROFT_VALUE;
         answer.tag = uint16_t(tag);
         kroft_word owed{};
-        std::vector<kroft_due> &due = tables[tag / KROFT_TAGS];
+        std::vector<kroft_due> &due = state().tables[tag / KROFT_TAGS];
         if (!kroft_flat_owed(due.data(), due.size(), answer.tag, &owed)) return Reason::BrokenLibrary;
         answer.word = owed;
         for (unsigned lane = 0; lane < WORD; lane++)
@@ -388,15 +411,13 @@ private:
                 result.owed[part.byte(lane)] = owed.b[lane];
                 result.got[part.byte(lane)] = answer.word.b[lane];
             }
-        free_tags.push_back(tag);
+        state().free_tags.push_back(tag);
         if (step(part.page, tag, event, answer)) return Reason::Nothing;
         answer.word = owed;
         return step(part.page, tag, event, answer) ? Reason::WrongData : Reason::BrokenLibrary;
     }
 
-    Verdict write(const Access &access, size_t in_use, const void *data) {
-        Reason reason = fault_of(access, in_use);
-        if (reason != Reason::Nothing) return verdict(reason, access);
+    Verdict write(const Access &access, const void *data) {
         Verdict result = verdict(Reason::Nothing, access);
         for_each_word(access, [&](const Part &part) {
             kroft_event event{};
@@ -417,26 +438,35 @@ private:
     }
 
     Verdict drop_store(uint64_t id, Reason reason) {
-        call++;
-        auto found = stores.find(id);
-        if (found == stores.end()) return stray(Kind::Store, id);
+        state().call++;
+        auto found = state().stores.find(id);
+        if (found == state().stores.end()) return stray(Kind::Store, id);
         Access access = found->second;
-        stores.erase(found);
+        state().stores.erase(found);
         return verdict(reason, access);
     }
 
-    Range range;
-    Image image;
-    std::unordered_map<uint64_t, std::unique_ptr<Page>> pages;
-    uint64_t last_number = 0;
-    Page *last_page = nullptr;
-    std::vector<std::vector<kroft_due>> tables{std::vector<kroft_due>(KROFT_TAGS)}; // what the tags are owed
-    std::vector<uint32_t> free_tags;
-    uint32_t new_tag = 0;
-    std::unordered_map<uint64_t, Load> loads;
-    std::unordered_map<uint64_t, Access> stores;
-    uint64_t call = 0;
-    uint64_t step_count = 0;
+    struct State {
+        Range range;
+        Image image;
+        std::unordered_map<uint64_t, std::unique_ptr<Page>> pages;
+        uint64_t last_number = 0;
+        Page *last_page = nullptr;
+        std::vector<std::vector<kroft_due>> tables{std::vector<kroft_due>(KROFT_TAGS)}; // what the tags are owed
+        std::vector<uint32_t> free_tags;
+        uint32_t new_tag = 0;
+        std::unordered_map<uint64_t, Load> loads;
+        std::unordered_map<uint64_t, Access> stores;
+        uint64_t call = 0;
+        uint64_t step_count = 0;
+    };
+
+    State &state() const {
+        if (!held) throw std::logic_error("a judge that was moved from");
+        return *held;
+    }
+
+    std::unique_ptr<State> held; // none of one that was moved from
 };
 
 /// The laws by which a history can be judged.
@@ -477,8 +507,9 @@ private:
     uint32_t status;
 };
 
-/// A history by a law over the image of a memory, from address 0 on. It is moved, not copied. A call throws
-/// std::bad_alloc if there is too little memory, and then everything is as it was.
+/// A history by a law over the image of a memory, from address 0 on. It is moved, not copied; std::logic_error from a
+/// call of one that was moved from. A call throws std::bad_alloc if there is too little memory, and then everything is as
+/// it was.
 class History {
 public:
     /// By the atomic law memory has aligned units of 1, 2, 4 or 8 bytes; the other laws have units of 1. 0: the largest
@@ -494,8 +525,9 @@ public:
     History(History &&other) noexcept
         : handle(std::exchange(other.handle, kroft_history KROFT_NO_HISTORY)), judged_by(other.judged_by) {}
     History &operator=(History &&other) noexcept {
-        std::swap(handle, other.handle);
-        std::swap(judged_by, other.judged_by);
+        History taken(std::move(other));
+        std::swap(handle, taken.handle);
+        judged_by = taken.judged_by;
         return *this;
     }
     History(const History &) = delete;
@@ -686,7 +718,8 @@ public:
     ~Machine() { kroft_free(&handle); }
     Machine(Machine &&other) noexcept : handle(std::exchange(other.handle, kroft_handle KROFT_NO_MACHINE)) {}
     Machine &operator=(Machine &&other) noexcept {
-        std::swap(handle, other.handle);
+        Machine taken(std::move(other));
+        std::swap(handle, taken.handle);
         return *this;
     }
     Machine(const Machine &) = delete;

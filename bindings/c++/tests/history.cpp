@@ -32,13 +32,18 @@ void a_load_beside_a_store() {
         check(bool(history.load_response(1, right, 2)), "the right bytes");
         kroft::History moved(std::move(history));
         check(moved.law() == law && bool(moved.store_response(1)) && moved.open_stores().empty(), "moved");
-        bool threw = false;
-        try {
-            history.load_request(1, 0, 1);
-        } catch (const std::logic_error &) {
-            threw = true;
+        kroft::History assigned(kroft::Law::Atomic);
+        assigned = std::move(moved);
+        check(assigned.law() == law && bool(assigned.load_request(1, 0x1000, 1)), "assigned");
+        for (kroft::History *empty : {&history, &moved}) {
+            bool threw = false;
+            try {
+                empty->load_request(1, 0, 1);
+            } catch (const std::logic_error &) {
+                threw = true;
+            }
+            check(threw, "moved from");
         }
-        check(threw, "moved from");
     }
 }
 

@@ -6,6 +6,7 @@
 
 #include <cstdio>
 #include <ctime>
+#include <stdexcept>
 #include <sys/resource.h>
 
 #ifndef ACCESSES
@@ -64,6 +65,59 @@ void refusals() {
 }
 
 // The last bytes of 64-bit addresses, and what an image puts there.
+template <class Failure, class Call> bool throws(Call call) {
+    try {
+        call();
+    } catch (const Failure &) {
+        return true;
+    }
+    return false;
+}
+
+// An image that throws: the page is there when it is asked again, and neither a load nor a store was told by halves.
+void image_that_throws() {
+    bool is_there = false;
+    kroft::FlatJudge judge({}, [&](uint64_t address, uint8_t *bytes) {
+        if (address != 0 && !is_there) throw std::runtime_error("not there yet");
+        std::fill_n(bytes, kroft::PAGE_BYTES, uint8_t(0xab));
+    });
+    const uint8_t before[4] = {0xab, 0xab, 0xab, 0xab}, after[4] = {1, 2, 3, 4};
+    for (int n = 0; n < 3; n++) {
+        EXPECT(throws<std::runtime_error>([&] { (void)judge.load(1, kroft::PAGE_BYTES - 2, 4); }));
+        EXPECT(throws<std::runtime_error>([&] { (void)judge.store(1, kroft::PAGE_BYTES - 2, 4, after); }));
+        EXPECT(throws<std::runtime_error>([&] { (void)judge.post(1, kroft::PAGE_BYTES - 2, 4, after); }));
+    }
+    EXPECT(judge.unanswered_count() == 0 && judge.steps() == 0 && judge.byte_at(kroft::PAGE_BYTES - 2) == 0xab);
+    is_there = true;
+    EXPECT(judge.byte_at(kroft::PAGE_BYTES) == 0xab);
+    EXPECT(bool(judge.load(1, kroft::PAGE_BYTES - 2, 4)) && bool(judge.store(1, kroft::PAGE_BYTES - 2, 4, after)));
+    EXPECT(bool(judge.value(1, before)) && bool(judge.stored(1)));
+    EXPECT(judge.byte_at(kroft::PAGE_BYTES) == 3);
+}
+
+// One that was moved from says so, also once the other is gone; what it had is the other's.
+void moves() {
+    const uint8_t stored[4] = {1, 2, 3, 4};
+    kroft::FlatJudge judge;
+    EXPECT(bool(judge.store(1, 0x1000, 4, stored)) && bool(judge.load(2, 0x1000, 4)));
+    {
+        kroft::FlatJudge moved = std::move(judge);
+        EXPECT(moved.unanswered_count() == 2 && bool(moved.value(2, stored)));
+        kroft::FlatJudge assigned;
+        EXPECT(bool(assigned.load(3, 0x1000, 4)));
+        assigned = std::move(moved);
+        EXPECT(assigned.unanswered_count() == 1 && assigned.byte_at(0x1001) == 2 && bool(assigned.stored(1)));
+        EXPECT(throws<std::logic_error>([&] { (void)moved.stored(1); }));
+    }
+    EXPECT(throws<std::logic_error>([&] { (void)judge.byte_at(0x1000); }));
+    EXPECT(throws<std::logic_error>([&] { (void)judge.load(2, 0x1000, 4); }));
+    EXPECT(throws<std::logic_error>([&] { (void)judge.store(2, 0x1000, 4, stored); }));
+    EXPECT(throws<std::logic_error>([&] { (void)judge.value(2, stored); }));
+    EXPECT(throws<std::logic_error>([&] { (void)judge.unanswered(); }));
+    judge = kroft::FlatJudge();
+    EXPECT(judge.byte_at(0x1000) == 0);
+}
+
 void ends_of_addresses() {
     kroft::FlatJudge judge({}, [](uint64_t address, uint8_t *bytes) {
         for (size_t i = 0; i < kroft::PAGE_BYTES; i++) bytes[i] = uint8_t((address >> 12) + i);
@@ -195,6 +249,8 @@ void found(const char *name, replay::Bug bug, const char *reason) {
 int main() {
     one_word();
     refusals();
+    image_that_throws();
+    moves();
     ends_of_addresses();
     sizes_and_places();
     memory_stays();

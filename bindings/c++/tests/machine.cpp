@@ -192,18 +192,23 @@ void what_is_refused() {
     kroft::Machine machine;
     kroft::Machine moved(std::move(machine));
     check(moved.load(1, 0).kind == KROFT_ACCEPTED && moved.weight() > 0, "moved");
+    kroft::Machine assigned;
+    assigned = std::move(moved);
+    check(assigned.weight() > 0, "assigned");
     int threw = 0;
-    try {
-        machine.load(1, 0);
-    } catch (const std::logic_error &) {
-        threw++;
+    for (kroft::Machine *empty : {&machine, &moved}) {
+        try {
+            empty->load(1, 0);
+        } catch (const std::logic_error &) {
+            threw++;
+        }
     }
     try {
-        moved.apply(kroft::event_of(9, 0));
+        assigned.apply(kroft::event_of(9, 0));
     } catch (const std::invalid_argument &) {
         threw++;
     }
-    check(threw == 2, "a machine that was moved from, and no event");
+    check(threw == 3, "two machines that were moved from, and no event");
 }
 
 } // namespace
