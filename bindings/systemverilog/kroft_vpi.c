@@ -1,7 +1,10 @@
 /*
  * The functions of kroft_dpi.h as system functions, for Icarus Verilog, which has no DPI:
  *
- *     iverilog-vpi --name=kroft kroft_vpi.c kroft_dpi.c kroft_history.c -IDIR DIR/libkroft.a && vvp -M. -mkroft bench.vvp
+ *     iverilog-vpi --name=kroft kroft_vpi.c kroft_dpi.c kroft_history.c -IDIR -LDIR -l:libkroft.a && vvp -M. -mkroft bench.vvp
+ *
+ * with the DIR of `./kroft-lib DIR`, in the folder of these files. (An archive that is named as a file is left out by
+ * iverilog-vpi, and vvp then loads no such module.)
  *
  * A judge or a history is a number that isn't 0. kroft_pkg.sv gives the system functions the names of the imported ones;
  * those that have outputs ($kroft_traffic, $kroft_may_return, $kroft_why, $kroft_undecided and $kroft_open_operation,
