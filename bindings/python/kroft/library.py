@@ -144,19 +144,28 @@ class AccessRow(c.Structure):
 
 def places() -> Iterator[Path]:
     """Where the library may be, the first that counts first: the folder or file that KROFT_LIB names, and then nowhere
-    else; the lib folder of the prefix that this Python or this package is installed in; dist/x86_64-linux of the
-    repository that this package lies in, or was installed from."""
+    else; the lib folder of the prefix that this package is installed in, and that of Python's; dist/x86_64-linux of the
+    repository that this package lies in, or was installed from; /usr/local/lib and /usr/lib."""
     named = os.environ.get("KROFT_LIB")
     if named:
         yield Path(named) if Path(named).is_file() else Path(named) / NAME
         return
-    here = Path(__file__).resolve()
-    for prefix in [Path(sys.prefix), Path(sys.base_prefix), *here.parents, Path("/usr/local"), Path("/usr")]:
+    folder = Path(__file__).resolve().parent
+    is_installed = folder.parent.name in ("site-packages", "dist-packages")  # in PREFIX/lib/pythonN
+    for prefix in [*([folder.parents[3]] if is_installed else []), Path(sys.prefix), Path(sys.base_prefix)]:
         yield prefix / "lib" / NAME
-    installed_from = here.parent / "repository.txt"
-    repositories = [Path(installed_from.read_text("utf-8"))] if installed_from.is_file() else []
-    for repository in [*here.parents, *repositories]:
+    for repository in _repositories(folder):
         yield repository / "dist" / "x86_64-linux" / NAME
+    for prefix in [Path("/usr/local"), Path("/usr")]:
+        yield prefix / "lib" / NAME
+
+
+def _repositories(folder: Path) -> Iterator[Path]:
+    if folder.parent.parts[-2:] == ("bindings", "python"):
+        yield folder.parents[2]
+    installed_from = folder / "repository.txt"
+    if installed_from.is_file():
+        yield Path(installed_from.read_text("utf-8"))
 
 
 def declare(library: c.CDLL) -> c.CDLL:
@@ -218,7 +227,7 @@ _loaded: Optional[c.CDLL] = None
 
 
 def library() -> c.CDLL:
-    """libkroft.so, loaded at the first call. LibraryMissing if it is nowhere."""
+    """libkroft.so, loaded at the first call. LibraryMissing if it is nowhere, or has another version than this package."""
     global _loaded
     if _loaded is None:
         looked = list(places())
@@ -226,17 +235,30 @@ def library() -> c.CDLL:
         if path is None:
             raise LibraryMissing(f"{NAME} is nowhere: set KROFT_LIB to the folder of ./kroft-lib (looked at {looked[0]} first)")
         try:
-            _loaded = declare(c.CDLL(str(path)))
+            found = declare(c.CDLL(str(path.resolve())))  # (a name without a folder is looked for in the system's)
         except (OSError, AttributeError) as error:
             raise LibraryMissing(f"{path}: {error}") from error
+        _check_version(path, _version(found))
+        _loaded = found
     return _loaded
 
 
 def version() -> str:
     """The version of the library."""
+    return _version(library())
+
+
+def _version(of: c.CDLL) -> str:
     text = c.create_string_buffer(16)
-    library().kroft_version(text, len(text))
+    of.kroft_version(text, len(text))
     return text.value.decode("ascii")
+
+
+def _check_version(path: Path, told: str) -> None:
+    from . import __version__  # (the package is whole only once it has imported this module)
+
+    if told != __version__:
+        raise LibraryMissing(f"{path} has the version {told}, and this package {__version__}")
 
 
 def fast_step() -> Callable[..., int]:
