@@ -3,11 +3,11 @@
 import ctypes as c
 import enum
 from types import TracebackType
-from typing import FrozenSet, List, NamedTuple, Optional, Type
+from typing import FrozenSet, List, NamedTuple, NoReturn, Optional, Type
 
 from .data import Buffer, bytes_of
 from .errors import Access, Closed, KroftError, Unanswered
-from .library import HandleRow, OperationRow, ReasonRow, library
+from .library import Handle, OperationRow, ReasonRow, library
 
 _LAWFUL, _FOUND, _CLOSED, _WRONG_BYTE, _OUT_OF_MEMORY, _NO_LAW, _UNDECIDED = 0, 1, 3, 16, 101, 103, 105
 _FIRST_OVERWRITTEN, _STORE_OVERWRITTEN = 2, 3
@@ -86,6 +86,9 @@ class History:
     Events are told in the order in which they happened. It is a context manager: left without an exception, it raises
     `Unanswered` if an operation is open. Numbers are free again once their operation is answered.
 
+    Several threads may use one history: each method is done as a whole before another one begins, in some order. It can't be
+    copied or pickled.
+
     >>> with History() as history:
     ...     history.store_request(1, 0x1000, b"\\x5a")
     ...     history.load_request(1, 0x1000, 1)
@@ -96,15 +99,13 @@ class History:
     """
 
     def __init__(self, law: Law = Law.REGULAR, image: Buffer = b"", *, unit: Optional[int] = None, unknown: bool = False) -> None:
-        self._handle = HandleRow()
         self.law = Law(law)
         self.unit = unit if unit is not None else 8 if self.law == Law.ATOMIC else 1
         if self.unit not in ((1, 2, 4, 8) if self.law == Law.ATOMIC else (1,)):
             raise ValueError(f"no unit of the {self.law.name.lower()} law: {self.unit}")
-        self._library = library()
         data = bytes_of(image)
-        opened = (self.law, self.unit, int(unknown), c.c_char_p(data), len(data))
-        status = self._library.kroft_history_open(c.byref(self._handle), *opened)
+        self._handle = Handle(library(), "kroft_history_free")
+        status = self._handle.call("kroft_history_open", self.law, self.unit, int(unknown), c.c_char_p(data), len(data))
         if status == _OUT_OF_MEMORY:
             raise MemoryError("no history was opened")
         assert status == _LAWFUL, status
@@ -117,12 +118,13 @@ class History:
         """The load that is open under the number is answered with these bytes."""
         got = bytes_of(data)
         event = f"load {number} returns {got.hex()}"
-        try:
-            self._tell(event, "kroft_load_response", number, c.c_char_p(got), len(got))
-        except NotLawful as error:
-            if error.cause != HistoryFault.WRONG_BYTE:
-                raise
-            raise self._with_place(number, got, event) from None
+        with self._handle.lock:
+            try:
+                self._tell(event, "kroft_load_response", number, c.c_char_p(got), len(got))
+            except NotLawful as error:
+                if error.cause != HistoryFault.WRONG_BYTE:
+                    raise
+                raise self._with_place(number, got, event) from None
 
     def store_request(self, number: int, address: int, data: Buffer, enables: Optional[int] = None) -> None:
         """A store of the bytes whose enable is set is requested: bit `k` of `enables` is that of byte `k`; none: all are."""
@@ -168,36 +170,38 @@ class History:
 
     def close(self) -> None:
         """Gives the memory back. Every later call raises `Closed`."""
-        if self._handle.open:
-            self._library.kroft_history_free(c.byref(self._handle))
+        self._handle.close()
 
     def __enter__(self) -> "History":
         return self
 
     def __exit__(self, kind: Optional[Type[BaseException]], error: Optional[BaseException], trace: Optional[TracebackType]) -> None:
-        lost = [] if kind else [_access("load", it) for it in self.open_loads()] + [_access("store", it) for it in self.open_stores()]
-        self.close()
+        with self._handle.lock:
+            is_asked = kind is None and self._handle.is_open
+            lost = [_access("load", it) for it in self.open_loads()] if is_asked else []
+            lost += [_access("store", it) for it in self.open_stores()] if is_asked else []
+            self.close()
         if lost:
             raise Unanswered(lost)
 
-    def __del__(self) -> None:
-        if hasattr(self, "_library"):
-            self.close()
+    def __reduce__(self) -> NoReturn:
+        raise TypeError("a history can't be copied")
 
     def _call(self, name: str, *arguments: object) -> int:
-        status: int = getattr(self._library, name)(c.byref(self._handle), *arguments)
+        status = self._handle.call(name, *arguments)
         if status == _CLOSED:
             raise Closed("the history was closed")
         return status
 
     def _tell(self, event: str, name: str, *arguments: object) -> None:
-        status = self._call(name, *(_word(it) if isinstance(it, int) else it for it in arguments))
+        first = c.c_uint64()
+        with self._handle.lock:
+            status = self._call(name, *(_word(it) if isinstance(it, int) else it for it in arguments))
+            if status == _UNDECIDED:
+                self._call("kroft_undecided", c.byref(first))
+                raise Undecided(event, first.value)
         if status == _OUT_OF_MEMORY:
             raise MemoryError(event)
-        if status == _UNDECIDED:
-            first = c.c_uint64()
-            self._call("kroft_undecided", c.byref(first))
-            raise Undecided(event, first.value)
         if status != _LAWFUL:
             raise NotLawful(HistoryFault(status), event)
 
@@ -220,8 +224,9 @@ class History:
     def _operations(self, name: str) -> List[Operation]:
         found: List[Operation] = []
         row = OperationRow()
-        while self._call(name, len(found), c.byref(row)) == _FOUND:
-            found.append(Operation(row.number, row.address, row.length))
+        with self._handle.lock:
+            while self._call(name, len(found), c.byref(row)) == _FOUND:
+                found.append(Operation(row.number, row.address, row.length))
         return found
 
 

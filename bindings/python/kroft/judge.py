@@ -37,7 +37,7 @@ _LANES = [[lane for lane in range(_WORD) if mask >> lane & 1] for mask in range(
 
 
 class StepJudge:
-    """The judge of one step at a time, over a memory of words: `image` has four bytes for each.
+    """The judge of one step at a time, over a memory of words: `image` has four bytes for each. One thread uses it at a time.
 
     >>> judge = StepJudge(bytes(256))
     >>> judge.step(Load(tag=7, at=5), Accepted())
@@ -119,7 +119,7 @@ class FlatJudge:
     Tell it of each request when it is accepted, in that order, and of each answer when it comes, in any order.
     Addresses have 64 bits, an access any size, and ids are whatever a dictionary takes, of loads and stores apart.
     `enables` has a bit for each byte that an access touches: bit i is byte i, and None is all. What isn't right is
-    a NotFlat. As a context manager, it also asks at the end whether everything was answered.
+    a NotFlat. As a context manager, it also asks at the end whether everything was answered. One thread uses it at a time.
 
     >>> with FlatJudge() as judge:
     ...     judge.store(1, 0x8000, b"four")

@@ -4,6 +4,7 @@ import ctypes as c
 import os
 import sys
 from pathlib import Path
+from threading import RLock
 from typing import Callable, Iterator, Optional
 
 from .errors import LibraryMissing
@@ -259,6 +260,41 @@ def _check_version(path: Path, told: str) -> None:
 
     if told != __version__:
         raise LibraryMissing(f"{path} has the version {told}, and this package {__version__}")
+
+
+class Handle:
+    """A history or a machine of the library, which is given back with this object at the latest.
+
+    Calls with one handle may not overlap: each holds `lock`, and so does closing. A method that makes several calls holds
+    it over them, so that no other thread's come between. (A handler of a signal may call from the midst of a call's own
+    thread, so the lock is one that a thread may take again.)
+    """
+
+    def __init__(self, loaded: c.CDLL, free: str) -> None:
+        self.lock = RLock()
+        self._row = HandleRow()
+        self._library, self._free = loaded, free
+
+    @property
+    def is_open(self) -> bool:
+        """Whether it was opened, and not closed. (While a call is under way the library's own mark is of no use.)"""
+        with self.lock:
+            return bool(self._row.open)
+
+    def call(self, name: str, *arguments: object) -> int:
+        """What a function of the library returns that takes the handle first."""
+        with self.lock:
+            status: int = getattr(self._library, name)(c.byref(self._row), *arguments)
+        return status
+
+    def close(self) -> None:
+        """Gives the memory back. Once more changes nothing."""
+        with self.lock:
+            if self._row.open:
+                getattr(self._library, self._free)(c.byref(self._row))
+
+    def __del__(self) -> None:
+        self.close()
 
 
 def fast_step() -> Callable[..., int]:

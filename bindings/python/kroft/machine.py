@@ -3,7 +3,7 @@
 import ctypes as c
 import enum
 from types import TracebackType
-from typing import Dict, Iterable, Iterator, List, NamedTuple, Optional, Tuple, Type, TypeVar, Union
+from typing import Dict, Iterable, Iterator, List, NamedTuple, NoReturn, Optional, Tuple, Type, TypeVar, Union
 
 from .data import Buffer, bytes_of
 from .errors import BadShape, Cause, Closed, InRounds, KroftError, NoRounds, Refused, ShapeFault
@@ -28,7 +28,7 @@ from .library import (
     FieldRow,
     FrameRow,
     FrameWordRow,
-    HandleRow,
+    Handle,
     QueuedRow,
     RegisterRow,
     RoundRow,
@@ -203,6 +203,9 @@ class Machine:
     The caller makes its events in any order. Every load gets the word that flat memory held when it was accepted.
     It is a context manager; its memory is given back at the end of it, by `close`, or with the object.
 
+    Several threads may use one machine: each method is done as a whole before another one begins, in some order; `pump` and
+    `values` let others in between their events. It can't be copied or pickled.
+
     >>> with Machine(Shape(words=64)) as machine:
     ...     machine.load(tag=7, at=5)
     ...     machine.store(at=5, word=b"\\xaa\\0\\0\\0", lanes=0b0001)
@@ -211,16 +214,15 @@ class Machine:
     """
 
     def __init__(self, shape: Shape = Shape(), image: Optional[Buffer] = None) -> None:
-        self._handle = HandleRow()
         self.shape = shape
-        self._library = library()
+        if any(not 0 <= number < 2**32 for number in shape):
+            raise ValueError(f"a number of 32 bits is out of its range in {shape}")
         data = bytes(4 * shape.words) if image is None else bytes_of(image)
         if len(data) % 4:
             raise ValueError("an image has four bytes for each word")
-        if any(not 0 <= number < 2**32 for number in shape):
-            raise ValueError(f"a number of 32 bits is out of its range in {shape}")
         row = ShapeRow(*shape)
-        status = self._library.kroft_open(c.byref(self._handle), c.byref(row), c.c_char_p(data), len(data) // 4)
+        self._handle = Handle(library(), "kroft_free")
+        status = self._handle.call("kroft_open", c.byref(row), c.c_char_p(data), len(data) // 4)
         if status != _DONE:
             raise BadShape(ShapeFault(status))
 
@@ -337,7 +339,8 @@ class Machine:
 
     def memory(self) -> bytes:
         """All words of memory, as they stand in their banks."""
-        return b"".join(self.bank_word(at) for at in range(self.shape.words))
+        with self._handle.lock:
+            return b"".join(self.bank_word(at) for at in range(self.shape.words))
 
     def register(self, slot: int) -> Register:
         """A miss register. IndexError if there is none."""
@@ -347,7 +350,8 @@ class Machine:
 
     def registers(self) -> List[Register]:
         """All miss registers."""
-        return [self.register(slot) for slot in range(self.shape.regs)]
+        with self._handle.lock:
+            return [self.register(slot) for slot in range(self.shape.regs)]
 
     def field(self, slot: int, i: int) -> Field:
         """Word `i` of the block of a register. IndexError if there is none."""
@@ -360,9 +364,10 @@ class Machine:
         """The loads that wait for word `i` of the block of a register, in the order in which they were accepted.
         IndexError if there is no such word."""
         row, targets = TargetRow(), []
-        for place in range(self.field(slot, i).targets):
-            self._find("kroft_target", slot, i, place, c.byref(row))
-            targets.append(Target(row.tag, row.lanes, bytes(row.held)))
+        with self._handle.lock:
+            for place in range(self.field(slot, i).targets):
+                self._find("kroft_target", slot, i, place, c.byref(row))
+                targets.append(Target(row.tag, row.lanes, bytes(row.held)))
         return targets
 
     def find(self, at: int) -> Lookup:
@@ -380,7 +385,8 @@ class Machine:
 
     def frames(self) -> List[Optional[int]]:
         """The blocks of all frames, set by set."""
-        return [self.frame(frame) for frame in range(self.shape.sets * self.shape.ways)]
+        with self._handle.lock:
+            return [self.frame(frame) for frame in range(self.shape.sets * self.shape.ways)]
 
     def frame_word(self, frame: int, i: int) -> FrameWord:
         """Word `i` of the block that a frame holds. IndexError if there is no such frame or word, or the frame is free."""
@@ -409,20 +415,20 @@ class Machine:
         """The values that stand ready to be taken, in the order of their places."""
         answers: List[Value] = []
         answer = c.create_string_buffer(_ANSWER_BYTES)
-        while self._call("kroft_reply", len(answers), answer) == _FOUND:
-            value = answer_of(answer.raw)
-            assert isinstance(value, Value)
-            answers.append(value)
+        with self._handle.lock:
+            while self._call("kroft_reply", len(answers), answer) == _FOUND:
+                value = answer_of(answer.raw)
+                assert isinstance(value, Value)
+                answers.append(value)
         return answers
 
     @property
     def closed(self) -> bool:
-        return not self._handle.open
+        return not self._handle.is_open
 
     def close(self) -> None:
         """Gives the machine up, with all its memory. Once more changes nothing."""
-        if self._handle.open:
-            self._library.kroft_free(c.byref(self._handle))
+        self._handle.close()
 
     def __enter__(self) -> "Machine":
         return self
@@ -430,8 +436,8 @@ class Machine:
     def __exit__(self, kind: Optional[Type[BaseException]], error: Optional[BaseException], trace: Optional[TracebackType]) -> None:
         self.close()
 
-    def __del__(self) -> None:
-        self.close()
+    def __reduce__(self) -> NoReturn:
+        raise TypeError("a machine can't be copied")
 
     def _accept(self, event: Event) -> None:
         answer = self.apply(event)
@@ -445,15 +451,18 @@ class Machine:
             raise IndexError("there is none")
         return bank
 
-    def _places(self, row: Type[_Row], name: str, *arguments: int) -> Iterator[_Row]:
+    def _places(self, row: Type[_Row], name: str, *arguments: int) -> List[_Row]:
         """What a view shows at place 0, 1 and so on, until there is nothing."""
-        place, shown = 0, row()
-        while self._call(name, *arguments, place, c.byref(shown)) == _FOUND:
-            yield shown
-            place, shown = place + 1, row()
+        found: List[_Row] = []
+        shown = row()
+        with self._handle.lock:
+            while self._call(name, *arguments, len(found), c.byref(shown)) == _FOUND:
+                found.append(shown)
+                shown = row()
+        return found
 
     def _call(self, name: str, *arguments: object) -> int:
-        status: int = getattr(self._library, name)(c.byref(self._handle), *arguments)
+        status = self._handle.call(name, *arguments)
         if status == _CLOSED:
             raise Closed("the machine was closed")
         if status == _IN_ROUNDS:

@@ -1,6 +1,10 @@
 """Histories, judged as a Python programmer would."""
 
+import copy
+import gc
+import pickle
 import random
+import threading
 import unittest
 from typing import Callable, Dict, List, Optional, Tuple
 
@@ -76,6 +80,48 @@ class Histories(unittest.TestCase):
         self.assertEqual([(it.kind, it.id, it.address, it.size) for it in lost.exception.accesses], [("load", 7, 0x20, 4), ("store", 8, 0x30, 4)])
         with self.assertRaises(Closed):
             history.load_request(1, 0, 1)
+
+    def test_one_that_is_closed_before_its_end(self) -> None:
+        with History() as history:
+            history.load_request(7, 0x20, 4)
+            history.close()
+        with self.assertRaises(Closed):
+            history.open_loads()
+
+    def test_a_history_is_not_copied(self) -> None:
+        with History() as history:
+            history.store_request(1, 0, b"a")
+            copies: List[Callable[[object], object]] = [copy.copy, copy.deepcopy, pickle.dumps]
+            for made in copies:
+                with self.subTest(made=made), self.assertRaises(TypeError):
+                    made(history)
+            gc.collect()
+            history.store_response(1)
+
+    def test_threads_wait_for_each_other(self) -> None:
+        failures: List[Exception] = []
+
+        def use(history: History, base: int) -> None:
+            try:
+                for number in range(base, base + 500):
+                    data = number.to_bytes(8, "little")
+                    history.store_request(number, base, data)
+                    history.store_response(number)
+                    history.load_request(number, base, 8)
+                    with self.assertRaises(NotLawful) as wrong:
+                        history.load_response(number, bytes(7) + b"\1")
+                    self.assertEqual(wrong.exception.cause, HistoryFault.WRONG_BYTE)
+                    history.load_response(number, data)
+            except Exception as error:
+                failures.append(error)
+
+        with History(Law.ATOMIC) as history:
+            threads = [threading.Thread(target=use, args=(history, base)) for base in range(1 << 20, 5 << 20, 1 << 20)]
+            for thread in threads:
+                thread.start()
+            for thread in threads:
+                thread.join()
+            self.assertEqual(failures, [])
 
     def test_new_then_old(self) -> None:
         """The atomic law refuses what the regular law lets pass."""

@@ -1,10 +1,15 @@
 """The machine, driven as a Python programmer would."""
 
 import array
+import copy
 import gc
+import pickle
 import random
+import sys
+import threading
 import unittest
-from typing import List
+from typing import Callable, List
+from unittest import mock
 
 import kroft
 from kroft import (
@@ -185,8 +190,9 @@ class Machines(unittest.TestCase):
             with self.subTest(fault=fault), self.assertRaises(kroft.BadShape) as bad:
                 Machine(shape, image)
             self.assertEqual((bad.exception.cause, bad.exception.name), (fault, fault.name))
-        with self.assertRaises(ValueError):
-            Machine(SMALL._replace(ways=2**32 + 2))
+        for wrong in (SMALL._replace(ways=2**32 + 2), SMALL._replace(words=2**62), SMALL._replace(words=-4)):
+            with self.subTest(shape=wrong), self.assertRaises(ValueError):
+                Machine(wrong)
         for ways, block_words, regs, depth in [(1, 4, 1, 1), (8, 16, 10, 16), (3, 2, 7, 5)]:
             shape = Shape(ways, block_words, regs, depth, 64, 4, 4, 64, 64, 8)
             with self.subTest(shape=shape), Machine(shape):
@@ -230,6 +236,50 @@ class Machines(unittest.TestCase):
             machine.load(1, 1)
         with self.assertRaises(kroft.Closed):
             list(machine.pump())
+
+    def test_a_machine_is_not_copied(self) -> None:
+        with Machine(SMALL) as machine:
+            copies: List[Callable[[object], object]] = [copy.copy, copy.deepcopy, pickle.dumps]
+            for made in copies:
+                with self.subTest(made=made), self.assertRaises(TypeError):
+                    made(machine)
+            machine.load(1, 1)
+
+    def test_a_class_below_that_opens_none(self) -> None:
+        class Hollow(Machine):
+            def __init__(self) -> None:
+                pass
+
+        with mock.patch.object(sys, "unraisablehook") as told:
+            Hollow()
+            gc.collect()
+        told.assert_not_called()
+
+    def test_threads_wait_for_each_other(self) -> None:
+        failures: List[Exception] = []
+        machine = Machine(Shape(words=1024))
+
+        def watch() -> None:
+            try:
+                while machine.weight >= 0:
+                    pass
+            except kroft.Closed:
+                pass
+            except Exception as error:
+                failures.append(error)
+
+        watchers = [threading.Thread(target=watch) for _ in range(3)]
+        for thread in watchers:
+            thread.start()
+        for n in range(20):
+            counts = machine.drive([Load(tag, tag * 37 % 1024) for tag in range(1000)])
+            self.assertEqual(counts.values, 1000)
+            self.assertTrue(all(thread.is_alive() for thread in watchers), n)
+            self.assertFalse(machine.closed)
+        machine.close()
+        for thread in watchers:
+            thread.join()
+        self.assertEqual(failures, [])
 
     def test_machines_are_given_back(self) -> None:
         for _ in range(200):
