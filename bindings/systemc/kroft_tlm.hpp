@@ -73,8 +73,10 @@ private:
 };
 
 /// By a history: a part takes effect between its request and its answer. A part that got a wrong value, or none, is
-/// answered all the same; by the atomic law it stays open in the history, since each word that it might have got would
-/// say something of the stores.
+/// answered all the same, and not among those that are unanswered. By the atomic law it stays open in the history for
+/// ever, since each word that it might have got would say something of the stores: each unit that it touches keeps all that
+/// it may have been since then. Answers there take longer with every store, and after some 65,536 stores, or far fewer if
+/// several are open at once, there is no verdict: then the unit is forgotten, which ends it, and isn't judged any more.
 class HistoryParts : public PartJudge {
 public:
     explicit HistoryParts(History judge) : history(std::move(judge)) {}

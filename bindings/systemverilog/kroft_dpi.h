@@ -66,7 +66,7 @@ void *kroft_sv_history_open(unsigned law, unsigned unit, unsigned rest);
 void kroft_sv_history_close(void *history);
 
 /* Puts at most 64 bytes behind the image that memory has from address 0 on. Returns 1; or 0, and nothing is put there:
-   there are more, or a request was told. */
+   there are more, or a request was told, or by the atomic law a unit was forgotten. */
 int kroft_sv_image(void *history, const kroft_four_states *data, int size);
 
 /* A load, or a store of the bytes that are enabled, is requested. `now` is the moment, as the caller counts it: it is
@@ -75,8 +75,14 @@ int kroft_sv_load_request(void *history, unsigned long long id, unsigned long lo
 int kroft_sv_store_request(void *history, unsigned long long id, unsigned long long address, int size, const kroft_four_states *data,
                            unsigned long long enables, unsigned long long now);
 
-/* It is answered, and its id is free again, whatever is said; but after KROFT_SV_UNDECIDED all is as it was before. By
-   the atomic law a load with a wrong answer or with none isn't looked at any more. */
+/* It is answered, and its id is free again, whatever is said; but after KROFT_SV_UNDECIDED all is as it was before.
+
+   By the atomic law a load that got wrong data, X or Z, or an error is answered as well, and not among those of
+   kroft_sv_open_count any more, but to the library it stays open for ever: each word that it might have got would say
+   something of the stores. So each unit that it touches keeps all that it may have been since the load's request. Answers
+   there take longer with every store, and after some 65,536 stores, or far fewer if several are open at once, they are
+   KROFT_SV_UNDECIDED. kroft_sv_forget ends that, at once or then, and the unit isn't judged any more; the others are as
+   ever. */
 int kroft_sv_load_response(void *history, unsigned long long id, const kroft_four_states *data);
 int kroft_sv_store_response(void *history, unsigned long long id);
 
@@ -98,7 +104,8 @@ int kroft_sv_why(void *history, int *place, unsigned long long *stored, unsigned
    answer was, since an event was taken last or a unit forgotten. */
 int kroft_sv_undecided(void *history, unsigned long long *address);
 
-/* Forgets the unit with this address. Returns 1; or 0: the law isn't the atomic one. */
+/* Forgets the unit with this address, from where on its bytes are unknown. Returns 1; or 0, and all is as it was: the law
+   isn't the atomic one. */
 int kroft_sv_forget(void *history, unsigned long long address);
 
 /* How many operations are open, and the one at a place in the order of their requests: 0 is the first. Returns 1; or 0,

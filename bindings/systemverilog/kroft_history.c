@@ -338,6 +338,7 @@ int kroft_sv_undecided(void *history, unsigned long long *address) {
 int kroft_sv_forget(void *history, unsigned long long address) {
     history_state *h = (history_state *)history;
     uint32_t status;
+    if (h->law != KROFT_ATOMIC_LAW) return 0;
     open_history(h);
     status = kroft_forget(&h->history, address);
     if (status == KROFT_OUT_OF_MEMORY) must(NULL);

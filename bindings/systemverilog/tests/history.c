@@ -140,6 +140,7 @@ static void images(void) {
     uint32_t set[8];
     int i;
     begin(KROFT_REGULAR_LAW, 0);
+    EXPECT(kroft_sv_forget(history, 0) == 0); /* it has no units, and is as it was */
     EXPECT(kroft_sv_image(history, data_of(first, 3), 3) == 1 && kroft_sv_image(history, data_of(most, 64), 64) == 1);
     EXPECT(kroft_sv_image(history, data_of(most, 64), 65) == 0 && kroft_sv_load_request(history, 1, 0, 64, 0) == KROFT_SV_RIGHT);
     EXPECT(kroft_sv_image(history, data_of(first, 3), 3) == 0);
@@ -190,6 +191,24 @@ static void undecided(void) {
     EXPECT(kroft_sv_open_count(history) == 14 && kroft_sv_undecided(history, &address) == 1 && address == 0x40);
     EXPECT(kroft_sv_forget(history, address) == 1 && stored(13) == KROFT_SV_RIGHT && kroft_sv_undecided(history, &address) == 0);
     EXPECT(value(7, 0x99) == KROFT_SV_RIGHT && load(1, 0x48, 0) == KROFT_SV_RIGHT && value(1, 1) == KROFT_SV_WRONG_DATA);
+}
+
+/* By the atomic law a load that failed stays open in the library: its unit has no verdict in the end, and others have one;
+   once it is forgotten that is over. */
+static void a_load_that_failed(void) {
+    uint64_t n = 0;
+    int reason = KROFT_SV_RIGHT;
+    begin(KROFT_ATOMIC_LAW, 0);
+    EXPECT(kroft_sv_load_request(history, 1, 0x1000, 8, 0) == KROFT_SV_RIGHT && kroft_sv_load_error(history, 1) == KROFT_SV_RIGHT);
+    for (; n < 70000 && reason == KROFT_SV_RIGHT; n++) {
+        const uint8_t bytes[4] = {(uint8_t)n, (uint8_t)(n >> 8), (uint8_t)(n >> 16), 1};
+        EXPECT(kroft_sv_store_request(history, n, 0x1000, 4, data_of(bytes, 4), 15, 0) == KROFT_SV_RIGHT);
+        reason = stored(n);
+    }
+    EXPECT(reason == KROFT_SV_UNDECIDED && n > 65000 && kroft_sv_open_count(history) == 1);
+    EXPECT(store(1, 0x1008, 1, 0) == KROFT_SV_RIGHT && stored(1) == KROFT_SV_RIGHT && load(1, 0x1008, 0) == KROFT_SV_RIGHT && value(1, 2) == KROFT_SV_WRONG_DATA);
+    EXPECT(kroft_sv_forget(history, 0x1000) == 1 && stored(n - 1) == KROFT_SV_RIGHT);
+    for (n = 0; n < 70000; n++) EXPECT(store(n, 0x1000, (uint8_t)n, 0) == KROFT_SV_RIGHT && stored(n) == KROFT_SV_RIGHT);
 }
 
 /* What is open, in the order of the requests, and how often operations met. */
@@ -267,6 +286,7 @@ int main(void) {
     images();
     laws();
     undecided();
+    a_load_that_failed();
     open_operations();
     random_calls(KROFT_REGULAR_LAW);
     random_calls(KROFT_FLAT_LAW);
