@@ -40,18 +40,6 @@ stopped_then {xs = xs} zs whole p q e = record {
   refusal = q.refusal;
 }
 
--- what stops in a front stops in the whole
-stopped_within : {S : Type 0} {step : S → List ℕ → S → Type 0} {refused : S → S → Type 0} {old new : S} {ys : List ℕ} (zs whole : List ℕ)
-    → Stopped step refused old ys new → whole ≡ ys ++ zs → Stopped step refused old whole new
-stopped_within zs whole q e = record {
-  front = q.front;
-  back = q.back ++ zs;
-  whole = e ∙ ap (λ l. l ++ zs) q.whole ∙ append_assoc q.front q.back zs;
-  last = q.last;
-  moved = q.moved;
-  refusal = q.refusal;
-}
-
 -- ---- the requests of the words from the first on
 
 text_more : (f : ℕ → Event) (i : ℕ) → requests_text (map f (range_with_len 0 (i + 1))) ≡ requests_text (map f (range_with_len 0 i)) ++ request_text (f i)
@@ -83,10 +71,6 @@ stopped_at f i n lt p q =
 pub moved_both : {S : Type 0} {step : S → List ℕ → S → Type 0} {old mid new : S} (xs ys : List Event)
     → Moves step old (requests_text xs) mid → Moves step mid (requests_text ys) new → Moves step old (requests_text (xs ++ ys)) new
 moved_both {step = step} {old = old} {new = new} xs ys p q = subst (λ l. Moves step old l new) (sym (flat_map-append request_text xs ys)) (moved_then p q)
-
-pub stopped_first : {S : Type 0} {step : S → List ℕ → S → Type 0} {refused : S → S → Type 0} {old new : S} (xs ys : List Event)
-    → Stopped step refused old (requests_text xs) new → Stopped step refused old (requests_text (xs ++ ys)) new
-stopped_first xs ys q = stopped_within (requests_text ys) (requests_text (xs ++ ys)) q (flat_map-append request_text xs ys)
 
 pub stopped_second : {S : Type 0} {step : S → List ℕ → S → Type 0} {refused : S → S → Type 0} {old mid new : S} (xs ys : List Event)
     → Moves step old (requests_text xs) mid → Stopped step refused mid (requests_text ys) new → Stopped step refused old (requests_text (xs ++ ys)) new

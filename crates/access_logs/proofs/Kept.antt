@@ -1,5 +1,5 @@
 -- A log that is read whole, line by line, and how its reading ends.
-use Rattle.std.proofs.Common.{◌≡◌, ℕ, ◌+◌, ◌≤◌, Option, Some, None, Result, Ok, Err, List, [], ◌∷◌, ◌++◌, length, length-append, refl, sym, ◌∙◌, ap, ap₂, subst, append_assoc, append-nil, arith, inl, inr}
+use Rattle.std.proofs.Common.{◌≡◌, ℕ, ◌+◌, ◌≤◌, Option, Some, None, Result, Ok, Err, List, [], ◌∷◌, ◌++◌, length, length-append, sym, ◌∙◌, ap, ap₂, subst, append_assoc, append-nil, arith, inl, inr}
 use Rattle.std.specs.Prelude.{map}
 use Rattle.std.specs.List.{AllByRecursion, range_with_len}
 use Rattle.std.proofs.lemmas.List.FromFn.{map-range_with_len_more, length-map-range_with_len}
@@ -8,22 +8,19 @@ use Rattle.trace_text.specs.Codes.{most_lines}
 use Rattle.trace_text.specs.Collecting.{ReadsWithin}
 use Rattle.trace_text.specs.Requests.{IsRequest}
 use Rattle.trace_text.specs.declared.lines.LineFault.{LineFault}
-use Rattle.trace_text.specs.declared.fault.TraceFault.{TraceFault}
-use Rattle.trace_text.specs.declared.fault.TraceFault.TheVariants as fault
 use Rattle.trace_text.specs.declared.reading.Stop.{Stop}
-use Rattle.trace_text.specs.declared.reading.Stop.TheVariants.{Fault, Halted}
+use Rattle.trace_text.specs.declared.reading.Stop.TheVariants.{Halted}
 use Rattle.trace_text.proofs.Serving.{all_then}
 use Rattle.access_logs.specs.declared.access.Access.{Access}
 use Rattle.access_logs.specs.declared.access.AccessKind.{AccessKind}
 use Rattle.access_logs.specs.declared.access.AccessKind.TheVariants.{Load, Store, Modify}
 use Rattle.access_logs.specs.declared.reading.AccessGroup.{AccessGroup}
 use Rattle.access_logs.specs.declared.fault.LogFault.{LogFault}
-use Rattle.access_logs.specs.declared.fault.LogFault.TheVariants as log
 use Rattle.access_logs.specs.Accesses.{word_count_of}
 use Rattle.access_logs.specs.Pages.{pages_after}
 use Rattle.access_logs.specs.Requests.{load_of, store_of, loads_of, stores_of, requests_by, requests_of, count_by, request_count_of}
 use Rattle.access_logs.specs.Logs.{LogState, log_start, access_told, state_after, requests_for, state_behind, requests_in, groups_for, groups_in, fault_by}
-use Rattle.access_logs.specs.Reads.{HasRoom, LogSays, FindsNoRoom, LogFails, Kept, KeptMore, Halts, HaltsAt}
+use Rattle.access_logs.specs.Reads.{HasRoom, FindsNoRoom, LogFails, Kept, KeptMore, Halts, HaltsAt}
 use Rattle.access_logs.proofs.Logs.{state_more, requests_more}
 use Rattle.access_logs.specs.declared.pages.TheConstants.{MAX_PAGES}
 use Rattle.access_logs.specs.declared.writing.TheConstants.{MOST_LOG_LINES}
@@ -89,15 +86,6 @@ groups_more access_in (t ∷ ts) text =
     ap (λ l. first ++ l) (groups_more access_in ts text)
     ∙ sym (append_assoc first (groups_in access_in ts) (groups_for (access_told (access_in text))))
 
-pub kept_none : (access_in : List ℕ → Result (Option Access) LineFault) (room : ℕ) (s : LogState) (asked : List Event) (groups : List AccessGroup) → s ≡ log_start → asked ≡ [] → groups ≡ [] → Kept access_in room [] s asked groups
-kept_none access_in room s asked groups e p q = record {
-  state = e;
-  number = ap (λ x. x.lines) e;
-  requests = p;
-  grouped = q;
-  fits = record { pages = omega arith; requests = omega arith };
-}
-
 -- what is kept with a line more, if it has an access or none
 kept_with : {access_in : List ℕ → Result (Option Access) LineFault} {room : ℕ} {texts : List (List ℕ)} {s s' : LogState} {asked asked' : List Event} {groups groups' : List AccessGroup} (text : List ℕ) (said : Option Access)
     → Ok said ≡ access_in text → Kept access_in room texts s asked groups
@@ -153,25 +141,6 @@ Stopped access_in st rm rq ft s text t = HaltsAt access_in (rm s) (st s) (length
 module _ {R S : Type 0} (gave : R → List ℕ → R → Type 0) (failed : R → R → Type 0) (access_in : List ℕ → Result (Option Access) LineFault) (st : S → LogState) (rm : S → ℕ) (rq : S → List Event) (ac : S → List AccessGroup) (ft : S → Option LogFault) (r r' : R) (c c' : S) where
   abbrev Ending : Result (Unit {0}) Stop → Type 0
   Ending = ReadsWithin gave failed (fault_by access_in) (Went access_in st rm rq ac ft) (Stopped access_in st rm rq ft) (λ s t. t ≡ s) (λ s t. ⊥) 768 MOST_LOG_LINES r r' c c'
-
-  pub log_read : (done : Unit {0}) → Ending (Ok done) → LogSays gave access_in (rm c) r r' (rq c') (ac c')
-  log_read done h =
-      let went = h.3 in
-      record {
-        texts = h.0;
-        whole = h.2;
-        requests = ap rq h.4 ∙ went.0.requests;
-        grouped = ap ac h.4 ∙ went.0.grouped;
-        fits = subst (λ n. HasRoom access_in n h.0) went.1 went.0.fits;
-      }
-
-  pub log_faulty : (f : TraceFault) → Ending (Err (Fault f)) → LogFails gave failed access_in (rm c) r r' (log.Trace f)
-  log_faulty f h =
-      let went = h.3 in
-      inr (h.0, subst (λ n. HasRoom access_in n h.0) went.1 went.0.fits, inl (f, refl, h.2))
-
-  pub log_without_memory : Ending (Err Halted) → LogFails gave failed access_in (rm c) r r' (log.Trace fault.OutOfMemory)
-  log_without_memory h = inl refl
 
   pub log_without_room : (f : LogFault) → Ending (Err Halted) → ft c' ≡ Some f → LogFails gave failed access_in (rm c) r r' f
   log_without_room f h e =

@@ -1,4 +1,3 @@
 pub mod Asked
 pub mod Logs
-pub mod Ends
 pub mod Kept

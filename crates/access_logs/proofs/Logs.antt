@@ -22,15 +22,6 @@ requests_more access_in s (t ∷ ts) text =
     ap (λ l. first ++ l) (requests_more access_in next ts text)
     ∙ sym (append_assoc first (requests_in access_in next ts) (requests_for (state_behind access_in next ts) (access_told (access_in text))))
 
-pub requested_none : {W : Type 0} (took : W → List ℕ → W → Type 0) (access_in : List ℕ → Result (Option Access) LineFault) (room : ℕ) (w : W) (s : LogState) → s ≡ log_start
-    → Requested took access_in room w [] w s
-requested_none took access_in room w s e = subst (Requested took access_in room w [] w) (sym e) (record {
-  written = moved_none w;
-  state = refl;
-  number = refl;
-  fits = omega arith;
-})
-
 lines_more : (s : LogState) (said : Option Access) → (state_after s said).lines ≡ s.lines + 1
 lines_more s None = refl
 lines_more s (Some a) = refl

@@ -1,5 +1,5 @@
 -- What was read and what was driven, as one answer.
-use Rattle.std.proofs.Common.{◌≡◌, ℕ, true, List, [], ◌∷◌, ◌≤◌, Option, length, refl, sym, subst, inl, inr}
+use Rattle.std.proofs.Common.{◌≡◌, ℕ, true, List, [], ◌∷◌, ◌≤◌, Option, length, refl, sym, subst, inr}
 use Rattle.std.specs.List.{AllByRecursion, list_all}
 use Rattle.std.specs.Prelude.{Result, Ok, Err, IfErr}
 use Rattle.flat_model.specs.declared.Event.{Event}
@@ -7,7 +7,6 @@ use Rattle.flat_model.specs.declared.Event.TheVariants.{Load, Store, Prefetch, E
 use Rattle.machine_core.specs.Machine.{MachineState}
 use Rattle.trace_text.specs.Requests.{IsRequest}
 use Rattle.trace_text.specs.declared.fault.TraceFault.{TraceFault}
-use Rattle.trace_text.specs.declared.fault.TraceFault.TheVariants.{OutOfMemory}
 use Rattle.trace_text.specs.Codes.{most_lines}
 use Rattle.trace_text.specs.declared.lines.LineFault.{LineFault}
 use Rattle.access_logs.specs.Formats.{lackey_access, din_access}
@@ -55,13 +54,6 @@ module _ {R W E : Type 0} (gave : R → List ℕ → R → Type 0) (failed : R �
       → DrivesAll gave failed took refused noted unnoted unsettled from room timing s input input' output output' errors errors'
       (Err (log.Trace f))
   driven_not f d = inr (requests, groups, f, asks, refl, d)
-
--- memory may be missing, whatever is read
-pub asks_no_memory : {R : Type 0} (gave : R → List ℕ → R → Type 0) (failed : R → R → Type 0) (from : RequestText) (room : ℕ) (input input' : R)
-    → AsksNothing gave failed from room input input' (log.Trace OutOfMemory)
-asks_no_memory gave failed Trace room input input' = (OutOfMemory, refl, inl refl)
-asks_no_memory gave failed Lackey room input input' = inl refl
-asks_no_memory gave failed Din room input input' = inl refl
 
 -- a log that can't be read asks nothing
 module _ {A R : Type 0} (gave : R → List ℕ → R → Type 0) (failed : R → R → Type 0) (from : RequestText) (room room' : ℕ) (input input' : R) (same : room ≡ room') where

@@ -7,15 +7,8 @@ use Rattle.trace_text.specs.declared.fault.TraceFault.{TraceFault}
 use Rattle.named_fields.specs.declared.format.Format.{Format}
 use Rattle.trace_sheets.specs.Sheets.{sheet_fault}
 use Rattle.trace_sheets.specs.Grades.{Graded, grade_text}
-use Rattle.trace_sheets.specs.declared.grade.Grade.{Grade}
 use Rattle.trace_sheets.specs.declared.score.Score.{Score}
 use Rattle.kroft_jobs.specs.Writing.{IsWritten}
-
--- A sheet is graded by a machine of this state, or it couldn't be read to its end.
-abbrev pub SheetGraded : {R : Type 0} (gave : R → List ℕ → R → Type 0) (failed : R → R → Type 0) (format : Format) (m : MachineState) (input input' : R) → Result Grade TraceFault → Type 0
-SheetGraded gave failed format m input input' (Ok grade) =
-    (texts : List (List ℕ)) × (after : MachineState) × ReadWhole gave sheet_fault MAX_PAIR input input' texts × Graded format m texts after grade.report.items grade.score
-SheetGraded gave failed format m input input' (Err e) = ReadFails gave failed sheet_fault MAX_PAIR input input' e
 
 -- The grade of the sheet is written. Or the sheet couldn't be read to its end, and then nothing is written; or the writing
 -- didn't come to its end.

@@ -4,7 +4,7 @@ ghost use Rattle.std.specs.Prelude.{◌≡◌, None, IfOk};
 ghost use Rattle.shape_files.specs.MachineFile.{bad_machine};
 ghost use Rattle.register_sweeps.specs.Sweep.{machine_over};
 ghost use Rattle.trace_sheets.specs.Grades.{grade_text};
-ghost use Rattle.kroft_jobs.specs.Grading.{SheetGraded, GradesAll};
+ghost use Rattle.kroft_jobs.specs.Grading.{GradesAll};
 ghost use Rattle.kroft_jobs.specs.Writing.{IsWritten};
 
 use crate::writing::put_text;

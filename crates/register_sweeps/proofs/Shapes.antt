@@ -1,8 +1,8 @@
 -- The first shape or machine with a bad number, and the rows of machines that have none.
-use Rattle.std.proofs.Common.{◌≡◌, ℕ, zero, suc, ◌+◌, ◌<◌, ◌≤◌, List, [], ◌∷◌, map, length, get_or, drop, Option, Some, None, Result, Ok, Err, IfOk, OnOk, Vec, Global, refl, sym, ap, ap₂, subst, ◌∙◌, arith}
+use Rattle.std.proofs.Common.{◌≡◌, ℕ, zero, suc, ◌+◌, ◌<◌, List, [], ◌∷◌, map, length, get_or, Option, Some, None, Result, Ok, Err, IfOk, OnOk, Vec, Global, refl, sym, ap, ap₂, subst, ◌∙◌, arith}
 use Rattle.std.specs.List.{All}
 use Rattle.std.specs.Option.{option_map, option_or}
-use Rattle.std.proofs.lemmas.List.{drop_more, drop_all, get_or-map, length-map}
+use Rattle.std.proofs.lemmas.List.{get_or-map, length-map}
 use Rattle.flat_model.specs.declared.ShapeField.{ShapeField}
 use Rattle.shape_files.specs.MachineFile.{bad_machine}
 use Rattle.cache_unit.specs.declared.Sizes.{Sizes}
@@ -38,19 +38,6 @@ module _ {S : Type 0} (bad : S → Option ShapeField) where
   -- where none is found, each is good
   pub each_good : (ss : List S) → bad_from bad 0 ss ≡ None → All (λ s. bad s ≡ None) ss
   each_good ss h = λ i d l. good_one ss 0 i d h l
-
-  module _ (ss : List S) (i : ℕ) (d : S) (inside : i < length ss) where
-    here : bad_from bad i (drop i ss) ≡ found i (bad (get_or ss i d)) (drop (i + 1) ss)
-    here = ap (bad_from bad i) (drop_more ss i d inside)
-
-    pub bad_here : (field : ShapeField) → bad (get_or ss i d) ≡ Some field → bad_from bad i (drop i ss) ≡ Some (i, field)
-    bad_here field h = here ∙ ap (λ o. found i o (drop (i + 1) ss)) h
-
-    pub good_here : bad (get_or ss i d) ≡ None → bad_from bad i (drop i ss) ≡ bad_from bad (i + 1) (drop (i + 1) ss)
-    good_here h = here ∙ ap (λ o. found i o (drop (i + 1) ss)) h
-
-  pub none_left : (ss : List S) (i : ℕ) → length ss ≤ i → bad_from bad i (drop i ss) ≡ None
-  none_left ss i h = ap (bad_from bad i) (drop_all i ss h)
 
 -- the machines of good shapes are good
 pub machines_good : (ts : List ToolShape) (zs : List Sizes) → bad_from bad_shape 0 ts ≡ None → zs ≡ map sizes_of ts → AreGood zs

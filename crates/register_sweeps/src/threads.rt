@@ -41,7 +41,7 @@ pub(crate) trait RowMaker: Sync {
 }
 
 // Why a thread gave no row.
-#[derive(Clone, Copy, PartialEq, Eq, Debug)]
+#[derive(Clone, Copy)]
 pub(crate) enum Stop {
     TurnLimit,
     OutOfMemory,

@@ -1,8 +1,7 @@
 -- From the runs of threads to those of the crew, and from runs with more room in their lists on.
-use Rattle.std.proofs.Common.{◌≡◌, ◌<◌, ◌≤◌, ◌+◌, ℕ, List, [], length, slice_index_or, sym, ap, ◌∙◌, subst, arith}
+use Rattle.std.proofs.Common.{◌≡◌, ◌<◌, ◌+◌, ℕ, List, [], length, slice_index_or, sym, ap, ◌∙◌, subst}
 use Rattle.std.specs.Global.{Vec}
 use Rattle.std.specs.List.{All}
-use Rattle.std.specs.Fork.{IsChunk}
 use Rattle.std.proofs.lemmas.List.{get_or_default}
 use Rattle.station_journal.specs.declared.asks.Ask.{Ask}
 use Rattle.ring_station.specs.declared.crew.PortRun.{PortRun}
@@ -35,11 +34,6 @@ pub goes_on_at : (scripts : List (Vec Ask)) (p turn : ℕ) (e : Vec Ask) (script
     → GoesOn (slice_index_or scripts p s).items turn old new
 goes_on_at scripts p turn e script old new is less h s =
     subst (λ l. GoesOn l turn old new) (is ∙ ap (λ (v : Vec Ask). v.items) (get_or_default scripts p e s less)) h
-
--- what holds of each element holds of those of a chunk
-pub all_in_chunk : {X : Type 0} (P : X → Type 0) (xs ys : List X) (size start : ℕ) → IsChunk xs size start ys → All P xs → All P ys
-all_in_chunk P xs ys size start chunk all =
-    λ k d less. let u = chunk.in_bounds in subst P (sym (chunk.elements k d less)) (all (start + k) d (omega arith))
 
 pub begun_after : (scripts : List (Vec Ask)) (turns : ℕ) (old reserved new : List PortRun) → EachIsSame old reserved
     → EachRanScript scripts turns reserved new → EachRanScript scripts turns old new

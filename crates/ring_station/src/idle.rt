@@ -41,7 +41,7 @@ const FIRST_NAP: u64 = 20_000;
 const LONGEST_NAP: u64 = 1_000_000;
 
 /// What a turn came to.
-#[derive(Clone, Copy, PartialEq, Eq, Debug)]
+#[derive(Clone, Copy)]
 pub(crate) enum Turn {
     /// A step was made.
     Moved,

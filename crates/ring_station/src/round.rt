@@ -9,7 +9,7 @@ use station_parts::{CacheSide, Source, Stepped};
 const OTHER_SOURCES: u64 = 3;
 
 // Where the round stands.
-#[derive(Clone, Copy, PartialEq, Eq, Debug)]
+#[derive(Clone, Copy)]
 enum Place {
     // At the port that is asked next.
     Ports,

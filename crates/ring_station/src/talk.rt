@@ -8,7 +8,7 @@ ghost use Rattle.ring_station.specs.Scripts.{ask_at, HasTalked};
 use station_parts::{Ask, Told};
 
 /// What a port does in its next turn.
-#[derive(Clone, Copy, PartialEq, Eq, Debug)]
+#[derive(Clone, Copy, PartialEq, Eq)]
 pub(crate) enum Phase {
     /// It offers the next ask of its script, or Done behind the last one.
     Offering,
@@ -23,7 +23,7 @@ pub(crate) enum Phase {
 
 /// The place in the script of the ask that is offered next or waits for its verdict, and how many
 /// values of accepted loads are still to come.
-#[derive(Clone, Copy, Debug)]
+#[derive(Clone, Copy)]
 pub(crate) struct Talk {
     pub(crate) phase: Phase,
     pub(crate) next: usize,

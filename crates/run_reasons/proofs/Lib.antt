@@ -1,5 +1,4 @@
 mod TagSlots
-mod TagUses
 mod PairTexts
 mod LinesRead
 mod Endings

@@ -19,7 +19,7 @@ use Rattle.trace_text.proofs.LineTexts.{none_yet, none_more, begins_long, good_m
 use Rattle.run_reasons.specs.Origins.{Origins, origins_then, origins_from, origins_of, origins_after, beginning}
 use Rattle.run_reasons.specs.Reasons.{mismatch_at}
 use Rattle.run_reasons.specs.Shown.{shown}
-use Rattle.run_reasons.specs.Runs.{most_lines, IsFlat, IsFlatText, IsMismatch, EndsAt, EndsIn}
+use Rattle.run_reasons.specs.Runs.{IsFlat, IsFlatText, IsMismatch, EndsAt, EndsIn}
 use Rattle.run_reasons.specs.Lines.{HasRead, StepEnds, bytes_left}
 use Rattle.run_reasons.specs.declared.lines.Lines.{Lines}
 use Rattle.run_reasons.specs.declared.lines.Stop.{Stop}
@@ -66,26 +66,6 @@ read_nothing words r pending count steps explainer =
       number = count;
       room = λ some. let nothing : length r.pending.items ≡ 0 = ap length pending in absurd (omega (arith, some, nothing));
       origins = explainer;
-    }
-
--- ---- a byte that ends no line
-
-pub read_char : {words : List Word} {bytes : List ℕ} (r r' : Lines) (b : ℕ) → HasRead words bytes r → b ≢ 10 → length r.pending.items + 1 ≤ MAX_PAIR → r.count < most_lines
-    → r'.pending.items ≡ r.pending.items ++ b ∷ [] → r'.count ≡ r.count → r'.steps ≡ r.steps → shown r'.explainer ≡ shown r.explainer
-    → HasRead words (bytes ++ b ∷ []) r'
-read_char {words = words} {bytes = bytes} r r' b h ne short few pending count steps explainer =
-    let longer : IsFlatText words (bytes ++ b ∷ []) h.texts (r.pending.items ++ b ∷ []) r.steps = record {
-      good = good_more (b ∷ []) h.text.good;
-      short = omega (arith, length-append r.pending.items (b ∷ []));
-      unfinished = none_more r.pending.items b ne h.text.unfinished;
-      flat = h.text.flat;
-    } in
-    record {
-      texts = h.texts;
-      text = subst (λ l. IsFlatText words (bytes ++ b ∷ []) h.texts l r'.steps) (sym pending) (subst (IsFlatText words (bytes ++ b ∷ []) h.texts (r.pending.items ++ b ∷ [])) (sym steps) longer);
-      number = count ∙ h.number;
-      room = λ some. omega (arith, count, few);
-      origins = explainer ∙ h.origins;
     }
 
 -- ---- a line that ends
@@ -169,9 +149,6 @@ ends_more {words = words} {bytes = bytes} why more p = record {
   flat = p.flat;
   ends = p.ends;
 }
-
-pub ends_too_many : {words : List Word} {bytes : List ℕ} (r : Lines) (b : ℕ) → HasRead words bytes r → r.count ≡ most_lines → EndsIn words (bytes ++ b ∷ []) (stop.Fault fault.TooManyLines)
-ends_too_many r b h full = ends_in r b (stop.Fault fault.TooManyLines) h (sym h.number ∙ full, omega (arith, length-append r.pending.items (b ∷ [])))
 
 pub ends_long : {words : List Word} {bytes : List ℕ} (r : Lines) (b number : ℕ) → HasRead words bytes r → b ≢ 10 → length r.pending.items ≡ MAX_PAIR → number ≡ r.count + 1 → EndsIn words (bytes ++ b ∷ []) (stop.Fault (fault.Line number TooLong))
 ends_long r b number h ne long at =

@@ -1,12 +1,12 @@
 -- What is counted and shown of tags after each change of one of them.
-use Rattle.std.proofs.Common.{◌&&◌, ◌||◌, append-nil, ◌≡◌, ◌≢◌, ℕ, ◌+◌, ◌*◌, ◌-◌, ◌<◌, ◌≤◌, Bool, true, false, ◌==◌, cond, if◌then◌else◌, List, [], ◌∷◌, ◌++◌, take, drop, length, replicate, get_or, set, length-append, inl, inr, refl, sym, ◌∙◌, ap, subst, eq-eqb, arith}
+use Rattle.std.proofs.Common.{◌||◌, append-nil, ◌≡◌, ◌≢◌, ℕ, ◌*◌, ◌-◌, ◌<◌, ◌≤◌, Bool, true, false, ◌==◌, cond, if◌then◌else◌, List, [], ◌∷◌, ◌++◌, take, drop, length, replicate, get_or, set, inl, inr, refl, sym, ◌∙◌, ap, subst, eq-eqb, arith}
 use Rattle.std.specs.Prelude.{slice_set}
 use Rattle.std.specs.List.{sum_by, list_any}
 use Rattle.std.proofs.Math.Path.{fun_ext}
 use Rattle.std.proofs.Math.Seq.{drop-length, take-length}
-use Rattle.std.proofs.lemmas.Bool.{cases_Bool, cases_eq, cases_lt, eqb-true, ne_eqb}
+use Rattle.std.proofs.lemmas.Bool.{cases_Bool, cases_lt, eqb-true}
 use Rattle.std.proofs.lemmas.List.{length-drop, get_or-set_same, get_or-set_other, get_or-replicate, get_or_past, drop-append-le, length-replicate}
-use Rattle.std.proofs.lemmas.List.Sums.{sum_by-set, sum_by-le, get_or-le-sum_by}
+use Rattle.std.proofs.lemmas.List.Sums.{sum_by-le, get_or-le-sum_by}
 use Rattle.std.proofs.lemmas.List.Folds.{sum_by-replicate}
 use Rattle.flat_model.specs.declared.Word.{Word}
 use Rattle.std.proofs.lemmas.Bool.Decides.{nat_tests}
@@ -39,15 +39,6 @@ slot_set slots tag t s false lt e =
     let other : t ≢ tag = grind (arith, nat_tests) in
     get_or-set_other slots tag t s no_slot other
 
-state_is : (b : Bool) (s u : TagSlot) → (cond b s u).state ≡ (if b then s.state else u.state)
-state_is true s u = refl
-state_is false s u = refl
-
-pub uses_set : (slots : List TagSlot) (tag : ℕ) (s : TagSlot) → tag < length slots
-    → uses_in (slice_set slots tag s) ≡ with_use (uses_in slots) tag s.state
-uses_set slots tag s lt =
-    fun_ext (λ t. ap (λ (u : TagSlot). u.state) (slot_set slots tag t s (t == tag) lt refl) ∙ state_is (t == tag) s (slot_at slots t))
-
 words_is : (left : List LeftWord) (b : Bool) (s u : TagSlot) → words_behind left s.before s.state ≡ []
     → words_behind left (cond b s u).before (cond b s u).state ≡ (if b then [] else words_behind left u.before u.state)
 words_is left true s u none = none
@@ -73,21 +64,10 @@ since_twice since tag = fun_ext (λ t. twice (t == tag) [] [] (since t))
 pub use_there : (uses : ℕ → TagUse) (tag : ℕ) (state : TagUse) → with_use uses tag state tag ≡ state
 use_there uses tag state = ap (λ b. if b then state else uses tag) (eq-eqb tag tag refl)
 
--- no word is left of a tag that has no load, nor of one whose load has just been accepted
-pub none_closed : (left : List LeftWord) (before : ℕ) (state : TagUse) → is_open state ≡ false → words_behind left before state ≡ []
-none_closed left before Never h = refl
-none_closed left before (Loaded load) h = cc
-none_closed left before (Taken n) h = refl
-
 pub none_begun : (left : List LeftWord) (load : AcceptedLoad) → words_behind left (length left) (Loaded load) ≡ []
 none_begun left load = ap (words_at load.at) (drop-length left)
 
 -- ---- counts
-
-pub closed_at : (at : ℕ) (state : TagUse) → is_open state ≡ false → is_open_at at state ≡ false
-closed_at at Never h = refl
-closed_at at (Loaded load) h = cc
-closed_at at (Taken n) h = refl
 
 -- one that has a load is counted
 pub one_counted : (p : TagUse → Bool) (slots : List TagSlot) (t : ℕ) → p Never ≡ false → p (uses_in slots t) ≡ true
@@ -121,82 +101,8 @@ few_counted p slots =
     one_if (p s.state)) 1 slots (λ k d l. at_most_one (p (get_or slots k d).state)) in
     omega (arith, most)
 
-counted_set : (p : TagUse → Bool) (slots : List TagSlot) (tag : ℕ) (s : TagSlot) → tag < length slots
-    → sum_by (λ s. one_if (p s.state)) (slice_set slots tag s) + one_if (p (uses_in slots tag))
-    ≡ sum_by (λ s. one_if (p s.state)) slots + one_if (p s.state)
-counted_set p slots tag s lt = sum_by-set (λ s. one_if (p s.state)) slots tag s no_slot lt
-
-behind_set : (slots : List TagSlot) (tag : ℕ) (s : TagSlot) (most : ℕ) → tag < length slots
-    → ((t : ℕ) → is_open (uses_in slots t) ≡ true → (slot_at slots t).before ≤ most) → (is_open s.state ≡ true → s.before ≤ most)
-    → (t : ℕ) → is_open (uses_in (slice_set slots tag s) t) ≡ true → (slot_at (slice_set slots tag s) t).before ≤ most
-behind_set slots tag s most lt others this t h = elim (cases_Bool (t == tag)) [
-  | inl e ↦
-      let is : slot_at (set slots tag s) t ≡ s = slot_set slots tag t s true lt e in
-      subst (λ (u : TagSlot). u.before ≤ most) (sym is) (this (ap (λ (u : TagSlot). is_open u.state) (sym is) ∙ h))
-  | inr e ↦
-      let is : slot_at (set slots tag s) t ≡ slot_at slots t = slot_set slots tag t s false lt e in
-      subst (λ (u : TagSlot). u.before ≤ most) (sym is) (others t (ap (λ (u : TagSlot). is_open u.state) (sym is) ∙ h))
-]
-
 no_longer : (state : TagUse) (P : Type 0) → is_open state ≡ false → is_open state ≡ true → P
 no_longer state P e h = absurd (not_true (sym e ∙ h))
-
--- a tag without a load becomes another one without
-pub counted_closed : (slots : List TagSlot) (counts : List ℕ) (loads : ℕ) (left : List LeftWord) (tag : ℕ) (s : TagSlot)
-    → IsCounted slots counts loads left → tag < length slots → is_open (uses_in slots tag) ≡ false → is_open s.state ≡ false
-    → IsCounted (slice_set slots tag s) counts loads left
-counted_closed slots counts loads left tag s c lt free closed = record {
-  each_word = λ at.
-      let old : one_if (is_open_at at (uses_in slots tag)) ≡ 0 = ap one_if (closed_at at (uses_in slots tag) free) in
-      let new : one_if (is_open_at at s.state) ≡ 0 = ap one_if (closed_at at s.state closed) in
-      omega (arith, c.each_word at, counted_set (is_open_at at) slots tag s lt, old, new);
-  all =
-      let old : one_if (is_open (uses_in slots tag)) ≡ 0 = ap one_if free in
-      let new : one_if (is_open s.state) ≡ 0 = ap one_if closed in
-      omega (arith, c.all, counted_set is_open slots tag s lt, old, new);
-  behind = behind_set slots tag s (length left) lt c.behind (no_longer s.state (s.before ≤ length left) closed);
-}
-
--- what a count is behind a change of one of them
-count_at : (counts : List ℕ) (at a n : ℕ) → at < length counts → get_or (set counts at n) a 0 ≡ (if a == at then n else get_or counts a 0)
-count_at counts at a n lt = elim (cases_eq a at) [
-  | inl e ↦ rw (eq-eqb a at e) (ap (λ k. get_or (set counts at n) k 0) e ∙ get_or-set_same counts at n 0 lt)
-  | inr ne ↦ rw (ne_eqb a at ne) (get_or-set_other counts at a n 0 ne)
-]
-
--- a load is accepted
-pub counted_begun : (slots : List TagSlot) (counts : List ℕ) (loads : ℕ) (left : List LeftWord) (tag n m : ℕ) (load : AcceptedLoad)
-    → IsCounted slots counts loads left → tag < length slots → is_open (uses_in slots tag) ≡ false → load.at < length counts
-    → n ≡ get_or counts load.at 0 + 1 → m ≡ loads + 1
-    → IsCounted (slice_set slots tag (record { state = Loaded load; before = length left })) (slice_set counts load.at n) m left
-counted_begun slots counts loads left tag n m load c lt free inside counts' loads' =
-    let s : TagSlot = record { state = Loaded load; before = length left } in
-    record {
-      each_word = λ a.
-          let old : one_if (is_open_at a (uses_in slots tag)) ≡ 0 = ap one_if (closed_at a (uses_in slots tag) free) in
-          let sum : loads_at a (slice_set slots tag s) ≡ loads_at a slots + one_if (load.at == a) = omega (
-            arith,
-            counted_set (is_open_at a) slots tag s lt,
-            old,
-          ) in
-          elim (cases_eq a load.at) [
-            | inl e ↦
-                let one : one_if (load.at == a) ≡ 1 = ap one_if (eq-eqb load.at a (sym e)) in
-                let new : get_or (set counts load.at n) a 0 ≡ n = count_at counts load.at a n inside ∙ ap (λ b.
-                if b then n else get_or counts a 0) (eq-eqb a load.at e) in
-                let was : get_or counts load.at 0 ≡ loads_at a slots = ap (λ k. get_or counts k 0) (sym e) ∙ c.each_word a in
-                omega (arith, new, sum, one, counts', was)
-            | inr ne ↦
-                let none : one_if (load.at == a) ≡ 0 = ap one_if (ne_eqb load.at a (λ q. ne (sym q))) in
-                let new : get_or (set counts load.at n) a 0 ≡ get_or counts a 0 = count_at counts load.at a n inside ∙ ap (λ b.
-                if b then n else get_or counts a 0) (ne_eqb a load.at ne) in
-                omega (arith, new, sum, none, c.each_word a)
-          ];
-      all =
-          let old : one_if (is_open (uses_in slots tag)) ≡ 0 = ap one_if free in
-          omega (arith, c.all, counted_set is_open slots tag s lt, old, loads');
-      behind = behind_set slots tag s (length left) lt c.behind (λ h. omega arith);
-    }
 
 -- a load that is open is counted at its word, which lies within memory
 pub load_counted : (slots : List TagSlot) (counts : List ℕ) (loads : ℕ) (left : List LeftWord) (tag : ℕ) (load : AcceptedLoad)
@@ -212,59 +118,6 @@ within counts at some = elim (cases_lt at (length counts)) [
   | inl lt ↦ lt
   | inr past ↦ absurd (omega (arith, some, get_or_past counts at 0 past))
 ]
-
--- the value of a load is taken
-pub counted_ended : (slots : List TagSlot) (counts : List ℕ) (loads : ℕ) (left : List LeftWord) (tag n m : ℕ) (load : AcceptedLoad)
-    (s : TagSlot) → IsCounted slots counts loads left → tag < length slots → uses_in slots tag ≡ Loaded load → is_open s.state ≡ false
-    → n + 1 ≡ get_or counts load.at 0 → m + 1 ≡ loads
-    → IsCounted (slice_set slots tag s) (slice_set counts load.at n) m left
-counted_ended slots counts loads left tag n m load s c lt is closed counts' loads' =
-    let inside : load.at < length counts = within counts load.at (load_counted slots counts loads left tag load c is).0 in
-    record {
-      each_word = λ a.
-          let old : one_if (is_open_at a (uses_in slots tag)) ≡ one_if (load.at == a) = ap (λ u. one_if (is_open_at a u)) is in
-          let new : one_if (is_open_at a s.state) ≡ 0 = ap one_if (closed_at a s.state closed) in
-          let sum : loads_at a (slice_set slots tag s) + one_if (load.at == a) ≡ loads_at a slots = omega (
-            arith,
-            counted_set (is_open_at a) slots tag s lt,
-            old,
-            new,
-          ) in
-          elim (cases_eq a load.at) [
-            | inl e ↦
-                let one : one_if (load.at == a) ≡ 1 = ap one_if (eq-eqb load.at a (sym e)) in
-                let now : get_or (set counts load.at n) a 0 ≡ n = count_at counts load.at a n inside ∙ ap (λ b.
-                if b then n else get_or counts a 0) (eq-eqb a load.at e) in
-                let was : get_or counts load.at 0 ≡ loads_at a slots = ap (λ k. get_or counts k 0) (sym e) ∙ c.each_word a in
-                omega (arith, now, sum, one, counts', was)
-            | inr ne ↦
-                let none : one_if (load.at == a) ≡ 0 = ap one_if (ne_eqb load.at a (λ q. ne (sym q))) in
-                let now : get_or (set counts load.at n) a 0 ≡ get_or counts a 0 = count_at counts load.at a n inside ∙ ap (λ b.
-                if b then n else get_or counts a 0) (ne_eqb a load.at ne) in
-                omega (arith, now, sum, none, c.each_word a)
-          ];
-      all =
-          let old : one_if (is_open (uses_in slots tag)) ≡ 1 = ap (λ u. one_if (is_open u)) is in
-          let new : one_if (is_open s.state) ≡ 0 = ap one_if closed in
-          omega (arith, c.all, counted_set is_open slots tag s lt, old, new, loads');
-      behind = behind_set slots tag s (length left) lt c.behind (no_longer s.state (s.before ≤ length left) closed);
-    }
-
--- no load is open, so the words that were left are forgotten
-pub counted_forgotten : (slots : List TagSlot) (counts : List ℕ) (loads : ℕ) (left : List LeftWord) → IsCounted slots counts loads left
-    → loads ≡ 0 → IsCounted slots counts loads []
-counted_forgotten slots counts loads left c none = record {
-  each_word = c.each_word;
-  all = c.all;
-  behind = λ t h. no_longer (uses_in slots t) ((slot_at slots t).before ≤ 0) (none_counted is_open slots t refl (sym c.all ∙ none)) h;
-}
-
-pub since_forgotten : (slots : List TagSlot) (counts : List ℕ) (loads : ℕ) (left : List LeftWord) → IsCounted slots counts loads left
-    → loads ≡ 0 → since_in [] slots ≡ since_in left slots
-since_forgotten slots counts loads left c none = fun_ext (λ t.
-    let closed : is_open (uses_in slots t) ≡ false = none_counted is_open slots t refl (sym c.all ∙ none) in
-    let before : ℕ = (slot_at slots t).before in
-    none_closed [] before (uses_in slots t) closed ∙ sym (none_closed left before (uses_in slots t) closed))
 
 -- ---- words that are left
 
@@ -291,14 +144,6 @@ left_for left l before (Loaded load) h =
 pub since_left : (slots : List TagSlot) (counts : List ℕ) (loads : ℕ) (left : List LeftWord) (l : LeftWord)
     → IsCounted slots counts loads left → since_in (left ++ l ∷ []) slots ≡ with_left (uses_in slots) (since_in left slots) l.at l.word
 since_left slots counts loads left l c = fun_ext (λ t. left_for left l (slot_at slots t).before (uses_in slots t) (c.behind t))
-
-pub counted_left : (slots : List TagSlot) (counts : List ℕ) (loads : ℕ) (left : List LeftWord) (l : LeftWord)
-    → IsCounted slots counts loads left → IsCounted slots counts loads (left ++ l ∷ [])
-counted_left slots counts loads left l c = record {
-  each_word = c.each_word;
-  all = c.all;
-  behind = λ t h. omega (arith, c.behind t h, length-append left (l ∷ []));
-}
 
 not_at : (b : Bool) (words more : List Word) → b ≡ false → words ≡ (if b then more else words)
 not_at true words more h = cc

@@ -144,7 +144,7 @@ pub(crate) fn key_of(field: ShapeField) -> &'static str
 }
 
 /// The numbers of a shape file as they stand there, before their ranges are looked at.
-#[derive(Clone, Copy, PartialEq, Eq, Debug)]
+#[derive(Clone, Copy)]
 struct Numbers {
     ways: i64,
     regs: i64,

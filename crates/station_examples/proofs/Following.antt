@@ -1,7 +1,7 @@
 -- What a follower of a chain has asked and was told, after one turn more.
-use Rattle.std.proofs.Common.{◌≡◌, ℕ, List, [], ◌∷◌, ◌++◌, length, map, slice_index_or, refl, sym, ap, ◌∙◌, append-nil, arith}
+use Rattle.std.proofs.Common.{◌≡◌, ℕ, List, [], ◌∷◌, ◌++◌, length, map, slice_index_or, refl, sym, ap, ◌∙◌, arith}
 use Rattle.std.proofs.lemmas.List.{append_assoc}
-use Rattle.std.proofs.lemmas.List.Elements.{All-push, All-weaker}
+use Rattle.std.proofs.lemmas.List.Elements.{All-weaker}
 use Rattle.station_journal.specs.declared.asks.Ask.{Ask}
 use Rattle.station_journal.specs.declared.asks.Ask.TheVariants.{Load, Store, Prefetch, Evict, Done}
 use Rattle.station_journal.specs.declared.asks.Told.{Told}
@@ -26,18 +26,7 @@ follows_more first tellings told (Prefetch at) h = tt
 follows_more first tellings told (Evict block) h = tt
 follows_more first tellings told Done h = tt
 
--- a load where the chain stands
-pub load_follows : (first at tag : ℕ) (tellings : List Told) → at ≡ stands_at first tellings → Follows first tellings (Load tag at)
-load_follows first at tag tellings here =
-    record { before = tellings; rest = []; is = sym (append-nil tellings); stood = here }
-
 module _ (first : ℕ) (asked asked' : List Ask) (tellings tellings' : List Told) (at : ℕ) (h : IsFollowed first asked tellings at) where
-  -- it has asked this too
-  pub followed_ask : (ask : Ask) → asked' ≡ asked ++ ask ∷ [] → tellings' ≡ tellings → Follows first tellings ask
-      → IsFollowed first asked' tellings' at
-  followed_ask ask more same follows =
-      rw (more, same) (record { each = All-push (Follows first tellings) asked ask h.each follows; now = h.now })
-
   -- it was told this too
   pub followed_telling : (told : Told) (at' : ℕ) → asked' ≡ asked → tellings' ≡ tellings ++ told ∷ [] → at' ≡ next_of at told
       → IsFollowed first asked' tellings' at'

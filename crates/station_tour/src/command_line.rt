@@ -8,7 +8,7 @@ use station_parts::MAX_PORTS;
 use std::alloc::{AllocError, Global};
 
 /// What is to be shown of a tour.
-#[derive(PartialEq, Eq, Debug, Drop)]
+#[derive(PartialEq, Eq, Drop)]
 pub(crate) enum Show {
     /// What the ports were told, and what the audit found.
     Story,
@@ -19,7 +19,7 @@ pub(crate) enum Show {
 }
 
 /// What the words of the command line ask for.
-#[derive(PartialEq, Eq, Debug, Drop)]
+#[derive(Drop)]
 pub(crate) enum Job {
     /// The ports of a plan are run, and this is told of them.
     Tour {

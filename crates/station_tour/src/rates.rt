@@ -54,7 +54,7 @@ const SERVERS: [Server; 11] = [
 const ENTRIES_A_REQUEST: usize = 8;
 
 /// Who serves the requests.
-#[derive(Clone, Copy, PartialEq, Eq, Debug)]
+#[derive(Clone, Copy)]
 pub(crate) enum Server {
     /// The core, moved by its driver, on one thread.
     Core,

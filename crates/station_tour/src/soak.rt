@@ -56,7 +56,7 @@ pub(crate) fn soak<R: AllocGlobal + Clock + Threads + Sync, W: Write, E: Write>(
 }
 
 // What was found behind a station's run, and whether that had enough turns and entries for its end.
-#[derive(Clone, Copy, PartialEq, Eq, Debug)]
+#[derive(Clone, Copy, Debug)]
 struct Looked {
     findings: Findings,
     has_to_end: bool,

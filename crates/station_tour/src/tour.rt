@@ -35,7 +35,7 @@ const ASKS_OF_A_SEGMENT: u32 = 16_384;
 type TourStation = Station<WAYS, BLOCK_WORDS, REGS, DEPTH>;
 
 /// What is written of a tour, beside what changes from run to run.
-#[derive(Clone, Copy, PartialEq, Eq, Debug)]
+#[derive(Clone, Copy)]
 pub(crate) struct Pages {
     /// What the ports were told, and what the audit found.
     pub(crate) story: bool,

@@ -142,11 +142,6 @@ no_command text none = no_command_in text (command_named (cut_of text).0) none r
 
 -- ---- what tells that no command begins
 
-pub too_short : (text : List ℕ) → length text < 3 → BeginsNoCommand text
-too_short text lt c rest is =
-    let long = told c rest in
-    omega (arith, lt, ap length is, long.0)
-
 pub told_another : (text : List ℕ) (o : Option Command) → command_told (get_or text 0 0) (get_or text 2 0) ≡ o → (c : Command) (rest : List ℕ) → text ≡ name_of c ++ rest → o ≡ Some c
 told_another text o is c rest e = sym is ∙ ap (λ l. command_told (get_or l 0 0) (get_or l 2 0)) e ∙ (told c rest).1
 

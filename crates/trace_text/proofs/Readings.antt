@@ -1,5 +1,5 @@
 -- How a reading goes on and ends.
-use Rattle.std.proofs.Common.{◌≡◌, ◌≢◌, ℕ, ◌+◌, ◌-◌, ◌<◌, ◌≤◌, ◌⊎◌, Option, Some, None, List, [], ◌∷◌, ◌++◌, length, take, drop, get_or, get_or-take, drop-cons, add-one, take-append-drop, length-take, length-drop, length-append, append-nil, append_assoc, refl, sym, ◌∙◌, ap, subst, arith, inl, inr, Ok, Err}
+use Rattle.std.proofs.Common.{◌≡◌, ◌≢◌, ℕ, ◌+◌, ◌-◌, ◌<◌, ◌≤◌, ◌⊎◌, Option, Some, None, List, [], ◌∷◌, ◌++◌, length, take, drop, get_or, get_or-take, drop-cons, add-one, take-append-drop, length-take, length-drop, length-append, append_assoc, refl, sym, ◌∙◌, ap, subst, arith, inl, inr, Err}
 use Rattle.std.proofs.Math.Seq.{take-append-add}
 use Rattle.std.proofs.lemmas.List.{take-append-le}
 use Rattle.trace_text.specs.Lines.{IsSaid}
@@ -11,7 +11,7 @@ use Rattle.trace_text.specs.declared.reading.Stop.TheVariants.{Fault, Halted}
 use Rattle.trace_text.specs.declared.fault.TraceFault.{TraceFault}
 use Rattle.trace_text.specs.declared.fault.TraceFault.TheVariants as fault
 use Rattle.trace_text.specs.Streams.{HasNoEnd, Came}
-use Rattle.trace_text.specs.Reading.{joined_texts, IsGood, Good, BeginsFaulty, ReadSoFarWithin, ReadIntoWithin, ReadStopsWithin}
+use Rattle.trace_text.specs.Reading.{joined_texts, IsGood, Good, BeginsFaulty, ReadIntoWithin, ReadStopsWithin}
 use Rattle.trace_text.specs.Collecting.{Misses, ReadsWithin, Collected, AllCollected, Misread, Reading, Filled, BegunFault, AfterPause}
 use Rattle.trace_text.proofs.Serving.{moved_none, moved_more, all_then}
 
@@ -70,16 +70,6 @@ good_one text rest bytes good e = record { each = (good, tt); split = e ∙ sym 
 
 -- ---- lines that were taken
 
-pub collected_none : {C : Type 0} {f : List ℕ → Option LineFault} {went : C → List (List ℕ) → C → Type 0} {most limit : ℕ} (c : C) (n : ℕ) (bytes : List ℕ)
-    → n ≤ limit → Collected f went most limit c n bytes bytes c n
-collected_none {went = went} c n bytes le = record {
-  texts = [];
-  good = record { each = tt; split = refl };
-  number = omega arith;
-  within = le;
-  kept = λ start front e h. subst (λ l. went start l c) (sym (append-nil front)) h;
-}
-
 collected_then : {C : Type 0} {f : List ℕ → Option LineFault} {went : C → List (List ℕ) → C → Type 0} {most limit : ℕ} {c d e : C} {n m k : ℕ} {xs ys zs : List ℕ}
     → Collected f went most limit c n xs ys d m → Collected f went most limit d m ys zs e k → Collected f went most limit c n xs zs e k
 collected_then {went = went} {e = e} {m = m} p q = record {
@@ -106,12 +96,6 @@ collected_line {f = f} {most = most} {m = m} {rest = rest} {text = text} at rest
       kept = λ start front len held. kept start front (omega (arith, len)) held;
     })
 
--- lines were taken, from a state that took others before
-pub taken_so_far : {C : Type 0} {f : List ℕ → Option LineFault} {went : C → List (List ℕ) → C → Type 0} {most limit : ℕ} {c d : C} {n m : ℕ} {bytes rest : List ℕ}
-    → (start : C) × (texts : List (List ℕ)) × went start texts c × (n ≡ length texts) → Collected f went most limit c n bytes rest d m
-    → (start : C) × (texts : List (List ℕ)) × went start texts d × (m + 1 ≡ length texts + 1)
-taken_so_far p q = (p.0, p.1 ++ q.texts, q.kept p.0 p.1 (sym p.3) p.2, omega (arith, p.3, q.number, length-append p.1 q.texts))
-
 -- ---- a line at which the reading stops
 
 begins_said : (f : List ℕ → Option LineFault) (most : ℕ) (rest : List ℕ) (at : ℕ) (e : LineFault) → IsEnd rest at → at ≤ most → f (take at rest) ≡ Some e → IsSaid e → BeginsFaulty f most rest e
@@ -125,12 +109,6 @@ pub misread_said : {C : Type 0} {f : List ℕ → Option LineFault} {went : C �
     → Misread f went stopped most limit c n bytes d' (Fault (fault.Line (m + 1) e))
 misread_said {f = f} {went = went} stopped {most = most} {limit = limit} {c = c} {n = n} {m = m} {bytes = bytes} {rest = rest} at e p h short same missed room =
     (rest, m, subst (λ x. Collected f went most limit c n bytes rest x m) (sym missed.2) p, refl, room, begins_said f most rest at e h short (ap f (sym same) ∙ missed.0) missed.1)
-
-pub misread_long : {C : Type 0} {f : List ℕ → Option LineFault} {went : C → List (List ℕ) → C → Type 0} (stopped : C → List ℕ → C → Type 0) {most limit : ℕ} {c d : C} {n m : ℕ} {bytes rest : List ℕ} (at : ℕ)
-    → Collected f went most limit c n bytes rest d m → IsEnd rest at → most < at → m < limit
-    → Misread f went stopped most limit c n bytes d (Fault (fault.Line (m + 1) TooLong))
-misread_long stopped {most = most} {m = m} {rest = rest} at p h long room =
-    (rest, m, p, refl, room, (omega (arith, h.0), none_in_front rest at (most + 1) h (omega arith)))
 
 pub misread_halted : {C : Type 0} {f : List ℕ → Option LineFault} {went : C → List (List ℕ) → C → Type 0} (stopped : C → List ℕ → C → Type 0) {most limit : ℕ} {c d d' : C} {n m : ℕ} {bytes rest text : List ℕ} (at : ℕ)
     → Collected f went most limit c n bytes rest d m → IsEnd rest at → at ≤ most → text ≡ take at rest → Misses stopped (f text) d text d' miss.Halted → m < limit
@@ -305,29 +283,6 @@ pub reads_halted : {R C : Type 0} {gave : R → List ℕ → R → Type 0} {f : 
 reads_halted {gave = gave} failed stopped paused unpaused {r = r} x more whole p gives same q =
     let on = read_on {gave = gave} {r = r} more whole p gives same q.3 in
     (on.texts, q.0, q.2, on.took, inr (on.into, inr (omega (arith, q.4, on.number), q.5)))
-
-none_of : (xs : List ℕ) → length xs ≡ 0 → [] ≡ xs
-none_of [] e = refl
-none_of (x ∷ xs) e = absurd (omega arith)
-
--- the reader told its end, behind a whole line
-pub reads_done : {R C : Type 0} {gave : R → List ℕ → R → Type 0} {f : List ℕ → Option LineFault} {went : C → List (List ℕ) → C → Type 0} (failed : R → R → Type 0) (stopped : C → List ℕ → C → Type 0) (paused unpaused : C → C → Type 0) {most limit : ℕ} {r r' r'' : R} {c d : C} (c' : C) {n : ℕ} {pending bs : List ℕ} (done : Unit {0})
-    → Reading gave f went most limit r c pending r' d n → paused d c' → gave r' bs r'' → length bs ≡ 0 → length pending ≡ 0
-    → ReadsWithin gave failed f went stopped paused unpaused most limit r r'' c c' (Ok done)
-reads_done {gave = gave} {f = f} failed stopped paused unpaused {most = most} {limit = limit} {r = r} {r' = r'} {r'' = r''} {d = d} c' {pending = pending} {bs = bs} done p pause gives none empty =
-    (p.texts, d, (r', subst (ReadSoFarWithin gave f most limit r r' p.texts) (sym (none_of pending empty)) p.so_far, subst (λ l. gave r' l r'') (sym (none_of bs none)) gives), p.took, pause)
-
--- the reader told its end, within a line
-pub reads_cut : {R C : Type 0} {gave : R → List ℕ → R → Type 0} {f : List ℕ → Option LineFault} {went : C → List (List ℕ) → C → Type 0} (failed : R → R → Type 0) (stopped : C → List ℕ → C → Type 0) (paused unpaused : C → C → Type 0) {most limit : ℕ} {r r' r'' : R} {c d : C} (c' : C) {n : ℕ} {pending bs : List ℕ}
-    → Reading gave f went most limit r c pending r' d n → paused d c' → gave r' bs r'' → length bs ≡ 0 → 0 < length pending
-    → ReadsWithin gave failed f went stopped paused unpaused most limit r r'' c c' (Err (Fault (fault.Line (n + 1) NotEnded)))
-reads_cut {gave = gave} failed stopped paused unpaused {r' = r'} {r'' = r''} {d = d} c' {n = n} {pending = pending} {bs = bs} p pause gives none some =
-    (p.texts, d, (r', pending, p.so_far, subst (λ l. gave r' l r'') (sym (none_of bs none)) gives, some, omega (arith, p.number)), p.took, pause)
-
-pub reads_failed : {R C : Type 0} {gave : R → List ℕ → R → Type 0} {f : List ℕ → Option LineFault} {went : C → List (List ℕ) → C → Type 0} (failed : R → R → Type 0) (stopped : C → List ℕ → C → Type 0) (paused unpaused : C → C → Type 0) {most limit : ℕ} {r r' : R} (r'' : R) {c d : C} (c' : C) {n : ℕ} {pending : List ℕ}
-    → Reading gave f went most limit r c pending r' d n → paused d c' → failed r' r''
-    → ReadsWithin gave failed f went stopped paused unpaused most limit r r'' c c' (Err (Fault fault.Read))
-reads_failed failed stopped paused unpaused {r' = r'} r'' {d = d} c' {pending = pending} p pause fails = (p.texts, d, (r', pending, p.so_far, fails), p.took, pause)
 
 pub reads_unpaused : {R C : Type 0} {gave : R → List ℕ → R → Type 0} {f : List ℕ → Option LineFault} {went : C → List (List ℕ) → C → Type 0} (failed : R → R → Type 0) (stopped : C → List ℕ → C → Type 0) (paused unpaused : C → C → Type 0) {most limit : ℕ} {r r' : R} {c d : C} (c' : C) {n : ℕ} {pending : List ℕ}
     → Reading gave f went most limit r c pending r' d n → unpaused d c'

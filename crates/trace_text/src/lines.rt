@@ -54,7 +54,7 @@ impl fmt::Display for LineFault {
 }
 
 // The first word of a line.
-#[derive(Clone, Copy, Debug, PartialEq, Eq)]
+#[derive(Clone, Copy)]
 enum Command {
     Load,
     Store,

@@ -25,6 +25,7 @@ pub(crate) fn ask_by_hand(alloc: Global, requests: &[Ask]) -> Result<bool, Stati
     }
 }
 
+// Asks each request, and then steps to the station's rest. Says whether that came.
 fn ask_all(
     cache: &mut Cache,
     port: &mut Port,
@@ -34,12 +35,17 @@ fn ask_all(
     for ask in requests {
         ask_one(cache, port, banks, *ask)?;
     }
+    Ok(come_to_rest(cache, port, banks))
+}
+
+// Steps until nothing is to be done. Says whether the station is at rest then.
+fn come_to_rest(cache: &mut Cache, port: &mut Port, banks: &mut [BankSide]) -> bool {
     for _turn in 0..TURNS {
         if !move_on(cache, port, banks) {
-            return Ok(cache.is_at_rest());
+            return cache.is_at_rest();
         }
     }
-    Ok(false)
+    false
 }
 
 fn ask_one(
@@ -75,15 +81,28 @@ fn move_on(cache: &mut Cache, port: &mut Port, banks: &mut [BankSide]) -> bool {
     if cache.step(Source::Stack(0)) == Stepped::Did {
         return true;
     }
+    if bring_word(cache) || serve_one(banks) {
+        return true;
+    }
+    cache.step(Source::Drain) == Stepped::Did
+}
+
+// Brings the word of the first bank that has one. Says whether there was one.
+fn bring_word(cache: &mut Cache) -> bool {
     for bank in 0..shape().banks {
         if cache.step(Source::Word(bank)) == Stepped::Did {
             return true;
         }
     }
+    false
+}
+
+// The first bank that can serve a command serves it. Says whether there was one.
+fn serve_one(banks: &mut [BankSide]) -> bool {
     for bank in 0..banks.len() {
         if banks[bank].step() == Stepped::Did {
             return true;
         }
     }
-    cache.step(Source::Drain) == Stepped::Did
+    false
 }

@@ -73,7 +73,7 @@ impl Draws {
 }
 
 /// The numbers of a station, and what its threads may do.
-#[derive(Clone, Copy, PartialEq, Eq, Debug)]
+#[derive(Clone, Copy)]
 pub(crate) struct Trial {
     pub(crate) shape: Shape,
     /// From 1 to [`MAX_PORTS`].
