@@ -28,6 +28,18 @@ fn write_byte<W: fmt::Write>(f: &mut fmt::Formatter<W>, byte: u8) -> fmt::Result
     f.write_char(hex_digit(byte % 16))
 }
 
+/// A byte to be shown: two lower-case hexadecimal digits, the higher one first.
+#[derive(Clone, Copy, PartialEq, Eq, Debug)]
+pub struct TwoDigits(pub u8);
+
+impl fmt::Display for TwoDigits {
+    ghost output = { λ byte. Some (texts.byte_text byte.0) };
+
+    fn fmt<W: fmt::Write>(&self, f: &mut fmt::Formatter<W>) -> fmt::Result {
+        write_byte(f, self.0)
+    }
+}
+
 fn hex_digit(n: u8) -> char
     requires { n < 16 }
     ensures { result ≡ texts.hex_digit n }

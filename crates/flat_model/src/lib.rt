@@ -19,6 +19,7 @@ mod operators;
 
 pub use answers::may_answer;
 use bitflags::{Flag, Flags};
+pub use display::TwoDigits;
 pub use limits::{
     MAX_BANK_QUEUE, MAX_BANKS, MAX_BLOCK_WORDS, MAX_CONST_DEPTH, MAX_CONST_REGS, MAX_CONST_WAYS,
     MAX_DEPTH, MAX_MEMORY, MAX_REGS, MAX_REPLIES, MAX_SETS, MAX_WAYS, MAX_WORDS, MAX_WRITE_QUEUE,

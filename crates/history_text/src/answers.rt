@@ -2,10 +2,11 @@
 ghost use Rattle.std.specs.Prelude.{◌≡◌, ◌<◌, ◌++◌, Some, codes};
 ghost use Rattle.std.specs.Fmt.{WritesOnOk};
 ghost use Rattle.std.specs.List.{flat_map};
-ghost use Rattle.trace_text.specs.Fields.{byte_text, hex_digit as digit_of};
+ghost use Rattle.trace_text.specs.Fields.{byte_text};
 ghost use Rattle.history_text.specs.Answers.{bytes_in_set as set_bytes, joined_bytes, source_text, allowed_text, alternatives_text, overwritten_text, overwritten_there_text, address_text, law_text, kind_text, cause_text, refusal_text, open_text as text_of_open, verdict_text, verdict_status};
 
 use arrayvec::ArrayVec;
+use flat_model::TwoDigits;
 use memory_histories::ByteSet;
 use std::fmt;
 
@@ -181,33 +182,6 @@ pub fn bytes_in_set(set: ByteSet) -> ArrayVec<u8, 256>
     bytes
 }
 
-// The two digits of a byte.
-fn write_byte<W: fmt::Write>(f: &mut fmt::Formatter<W>, byte: u8) -> fmt::Result
-    ensures { WritesOnOk W.write_str_gives f.old result (byte_text byte) f.new }
-{
-    f.write_char(hex_digit(byte / 16))?;
-    f.write_char(hex_digit(byte % 16))
-}
-
-fn hex_digit(n: u8) -> char
-    requires { n < 16 }
-    ensures { result ≡ digit_of n }
-{
-    char::from(if n < 10 { b'0' + n } else { b'a' + (n - 10) })
-}
-
-// A byte in two digits.
-#[derive(Clone, Copy)]
-struct TwoDigits(u8);
-
-impl fmt::Display for TwoDigits {
-    ghost output = { λ byte. Some (byte_text byte.0) };
-
-    fn fmt<W: fmt::Write>(&self, f: &mut fmt::Formatter<W>) -> fmt::Result {
-        write_byte(f, self.0)
-    }
-}
-
 /// Behind the byte: ` (store 3, line 12)` or ` (memory at first)`, or nothing if it isn't known.
 impl fmt::Display for ByteSource {
     ghost output = { λ source. Some (source_text source) };
@@ -314,7 +288,8 @@ pub(crate) fn write_joined<W: fmt::Write>(
     match bytes {
         [] => Ok(()),
         [first, rest @ ..] => {
-            write_byte(f, *first)?;
+            let digits = TwoDigits(*first);
+            write!(f, "{digits}")?;
             write_more(f, between, rest)
         }
     }

@@ -3,8 +3,8 @@
 ghost use Rattle.std.specs.Prelude.{Some};
 ghost use Rattle.named_fields.specs.Formats as formats;
 
-use crate::strings::{Doubled, Escaped, Numbers, QuotedBytes, SpacedBytes, TwoDigits};
-use flat_model::{Answer, Event, Word};
+use crate::strings::{Doubled, Escaped, Numbers, QuotedBytes, SpacedBytes};
+use flat_model::{Answer, Event, TwoDigits, Word};
 use std::fmt;
 
 /// What a field says.

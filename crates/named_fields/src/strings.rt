@@ -7,34 +7,8 @@ ghost use Rattle.flat_model.specs.Texts as texts;
 ghost use Rattle.named_fields.specs.Formats.{listed, quoted_byte};
 ghost use Rattle.named_fields.specs.Texts.{separated, numbered, is_printable, escaped, escaped_byte, doubled, doubled_byte};
 
+use flat_model::TwoDigits;
 use std::fmt;
-
-// The two digits of a byte.
-fn write_byte<W: fmt::Write>(f: &mut fmt::Formatter<W>, byte: u8) -> fmt::Result
-    ensures { WritesOnOk W.write_str_gives f.old result (texts.byte_text byte) f.new }
-{
-    f.write_char(hex_digit(byte / 16))?;
-    f.write_char(hex_digit(byte % 16))
-}
-
-fn hex_digit(n: u8) -> char
-    requires { n < 16 }
-    ensures { result ≡ texts.hex_digit n }
-{
-    char::from(if n < 10 { b'0' + n } else { b'a' + (n - 10) })
-}
-
-// A byte in two hexadecimal digits.
-#[derive(Clone, Copy)]
-pub(crate) struct TwoDigits(pub(crate) u8);
-
-impl fmt::Display for TwoDigits {
-    ghost output = { λ byte. Some (texts.byte_text byte.0) };
-
-    fn fmt<W: fmt::Write>(&self, f: &mut fmt::Formatter<W>) -> fmt::Result {
-        write_byte(f, self.0)
-    }
-}
 
 // ---- strings
 
@@ -211,7 +185,8 @@ impl<'a> fmt::Display for SpacedBytes<'a> {
         match self.0 {
             [] => Ok(()),
             [first, rest @ ..] => {
-                write_byte(f, *first)?;
+                let digits = TwoDigits(*first);
+                write!(f, "{digits}")?;
                 write_spaced(f, rest)
             }
         }
