@@ -1,5 +1,6 @@
 -- What each call leaves is whole. Here `d` is what the fields show, and `v` what the caller sees.
-use Rattle.std.proofs.Common.{◌≡◌, ℕ, ◌*◌, ◌/◌, ◌%◌, ◌<◌, ◌≤◌, true, List, [], ◌∷◌, ◌++◌, length, get_or, set, Option, Some, None, is_none, not, refl, ap, ap₂, sym, ◌∙◌, arith, length-append, get_or-set_same}
+use Rattle.std.proofs.Common.{◌≡◌, ℕ, ◌*◌, ◌/◌, ◌%◌, ◌<◌, true, List, [], ◌∷◌, ◌++◌, length, get_or, set, Option, Some, None, is_none, not}
+use Rattle.std.proofs.Common.{refl, ap, ap₂, sym, ◌∙◌, arith, length-append, get_or-set_same}
 use Rattle.std.specs.List.{All, find, range_with_len}
 use Rattle.std.proofs.lemmas.List.{get_or_default}
 use Rattle.flat_model.specs.declared.limits.TheConstants.{MAX_WAYS}
@@ -8,60 +9,72 @@ use Rattle.flat_model.specs.declared.Lanes.{Lanes}
 use Rattle.flat_model.specs.Places.{is_number}
 use Rattle.cache_directory.specs.declared.directory.Choice.{Choice}
 use Rattle.cache_directory.specs.declared.directory.Choice.TheVariants.{Free}
-use Rattle.cache_directory.specs.Frames.{Frame, Frames, IsWhole, empty_frame, frame_at, is_held, frame_of, order_of, set_of, with_frame, filled, written, settled, fresh_frame, without, installed, released, choice_from, free_way, oldest, chosen, is_all_pending, are_pending}
+use Rattle.cache_directory.specs.Frames.{Frame, Frames, IsWhole, empty_frame, frame_at, is_held, frame_of, order_of, set_of, with_frame}
+use Rattle.cache_directory.specs.Frames.{filled, written, settled, fresh_frame, without, installed, released, choice_from, free_way, oldest}
+use Rattle.cache_directory.specs.Frames.{chosen, is_all_pending, are_pending}
 use Rattle.cache_directory.proofs.Misses.{MayInstall}
 use Rattle.cache_directory.proofs.Choices.{look_in_set, chosen-all_pending}
-use Rattle.cache_directory.proofs.Whole.{held_there, slot_in, order_short, order_there, whole-filled, whole-written, whole-settled, whole-installed, whole-released}
+use Rattle.cache_directory.proofs.Whole.{held_there, slot_in, order_short, order_there, whole-filled, whole-written, whole-settled}
+use Rattle.cache_directory.proofs.Whole.{whole-installed, whole-released}
 
 pub whole_inside : (ways words : ℕ) (d v : Frames) → d ≡ v → IsWhole ways words v → IsWhole ways words d
 whole_inside ways words d v e h = rw e h
 
 -- the frame that an index gives
 frame_read : (d : Frames) (f : ℕ) (x : Frame) → is_held d f ≡ true → x ≡ get_or d.frames f x → x ≡ frame_at d.frames f
-frame_read d f x held e = e ∙ get_or_default d.frames f x empty_frame (held_there d f held)
+frame_read d f x held e = e ∙ get_or_default _ f x empty_frame (held_there d f held)
 
 -- the order that an index gives
-order_read : (ways words : ℕ) (d : Frames) (f : ℕ) (o : List ℕ) → IsWhole ways words d → f < length d.frames → o ≡ get_or d.orders (f / ways) o → o ≡ order_of d (f / ways)
+order_read : (ways words : ℕ) (d : Frames) (f : ℕ) (o : List ℕ) → IsWhole ways words d → f < length d.frames
+    → o ≡ get_or d.orders (f / ways) o → o ≡ order_of d (f / ways)
 order_read ways words d f o h there e =
-    e ∙ get_or_default d.orders (f / ways) o [] (slot_in f ways (length d.orders) (length d.frames) h.frames_there h.some_way there)
+    e ∙ get_or_default _ _ o [] (slot_in f ways _ _ h.frames_there h.some_way there)
 
-pub fill_whole : (ways words : ℕ) (d v : Frames) (f i : ℕ) (w : Word) (keep : Lanes) (x y : Frame) → IsWhole ways words d → d ≡ v → is_held v f ≡ true → x ≡ get_or d.frames f x → y ≡ filled x i w keep → IsWhole ways words (with_frame d f y)
+pub fill_whole : (ways words : ℕ) (d v : Frames) (f i : ℕ) (w : Word) (keep : Lanes) (x y : Frame) → IsWhole ways words d → d ≡ v
+    → is_held v f ≡ true → x ≡ get_or d.frames f x → y ≡ filled x i w keep → IsWhole ways words (with_frame d f y)
 fill_whole ways words d v f i w keep x y h e held read change =
     let held' : is_held d f ≡ true = rw e held in
     rw (change, frame_read d f x held' read) (whole-filled ways words d f i w keep h held')
 
-pub write_whole : (ways words : ℕ) (d v : Frames) (f i : ℕ) (w : Word) (lanes : Lanes) (x y : Frame) → IsWhole ways words d → d ≡ v → is_held v f ≡ true → x ≡ get_or d.frames f x → y ≡ written x i w lanes → IsWhole ways words (with_frame d f y)
+pub write_whole : (ways words : ℕ) (d v : Frames) (f i : ℕ) (w : Word) (lanes : Lanes) (x y : Frame) → IsWhole ways words d → d ≡ v
+    → is_held v f ≡ true → x ≡ get_or d.frames f x → y ≡ written x i w lanes → IsWhole ways words (with_frame d f y)
 write_whole ways words d v f i w lanes x y h e held read change =
     let held' : is_held d f ≡ true = rw e held in
     rw (change, frame_read d f x held' read) (whole-written ways words d f i w lanes h held')
 
-pub settle_whole : (ways words : ℕ) (d v : Frames) (f : ℕ) (x y : Frame) → IsWhole ways words d → d ≡ v → is_held v f ≡ true → x ≡ get_or d.frames f x → y ≡ settled x → IsWhole ways words (with_frame d f y)
+pub settle_whole : (ways words : ℕ) (d v : Frames) (f : ℕ) (x y : Frame) → IsWhole ways words d → d ≡ v → is_held v f ≡ true
+    → x ≡ get_or d.frames f x → y ≡ settled x → IsWhole ways words (with_frame d f y)
 settle_whole ways words d v f x y h e held read change =
     let held' : is_held d f ≡ true = rw e held in
     rw (change, frame_read d f x held' read) (whole-settled ways words d f h held')
 
 -- what `install` asks, of what the fields show
-pub may_install : (ways : ℕ) (d v : Frames) (f block : ℕ) → d ≡ v → f < length v.frames → (frame_at v.frames f).block ≡ None → f / ways ≡ set_of v block → frame_of v.frames block ≡ None → MayInstall ways d f block
-may_install ways d v f block e there free of_set absent =
-    rw e (record { there = there; free = free; of_set = of_set; absent = absent })
+pub may_install : (ways : ℕ) (d v : Frames) (f block : ℕ) → d ≡ v → f < length v.frames → (frame_at v.frames f).block ≡ None
+    → f / ways ≡ set_of v block → frame_of v.frames block ≡ None → MayInstall ways d f block
+may_install ways d v f block e there free of_set absent = grind arith
 
-pub install_room : (ways words : ℕ) (d : Frames) (f block : ℕ) (o : List ℕ) → IsWhole ways words d → MayInstall ways d f block → o ≡ get_or d.orders (f / ways) o → length o < MAX_WAYS
+pub install_room : (ways words : ℕ) (d : Frames) (f block : ℕ) (o : List ℕ) → IsWhole ways words d → MayInstall ways d f block
+    → o ≡ get_or d.orders (f / ways) o → length o < MAX_WAYS
 unfolding installed
 install_room ways words d f block o h m read =
     let t = f / ways in
-    let within = slot_in f ways (length d.orders) (length d.frames) h.frames_there h.some_way m.there in
+    let within = slot_in f ways _ _ h.frames_there h.some_way m.there in
     let after = whole-installed ways words d f block h m.there m.free m.of_set m.absent in
-    let short : length (get_or (set d.orders t (order_of d t ++ f ∷ [])) t []) ≤ ways = order_short ways words (installed ways words d f block) t after in
-    let at = ap (λ (l : List ℕ). length l) (get_or-set_same d.orders t (order_of d t ++ f ∷ []) [] within) in
-    let same = ap (λ (l : List ℕ). length l) (order_read ways words d f o h m.there read) in
+    let short = order_short ways words _ t after in
+    let at = ap (λ l. length l) (get_or-set_same _ t (order_of d t ++ f ∷ []) [] within) in
+    let same = ap (λ l. length l) (order_read ways words d f o h m.there read) in
     omega (arith, h.few_ways, length-append (order_of d t) (f ∷ []))
 
-pub install_whole : (ways words : ℕ) (d : Frames) (f block : ℕ) (x : Frame) (o p : List ℕ) → IsWhole ways words d → MayInstall ways d f block → x ≡ fresh_frame words block → o ≡ get_or d.orders (f / ways) o → p ≡ o ++ f ∷ [] → IsWhole ways words (record { frames = set d.frames f x; orders = set d.orders (f / ways) p })
+pub install_whole : (ways words : ℕ) (d : Frames) (f block : ℕ) (x : Frame) (o p : List ℕ) → IsWhole ways words d
+    → MayInstall ways d f block → x ≡ fresh_frame words block → o ≡ get_or d.orders (f / ways) o → p ≡ o ++ f ∷ []
+    → IsWhole ways words (record { frames = set d.frames f x; orders = set d.orders (f / ways) p })
 unfolding installed
 install_whole ways words d f block x o p h m fresh read push =
     rw (fresh, push, order_read ways words d f o h m.there read) (whole-installed ways words d f block h m.there m.free m.of_set m.absent)
 
-pub release_whole : (ways words : ℕ) (d v : Frames) (f : ℕ) (x : Frame) (o p : List ℕ) → IsWhole ways words d → d ≡ v → is_held v f ≡ true → x ≡ empty_frame → o ≡ get_or d.orders (f / ways) o → p ≡ without o f → IsWhole ways words (record { frames = set d.frames f x; orders = set d.orders (f / ways) p })
+pub release_whole : (ways words : ℕ) (d v : Frames) (f : ℕ) (x : Frame) (o p : List ℕ) → IsWhole ways words d → d ≡ v → is_held v f ≡ true
+    → x ≡ empty_frame → o ≡ get_or d.orders (f / ways) o → p ≡ without o f
+    → IsWhole ways words (record { frames = set d.frames f x; orders = set d.orders (f / ways) p })
 unfolding released
 release_whole ways words d v f x o p h e held empty read taken =
     let held' : is_held d f ≡ true = rw e held in
@@ -69,37 +82,46 @@ release_whole ways words d v f x o p h e held empty read taken =
 
 -- ---- a look, and a choice: `n` is the number of sets, and `fs` the frames, as the code reads them
 
-pub look_finds : (ways words : ℕ) (d v : Frames) (block n : ℕ) (fs : List Frame) (r : Option ℕ) → IsWhole ways words d → d ≡ v → n ≡ length d.orders → fs ≡ d.frames → r ≡ find (λ f. is_number (frame_at fs f).block block) (range_with_len (block % n * ways) ways) → r ≡ frame_of v.frames block
+pub look_finds : (ways words : ℕ) (d v : Frames) (block n : ℕ) (fs : List Frame) (r : Option ℕ) → IsWhole ways words d → d ≡ v
+    → n ≡ length d.orders → fs ≡ d.frames → r ≡ find (λ f. is_number (frame_at fs f).block block) (range_with_len (block % n * ways) ways)
+    → r ≡ frame_of v.frames block
 look_finds ways words d v block n fs r h e sets frames found =
-    let there : r ≡ frame_of d.frames block = found ∙ rw (frames, sets) (look_in_set ways words d block h) in
-    there ∙ ap (λ (w : Frames). frame_of w.frames block) e
+    let there = found ∙ rw (frames, sets) (look_in_set ways words d block h) in
+    there ∙ ap (λ w. frame_of w.frames block) e
 
-pub order_within : (ways words : ℕ) (d : Frames) (block n : ℕ) (fs : List Frame) (o xs : List ℕ) → IsWhole ways words d → n ≡ length d.orders → fs ≡ d.frames → o ≡ get_or d.orders (block % n) o → xs ≡ o → All (λ f. f < length fs) xs
+pub order_within : (ways words : ℕ) (d : Frames) (block n : ℕ) (fs : List Frame) (o xs : List ℕ) → IsWhole ways words d
+    → n ≡ length d.orders → fs ≡ d.frames → o ≡ get_or d.orders (block % n) o → xs ≡ o → All (λ f. f < length fs) xs
 order_within ways words d block n fs o xs h sets frames read same =
-    let within : block % n < length d.orders = omega (arith, h.some_set) in
-    rw (same, frames, read, get_or_default d.orders (block % n) o [] within) (order_there ways words d (block % n) h)
+    let within : block % n < length _ = omega arith in
+    rw (same, frames, read, get_or_default _ _ o [] within) (order_there ways words d _ h)
 
 -- a choice that is the specified one says whether all ways of the set are pending
-choice_pends : (ways words : ℕ) (d v : Frames) (block : ℕ) (c : Choice) → IsWhole ways words d → d ≡ v → c ≡ chosen ways d (set_of d block) → is_all_pending c ≡ are_pending ways v (set_of v block)
+choice_pends : (ways words : ℕ) (d v : Frames) (block : ℕ) (c : Choice) → IsWhole ways words d → d ≡ v → c ≡ chosen ways d (set_of d block)
+    → is_all_pending c ≡ are_pending ways v (set_of v block)
 choice_pends ways words d v block c h e made =
-    let here : is_all_pending c ≡ are_pending ways d (set_of d block) = ap is_all_pending made ∙ chosen-all_pending ways words d (set_of d block) h in
-    here ∙ ap (λ (w : Frames). are_pending ways w (set_of w block)) e
+    let here = ap is_all_pending made ∙ chosen-all_pending ways words d (set_of d block) h in
+    cc (here, e)
 
-pub free_pends : (ways words : ℕ) (d v : Frames) (block n f : ℕ) (fs : List Frame) (r : Option ℕ) → IsWhole ways words d → d ≡ v → n ≡ length d.orders → fs ≡ d.frames → r ≡ find (λ g. is_none (frame_at fs g).block) (range_with_len (block % n * ways) ways) → r ≡ Some f → is_all_pending (Free f) ≡ are_pending ways v (set_of v block)
+pub free_pends : (ways words : ℕ) (d v : Frames) (block n f : ℕ) (fs : List Frame) (r : Option ℕ) → IsWhole ways words d → d ≡ v
+    → n ≡ length d.orders → fs ≡ d.frames → r ≡ find (λ g. is_none (frame_at fs g).block) (range_with_len (block % n * ways) ways)
+    → r ≡ Some f → is_all_pending (Free f) ≡ are_pending ways v (set_of v block)
 unfolding chosen free_way
 free_pends ways words d v block n f fs r h e sets frames found is =
-    let way : find (λ g. is_none (frame_at d.frames g).block) (range_with_len (set_of d block * ways) ways) ≡ Some f = rw (← sets, ← frames) (sym found ∙ is) in
-    choice_pends ways words d v block (Free f) h e (ap (λ o. choice_from o (oldest d (set_of d block))) (sym way))
+    let way : find (λ g. is_none (frame_at d.frames g).block) _ ≡ Some f = rw (← sets, ← frames) (cc) in
+    choice_pends ways words d v block _ h e (ap (λ o. choice_from o (oldest d (set_of d block))) (sym way))
 
 -- where no way is free, the choice is by the order
-pub order_pends : (ways words : ℕ) (d v : Frames) (block n : ℕ) (fs gs : List Frame) (o xs : List ℕ) (r q : Option ℕ) → IsWhole ways words d → d ≡ v → n ≡ length d.orders → fs ≡ d.frames → r ≡ find (λ g. is_none (frame_at fs g).block) (range_with_len (block % n * ways) ways) → ((f : ℕ) → r ≡ Some f → ⊥) → gs ≡ d.frames → o ≡ get_or d.orders (block % n) o → xs ≡ o → q ≡ find (λ g. not (frame_at gs g).pending) xs → is_all_pending (choice_from None q) ≡ are_pending ways v (set_of v block)
+pub order_pends : (ways words : ℕ) (d v : Frames) (block n : ℕ) (fs gs : List Frame) (o xs : List ℕ) (r q : Option ℕ) → IsWhole ways words d
+    → d ≡ v → n ≡ length d.orders → fs ≡ d.frames → r ≡ find (λ g. is_none (frame_at fs g).block) (range_with_len (block % n * ways) ways)
+    → ((f : ℕ) → r ≡ Some f → ⊥) → gs ≡ d.frames → o ≡ get_or d.orders (block % n) o → xs ≡ o
+    → q ≡ find (λ g. not (frame_at gs g).pending) xs → is_all_pending (choice_from None q) ≡ are_pending ways v (set_of v block)
 unfolding chosen free_way oldest
 order_pends ways words d v block n fs gs o xs r q h e sets frames found none frames' read same first =
-    let within : block % n < length d.orders = omega (arith, h.some_set) in
-    let order : xs ≡ order_of d (block % n) = same ∙ (read ∙ get_or_default d.orders (block % n) o [] within) in
-    let way : find (λ g. is_none (frame_at d.frames g).block) (range_with_len (set_of d block * ways) ways) ≡ None = rw (← sets, ← frames) (sym found ∙ no_some r none) in
-    let old : q ≡ find (λ g. not (frame_at d.frames g).pending) (order_of d (set_of d block)) = rw (← sets, ← order, ← frames') first in
-    choice_pends ways words d v block (choice_from None q) h e (ap₂ choice_from (sym way) old)
+    let within : block % n < length _ = omega arith in
+    let order = same ∙ (read ∙ get_or_default _ _ o [] within) in
+    let way : find (λ g. is_none (frame_at d.frames g).block) _ ≡ None = rw (← sets, ← frames) (sym found ∙ no_some r none) in
+    let old : q ≡ find (λ g. not (frame_at d.frames g).pending) _ = rw (← sets, ← order, ← frames') first in
+    choice_pends ways words d v block _ h e (ap₂ choice_from (sym way) old)
   where
     no_some : (o : Option ℕ) → ((f : ℕ) → o ≡ Some f → ⊥) → o ≡ None
     no_some (Some f) n = absurd (n f refl)

@@ -1,7 +1,8 @@
 -- A miss: the frame that is chosen may be released, and then takes the block.
-use Rattle.std.proofs.Common.{◌≡◌, ℕ, ◌/◌, ◌<◌, length, Some, None, is_some, ap, sym, ◌∙◌, inl, inr, ◌⊎◌, length-set, get_or-set_same, get_or-set_other}
+use Rattle.std.proofs.Common.{◌≡◌, ℕ, ◌/◌, ◌<◌, length, Some, None, is_some, ap, inl, inr, ◌⊎◌, length-set, get_or-set_same}
+use Rattle.std.proofs.Common.{get_or-set_other}
 use Rattle.std.proofs.lemmas.Bool.{cases_eq, both_ways}
-use Rattle.cache_directory.specs.Frames.{Frame, Frames, empty_frame, frame_at, frame_of, order_of, set_of, fresh_frame, without, installed, released}
+use Rattle.cache_directory.specs.Frames.{Frames, empty_frame, frame_at, frame_of, set_of, fresh_frame, installed, released}
 use Rattle.cache_directory.proofs.Choices.{found_nowhere, found_none}
 
 -- what `install` asks
@@ -16,35 +17,37 @@ pub record MayInstall (ways : ℕ) (d : Frames) (f block : ℕ) : Type 0 where
 -- it holds nothing then
 pub released-here : (ways : ℕ) (d : Frames) (f : ℕ) → f < length d.frames → frame_at (released ways d f).frames f ≡ empty_frame
 unfolding released
-released-here ways d f there = get_or-set_same d.frames f empty_frame empty_frame there
+released-here ways d f there = get_or-set_same _ f empty_frame empty_frame there
 
 -- every other frame is as it was
 pub released-elsewhere : (ways : ℕ) (d : Frames) (f g : ℕ) → (g ≡ f → ⊥) → frame_at (released ways d f).frames g ≡ frame_at d.frames g
 unfolding released
-released-elsewhere ways d f g n = get_or-set_other d.frames f g empty_frame empty_frame n
+released-elsewhere ways d f g n = get_or-set_other _ f g empty_frame empty_frame n
 
 pub released-frames : (ways : ℕ) (d : Frames) (f : ℕ) → length (released ways d f).frames ≡ length d.frames
 unfolding released
-released-frames ways d f = length-set d.frames f empty_frame
+released-frames ways d f = length-set _ f empty_frame
 
 pub released-sets : (ways : ℕ) (d : Frames) (f : ℕ) → length (released ways d f).orders ≡ length d.orders
 unfolding released
-released-sets ways d f = length-set d.orders (f / ways) (without (order_of d (f / ways)) f)
+released-sets ways d f = length-set _ _ _
 
 -- a block that is absent stays absent
-pub released-absent : (ways : ℕ) (d : Frames) (f block : ℕ) → f < length d.frames → frame_of d.frames block ≡ None → frame_of (released ways d f).frames block ≡ None
+pub released-absent : (ways : ℕ) (d : Frames) (f block : ℕ) → f < length d.frames → frame_of d.frames block ≡ None
+    → frame_of (released ways d f).frames block ≡ None
 released-absent ways d f block there absent =
     found_none (released ways d f) block (λ g held. nowhere g held (cases_eq g f))
   where
     nowhere : (g : ℕ) → (frame_at (released ways d f).frames g).block ≡ Some block → (g ≡ f) ⊎ (g ≡ f → ⊥) → ⊥
     nowhere g held (inl q) =
-        let vacant : (frame_at (released ways d f).frames g).block ≡ None = rw q (ap (λ (x : Frame). x.block) (released-here ways d f there)) in
-        both_ways (is_some (frame_at (released ways d f).frames g).block) (ap is_some vacant) (ap is_some held)
+        let vacant : (frame_at (released ways d f).frames g).block ≡ None = rw q (ap (λ x. x.block) (released-here ways d f there)) in
+        both_ways _ (ap is_some vacant) (ap is_some held)
     nowhere g held (inr n) =
-        found_nowhere d block g absent (ap (λ (x : Frame). x.block) (sym (released-elsewhere ways d f g n)) ∙ held)
+        found_nowhere d block g absent (cc (released-elsewhere ways d f g n, held))
 
 -- ---- a block is installed
 
-pub installed-here : (ways words : ℕ) (d : Frames) (f block : ℕ) → f < length d.frames → frame_at (installed ways words d f block).frames f ≡ fresh_frame words block
+pub installed-here : (ways words : ℕ) (d : Frames) (f block : ℕ) → f < length d.frames → frame_at (installed ways words d f block).frames f
+    ≡ fresh_frame words block
 unfolding installed
-installed-here ways words d f block there = get_or-set_same d.frames f (fresh_frame words block) empty_frame there
+installed-here ways words d f block there = get_or-set_same _ f _ empty_frame there

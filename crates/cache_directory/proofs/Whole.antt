@@ -1,51 +1,47 @@
 -- What is always so of a directory stays so.
-use Rattle.std.proofs.Common.{◌≡◌, ℕ, ◌+◌, ◌-◌, ◌*◌, ◌/◌, ◌%◌, ◌<◌, ◌≤◌, Bool, true, false, cond, ◌&&◌, ◌==◌, List, [], ◌∷◌, ◌++◌, length, get_or, set, Option, Some, None, is_some, refl, ap, sym, ◌∙◌, arith, inl, inr, ◌⊎◌, eq-eqb, ne_eqb, length-set, get_or-set_same, get_or-set_other}
+use Rattle.std.proofs.Common.{◌≡◌, ℕ, ◌+◌, ◌-◌, ◌*◌, ◌/◌, ◌%◌, ◌<◌, ◌≤◌, Bool, true, false, cond, ◌&&◌, ◌==◌, List, [], ◌∷◌, ◌++◌, length}
+use Rattle.std.proofs.Common.{get_or, set, Option, Some, None, is_some, refl, ap, sym, ◌∙◌, arith, inl, inr, ◌⊎◌, eq-eqb, ne_eqb}
+use Rattle.std.proofs.Common.{length-set, get_or-set_same, get_or-set_other}
 use Rattle.std.specs.List.{All}
-use Rattle.std.proofs.lemmas.Bool.{cases_eq, cases_lt, false≢true, both_ways, and_parts, eqb-true}
+use Rattle.std.proofs.lemmas.Bool.{cases_eq, cases_lt, false≢true, both_ways}
 use Rattle.std.proofs.lemmas.List.{get_or_past, length-replicate}
-use Rattle.std.proofs.lemmas.Nat.{rows, div-add-mod', div-mul-add}
 use Rattle.flat_model.specs.declared.Word.{Word}
 use Rattle.flat_model.specs.declared.Lanes.{Lanes}
 use Rattle.flat_model.specs.Places.{is_number}
 use Rattle.flat_model.proofs.Places.{place_of-nowhere}
-use Rattle.cache_directory.specs.Frames.{Frame, Frames, IsWhole, empty_frame, zero_cell, frame_at, is_held, frame_of, order_of, set_of, times_in, with_frame, filled, written, settled, fresh_frame, without, installed, released}
-use Rattle.cache_directory.proofs.Orders.{times-append, times-one, times-none, times-without_same, times-without_other, length-within, All-times}
+use Rattle.cache_directory.specs.Frames.{Frame, Frames, IsWhole, empty_frame, zero_cell, frame_at, is_held, frame_of, order_of, set_of}
+use Rattle.cache_directory.specs.Frames.{times_in, with_frame, filled, written, settled, fresh_frame, without, installed, released}
+use Rattle.cache_directory.proofs.Orders.{times-append, times-one, times-none, times-without_same, times-without_other, length-within}
+use Rattle.cache_directory.proofs.Orders.{All-times}
 
 -- a frame that holds a block is there
 pub held_there : (d : Frames) (f : ℕ) → is_held d f ≡ true → f < length d.frames
-held_there d f h = go (cases_lt f (length d.frames))
-  where
-    go : (f < length d.frames) ⊎ (length d.frames ≤ f) → f < length d.frames
-    go (inl l) = l
-    go (inr l) =
-        let e : frame_at d.frames f ≡ empty_frame = get_or_past d.frames f empty_frame l in
-        absurd (false≢true (sym (ap (λ (x : Frame). is_some x.block) e) ∙ h))
+held_there d f h = grind (arith, cases_lt, get_or_past, false≢true)
 
 -- a frame that has a word holds a block
 pub cells_held : (ways words : ℕ) (d : Frames) (f i : ℕ) → IsWhole ways words d
     → i < length (frame_at d.frames f).cells → is_held d f ≡ true
-cells_held ways words d f i h l = go (frame_at d.frames f).block refl
-  where
-    go : (o : Option ℕ) → (frame_at d.frames f).block ≡ o → is_held d f ≡ true
-    go (Some b) e = ap is_some e
-    go None e =
-        let none : length (frame_at d.frames f).cells ≡ 0 = ap (λ (x : Frame). length x.cells) (h.empty f e) in
-        absurd (omega arith)
+cells_held ways words d f i h l = grind arith
 
 -- a frame is there where its set is
 pub slot_in : (f ways sets n : ℕ) → n ≡ sets * ways → 0 < ways → f < n → f / ways < sets
-slot_in f ways sets n e w h = grind (arith, rows)
+slot_in f ways sets n e w h = grind arith
 
 -- one frame changes, and the orders with it
-pub whole-changed : (ways words : ℕ) (d : Frames) (f : ℕ) (x : Frame) (os : List (List ℕ)) → IsWhole ways words d → f < length d.frames → length os ≡ length d.orders → ((b : ℕ) → x.block ≡ Some b → length x.cells ≡ words) → (x.block ≡ None → x ≡ empty_frame) → ((b : ℕ) → x.block ≡ Some b → f / ways ≡ b % length d.orders) → ((g b : ℕ) → x.block ≡ Some b → (frame_at d.frames g).block ≡ Some b → g ≡ f) → ((s g : ℕ) → times_in (get_or os s []) g ≡ cond (is_some (frame_at (set d.frames f x) g).block && (g / ways == s)) 1 0) → IsWhole ways words (record { frames = set d.frames f x; orders = os })
+pub whole-changed : (ways words : ℕ) (d : Frames) (f : ℕ) (x : Frame) (os : List (List ℕ)) → IsWhole ways words d → f < length d.frames
+    → length os ≡ length d.orders → ((b : ℕ) → x.block ≡ Some b → length x.cells ≡ words) → (x.block ≡ None → x ≡ empty_frame)
+    → ((b : ℕ) → x.block ≡ Some b → f / ways ≡ b % length d.orders)
+    → ((g b : ℕ) → x.block ≡ Some b → (frame_at d.frames g).block ≡ Some b → g ≡ f)
+    → ((s g : ℕ) → times_in (get_or os s []) g ≡ cond (is_some (frame_at (set d.frames f x) g).block && (g / ways == s)) 1 0)
+    → IsWhole ways words (record { frames = set d.frames f x; orders = os })
 whole-changed ways words d f x os h there sets cells empty in_set alone ordered = record {
   some_way = h.some_way;
   few_ways = h.few_ways;
   some_word = h.some_word;
   few_words = h.few_words;
-  some_set = omega (arith, h.some_set);
-  few_sets = omega (arith, h.few_sets);
-  frames_there = length-set d.frames f x ∙ (h.frames_there ∙ ap (λ n. n * ways) (sym sets));
+  some_set = omega arith;
+  few_sets = omega arith;
+  frames_there = length-set _ f x ∙ (cc (h.frames_there, sets));
   cells = λ g b e. cells_at g b e (cases_eq g f);
   empty = λ g e. empty_at g e (cases_eq g f);
   in_set = λ g b e. rw sets (in_set_at g b e (cases_eq g f));
@@ -57,100 +53,100 @@ whole-changed ways words d f x os h there sets cells empty in_set alone ordered 
     fs = set d.frames f x
 
     here : (g : ℕ) → g ≡ f → frame_at fs g ≡ x
-    here g q = ap (λ k. get_or fs k empty_frame) q ∙ get_or-set_same d.frames f x empty_frame there
+    here g q = cc (q, get_or-set_same _ f x empty_frame there)
 
     other : (g : ℕ) → (g ≡ f → ⊥) → frame_at fs g ≡ frame_at d.frames g
-    other g n = get_or-set_other d.frames f g x empty_frame n
+    other g n = get_or-set_other _ f g x empty_frame n
 
     block_here : (g : ℕ) (o : Option ℕ) → g ≡ f → (frame_at fs g).block ≡ o → x.block ≡ o
-    block_here g o q e = sym (ap (λ (y : Frame). y.block) (here g q)) ∙ e
+    block_here g o q e = cc (here g q, e)
 
     block_other : (g : ℕ) (o : Option ℕ) → (g ≡ f → ⊥) → (frame_at fs g).block ≡ o → (frame_at d.frames g).block ≡ o
-    block_other g o n e = sym (ap (λ (y : Frame). y.block) (other g n)) ∙ e
+    block_other g o n e = cc (other g n, e)
 
     cells_at : (g b : ℕ) → (frame_at fs g).block ≡ Some b → (g ≡ f) ⊎ (g ≡ f → ⊥) → length (frame_at fs g).cells ≡ words
-    cells_at g b e (inl q) = ap (λ (y : Frame). length y.cells) (here g q) ∙ cells b (block_here g (Some b) q e)
-    cells_at g b e (inr n) = ap (λ (y : Frame). length y.cells) (other g n) ∙ h.cells g b (block_other g (Some b) n e)
+    cells_at g b e (inl q) = cc (here g q, cells b (block_here g _ q e))
+    cells_at g b e (inr n) = cc (other g n, h.cells g b (block_other g _ n e))
 
     empty_at : (g : ℕ) → (frame_at fs g).block ≡ None → (g ≡ f) ⊎ (g ≡ f → ⊥) → frame_at fs g ≡ empty_frame
     empty_at g e (inl q) = here g q ∙ empty (block_here g None q e)
     empty_at g e (inr n) = other g n ∙ h.empty g (block_other g None n e)
 
     in_set_at : (g b : ℕ) → (frame_at fs g).block ≡ Some b → (g ≡ f) ⊎ (g ≡ f → ⊥) → g / ways ≡ b % length d.orders
-    in_set_at g b e (inl q) = ap (λ k. k / ways) q ∙ in_set b (block_here g (Some b) q e)
-    in_set_at g b e (inr n) = h.in_set g b (block_other g (Some b) n e)
+    in_set_at g b e (inl q) = cc (q, in_set b (block_here g _ q e))
+    in_set_at g b e (inr n) = h.in_set g b (block_other g _ n e)
 
-    alone_at : (g k b : ℕ) → (frame_at fs g).block ≡ Some b → (frame_at fs k).block ≡ Some b → (g ≡ f) ⊎ (g ≡ f → ⊥) → (k ≡ f) ⊎ (k ≡ f → ⊥) → g ≡ k
+    alone_at : (g k b : ℕ) → (frame_at fs g).block ≡ Some b → (frame_at fs k).block ≡ Some b → (g ≡ f) ⊎ (g ≡ f → ⊥) → (k ≡ f) ⊎ (k ≡ f → ⊥)
+        → g ≡ k
     alone_at g k b e e' (inl q) (inl r) = q ∙ sym r
-    alone_at g k b e e' (inl q) (inr n) = absurd (n (alone k b (block_here g (Some b) q e) (block_other k (Some b) n e')))
-    alone_at g k b e e' (inr n) (inl r) = absurd (n (alone g b (block_here k (Some b) r e') (block_other g (Some b) n e)))
-    alone_at g k b e e' (inr n) (inr m) = h.alone g k b (block_other g (Some b) n e) (block_other k (Some b) m e')
+    alone_at g k b e e' (inl q) (inr n) = absurd (n (alone k b (block_here g _ q e) (block_other k _ n e')))
+    alone_at g k b e e' (inr n) (inl r) = absurd (n (alone g b (block_here k _ r e') (block_other g _ n e)))
+    alone_at g k b e e' (inr n) (inr m) = h.alone g k b (block_other g _ n e) (block_other k _ m e')
 
 -- a frame keeps its block
-pub whole-kept : (ways words : ℕ) (d : Frames) (f : ℕ) (x : Frame) → IsWhole ways words d → is_held d f ≡ true → x.block ≡ (frame_at d.frames f).block → length x.cells ≡ length (frame_at d.frames f).cells → IsWhole ways words (with_frame d f x)
+pub whole-kept : (ways words : ℕ) (d : Frames) (f : ℕ) (x : Frame) → IsWhole ways words d → is_held d f ≡ true
+    → x.block ≡ (frame_at d.frames f).block → length x.cells ≡ length (frame_at d.frames f).cells → IsWhole ways words (with_frame d f x)
 whole-kept ways words d f x h held same long =
-    whole-changed ways words d f x d.orders h there refl (λ b e. long ∙ h.cells f b (sym same ∙ e)) (λ e. absurd (both_ways (is_held d f) (ap is_some (sym same ∙ e)) held)) (λ b e. h.in_set f b (sym same ∙ e)) (λ g b e e'. h.alone g f b e' (sym same ∙ e)) (λ s g. h.ordered s g ∙ ap (λ b. cond (b && (g / ways == s)) 1 0) (sym (held_same g (cases_eq g f))))
+    whole-changed ways words d f x _ h there refl (λ b e. long ∙ h.cells f b (sym same ∙ e)) (λ e. absurd (cc))
+    (λ b e. h.in_set f b (sym same ∙ e)) (λ g b e e'. h.alone g f b e' (sym same ∙ e))
+    (λ s g. (cc (h.ordered s g, held_same g (cases_eq g f))))
   where
     there : f < length d.frames
     there = held_there d f held
 
     held_same : (g : ℕ) → (g ≡ f) ⊎ (g ≡ f → ⊥) → is_some (frame_at (set d.frames f x) g).block ≡ is_held d g
     held_same g (inl q) =
-        let at : frame_at (set d.frames f x) f ≡ x = get_or-set_same d.frames f x empty_frame there in
-        rw q (ap (λ (y : Frame). is_some y.block) at ∙ ap is_some same)
-    held_same g (inr n) = ap (λ (y : Frame). is_some y.block) (get_or-set_other d.frames f g x empty_frame n)
+        let at = get_or-set_same _ f x empty_frame there in
+        rw q (cc (at, ap is_some same))
+    held_same g (inr n) = ap (λ y. is_some y.block) (get_or-set_other _ f g x empty_frame n)
 
-pub whole-filled : (ways words : ℕ) (d : Frames) (f i : ℕ) (w : Word) (keep : Lanes) → IsWhole ways words d → is_held d f ≡ true → IsWhole ways words (with_frame d f (filled (frame_at d.frames f) i w keep))
+pub whole-filled : (ways words : ℕ) (d : Frames) (f i : ℕ) (w : Word) (keep : Lanes) → IsWhole ways words d → is_held d f ≡ true
+    → IsWhole ways words (with_frame d f (filled (frame_at d.frames f) i w keep))
 unfolding filled
 whole-filled ways words d f i w keep h held =
-    let x = frame_at d.frames f in
-    whole-kept ways words d f (filled x i w keep) h held refl (length-set x.cells i _)
+    let x = frame_at _ f in
+    whole-kept ways words d f _ h held refl (length-set x.cells i _)
 
-pub whole-written : (ways words : ℕ) (d : Frames) (f i : ℕ) (w : Word) (lanes : Lanes) → IsWhole ways words d → is_held d f ≡ true → IsWhole ways words (with_frame d f (written (frame_at d.frames f) i w lanes))
+pub whole-written : (ways words : ℕ) (d : Frames) (f i : ℕ) (w : Word) (lanes : Lanes) → IsWhole ways words d → is_held d f ≡ true
+    → IsWhole ways words (with_frame d f (written (frame_at d.frames f) i w lanes))
 unfolding written
 whole-written ways words d f i w lanes h held =
-    let x = frame_at d.frames f in
-    whole-kept ways words d f (written x i w lanes) h held refl (length-set x.cells i _)
+    let x = frame_at _ f in
+    whole-kept ways words d f _ h held refl (length-set x.cells i _)
 
-pub whole-settled : (ways words : ℕ) (d : Frames) (f : ℕ) → IsWhole ways words d → is_held d f ≡ true → IsWhole ways words (with_frame d f (settled (frame_at d.frames f)))
+pub whole-settled : (ways words : ℕ) (d : Frames) (f : ℕ) → IsWhole ways words d → is_held d f ≡ true
+    → IsWhole ways words (with_frame d f (settled (frame_at d.frames f)))
 unfolding settled
-whole-settled ways words d f h held = whole-kept ways words d f (settled (frame_at d.frames f)) h held refl refl
+whole-settled ways words d f h held = whole-kept ways words d f _ h held refl refl
 
 -- ---- the orders
 
 -- a frame of a set lies in the set's row
 pub in_row : (f ways s : ℕ) → 0 < ways → f / ways ≡ s → (s * ways ≤ f) × (f < s * ways + ways)
-in_row f ways s w e =
-    let split : s * ways + f % ways ≡ f = rw (← e) (div-add-mod' f ways) in
-    (omega arith, omega arith)
+in_row f ways s w e = grind arith
 
 pub of_row : (f ways s : ℕ) → s * ways ≤ f → f < s * ways + ways → f / ways ≡ s
-of_row f ways s l h =
-    let split : s * ways + (f - s * ways) ≡ f = omega arith in
-    ap (λ k. k / ways) (sym split) ∙ div-mul-add s ways (f - s * ways) (omega arith)
+of_row f ways s l h = grind arith
 
 -- what stands in an order is held, and of the order's set
-pub in_order : (ways words : ℕ) (d : Frames) (s f : ℕ) → IsWhole ways words d → 0 < times_in (order_of d s) f → (is_held d f ≡ true) × (f / ways ≡ s)
-in_order ways words d s f h p = go (is_held d f && (f / ways == s)) refl (h.ordered s f)
-  where
-    go : (b : Bool) → (is_held d f && (f / ways == s)) ≡ b → times_in (order_of d s) f ≡ cond b 1 0 → (is_held d f ≡ true) × (f / ways ≡ s)
-    go true e t =
-        let both = and_parts (is_held d f) (f / ways == s) e in
-        (both.0, eqb-true (f / ways) s both.1)
-    go false e t = absurd (omega arith)
+pub in_order : (ways words : ℕ) (d : Frames) (s f : ℕ) → IsWhole ways words d → 0 < times_in (order_of d s) f → (is_held d f ≡ true) ×
+    (f / ways ≡ s)
+in_order ways words d s f h p = grind arith
 
-pub held_in_order : (ways words : ℕ) (d : Frames) (s f : ℕ) → IsWhole ways words d → is_held d f ≡ true → f / ways ≡ s → times_in (order_of d s) f ≡ 1
-held_in_order ways words d s f h held e = h.ordered s f ∙ rw (held, eq-eqb (f / ways) s e) refl
+pub held_in_order : (ways words : ℕ) (d : Frames) (s f : ℕ) → IsWhole ways words d → is_held d f ≡ true → f / ways ≡ s
+    → times_in (order_of d s) f ≡ 1
+held_in_order ways words d s f h held e = grind arith
 
-pub order_held : (ways words : ℕ) (d : Frames) (s : ℕ) → IsWhole ways words d → All (λ f. (is_held d f ≡ true) × (f / ways ≡ s)) (order_of d s)
-order_held ways words d s h = All-times (λ f. (is_held d f ≡ true) × (f / ways ≡ s)) (order_of d s) (λ f p. in_order ways words d s f h p)
+pub order_held : (ways words : ℕ) (d : Frames) (s : ℕ) → IsWhole ways words d
+    → All (λ f. (is_held d f ≡ true) × (f / ways ≡ s)) (order_of d s)
+order_held ways words d s h = All-times (λ f. (is_held d f ≡ true) × (f / ways ≡ s)) _ (λ f p. in_order ways words d s f h p)
 
 pub order_there : (ways words : ℕ) (d : Frames) (s : ℕ) → IsWhole ways words d → All (λ f. f < length d.frames) (order_of d s)
-order_there ways words d s h = All-times (λ f. f < length d.frames) (order_of d s) (λ f p. held_there d f (in_order ways words d s f h p).0)
+order_there ways words d s h = All-times (λ f. f < length _) _ (λ f p. held_there d f (in_order ways words d s f h p).0)
 
 pub order_short : (ways words : ℕ) (d : Frames) (s : ℕ) → IsWhole ways words d → length (order_of d s) ≤ ways
 order_short ways words d s h =
-    length-within ways (s * ways) (order_of d s) (λ f. once f (is_held d f && (f / ways == s)) (h.ordered s f)) (λ f p. in_row f ways s h.some_way (in_order ways words d s f h p).1)
+    length-within ways _ _ (λ f. once f _ (h.ordered s f)) (λ f p. in_row f ways s h.some_way (in_order ways words d s f h p).1)
   where
     once : (f : ℕ) (b : Bool) → times_in (order_of d s) f ≡ cond b 1 0 → times_in (order_of d s) f ≤ 1
     once f true e = omega arith
@@ -158,10 +154,14 @@ order_short ways words d s h =
 
 -- ---- a block is installed, and a frame released
 
-pub whole-installed : (ways words : ℕ) (d : Frames) (f b : ℕ) → IsWhole ways words d → f < length d.frames → (frame_at d.frames f).block ≡ None → f / ways ≡ set_of d b → frame_of d.frames b ≡ None → IsWhole ways words (installed ways words d f b)
+pub whole-installed : (ways words : ℕ) (d : Frames) (f b : ℕ) → IsWhole ways words d → f < length d.frames
+    → (frame_at d.frames f).block ≡ None → f / ways ≡ set_of d b → frame_of d.frames b ≡ None
+    → IsWhole ways words (installed ways words d f b)
 unfolding installed fresh_frame frame_of
 whole-installed ways words d f b h there free of_set absent =
-    whole-changed ways words d f x os h there (length-set d.orders t (order_of d t ++ f ∷ [])) (λ c e. length-replicate words zero_cell) (λ e. absurd (cc)) (λ c e. (let q : b ≡ c = cc in of_set ∙ ap (λ k. k % length d.orders) q)) (λ g c e e'. absurd (lost g c e e')) (λ s g. ordered s g (cases_eq s t) (cases_eq g f))
+    whole-changed ways words d f x os h there (length-set _ t _) (λ c e. length-replicate words zero_cell) (λ e. absurd (cc))
+    (λ c e. (let q : b ≡ c = cc in cc (of_set, q))) (λ g c e e'. absurd (lost g c e e'))
+    (λ s g. ordered s g (cases_eq s t) (cases_eq g f))
   where
     x : Frame
     x = fresh_frame words b
@@ -173,49 +173,54 @@ whole-installed ways words d f b h there free of_set absent =
     os = set d.orders t (order_of d t ++ f ∷ [])
 
     in_orders : t < length d.orders
-    in_orders = slot_in f ways (length d.orders) (length d.frames) h.frames_there h.some_way there
+    in_orders = grind arith
 
     lost : (g c : ℕ) → Some b ≡ Some c → (frame_at d.frames g).block ≡ Some c → ⊥
     lost g c e e' =
-        let no = place_of-nowhere (λ (y : Frame). is_number y.block b) d.frames g empty_frame absent (held_there d g (ap is_some e')) in
-        both_ways (is_number (frame_at d.frames g).block b) no (ap (λ o. is_number o b) (e' ∙ sym e) ∙ eq-eqb b b refl)
+        let no = place_of-nowhere (λ y. is_number y.block b) _ g empty_frame absent (held_there d g (cc)) in
+        both_ways _ no (cc (e' ∙ sym e, eq-eqb b b refl))
 
     unheld : is_held d f ≡ false
     unheld = ap is_some free
 
     before : (s : ℕ) → times_in (order_of d s) f ≡ 0
-    before s = h.ordered s f ∙ rw unheld refl
+    before s = grind arith
 
     other : (g : ℕ) → (g ≡ f → ⊥) → frame_at (set d.frames f x) g ≡ frame_at d.frames g
-    other g n = get_or-set_other d.frames f g x empty_frame n
+    other g n = get_or-set_other _ f g x empty_frame n
 
-    at_other : (s g : ℕ) → (g ≡ f → ⊥) → times_in (order_of d s) g ≡ cond (is_some (frame_at (set d.frames f x) g).block && (g / ways == s)) 1 0
-    at_other s g n = h.ordered s g ∙ ap (λ (y : Frame). cond (is_some y.block && (g / ways == s)) 1 0) (sym (other g n))
+    at_other : (s g : ℕ) → (g ≡ f → ⊥) → times_in (order_of d s) g ≡ cond (is_some (frame_at (set d.frames f x) g).block && (g / ways == s))
+        1 0
+    at_other s g n = cc (h.ordered s g, other g n)
 
     at_frame : (s g : ℕ) → g ≡ f → is_some (frame_at (set d.frames f x) g).block ≡ true
-    at_frame s g q = ap (λ k. is_some (frame_at (set d.frames f x) k).block) q ∙ ap (λ (y : Frame). is_some y.block) (get_or-set_same d.frames f x empty_frame there)
+    at_frame s g q = ap (λ k. is_some (frame_at (set d.frames f x) k).block) q
+        ∙ ap (λ y. is_some y.block) (get_or-set_same _ f x empty_frame there)
 
     pushed : (s g : ℕ) → s ≡ t → times_in (get_or os s []) g ≡ times_in (order_of d t) g + times_in (f ∷ []) g
-    pushed s g p = ap (λ k. times_in (get_or os k []) g) p ∙ (ap (λ l. times_in l g) (get_or-set_same d.orders t (order_of d t ++ f ∷ []) [] in_orders) ∙ times-append (order_of d t) (f ∷ []) g)
+    pushed s g p = ap (λ k. times_in (get_or os k []) g) p ∙ (cc (get_or-set_same _ t _ [] in_orders, times-append _ _ g))
 
-    ordered : (s g : ℕ) → (s ≡ t) ⊎ (s ≡ t → ⊥) → (g ≡ f) ⊎ (g ≡ f → ⊥) → times_in (get_or os s []) g ≡ cond (is_some (frame_at (set d.frames f x) g).block && (g / ways == s)) 1 0
+    ordered : (s g : ℕ) → (s ≡ t) ⊎ (s ≡ t → ⊥) → (g ≡ f) ⊎ (g ≡ f → ⊥)
+        → times_in (get_or os s []) g ≡ cond (is_some (frame_at (set d.frames f x) g).block && (g / ways == s)) 1 0
     ordered s g (inl p) (inl q) =
-        let count : times_in (get_or os s []) g ≡ 1 = pushed s g p ∙ rw (q, times-one f, before t) refl in
-        let in_set : (g / ways == s) ≡ true = eq-eqb (g / ways) s (ap (λ k. k / ways) q ∙ sym p) in
+        let count : times_in _ g ≡ 1 = pushed s g p ∙ rw (q, times-one f, before t) refl in
+        let in_set = eq-eqb _ s (ap (λ k. k / ways) q ∙ sym p) in
         count ∙ rw (at_frame s g q, in_set) refl
     ordered s g (inl p) (inr n) =
-        let count : times_in (get_or os s []) g ≡ times_in (order_of d t) g = pushed s g p ∙ rw (times-none f g (λ r. n (sym r))) (omega arith) in
+        let count = pushed s g p ∙ rw (times-none f g (λ r. n (sym r))) (omega arith) in
         count ∙ (ap (λ k. times_in (order_of d k) g) (sym p) ∙ at_other s g n)
     ordered s g (inr m) (inl q) =
-        let count : times_in (get_or os s []) g ≡ 0 = ap (λ l. times_in l g) (get_or-set_other d.orders t s (order_of d t ++ f ∷ []) [] m) ∙ rw q (before s) in
-        let in_set : (g / ways == s) ≡ false = ne_eqb (g / ways) s (λ r. m (sym r ∙ ap (λ k. k / ways) q)) in
+        let count : times_in _ g ≡ 0 = ap (λ l. times_in l g) (get_or-set_other _ t s _ [] m) ∙ rw q (before s) in
+        let in_set = ne_eqb _ s (λ r. m (sym r ∙ ap (λ k. k / ways) q)) in
         count ∙ rw (at_frame s g q, in_set) refl
-    ordered s g (inr m) (inr n) = ap (λ l. times_in l g) (get_or-set_other d.orders t s (order_of d t ++ f ∷ []) [] m) ∙ at_other s g n
+    ordered s g (inr m) (inr n) = ap (λ l. times_in l g) (get_or-set_other _ t s _ [] m) ∙ at_other s g n
 
-pub whole-released : (ways words : ℕ) (d : Frames) (f : ℕ) → IsWhole ways words d → is_held d f ≡ true → IsWhole ways words (released ways d f)
+pub whole-released : (ways words : ℕ) (d : Frames) (f : ℕ) → IsWhole ways words d → is_held d f ≡ true
+    → IsWhole ways words (released ways d f)
 unfolding released
 whole-released ways words d f h held =
-    whole-changed ways words d f empty_frame os h there (length-set d.orders t (without (order_of d t) f)) (λ c e. absurd (cc)) (λ e. refl) (λ c e. absurd (cc)) (λ g c e e'. absurd (cc)) (λ s g. ordered s g (cases_eq s t) (cases_eq g f))
+    whole-changed ways words d f empty_frame os h there (length-set _ t _) (λ c e. absurd (cc)) (λ e. refl) (λ c e. absurd (cc))
+    (λ g c e e'. absurd (cc)) (λ s g. ordered s g (cases_eq s t) (cases_eq g f))
   where
     there : f < length d.frames
     there = held_there d f held
@@ -227,26 +232,29 @@ whole-released ways words d f h held =
     os = set d.orders t (without (order_of d t) f)
 
     in_orders : t < length d.orders
-    in_orders = slot_in f ways (length d.orders) (length d.frames) h.frames_there h.some_way there
+    in_orders = slot_in f ways _ _ h.frames_there h.some_way there
 
-    at_other : (s g : ℕ) → (g ≡ f → ⊥) → times_in (order_of d s) g ≡ cond (is_some (frame_at (set d.frames f empty_frame) g).block && (g / ways == s)) 1 0
-    at_other s g n = h.ordered s g ∙ ap (λ (y : Frame). cond (is_some y.block && (g / ways == s)) 1 0) (sym (get_or-set_other d.frames f g empty_frame empty_frame n))
+    at_other : (s g : ℕ) → (g ≡ f → ⊥) → times_in (order_of d s) g ≡ cond (is_some (frame_at (set d.frames f empty_frame) g).block
+        && (g / ways == s)) 1 0
+    at_other s g n = cc (h.ordered s g, get_or-set_other _ f g empty_frame empty_frame n)
 
     at_frame : (g : ℕ) → g ≡ f → is_some (frame_at (set d.frames f empty_frame) g).block ≡ false
-    at_frame g q = ap (λ k. is_some (frame_at (set d.frames f empty_frame) k).block) q ∙ ap (λ (y : Frame). is_some y.block) (get_or-set_same d.frames f empty_frame empty_frame there)
+    at_frame g q = ap (λ k. is_some (frame_at (set d.frames f empty_frame) k).block) q
+        ∙ ap (λ y. is_some y.block) (get_or-set_same _ f empty_frame empty_frame there)
 
     taken : (s g : ℕ) → s ≡ t → times_in (get_or os s []) g ≡ times_in (without (order_of d t) f) g
-    taken s g p = ap (λ k. times_in (get_or os k []) g) p ∙ ap (λ l. times_in l g) (get_or-set_same d.orders t (without (order_of d t) f) [] in_orders)
+    taken s g p = ap (λ k. times_in (get_or os k []) g) p ∙ ap (λ l. times_in l g) (get_or-set_same _ t _ [] in_orders)
 
-    ordered : (s g : ℕ) → (s ≡ t) ⊎ (s ≡ t → ⊥) → (g ≡ f) ⊎ (g ≡ f → ⊥) → times_in (get_or os s []) g ≡ cond (is_some (frame_at (set d.frames f empty_frame) g).block && (g / ways == s)) 1 0
+    ordered : (s g : ℕ) → (s ≡ t) ⊎ (s ≡ t → ⊥) → (g ≡ f) ⊎ (g ≡ f → ⊥)
+        → times_in (get_or os s []) g ≡ cond (is_some (frame_at (set d.frames f empty_frame) g).block && (g / ways == s)) 1 0
     ordered s g (inl p) (inl q) =
-        let count : times_in (get_or os s []) g ≡ 0 = taken s g p ∙ rw q (times-without_same (order_of d t) f) in
+        let count : times_in _ g ≡ 0 = taken s g p ∙ rw q (times-without_same _ f) in
         count ∙ rw (at_frame g q) refl
     ordered s g (inl p) (inr n) =
-        taken s g p ∙ (times-without_other (order_of d t) f g n ∙ (ap (λ k. times_in (order_of d k) g) (sym p) ∙ at_other s g n))
+        taken s g p ∙ (times-without_other _ f g n ∙ (cc (p, at_other s g n)))
     ordered s g (inr m) (inl q) =
-        let apart : (f / ways == s) ≡ false = ne_eqb (f / ways) s (λ r. m (sym r)) in
-        let count : times_in (order_of d s) f ≡ 0 = h.ordered s f ∙ rw (held, apart) refl in
-        let same : times_in (get_or os s []) g ≡ 0 = ap (λ l. times_in l g) (get_or-set_other d.orders t s (without (order_of d t) f) [] m) ∙ rw q count in
+        let apart = ne_eqb _ s (λ r. m (sym r)) in
+        let count = h.ordered s f ∙ rw (held, apart) refl in
+        let same : times_in _ g ≡ 0 = ap (λ l. times_in l g) (get_or-set_other _ t s _ [] m) ∙ rw q count in
         same ∙ rw (at_frame g q) refl
-    ordered s g (inr m) (inr n) = ap (λ l. times_in l g) (get_or-set_other d.orders t s (without (order_of d t) f) [] m) ∙ at_other s g n
+    ordered s g (inr m) (inr n) = ap (λ l. times_in l g) (get_or-set_other _ t s _ [] m) ∙ at_other s g n

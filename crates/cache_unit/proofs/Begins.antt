@@ -1,5 +1,6 @@
 -- A block's words as they are begun, one after the other.
-use Rattle.std.proofs.Common.{◌≡◌, ℕ, suc, zero, ◌+◌, ◌*◌, ◌<◌, ◌≤◌, true, false, List, [], ◌∷◌, map, length, replicate, get_or, set, Some, refl, sym, ap, ap₂, ◌∙◌, arith, add-zero, add-one}
+use Rattle.std.proofs.Common.{◌≡◌, ℕ, suc, zero, ◌+◌, ◌*◌, ◌<◌, ◌≤◌, true, false, List, [], ◌∷◌, map, length, replicate, get_or, set, Some}
+use Rattle.std.proofs.Common.{refl, sym, ap, ap₂, ◌∙◌, arith, add-one}
 use Rattle.std.specs.List.{range_with_len}
 use Rattle.std.proofs.lemmas.List.{get_or-set_same, set-get_or, set-set}
 use Rattle.flat_model.specs.Words.{zero_word, no_lanes, merged, joined}
@@ -19,11 +20,11 @@ begun_to g d a (suc i) (suc n) = g a ∷ begun_to g d (a + 1) i n
 
 begun_set : {X : Type 0} (g : ℕ → X) (d : X) (a i n : ℕ) → i < n → set (begun_to g d a i n) i (g (a + i)) ≡ begun_to g d a (suc i) n
 begun_set g d a zero zero h = absurd (omega arith)
-begun_set g d a zero (suc n) h = ap (λ x. x ∷ replicate n d) (ap g (add-zero a))
+begun_set g d a zero (suc n) h = grind arith
 begun_set g d a (suc i) zero h = absurd (omega arith)
 begun_set g d a (suc i) (suc n) h =
     let e : a + suc i ≡ a + 1 + i = omega arith in
-    ap (λ l. g a ∷ l) (ap (λ k. set (begun_to g d (a + 1) i n) i (g k)) e ∙ begun_set g d (a + 1) i n (omega arith))
+    ap (λ l. g a ∷ l) (cc (e, begun_set g d (a + 1) i n (omega arith)))
 
 begun_at : {X : Type 0} (g : ℕ → X) (d e : X) (a i n : ℕ) → i < n → get_or (begun_to g d a i n) i e ≡ d
 begun_at g d e a zero zero h = absurd (omega arith)
@@ -48,61 +49,81 @@ frame_to words entries block i =
 
 abbrev pub register_to : ℕ → List Queued → ℕ → ℕ → ℕ → Register
 register_to words entries block frame i =
-    record { valid = true; obsolete = false; block = block; frame = frame; fields = begun_to (begun_field entries) clear_field (block * words) i words }
+    record {
+      valid = true;
+      obsolete = false;
+      block = block;
+      frame = frame;
+      fields = begun_to (begun_field entries) clear_field (block * words) i words;
+    }
 
 -- the frame's next word is filled
-pub frame_next : (d d' d'' : Frames) (words : ℕ) (entries : List Queued) (block frame i : ℕ) → frame < length d.frames → i < words → d' ≡ with_frame d frame (frame_to words entries block i) → d'' ≡ with_frame d' frame (filled (frame_at d'.frames frame) i (overlaid zero_word entries (block * words + i)) no_lanes) → d'' ≡ with_frame d frame (frame_to words entries block (i + 1))
+pub frame_next : (d d' d'' : Frames) (words : ℕ) (entries : List Queued) (block frame i : ℕ) → frame < length d.frames → i < words
+    → d' ≡ with_frame d frame (frame_to words entries block i)
+    → d'' ≡ with_frame d' frame (filled (frame_at d'.frames frame) i (overlaid zero_word entries (block * words + i)) no_lanes)
+    → d'' ≡ with_frame d frame (frame_to words entries block (i + 1))
 unfolding filled
 frame_next d d' d'' words entries block frame i there small e e' =
     let g = begun_cell entries in
     let now = frame_to words entries block i in
-    let at : frame_at d'.frames frame ≡ now = ap (λ (x : Frames). frame_at x.frames frame) e ∙ get_or-set_same d.frames frame now empty_frame there in
-    let word = overlaid zero_word entries (block * words + i) in
+    let at : frame_at d'.frames frame ≡ now = cc (e, get_or-set_same _ frame now empty_frame there) in
+    let word = overlaid zero_word entries _ in
     let bytes : merged word (cell_at now i).word no_lanes ≡ word = merged-none word (cell_at now i).word in
-    let clean : (cell_at now i).dirty ≡ no_lanes = ap (λ (c : Cell). c.dirty) (begun_at g zero_cell zero_cell (block * words) i words small) in
-    let one : filled now i word no_lanes ≡ frame_to words entries block (i + 1) =
-    ap (λ (cs : List Cell). let f : Frame = record { block = Some block; pending = true; cells = cs } in f) (ap₂ (λ w m. let c : Cell = record { word = w; dirty = m } in set now.cells i c) bytes clean ∙ begun_set g zero_cell (block * words) i words small ∙ ap (λ k. begun_to g zero_cell (block * words) k words) (sym (add-one i))) in
-    e' ∙ ap (λ (f : Frame). with_frame d' frame (filled f i word no_lanes)) at ∙ ap (λ (f : Frame). with_frame d' frame f) one ∙ ap (λ (x : Frames). with_frame x frame (frame_to words entries block (i + 1))) e ∙ ap (λ (fs : List Frame). let x : Frames = record { frames = fs; orders = d.orders } in x) (set-set d.frames frame now (frame_to words entries block (i + 1)))
+    let clean : (cell_at now i).dirty ≡ no_lanes = ap (λ c. c.dirty) (begun_at g zero_cell zero_cell _ i words small) in
+    let one : filled now i word no_lanes ≡ frame_to words entries block _ =
+    ap (λ cs. let f : Frame = record { block = Some block; pending = true; cells = cs } in f)
+    (ap₂ (λ w m. let c : Cell = record { word = w; dirty = m } in set now.cells i c) bytes clean ∙ begun_set g zero_cell _ i words small
+    ∙ ap (λ k. begun_to g zero_cell (block * words) k words) (sym (add-one i))) in
+    e' ∙ ap (λ f. with_frame d' frame (filled f i word no_lanes)) at ∙ ap (λ f. with_frame d' frame f) one
+    ∙ ap (λ x. with_frame x frame (frame_to words entries block (i + 1))) e
+    ∙ ap (λ fs. let x : Frames = record { frames = fs; orders = d.orders } in x) (set-set _ frame now _)
 
 -- the register's next code is noted
-pub register_next : (rs rs' rs'' : List Register) (words : ℕ) (entries : List Queued) (block frame slot i : ℕ) → slot < length rs → i < words → rs' ≡ set rs slot (register_to words entries block frame i) → rs'' ≡ set rs' slot (noted (register_at rs' slot) i (queued_lanes entries (block * words + i))) → rs'' ≡ set rs slot (register_to words entries block frame (i + 1))
+pub register_next : (rs rs' rs'' : List Register) (words : ℕ) (entries : List Queued) (block frame slot i : ℕ) → slot < length rs
+    → i < words → rs' ≡ set rs slot (register_to words entries block frame i)
+    → rs'' ≡ set rs' slot (noted (register_at rs' slot) i (queued_lanes entries (block * words + i)))
+    → rs'' ≡ set rs slot (register_to words entries block frame (i + 1))
 unfolding noted
 register_next rs rs' rs'' words entries block frame slot i there small e e' =
     let g = begun_field entries in
     let now = register_to words entries block frame i in
-    let at : register_at rs' slot ≡ now = ap (λ (x : List Register). register_at x slot) e ∙ get_or-set_same rs slot now free_register there in
-    let lanes = queued_lanes entries (block * words + i) in
-    let clear : field_of now i ≡ clear_field = begun_at g clear_field clear_field (block * words) i words small in
-    let field : (f : Field) → f ≡ clear_field → ◌≡◌ {A = Field} (record f { code = joined f.code lanes }) (g (block * words + i)) = λ f q. ap (λ (x : Field). let y : Field = record x { code = joined x.code lanes } in y) q ∙ ap (λ m. let y : Field = record { in_stack = false; processed = false; code = m; waiting = [] } in y) (joined-none lanes) in
-    let one : noted now i lanes ≡ register_to words entries block frame (i + 1) =
-    ap (λ (fs : List Field). let r : Register = record { valid = true; obsolete = false; block = block; frame = frame; fields = fs } in r) (ap (λ (f : Field). set now.fields i f) (field (field_of now i) clear) ∙ begun_set g clear_field (block * words) i words small ∙ ap (λ k. begun_to g clear_field (block * words) k words) (sym (add-one i))) in
-    e' ∙ ap (λ (r : Register). set rs' slot (noted r i lanes)) at ∙ ap (λ (r : Register). set rs' slot r) one ∙ ap (λ (x : List Register). set x slot (register_to words entries block frame (i + 1))) e ∙ set-set rs slot now (register_to words entries block frame (i + 1))
+    let at : register_at rs' slot ≡ now = cc (e, get_or-set_same rs slot now free_register there) in
+    let lanes = queued_lanes entries _ in
+    let clear : field_of now i ≡ clear_field = begun_at g clear_field clear_field _ i words small in
+    let field : (f : Field) → f ≡ clear_field → ◌≡◌ {A = Field} (record f { code = joined f.code lanes }) _ =
+    λ f q. ap (λ x. let y : Field = record x { code = joined x.code lanes } in y) q
+    ∙ ap (λ m. let y : Field = record { in_stack = false; processed = false; code = m; waiting = [] } in y) (joined-none lanes) in
+    let one : noted now i lanes ≡ register_to words entries block frame _ =
+    ap (λ fs. let r : Register = record { valid = true; obsolete = false; block = block; frame = frame; fields = fs } in r)
+    (ap (λ f. set now.fields i f) (field _ clear) ∙ begun_set g clear_field _ i words small
+    ∙ ap (λ k. begun_to g clear_field (block * words) k words) (sym (add-one i))) in
+    e' ∙ ap (λ r. set rs' slot (noted r i lanes)) at ∙ ap (λ r. set rs' slot r) one
+    ∙ ap (λ x. set x slot (register_to words entries block frame (i + 1))) e ∙ set-set rs slot now _
 
-pub frame_whole : (words : ℕ) (entries : List Queued) (block i : ℕ) → i ≡ words → frame_to words entries block i ≡ begun_frame words entries block
-frame_whole words entries block i e =
-    ap (frame_to words entries block) e ∙ ap (λ (cs : List Cell). let f : Frame = record { block = Some block; pending = true; cells = cs } in f) (begun_all (begun_cell entries) zero_cell (block * words) words)
+pub frame_whole : (words : ℕ) (entries : List Queued) (block i : ℕ) → i ≡ words
+    → frame_to words entries block i ≡ begun_frame words entries block
+frame_whole words entries block i e = grind (arith, begun_all)
 
-pub register_whole : (words : ℕ) (entries : List Queued) (block frame i : ℕ) → i ≡ words → register_to words entries block frame i ≡ begun_register words entries block frame
-register_whole words entries block frame i e =
-    ap (register_to words entries block frame) e ∙ ap (λ (fs : List Field). let r : Register = record { valid = true; obsolete = false; block = block; frame = frame; fields = fs } in r) (begun_all (begun_field entries) clear_field (block * words) words)
+pub register_whole : (words : ℕ) (entries : List Queued) (block frame i : ℕ) → i ≡ words
+    → register_to words entries block frame i ≡ begun_register words entries block frame
+register_whole words entries block frame i e = grind (arith, begun_all)
 
 -- no word is begun yet
-pub frame_first : (d : Frames) (words : ℕ) (entries : List Queued) (block frame : ℕ) → frame_at d.frames frame ≡ fresh_frame words block → d ≡ with_frame d frame (frame_to words entries block 0)
+pub frame_first : (d : Frames) (words : ℕ) (entries : List Queued) (block frame : ℕ) → frame_at d.frames frame ≡ fresh_frame words block
+    → d ≡ with_frame d frame (frame_to words entries block 0)
 unfolding fresh_frame
-frame_first d words entries block frame e =
-    let same : set d.frames frame (frame_to words entries block 0) ≡ d.frames = ap (set d.frames frame) (sym e) ∙ set-get_or d.frames frame empty_frame in
-    ap (λ (fs : List Frame). let x : Frames = record { frames = fs; orders = d.orders } in x) (sym same)
+frame_first d words entries block frame e = grind (arith, set-get_or)
 
-pub register_first : (rs : List Register) (words : ℕ) (entries : List Queued) (block frame slot : ℕ) → register_at rs slot ≡ fresh words block frame → rs ≡ set rs slot (register_to words entries block frame 0)
+pub register_first : (rs : List Register) (words : ℕ) (entries : List Queued) (block frame slot : ℕ)
+    → register_at rs slot ≡ fresh words block frame → rs ≡ set rs slot (register_to words entries block frame 0)
 unfolding fresh
-register_first rs words entries block frame slot e =
-    sym (ap (set rs slot) (sym e) ∙ set-get_or rs slot free_register)
+register_first rs words entries block frame slot e = grind (arith, set-get_or)
 
 -- the register that is begun is the slot's
-pub register_now : (rs rs' : List Register) (words : ℕ) (entries : List Queued) (block frame slot i : ℕ) → slot < length rs → rs' ≡ set rs slot (register_to words entries block frame i) → register_at rs' slot ≡ register_to words entries block frame i
-register_now rs rs' words entries block frame slot i there e =
-    ap (λ (x : List Register). register_at x slot) e ∙ get_or-set_same rs slot (register_to words entries block frame i) free_register there
+pub register_now : (rs rs' : List Register) (words : ℕ) (entries : List Queued) (block frame slot i : ℕ) → slot < length rs
+    → rs' ≡ set rs slot (register_to words entries block frame i) → register_at rs' slot ≡ register_to words entries block frame i
+register_now rs rs' words entries block frame slot i there e = grind (arith, get_or-set_same)
 
-pub field_waits : (words : ℕ) (entries : List Queued) (block frame i : ℕ) → i < words → (field_of (register_to words entries block frame i) i).processed ≡ false
-field_waits words entries block frame i h =
-    ap (λ (f : Field). f.processed) (begun_at (begun_field entries) clear_field clear_field (block * words) i words h)
+pub field_waits : (words : ℕ) (entries : List Queued) (block frame i : ℕ) → i < words
+    → (field_of (register_to words entries block frame i) i).processed ≡ false
+field_waits words entries block frame i h = grind (arith, begun_at)

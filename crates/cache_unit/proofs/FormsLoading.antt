@@ -1,5 +1,5 @@
 -- A load of a word of a present block.
-use Rattle.std.proofs.Common.{◌≡◌, ℕ, ◌<◌, Bool, true, false, cond, not, ◌&&◌, ◌||◌, ◌==◌, nat_lt, [], ◌∷◌, ◌++◌, map, set, Option, Some}
+use Rattle.std.proofs.Common.{◌≡◌, ℕ, ◌<◌, Bool, true, false, cond, not, ◌&&◌, ◌||◌, nat_lt, [], ◌∷◌, ◌++◌, map, Option, Some}
 use Rattle.std.proofs.Common.{None, refl, sym, ap, ap₂, ◌∙◌, length-set}
 use Rattle.flat_model.specs.declared.Word.{Word}
 use Rattle.flat_model.specs.declared.Lanes.{Lanes}
@@ -11,18 +11,18 @@ use Rattle.cache_directory.specs.Frames as dir
 use Rattle.miss_registers.specs.Registers as regs
 use Rattle.cache_unit.specs.declared.Reply.{Reply}
 use Rattle.cache_unit.specs.declared.Sizes.{Sizes}
-use Rattle.cache_unit.specs.State.{Field, Register, Target, Cache, frame_of, register_at, field_at, live_for, cell_in, cell_of}
-use Rattle.cache_unit.specs.State.{targets, tags, targets_of_field, with_field, block_of, place_in}
+use Rattle.cache_unit.specs.State.{Field, Target, Cache, frame_of, register_at, field_at, live_for, cell_of}
+use Rattle.cache_unit.specs.State.{tags, with_field, block_of, place_in}
 use Rattle.cache_unit.specs.Causes.{Found, Here, found_missing, found_in, found}
 use Rattle.cache_unit.specs.Steps.{replied, awaited, loaded}
-use Rattle.cache_unit.specs.Forms.{LaneForm, Byte, Form, bytes_of, missing_form, coming_form, over_form, form_in, owed}
+use Rattle.cache_unit.specs.Forms.{LaneForm, Byte, Form, bytes_of, coming_form, over_form, owed}
 use Rattle.cache_unit.specs.FormLaws.{form_at, but_at}
 use Rattle.cache_unit.specs.Counts.{tally}
 use Rattle.cache_unit.proofs.FormsLists.{Adds, Adds-push, Adds-left, Adds-right, Adds-map, Adds-same}
 use Rattle.cache_unit.proofs.FormsParts.{word_part}
 use Rattle.cache_unit.proofs.FormsFields.{with_fields, with_field_in, same_at, field_part}
 use Rattle.cache_unit.proofs.FormsPlaces.{live-stays}
-use Rattle.cache_unit.proofs.FormsSame.{form_at-same, form_at-live, form_at-resident, Due, due_ready, due_to, dues, has_tag, owed-due}
+use Rattle.cache_unit.proofs.FormsSame.{form_at-same, form_at-live, form_at-resident, due_ready, dues, has_tag, owed-due}
 use Rattle.cache_unit.proofs.FormsSame.{tags-dues}
 use Rattle.cache_unit.proofs.Within.{frames_like-same, registers_within-same, registers_within-set, Within, within_like, Beside}
 use Rattle.cache_unit.proofs.FormsEvents.{due_in-added}
@@ -38,7 +38,7 @@ over-held code v u f = λ n l. each l n
     twice false x y g = refl
 
     each : (l : Lane) → cond (has code l) (Byte (byte (merged v u code) l)) (f l) ≡ cond (has code l) (Byte (byte u l)) (f l)
-    each l = ap (λ x. cond (has code l) (Byte x) (f l)) (byte-merged v u code l) ∙ twice (has code l) (byte u l) (byte v l) (f l)
+    each l = ap (λ x. cond (has code l) (Byte x) (f l)) (byte-merged v u code l) ∙ twice _ _ _ (f l)
 
 over-all : (code : Lanes) (u : Word) (f : Form) → has_all code ≡ true → over_form code u f ≡ bytes_of u
 over-all code u f all = λ n l. each l n
@@ -61,13 +61,12 @@ module _ (z : Sizes) (some : 0 < z.block_words) (c : Cache) (tag at : ℕ) (hit 
   owed-more : (form : Form) → form_at z c at ≡ Some form → (d : Cache) → Adds (record { tag = tag; form = form }) (dues c) (dues d)
       → (t : ℕ) → owed d t ≡ but_at (owed c) tag (form_at z c at) t
   owed-more form right d more t =
-      owed-due d t ∙ due_in-added (record { tag = tag; form = form }) (dues c) (dues d) more fresh t
-      ∙ ap (λ o. cond (t == tag) (Some form) o) (sym (owed-due c t)) ∙ ap (λ o. cond (t == tag) o (owed c t)) (sym right)
+      cc (owed-due d t, due_in-added (record { tag = tag; form = form }) _ _ more fresh t, owed-due c t, right)
 
   tags-more : (form : Form) (d : Cache) → Adds (record { tag = tag; form = form }) (dues c) (dues d) → Adds tag (tags c) (tags d)
   tags-more form d more =
       Adds-same tag _ _ _ _ (sym (tags-dues c)) (sym (tags-dues d))
-      (Adds-map (λ (x : Due). x.tag) (record { tag = tag; form = form }) _ _ more)
+      (Adds-map (λ x. x.tag) (record { tag = tag; form = form }) _ _ more)
 
   -- ---- the word is ready
 
@@ -76,23 +75,23 @@ module _ (z : Sizes) (some : 0 < z.block_words) (c : Cache) (tag at : ℕ) (hit 
   replied_ok w right =
       record {
         words = λ a. refl;
-        owing = owed-more (bytes_of w) right (replied c tag w) more;
+        owing = owed-more _ right (replied c tag w) more;
         frame = hit.frame;
         present = hit.present;
         beside = record { within = like; waits = λ s i. refl; orders = refl; stack = refl; queue = refl };
         frames = refl;
-        more = tags-more (bytes_of w) (replied c tag w) more;
+        more = tags-more _ (replied c tag w) more;
       }
     where
       r : Reply
       r = record { tag = tag; word = w }
 
       like : Within c (replied c tag w)
-      like = within_like c (replied c tag w) (frames_like-same c.directory.frames) (registers_within-same c.registers)
+      like = within_like c _ (frames_like-same _) (registers_within-same _)
 
       more : Adds (due_ready (record { tag = tag; word = w })) (dues c) (dues (replied c tag w))
-      more = Adds-right (map (due_to c.stack) (targets c.registers)) (due_ready r) _ _
-          (Adds-map due_ready r c.ready _ (Adds-push r c.ready))
+      more = Adds-right _ _ _ _
+          (Adds-map due_ready r _ _ (Adds-push r _))
 
   -- ---- the tag waits for the word
 
@@ -119,12 +118,12 @@ module _ (z : Sizes) (some : 0 < z.block_words) (c : Cache) (tag at : ℕ) (hit 
     unfolding dir.frame_of
     awaited_words a =
         form_at-same z c waiting_more a refl (live-stays c waiting_more s
-        (with_fields (register_at c s) (set (register_at c s).fields (place_in z at) longer)) (block_of z a) refl refl) refl
+        _ _ refl refl) refl
         (λ t e. (
-          field_part c.registers s (place_in z at) longer
-              (λ (x : Field). x.processed) (fit).slot_there (fit).field_there refl t (place_in z a),
-          field_part c.registers s
-              (place_in z at) longer (λ (x : Field). x.code) (fit).slot_there (fit).field_there refl t (place_in z a),
+          field_part _ s _ longer
+              (λ x. x.processed) (fit).slot_there (fit).field_there refl t _,
+          field_part _ s
+              _ longer (λ x. x.code) (fit).slot_there (fit).field_there refl t _,
           refl,
         ))
 
@@ -134,39 +133,41 @@ module _ (z : Sizes) (some : 0 < z.block_words) (c : Cache) (tag at : ℕ) (hit 
     right_form : form_at z c at ≡ Some told
     unfolding told
     right_form =
-        form_at-live z c at hit.frame s (place_in z at) hit.present live refl
-        ∙ ap (λ o. Some (form_in c (Some s) (place_in z at) (cell_in c o (place_in z at)).word)) (sym hit.present)
-        ∙ ap (λ b. Some (cond b (bytes_of buffer) (over_form fld.code buffer (coming_form c s (place_in z at))))) missing
-        ∙ ap Some (sym (over-held fld.code zero_word buffer (coming_form c s (place_in z at))))
+        cc (
+          form_at-live z c at hit.frame s _ hit.present live refl,
+          hit.present,
+          missing,
+          ap Some (sym (over-held fld.code zero_word buffer _)),
+        )
 
     more_dues : Adds (record { tag = tag; form = told }) (dues c) (dues waiting_more)
     unfolding dues told
     more_dues =
-        let p = word_part c.registers s (place_in z at) (fit).valid (fit).field_there in
+        let p = word_part _ s _ (fit).valid (fit).field_there in
         let t : Target = record { slot = s; i = place_in z at; load = load } in
         let mk : Owed → Target = λ w. record { slot = s; i = place_in z at; load = w } in
-        let seg : targets_of_field s (place_in z at) fld ≡ map mk fld.waiting = ap (λ b. cond b [] (map mk fld.waiting)) missing in
-        let seg' : targets_of_field s (place_in z at) longer ≡ map mk (fld.waiting ++ load ∷ []) =
+        let seg = ap (λ b. cond b [] (map mk fld.waiting)) missing in
+        let seg' =
         ap (λ b. cond b [] (map mk (fld.waiting ++ load ∷ []))) missing in
-        let one : Adds t (map mk fld.waiting) (map mk (fld.waiting ++ load ∷ [])) = Adds-map mk load _ _ (Adds-push load fld.waiting) in
-        let all : Adds t (p.front ++ (map mk fld.waiting ++ p.back)) (p.front ++ (map mk (fld.waiting ++ load ∷ []) ++ p.back)) =
+        let one = Adds-map mk load _ _ (Adds-push load fld.waiting) in
+        let all =
         Adds-left p.front t _ _ (Adds-right p.back t _ _ one) in
-        let before : targets c.registers ≡ p.front ++ (map mk fld.waiting ++ p.back) = p.now ∙ ap (λ l. p.front ++ (l ++ p.back)) seg in
-        let after : targets waiting_more.registers ≡ p.front ++ (map mk (fld.waiting ++ load ∷ []) ++ p.back) =
-        p.then (with_fields (register_at c s) (set (register_at c s).fields (place_in z at) longer)) longer (fit).valid refl
+        let before = p.now ∙ ap (λ l. p.front ++ (l ++ p.back)) seg in
+        let after =
+        p.then _ longer (fit).valid refl
         ∙ ap (λ l. p.front ++ (l ++ p.back)) seg' in
-        Adds-left (map due_ready c.ready) (due_to c.stack t) _ _ (Adds-map (due_to c.stack) t _ _ (Adds-same t _ _ _ _ before after all))
+        Adds-left _ _ _ _ (Adds-map _ t _ _ (Adds-same t _ _ _ _ before after all))
 
     awaited_beside : Beside z c waiting_more
     awaited_beside =
-        let new = with_fields (register_at c s) (set (register_at c s).fields (place_in z at) longer) in
-        let registers = registers_within-set c.registers s new (λ l. (l, refl))
-        (λ v. (v, length-set (register_at c s).fields (place_in z at) longer)) in
+        let new = with_fields (register_at c s) _ in
+        let registers = registers_within-set _ s new (λ l. (l, refl))
+        (λ v. (v, length-set (register_at c s).fields _ longer)) in
         record {
-          within = within_like c waiting_more (frames_like-same c.directory.frames) registers;
+          within = within_like c waiting_more (frames_like-same _) registers;
           waits = λ t j. ap₂ (λ x y. x && (nat_lt j z.block_words && not y))
-              (same_at c.registers s (place_in z at) longer (λ (r : Register). r.valid) refl t)
-              (field_part c.registers s (place_in z at) longer (λ (x : Field). x.processed) (fit).slot_there (fit).field_there refl t j);
+              (same_at _ s _ longer (λ r. r.valid) refl t)
+              (field_part _ s _ longer (λ x. x.processed) (fit).slot_there (fit).field_there refl t j);
           orders = refl;
           stack = refl;
           queue = refl;
@@ -195,7 +196,7 @@ module _ (z : Sizes) (some : 0 < z.block_words) (c : Cache) (tag at : ℕ) (hit 
 
   in_register : (s : ℕ) → live_for c (block_of z at) ≡ Some s → LoadedBy z c tag at (after_load (found_in c (Some s) (place_in z at) buf))
   unfolding after_load
-  in_register s live = go (field_at c s (place_in z at)).processed refl (has_all (field_at c s (place_in z at)).code) refl
+  in_register s live = go (field_at c s _).processed refl _ refl
     where
       f : Field
       f = field_at c s (place_in z at)
@@ -204,17 +205,13 @@ module _ (z : Sizes) (some : 0 < z.block_words) (c : Cache) (tag at : ℕ) (hit 
           → form_at z c at ≡ Some (cond p (bytes_of buf)
           (over_form (field_at c s (place_in z at)).code buf (coming_form c s (place_in z at))))
       shown p e =
-          form_at-live z c at hit.frame s (place_in z at) hit.present live refl
-          ∙ ap (λ o. Some (form_in c (Some s) (place_in z at) (cell_in c o (place_in z at)).word)) (sym hit.present)
-          ∙ ap (λ b. Some (cond b (bytes_of buf) (over_form (field_at c s (place_in z at)).code buf
-          (coming_form c s (place_in z at))))) e
+          cc (form_at-live z c at hit.frame s _ hit.present live refl, hit.present, e)
 
       in_stack : (o : Option Word) → stack_word c.stack s (place_in z at) ≡ o → (field_at c s (place_in z at)).processed ≡ false
           → LoadedBy z c tag at (after_load (found_missing o s (field_at c s (place_in z at)).code buf))
       in_stack (Some w) e p =
-          replied_ok (merged w buf (field_at c s (place_in z at)).code)
-          (shown false p ∙ ap (λ o. Some (over_form (field_at c s (place_in z at)).code buf (missing_form o s (place_in z at)))) e
-          ∙ ap Some (sym (bytes-merged w buf (field_at c s (place_in z at)).code)))
+          replied_ok _
+          (cc (shown false p, e, ap Some (sym (bytes-merged w buf (field_at c s _).code))))
       in_stack None e p = awaited_ok s live p
 
       go : (p : Bool) → (field_at c s (place_in z at)).processed ≡ p → (q : Bool) → has_all (field_at c s (place_in z at)).code ≡ q
@@ -222,14 +219,13 @@ module _ (z : Sizes) (some : 0 < z.block_words) (c : Cache) (tag at : ℕ) (hit 
           (found_missing (stack_word c.stack s (place_in z at)) s (field_at c s (place_in z at)).code buf)))
       go true e q r = replied_ok buf (shown true e)
       go false e true r = replied_ok buf (shown false e
-          ∙ ap Some (over-all (field_at c s (place_in z at)).code buf (coming_form c s (place_in z at)) r))
-      go false e false r = in_stack (stack_word c.stack s (place_in z at)) refl e
+          ∙ ap Some (over-all (field_at c s _).code buf _ r))
+      go false e false r = in_stack _ refl e
 
   pub loaded-by : LoadedBy z c tag at (loaded c tag (place_in z at) buf (found c (block_of z at) (place_in z at)))
   unfolding after_load
-  loaded-by = go (live_for c (block_of z at)) refl
+  loaded-by = go _ refl
     where
       go : (o : Option ℕ) → live_for c (block_of z at) ≡ o → LoadedBy z c tag at (after_load (found_in c o (place_in z at) buf))
-      go None e = replied_ok buf (form_at-resident z c at hit.frame hit.present e
-          ∙ ap (λ o. Some (bytes_of (cell_in c o (place_in z at)).word)) (sym hit.present))
+      go None e = replied_ok buf (cc (form_at-resident z c at hit.frame hit.present e, hit.present))
       go (Some s) e = in_register s e

@@ -1,5 +1,5 @@
 -- A word of the stack is processed.
-use Rattle.std.proofs.Common.{◌≡◌, ℕ, zero, suc, ◌+◌, ◌<◌, Bool, true, false, cond, not, ◌&&◌, ◌==◌, nat_lt, List, [], ◌∷◌, ◌++◌, map}
+use Rattle.std.proofs.Common.{◌≡◌, ℕ, zero, suc, ◌+◌, ◌<◌, Bool, true, false, cond, not, ◌&&◌, nat_lt, List, [], ◌∷◌, ◌++◌, map}
 use Rattle.std.proofs.Common.{length, get_or, set, Option, Some, None, option_map, find, remove, slice_get, refl, sym, ap, ap₂, ◌∙◌, subst}
 use Rattle.std.proofs.Common.{arith, length-set, ◌⊎◌, inl, inr, ⊎_elim, eqb-true, eq-eqb, mod-lt, get_or-set_same, get_or-set_other}
 use Rattle.std.proofs.Common.{ltb-true}
@@ -33,8 +33,8 @@ use Rattle.cache_unit.proofs.FormsFields.{with_fields, with_field_in, same_at, f
 use Rattle.cache_unit.proofs.FormsPlaces.{holds, frame-stays, live-stays, live-goes, serves, is_entry}
 use Rattle.cache_unit.proofs.FormsSame.{form_at-same, form_at-live, form_at-resident, form_at-absent, Due, due_ready, due_to, dues, has_tag}
 use Rattle.cache_unit.proofs.FormsSame.{due_in, owed-due, dues-passing, dues-tally, forms-from}
-use Rattle.cache_unit.proofs.Within.{waits_for, FramesLike, frames_like-same, frames_like-set, RegistersWithin, registers_within-set}
-use Rattle.cache_unit.proofs.Within.{Within, within_like}
+use Rattle.cache_unit.proofs.Within.{waits_for, FramesLike, frames_like-set, RegistersWithin, registers_within-set}
+use Rattle.cache_unit.proofs.Within.{Within}
 use Rattle.cache_unit.proofs.FormsStoring.{bytes-merged, with_cells}
 
 abbrev pub done : Field
@@ -43,7 +43,7 @@ done = finished_field
 pub all_processed : (fields : List Field) → list_all (λ f. f.processed) fields ≡ true → (j : ℕ) → j < length fields
     → (get_or fields j clear_field).processed ≡ true
 all_processed [] h j l = absurd (omega arith)
-all_processed (f ∷ fields) h zero l = (and_parts f.processed (list_all (λ f. f.processed) fields) h).0
+all_processed (f ∷ fields) h zero l = grind arith
 all_processed (f ∷ fields) h (suc j) l =
     all_processed fields (and_parts f.processed (list_all (λ f. f.processed) fields) h).1 j (omega arith)
 
@@ -52,7 +52,7 @@ pub no_targets : (slot n : ℕ) (fields : List Field) → list_all (λ f. f.proc
 no_targets slot n [] h = refl
 no_targets slot n (f ∷ fields) h =
     let p = and_parts f.processed (list_all (λ f. f.processed) fields) h in
-    ap₂ ◌++◌ (ap (λ b. cond b [] (map (λ w. record { slot = slot; i = n; load = w }) f.waiting)) p.0) (no_targets slot (suc n) fields p.1)
+    ap₂ ◌++◌ (ap (λ b. cond b [] (map (λ w. record { slot = slot; i = n; load = w }) f.waiting)) p.0) (no_targets slot _ fields p.1)
 
 -- the word's bytes outside the code
 abbrev filled_cell : Entry → Cell → Lanes → Cell
@@ -92,28 +92,19 @@ record Filling (c : Cache) (e : Entry) (frames : List Frame) : Type 0 where
   pub like : FramesLike c.directory.frames frames
 
 -- filling changes the frames alone
-pub filled_only : (c : Cache) (s i : ℕ) (w : Word) → filled c s i w ≡ record c { directory = record c.directory { frames = (filled c s i w).directory.frames } }
+pub filled_only : (c : Cache) (s i : ℕ) (w : Word)
+    → filled c s i w ≡ record c { directory = record c.directory { frames = (filled c s i w).directory.frames } }
 unfolding with_cell
-filled_only c s i w = go (is_live (register_at c s)) (frame_of c (register_at c s).block)
-  where
-    go : (b : Bool) (o : Option ℕ) → cond b (filled_in c o i w (field_at c s i).code) c
-        ≡ record c { directory = record c.directory { frames = (cond b (filled_in c o i w (field_at c s i).code) c).directory.frames } }
-    go true None = refl
-    go true (Some f) = refl
-    go false o = refl
+filled_only c s i w = grind arith
 
 pub settled_only : (c : Cache) (s i : ℕ) (w : Word)
-    → settled_for c s i (filled c s i w) ≡ record c { directory = record c.directory { frames = (settled_for c s i (filled c s i w)).directory.frames } }
-settled_only c s i w =
-    go (is_live (register_at c s) && is_done (finished_fields (register_at c s) i)) (frame_of c (register_at c s).block)
-  where
-    go : (b : Bool) (o : Option ℕ) → cond b (settled_in (filled c s i w) o) (filled c s i w)
-        ≡ record c { directory = record c.directory { frames = (cond b (settled_in (filled c s i w) o) (filled c s i w)).directory.frames } }
-    go true None = filled_only c s i w
-    go true (Some f) =
-        let d = filled c s i w in
-        ap (λ (x : Cache). record x { directory = record x.directory { frames = set d.directory.frames f (settled (frame_at d f)) } }) (filled_only c s i w)
-    go false o = filled_only c s i w
+    → settled_for c s i (filled c s i w) ≡ record c {
+      directory = record c.directory {
+        frames = (settled_for c s i
+            (filled c s i w)).directory.frames;
+      };
+    }
+settled_only c s i w = grind (arith, filled_only)
 
 module _ (z : Sizes) (c : Cache) (h : IsSoundCache z c) (place : ℕ) (e : Entry) (found : slice_get c.stack place ≡ Some e) where
   abbrev reg : Register
@@ -126,33 +117,27 @@ module _ (z : Sizes) (c : Cache) (h : IsSoundCache z c) (place : ℕ) (e : Entry
   waits = h.entries place e found
 
   slot_there : e.slot < length c.registers
-  slot_there = in_range (λ (r : Register). r.valid) free_register c.registers e.slot refl waits.valid
+  slot_there = in_range (λ r. r.valid) free_register _ e.slot refl waits.valid
 
   field_there : e.i < length reg.fields
-  field_there = let l = h.fields e.slot waits.valid in let k = waits.there in omega arith
+  field_there = grind arith
 
   -- ---- the stack
 
   less_stack : Adds e (remove c.stack place) c.stack
-  less_stack = Adds-remove e c.stack place found
+  less_stack = Adds-remove e _ place found
 
   comes : stack_word c.stack e.slot e.i ≡ Some e.word
   unfolding stack_word
-  comes =
-      ap (option_map (λ (x : Entry). x.word)) (find-only (is_entry e.slot e.i) c.stack place e found
-      (ap₂ (λ x y. x && y) (eq-eqb e.slot e.slot refl) (eq-eqb e.i e.i refl)) (λ j y q t.
-      let p = and_parts (y.slot == e.slot) (y.i == e.i) t in
-      h.entries_apart j place y e q found (eqb-true y.slot e.slot p.0) (eqb-true y.i e.i p.1)))
+  comes = grind (arith, find-only, eq-eqb, and_parts, eqb-true)
 
   other_word : (t j : ℕ) → (t ≡ e.slot → j ≡ e.i → ⊥) → stack_word (remove c.stack place) t j ≡ stack_word c.stack t j
   unfolding stack_word
   other_word t j n =
-      ap (option_map (λ (x : Entry). x.word)) (sym (Adds-find_other (is_entry t j) e _ _ less_stack (false_from_ne_true _ differs)))
+      ap (option_map (λ x. x.word)) (sym (Adds-find_other _ e _ _ less_stack (false_from_ne_true _ differs)))
     where
       differs : is_entry t j e ≡ true → ⊥
-      differs k =
-          let p = and_parts (e.slot == t) (e.i == j) k in
-          n (sym (eqb-true e.slot t p.0)) (sym (eqb-true e.i j p.1))
+      differs k = grind arith
 
   -- ---- the registers: with the word processed, and free where all words are
 
@@ -169,31 +154,31 @@ module _ (z : Sizes) (c : Cache) (h : IsSoundCache z c) (place : ℕ) (e : Entry
   AllDone = list_all (λ f. f.processed) (set reg.fields e.i done) ≡ true
 
   other_field : (t j : ℕ) → (t ≡ e.slot → j ≡ e.i → ⊥) → get_or (get_or registers1 t free_register).fields j clear_field ≡ field_at c t j
-  other_field = field_elsewhere c.registers e.slot e.i done
+  other_field = field_elsewhere _ e.slot e.i done
 
   own_field : get_or (get_or registers1 e.slot free_register).fields e.i clear_field ≡ done
-  own_field = field_here c.registers e.slot e.i done slot_there field_there
+  own_field = field_here _ e.slot e.i done slot_there field_there
 
   -- the other words of a register whose words are all processed
   done_before : AllDone → (j : ℕ) → j < z.block_words → (j ≡ e.i → ⊥) → (field_at c e.slot j).processed ≡ true
-  done_before all j l n =
-      ap (λ (x : Field). x.processed) (sym (get_or-set_other reg.fields e.i j done clear_field n))
-      ∙ all_processed (set reg.fields e.i done) all j
-      (let k = h.fields e.slot waits.valid in let m = length-set reg.fields e.i done in omega arith)
+  done_before all j l n = grind (arith, get_or-set_other, all_processed, length-set)
 
   targets2 : AllDone → targets registers2 ≡ targets registers1
   unfolding targets
   targets2 all =
-      let p = gathered_part targets_of free_register 0 c.registers e.slot slot_there in
-      p.then free_register ∙ ap (λ l. p.front ++ (l ++ p.back))
-      (sym (ap (λ x. cond x (gathered (targets_of_field (0 + e.slot)) 0 (set reg.fields e.i done)) []) waits.valid
-      ∙ no_targets (0 + e.slot) 0 (set reg.fields e.i done) all)) ∙ sym (p.then worked)
+      let p = gathered_part targets_of free_register 0 _ e.slot slot_there in
+      cc (
+        p.then free_register,
+        ap (λ x. cond x (gathered (targets_of_field (0 + e.slot)) 0 (set reg.fields e.i done)) []) waits.valid
+            ∙ no_targets _ 0 (set reg.fields e.i done) all,
+        p.then worked,
+      )
 
   within1 : RegistersWithin c.registers registers1
-  within1 = registers_within-set c.registers e.slot worked (λ l. (l, refl)) (λ v. (v, length-set reg.fields e.i done))
+  within1 = grind (arith, registers_within-set, length-set)
 
   within2 : RegistersWithin c.registers registers2
-  within2 = registers_within-set c.registers e.slot free_register (λ l. cc) (λ v. cc)
+  within2 = registers_within-set _ e.slot free_register (λ l. cc) (λ v. cc)
 
   -- ---- the unit after the turn
 
@@ -213,31 +198,24 @@ module _ (z : Sizes) (c : Cache) (h : IsSoundCache z c) (place : ℕ) (e : Entry
     IsHit at = (is_live reg ≡ true) × (reg.block ≡ block_of z at) × (e.i ≡ place_in z at)
 
     hit_or_not : (at : ℕ) → IsHit at ⊎ (IsHit at → ⊥)
-    hit_or_not at =
-        ⊎_elim (λ l. ⊎_elim (λ b. ⊎_elim (λ i. inl (l, b, i)) (λ n. inr (λ k. n k.2)) (cases_eq e.i (place_in z at)))
-        (λ n. inr (λ k. n k.1)) (cases_eq reg.block (block_of z at))) (λ n. inr (λ k. let p = k.0 in cc)) (cases_Bool (is_live reg))
+    hit_or_not at = grind arith
 
     cell_other : (registers : List Register) (at : ℕ) → (IsHit at → ⊥)
         → cell_of (turned registers) (block_of z at) (place_in z at) ≡ cell_of c (block_of z at) (place_in z at)
     cell_other registers at n =
-        ap (λ o. cell_in (turned registers) o (place_in z at)) (filling.stays (turned registers) refl (block_of z at))
-        ∙ go (frame_of c (block_of z at)) refl
+        cc (filling.stays (turned registers) refl _, go _ refl)
       where
         go : (o : Option ℕ) → frame_of c (block_of z at) ≡ o → cell_in (turned registers) o (place_in z at) ≡ cell_in c o (place_in z at)
         go None k = refl
-        go (Some f) k =
-            filling.others f (place_in z at) (λ l b i. let here = (frame_of-some c (block_of z at) f k).1 in
-            let same : reg.block ≡ block_of z at = cc in n (l, same, sym i))
+        go (Some f) k = grind (arith, frame_of-some)
 
     -- ---- the word itself
 
     hit_frame : (at : ℕ) → IsHit at → (k : ℕ) × (frame_of c (block_of z at) ≡ Some k)
-    hit_frame at hit =
-        let p = h.live_present e.slot hit.0 in
-        (p.0, ap (frame_of c) (sym hit.1) ∙ frame_of-is c reg.block p.0 h.frames_apart p.1)
+    hit_frame at hit = grind (arith, frame_of-is)
 
     hit_live : (at : ℕ) → IsHit at → live_for c (block_of z at) ≡ Some e.slot
-    hit_live at hit = live_for-is c (block_of z at) e.slot h.live_apart hit.0 hit.1
+    hit_live at hit = live_for-is c _ e.slot h.live_apart hit.0 hit.1
 
     hit_word : (at : ℕ) → IsHit at → Word
     hit_word at hit = merged e.word (cell_in c (Some (hit_frame at hit).0) e.i).word fld.code
@@ -247,17 +225,17 @@ module _ (z : Sizes) (c : Cache) (h : IsSoundCache z c) (place : ℕ) (e : Entry
     hit_before at hit =
         let k = hit_frame at hit in
         let buffer = (cell_in c (Some k.0) e.i).word in
-        form_at-live z c at k.0 e.slot e.i k.1 (hit_live at hit) (sym hit.2)
-        ∙ ap (λ b. Some (cond b (bytes_of buffer) (over_form fld.code buffer (coming_form c e.slot e.i)))) waits.waits
-        ∙ ap (λ o. Some (over_form fld.code buffer (missing_form o e.slot e.i))) comes
-        ∙ ap Some (sym (bytes-merged e.word buffer fld.code))
+        cc (
+          form_at-live z c at k.0 e.slot e.i k.1 (hit_live at hit) (sym hit.2),
+          waits.waits,
+          comes,
+          ap Some (sym (bytes-merged e.word buffer fld.code)),
+        )
 
     hit_cell : (registers : List Register) (at : ℕ) (hit : IsHit at)
         → (cell_in (turned registers) (Some (hit_frame at hit).0) e.i).word ≡ hit_word at hit
     unfolding hit_word
-    hit_cell registers at hit =
-        let k = hit_frame at hit in
-        ap (λ (x : Cell). x.word) (filling.here hit.0 k.0 (ap (frame_of c) hit.1 ∙ k.1))
+    hit_cell registers at hit = grind arith
 
     -- ---- the words, while the register stays
 
@@ -271,48 +249,48 @@ module _ (z : Sizes) (c : Cache) (h : IsSoundCache z c) (place : ℕ) (e : Entry
         at_hit hit =
             let k = hit_frame at hit in
             let buffer = (cell_in (turned registers1) (Some k.0) e.i).word in
-            form_at-live z (turned registers1) at k.0 e.slot e.i (filling.stays (turned registers1) refl _ ∙ k.1)
+            form_at-live z _ at k.0 e.slot e.i (filling.stays (turned registers1) refl _ ∙ k.1)
             (live1 _ ∙ hit_live at hit) (sym hit.2) ∙ ap
-            (λ (x : Field). Some (cond x.processed (bytes_of buffer)
+            (λ x. Some (cond x.processed (bytes_of buffer)
             (over_form x.code buffer (coming_form (turned registers1) e.slot e.i)))) own_field
             ∙ ap (λ w. Some (bytes_of w)) (hit_cell registers1 at hit) ∙ sym (hit_before at hit)
 
         elsewhere : (IsHit at → ⊥) → form_at z (turned registers1) at ≡ form_at z c at
         elsewhere n =
-            form_at-same z c (turned registers1) at (filling.stays (turned registers1) refl _) (live1 _)
-            (ap (λ (x : Cell). x.word) (cell_other registers1 at n)) (λ t k.
-            let l = live_for-some c (block_of z at) t k in
+            form_at-same z c _ at (filling.stays (turned registers1) refl _) (live1 _)
+            (ap (λ x. x.word) (cell_other registers1 at n)) (λ t k.
+            let l = live_for-some c _ t k in
             let differs : t ≡ e.slot → place_in z at ≡ e.i
             → ⊥ = λ q i. n (
-              subst (λ x. is_live (register_at c x) ≡ true) q l.0,
+              rw q at l.0,
               subst
                   (λ x. (register_at c x).block ≡ block_of z at) q l.1,
               sym i,
             ) in
-            let f = other_field t (place_in z at) differs in
-            (ap (λ (x : Field). x.processed) f, ap (λ (x : Field). x.code) f, other_word t (place_in z at) differs))
+            let f = other_field t _ differs in
+            (ap (λ x. x.processed) f, ap (λ x. x.code) f, other_word t _ differs))
 
     -- ---- the words, where the register is free
 
     words2 : AllDone → (at : ℕ) → form_at z (turned registers2) at ≡ form_at z c at
-    words2 all at = ⊎_elim own other (cases_Bool (serves (block_of z at) reg))
+    words2 all at = ⊎_elim own other (cases_Bool _)
       where
         own : serves (block_of z at) reg ≡ true → form_at z (turned registers2) at ≡ form_at z c at
-        own s = frames_of (frame_of c (block_of z at)) refl
+        own s = frames_of _ refl
           where
             p : (is_live reg ≡ true) × (reg.block ≡ block_of z at)
-            p = let q = and_parts (is_live reg) (reg.block == block_of z at) s in (q.0, eqb-true reg.block (block_of z at) q.1)
+            p = grind arith
 
             gone : live_for (turned registers2) (block_of z at) ≡ None
-            gone = live-goes c (turned registers2) e.slot free_register (block_of z at) refl slot_there refl
+            gone = live-goes c (turned registers2) e.slot free_register _ refl slot_there refl
                 (λ t l b. h.live_apart t e.slot l p.0 (b ∙ sym p.1))
 
             before : live_for c (block_of z at) ≡ Some e.slot
-            before = live_for-is c (block_of z at) e.slot h.live_apart p.0 p.1
+            before = live_for-is c _ e.slot h.live_apart p.0 p.1
 
             frames_of : (o : Option ℕ) → frame_of c (block_of z at) ≡ o → form_at z (turned registers2) at ≡ form_at z c at
             frames_of None q =
-                form_at-absent z (turned registers2) at (filling.stays (turned registers2) refl _ ∙ q) ∙ sym (form_at-absent z c at q)
+                form_at-absent z _ at (filling.stays (turned registers2) refl _ ∙ q) ∙ sym (form_at-absent z c at q)
             frames_of (Some k) q = ⊎_elim at_hit elsewhere (hit_or_not at)
               where
                 frame' : frame_of (turned registers2) (block_of z at) ≡ Some k
@@ -321,41 +299,39 @@ module _ (z : Sizes) (c : Cache) (h : IsSoundCache z c) (place : ℕ) (e : Entry
                 at_hit : IsHit at → form_at z (turned registers2) at ≡ form_at z c at
                 at_hit hit =
                     let k' = hit_frame at hit in
-                    form_at-resident z (turned registers2) at k'.0 (filling.stays (turned registers2) refl _ ∙ k'.1) gone
+                    form_at-resident z _ at k'.0 (filling.stays (turned registers2) refl _ ∙ k'.1) gone
                     ∙ ap (λ j. Some (bytes_of (cell_in (turned registers2) (Some k'.0) j).word)) (sym hit.2)
                     ∙ ap (λ w. Some (bytes_of w)) (hit_cell registers2 at hit) ∙ sym (hit_before at hit)
 
                 elsewhere : (IsHit at → ⊥) → form_at z (turned registers2) at ≡ form_at z c at
                 elsewhere n =
-                    let w = (cell_in c (Some k) (place_in z at)).word in
-                    let x = done_before all (place_in z at) (mod-lt at h.some_words) (λ i. n (p.0, p.1, sym i)) in
-                    let same : cell_in (turned registers2) (Some k) (place_in z at) ≡ cell_in c (Some k) (place_in z at) =
+                    let w = (cell_in c (Some k) _).word in
+                    let x = done_before all _ (mod-lt at h.some_words) (λ i. n (p.0, p.1, sym i)) in
+                    let same =
                     ap (λ o. cell_in (turned registers2) o (place_in z at)) (sym frame') ∙ cell_other registers2 at n
                     ∙ ap (λ o. cell_in c o (place_in z at)) q in
-                    form_at-resident z (turned registers2) at k frame' gone ∙ ap (λ (y : Cell). Some (bytes_of y.word)) same
-                    ∙ sym (form_at-live z c at k e.slot (place_in z at) q before refl
+                    form_at-resident z _ at k frame' gone ∙ ap (λ y. Some (bytes_of y.word)) same
+                    ∙ sym (form_at-live z c at k e.slot _ q before refl
                     ∙ ap (λ b. Some (cond b (bytes_of w) (over_form (field_at c e.slot (place_in z at)).code w
                     (coming_form c e.slot (place_in z at))))) x)
 
         other : serves (block_of z at) reg ≡ false → form_at z (turned registers2) at ≡ form_at z c at
         other s =
-            form_at-same z c (turned registers2) at (filling.stays (turned registers2) refl _)
-            (live-stays c (turned registers2) e.slot free_register (block_of z at) refl (sym s))
-            (ap (λ (x : Cell). x.word) (cell_other registers2 at not_hit)) (λ t k.
-            let l = live_for-some c (block_of z at) t k in
+            form_at-same z c _ at (filling.stays (turned registers2) refl _)
+            (live-stays c (turned registers2) e.slot free_register _ refl (sym s))
+            (ap (λ x. x.word) (cell_other registers2 at not_hit)) (λ t k.
+            let l = live_for-some c _ t k in
             let far : t ≡ e.slot → ⊥ = λ q. not_here (ap (λ x. is_live (register_at c x)) (sym q) ∙ l.0)
             (ap (λ x. (register_at c x).block) (sym q) ∙ l.1) in
-            let same = get_or-set_other c.registers e.slot t free_register free_register far in (
-              ap (λ (r : Register). (get_or r.fields (place_in z at) clear_field).processed) same,
+            let same = get_or-set_other _ e.slot t free_register free_register far in (
+              ap (λ r. (get_or r.fields (place_in z at) clear_field).processed) same,
               ap
-                  (λ (r : Register). (get_or r.fields (place_in z at) clear_field).code) same,
-              other_word t (place_in z at) (λ a b. far a),
+                  (λ r. (get_or r.fields (place_in z at) clear_field).code) same,
+              other_word t _ (λ a b. far a),
             ))
           where
             not_here : is_live reg ≡ true → reg.block ≡ block_of z at → ⊥
-            not_here l b =
-                let t : serves (block_of z at) reg ≡ true = ap₂ (λ x y. x && y) l (eq-eqb reg.block (block_of z at) b) in
-                cc
+            not_here l b = grind arith
 
             not_hit : IsHit at → ⊥
             not_hit hit = not_here hit.0 hit.1
@@ -363,24 +339,23 @@ module _ (z : Sizes) (c : Cache) (h : IsSoundCache z c) (place : ℕ) (e : Entry
     -- ---- what is owed
 
     part : WordPart c.registers e.slot e.i fld
-    part = word_part c.registers e.slot e.i waits.valid field_there
+    part = word_part _ e.slot e.i waits.valid field_there
 
     abbrev seg : List Due
     seg = map due_ready (answered e.word fld.waiting)
 
     seg_is : map (due_to c.stack) (targets_of_field e.slot e.i fld) ≡ seg
     seg_is =
-        ap (λ b. map (due_to c.stack) (cond b [] (map (λ w. record { slot = e.slot; i = e.i; load = w }) fld.waiting))) waits.waits
-        ∙ go fld.waiting
+        cc (waits.waits, go fld.waiting)
       where
         one : (w : Owed) → over_form w.lanes w.held (missing_form (stack_word c.stack e.slot e.i) e.slot e.i)
             ≡ bytes_of (merged e.word w.held w.lanes)
-        one w = ap (λ o. over_form w.lanes w.held (missing_form o e.slot e.i)) comes ∙ sym (bytes-merged e.word w.held w.lanes)
+        one w = cc (comes, bytes-merged e.word w.held w.lanes)
 
         go : (ws : List Owed) → map (due_to c.stack) (map (λ w. record { slot = e.slot; i = e.i; load = w }) ws)
             ≡ map due_ready (answered e.word ws)
         go [] = refl
-        go (w ∷ ws) = ap₂ (λ (x : Due) xs. x ∷ xs) (ap (λ f. record { tag = w.tag; form = f }) (one w)) (go ws)
+        go (w ∷ ws) = ap₂ (λ x xs. x ∷ xs) (ap (λ f. record { tag = w.tag; form = f }) (one w)) (go ws)
 
     front : List Due
     front = map (due_to c.stack) part.front
@@ -390,18 +365,13 @@ module _ (z : Sizes) (c : Cache) (h : IsSoundCache z c) (place : ℕ) (e : Entry
 
     dues_before : dues c ≡ map due_ready c.ready ++ (front ++ (seg ++ back))
     unfolding dues front back
-    dues_before =
-        ap (λ l. map due_ready c.ready ++ map (due_to c.stack) l) part.now
-        ∙ ap (λ l. map due_ready c.ready ++ l) (map-append (due_to c.stack) part.front _
-        ∙ ap (λ l. map (due_to c.stack) part.front ++ l)
-        (map-append (due_to c.stack) (targets_of_field e.slot e.i fld) part.back
-        ∙ ap (λ l. l ++ map (due_to c.stack) part.back) seg_is))
+    dues_before = grind (arith, due_ready, due_to, map-append, seg_is)
 
     targets1 : targets registers1 ≡ part.front ++ part.back
     targets1 = part.then worked done waits.valid refl
 
     same_dues : map (due_to (remove c.stack place)) (targets registers1) ≡ map (due_to c.stack) (targets registers1)
-    same_dues = targets_map (due_to (remove c.stack place)) (due_to c.stack) registers1 each
+    same_dues = targets_map _ _ registers1 each
       where
         agree : (t j : ℕ) (f : Field) → (t ≡ e.slot → j ≡ e.i → ⊥)
             → map (due_to (remove c.stack place)) (targets_of_field t j f) ≡ map (due_to c.stack) (targets_of_field t j f)
@@ -410,7 +380,7 @@ module _ (z : Sizes) (c : Cache) (h : IsSoundCache z c) (place : ℕ) (e : Entry
             go' : (ws : List Owed) → map (due_to (remove c.stack place)) (map (λ w. record { slot = t; i = j; load = w }) ws)
                 ≡ map (due_to c.stack) (map (λ w. record { slot = t; i = j; load = w }) ws)
             go' [] = refl
-            go' (w ∷ ws) = ap₂ (λ (x : Due) xs. x ∷ xs)
+            go' (w ∷ ws) = ap₂ (λ x xs. x ∷ xs)
                 (ap (λ o. record { tag = w.tag; form = over_form w.lanes w.held (missing_form o t j) }) (other_word t j n)) (go' ws)
 
             go : (b : Bool) (ws : List Owed) → map (due_to (remove c.stack place))
@@ -429,38 +399,33 @@ module _ (z : Sizes) (c : Cache) (h : IsSoundCache z c) (place : ℕ) (e : Entry
             here : t ≡ e.slot → j ≡ e.i → map (due_to (remove c.stack place))
                 (targets_of_field t j (get_or (get_or registers1 t free_register).fields j clear_field))
                 ≡ map (due_to c.stack) (targets_of_field t j (get_or (get_or registers1 t free_register).fields j clear_field))
-            here p q =
-                let f : get_or (get_or registers1 t free_register).fields j clear_field ≡ done =
-                ap₂ (λ a b. get_or (get_or registers1 a free_register).fields b clear_field) p q ∙ own_field in
-                ap (λ x. map (due_to (remove c.stack place)) (targets_of_field t j x)) f
-                ∙ sym (ap (λ x. map (due_to c.stack) (targets_of_field t j x)) f)
+            here p q = grind (arith, own_field)
 
     dues_after : (registers : List Register) → targets registers ≡ targets registers1
         → dues (turned registers) ≡ (map due_ready c.ready ++ seg) ++ (front ++ back)
     unfolding dues front back
-    dues_after registers same =
-        ap₂ ◌++◌ (map-append due_ready c.ready (answered e.word fld.waiting))
-        (ap (map (due_to (remove c.stack place))) same ∙ same_dues ∙ ap (map (due_to c.stack)) targets1
-        ∙ map-append (due_to c.stack) part.front part.back)
+    dues_after registers same = grind (arith, map-append, due_ready, same_dues, targets1)
 
     owed_same : (registers : List Register) → targets registers ≡ targets registers1 → (tag : ℕ) → owed (turned registers) tag ≡ owed c tag
     unfolding due_in
     owed_same registers same tag =
         let count = dues-tally c tag in
         let one = h.once tag in
-        let n : tally (has_tag tag) (map due_ready c.ready ++ (front ++ (seg ++ back))) ≡ tally (has_tag tag) (dues c) =
+        let n =
         ap (tally (has_tag tag)) (sym dues_before) in
-        owed-due (turned registers) tag ∙ ap (option_map (λ (d : Due). d.form))
-        (ap (find (has_tag tag)) (dues_after registers same)
-        ∙ find_swapped (has_tag tag) (map due_ready c.ready) seg front back (omega arith) ∙ sym (ap (find (has_tag tag)) dues_before))
-        ∙ sym (owed-due c tag)
+        cc (
+          owed-due (turned registers) tag,
+          ap (find _) (dues_after registers same)
+              ∙ find_swapped (has_tag tag) (map due_ready c.ready) seg front back (omega arith) ∙ sym (ap (find _) dues_before),
+          owed-due c tag,
+        )
 
     passing : (p : ℕ → Bool) (registers : List Register) → targets registers ≡ targets registers1
         → tally p (tags (turned registers)) ≡ tally p (tags c)
     passing p registers same =
         let q : Due → Bool = λ d. p d.tag in
-        sym (dues-passing p (turned registers)) ∙ ap (tally q) (dues_after registers same)
-        ∙ tally_swapped q (map due_ready c.ready) seg front back ∙ ap (tally q) (sym dues_before) ∙ dues-passing p c
+        sym (dues-passing p _) ∙ ap (tally q) (dues_after registers same)
+        ∙ tally_swapped q _ seg front back ∙ ap (tally q) (sym dues_before) ∙ dues-passing p c
 
     -- ---- what is waited for
 
@@ -468,31 +433,18 @@ module _ (z : Sizes) (c : Cache) (h : IsSoundCache z c) (place : ℕ) (e : Entry
     waits_in j r = r.valid && (nat_lt j z.block_words && not (get_or r.fields j clear_field).processed)
 
     own1 : waits_for z (turned registers1) e.slot e.i ≡ false
-    own1 =
-        let r = register_at (turned registers1) e.slot in
-        ap (λ (x : Field). r.valid && (nat_lt e.i z.block_words && not x.processed)) own_field ∙ never r.valid (nat_lt e.i z.block_words)
+    own1 = grind (arith, own_field, never)
 
     waits1 : (t j : ℕ) → (t ≡ e.slot → j ≡ e.i → ⊥) → waits_for z (turned registers1) t j ≡ waits_for z c t j
     waits1 t j n =
-        ap₂ (λ x y. x && (nat_lt j z.block_words && not y)) (same_at c.registers e.slot e.i done (λ (r : Register). r.valid) refl t)
-        (ap (λ (x : Field). x.processed) (other_field t j n))
+        ap₂ (λ x y. x && (nat_lt j z.block_words && not y)) (same_at _ e.slot e.i done (λ r. r.valid) refl t)
+        (ap (λ x. x.processed) (other_field t j n))
 
     own2 : (j : ℕ) → waits_for z (turned registers2) e.slot j ≡ false
-    own2 j = ap (waits_in j) (get_or-set_same c.registers e.slot free_register free_register slot_there)
+    own2 j = grind (arith, get_or-set_same, slot_there)
 
     waits2 : AllDone → (t j : ℕ) → (t ≡ e.slot → j ≡ e.i → ⊥) → waits_for z (turned registers2) t j ≡ waits_for z c t j
-    waits2 all t j n =
-        ⊎_elim here (λ far. ap (waits_in j) (get_or-set_other c.registers e.slot t free_register free_register far)) (cases_eq t e.slot)
-      where
-        before : t ≡ e.slot → (b : Bool) → nat_lt j z.block_words ≡ b → (reg.valid && (b && not (field_at c e.slot j).processed)) ≡ false
-        before q true l =
-            ap (λ x. reg.valid && not x) (done_before all j (ltb-true j z.block_words l) (n q)) ∙ never reg.valid true
-        before q false l = never reg.valid false
-
-        here : t ≡ e.slot → waits_for z (turned registers2) t j ≡ waits_for z c t j
-        here q =
-            ap (λ k. waits_for z (turned registers2) k j) q ∙ own2 j
-            ∙ sym (ap (λ k. waits_for z c k j) q ∙ before q (nat_lt j z.block_words) refl)
+    waits2 all t j n = grind (arith, get_or-set_other, cases_eq, done_before, ltb-true, never, waits_for, own2)
 
     -- ---- the cells
 
@@ -507,11 +459,11 @@ module _ (z : Sizes) (c : Cache) (h : IsSoundCache z c) (place : ℕ) (e : Entry
         come hit =
             let k = hit_frame at hit in
             let here = filling.here hit.0 k.0 (ap (frame_of c) hit.1 ∙ k.1) in
-            let cell : cell_of (turned registers) (block_of z at) (place_in z at) ≡ filled_cell e (cell_in c (Some k.0) e.i) fld.code =
+            let cell =
             ap₂ (λ o j. cell_in (turned registers) o j) (filling.stays (turned registers) refl _ ∙ k.1) (sym hit.2) ∙ here in
             inr (record {
-              dirty = ap (λ (x : Cell). x.dirty) cell ∙ sym (ap₂ (λ o j. (cell_in c o j).dirty) k.1 (sym hit.2));
-              form = same ∙ hit_before at hit ∙ ap (λ (x : Cell). Some (bytes_of x.word)) (sym cell);
+              dirty = grind arith;
+              form = cc (same, hit_before at hit, cell);
             })
 
     -- ---- both cases
@@ -525,18 +477,7 @@ module _ (z : Sizes) (c : Cache) (h : IsSoundCache z c) (place : ℕ) (e : Entry
             → targets registers ≡ targets registers1 → waits_for z (turned registers) e.slot e.i ≡ false
             → ((t j : ℕ) → (t ≡ e.slot → j ≡ e.i → ⊥) → waits_for z (turned registers) t j ≡ waits_for z c t j)
             → ProcessedBy z c place e (turned registers)
-        by registers like words same own others =
-            record {
-              within = within_like c (turned registers) filling.like like;
-              same_forms = forms-from z (turned registers) _ _ words (owed_same registers same);
-              passing = λ p. passing p registers same;
-              own = own;
-              others = others;
-              cells = λ at. cells registers at (words at);
-              orders = refl;
-              stack = refl;
-              queue = refl;
-            }
+        by registers like words same own others = grind (arith, forms-from, owed_same, passing, cells)
 
         go : (b : Bool) → list_all (λ f. f.processed) (set reg.fields e.i done) ≡ b
             → ProcessedBy z c place e (turned (set c.registers e.slot (cond b free_register worked)))
@@ -547,16 +488,10 @@ module _ (z : Sizes) (c : Cache) (h : IsSoundCache z c) (place : ℕ) (e : Entry
 
   filling_of : Filling c e (filled c e.slot e.i e.word).directory.frames
   unfolding with_cell dir.frame_of
-  filling_of = go (is_live reg) refl (frame_of c reg.block) refl
+  filling_of = go _ refl _ refl
     where
       unfilled : (is_live reg ≡ true → (k : ℕ) → frame_of c reg.block ≡ Some k → ⊥) → Filling c e c.directory.frames
-      unfilled impossible =
-          record {
-            stays = λ d ed b. ap (λ fs. frame_of (record c { directory = record c.directory { frames = fs } }) b) ed;
-            others = λ k j n. refl;
-            here = λ l k q. absurd (impossible l k q);
-            like = frames_like-same c.directory.frames;
-          }
+      unfilled impossible = grind arith
 
       go : (b : Bool) → is_live reg ≡ b → (o : Option ℕ) → frame_of c reg.block ≡ o
           → Filling c e (cond b (filled_in c o e.i e.word fld.code) c).directory.frames
@@ -570,17 +505,17 @@ module _ (z : Sizes) (c : Cache) (h : IsSoundCache z c) (place : ℕ) (e : Entry
           let w = waits.there in
           let room : e.i < length (frame_at c f).cells = omega arith in
           record {
-            stays = λ d ed b. frame-stays c d f (with_cells (frame_at c f) (set (frame_at c f).cells e.i cell')) b ed refl;
-            others = λ k j n. nested_other (λ (x : Frame). x.cells) with_cells
-                (λ x ys. refl) empty_frame zero_cell c.directory.frames f e.i k j cell' (λ p r. n l (ap (λ x. (frame_at c x).block) p ∙ at_f.1) r);
+            stays = λ d ed b. frame-stays c d f _ b ed refl;
+            others = λ k j n. nested_other (λ x. x.cells) with_cells
+                (λ x ys. refl) empty_frame zero_cell _ f e.i k j cell' (λ p r. n l (cc (p, at_f.1)) r);
             here = λ l' k p.
                 let same : f ≡ k = cc in
-                let there = nested_same (λ (x : Frame). x.cells) with_cells
-                (λ x ys. refl) empty_frame zero_cell c.directory.frames f e.i cell' at_f.0 room in
-                let new = set c.directory.frames f (with_cells (frame_at c f) (set (frame_at c f).cells e.i cell')) in
+                let there = nested_same (λ x. x.cells) with_cells
+                (λ x ys. refl) empty_frame zero_cell _ f e.i cell' at_f.0 room in
+                let new = set _ f _ in
                 subst (λ x. get_or (get_or new x empty_frame).cells e.i zero_cell
                 ≡ filled_cell e (get_or (frame_at c x).cells e.i zero_cell) fld.code) same there;
-            like = frames_like-set c.directory.frames f (with_cells (frame_at c f) (set (frame_at c f).cells e.i cell')) refl
+            like = frames_like-set _ f _ refl
                 (length-set (frame_at c f).cells e.i cell');
           }
 
@@ -590,29 +525,25 @@ module _ (z : Sizes) (c : Cache) (h : IsSoundCache z c) (place : ℕ) (e : Entry
   unfolding settled
   settled_filling frames h None = h
   settled_filling frames h (Some f) =
-      let d : Cache = record c { directory = record c.directory { frames = frames } } in
+      let d = record c { directory = record c.directory { frames = frames } } in
       let new = settled (get_or frames f empty_frame) in
       let read = cell_settled frames f in
       let like = frames_like-settled frames f in
       record {
         stays = λ x ex b. frame-stays d x f new b ex (same_block frames f b) ∙ h.stays d refl b;
-        others = λ k j n. read k j ∙ h.others k j n;
-        here = λ l k q. read k e.i ∙ h.here l k q;
-        like = record {
-          number = like.number ∙ h.like.number;
-          blocks = λ k. like.blocks k ∙ h.like.blocks k;
-          cells = λ k. like.cells k ∙ h.like.cells k;
-        };
+        others = grind arith;
+        here = grind arith;
+        like = grind arith;
       }
     where
       cell_settled : (fs : List Frame) (f k j : ℕ)
           → get_or (get_or (set fs f (settled (get_or fs f empty_frame))) k empty_frame).cells j zero_cell
           ≡ get_or (get_or fs k empty_frame).cells j zero_cell
       cell_settled fs f k j =
-          read_set (λ (x : Frame). get_or x.cells j zero_cell) empty_frame fs f (settled (get_or fs f empty_frame)) refl k
+          read_set (λ x. get_or x.cells j zero_cell) empty_frame fs f _ refl k
 
       frames_like-settled : (fs : List Frame) (f : ℕ) → FramesLike fs (set fs f (settled (get_or fs f empty_frame)))
-      frames_like-settled fs f = frames_like-set fs f (settled (get_or fs f empty_frame)) refl refl
+      frames_like-settled fs f = frames_like-set fs f _ refl refl
 
       same_block : (fs : List Frame) (f b : ℕ) → holds b (settled (get_or fs f empty_frame)) ≡ holds b (get_or fs f empty_frame)
       same_block fs f b = refl
@@ -622,14 +553,15 @@ module _ (z : Sizes) (c : Cache) (h : IsSoundCache z c) (place : ℕ) (e : Entry
 
   turned_frames : Filling c e (settled_for c e.slot e.i (filled c e.slot e.i e.word)).directory.frames
   unfolding last
-  turned_frames = subst (λ d. Filling c e (settled_for c e.slot e.i d).directory.frames) (sym (filled_only c e.slot e.i e.word)) (go last)
+  turned_frames = rw (sym (filled_only c e.slot e.i e.word)) at (go last)
     where
       filled_frames : List Frame
       filled_frames = (filled c e.slot e.i e.word).directory.frames
 
-      go : (b : Bool) → Filling c e (cond b (settled_in (record c { directory = record c.directory { frames = filled_frames } }) (frame_of c reg.block))
+      go : (b : Bool) → Filling c e (cond b (settled_in (record c { directory = record c.directory { frames = filled_frames } })
+          (frame_of c reg.block))
           (record c { directory = record c.directory { frames = filled_frames } })).directory.frames
-      go true = settled_filling filled_frames filling_of (frame_of c reg.block)
+      go true = settled_filling filled_frames filling_of _
       go false = filling_of
 
   after : Cache → Cache
@@ -642,9 +574,7 @@ module _ (z : Sizes) (c : Cache) (h : IsSoundCache z c) (place : ℕ) (e : Entry
 
   pub processed-by : ProcessedBy z c place e (processed c place e)
   unfolding processed after
-  processed-by =
-      subst (λ d. ProcessedBy z c place e (after d)) (sym (settled_only c e.slot e.i e.word))
-      (turned_by (settled_for c e.slot e.i (filled c e.slot e.i e.word)).directory.frames turned_frames)
+  processed-by = grind (arith, after, settled_only, turned_by, turned_frames)
 
 process_ok : (z : Sizes) (c : Cache) → IsSoundCache z c → (place : ℕ) (o : Option Entry) → slice_get c.stack place ≡ o
     → forms z (process_entry c place o).cache ≡ forms z c
@@ -654,4 +584,4 @@ process_ok z c h place (Some x) e = (processed-by z c h place x e).same_forms
 pub process_forms : (z : Sizes) (c : Cache) → IsSoundCache z c → (place : ℕ)
     → ProcessForms z c (process_step c place).answer (process_step c place).cache
 unfolding ProcessForms process_step
-process_forms z c h place = process_ok z c h place (slice_get c.stack place) refl
+process_forms z c h place = process_ok z c h place _ refl

@@ -1,6 +1,6 @@
 -- What a request makes of the forms.
 use Rattle.std.proofs.Common.{◌≡◌, ℕ, Bool, true, false, cond, ◌||◌, ◌==◌, List, [], ◌∷◌, ◌++◌, map, length, Option, Some, None, option_map}
-use Rattle.std.proofs.Common.{filter, is_some, refl, ap, ap₂, ◌∙◌, subst}
+use Rattle.std.proofs.Common.{filter, is_some, refl, ap, ap₂, ◌∙◌}
 use Rattle.std.specs.List.{list_any}
 use Rattle.flat_model.specs.declared.Word.{Word}
 use Rattle.flat_model.specs.declared.Lanes.{Lanes}
@@ -8,18 +8,16 @@ use Rattle.flat_model.specs.declared.Cause.{Cause}
 use Rattle.flat_model.specs.declared.Cause.TheVariants.{OutOfRange, NoLanes, TagInUse, RepliesFull, NoRegister, SetPending}
 use Rattle.flat_model.specs.declared.Answer.TheVariants.{Accepted}
 use Rattle.memory_banks.specs.declared.Command.{Command}
-use Rattle.cache_unit.specs.declared.Reply.{Reply}
 use Rattle.cache_unit.specs.declared.Request.{Request}
 use Rattle.cache_unit.specs.declared.Request.TheVariants.{Load, Store, Prefetch}
 use Rattle.cache_unit.specs.declared.Sizes.{Sizes}
-use Rattle.cache_unit.specs.State.{Target, Cache, is_present, cell_of, tags, block_of, place_in}
+use Rattle.cache_unit.specs.State.{Target, Cache, is_present, cell_of, block_of, place_in}
 use Rattle.cache_unit.specs.Causes.{first_cause, miss_causes, is_in_use, found, load_cause, store_cause, prefetch_cause}
-use Rattle.cache_unit.specs.Steps.{unless, fetched, loaded, written, load_step, store_step, prefetch_step, request_step}
+use Rattle.cache_unit.specs.Steps.{unless, loaded, written, load_step, store_step, prefetch_step, request_step}
 use Rattle.cache_unit.specs.Forms.{over_form, owed}
 use Rattle.cache_unit.specs.FormLaws.{LoadForms, StoreForms, PrefetchForms, RequestForms}
 use Rattle.cache_unit.specs.SoundCache.{IsSoundCache}
-use Rattle.cache_unit.specs.Counts.{tally}
-use Rattle.cache_unit.proofs.FormsSame.{dues, has_tag, dues-tally, owed-same, forms-from}
+use Rattle.cache_unit.proofs.FormsSame.{dues-tally, owed-same, forms-from}
 use Rattle.cache_unit.proofs.FormsFetching.{FetchedBy}
 use Rattle.cache_unit.proofs.FormsChoosing.{Able, fetched-by}
 use Rattle.cache_unit.proofs.FormsStoring.{Hit, stored-by}
@@ -41,7 +39,7 @@ able-from z room c block e =
 pub missing : (z : Sizes) (room : ℕ → ℕ) (c : Cache) (block : ℕ) (here : List (Bool × Cause))
     → first_cause (cond (is_present c block) here (miss_causes z room c block)) ≡ None → is_present c block ≡ false → Able z c block
 missing z room c block here e q =
-    able-from z room c block (subst (λ b. first_cause (cond b here (miss_causes z room c block)) ≡ None) q e)
+    able-from z room c block (rw q at e)
 
 pub none-counted : (p : ℕ → Bool) (xs : List ℕ) → list_any p xs ≡ false → length (filter p xs) ≡ 0
 none-counted p [] e = refl
@@ -67,7 +65,7 @@ module _ (z : Sizes) (c : Cache) (h : IsSoundCache z c) (at : ℕ) (d : Cache) (
   store-ok : (word : Word) (lanes : Lanes) → StoreForms z c at word lanes (written d (block_of z at) (place_in z at) word lanes)
   store-ok word lanes =
       let s = stored-by z h.some_words d at there word lanes in
-      let e = written d (block_of z at) (place_in z at) word lanes in
+      let e = written d _ _ word lanes in
       record {
         present = ap is_some s.present;
         after = forms-from z e _ _ (λ a. s.words a
@@ -79,12 +77,12 @@ module _ (z : Sizes) (c : Cache) (h : IsSoundCache z c) (at : ℕ) (d : Cache) (
       → LoadForms z c tag at (loaded d tag (place_in z at) (cell_of d (block_of z at) (place_in z at)).word
       (found d (block_of z at) (place_in z at)))
   load-ok tag unused =
-      let same : tags d ≡ tags c = ap₂ (λ (r : List Reply) (t : List Target). map (λ x. x.tag) r ++ map
+      let same = ap₂ (λ r (t : List Target). map (λ x. x.tag) r ++ map
       (λ x. x.load.tag) t) fetch.same_ready fetch.same_targets in
-      let fresh : tally (has_tag tag) (dues d) ≡ 0 = dues-tally d tag ∙ ap (λ ts. length (filter (λ t. t == tag) ts)) same
-      ∙ none-counted (λ t. t == tag) (tags c) unused in
+      let fresh = dues-tally d tag ∙ ap (λ ts. length (filter (λ t. t == tag) ts)) same
+      ∙ none-counted (λ t. t == tag) _ unused in
       let l = loaded-by z h.some_words d tag at there fresh in
-      let e = loaded d tag (place_in z at) (cell_of d (block_of z at) (place_in z at)).word (found d (block_of z at) (place_in z at)) in
+      let e = loaded d tag _ (cell_of d _ _).word _ in
       record {
         present = ap is_some l.present;
         after = forms-from z e _ _ (λ a. l.words a ∙ fetch.words a)
@@ -109,18 +107,18 @@ module _ (z : Sizes) (room : ℕ → ℕ) (c : Cache) (h : IsSoundCache z c) whe
       (request_step z room c request).cache
   unfolding RequestForms load_step store_step prefetch_step load_cause store_cause prefetch_cause
   request_forms (Load tag at) =
-      unless-ok z c (Load tag at) (load_cause z room c tag at) _ _ (λ e.
+      unless-ok z c (Load tag at) _ _ _ (λ e.
       let p = no-cause _ OutOfRange _ e in
       let q = no-cause _ TagInUse _ p.1 in
       let r = no-cause _ RepliesFull _ q.1 in
-      load-ok z c h at (fetched z c (block_of z at)) (fetched-by z c h (block_of z at) (missing z room c (block_of z at) _ r.1)) tag q.0)
+      load-ok z c h at _ (fetched-by z c h _ (missing z room c _ _ r.1)) tag q.0)
   request_forms (Store at word lanes) =
-      unless-ok z c (Store at word lanes) (store_cause z room c at lanes) _ _ (λ e.
+      unless-ok z c (Store at word lanes) _ _ _ (λ e.
       let p = no-cause _ OutOfRange _ e in
       let q = no-cause _ NoLanes _ p.1 in
-      store-ok z c h at (fetched z c (block_of z at))
-      (fetched-by z c h (block_of z at) (missing z room c (block_of z at) _ q.1)) word lanes)
+      store-ok z c h at _
+      (fetched-by z c h _ (missing z room c _ _ q.1)) word lanes)
   request_forms (Prefetch at) =
-      unless-ok z c (Prefetch at) (prefetch_cause z room c at) _ _ (λ e.
+      unless-ok z c (Prefetch at) _ _ _ (λ e.
       let p = no-cause _ OutOfRange _ e in
-      prefetch-ok z c h at (fetched z c (block_of z at)) (fetched-by z c h (block_of z at) (missing z room c (block_of z at) _ p.1)))
+      prefetch-ok z c h at _ (fetched-by z c h _ (missing z room c _ _ p.1)))

@@ -1,18 +1,14 @@
 -- What the forms rest on holds of each sound unit.
-use Rattle.std.proofs.Common.{◌≡◌, ℕ, suc, ◌+◌, ◌*◌, ◌/◌, ◌<◌, ◌≤◌, Bool, true, false, cond, ◌&&◌, ◌||◌, ◌==◌, List, [], ◌∷◌, map, length}
-use Rattle.std.proofs.Common.{Option, Some, is_some, filter, slice_get, refl, sym, ap, ap₂, ◌∙◌, subst, arith, ⊎_elim, eq-eqb}
+use Rattle.std.proofs.Common.{◌≡◌, ℕ, suc, ◌+◌, ◌/◌, ◌<◌, ◌≤◌, Bool, true, false, cond, ◌&&◌, ◌||◌, ◌==◌, List, [], ◌∷◌, map, length}
+use Rattle.std.proofs.Common.{Option, Some, is_some, filter, slice_get, refl, sym, arith}
 use Rattle.std.specs.List.{sum_by, count_by, list_any}
-use Rattle.std.proofs.lemmas.Bool.{cases_lt, or_left, or_right}
+use Rattle.std.proofs.lemmas.Bool.{cases_lt}
 use Rattle.std.proofs.lemmas.List.Sums.{sum_by-cons}
 use Rattle.input_stack.specs.declared.Entry.{Entry}
-use Rattle.write_queue.specs.declared.Queued.{Queued}
-use Rattle.write_queue.specs.Queue.{Queue}
-use Rattle.miss_registers.specs.declared.Owed.{Owed}
 use Rattle.cache_directory.specs.Frames as dir
 use Rattle.miss_registers.specs.Registers as regs
-use Rattle.cache_unit.specs.declared.Reply.{Reply}
 use Rattle.cache_unit.specs.declared.Sizes.{Sizes}
-use Rattle.cache_unit.specs.State.{UnitState, Field, Register, Target, frame_at, register_at, gathered, targets_of, Cache, field_at}
+use Rattle.cache_unit.specs.State.{UnitState, Target, frame_at, register_at, gathered, targets_of, Cache}
 use Rattle.cache_unit.specs.State.{targets_of_field, targets, tags}
 use Rattle.cache_unit.specs.Sound.{IsSound, loads_of_field, loads_of, owing}
 use Rattle.cache_unit.specs.SoundCache.{HasWord, IsSoundCache}
@@ -36,15 +32,7 @@ module _ (p : ℕ → Bool) where
   waits_so t = p t.load.tag
 
   field_loads : (slot i : ℕ) (f : regs.Field) → tally waits_so (targets_of_field slot i f) ≤ loads_of_field p f
-  field_loads slot i f = go f.processed
-    where
-      each : tally waits_so (map (λ w. record { slot = slot; i = i; load = w }) f.waiting) ≡ count_by (λ w. p w.tag) f.waiting
-      each = tally-map (λ (w : Owed). record { slot = slot; i = i; load = w }) waits_so f.waiting
-          ∙ tally-count (λ (w : Owed). p w.tag) f.waiting
-
-      go : (b : Bool) → tally waits_so (cond b [] (map (λ w. record { slot = slot; i = i; load = w }) f.waiting)) ≤ loads_of_field p f
-      go true = omega arith
-      go false = omega (arith, each)
+  field_loads slot i f = grind (arith, tally-map, tally-count)
 
   fields_loads : (slot n : ℕ) (fs : List regs.Field)
       → tally waits_so (gathered (targets_of_field slot) n fs) ≤ sum_by (loads_of_field p) fs
@@ -57,11 +45,7 @@ module _ (p : ℕ → Bool) where
       omega arith
 
   register_loads : (slot : ℕ) (r : regs.Register) → tally waits_so (targets_of slot r) ≤ loads_of p r
-  register_loads slot r = go r.valid
-    where
-      go : (b : Bool) → tally waits_so (cond b (gathered (targets_of_field slot) 0 r.fields) []) ≤ loads_of p r
-      go true = fields_loads slot 0 r.fields
-      go false = omega arith
+  register_loads slot r = grind (arith, fields_loads)
 
   registers_loads : (n : ℕ) (rs : List regs.Register) → tally waits_so (gathered targets_of n rs) ≤ sum_by (loads_of p) rs
   registers_loads n [] = omega arith
@@ -78,10 +62,10 @@ module _ (p : ℕ → Bool) where
   tags_owed c =
       let ts = targets c.registers in
       let a = tally-filter p (tags c) in
-      let b = tally-append p (map (λ (r : Reply). r.tag) c.ready) (map (λ (t : Target). t.load.tag) ts) in
-      let r = tally-map (λ (x : Reply). x.tag) p c.ready in
-      let n = tally-count (λ (x : Reply). p x.tag) c.ready in
-      let t = tally-map (λ (x : Target). x.load.tag) p ts in
+      let b = tally-append p (map (λ r. r.tag) c.ready) (map (λ t. t.load.tag) ts) in
+      let r = tally-map (λ x. x.tag) p c.ready in
+      let n = tally-count (λ x. p x.tag) c.ready in
+      let t = tally-map (λ x. x.load.tag) p ts in
       let k = registers_loads 0 c.registers in
       omega arith
 
@@ -89,12 +73,12 @@ module _ (p : ℕ → Bool) where
 
 stands_in : (order : List ℕ) (f : ℕ) → 1 ≤ dir.times_in order f → list_any (λ g. g == f) order ≡ true
 stands_in [] f l = absurd (omega arith)
-stands_in (x ∷ order) f l = go (x == f) refl l (stands_in order f)
+stands_in (x ∷ order) f l = go _ refl l (stands_in order f)
   where
     go : (b : Bool) → (x == f) ≡ b → 1 ≤ cond b 1 0 + dir.times_in order f
         → (1 ≤ dir.times_in order f → list_any (λ g. g == f) order ≡ true) → ((x == f) || list_any (λ g. g == f) order) ≡ true
-    go true e k rest = or_left (x == f) (list_any (λ g. g == f) order) e
-    go false e k rest = or_right (x == f) (list_any (λ g. g == f) order) (rest (omega arith))
+    go true e k rest = grind arith
+    go false e k rest = grind arith
 
 -- once where a frame is held and stands in its set
 abbrev counted : Option ℕ → Bool → ℕ
@@ -108,33 +92,30 @@ sound_cache z c h =
     record {
       some_words = let l = h.ranges.some_words in omega arith;
       some_sets = let l = h.ranges.some_sets in omega arith;
-      frames_are = h.directory.frames_there ∙ ap (λ n. n * z.ways) h.sets;
+      frames_are = cc (h.directory.frames_there, h.sets);
       registers_are = h.registers.registers_there;
       frames_apart = λ f g b p k. h.directory.alone f g b p k;
       live_apart = λ s t a b e. h.registers.one_live s t a b e;
       live_present = λ s a. let t = h.tied.frames s a in let f = (register_at c s).frame in
-          (f, (frame_of-some c.directory.frames (register_at c s).block f t.holds).1);
+          (f, (frame_of-some _ (register_at c s).block f t.holds).1);
       cells = λ f b p. h.directory.cells f b p;
       fields = λ s v. (h.registers.each s).fields_there v;
-      placed = λ f b p. stands_in (dir.order_of c.directory (f / z.ways)) f (held_once f b p);
+      placed = λ f b p. stands_in _ f (held_once f b p);
       entries = there;
       entries_apart = apart;
       once = λ tag. let a = tags_owed (λ t. t == tag) c in let b = h.owes.once tag in omega arith;
     }
   where
     held_once : (f b : ℕ) → (frame_at c f).block ≡ Some b → 1 ≤ dir.times_in (dir.order_of c.directory (f / z.ways)) f
-    held_once f b e =
-        let one : dir.times_in (dir.order_of c.directory (f / z.ways)) f ≡ 1 = h.directory.ordered (f / z.ways) f
-        ∙ ap₂ counted e (eq-eqb (f / z.ways) (f / z.ways) refl) in
-        omega arith
+    held_once f b e = grind arith
 
     there : (k : ℕ) (e : Entry) → slice_get c.stack k ≡ Some e → HasWord z c e
     there k e g =
-        let t = Taken-from c.stack k e g in
+        let t = Taken-from _ k e g in
         let w = h.stack_sound.entries k t.within in
-        let in_slot = subst (λ (x : Entry). (register_at c x.slot).valid ≡ true) t.same w.valid in
-        let in_word = subst (λ (x : Entry). x.i < length (register_at c x.slot).fields) t.same w.there in
-        let missing = subst (λ (x : Entry). (field_at c x.slot x.i).processed ≡ false) t.same w.waits in
+        let in_slot = rw t.same at w.valid in
+        let in_word = rw t.same at w.there in
+        let missing = rw t.same at w.waits in
         let number = (h.registers.each e.slot).fields_there in_slot in
         record {
           valid = in_slot;
@@ -144,18 +125,16 @@ sound_cache z c h =
 
     never : (j k : ℕ) (x y : Entry) → slice_get c.stack j ≡ Some x → slice_get c.stack k ≡ Some y → x.slot ≡ y.slot → x.i ≡ y.i → j < k → ⊥
     never j k x y gj gk es ei l =
-        let a = Taken-from c.stack j x gj in
-        let b = Taken-from c.stack k y gk in
-        h.stack_sound.distinct j k l b.within (ap (λ (v : Entry). v.slot) a.same ∙ es ∙ sym (ap (λ (v : Entry). v.slot) b.same))
-        (ap (λ (v : Entry). v.i) a.same ∙ ei ∙ sym (ap (λ (v : Entry). v.i) b.same))
+        let a = Taken-from _ j x gj in
+        let b = Taken-from _ k y gk in
+        h.stack_sound.distinct j k l b.within (cc (a.same, es, b.same))
+        (cc (a.same, ei, b.same))
 
     apart : (j k : ℕ) (x y : Entry) → slice_get c.stack j ≡ Some x → slice_get c.stack k ≡ Some y → x.slot ≡ y.slot → x.i ≡ y.i → j ≡ k
-    apart j k x y gj gk es ei =
-        ⊎_elim (λ l. absurd (never j k x y gj gk es ei l))
-        (λ l. ⊎_elim (λ m. absurd (never k j y x gk gj (sym es) (sym ei) m)) (λ m. omega arith) (cases_lt k j)) (cases_lt j k)
+    apart j k x y gj gk es ei = grind (arith, never, cases_lt)
 
 -- the same of what a unit shows
 pub sound_shown : (z : Sizes) (c : Cache)
     → IsSound z c → (u : UnitState) → record { sizes = z; cache = c } ≡ u
     → IsSoundCache u.sizes u.cache
-sound_shown z c h u e = subst (λ (x : UnitState). IsSoundCache x.sizes x.cache) e (sound_cache z c h)
+sound_shown z c h u e = grind (arith, sound_cache)

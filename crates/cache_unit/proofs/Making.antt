@@ -1,5 +1,5 @@
 -- What a call has made, from what its parts show.
-use Rattle.std.proofs.Common.{◌≡◌, ℕ, List, [], ap, sym, ◌∙◌, refl, subst}
+use Rattle.std.proofs.Common.{◌≡◌, ℕ, List, ap, sym, ◌∙◌, refl}
 use Rattle.flat_model.specs.declared.Cause.{Cause}
 use Rattle.flat_model.specs.declared.Answer.{Answer}
 use Rattle.flat_model.specs.declared.Answer.TheVariants.{Refused}
@@ -21,7 +21,7 @@ use Rattle.cache_unit.proofs.Stepping.{made}
 
 module _ (s : Inside) (h : IsSoundUnit s) (u : UnitState) (shows : unit_shown s ≡ u) where
   pub sound_of : IsSoundCache u.sizes u.cache
-  sound_of = sound_shown s.sizes (cache_of s) h.sound u shows
+  sound_of = sound_shown s.sizes _ h.sound u shows
 
   module _ (step : Sizes → Cache → Stepped) (a : Answer) (after : Cache) (sent : List (ℕ × Command))
       (is : step s.sizes (cache_of s) ≡ record { answer = a; cache = after; sent = sent }) where
@@ -29,14 +29,13 @@ module _ (s : Inside) (h : IsSoundUnit s) (u : UnitState) (shows : unit_shown s 
     pub makes : (shown : Cache) → shown ≡ after → Makes (step u.sizes u.cache) u a (made s.sizes shown)
     makes shown e = record {
       sound = sound_of;
-      answer = subst (λ (v : UnitState). a ≡ (step v.sizes v.cache).answer) shows (sym (ap (λ (t : Stepped). t.answer) is));
-      unit = subst (λ (v : UnitState). made s.sizes shown ≡ record v { cache = (step v.sizes v.cache).cache }) shows
-          (ap (made s.sizes) (e ∙ sym (ap (λ (t : Stepped). t.cache) is)));
+      answer = rw (← shows) (sym (ap (λ t. t.answer) is));
+      unit = rw (← shows) (ap (made s.sizes) (e ∙ sym (ap (λ t. t.cache) is)));
     }
 
     -- a step that leaves the unit as it was
     pub keeps : after ≡ (cache_of s) → Makes (step u.sizes u.cache) u a u
-    keeps e = subst (λ v. Makes (step u.sizes u.cache) u a v) shows (makes (cache_of s) (sym e))
+    keeps e = rw shows at (makes _ (sym e))
 
 -- ---- by the unit's state
 
@@ -46,12 +45,11 @@ module _ {L : Type 0} (sent_to : L → ℕ → List Command) (room_of : L → �
   pub steps : (t : Stepped) → step ≡ t → (v : UnitState) (after : L) → v ≡ record u { cache = t.cache }
       → HasSent sent_to room_of same lines after t.sent → MakesOver sent_to room_of same step u lines t.answer v after
   steps t is v after unit sent =
-      subst (λ (x : Stepped). MakesOver sent_to room_of same x u lines t.answer v after) (sym is)
-      (record { made = record { sound = sound; answer = refl; unit = unit }; lines = sent })
+      rw is (record { made = record { sound = sound; answer = refl; unit = unit }; lines = sent })
 
   -- a refusal, which leaves the unit and the lines as they were
   pub refuses : same lines lines → (cause : Cause) → step ≡ refused cause u.cache → (v : UnitState) (after : L) → v ≡ u → after ≡ lines
       → MakesOver sent_to room_of same step u lines (Refused cause) v after
   refuses none cause is v after unit kept =
       let sent = HasSent-none sent_to room_of same lines none in
-      steps (refused cause u.cache) is v after unit (subst (λ l. HasSent sent_to room_of same lines l []) (sym kept) sent)
+      steps _ is v after unit (rw kept sent)

@@ -1,8 +1,7 @@
 -- Loads and stores of a block that a frame holds.
-use Rattle.std.proofs.Common.{◌≡◌, ℕ, ◌<◌, nat_lt, nat_le, Bool, true, false, ◌&&◌, ◌||◌, not, if◌then◌else◌, List, [], ◌∷◌, ◌++◌, length, set, Option, Some, None, is_some, refl, ap, ap₂, sym, ◌∙◌, arith, subst, length-set}
+use Rattle.std.proofs.Common.{◌≡◌, ℕ, ◌<◌, nat_lt, Bool, true, false, ◌&&◌, not, if◌then◌else◌, List, [], ◌∷◌, ◌++◌, length, set}
+use Rattle.std.proofs.Common.{Option, Some, None, is_some, refl, ap, sym, ◌∙◌, arith, length-set}
 use Rattle.std.proofs.lemmas.Bool.{false≢true}
-use Rattle.std.proofs.lemmas.Bool.Decides.{nat_tests}
-use Rattle.std.proofs.lemmas.Option.{same_Some}
 use Rattle.flat_model.specs.declared.Word.{Word}
 use Rattle.flat_model.specs.declared.Lanes.{Lanes}
 use Rattle.flat_model.specs.Words.{zero_word, merged, joined, has_all}
@@ -11,15 +10,11 @@ use Rattle.miss_registers.specs.declared.TheConstants.{MAX_WAITING}
 use Rattle.miss_registers.specs.Registers as regs
 use Rattle.miss_registers.specs.Whole.{IsWhole}
 use Rattle.miss_registers.specs.declared.Owed.{Owed}
-use Rattle.input_stack.specs.declared.Entry.{Entry}
 use Rattle.input_stack.specs.Stack.{stack_word}
-use Rattle.write_queue.specs.declared.Queued.{Queued}
-use Rattle.write_queue.specs.Queue.{Queue}
-use Rattle.cache_unit.specs.declared.Reply.{Reply}
 use Rattle.cache_unit.specs.declared.unit.present.Finding.TheVariants as finding
 use Rattle.cache_unit.specs.declared.Sizes.{Sizes}
-use Rattle.cache_unit.specs.State.{Field, Cache, frame_at, frame_of, field_at, live_for, cell_in, cell_of, with_cell, with_field, register_at}
-use Rattle.cache_unit.specs.Causes.{Found, Here, Coming, found, found_in, found_missing, targets_full}
+use Rattle.cache_unit.specs.State.{Field, Cache, frame_at, frame_of, field_at, live_for, cell_of, with_cell, with_field, register_at}
+use Rattle.cache_unit.specs.Causes.{Coming, found, targets_full}
 use Rattle.cache_unit.proofs.Arrive.{in_stack-shown}
 use Rattle.cache_unit.specs.Steps.{awaited, noted, written_in, written}
 use Rattle.cache_unit.specs.Parts.{finding_of, written_for, noted_for}
@@ -31,24 +26,6 @@ use Rattle.cache_unit.proofs.Same.{Tied-same, with_field-marks, with_field-shape
 
 -- ---- where a load finds its word
 
-pub found_resident : (c : Cache) (block i : ℕ) → live_for c block ≡ None → found c block i ≡ Here (cell_of c block i).word
-found_resident c block i e = ap (λ o. found_in c o i (cell_of c block i).word) e
-
-live_by : (c : Cache) (block i slot : ℕ) → live_for c block ≡ Some slot → found c block i ≡ found_in c (Some slot) i (cell_of c block i).word
-live_by c block i slot e = ap (λ o. found_in c o i (cell_of c block i).word) e
-
-pub found_done : (c : Cache) (block i slot : ℕ) → live_for c block ≡ Some slot → ((field_at c slot i).processed || has_all (field_at c slot i).code) ≡ true → found c block i ≡ Here (cell_of c block i).word
-found_done c block i slot e h =
-    live_by c block i slot e ∙ ap (λ b. if b then Here (cell_of c block i).word else found_missing (stack_word c.stack slot i) slot (field_at c slot i).code (cell_of c block i).word) h
-
-pub found_stacked : (c : Cache) (block i slot : ℕ) (w : Word) → live_for c block ≡ Some slot → ((field_at c slot i).processed || has_all (field_at c slot i).code) ≡ false → stack_word c.stack slot i ≡ Some w → found c block i ≡ Here (merged w (cell_of c block i).word (field_at c slot i).code)
-found_stacked c block i slot w e h s =
-    live_by c block i slot e ∙ ap (λ b. if b then Here (cell_of c block i).word else found_missing (stack_word c.stack slot i) slot (field_at c slot i).code (cell_of c block i).word) h ∙ ap (λ o. found_missing o slot (field_at c slot i).code (cell_of c block i).word) s
-
-pub found_coming : (c : Cache) (block i slot : ℕ) → live_for c block ≡ Some slot → ((field_at c slot i).processed || has_all (field_at c slot i).code) ≡ false → stack_word c.stack slot i ≡ None → found c block i ≡ Coming slot
-found_coming c block i slot e h s =
-    live_by c block i slot e ∙ ap (λ b. if b then Here (cell_of c block i).word else found_missing (stack_word c.stack slot i) slot (field_at c slot i).code (cell_of c block i).word) h ∙ ap (λ o. found_missing o slot (field_at c slot i).code (cell_of c block i).word) s
-
 -- a word that is on its way has a live register that waits for it
 pub record IsComing (c : Cache) (block i slot : ℕ) : Type 0 where
   pub live : live_for c block ≡ Some slot
@@ -56,31 +33,19 @@ pub record IsComing (c : Cache) (block i slot : ℕ) : Type 0 where
   pub absent : stack_word c.stack slot i ≡ None
 
 pub coming_from : (c : Cache) (block i slot : ℕ) → found c block i ≡ Coming slot → IsComing c block i slot
-coming_from c block i slot h = go (live_for c block) refl
-  where
-    by_word : (s : ℕ) → live_for c block ≡ Some s → (field_at c s i).processed ≡ false → (o : Option Word) → stack_word c.stack s i ≡ o → found_missing o s (field_at c s i).code (cell_of c block i).word ≡ Coming slot → IsComing c block i slot
-    by_word s e p (Some w) q k = absurd (not_here _ slot k)
-      where
-        not_here : (x : Word) (t : ℕ) → Here x ≡ Coming t → ⊥
-        not_here x t z = cc
-    by_word s e p None q k =
-        let same : s ≡ slot = cc in
-        subst (λ t. IsComing c block i t) same (record { live = e; waits = p; absent = q })
-
-    by_test : (s : ℕ) → live_for c block ≡ Some s → (b a : Bool) → (field_at c s i).processed ≡ b → has_all (field_at c s i).code ≡ a → (if b || a then Here (cell_of c block i).word else found_missing (stack_word c.stack s i) s (field_at c s i).code (cell_of c block i).word) ≡ Coming slot → IsComing c block i slot
-    by_test s e true a p q k = cc
-    by_test s e false true p q k = cc
-    by_test s e false false p q k = by_word s e p (stack_word c.stack s i) refl k
-
-    go : (o : Option ℕ) → live_for c block ≡ o → IsComing c block i slot
-    go None e =
-        let k : Here (cell_of c block i).word ≡ Coming slot = sym (found_resident c block i e) ∙ h in
-        cc
-    go (Some s) e = by_test s e (field_at c s i).processed (has_all (field_at c s i).code) refl refl (sym (live_by c block i s e) ∙ h)
+coming_from c block i slot h = grind arith
 
 -- ---- a load waits
 
-pub awaited-shown : (c : Cache) (slot i tag : ℕ) (buffer : Word) → (record c { registers = set c.registers slot (regs.awaited (register_at c slot) i (record { tag = tag; held = merged zero_word buffer (field_at c slot i).code; lanes = (field_at c slot i).code })) }) ≡ awaited c slot i tag buffer
+pub awaited-shown : (c : Cache) (slot i tag : ℕ) (buffer : Word)
+    → (record c {
+      registers = set c.registers slot
+          (regs.awaited (register_at c slot) i (record {
+            tag = tag;
+            held = merged zero_word buffer (field_at c slot i).code;
+            lanes = (field_at c slot i).code;
+          }));
+    }) ≡ awaited c slot i tag buffer
 unfolding regs.awaited with_field
 awaited-shown c slot i tag buffer = refl
 
@@ -90,20 +55,23 @@ SameMarks-awaited r i o = with_field-marks r i (record (regs.field_of r i) { wai
 
 SameShape-awaited : (r : regs.Register) (i : ℕ) (o : Owed) → SameShape r (regs.awaited r i o)
 unfolding regs.awaited
-SameShape-awaited r i o = with_field-shape r i (record (regs.field_of r i) { waiting = (regs.field_of r i).waiting ++ o ∷ [] })
+SameShape-awaited r i o = grind (arith, with_field-shape)
 
 SameBlocks-self : (fs : List dir.Frame) → SameBlocks fs fs
-SameBlocks-self fs = record { holds = λ b. refl; cells = λ f. refl; blocks = λ f. refl }
+SameBlocks-self fs = grind arith
 
-pub IsSound-awaited : (z : Sizes) (c : Cache) (slot i : ℕ) (o : Owed) → slot < length c.registers → IsWhole z.block_words z.regs (set c.registers slot (regs.awaited (register_at c slot) i o)) → OwesSound z c.ready (set c.registers slot (regs.awaited (register_at c slot) i o)) → IsSound z c → IsSound z (record c { registers = set c.registers slot (regs.awaited (register_at c slot) i o) })
+pub IsSound-awaited : (z : Sizes) (c : Cache) (slot i : ℕ) (o : Owed) → slot < length c.registers
+    → IsWhole z.block_words z.regs (set c.registers slot (regs.awaited (register_at c slot) i o))
+    → OwesSound z c.ready (set c.registers slot (regs.awaited (register_at c slot) i o)) → IsSound z c
+    → IsSound z (record c { registers = set c.registers slot (regs.awaited (register_at c slot) i o) })
 IsSound-awaited z c slot i o l w owes h = record {
   ranges = h.ranges;
   directory = h.directory;
   sets = h.sets;
   in_memory = h.in_memory;
   registers = w;
-  stack_sound = StackSound-same c.registers _ c.stack (SameMarks-set c.registers slot _ l (SameMarks-awaited (register_at c slot) i o)) h.stack_sound;
-  tied = Tied-same c.directory.frames c.directory.frames c.registers _ (SameBlocks-self c.directory.frames) (λ f. refl) (SameShape-set c.registers slot _ l (SameShape-awaited (register_at c slot) i o)) h.tied;
+  stack_sound = StackSound-same _ _ _ (SameMarks-set _ slot _ l (SameMarks-awaited _ i o)) h.stack_sound;
+  tied = Tied-same _ _ _ _ (SameBlocks-self _) (λ f. refl) (SameShape-set _ slot _ l (SameShape-awaited _ i o)) h.tied;
   queue_sound = h.queue_sound;
   owes = owes;
 }
@@ -116,63 +84,70 @@ SameMarks-noted r i m = with_field-marks r i (record (regs.field_of r i) { code 
 
 SameShape-noted : (r : regs.Register) (i : ℕ) (m : Lanes) → SameShape r (regs.noted r i m)
 unfolding regs.noted
-SameShape-noted r i m = with_field-shape r i (record (regs.field_of r i) { code = joined (regs.field_of r i).code m })
+SameShape-noted r i m = grind (arith, with_field-shape)
 
 loads-noted : (p : ℕ → Bool) (r : regs.Register) (i : ℕ) (m : Lanes) → i < length r.fields → loads_of p (regs.noted r i m) ≡ loads_of p r
 unfolding regs.noted
-loads-noted p r i m l =
-    let e = loads-set p r i (record (regs.field_of r i) { code = joined (regs.field_of r i).code m }) l in
-    omega (arith, e)
+loads-noted p r i m l = grind (arith, loads-set)
 
-pub written-blocks : (d : dir.Frames) (o : Option ℕ) (i : ℕ) (word : Word) (m : Lanes) → SameBlocks d.frames (written_for d o i word m).frames
+pub written-blocks : (d : dir.Frames) (o : Option ℕ) (i : ℕ) (word : Word) (m : Lanes)
+    → SameBlocks d.frames (written_for d o i word m).frames
 unfolding dir.written
-written-blocks d None i word m = SameBlocks-self d.frames
+written-blocks d None i word m = SameBlocks-self _
 written-blocks d (Some f) i word m =
-    SameBlocks-set d.frames f _ refl (length-set (dir.frame_at d.frames f).cells i _)
+    SameBlocks-set _ f _ refl (length-set (dir.frame_at _ f).cells i _)
 
-pub written-pending : (d : dir.Frames) (o : Option ℕ) (i : ℕ) (word : Word) (m : Lanes) (g : ℕ) → (dir.frame_at (written_for d o i word m).frames g).pending ≡ (dir.frame_at d.frames g).pending
+pub written-pending : (d : dir.Frames) (o : Option ℕ) (i : ℕ) (word : Word) (m : Lanes) (g : ℕ)
+    → (dir.frame_at (written_for d o i word m).frames g).pending ≡ (dir.frame_at d.frames g).pending
 unfolding dir.written
 written-pending d None i word m g = refl
-written-pending d (Some f) i word m g = pending-set d.frames f g _ refl
+written-pending d (Some f) i word m g = pending-set _ f g _ refl
 
 written-orders : (d : dir.Frames) (o : Option ℕ) (i : ℕ) (word : Word) (m : Lanes) → (written_for d o i word m).orders ≡ d.orders
 written-orders d None i word m = refl
 written-orders d (Some f) i word m = refl
 
-pub IsSound-stored : (z : Sizes) (c : Cache) (block i : ℕ) (word : Word) (m : Lanes) (o : Option ℕ) → i < z.block_words → dir.IsWhole z.ways z.block_words (written_for c.directory o i word m) → IsWhole z.block_words z.regs (noted_for c.registers (live_for c block) i m) → IsSound z c → IsSound z (record c { directory = written_for c.directory o i word m; registers = noted_for c.registers (live_for c block) i m })
+pub IsSound-stored : (z : Sizes) (c : Cache) (block i : ℕ) (word : Word) (m : Lanes) (o : Option ℕ) → i < z.block_words
+    → dir.IsWhole z.ways z.block_words (written_for c.directory o i word m)
+    → IsWhole z.block_words z.regs (noted_for c.registers (live_for c block) i m) → IsSound z c
+    → IsSound z (record c { directory = written_for c.directory o i word m; registers = noted_for c.registers (live_for c block) i m })
 IsSound-stored z c block i word m o l wd wr h = record {
   ranges = h.ranges;
   directory = wd;
-  sets = ap length (written-orders c.directory o i word m) ∙ h.sets;
-  in_memory = λ f b e. h.in_memory f b (sym ((written-blocks c.directory o i word m).blocks f) ∙ e);
+  sets = ap length (written-orders _ o i word m) ∙ h.sets;
+  in_memory = λ f b e. h.in_memory f b (sym ((written-blocks _ o i word m).blocks f) ∙ e);
   registers = wr;
-  stack_sound = StackSound-same c.registers _ c.stack marks h.stack_sound;
-  tied = Tied-same c.directory.frames (written_for c.directory o i word m).frames c.registers _ (written-blocks c.directory o i word m) (written-pending c.directory o i word m) shapes h.tied;
+  stack_sound = StackSound-same _ _ _ marks h.stack_sound;
+  tied = Tied-same _ (written_for _ o i word m).frames _ _ (written-blocks _ o i word m) (written-pending _ o i word m) shapes h.tied;
   queue_sound = h.queue_sound;
   owes = owes;
 }
   where
-    marks_by : (o : Option ℕ) → live_for c block ≡ o → (s : ℕ) → SameMarks (register_at c s) (regs.register_at (noted_for c.registers o i m) s)
-    marks_by None e s = SameMarks-self (register_at c s)
+    marks_by : (o : Option ℕ) → live_for c block ≡ o → (s : ℕ)
+        → SameMarks (register_at c s) (regs.register_at (noted_for c.registers o i m) s)
+    marks_by None e s = SameMarks-self _
     marks_by (Some t) e s = go (field_at c t i).processed
       where
-        go : (b : Bool) → SameMarks (register_at c s) (regs.register_at (if b then c.registers else set c.registers t (regs.noted (register_at c t) i m)) s)
-        go true = SameMarks-self (register_at c s)
-        go false = SameMarks-set c.registers t _ (live_for-some c.registers block t e).0 (SameMarks-noted (register_at c t) i m) s
+        go : (b : Bool) → SameMarks (register_at c s)
+            (regs.register_at (if b then c.registers else set c.registers t (regs.noted (register_at c t) i m)) s)
+        go true = SameMarks-self _
+        go false = SameMarks-set _ t _ (live_for-some _ block t e).0 (SameMarks-noted _ i m) s
 
     marks : (s : ℕ) → SameMarks (register_at c s) (regs.register_at (noted_for c.registers (live_for c block) i m) s)
-    marks = marks_by (live_for c block) refl
+    marks = marks_by _ refl
 
-    shapes_by : (o : Option ℕ) → live_for c block ≡ o → (s : ℕ) → SameShape (register_at c s) (regs.register_at (noted_for c.registers o i m) s)
-    shapes_by None e s = SameShape-self (register_at c s)
+    shapes_by : (o : Option ℕ) → live_for c block ≡ o → (s : ℕ)
+        → SameShape (register_at c s) (regs.register_at (noted_for c.registers o i m) s)
+    shapes_by None e s = SameShape-self _
     shapes_by (Some t) e s = go (field_at c t i).processed
       where
-        go : (b : Bool) → SameShape (register_at c s) (regs.register_at (if b then c.registers else set c.registers t (regs.noted (register_at c t) i m)) s)
-        go true = SameShape-self (register_at c s)
-        go false = SameShape-set c.registers t _ (live_for-some c.registers block t e).0 (SameShape-noted (register_at c t) i m) s
+        go : (b : Bool) → SameShape (register_at c s)
+            (regs.register_at (if b then c.registers else set c.registers t (regs.noted (register_at c t) i m)) s)
+        go true = SameShape-self _
+        go false = SameShape-set _ t _ (live_for-some _ block t e).0 (SameShape-noted _ i m) s
 
     shapes : (s : ℕ) → SameShape (register_at c s) (regs.register_at (noted_for c.registers (live_for c block) i m) s)
-    shapes = shapes_by (live_for c block) refl
+    shapes = shapes_by _ refl
 
     valid_by : (v o : Bool) → (v && not o) ≡ true → v ≡ true
     valid_by true o e = refl
@@ -185,103 +160,75 @@ IsSound-stored z c block i word m o l wd wr h = record {
         go : (b : Bool) → OwesSound z c.ready (if b then c.registers else set c.registers t (regs.noted (register_at c t) i m))
         go true = h.owes
         go false =
-            let p = live_for-some c.registers block t e in
-            let v : (register_at c t).valid ≡ true = valid_by _ _ p.1 in
+            let p = live_for-some _ block t e in
+            let v = valid_by _ _ p.1 in
             let n = (h.registers.each t).fields_there v in
-            owes-same z c.ready c.registers t _ p.0 (λ x. loads-noted x (register_at c t) i m (omega arith)) h.owes
+            owes-same z _ _ t _ p.0 (λ x. loads-noted x _ i m (omega arith)) h.owes
 
     owes : OwesSound z c.ready (noted_for c.registers (live_for c block) i m)
-    owes = owes_by (live_for c block) refl
+    owes = owes_by _ refl
 
 noted-shown : (c : Cache) (o : Option ℕ) (i : ℕ)
     (m : Lanes) → (record c { registers = noted_for c.registers o i m }) ≡ noted c o i m
 unfolding regs.noted with_field
 noted-shown c None i m = refl
-noted-shown c (Some t) i m = go (field_at c t i).processed
-  where
-    more : List regs.Register
-    more = set c.registers t (regs.with_field (register_at c t) i
-        (record (field_at c t i) { code = joined (field_at c t i).code m }))
+noted-shown c (Some t) i m = grind arith
 
-    go : (b : Bool) → (record c { registers = if b then c.registers else more })
-        ≡ (if b then c else (record c { registers = more }))
-    go true = refl
-    go false = refl
-
-written_in-shown : (c : Cache) (o : Option ℕ) (i : ℕ) (word : Word) (m : Lanes) → (record c { directory = written_for c.directory o i word m }) ≡ written_in c o i word m
+written_in-shown : (c : Cache) (o : Option ℕ) (i : ℕ) (word : Word) (m : Lanes)
+    → (record c { directory = written_for c.directory o i word m }) ≡ written_in c o i word m
 unfolding dir.written with_cell
 written_in-shown c None i word m = refl
 written_in-shown c (Some f) i word m = refl
 
-pub stored-shown : (c : Cache) (block i : ℕ) (word : Word) (m : Lanes) → (record c { directory = written_for c.directory (frame_of c block) i word m; registers = noted_for c.registers (live_for c block) i m }) ≡ written c block i word m
-stored-shown c block i word m =
-    let d' = written_for c.directory (frame_of c block) i word m in
-    noted-shown (record c { directory = d' }) (live_for c block) i m ∙ ap (λ x. noted x (live_for c block) i m) (written_in-shown c
-    (frame_of c block) i word m)
+pub stored-shown : (c : Cache) (block i : ℕ) (word : Word) (m : Lanes)
+    → (record c {
+      directory = written_for c.directory (frame_of c block) i word m;
+      registers = noted_for c.registers (live_for c block) i m;
+    }) ≡ written c block i word m
+stored-shown c block i word m = grind (arith, noted-shown, written_in-shown)
 
 -- ---- the buffer's word
 
 pub cell_found : (c : Cache) (block f i : ℕ) → frame_of c block ≡ Some f → cell_of c block i ≡ dir.cell_at (frame_at c f) i
-cell_found c block f i e = ap (λ o. cell_in c o i) e
+cell_found c block f i e = grind arith
 
 -- ---- where the code finds a word
 
 pub zero_from : (w : Word) → (w.b0 ≡ 0) × ((w.b1 ≡ 0) × ((w.b2 ≡ 0) × (w.b3 ≡ 0))) → w ≡ zero_word
-zero_from w h = λ i. record { b0 = h.0 i; b1 = h.1.0 i; b2 = h.1.1.0 i; b3 = h.1.1.1 i }
+zero_from w h = grind arith
 
 within : {n m : ℕ} → n < m → nat_lt n m ≡ true
-within {n} {m} h = grind (arith, nat_tests)
+within {n} {m} h = grind arith
 
 -- a word that has a code to show isn't processed, and that is its code
 pub missing_parts : (f : regs.Field) (code : Lanes) → regs.code_of_missing f ≡ Some code → (f.processed ≡ false) × (f.code ≡ code)
-missing_parts f code = go f.processed refl
-  where
-    go : (b : Bool) → f.processed ≡ b → (if b then None else Some f.code) ≡ Some code → (f.processed ≡ false) × (f.code ≡ code)
-    go true e h = cc
-    go false e h = (e, same_Some _ _ h)
+missing_parts f code = grind arith
 
 pub none_missing : (f : regs.Field) → regs.code_of_missing f ≡ None → f.processed ≡ true
-none_missing f = go f.processed refl
-  where
-    go : (b : Bool) → f.processed ≡ b → (if b then None else Some f.code) ≡ None → f.processed ≡ true
-    go true e h = e
-    go false e h = cc
+none_missing f = grind arith
 
 module _ (c : Cache) (block i slot : ℕ) (live : live_for c block ≡ Some slot) where
   abbrev kept : Field
   kept = field_at c slot i
 
   pub finding-processed : regs.code_of_missing kept ≡ None → finding_of c block i (found c block i) ≡ finding.Here (cell_of c block i).word
-  finding-processed h =
-      ap (finding_of c block i) (found_done c block i slot live (ap (λ b. b || has_all kept.code) (none_missing kept h)))
+  finding-processed h = grind arith
 
   module _ (code : Lanes) (missing : regs.code_of_missing kept ≡ Some code) where
-    code_now : kept.code ≡ code
-    code_now = (missing_parts kept code missing).1
-
-    test_code : (kept.processed || has_all kept.code) ≡ has_all code
-    test_code =
-        let p = missing_parts kept code missing in
-        ap₂ (λ a b. a || has_all b) p.0 p.1
-
     pub finding-written : has_all code ≡ true → finding_of c block i (found c block i) ≡ finding.Here (cell_of c block i).word
-    finding-written h = ap (finding_of c block i) (found_done c block i slot live (test_code ∙ h))
+    finding-written h = grind arith
 
     pub finding-stacked : (w : Word) → has_all code ≡ false → stack_word c.stack slot i ≡ Some w
         → finding_of c block i (found c block i) ≡ finding.Here (merged w (cell_of c block i).word code)
-    finding-stacked w h s =
-        ap (finding_of c block i) (found_stacked c block i slot w live (test_code ∙ h) s)
-        ∙ ap (λ m. finding.Here (merged w (cell_of c block i).word m)) code_now
+    finding-stacked w h s = grind arith
 
     pub finding-coming : has_all code ≡ false → stack_word c.stack slot i ≡ None → finding_of c block i (found c block i)
         ≡ finding.Coming slot (merged zero_word (cell_of c block i).word code) code (length kept.waiting)
-    finding-coming h s =
-        ap (finding_of c block i) (found_coming c block i slot live (test_code ∙ h) s)
-        ∙ ap (λ m. finding.Coming slot (merged zero_word (cell_of c block i).word m) m (length kept.waiting)) code_now
+    finding-coming h s = grind arith
 
 pub finding-resident : (c : Cache) (block i : ℕ) → live_for c block ≡ None
     → finding_of c block i (found c block i) ≡ finding.Here (cell_of c block i).word
-finding-resident c block i e = ap (finding_of c block i) (found_resident c block i e)
+finding-resident c block i e = grind arith
 
 -- what the code's finding says
 pub record SaysComing (c : Cache) (block i slot : ℕ) (held : Word) (code : Lanes) (waiting : ℕ) : Type 0 where
@@ -290,17 +237,9 @@ pub record SaysComing (c : Cache) (block i slot : ℕ) (held : Word) (code : Lan
   pub code_is : code ≡ (field_at c slot i).code
   pub waiting_is : waiting ≡ length (field_at c slot i).waiting
 
-pub says_coming : (c : Cache) (block i slot : ℕ) (held : Word) (code : Lanes) (waiting : ℕ) → finding_of c block i (found c block i) ≡ finding.Coming slot held code waiting → SaysComing c block i slot held code waiting
-says_coming c block i slot held code waiting h = go (found c block i) refl h
-  where
-    go : (f : Found) → found c block i ≡ f → finding_of c block i f ≡ finding.Coming slot held code waiting → SaysComing c block i slot held code waiting
-    go (Here w) e k = cc
-    go (Coming s) e k =
-        let same : s ≡ slot = cc in
-        let a : held ≡ merged zero_word (cell_of c block i).word (field_at c s i).code = cc in
-        let b : code ≡ (field_at c s i).code = cc in
-        let n : waiting ≡ length (field_at c s i).waiting = cc in
-        subst (λ t. SaysComing c block i t held code waiting) same (record { coming = e; held_is = a; code_is = b; waiting_is = n })
+pub says_coming : (c : Cache) (block i slot : ℕ) (held : Word) (code : Lanes) (waiting : ℕ)
+    → finding_of c block i (found c block i) ≡ finding.Coming slot held code waiting → SaysComing c block i slot held code waiting
+says_coming c block i slot held code waiting h = grind arith
 
 -- ---- what a load that waits needs
 
@@ -310,19 +249,20 @@ pub record CanAwait (words : ℕ) (rs : List regs.Register) (slot i : ℕ) : Typ
   pub there : i < length (regs.register_at rs slot).fields
   pub expected : regs.expects (regs.register_at rs slot) i ≡ true
 
-pub can_await : (z : Sizes) (c : Cache) → IsSound z c → (block i slot : ℕ) → IsComing c block i slot → i < z.block_words → CanAwait z.block_words c.registers slot i
+pub can_await : (z : Sizes) (c : Cache) → IsSound z c → (block i slot : ℕ) → IsComing c block i slot → i < z.block_words
+    → CanAwait z.block_words c.registers slot i
 can_await z c h block i slot k l =
-    let p = live_for-some c.registers block slot (k.live) in
+    let p = live_for-some _ block slot (k.live) in
     let v = valid_by (register_at c slot).valid (register_at c slot).obsolete p.1 in
     let n = (h.registers.each slot).fields_there v in
     let there : i < length (register_at c slot).fields = omega arith in
-    let processed : (field_at c slot i).processed ≡ false = k.waits in
-    let in_stack : (field_at c slot i).in_stack ≡ false = sym (in_stack-shown z c slot i h) ∙ ap is_some k.absent in
+    let processed = k.waits in
+    let in_stack = sym (in_stack-shown z c slot i h) ∙ ap is_some k.absent in
     record {
       slot_there = p.0;
       live = p.1;
       there = there;
-      expected = all_true v (within there) processed in_stack;
+      expected = grind arith;
     }
   where
     valid_by : (v o : Bool) → (v && not o) ≡ true → v ≡ true
@@ -330,11 +270,8 @@ can_await z c h block i slot k l =
     valid_by false o e = absurd (false≢true e)
 
     all_true : {v a p m : Bool} → v ≡ true → a ≡ true → p ≡ false → m ≡ false → (v && (a && (not p && not m))) ≡ true
-    all_true e f g k = ap₂ (λ x y. x && y) e (ap₂ (λ x y. x && y) f (ap₂ (λ x y. not x && not y) g k))
+    all_true e f g k = grind arith
 
 pub few_wait : (c : Cache) (block i slot : ℕ) → found c block i ≡ Coming slot → targets_full c i (found c block i) ≡ false
     → length (field_at c slot i).waiting < MAX_WAITING
-few_wait c block i slot e h = fewer MAX_WAITING (length (field_at c slot i).waiting) (ap (targets_full c i) (sym e) ∙ h)
-  where
-    fewer : (most a : ℕ) → nat_le most a ≡ false → a < most
-    fewer most a p = grind (arith, nat_tests)
+few_wait c block i slot e h = grind arith

@@ -1,5 +1,5 @@
 -- A word leaves the stack.
-use Rattle.std.proofs.Common.{◌≡◌, ℕ, Bool, true, false, if◌then◌else◌, ◌&&◌, not, List, ◌++◌, set, Option, Some, None, refl, ap}
+use Rattle.std.proofs.Common.{◌≡◌, ℕ, Bool, true, false, if◌then◌else◌, ◌&&◌, not, ◌++◌, set, Option, Some, None, refl, ap}
 use Rattle.std.proofs.Common.{sym, ◌∙◌}
 use Rattle.std.specs.List.{remove}
 use Rattle.flat_model.specs.declared.Word.{Word}
@@ -7,8 +7,6 @@ use Rattle.flat_model.specs.declared.Lanes.{Lanes}
 use Rattle.cache_directory.specs.Frames as dir
 use Rattle.miss_registers.specs.Registers as regs
 use Rattle.input_stack.specs.declared.Entry.{Entry}
-use Rattle.cache_unit.specs.declared.Reply.{Reply}
-use Rattle.write_queue.specs.declared.Queued.{Queued}
 use Rattle.cache_unit.specs.State.{Cache, frame_of, with_cell, register_at}
 use Rattle.cache_unit.specs.Steps.{filled_in, settled_in, processed, answered}
 use Rattle.cache_unit.specs.Parts.{filled_live, settled_if}
@@ -53,14 +51,19 @@ by_mark : (o : Bool) (c : Cache) (i : ℕ)
 unfolding filled_live
 by_mark true c i word code last f found h = refl
 by_mark false c i word code last f found h =
-    by_frame last c i word code f
-    ∙ ap (λ x. settled_by true last c x i word code) (sym (h refl))
+    cc (by_frame last c i word code f, h refl)
 
 pub processed-shown : (c : Cache) (k : ℕ)
     (e : Entry) → (register_at c e.slot).valid ≡ true
     → (regs.is_live (register_at c e.slot) ≡ true → HasFrame c.directory.frames (register_at c e.slot))
     → (let r = register_at c e.slot in
-    (record c { directory = filled_live c.directory (live_of r) e.i e.word (regs.field_of r e.i).code (regs.is_done (regs.finished_fields r e.i)); registers = set c.registers e.slot (regs.finished r e.i); stack = remove c.stack k; ready = c.ready ++ answered e.word (regs.field_of r e.i).waiting })
+    (record c {
+      directory = filled_live c.directory (live_of r) e.i e.word (regs.field_of r e.i).code
+          (regs.is_done (regs.finished_fields r e.i));
+      registers = set c.registers e.slot (regs.finished r e.i);
+      stack = remove c.stack k;
+      ready = c.ready ++ answered e.word (regs.field_of r e.i).waiting;
+    })
     ≡ processed c k e)
 unfolding processed
 processed-shown c k e v h =
@@ -74,4 +77,4 @@ processed-shown c k e v h =
       stack = remove c.stack k;
       ready = c.ready ++ answered e.word (regs.field_of r e.i).waiting;
       registers = set c.registers e.slot (regs.finished r e.i);
-    }) (by_mark r.obsolete c e.i e.word code last r.frame (frame_of c r.block) held ∙ live)
+    }) (by_mark r.obsolete c e.i e.word code last r.frame _ held ∙ live)

@@ -1,7 +1,8 @@
 -- The tags of the values that stand ready, and of the loads that wait.
-use Rattle.std.proofs.Common.{◌≡◌, ℕ, suc, ◌+◌, ◌<◌, ◌≤◌, Bool, true, false, cond, ◌||◌, ◌==◌, if◌then◌else◌, List, [], ◌∷◌, ◌++◌, map, length, get_or, set, refl, ap, ap₂, sym, ◌∙◌, arith, length-append, eqb-true}
+use Rattle.std.proofs.Common.{◌≡◌, ℕ, suc, ◌+◌, ◌<◌, ◌≤◌, Bool, true, false, cond, ◌||◌, ◌==◌, if◌then◌else◌, List, [], ◌∷◌, ◌++◌, map}
+use Rattle.std.proofs.Common.{length, get_or, set, refl, ap, ap₂, sym, ◌∙◌, arith, length-append, eqb-true}
 use Rattle.std.specs.List.{sum_by, count_by, list_any, flat_map}
-use Rattle.std.proofs.lemmas.Bool.{false≢true, or_parts}
+use Rattle.std.proofs.lemmas.Bool.{or_parts}
 use Rattle.std.proofs.lemmas.List.{map-append, length-map}
 use Rattle.std.proofs.lemmas.List.Sums.{sum_by-cons}
 use Rattle.std.proofs.lemmas.List.Folds.{list_any-append}
@@ -9,9 +10,6 @@ use Rattle.miss_registers.specs.Registers as regs
 use Rattle.miss_registers.specs.Whole.{IsWhole, IsWholeRegister}
 use Rattle.miss_registers.specs.declared.Owed.{Owed}
 use Rattle.miss_registers.proofs.Tags.{count_by-append, count_by-map}
-use Rattle.cache_directory.specs.Frames as dir
-use Rattle.input_stack.specs.declared.Entry.{Entry}
-use Rattle.write_queue.specs.declared.Queued.{Queued}
 use Rattle.cache_unit.specs.declared.Reply.{Reply}
 use Rattle.cache_unit.specs.declared.Sizes.{Sizes}
 use Rattle.cache_unit.specs.State.{Target, gathered, targets_of_field, targets_of, targets, tags, Cache}
@@ -28,37 +26,35 @@ same_tags : (slot i : ℕ) (ws : List Owed) → map tag_of (map (λ w. record { 
 same_tags slot i [] = refl
 same_tags slot i (w ∷ ws) = ap (λ l. w.tag ∷ l) (same_tags slot i ws)
 
-tags_of-field : (slot i : ℕ) (b : Bool) (f : regs.Field) → f.processed ≡ b → (f.processed ≡ true → f.waiting ≡ []) → map tag_of (if b then [] else map (λ w. record { slot = slot; i = i; load = w }) f.waiting) ≡ regs.tags_of_field f
-tags_of-field slot i true f e h = sym (ap (map (λ (w : Owed). w.tag)) (h e))
+tags_of-field : (slot i : ℕ) (b : Bool) (f : regs.Field) → f.processed ≡ b → (f.processed ≡ true → f.waiting ≡ [])
+    → map tag_of (if b then [] else map (λ w. record { slot = slot; i = i; load = w }) f.waiting) ≡ regs.tags_of_field f
+tags_of-field slot i true f e h = grind arith
 tags_of-field slot i false f e h = same_tags slot i f.waiting
 
 tags_of-fields : (slot n : ℕ) (fs : List regs.Field) → ((i : ℕ) → (get_or fs i regs.clear_field).processed ≡ true
     → (get_or fs i regs.clear_field).waiting ≡ []) → map tag_of (gathered (targets_of_field slot) n fs) ≡ flat_map regs.tags_of_field fs
 tags_of-fields slot n [] h = refl
 tags_of-fields slot n (f ∷ fs) h =
-    map-append tag_of (targets_of_field slot n f) (gathered (targets_of_field slot) (suc n) fs)
+    map-append tag_of _ (gathered (targets_of_field slot) (suc n) fs)
     ∙ ap₂ ◌++◌ (tags_of-field slot n f.processed f refl (h 0)) (tags_of-fields slot (suc n) fs (λ i. h (suc i)))
 
 tags_of-register : (words n : ℕ) (r : regs.Register) → IsWholeRegister words r → map tag_of (targets_of n r) ≡ regs.tags_of r
-tags_of-register words n r w = go r.valid refl
-  where
-    go : (b : Bool) → r.valid ≡ b → map tag_of (if b then gathered (targets_of_field n) 0 r.fields else []) ≡ regs.tags_of r
-    go true e = tags_of-fields n 0 r.fields (λ i p. ap (λ (f : regs.Field). f.waiting) (w.done i p))
-    go false e = sym (ap regs.tags_of (w.free e))
+tags_of-register words n r w = grind (arith, r.valid, r.fields, tags_of-fields, w.done)
 
 tags_of-registers : (words n : ℕ) (rs : List regs.Register) → ((s : ℕ) → IsWholeRegister words (get_or rs s regs.free_register))
     → map tag_of (gathered targets_of n rs) ≡ flat_map regs.tags_of rs
 tags_of-registers words n [] h = refl
 tags_of-registers words n (r ∷ rs) h =
-    map-append tag_of (targets_of n r) (gathered targets_of (suc n) rs)
+    map-append tag_of _ (gathered targets_of (suc n) rs)
     ∙ ap₂ ◌++◌ (tags_of-register words n r (h 0)) (tags_of-registers words (suc n) rs (λ s. h (suc s)))
 
 pub waiting-shown : (words regs' : ℕ) (rs : List regs.Register) → IsWhole words regs' rs → map tag_of (targets rs) ≡ regs.waiting_tags rs
 unfolding targets regs.waiting_tags
 waiting-shown words regs' rs w = tags_of-registers words 0 rs w.each
 
-pub tags-shown : {words regs' : ℕ} (c : Cache) → IsWhole words regs' c.registers → tags c ≡ map (λ r. r.tag) c.ready ++ regs.waiting_tags c.registers
-tags-shown c w = ap (λ l. map (λ (r : Reply). r.tag) c.ready ++ l) (waiting-shown _ _ c.registers w)
+pub tags-shown : {words regs' : ℕ} (c : Cache) → IsWhole words regs' c.registers → tags c ≡ map (λ r. r.tag) c.ready
+    ++ regs.waiting_tags c.registers
+tags-shown c w = ap (λ l. map (λ r. r.tag) c.ready ++ l) (waiting-shown _ _ _ w)
 
 -- ---- counts
 
@@ -66,7 +62,7 @@ count-fields : (p : ℕ → Bool) (fs : List regs.Field) → count_by p (flat_ma
 count-fields p [] = refl
 count-fields p (f ∷ fs) =
     let a = count_by-append p (regs.tags_of_field f) (flat_map regs.tags_of_field fs) in
-    let b = count_by-map p (λ (w : Owed). w.tag) f.waiting in
+    let b = count_by-map p (λ w. w.tag) f.waiting in
     let c = sum_by-cons (loads_of_field p) f fs in
     let r = count-fields p fs in
     omega arith
@@ -84,23 +80,21 @@ pub count-waiting : (p : ℕ → Bool) (rs : List regs.Register) → count_by p 
 unfolding regs.waiting_tags
 count-waiting p rs = count-registers p rs
 
-pub owing-tags : (p : ℕ → Bool) (ready : List Reply) (rs : List regs.Register) → owing p ready rs ≡ count_by p (map (λ r. r.tag) ready ++ regs.waiting_tags rs)
-owing-tags p ready rs =
-    let a = count_by-append p (map (λ (r : Reply). r.tag) ready) (regs.waiting_tags rs) in
-    let b = count_by-map p (λ (r : Reply). r.tag) ready in
-    let c = count-waiting p rs in
-    omega arith
+pub owing-tags : (p : ℕ → Bool) (ready : List Reply) (rs : List regs.Register)
+    → owing p ready rs ≡ count_by p (map (λ r. r.tag) ready ++ regs.waiting_tags rs)
+owing-tags p ready rs = grind (arith, count_by-append, count_by-map, count-waiting)
 
 -- how many are owed
 pub owing-all : {words regs' : ℕ} (c : Cache) → IsWhole words regs' c.registers → owing (λ t. true) c.ready c.registers ≡ length (tags c)
 owing-all c w =
-    owing-tags (λ t. true) c.ready c.registers ∙ count_by-all (map (λ (r : Reply). r.tag) c.ready ++ regs.waiting_tags c.registers) ∙ ap length (sym (tags-shown c w))
+    owing-tags (λ t. true) c.ready _ ∙ count_by-all (map (λ r. r.tag) _ ++ regs.waiting_tags _) ∙ ap length (sym (tags-shown c w))
 
-pub length-tags : {words regs' : ℕ} (c : Cache) → IsWhole words regs' c.registers → length (tags c) ≡ length (regs.waiting_tags c.registers) + length c.ready
+pub length-tags : {words regs' : ℕ} (c : Cache) → IsWhole words regs' c.registers
+    → length (tags c) ≡ length (regs.waiting_tags c.registers) + length c.ready
 length-tags c w =
     let a = ap length (tags-shown c w) in
-    let b = length-append (map (λ (r : Reply). r.tag) c.ready) (regs.waiting_tags c.registers) in
-    let n = length-map c.ready (λ (r : Reply). r.tag) in
+    let b = length-append (map (λ r. r.tag) c.ready) (regs.waiting_tags c.registers) in
+    let n = length-map c.ready (λ r. r.tag) in
     omega arith
 
 -- ---- a tag in use
@@ -109,9 +103,11 @@ pub any-map : {X Y : Type 0} (p : Y → Bool) (f : X → Y) (xs : List X) → li
 any-map p f [] = refl
 any-map p f (x ∷ xs) = ap (λ b. p (f x) || b) (any-map p f xs)
 
-pub in_use-shown : {words regs' : ℕ} (c : Cache) (tag : ℕ) → IsWhole words regs' c.registers → is_in_use c tag ≡ (list_any (λ r. r.tag == tag) c.ready || regs.tag_waits c.registers tag)
+pub in_use-shown : {words regs' : ℕ} (c : Cache) (tag : ℕ) → IsWhole words regs' c.registers
+    → is_in_use c tag ≡ (list_any (λ r. r.tag == tag) c.ready || regs.tag_waits c.registers tag)
 in_use-shown c tag w =
-    ap (list_any (λ t. t == tag)) (tags-shown c w) ∙ list_any-append (λ t. t == tag) (map (λ (r : Reply). r.tag) c.ready) (regs.waiting_tags c.registers) ∙ ap (λ b. b || regs.tag_waits c.registers tag) (any-map (λ t. t == tag) (λ (r : Reply). r.tag) c.ready)
+    ap (list_any (λ t. t == tag)) (tags-shown c w) ∙ list_any-append (λ t. t == tag) (map (λ r. r.tag) _) _
+    ∙ ap (λ b. b || regs.tag_waits c.registers tag) (any-map (λ t. t == tag) (λ r. r.tag) _)
 
 none_counted : {X : Type 0} (p : X → Bool) (xs : List X) → list_any p xs ≡ false → count_by p xs ≡ 0
 none_counted p [] h = refl
@@ -119,15 +115,13 @@ none_counted p (x ∷ xs) h =
     let c = sum_by-cons (λ y. cond (p y) 1 0) x xs in
     go (p x) refl h c (none_counted p xs)
   where
-    go : (b : Bool) → p x ≡ b → (p x || list_any p xs) ≡ false → count_by p (x ∷ xs) ≡ cond (p x) 1 0 + count_by p xs → (list_any p xs ≡ false → count_by p xs ≡ 0) → count_by p (x ∷ xs) ≡ 0
-    go true e k c r = absurd (false≢true (sym k ∙ ap (λ v. v || list_any p xs) e))
-    go false e k c r =
-        let rest = r (sym (ap (λ v. v || list_any p xs) e) ∙ k) in
-        let bit : Bool → ℕ = λ v. cond v 1 0 in
-        let one : bit (p x) ≡ 0 = ap bit e in
-        omega arith
+    go : (b : Bool) → p x ≡ b → (p x || list_any p xs) ≡ false → count_by p (x ∷ xs) ≡ cond (p x) 1 0 + count_by p xs
+        → (list_any p xs ≡ false → count_by p xs ≡ 0) → count_by p (x ∷ xs) ≡ 0
+    go true e k c r = grind arith
+    go false e k c r = grind arith
 
-pub not_waiting : {words regs' : ℕ} (c : Cache) (tag : ℕ) → IsWhole words regs' c.registers → is_in_use c tag ≡ false → regs.tag_waits c.registers tag ≡ false
+pub not_waiting : {words regs' : ℕ} (c : Cache) (tag : ℕ) → IsWhole words regs' c.registers → is_in_use c tag ≡ false
+    → regs.tag_waits c.registers tag ≡ false
 not_waiting c tag w h =
     (or_parts _ _ (sym (in_use-shown c tag w) ∙ h)).1
 
@@ -140,16 +134,16 @@ owes-added z c rs ready tag h new room add = record {
       let a = add (λ t. true) in
       let b = owing-all c h.registers in
       omega arith);
-  once = λ t. go t (tag == t) refl;
+  once = λ t. go t _ refl;
 }
   where
     go : (t : ℕ) (b : Bool) → (tag == t) ≡ b → owing (λ x. x == t) ready rs ≤ 1
     go t true e =
-        let same : tag ≡ t = eqb-true tag t e in
-        let none : list_any (λ x. x == t) (map (λ (r : Reply). r.tag) c.ready ++ regs.waiting_tags c.registers) ≡ false =
+        let same = eqb-true tag t e in
+        let none =
         ap (list_any (λ x. x == t)) (sym (tags-shown c h.registers)) ∙ ap (λ n. list_any (λ x. x == n) (tags c)) (sym same) ∙ new in
-        let zero' = owing-tags (λ x. x == t) c.ready c.registers
-        ∙ none_counted (λ x. x == t) (map (λ (r : Reply). r.tag) c.ready ++ regs.waiting_tags c.registers) none in
+        let zero' = owing-tags (λ x. x == t) c.ready _
+        ∙ none_counted (λ x. x == t) (map (λ r. r.tag) _ ++ regs.waiting_tags _) none in
         let a = add (λ x. x == t) ∙ ap (λ v. owing (λ x. x == t) c.ready c.registers + cond v 1 0) e in
         omega arith
     go t false e =
@@ -158,20 +152,20 @@ owes-added z c rs ready tag h new room add = record {
         omega arith
 
 -- a reply goes last
-pub owing-push : (p : ℕ → Bool) (ready : List Reply) (rs : List regs.Register) (r : Reply) → owing p (ready ++ r ∷ []) rs ≡ owing p ready rs + (if p r.tag then 1 else 0)
-owing-push p ready rs r =
-    let a = count_by-append (λ (x : Reply). p x.tag) ready (r ∷ []) in
-    let b = sum_by-cons (λ (x : Reply). cond (p x.tag) 1 0) r [] in
-    omega arith
+pub owing-push : (p : ℕ → Bool) (ready : List Reply) (rs : List regs.Register) (r : Reply)
+    → owing p (ready ++ r ∷ []) rs ≡ owing p ready rs + (if p r.tag then 1 else 0)
+owing-push p ready rs r = grind (arith, count_by-append, sum_by-cons)
 
 -- a load waits for a word too
-pub owing-awaited : (p : ℕ → Bool) (ready : List Reply) (rs : List regs.Register) (s i : ℕ) (o : Owed) → s < length rs → i < length (regs.register_at rs s).fields → owing p ready (set rs s (regs.awaited (regs.register_at rs s) i o)) ≡ owing p ready rs + (if p o.tag then 1 else 0)
+pub owing-awaited : (p : ℕ → Bool) (ready : List Reply) (rs : List regs.Register) (s i : ℕ) (o : Owed) → s < length rs
+    → i < length (regs.register_at rs s).fields → owing p ready (set rs s (regs.awaited (regs.register_at rs s) i o))
+    ≡ owing p ready rs + (if p o.tag then 1 else 0)
 unfolding regs.awaited
 owing-awaited p ready rs s i o a b =
     let r = regs.register_at rs s in
-    let f : regs.Field = record (regs.field_of r i) { waiting = (regs.field_of r i).waiting ++ o ∷ [] } in
+    let f = record (regs.field_of r i) { waiting = (regs.field_of r i).waiting ++ o ∷ [] } in
     let x = owing-set p ready rs s (regs.with_field r i f) a in
     let y = loads-set p r i f b in
-    let n = count_by-append (λ (w : Owed). p w.tag) (regs.field_of r i).waiting (o ∷ []) in
-    let m = sum_by-cons (λ (w : Owed). cond (p w.tag) 1 0) o [] in
+    let n = count_by-append (λ w. p w.tag) (regs.field_of r i).waiting (o ∷ []) in
+    let m = sum_by-cons (λ w. cond (p w.tag) 1 0) o [] in
     omega arith

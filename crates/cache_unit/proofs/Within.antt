@@ -31,18 +31,18 @@ frames_like-same frames = record { number = refl; blocks = λ k. refl; cells = �
 set_reads : {X : Type 0} (d : X) (xs : List X) (k : ℕ) (y : X) (t : ℕ)
     → (get_or (set xs k y) t d ≡ get_or xs t d) ⊎ ((t ≡ k) × (get_or (set xs k y) t d ≡ y))
 set_reads d xs k y t =
-    ⊎_elim (λ q. ⊎_elim (λ l. inr (q, ap (λ n. get_or (set xs k y) n d) q ∙ get_or-set_same xs k y d l))
-    (λ l. inl (ap (λ zs. get_or zs t d) (set_past xs k y l))) (cases_lt k (length xs)))
+    ⊎_elim (λ q. ⊎_elim (λ l. inr (q, cc (q, get_or-set_same xs k y d l)))
+    (λ l. inl (ap (λ zs. get_or zs t d) (set_past xs k y l))) (cases_lt k _))
     (λ n. inl (get_or-set_other xs k t y d n)) (cases_eq t k)
 
 pub frames_like-set : (frames : List Frame) (k : ℕ) (new : Frame) → new.block ≡ (get_or frames k empty_frame).block
     → length new.cells ≡ length (get_or frames k empty_frame).cells → FramesLike frames (set frames k new)
 frames_like-set frames k new eb ec =
-    record { number = length-set frames k new; blocks = read (λ (x : Frame). x.block) eb; cells = read (λ (x : Frame). length x.cells) ec }
+    record { number = length-set frames k new; blocks = read (λ x. x.block) eb; cells = read (λ x. length x.cells) ec }
   where
     read : {Y : Type 0} (p : Frame → Y) → p new ≡ p (get_or frames k empty_frame)
         → (t : ℕ) → p (get_or (set frames k new) t empty_frame) ≡ p (get_or frames t empty_frame)
-    read p e t = ⊎_elim (λ q. ap p q) (λ q. ap p q.1 ∙ e ∙ ap (λ n. p (get_or frames n empty_frame)) (sym q.0))
+    read p e t = ⊎_elim (λ q. ap p q) (λ q. (cc (ap p q.1, e, q.0)))
         (set_reads empty_frame frames k new t)
 
 -- ---- registers
@@ -66,15 +66,15 @@ pub registers_within-set : (registers : List Register) (s : ℕ) (new : Register
 registers_within-set registers s new live fields =
     record {
       number = length-set registers s new;
-      live = λ t l. ⊎_elim (λ e. (ap is_live (sym e) ∙ l, ap (λ (r : Register). r.block) e))
+      live = λ t l. ⊎_elim (λ e. (ap is_live (sym e) ∙ l, ap (λ r. r.block) e))
           (λ e. let k = live (ap is_live (sym e.1) ∙ l) in (
-            ap (λ n. is_live (at n)) e.0 ∙ k.0,
-            ap (λ (r : Register). r.block) e.1 ∙ k.1 ∙ ap (λ n. (at n).block) (sym e.0),
+            cc (e.0, k.0),
+            cc (e.1, k.1, e.0),
           )) (set_reads free_register registers s new t);
-      fields = λ t v. ⊎_elim (λ e. (ap (λ (r : Register). r.valid) (sym e) ∙ v, ap (λ (r : Register). length r.fields) e))
-          (λ e. let k = fields (ap (λ (r : Register). r.valid) (sym e.1) ∙ v) in (
-            ap (λ n. (at n).valid) e.0 ∙ k.0,
-            ap (λ (r : Register). length r.fields) e.1 ∙ k.1 ∙ ap (λ n. length (at n).fields) (sym e.0),
+      fields = λ t v. ⊎_elim (λ e. (cc (e, v), ap (λ r. length r.fields) e))
+          (λ e. let k = fields (cc (e.1, v)) in (
+            cc (e.0, k.0),
+            cc (e.1, k.1, e.0),
           )) (set_reads free_register registers s new t);
     }
   where

@@ -1,6 +1,6 @@
 -- How much the weight may be: what is on its way, counted by the words that registers wait for.
-use Rattle.std.proofs.Common.{◌≡◌, ℕ, zero, suc, ◌+◌, ◌-◌, ◌*◌, ◌<◌, ◌≤◌, Bool, true, false, cond, ◌&&◌, not, ◌==◌, nat_lt, List, [], ◌∷◌}
-use Rattle.std.proofs.Common.{map, length, refl, ap, ap₂, ◌∙◌, subst, arith, length-append, eq-eqb, flat_map, ⊎_elim}
+use Rattle.std.proofs.Common.{◌≡◌, ℕ, zero, suc, ◌+◌, ◌-◌, ◌*◌, ◌<◌, ◌≤◌, Bool, true, ◌&&◌, not, ◌==◌, nat_lt, List, [], ◌∷◌}
+use Rattle.std.proofs.Common.{length, refl, ap, arith, length-append, flat_map, ⊎_elim}
 use Rattle.std.proofs.lemmas.Bool.{and_parts, ltb-true, cases_eq}
 use Rattle.std.proofs.Math.Nat.{mul_assoc}
 use Rattle.std.proofs.lemmas.List.{length-map}
@@ -11,10 +11,8 @@ use Rattle.memory_banks.specs.declared.Command.TheVariants.{Read, Write}
 use Rattle.memory_banks.specs.declared.BankAnswer.{BankAnswer}
 use Rattle.memory_banks.specs.Banks.{Bank, bank_at, pending, all_pending, answers_to}
 use Rattle.input_stack.specs.declared.Entry.{Entry}
-use Rattle.miss_registers.specs.declared.Owed.{Owed}
-use Rattle.cache_unit.specs.declared.Reply.{Reply}
 use Rattle.cache_unit.specs.declared.Sizes.{Sizes}
-use Rattle.cache_unit.specs.State.{Cache, Field, Register, Target, free_register, register_at, field_at, gathered, targets_of}
+use Rattle.cache_unit.specs.State.{Cache, Field, Register, free_register, register_at, field_at, gathered, targets_of}
 use Rattle.cache_unit.specs.State.{targets_of_field, targets, tags}
 use Rattle.cache_unit.specs.Counts.{tally, bit}
 use Rattle.cache_unit.proofs.FormsParts.{in_range}
@@ -43,12 +41,12 @@ below-add (suc n) f g = let ih = below-add n f g in omega arith
 below-same : (n : ℕ) (f g : ℕ → ℕ) → ((k : ℕ) → f k ≡ g k) → below n f ≡ below n g
 unfolding below
 below-same zero f g h = refl
-below-same (suc n) f g h = ap₂ (λ x y. x + y) (below-same n f g h) (h n)
+below-same (suc n) f g h = grind arith
 
 below-hit : (n : ℕ) (f : ℕ → ℕ) (k : ℕ) → k < n → 1 ≤ f k → 1 ≤ below n f
 unfolding below
 below-hit zero f k l h = absurd (omega arith)
-below-hit (suc n) f k l h = ⊎_elim (λ e. let h' = subst (λ j. 1 ≤ f j) e h in omega arith)
+below-hit (suc n) f k l h = ⊎_elim (λ e. let h' = rw e at h in omega arith)
     (λ d. let ih = below-hit n f k (omega arith) h in omega arith) (cases_eq k n)
 
 -- ---- a list whose elements have two numbers each
@@ -62,12 +60,12 @@ module _ {X : Type 0} (a b : X → ℕ) where
   summed n w xs = below n (λ s. below w (λ i. tally (has_numbers s i) xs))
 
   own : (x : X) → has_numbers (a x) (b x) x ≡ true
-  own x = ap₂ (λ p q. p && q) (eq-eqb (a x) (a x) refl) (eq-eqb (b x) (b x) refl)
+  own x = grind arith
 
   one_each : (n w : ℕ) (x : X) → a x < n → b x < w → 1 ≤ below n (λ s. below w (λ i. bit (has_numbers s i x)))
   one_each n w x l k =
-      below-hit n (λ s. below w (λ i. bit (has_numbers s i x))) (a x) l
-      (below-hit w (λ i. bit (has_numbers (a x) i x)) (b x) k (let e = ap bit (own x) in omega arith))
+      below-hit n (λ s. below w (λ i. bit _)) (a x) l
+      (below-hit w (λ i. bit _) (b x) k (let e = ap bit (own x) in omega arith))
 
   length-summed : (n w : ℕ) (xs : List X) → ((x : X) → 1 ≤ tally (has_numbers (a x) (b x)) xs → (a x < n) × (b x < w))
       → length xs ≤ summed n w xs
@@ -77,8 +75,8 @@ module _ {X : Type 0} (a b : X → ℕ) where
       let one = one_each n w x p.0 p.1 in
       let ih = length-summed n w xs (λ y l. h y (omega arith)) in
       let inner : summed n w (x ∷ xs) ≡ below n
-      (λ s. below w (λ i. bit (has_numbers s i x)) + below w (λ i. tally (has_numbers s i) xs)) =
-      below-same n _ _ (λ s. below-add w (λ i. bit (has_numbers s i x)) (λ i. tally (has_numbers s i) xs)) in
+      (λ s. below w (λ i. bit _) + below w (λ i. tally _ xs)) =
+      below-same n _ _ (λ s. below-add w (λ i. bit _) (λ i. tally _ xs)) in
       let outer = below-add n (λ s. below w (λ i. bit (has_numbers s i x))) (λ s. below w (λ i. tally (has_numbers s i) xs)) in
       omega arith
 
@@ -87,18 +85,18 @@ module _ {X : Type 0} (a b : X → ℕ) where
 wanted_in : (z : Sizes) (m : Machine) → IsSound z m → (s i : ℕ) → 1 ≤ wanted z (register_at m.cache s) i
     → (s < z.regs) × (i < z.block_words)
 wanted_in z m sound s i l =
-    let w = bit-pos ((register_at m.cache s).valid && (nat_lt i z.block_words && not (field_at m.cache s i).processed)) l in
-    let p = and_parts (register_at m.cache s).valid (nat_lt i z.block_words && not (field_at m.cache s i).processed) w in
-    let q = and_parts (nat_lt i z.block_words) (not (field_at m.cache s i).processed) p.1 in
-    let there = in_range (λ (r : Register). r.valid) free_register m.cache.registers s refl p.0 in
-    (let n = sound.registers_are in omega arith, ltb-true i z.block_words q.0)
+    let w = bit-pos _ l in
+    let p = and_parts (register_at m.cache s).valid _ w in
+    let q = and_parts _ _ p.1 in
+    let there = in_range (λ (r : Register). r.valid) free_register _ s refl p.0 in
+    (let n = sound.registers_are in omega arith, ltb-true i _ q.0)
 
 -- at most one for each word of each register
 pub on_their_way : (z : Sizes) (m : Machine) → IsSound z m → length (all_pending m.banks) + length m.cache.stack ≤ z.regs * z.block_words
 on_their_way z m sound =
-    let pend = length-summed (λ (x : BankAnswer). x.slot) (λ (x : BankAnswer). x.i) z.regs z.block_words (all_pending m.banks)
+    let pend = length-summed (λ (x : BankAnswer). x.slot) (λ (x : BankAnswer). x.i) _ _ (all_pending m.banks)
     (λ x l. wanted_in z m sound x.slot x.i (let c = sound.counted x.slot x.i in omega arith)) in
-    let stack = length-summed (λ (x : Entry). x.slot) (λ (x : Entry). x.i) z.regs z.block_words m.cache.stack
+    let stack = length-summed (λ (x : Entry). x.slot) (λ (x : Entry). x.i) _ _ m.cache.stack
     (λ x l. wanted_in z m sound x.slot x.i (let c = sound.counted x.slot x.i in omega arith)) in
     let row : (s : ℕ) → below z.block_words (pending_for s) + below z.block_words (entries_for s) ≤ z.block_words =
     λ s. (let e = below-add z.block_words (pending_for s) (entries_for s) in let l =
@@ -107,7 +105,7 @@ on_their_way z m sound =
     bit-le ((register_at m.cache s).valid && (nat_lt i z.block_words && not (field_at m.cache s i).processed)) in omega arith) in
     omega arith) in
     let e = below-add z.regs (λ s. below z.block_words (pending_for s)) (λ s. below z.block_words (entries_for s)) in
-    let l = below-le z.regs z.block_words (λ s. below z.block_words (pending_for s) + below z.block_words (entries_for s)) row in
+    let l = below-le z.regs _ (λ s. below z.block_words (pending_for s) + below z.block_words (entries_for s)) row in
     omega arith
   where
     pending_for : ℕ → ℕ → ℕ
@@ -135,15 +133,8 @@ banks_weigh most (b ∷ banks) h =
     let k = length-append (pending b) (flat_map pending banks) in
     omega arith
 
-abbrev target_at : ℕ → ℕ → Owed → Target
-target_at slot i w = record { slot = slot; i = i; load = w }
-
 field_weighs : (slot i : ℕ) (f : Field) → field_weight f ≤ length (targets_of_field slot i f) - 1
-field_weighs slot i f = go f.processed
-  where
-    go : (b : Bool) → cond b 0 (length f.waiting - 1) ≤ length (cond b [] (map (target_at slot i) f.waiting)) - 1
-    go true = omega arith
-    go false = let n = length-map f.waiting (target_at slot i) in omega arith
+field_weighs slot i f = grind (arith, length-map, f.waiting)
 
 fields_weigh : (slot n : ℕ) (fields : List Field) → total field_weight fields ≤ length (gathered (targets_of_field slot) n fields) - 1
 fields_weigh slot n [] = omega arith
@@ -154,11 +145,7 @@ fields_weigh slot n (f ∷ fields) =
     omega arith
 
 register_weighs : (slot : ℕ) (r : Register) → register_weight r ≤ length (targets_of slot r) - 1
-register_weighs slot r = go r.valid
-  where
-    go : (b : Bool) → cond b (total field_weight r.fields) 0 ≤ length (cond b (gathered (targets_of_field slot) 0 r.fields) []) - 1
-    go true = fields_weigh slot 0 r.fields
-    go false = omega arith
+register_weighs slot r = grind (arith, fields_weigh)
 
 -- a load weighs only behind another one
 registers_weigh : (n : ℕ) (registers : List Register) → total register_weight registers ≤ length (gathered targets_of n registers) - 1
@@ -170,9 +157,7 @@ registers_weigh n (r ∷ registers) =
     omega arith
 
 tags_count : (c : Cache) → length (tags c) ≡ length c.ready + length (targets c.registers)
-tags_count c =
-    length-append (map (λ (r : Reply). r.tag) c.ready) _
-    ∙ ap₂ (λ x y. x + y) (length-map c.ready (λ (r : Reply). r.tag)) (length-map (targets c.registers) (λ (t : Target). t.load.tag))
+tags_count c = grind (arith, length-append, length-map)
 
 -- where one load waits at most, none weighs
 pub none_behind : (c : Cache) → length (tags c) - length c.ready < 2 → total register_weight c.registers ≡ 0
@@ -186,12 +171,12 @@ pub weight_bound : (z : Sizes) (m : Machine) → IsSound z m → IsBounded z m �
 unfolding targets
 weight_bound z m sound bounded =
     let way = on_their_way z m sound in
-    let banks = banks_weigh z.bank_queue m.banks bounded.few_commands in
+    let banks = banks_weigh _ _ bounded.few_commands in
     let registers = registers_weigh 0 m.cache.registers in
     let n = tags_count m.cache in
     let t = bounded.few_tags in
     let q = bounded.few_queued in
     let b = sound.banks_are in
-    let same : length m.banks * z.bank_queue ≡ z.banks * z.bank_queue = ap (λ k. k * z.bank_queue) b in
-    let four : 4 * z.regs * z.block_words ≡ 4 * (z.regs * z.block_words) = mul_assoc 4 z.regs z.block_words in
+    let same = ap (λ k. k * z.bank_queue) b in
+    let four : 4 * z.regs * z.block_words ≡ 4 * (z.regs * z.block_words) = mul_assoc 4 _ _ in
     omega arith

@@ -1,12 +1,9 @@
 -- What an eviction queues, laid over memory; and the addresses of a block.
-use Rattle.std.proofs.Common.{◌≡◌, ◌≢◌, ℕ, zero, suc, ◌+◌, ◌-◌, ◌*◌, ◌/◌, ◌%◌, ◌<◌, ◌≤◌, Bool, true, false, cond, ◌==◌, List, [], ◌∷◌, ◌++◌}
-use Rattle.std.proofs.Common.{length, get_or, Option, Some, None, refl, sym, ap, ap₂, ◌∙◌, arith, ◌⊎◌, inl, inr, ⊎_elim, eq-eqb, ne_eqb}
-use Rattle.std.proofs.Common.{mod-lt, div-add-mod', mul-le-mul_right, lt_of_mul-lt-mul_right}
-use Rattle.std.proofs.lemmas.Bool.{cases_lt}
+use Rattle.std.proofs.Common.{◌≡◌, ℕ, zero, suc, ◌+◌, ◌-◌, ◌%◌, ◌<◌, ◌≤◌, true, false, cond, ◌==◌, List, [], ◌∷◌, ◌++◌}
+use Rattle.std.proofs.Common.{length, get_or, Option, Some, None, refl, sym, ap, ◌∙◌, arith, ◌⊎◌, eq-eqb, ne_eqb}
 use Rattle.std.proofs.lemmas.List.{get_or_past}
 use Rattle.flat_model.specs.declared.Word.{Word}
 use Rattle.flat_model.specs.Words.{zero_word, has_any, merged}
-use Rattle.flat_model.specs.Flat.{word_at}
 use Rattle.flat_model.proofs.Lanewise.{merged-none, merged_no_lane, merged_held}
 use Rattle.memory_banks.specs.Banks.{bank_at, words_after}
 use Rattle.write_queue.specs.declared.Queued.{Queued}
@@ -14,7 +11,7 @@ use Rattle.write_queue.specs.Queue.{overlaid}
 use Rattle.cache_directory.specs.declared.Cell.{Cell}
 use Rattle.cache_unit.specs.declared.Sizes.{Sizes}
 use Rattle.cache_directory.specs.Frames.{zero_cell}
-use Rattle.cache_unit.specs.State.{frame_at, cell_in, block_of, place_in, first_of}
+use Rattle.cache_unit.specs.State.{frame_at, block_of, first_of}
 use Rattle.cache_unit.specs.Causes.{dirty_from, owed_by, dirty_words}
 use Rattle.cache_unit.proofs.FormsFinding.{frame_of-is}
 use Rattle.cache_unit.proofs.FormsFetching.{address_is}
@@ -46,20 +43,7 @@ overlaid_below w block n (cell ∷ rest) at l =
 overlaid_at : (w : Word) (block n : ℕ) (cells : List Cell) (k at : ℕ) → at ≡ n + k
     → overlaid w (dirty_from block n cells) at ≡ merged w (get_or cells k zero_cell).word (get_or cells k zero_cell).dirty
 overlaid_at w block n [] k at e = sym (merged-none w zero_word)
-overlaid_at w block n (cell ∷ rest) zero at e =
-    elim_any (has_any cell.dirty) refl
-  where
-    below : overlaid w (dirty_from block (n + 1) rest) at ≡ w
-    below = overlaid_below w block (n + 1) rest at (omega arith)
-
-    elim_any : (b : Bool) → has_any cell.dirty ≡ b
-        → overlaid w (cond b (first_of_cell block n cell ∷ dirty_from block (n + 1) rest) (dirty_from block (n + 1) rest)) at
-        ≡ merged w cell.word cell.dirty
-    elim_any true q =
-        ap (λ b. overlaid (cond b (merged w (merged zero_word cell.word cell.dirty) cell.dirty) w) (dirty_from block (n + 1) rest) at)
-        (eq-eqb n at (omega arith)) ∙ overlaid_below (merged w (merged zero_word cell.word cell.dirty) cell.dirty) block
-        (n + 1) rest at (omega arith) ∙ merged_held w zero_word cell.word cell.dirty
-    elim_any false q = below ∙ sym (merged_no_lane w cell.word cell.dirty q)
+overlaid_at w block n (cell ∷ rest) zero at e = grind (arith, overlaid_below, cell.word, eq-eqb, merged_held, merged_no_lane, cell.dirty)
 overlaid_at w block n (cell ∷ rest) (suc k) at e =
     elim (has_any cell.dirty) as (λ b. overlaid w
     (cond b (first_of_cell block n cell ∷ dirty_from block (n + 1) rest) (dirty_from block (n + 1) rest)) at
@@ -74,39 +58,17 @@ overlaid_past : (w : Word) (block n : ℕ) (cells : List Cell) (at : ℕ) → n 
 overlaid_past w block n cells at l =
     let k = at - n in
     let e : at ≡ n + k = omega arith in
-    overlaid_at w block n cells k at e ∙ ap (λ (c : Cell). merged w c.word c.dirty) (get_or_past cells k zero_cell (omega arith))
-    ∙ merged-none w zero_word
+    cc (overlaid_at w block n cells k at e, get_or_past cells k zero_cell (omega arith), merged-none w zero_word)
 
 -- ---- addresses
 
 -- a block that begins in memory lies in it
 block_in : (z : Sizes) → IsLawful z → (b : ℕ) → first_of z b < z.words → first_of z b + z.block_words ≤ z.words
-block_in z lawful b l =
-    let whole : z.words / z.block_words * z.block_words ≡ z.words = let e = div-add-mod' z.words z.block_words in let r =
-    lawful.whole_blocks in omega arith in
-    let less : b * z.block_words < z.words / z.block_words * z.block_words = omega arith in
-    let q : b < z.words / z.block_words = lt_of_mul-lt-mul_right z.block_words less in
-    let le : suc b * z.block_words ≤ z.words / z.block_words * z.block_words = mul-le-mul_right z.block_words q in
-    omega arith
+block_in z lawful b l = grind arith
 
 -- an address of another block is outside
 outside : (z : Sizes) → IsLawful z → (b at : ℕ) → (block_of z at ≡ b → ⊥) → (at < first_of z b) ⊎ (first_of z b + z.block_words ≤ at)
-outside z lawful b at n = go (cases_lt (block_of z at) b)
-  where
-    e : block_of z at * z.block_words + place_in z at ≡ at
-    e = div-add-mod' at z.block_words
-
-    r : place_in z at < z.block_words
-    r = mod-lt at lawful.some_words
-
-    go : (block_of z at < b) ⊎ (b ≤ block_of z at) → (at < first_of z b) ⊎ (first_of z b + z.block_words ≤ at)
-    go (inl l) =
-        let le : suc (block_of z at) * z.block_words ≤ b * z.block_words = mul-le-mul_right z.block_words l in
-        inl (let e' = e in let r' = r in omega arith)
-    go (inr l) =
-        let l' : suc b ≤ block_of z at = let n' : block_of z at ≢ b = n in omega arith in
-        let le : suc b * z.block_words ≤ block_of z at * z.block_words = mul-le-mul_right z.block_words l' in
-        inr (let e' = e in let r' = r in omega arith)
+outside z lawful b at n = grind arith
 
 AllIn-append : (z : Sizes) (xs ys : List Queued) → AllIn z xs → AllIn z ys → AllIn z (xs ++ ys)
 AllIn-append z [] ys h k = k
@@ -123,37 +85,21 @@ AllIn-dirty z block n (cell ∷ rest) l =
 
 dirty_is : (z : Sizes) (m : Machine) (f b : ℕ) → (frame_at m.cache f).block ≡ Some b
     → dirty_words z m.cache (Some f) ≡ dirty_from b (first_of z b) (frame_at m.cache f).cells
-dirty_is z m f b e = ap (λ o. owed_by z.block_words o (frame_at m.cache f).cells) e
+dirty_is z m f b e = grind arith
 
 -- laid over the backing, they are what is kept of their block, and nothing of another
 pub dirty_within : (z : Sizes) (m : Machine) → IsSound z m → (f at : ℕ) → (frame_at m.cache f).block ≡ Some (block_of z at)
     → overlaid (backing z m at) (dirty_words z m.cache (Some f)) at ≡ kept_word z m at
-dirty_within z m h f at e =
-    let cells = (frame_at m.cache f).cells in
-    let b = block_of z at in
-    let found = frame_of-is m.cache b f h.frames_apart e in
-    ap (λ q. overlaid (backing z m at) q at) (dirty_is z m f b e)
-    ∙ overlaid_at (backing z m at) b (first_of z b) cells (place_in z at) at (sym (address_is z at))
-    ∙ ap (λ o. merged (backing z m at) (cell_in m.cache o (place_in z at)).word (cell_in m.cache o (place_in z at)).dirty) (sym found)
+dirty_within z m h f at e = grind (arith, m.cache, frame_of-is, h.frames_apart, dirty_is, overlaid_at, address_is)
 
 pub dirty_elsewhere : (z : Sizes) → IsLawful z → (m : Machine) → IsSound z m → (f at : ℕ)
     → ((frame_at m.cache f).block ≡ Some (block_of z at) → ⊥)
     → overlaid (backing z m at) (dirty_words z m.cache (Some f)) at ≡ backing z m at
-dirty_elsewhere z lawful m h f at n = go (frame_at m.cache f).block refl
-  where
-    go : (o : Option ℕ) → (frame_at m.cache f).block ≡ o
-        → overlaid (backing z m at) (owed_by z.block_words o (frame_at m.cache f).cells) at ≡ backing z m at
-    go None e = refl
-    go (Some b) e =
-        let cells = (frame_at m.cache f).cells in
-        let k = (h.whole_frames f b e).0 in
-        let far : block_of z at ≡ b → ⊥ = λ q. n (e ∙ ap Some (sym q)) in
-        ⊎_elim (λ l. overlaid_below (backing z m at) b (first_of z b) cells at l)
-        (λ l. overlaid_past (backing z m at) b (first_of z b) cells at (omega arith)) (outside z lawful b at far)
+dirty_elsewhere z lawful m h f at n = grind (arith, m.cache, z.block_words, h.whole_frames, overlaid_below, overlaid_past, outside)
 
 -- the queue with them lies in memory
 pub dirty_in : (z : Sizes) → IsLawful z → (m : Machine) → IsSound z m → (f : ℕ) → AllIn z (m.cache.queue ++ dirty_words z m.cache (Some f))
-dirty_in z lawful m h f = AllIn-append z m.cache.queue _ h.queue_in (go (frame_at m.cache f).block refl)
+dirty_in z lawful m h f = AllIn-append z _ _ h.queue_in (go (frame_at m.cache f).block refl)
   where
     go : (o : Option ℕ) → (frame_at m.cache f).block ≡ o → AllIn z (owed_by z.block_words o (frame_at m.cache f).cells)
     go None e = tt
@@ -161,14 +107,11 @@ dirty_in z lawful m h f = AllIn-append z m.cache.queue _ h.queue_in (go (frame_a
         let w = h.whole_frames f b e in
         let k = w.0 in
         let l = block_in z lawful b w.1 in
-        AllIn-dirty z b (first_of z b) (frame_at m.cache f).cells (omega arith)
+        AllIn-dirty z b _ (frame_at m.cache f).cells (omega arith)
 
 -- the backing of a machine whose queue has them, too
 pub backing_dirty : (z : Sizes) (m m' : Machine) (f at : ℕ)
     → words_after (bank_at m'.banks (at % z.banks)) ≡ words_after (bank_at m.banks (at % z.banks))
     → m'.cache.queue ≡ m.cache.queue ++ dirty_words z m.cache (Some f)
     → backing z m' at ≡ overlaid (backing z m at) (dirty_words z m.cache (Some f)) at
-backing_dirty z m m' f at ew eq =
-    ap₂ (λ ws q. overlaid (word_at ws (at / z.banks)) q at) ew eq
-    ∙ overlaid-append (word_at (words_after (bank_at m.banks (at % z.banks))) (at / z.banks)) m.cache.queue
-    (dirty_words z m.cache (Some f)) at
+backing_dirty z m m' f at ew eq = grind (arith, overlaid-append)

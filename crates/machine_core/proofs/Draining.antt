@@ -1,7 +1,6 @@
 -- A queued word goes to its bank.
-use Rattle.std.proofs.Common.{◌≡◌, ◌≢◌, ℕ, ◌+◌, ◌*◌, ◌/◌, ◌%◌, ◌<◌, Bool, true, false, cond, ◌==◌, nat_lt, List, [], ◌∷◌, ◌++◌, length, set}
-use Rattle.std.proofs.Common.{Some, refl, sym, ap, ap₂, ◌∙◌, subst, arith, length-set, ⊎_elim, eqb-true, get_or-set_same, get_or-set_other}
-use Rattle.std.proofs.Common.{div-add-mod', mod-lt}
+use Rattle.std.proofs.Common.{◌≡◌, ℕ, ◌+◌, ◌/◌, ◌%◌, ◌<◌, Bool, true, false, cond, ◌==◌, List, [], ◌∷◌, ◌++◌, length, set}
+use Rattle.std.proofs.Common.{Some, refl, sym, ap, ◌∙◌, arith, length-set, ⊎_elim, eqb-true, get_or-set_same, get_or-set_other}
 use Rattle.std.proofs.lemmas.Bool.{cases_eq, eqb-false}
 use Rattle.flat_model.specs.declared.Word.{Word}
 use Rattle.flat_model.specs.declared.Lanes.{Lanes}
@@ -17,9 +16,8 @@ use Rattle.write_queue.specs.declared.Queued.{Queued}
 use Rattle.cache_directory.specs.Frames as dir
 use Rattle.miss_registers.specs.Registers as regs
 use Rattle.cache_unit.specs.declared.Sizes.{Sizes}
-use Rattle.cache_unit.specs.State.{frame_of, live_for, register_at}
+use Rattle.cache_unit.specs.State.{register_at}
 use Rattle.cache_unit.specs.FormLaws.{form_at, forms}
-use Rattle.write_queue.specs.Queue.{overlaid}
 use Rattle.cache_unit.specs.Steps.{Stepped, drain_first, drain_step}
 use Rattle.cache_unit.specs.Counts.{tally}
 use Rattle.cache_unit.proofs.FormsLists.{flat_map_part, read_set}
@@ -49,7 +47,7 @@ after-write words (Write p w l ∷ rest) place word lanes = after-write (stored 
 
 -- an address is its bank and its place there
 pub address_same : (a b n : ℕ) → a / n ≡ b / n → a % n ≡ b % n → a ≡ b
-address_same a b n d r = sym (div-add-mod' a n) ∙ ap₂ (λ x y. x * n + y) d r ∙ div-add-mod' b n
+address_same a b n d r = grind arith
 
 module _ (z : Sizes) (lawful : IsLawful z) (m : Machine) (h : IsSound z m) (q : Queued) (rest : List Queued)
     (e : m.cache.queue ≡ q ∷ rest) where
@@ -67,25 +65,24 @@ module _ (z : Sizes) (lawful : IsLawful z) (m : Machine) (h : IsSound z m) (q : 
       }
 
   in_memory : AllIn z (q ∷ rest)
-  in_memory = subst (AllIn z) e h.queue_in
+  in_memory = grind arith
 
   bank_there : q.at % z.banks < length m.banks
-  bank_there = let k = mod-lt q.at lawful.some_banks in omega (arith, h.banks_are)
+  bank_there = grind arith
 
   pending_same : all_pending drained.banks ≡ all_pending m.banks
   unfolding drained with_command
   pending_same =
       let b = bank_at m.banks (q.at % z.banks) in
-      let part = flat_map_part pending no_bank m.banks (q.at % z.banks) bank_there in
-      part.then _ ∙ ap (λ l. part.front ++ ((b.answers ++ l) ++ part.back))
-      (answers_to-write b.words b.queue (q.at / z.banks) q.word q.lanes) ∙ sym part.now
+      let part = flat_map_part pending no_bank _ _ bank_there in
+      cc (part.then _, answers_to-write b.words b.queue _ q.word q.lanes, part.now)
 
   -- the word of memory once this write is done
   written : (at : ℕ) → word_at (words_after (bank_at drained.banks (at % z.banks))) (at / z.banks)
       ≡ cond (q.at == at) (merged (word_at (words_after (bank_at m.banks (at % z.banks))) (at / z.banks)) q.word q.lanes)
       (word_at (words_after (bank_at m.banks (at % z.banks))) (at / z.banks))
   unfolding drained with_command
-  written at = go (q.at == at) refl
+  written at = go _ refl
     where
       old : Bank
       old = bank_at m.banks (q.at % z.banks)
@@ -94,7 +91,7 @@ module _ (z : Sizes) (lawful : IsLawful z) (m : Machine) (h : IsSound z m) (q : 
       new = with_command (bank_at m.banks (q.at % z.banks)) (Write (q.at / z.banks) q.word q.lanes)
 
       new_words : words_after new ≡ stored (words_after old) (q.at / z.banks) q.word q.lanes
-      new_words = after-write old.words old.queue (q.at / z.banks) q.word q.lanes
+      new_words = after-write old.words old.queue _ q.word q.lanes
 
       w : ℕ → Word
       w a = word_at (words_after (bank_at m.banks (a % z.banks))) (a / z.banks)
@@ -102,39 +99,30 @@ module _ (z : Sizes) (lawful : IsLawful z) (m : Machine) (h : IsSound z m) (q : 
       go : (t : Bool) → (q.at == at) ≡ t → word_at (words_after (bank_at drained.banks (at % z.banks))) (at / z.banks)
           ≡ cond t (merged (w at) q.word q.lanes) (w at)
       go true k =
-          let same : q.at ≡ at = eqb-true q.at at k in
-          let here : bank_at drained.banks (q.at % z.banks) ≡ new = get_or-set_same m.banks (q.at % z.banks) new no_bank bank_there in
-          let room : q.at / z.banks < length (words_after old) = let n = length-after old.words old.queue in let k =
+          let same = eqb-true q.at at k in
+          let here = get_or-set_same _ _ new no_bank bank_there in
+          let room : q.at / z.banks < length _ = let n = length-after old.words old.queue in let k =
           h.banks_hold q.at in_memory.0 in omega arith in
-          let there : word_at (words_after (bank_at drained.banks (q.at % z.banks))) (q.at / z.banks) ≡ merged (w q.at) q.word q.lanes =
+          let there =
           ap (λ (b : Bank). word_at (words_after b) (q.at / z.banks)) here ∙ ap (λ ws. word_at ws (q.at / z.banks)) new_words
-          ∙ get_or-set_same (words_after old) (q.at / z.banks) _ zero_word room in
-          subst (λ a. word_at (words_after (bank_at drained.banks (a % z.banks))) (a / z.banks) ≡ merged (w a) q.word q.lanes) same there
+          ∙ get_or-set_same _ _ _ zero_word room in
+          rw (← same) there
       go false k =
-          ⊎_elim same_bank other_bank (cases_eq (at % z.banks) (q.at % z.banks))
+          ⊎_elim same_bank other_bank (cases_eq _ _)
         where
           differs : q.at ≡ at → ⊥
           differs = eqb-false q.at at k
 
           other_bank : (at % z.banks ≡ q.at % z.banks → ⊥)
               → word_at (words_after (bank_at drained.banks (at % z.banks))) (at / z.banks) ≡ w at
-          other_bank d = ap (λ (b : Bank). word_at (words_after b) (at / z.banks))
-              (get_or-set_other m.banks (q.at % z.banks) (at % z.banks) new no_bank d)
+          other_bank d = grind (arith, get_or-set_other, new)
 
           same_bank : at % z.banks ≡ q.at % z.banks → word_at (words_after (bank_at drained.banks (at % z.banks))) (at / z.banks) ≡ w at
-          same_bank s =
-              let here : bank_at drained.banks (at % z.banks) ≡ new = ap (bank_at drained.banks) s
-              ∙ get_or-set_same m.banks (q.at % z.banks) new no_bank bank_there in
-              let far : at / z.banks ≢ q.at / z.banks = λ d. differs (sym (address_same at q.at z.banks d s)) in
-              ap (λ (b : Bank). word_at (words_after b) (at / z.banks)) here ∙ ap (λ ws. word_at ws (at / z.banks)) new_words
-              ∙ get_or-set_other (words_after old) (q.at / z.banks) (at / z.banks) _ zero_word far
-              ∙ ap (λ n. word_at (words_after (bank_at m.banks n)) (at / z.banks)) (sym s)
+          same_bank s = grind (arith, get_or-set_same, new, bank_there, differs, address_same, new_words, get_or-set_other)
 
   backing_same : (at : ℕ) → backing z drained at ≡ backing z m at
   unfolding drained
-  backing_same at =
-      ap (λ w. overlaid w rest at) (written at)
-      ∙ ap (λ qs. overlaid (word_at (words_after (bank_at m.banks (at % z.banks))) (at / z.banks)) qs at) (sym e)
+  backing_same at = grind (arith, written)
 
   same_forms : forms z drained.cache ≡ forms z m.cache
   unfolding drained form_at dir.frame_of regs.live_for
@@ -146,19 +134,19 @@ module _ (z : Sizes) (lawful : IsLawful z) (m : Machine) (h : IsSound z m) (q : 
   sound_after : IsSound z drained
   unfolding drained dir.frame_of with_command
   sound_after =
-      let count : (s i : ℕ) → tally (is_for s i) (all_pending drained.banks) + tally (is_entry_for s i) m.cache.stack
+      let count : (s i : ℕ) → tally _ _ + tally _ _
       ≡ wanted z (register_at m.cache s) i = λ s i. ap
       (λ ps. tally (is_for s i) ps + tally (is_entry_for s i) m.cache.stack) pending_same ∙ h.counted s i in
-      let lengths = read_set (λ (x : Bank). length x.words) no_bank m.banks (q.at % z.banks) _ refl in
-      sound_within z m drained h (within_refl m.cache drained.cache refl refl) h.in_order in_memory.1 h.once count
+      let lengths = read_set (λ (x : Bank). length x.words) no_bank _ _ _ refl in
+      sound_within z m drained h (within_refl _ drained.cache refl refl) h.in_order in_memory.1 h.once count
       (λ at. kept_same z m drained h at (flat.words at) refl (backing_same at))
-      (record { number = length-set m.banks (q.at % z.banks) _; lengths = lengths })
+      (record { number = length-set _ _ _; lengths = lengths })
 
 drained_ok : (z : Sizes) (lawful : IsLawful z) (m : Machine) → IsSound z m → (queue : List Queued) → m.cache.queue ≡ queue
     → KeptBy z m Drain (joined_with m.banks (drain_first z (room_in z.bank_queue m.banks) m.cache queue))
 unfolding drained
-drained_ok z lawful m h [] e = record { sound = h; run = refl; few = λ l. l }
-drained_ok z lawful m h (q ∷ rest) e = go (nat_lt 0 (room_in z.bank_queue m.banks (q.at % z.banks)))
+drained_ok z lawful m h [] e = grind arith
+drained_ok z lawful m h (q ∷ rest) e = go _
   where
     moved : Stepped
     moved = record {
@@ -173,11 +161,11 @@ drained_ok z lawful m h (q ∷ rest) e = go (nat_lt 0 (room_in z.bank_queue m.ba
     go true = record {
       sound = sound_after z lawful m h q rest e;
       run =
-          ap Some (sym (flat_of-same z m (drained z lawful m h q rest e) (flat z lawful m h q rest e)));
+          ap Some (sym (flat_of-same z m _ (flat z lawful m h q rest e)));
       few = λ l. l;
     }
     go false = record { sound = h; run = refl; few = λ l. l }
 
 pub drain_ok : (z : Sizes) (lawful : IsLawful z) (m : Machine) → IsSound z m → Kept z m Drain
 unfolding drain_step
-drain_ok z lawful m h = drained_ok z lawful m h m.cache.queue refl
+drain_ok z lawful m h = drained_ok z lawful m h _ refl

@@ -1,8 +1,8 @@
 -- A miss: the block that goes, and the one that comes, whose words are asked for.
-use Rattle.std.proofs.Common.{◌≡◌, ℕ, ◌+◌, ◌*◌, ◌/◌, ◌%◌, ◌<◌, ◌≤◌, Bool, true, false, cond, not, ◌&&◌, ◌==◌, nat_lt, nat_le, List, []}
-use Rattle.std.proofs.Common.{◌++◌, map, length, get_or, Option, Some, None, option_map, find, is_some, refl, sym, ap, ap₂, ◌∙◌, subst}
-use Rattle.std.proofs.Common.{arith, ◌⊎◌, inl, inr, ⊎_elim, mod-lt, eq-eqb, ne_eqb, le-leb, ltb-true, zero-add}
-use Rattle.std.proofs.lemmas.Bool.{cases_eq, and_parts}
+use Rattle.std.proofs.Common.{◌≡◌, ℕ, ◌+◌, ◌*◌, ◌/◌, ◌%◌, ◌<◌, Bool, true, false, cond, not, ◌&&◌, nat_lt, nat_le, List, []}
+use Rattle.std.proofs.Common.{◌++◌, map, length, Option, Some, None, find, refl, sym, ap, ap₂, ◌∙◌}
+use Rattle.std.proofs.Common.{arith, ◌⊎◌, ⊎_elim, mod-lt, eq-eqb, le-leb, ltb-true, zero-add}
+use Rattle.std.proofs.lemmas.Bool.{cases_eq}
 use Rattle.std.proofs.lemmas.List.FromFn.{length-map-range_with_len}
 use Rattle.flat_model.specs.Words.{merged, zero_word}
 use Rattle.flat_model.specs.Flat.{word_at}
@@ -11,16 +11,13 @@ use Rattle.memory_banks.specs.declared.BankAnswer.{BankAnswer}
 use Rattle.memory_banks.specs.Banks.{bank_at, all_pending, all_sent, words_after}
 use Rattle.write_queue.specs.declared.Queued.{Queued}
 use Rattle.write_queue.specs.Queue.{overlaid, queued_lanes}
-use Rattle.cache_directory.specs.declared.Cell.{Cell}
-use Rattle.memory_banks.specs.declared.Command.{Command}
-use Rattle.cache_unit.specs.Begun.{begun_frame, begun_field}
-use Rattle.cache_unit.specs.declared.Reply.{Reply}
+use Rattle.cache_unit.specs.Begun.{begun_field}
 use Rattle.cache_unit.specs.declared.Sizes.{Sizes}
-use Rattle.cache_unit.specs.State.{Frame, Field, Register, Cache, clear_field, frame_at, frame_of, is_present, register_at, field_at}
-use Rattle.cache_unit.specs.State.{is_live, live_for, free_slot, cell_of, Target, tags, block_of, place_in, first_of}
+use Rattle.cache_unit.specs.State.{Frame, frame_at, frame_of, is_present, register_at, field_at}
+use Rattle.cache_unit.specs.State.{is_live, live_for, free_slot, cell_of, tags, block_of, place_in, first_of}
 use Rattle.cache_unit.specs.Causes.{addresses, dirty_words, choose}
 use Rattle.cache_unit.specs.Steps.{released, installed, reads, missed, fetched, fetches}
-use Rattle.cache_unit.specs.Forms.{Asked, Form, filled_by}
+use Rattle.cache_unit.specs.Forms.{Asked, Form}
 use Rattle.cache_unit.specs.FormLaws.{form_at, words_without, asked_form}
 use Rattle.cache_unit.specs.Counts.{tally, bit}
 use Rattle.cache_unit.proofs.FormsFinding.{none_in_frames, none_live}
@@ -30,8 +27,8 @@ use Rattle.cache_unit.proofs.FormsSame.{owed-same}
 use Rattle.cache_unit.proofs.FormsStoring.{Hit}
 use Rattle.cache_unit.proofs.FormsChoosing.{Able, Misses, misses, fetched-by}
 use Rattle.machine_core.specs.Law.{IsLawful}
-use Rattle.machine_core.specs.Machine.{Machine, backing, flat_word, flat_word_in}
-use Rattle.machine_core.specs.Sound.{is_for, is_entry_for, word_in, AllIn, InOrder, IsSound, wanted}
+use Rattle.machine_core.specs.Machine.{Machine, backing, flat_word}
+use Rattle.machine_core.specs.Sound.{is_for, is_entry_for, word_in, InOrder, IsSound, wanted}
 use Rattle.machine_core.proofs.FromForms.{filled-asked, filled-over, filled-other, word_asks, due_other, word_from, flat_word-form, Same}
 use Rattle.machine_core.proofs.Units.{bit-le, sound_unit, kept_word, kept_same}
 use Rattle.machine_core.proofs.Overlaid.{overlaid-split}
@@ -48,10 +45,6 @@ pub record FetchedBy (z : Sizes) (m : Machine) (block : ℕ) (m' : Machine) : Ty
   pub sound : IsSound z m'
   pub same : Same z m m'
   pub same_tags : tags m'.cache ≡ tags m.cache
-
-holds_or_not : (o : Option ℕ) (b : ℕ) → (o ≡ Some b) ⊎ (o ≡ Some b → ⊥)
-holds_or_not None b = inr (λ e. cc)
-holds_or_not (Some x) b = ⊎_elim (λ q. inl (ap Some q)) (λ n. inr (λ e. let q : x ≡ b = cc in n q)) (cases_eq x b)
 
 module _ (z : Sizes) (lawful : IsLawful z) (m : Machine) (h : IsSound z m) (block : ℕ) (absent : frame_of m.cache block ≡ None)
     (in_memory : first_of z block < z.words) (miss : Misses z m.cache block) where
@@ -72,63 +65,46 @@ module _ (z : Sizes) (lawful : IsLawful z) (m : Machine) (h : IsSound z m) (bloc
   -- a frame that holds a block is the new one, or held it before
   holds : (k b : ℕ) → (frame_at with_block.cache k).block ≡ Some b
       → ((k ≡ f) × (b ≡ block)) ⊎ ((k ≡ f → ⊥) × ((frame_at m.cache k).block ≡ Some b))
-  holds k b e = ⊎_elim here (λ n. inr (n, ap (λ (x : Frame). x.block) (sym (miss.by.other_frame k n)) ∙ e)) (cases_eq k f)
-    where
-      here : k ≡ f → ((k ≡ f) × (b ≡ block)) ⊎ ((k ≡ f → ⊥) × ((frame_at m.cache k).block ≡ Some b))
-      here q =
-          let s : Some block ≡ Some b = sym (ap (λ x. (frame_at with_block.cache x).block) q
-          ∙ ap (λ (x : Frame). x.block) miss.by.own_frame) ∙ e in
-          let eq : b ≡ block = cc in
-          inl (q, eq)
+  holds k b e = grind arith
 
   no_frame : (k : ℕ) → (frame_at m.cache k).block ≡ Some block → ⊥
   no_frame = none_in_frames m.cache block absent
 
   apart_after : (a b n : ℕ) → (frame_at with_block.cache a).block ≡ Some n → (frame_at with_block.cache b).block ≡ Some n → a ≡ b
-  apart_after a b n p q =
-      ⊎_elim (λ x. ⊎_elim (λ y. x.0 ∙ sym y.0) (λ y. absurd (no_frame b (y.1 ∙ ap Some x.1))) (holds b n q))
-      (λ x. ⊎_elim (λ y. absurd (no_frame a (x.1 ∙ ap Some y.1))) (λ y. h.frames_apart a b n x.1 y.1) (holds b n q)) (holds a n p)
+  apart_after a b n p q = grind (arith, no_frame, holds)
 
   -- the block of a live register is in another frame
   live_elsewhere : (t k : ℕ) → is_live (register_at m.cache t) ≡ true → (frame_at m.cache k).block ≡ Some (register_at m.cache t).block
       → k ≡ f → ⊥
   live_elsewhere t k l e q =
-      ⊎_elim (λ free. let no : (frame_at m.cache k).block ≡ None = ap (λ x. (frame_at m.cache x).block) q ∙ free in cc) victim miss.may_go
+      ⊎_elim (λ free. let no = ap (λ x. (frame_at m.cache x).block) q ∙ free in cc) victim miss.may_go
     where
       victim : (b : ℕ) × ((frame_at m.cache f).block ≡ Some b) × (live_for m.cache b ≡ None) → ⊥
-      victim v =
-          let same : Some (register_at m.cache t).block ≡ Some v.0 = sym e ∙ ap (λ x. (frame_at m.cache x).block) q ∙ v.1 in
-          let eq : (register_at m.cache t).block ≡ v.0 = cc in
-          none_live m.cache v.0 v.2 t l eq
+      victim v = grind (arith, none_live, v.2)
 
   -- ---- registers
 
   valid_other : (t : ℕ) → (register_at m.cache t).valid ≡ true → (t ≡ slot → ⊥)
-  valid_other t v q = let no : (register_at m.cache t).valid ≡ false = ap (λ x. (register_at m.cache x).valid) q ∙ miss.invalid in cc
+  valid_other t v q = grind arith
 
   live_other : (t : ℕ) → is_live (register_at m.cache t) ≡ true → (t ≡ slot → ⊥)
-  live_other t l = valid_other t (and_parts (register_at m.cache t).valid (not (register_at m.cache t).obsolete) l).0
+  live_other t l = grind arith
 
   -- no register was live for the block
   none_before : (t : ℕ) → is_live (register_at m.cache t) ≡ true → (register_at m.cache t).block ≡ block → ⊥
-  none_before t l e = let p = h.live_present t l in no_frame p.0 (p.1 ∙ ap Some e)
+  none_before t l e = grind (arith, no_frame)
 
   lives : (t : ℕ) → is_live (register_at with_block.cache t) ≡ true
       → (t ≡ slot) ⊎ ((t ≡ slot → ⊥) × (is_live (register_at m.cache t) ≡ true)
       × ((register_at with_block.cache t).block ≡ (register_at m.cache t).block))
-  lives t l = ⊎_elim (λ q. inl q)
-      (λ n. inr (n, ap is_live (sym (miss.by.other_register t n)) ∙ l, ap (λ (r : Register). r.block) (miss.by.other_register t n)))
-      (cases_eq t slot)
+  lives t l = grind arith
 
   own_block : (t : ℕ) → t ≡ slot → (register_at with_block.cache t).block ≡ block
-  own_block t q = ap (λ x. (register_at with_block.cache x).block) q ∙ ap (λ (r : Register). r.block) miss.by.own_register
+  own_block t q = grind arith
 
   live_apart_after : (a b : ℕ) → is_live (register_at with_block.cache a) ≡ true → is_live (register_at with_block.cache b) ≡ true
       → (register_at with_block.cache a).block ≡ (register_at with_block.cache b).block → a ≡ b
-  live_apart_after a b la lb e =
-      ⊎_elim (λ x. ⊎_elim (λ y. x ∙ sym y) (λ y. absurd (none_before b y.1 (sym y.2 ∙ sym e ∙ own_block a x))) (lives b lb))
-      (λ x. ⊎_elim (λ y. absurd (none_before a x.1 (sym x.2 ∙ e ∙ own_block b y)))
-      (λ y. h.live_apart a b x.1 y.1 (sym x.2 ∙ e ∙ y.2)) (lives b lb)) (lives a la)
+  live_apart_after a b la lb e = grind (arith, none_before, own_block, lives)
 
   -- ---- answers
 
@@ -136,34 +112,30 @@ module _ (z : Sizes) (lawful : IsLawful z) (m : Machine) (h : IsSound z m) (bloc
   answers = map (answer_at z m.banks slot) (addresses z block)
 
   none_pending : (j : ℕ) → (tally (is_for slot j) (all_pending m.banks) ≡ 0) × (tally (is_entry_for slot j) m.cache.stack ≡ 0)
-  none_pending j =
-      let c = h.counted slot j in
-      let w : wanted z (register_at m.cache slot) j ≡ 0 =
-      ap (λ v. bit (v && (nat_lt j z.block_words && not (field_at m.cache slot j).processed))) miss.invalid in
-      (omega arith, omega arith)
+  none_pending j = grind arith
 
   own_tally : (j : ℕ) → tally (is_for slot j) (all_pending with_block.banks) ≡ bit (nat_lt j z.block_words)
   unfolding answers
   own_tally j =
-      let a = AddsAll-tally (is_for slot j) answers _ _ (sent_adds z lawful.some_banks slot (addresses z block) m.banks h.banks_are) in
+      let a = AddsAll-tally (is_for slot j) answers _ _ (sent_adds z lawful.some_banks slot _ _ h.banks_are) in
       let r = reads_tally z m.banks slot block 0 z.block_words (first_of z block) j (omega arith) (omega arith) in
       let n = none_pending j in
-      let e : bit (nat_le 0 j && nat_lt j (0 + z.block_words)) ≡ bit (nat_lt j z.block_words) =
+      let e =
       ap₂ (λ x k. bit (x && nat_lt j k)) (le-leb 0 j (omega arith)) (zero-add z.block_words) in
       omega (arith, n.0)
 
   other_tally : (t j : ℕ) → (t ≡ slot → ⊥) → tally (is_for t j) (all_pending with_block.banks) ≡ tally (is_for t j) (all_pending m.banks)
   unfolding answers
   other_tally t j n =
-      let a = AddsAll-tally (is_for t j) answers _ _ (sent_adds z lawful.some_banks slot (addresses z block) m.banks h.banks_are) in
+      let a = AddsAll-tally (is_for t j) answers _ _ (sent_adds z lawful.some_banks slot _ _ h.banks_are) in
       let r = reads_other z m.banks slot t j (addresses z block) (λ q. n (sym q)) in
       omega arith
 
   other_find : (t j : ℕ) → (t ≡ slot → ⊥) → find (is_for t j) (all_pending with_block.banks) ≡ find (is_for t j) (all_pending m.banks)
   unfolding answers
   other_find t j n =
-      let none = reads_other z m.banks slot t j (addresses z block) (λ q. n (sym q)) in
-      AddsAll-find_other (is_for t j) answers _ _ (sent_adds z lawful.some_banks slot (addresses z block) m.banks h.banks_are) none
+      let none = reads_other z _ slot t j _ (λ q. n (sym q)) in
+      AddsAll-find_other _ answers _ _ (sent_adds z lawful.some_banks slot _ _ h.banks_are) none
 
   own_find : (j : ℕ) → j < z.block_words → word_in (find (is_for slot j) (all_pending with_block.banks))
       ≡ base_in z m.banks (block * z.block_words + j)
@@ -172,15 +144,15 @@ module _ (z : Sizes) (lawful : IsLawful z) (m : Machine) (h : IsSound z m) (bloc
       let n = none_pending j in
       let r = reads_tally z m.banks slot block 0 z.block_words (first_of z block) j (omega arith) (omega arith) in
       let b = bit-le (nat_le 0 j && nat_lt j (0 + z.block_words)) in
-      let one = AddsAll-find (is_for slot j) answers _ _ (sent_adds z lawful.some_banks slot (addresses z block) m.banks h.banks_are) n.0
+      let one = AddsAll-find _ answers _ _ (sent_adds z lawful.some_banks slot _ _ h.banks_are) n.0
       (omega arith) in
-      ap word_in (one ∙ reads_find z m.banks slot block 0 z.block_words (first_of z block) j (omega arith) (omega arith) (omega arith)
+      ap word_in (one ∙ reads_find z _ slot block 0 _ _ j (omega arith) (omega arith) (omega arith)
       (omega arith))
 
   -- ---- the backing
 
   base_same : (at : ℕ) → words_after (bank_at with_block.banks (at % z.banks)) ≡ words_after (bank_at m.banks (at % z.banks))
-  base_same at = sent_words z lawful.some_banks slot (addresses z block) m.banks (at % z.banks)
+  base_same at = grind (arith, sent_words)
 
   backing_gone : (at : ℕ) → (frame_at m.cache f).block ≡ Some (block_of z at) → backing z with_block at ≡ kept_word z m at
   backing_gone at e = backing_dirty z m with_block f at (base_same at) miss.by.queue ∙ dirty_within z m h f at e
@@ -191,7 +163,7 @@ module _ (z : Sizes) (lawful : IsLawful z) (m : Machine) (h : IsSound z m) (bloc
   -- ---- the words: of the block that comes, of the one that goes, and the others
 
   not_victim : (at : ℕ) → block_of z at ≡ block → (frame_at m.cache f).block ≡ Some (block_of z at) → ⊥
-  not_victim at e q = no_frame f (q ∙ ap Some e)
+  not_victim at e q = no_frame f (cc)
 
   word_own : (at : ℕ) → block_of z at ≡ block → flat_word z with_block at ≡ backing z with_block at
   word_own at e =
@@ -200,68 +172,61 @@ module _ (z : Sizes) (lawful : IsLawful z) (m : Machine) (h : IsSound z m) (bloc
       let back = backing z with_block at in
       let here : block * z.block_words + place_in z at ≡ at = let k = ap (λ b. first_of z b + place_in z at) (sym e)
       ∙ address_is z at in omega arith in
-      let asked : form_at z with_block.cache at ≡ Some (asked_form z queue slot at) = miss.by.words at
+      let asked = miss.by.words at
       ∙ ap (λ b. cond b (Some (asked_form z queue slot at)) (words_without z (form_at z m.cache) (frame_at m.cache f).block at))
-      (eq-eqb (block_of z at) block e) in
-      let base = base_in z m.banks at in
+      (eq-eqb _ block e) in
+      let base = base_in z _ at in
       flat_word-form z with_block at ∙ ap (word_from ps back) asked
-      ∙ filled-over ps (queued_lanes queue at) (overlaid zero_word queue at) (λ l. Asked slot (place_in z at) l)
+      ∙ filled-over ps _ _ (λ l. Asked slot (place_in z at) l)
       ∙ ap (λ w. merged w (overlaid zero_word queue at) (queued_lanes queue at))
-      (filled-asked ps slot (place_in z at) ∙ own_find (place_in z at) (mod-lt at lawful.some_words) ∙ ap (base_in z m.banks) here)
+      (filled-asked ps slot _ ∙ own_find _ (mod-lt at lawful.some_words) ∙ ap (base_in z _) here)
       ∙ sym (overlaid-split base zero_word queue at)
       ∙ sym (ap₂ (λ ws q. overlaid (word_at ws (at / z.banks)) q at) (base_same at) miss.by.queue)
 
   missed_at : (at : ℕ) → (block_of z at ≡ block → ⊥)
       → form_at z with_block.cache at ≡ words_without z (form_at z m.cache) (frame_at m.cache f).block at
-  missed_at at n =
-      miss.by.words at ∙ ap (λ b. cond b (Some (asked_form z queue slot at))
-      (words_without z (form_at z m.cache) (frame_at m.cache f).block at)) (ne_eqb (block_of z at) block n)
+  missed_at at n = grind arith
 
   word_gone : (at : ℕ) → (block_of z at ≡ block → ⊥) → (frame_at m.cache f).block ≡ Some (block_of z at)
       → flat_word z with_block at ≡ backing z with_block at
-  word_gone at n e =
-      let none : form_at z with_block.cache at ≡ None = missed_at at n ∙ ap (λ o. words_without z (form_at z m.cache) o at) e
-      ∙ ap (λ b. cond b None (form_at z m.cache at)) (eq-eqb (block_of z at) (block_of z at) refl) in
-      flat_word-form z with_block at ∙ ap (word_from (all_pending with_block.banks) (backing z with_block at)) none
+  word_gone at n e = grind (arith, missed_at, eq-eqb, flat_word-form, word_from)
 
   word_other : (at : ℕ) → (block_of z at ≡ block → ⊥) → ((frame_at m.cache f).block ≡ Some (block_of z at) → ⊥)
       → flat_word z with_block at ≡ flat_word z m at
   word_other at n far =
-      let form = missed_at at n ∙ ap (λ b. cond b None (form_at z m.cache at)) (holds-not (frame_at m.cache f) (block_of z at) far) in
-      flat_word-form z with_block at ∙ ap (word_from (all_pending with_block.banks) (backing z with_block at)) form
-      ∙ go (form_at z m.cache at) refl ∙ sym (flat_word-form z m at)
+      let form = missed_at at n ∙ ap (λ b. cond b None (form_at z m.cache at)) (holds-not (frame_at m.cache f) _ far) in
+      flat_word-form z with_block at ∙ ap (word_from (all_pending with_block.banks) _) form
+      ∙ go _ refl ∙ sym (flat_word-form z m at)
     where
       go : (o : Option Form) → form_at z m.cache at ≡ o
           → word_from (all_pending with_block.banks) (backing z with_block at) o ≡ word_from (all_pending m.banks) (backing z m at) o
       go None e = backing_same at far
-      go (Some g) e = filled-other (λ t. t ≡ slot → ⊥) (all_pending m.banks) (all_pending with_block.banks) other_find g
-          (word_asks (λ t. t ≡ slot → ⊥) z m.cache at live_other g e)
+      go (Some g) e = filled-other (λ t. t ≡ slot → ⊥) _ _ other_find g
+          (word_asks (λ t. t ≡ slot → ⊥) z _ at live_other g e)
 
   by_cases : (P : ℕ → Type 0) → ((at : ℕ) → block_of z at ≡ block → P at)
       → ((at : ℕ) → (block_of z at ≡ block → ⊥) → (frame_at m.cache f).block ≡ Some (block_of z at) → P at)
       → ((at : ℕ) → (block_of z at ≡ block → ⊥) → ((frame_at m.cache f).block ≡ Some (block_of z at) → ⊥) → P at) → (at : ℕ) → P at
-  by_cases P own gone other at =
-      ⊎_elim (own at) (λ n. ⊎_elim (gone at n) (other at n) (holds_or_not (frame_at m.cache f).block (block_of z at)))
-      (cases_eq (block_of z at) block)
+  by_cases P own gone other at = grind arith
 
   with_block_same : Same z m with_block
   with_block_same =
       record {
         words = by_cases (λ at. flat_word z with_block at ≡ flat_word z m at)
-            (λ at e. word_own at e ∙ backing_same at (not_victim at e) ∙ sym (ap (flat_word_in z m at) (ap (frame_of m.cache) e ∙ absent)))
+            (λ at e. word_own at e ∙ backing_same at (not_victim at e) ∙ sym (cc))
             (λ at n e. word_gone at n e ∙ backing_gone at e ∙ sym (h.kept at)) word_other;
-        owing = λ tag. ap (option_map (filled_by (all_pending with_block.banks)))
-            (owed-same m.cache with_block.cache miss.by.same_ready miss.by.same_targets miss.by.same_stack tag)
-            ∙ due_other (λ t. t ≡ slot → ⊥) m.cache (all_pending m.banks) (all_pending with_block.banks) other_find valid_other tag;
+        owing = λ tag. (cc (
+          owed-same m.cache with_block.cache miss.by.same_ready miss.by.same_targets miss.by.same_stack tag,
+          due_other (λ t. t ≡ slot → ⊥) m.cache _ _ other_find valid_other tag,
+        ));
       }
 
   kept : (at : ℕ) → flat_word z with_block at ≡ kept_word z with_block at
   kept =
       by_cases (λ at. flat_word z with_block at ≡ kept_word z with_block at)
-      (λ at e. let w = (cell_of with_block.cache (block_of z at) (place_in z at)).word in
-      word_own at e ∙ sym (merged-none (backing z with_block at) w) ∙ ap (merged (backing z with_block at) w) (sym (miss.by.clean at e)))
-      (λ at n e. word_gone at n e ∙ sym (merged-none (backing z with_block at) zero_word)
-      ∙ ap (λ (c : Cell). merged (backing z with_block at) c.word c.dirty) (sym (miss.by.gone at n e)))
+      (λ at e. let w = (cell_of with_block.cache _ _).word in
+      word_own at e ∙ sym (merged-none _ w) ∙ ap (merged _ w) (sym (miss.by.clean at e)))
+      (λ at n e. (cc (word_gone at n e, merged-none _ zero_word, miss.by.gone at n e)))
       (λ at n far. kept_same z m with_block h at (word_other at n far) (miss.by.cells at n far) (backing_same at far))
 
   -- ---- all of it
@@ -270,17 +235,14 @@ module _ (z : Sizes) (lawful : IsLawful z) (m : Machine) (h : IsSound z m) (bloc
   unfolding installed released
   installed_order own =
       let c = released z m.cache f in
-      InOrder-installed z c.directory f (block % z.sets) (begun_frame z.block_words c.queue block) own (mod-lt block lawful.some_sets)
-      (InOrder-released z m.cache.directory f h.in_order)
+      InOrder-installed z _ f _ _ own (mod-lt block lawful.some_sets)
+      (InOrder-released z _ f h.in_order)
 
   order : InOrder z with_block.cache.directory
-  order =
-      let own : f / z.ways ≡ block % z.sets = ⊎_elim (λ e. e) (h.in_order.in_set (block % z.sets) f) miss.of_set in
-      subst (λ (c : Cache). InOrder z c.directory) (sym miss.is) (installed_order own)
+  order = grind (arith, installed_order)
 
   same_tags : tags with_block.cache ≡ tags m.cache
-  same_tags =
-      ap₂ (λ r t. map (λ (x : Reply). x.tag) r ++ map (λ (x : Target). x.load.tag) t) miss.by.same_ready miss.by.same_targets
+  same_tags = grind arith
 
   with_block_sound : IsSound z with_block
   with_block_sound =
@@ -295,31 +257,27 @@ module _ (z : Sizes) (lawful : IsLawful z) (m : Machine) (h : IsSound z m) (bloc
             )) (lives t l);
         counted = λ t j. ap (λ st. tally (is_for t j) (all_pending with_block.banks) + tally (is_entry_for t j) st) miss.by.same_stack
             ∙ counted_after t j;
-        once = λ tag. subst (λ ts. tally (λ t. t == tag) ts ≤ 1) (sym same_tags) (h.once tag);
+        once = grind arith;
         kept = kept;
         whole_frames = λ k b e. ⊎_elim (λ x. (
           ap (λ y. length (frame_at with_block.cache y).cells) x.0 ∙ ap (λ (y : Frame). length y.cells) miss.by.own_frame
-              ∙ length-map-range_with_len _ (first_of z block) z.block_words,
-          subst (λ y. first_of z y < z.words) (sym x.1) in_memory,
+              ∙ length-map-range_with_len _ _ _,
+          rw (sym x.1) at in_memory,
         ))
             (λ x. let p = h.whole_frames k b x.1 in (ap (λ (y : Frame). length y.cells) (miss.by.other_frame k x.0) ∙ p.0, p.1))
             (holds k b e);
         whole_registers = whole_after;
-        queue_in = subst (AllIn z) (sym miss.by.queue) (dirty_in z lawful m h f);
-        frames_are = miss.by.number_of_frames ∙ h.frames_are;
+        queue_in = rw (sym miss.by.queue) at (dirty_in z lawful m h f);
+        frames_are = grind arith;
         in_order = order;
-        registers_are = miss.by.number_of_registers ∙ h.registers_are;
-        banks_are = sent_number z lawful.some_banks slot (addresses z block) m.banks ∙ h.banks_are;
-        banks_hold = λ at l. subst (λ n. at / z.banks < n)
-            (sym (sent_lengths z lawful.some_banks slot (addresses z block) m.banks (at % z.banks))) (h.banks_hold at l);
+        registers_are = grind arith;
+        banks_are = sent_number z lawful.some_banks slot (addresses z block) _ ∙ h.banks_are;
+        banks_hold = λ at l. rw (sent_lengths z lawful.some_banks slot (addresses z block) _ _) (h.banks_hold at l);
       }
     where
       own_field : (j : ℕ) → j < z.block_words → field_at with_block.cache slot j
           ≡ begun_field with_block.cache.queue (first_of z block + j)
-      own_field j l =
-          ap (λ (r : Register). get_or r.fields j clear_field) miss.by.own_register
-          ∙ range_at (begun_field with_block.cache.queue) clear_field
-          (first_of z block) z.block_words j l
+      own_field j l = grind (arith, range_at)
 
       counted_after : (t j : ℕ) → tally (is_for t j) (all_pending with_block.banks) + tally (is_entry_for t j) m.cache.stack
           ≡ wanted z (register_at with_block.cache t) j
@@ -327,50 +285,31 @@ module _ (z : Sizes) (lawful : IsLawful z) (m : Machine) (h : IsSound z m) (bloc
         where
           there : (t ≡ slot → ⊥) → tally (is_for t j) (all_pending with_block.banks) + tally (is_entry_for t j) m.cache.stack
               ≡ wanted z (register_at with_block.cache t) j
-          there n =
-              let c = h.counted t j in
-              let o = other_tally t j n in
-              let w : wanted z (register_at with_block.cache t) j ≡ wanted z (register_at m.cache t) j =
-              ap (λ r. wanted z r j) (miss.by.other_register t n) in
-              omega arith
+          there n = grind (arith, other_tally)
 
           fresh : (b : Bool) → nat_lt j z.block_words ≡ b → bit (b && not (field_at with_block.cache slot j).processed) ≡ bit b
-          fresh true e = ap (λ (x : Field). bit (not x.processed)) (own_field j (ltb-true j z.block_words e))
+          fresh true e = grind (arith, own_field, ltb-true)
           fresh false e = refl
 
           own : tally (is_for slot j) (all_pending with_block.banks) + tally (is_entry_for slot j) m.cache.stack
               ≡ wanted z (register_at with_block.cache slot) j
-          own =
-              let c = own_tally j in
-              let n = none_pending j in
-              let s = n.1 in
-              let w : wanted z (register_at with_block.cache slot) j ≡ bit (nat_lt j z.block_words) =
-              ap (λ (r : Register). bit (r.valid && (nat_lt j z.block_words && not
-              (field_at with_block.cache slot j).processed))) miss.by.own_register ∙ fresh (nat_lt j z.block_words) refl in
-              omega arith
+          own = grind (arith, own_tally, none_pending, fresh)
 
           here : t ≡ slot → tally (is_for t j) (all_pending with_block.banks) + tally (is_entry_for t j) m.cache.stack
               ≡ wanted z (register_at with_block.cache t) j
-          here q = subst (λ x. tally (is_for x j) (all_pending with_block.banks) + tally (is_entry_for x j) m.cache.stack
-              ≡ wanted z (register_at with_block.cache x) j) (sym q) own
+          here q = rw q own
 
       whole_after : (t : ℕ) → (register_at with_block.cache t).valid ≡ true → length (register_at with_block.cache t).fields ≡ z.block_words
-      whole_after t v = ⊎_elim (λ q. ap (λ x. length (register_at with_block.cache x).fields) q
-          ∙ ap (λ (r : Register). length r.fields) miss.by.own_register ∙ length-map-range_with_len _ (first_of z block) z.block_words)
-          (λ n. ap (λ (r : Register). length r.fields) (miss.by.other_register t n)
-          ∙ h.whole_registers t (ap (λ (r : Register). r.valid) (sym (miss.by.other_register t n)) ∙ v)) (cases_eq t slot)
+      whole_after t v = grind (arith, length-map-range_with_len, cases_eq)
 
   by_miss : FetchedBy z m block (fetched_machine z m block)
-  by_miss =
-      let P : List (ℕ × Command) → Type 0 = λ sent. FetchedBy z m block
-      (record { cache = fetched z m.cache block; banks = all_sent m.banks sent }) in
-      subst P (sym miss.sent) (record { sound = with_block_sound; same = with_block_same; same_tags = same_tags })
+  by_miss = grind (arith, with_block_sound, with_block_same, same_tags)
 
 -- a block is fetched where it is absent, a frame may be chosen and a register is free
 pub fetch_ok : (z : Sizes) (lawful : IsLawful z) (m : Machine) → IsSound z m → (block : ℕ) → first_of z block < z.words
     → (is_present m.cache block ≡ false → Able z m.cache block) → FetchedBy z m block (fetched_machine z m block)
 unfolding fetched fetches
-fetch_ok z lawful m h block in_memory able = go (frame_of m.cache block) refl
+fetch_ok z lawful m h block in_memory able = go _ refl
   where
     by : Bool → Machine
     by b = record {
@@ -380,14 +319,12 @@ fetch_ok z lawful m h block in_memory able = go (frame_of m.cache block) refl
     }
 
     go : (o : Option ℕ) → frame_of m.cache block ≡ o → FetchedBy z m block (fetched_machine z m block)
-    go (Some k) e =
-        subst (λ b. FetchedBy z m block (by b)) (sym (ap is_some e))
-        (record { sound = h; same = record { words = λ at. refl; owing = λ tag. refl }; same_tags = refl })
-    go None e = by_miss z lawful m h block e in_memory (misses z m.cache (sound_unit z lawful m h) block e (able (ap is_some e)))
+    go (Some k) e = grind arith
+    go None e = grind (arith, by_miss, misses, sound_unit)
 
 -- the block is present then, with all its words
 pub fetched_hit : (z : Sizes) (lawful : IsLawful z) (m : Machine) → IsSound z m → (block : ℕ)
     → (is_present m.cache block ≡ false → Able z m.cache block) → Hit z (fetched z m.cache block) block
 fetched_hit z lawful m h block able =
-    let f = fetched-by z m.cache (sound_unit z lawful m h) block able in
+    let f = fetched-by z _ (sound_unit z lawful m h) block able in
     record { frame = f.frame; present = f.present; cells = f.cells; fields = f.fields }

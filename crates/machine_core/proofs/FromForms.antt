@@ -1,6 +1,6 @@
 -- Flat memory from the unit's own law of forms: each form is filled in by what the banks will answer.
 use Rattle.std.proofs.Common.{◌≡◌, ℕ, ◌≤◌, Bool, true, false, cond, ◌&&◌, ◌==◌, List, [], ◌∷◌, map, length, Option, Some, None, option_map}
-use Rattle.std.proofs.Common.{find, refl, sym, ap, ap₂, ◌∙◌, subst, eqb-true}
+use Rattle.std.proofs.Common.{find, refl, sym, ap, ap₂, ◌∙◌, eqb-true}
 use Rattle.std.specs.List.{range_with_len}
 use Rattle.std.specs.Option.{option_or}
 use Rattle.std.proofs.lemmas.Bool.{and_parts}
@@ -44,7 +44,7 @@ value-asked (a ∷ answers) slot i l =
     elim ((a.slot == slot) && (a.i == i)) as
     (λ b. value answers (cond b (Byte (byte a.word l)) (Asked slot i l))
     ≡ byte (word_in (cond b (Some a) (find (is_for slot i) answers))) l)
-    [ true ↦ value-byte answers (byte a.word l) | false ↦ value-asked answers slot i l ]
+    [ true ↦ value-byte answers _ | false ↦ value-asked answers slot i l ]
 
 -- two lists fill a form alike that fill each lane alike
 filled-like : (old new : List BankAnswer) (f g : Form) → ((l : Lane) → value new (g l) ≡ value old (f l))
@@ -53,17 +53,17 @@ filled-like old new f g same =
     same_word_from _ _ (λ l. byte_word_of (λ k. value new (g k)) l ∙ same l ∙ sym (byte_word_of (λ k. value old (f k)) l))
 
 pub filled-bytes : (answers : List BankAnswer) (w : Word) → filled_by answers (bytes_of w) ≡ w
-filled-bytes answers w = same_word_from _ _ (λ l. byte_word_of (λ k. value answers (Byte (byte w k))) l ∙ value-byte answers (byte w l))
+filled-bytes answers w = same_word_from _ _ (λ l. byte_word_of (λ k. value answers (Byte (byte w k))) l ∙ value-byte answers _)
 
 -- some lanes of a word, over a form
 pub filled-over : (answers : List BankAnswer) (lanes : Lanes) (w : Word) (f : Form)
     → filled_by answers (over_form lanes w f) ≡ merged (filled_by answers f) w lanes
 filled-over answers lanes w f =
-    same_word_from _ _ (λ l. byte_word_of (λ k. value answers (over_form lanes w f k)) l ∙ over (has lanes l) l
-    ∙ sym (byte-merged (filled_by answers f) w lanes l))
+    same_word_from _ _ (λ l. byte_word_of (λ k. value answers (over_form lanes w f k)) l ∙ over _ l
+    ∙ sym (byte-merged _ w lanes l))
   where
     over : (b : Bool) (l : Lane) → value answers (cond b (Byte (byte w l)) (f l)) ≡ cond b (byte w l) (byte (filled_by answers f) l)
-    over true l = value-byte answers (byte w l)
+    over true l = value-byte answers _
     over false l = sym (byte_word_of (λ k. value answers (f k)) l)
 
 -- a word that is asked for, whole
@@ -75,22 +75,21 @@ filled-asked answers slot i =
 -- an answer that arrives is filled in, and no longer on its way
 pub filled-arrived : (a : BankAnswer) (new old : List BankAnswer) → Adds a new old → tally (is_for a.slot a.i) new ≡ 0
     → (f : Form) → filled_by new (filled_form a.slot a.i a.word f) ≡ filled_by old f
-filled-arrived a new old less none f = filled-like old new f (filled_form a.slot a.i a.word f) (λ l. each (f l))
+filled-arrived a new old less none f = filled-like old new f _ (λ l. each (f l))
   where
     each : (x : LaneForm) → value new (fill a.slot a.i a.word x) ≡ value old x
     each (Byte b) = value-byte new b ∙ sym (value-byte old b)
-    each (Asked s i l) = go (is_for s i a) refl
+    each (Asked s i l) = go _ refl
       where
         go : (t : Bool) → is_for s i a ≡ t → value new (cond t (Byte (byte a.word l)) (Asked s i l)) ≡ value old (Asked s i l)
         go true e =
-            let p = and_parts (a.slot == s) (a.i == i) e in
-            let other = subst (λ n. tally (is_for n a.i) new ≡ 0) (eqb-true a.slot s p.0) none in
-            let none' = subst (λ n. tally (is_for s n) new ≡ 0) (eqb-true a.i i p.1) other in
-            value-byte new (byte a.word l)
-            ∙ sym (value-asked old s i l ∙ ap (λ o. byte (word_in o) l) (Adds-find_same (is_for s i) a new old less e none'))
+            let p = and_parts _ _ e in
+            let other = rw (eqb-true a.slot s p.0) at none in
+            let none' = rw (eqb-true a.i i p.1) at other in
+            value-byte new _
+            ∙ sym (cc (value-asked old s i l, Adds-find_same _ a new old less e none'))
         go false e =
-            value-asked new s i l ∙ ap (λ o. byte (word_in o) l) (sym (Adds-find_other (is_for s i) a new old less e))
-            ∙ sym (value-asked old s i l)
+            cc (value-asked new s i l, Adds-find_other _ a new old less e, value-asked old s i l)
 
 -- whom a lane asks
 abbrev pub AskedOf : (ℕ → Type 0) → LaneForm → Type 0
@@ -104,7 +103,7 @@ filled-other P old new same f asked = filled-like old new f f (λ l. each (f l) 
   where
     each : (x : LaneForm) → AskedOf P x → value new x ≡ value old x
     each (Byte b) p = value-byte new b ∙ sym (value-byte old b)
-    each (Asked s i l) p = value-asked new s i l ∙ ap (λ o. byte (word_in o) l) (same s i p) ∙ sym (value-asked old s i l)
+    each (Asked s i l) p = cc (value-asked new s i l, same s i p, value-asked old s i l)
 
 -- ---- the machine's words
 
@@ -116,7 +115,7 @@ word_from answers backed (Some f) = filled_by answers f
 pub flat_word-form : (z : Sizes) (m : Machine) (at : ℕ)
     → flat_word z m at ≡ word_from (all_pending m.banks) (backing z m at) (form_at z m.cache at)
 unfolding form_at
-flat_word-form z m at = go (frame_of m.cache (block_of z at))
+flat_word-form z m at = go _
   where
     go : (o : Option ℕ) → flat_word_in z m at o ≡ word_from (all_pending m.banks) (backing z m at) (form_where z m.cache at o)
     go None = refl
@@ -127,9 +126,7 @@ pub word_same : (z : Sizes) (m m' : Machine) (at : ℕ) → form_at z m'.cache a
     → all_pending m'.banks ≡ all_pending m.banks
     → backing z m' at ≡ backing z m at → flat_word z m' at ≡ flat_word z m at
 word_same z m m' at e p b =
-    flat_word-form z m' at ∙ ap (word_from (all_pending m'.banks) (backing z m' at)) e
-    ∙ ap₂ (λ ps w. word_from ps w (form_at z m.cache at)) p b
-    ∙ sym (flat_word-form z m at)
+    cc (flat_word-form z m' at, e, ap₂ (λ ps w. word_from ps w (form_at z m.cache at)) p b, flat_word-form z m at)
 
 -- a word of a present block has a form
 pub form_present : (z : Sizes) (c : Cache) (at k : ℕ) → frame_of c (block_of z at) ≡ Some k
@@ -151,7 +148,7 @@ asks_missing P None slot i p l = p
 pub word_asks : (P : ℕ → Type 0) (z : Sizes) (c : Cache) (at : ℕ) → ((s : ℕ) → is_live (register_at c s) ≡ true → P s)
     → (f : Form) → form_at z c at ≡ Some f → (l : Lane) → AskedOf P (f l)
 unfolding form_at
-word_asks P z c at live f e l = go (frame_of c (block_of z at)) e
+word_asks P z c at live f e l = go _ e
   where
     buffer : Word
     buffer = (cell_of c (block_of z at) (place_in z at)).word
@@ -162,26 +159,26 @@ word_asks P z c at live f e l = go (frame_of c (block_of z at)) e
     shown : (o : Option ℕ) → live_for c (block_of z at) ≡ o → AskedOf P (form_in c o (place_in z at) buffer l)
     shown None q = tt
     shown (Some s) q =
-        let p = live s (live_for-some c (block_of z at) s q).0 in
+        let p = live s (live_for-some c _ s q).0 in
         elim (field_at c s i).processed as (λ b. AskedOf P
         (cond b (bytes_of buffer) (over_form (field_at c s i).code buffer (coming_form c s i)) l)) [
           | true ↦ tt
-          | false ↦ asks_over P (field_at c s i).code buffer (coming_form c s i)
-              (asks_missing P (stack_word c.stack s i) s i p) l
+          | false ↦ asks_over P (field_at c s i).code buffer _
+              (asks_missing P (stack_word _ s i) s i p) l
         ]
 
     go : (o : Option ℕ) → form_where z c at o ≡ Some f → AskedOf P (f l)
     go None q = cc
     go (Some k) q =
-        let same : form c (block_of z at) (place_in z at) ≡ f = cc in
-        subst (λ g. AskedOf P (g l)) same (shown (live_for c (block_of z at)) refl)
+        let same : form c _ _ ≡ f = cc in
+        rw (← same) (shown _ refl)
 
 -- what is owed asks valid registers: answers for others change none of it
 pub due_other : (P : ℕ → Type 0) (c : Cache) (old new : List BankAnswer) → ((s i : ℕ) → P s → find (is_for s i) new ≡ find (is_for s i) old)
     → ((s : ℕ) → (register_at c s).valid ≡ true → P s) → (tag : ℕ)
     → option_map (filled_by new) (owed c tag) ≡ option_map (filled_by old) (owed c tag)
 due_other P c old new same valid tag =
-    go (find (λ (r : Reply). r.tag == tag) c.ready) (find (λ (t : Target). t.load.tag == tag) (targets c.registers)) refl
+    go (find (λ (r : Reply). r.tag == tag) _) (find (λ (t : Target). t.load.tag == tag) _) refl
   where
     go : (a : Option Reply) (b : Option Target) → find (λ (t : Target). t.load.tag == tag) (targets c.registers) ≡ b
         → option_map (filled_by new) (option_or (option_map (λ r. bytes_of r.word) a) (option_map (target_form c) b))
@@ -189,8 +186,8 @@ due_other P c old new same valid tag =
     go (Some r) b e = ap Some (filled-bytes new r.word ∙ sym (filled-bytes old r.word))
     go None None e = refl
     go None (Some t) e =
-        let p = valid t.slot (target_valid c.registers (λ x. x.load.tag == tag) t e) in
-        let asks = asks_over P t.load.lanes t.load.held (coming_form c t.slot t.i)
+        let p = valid t.slot (target_valid _ (λ x. x.load.tag == tag) t e) in
+        let asks = asks_over P t.load.lanes t.load.held _
         (asks_missing P (stack_word c.stack t.slot t.i) t.slot t.i p) in
         ap Some (filled-other P old new same (target_form c t) asks)
 

@@ -1,6 +1,6 @@
 -- What every machine of a walk keeps, said of it as it stands.
-use Rattle.std.proofs.Common.{◌≡◌, ◌≢◌, ℕ, zero, suc, Bool, true, false, not, List, [], ◌∷◌, Option, Some, None, is_none, is_some, refl}
-use Rattle.std.proofs.Common.{sym, ap, ◌∙◌, arith, flat_map}
+use Rattle.std.proofs.Common.{◌≡◌, ◌≢◌, ℕ, zero, suc, Bool, not, List, [], ◌∷◌, Option, Some, None, is_none, is_some, refl}
+use Rattle.std.proofs.Common.{◌∙◌, arith, flat_map}
 use Rattle.flat_model.specs.declared.Word.{Word}
 use Rattle.flat_model.specs.declared.Cause.TheVariants.{StrayWord}
 use Rattle.flat_model.specs.declared.Event.{Event}
@@ -14,7 +14,7 @@ use Rattle.cache_unit.specs.declared.Sizes.{Sizes}
 use Rattle.cache_unit.specs.Counts.{tally}
 use Rattle.cache_unit.proofs.FormsLists.{tally-append}
 use Rattle.machine_core.specs.Law.{IsLawful, IsKept, WalkIsKept}
-use Rattle.machine_core.specs.Machine.{Machine, apply, opening, walked, flat_due, flat_of}
+use Rattle.machine_core.specs.Machine.{Machine, apply, flat_of}
 use Rattle.machine_core.specs.Sound.{is_for, own_bank, IsSound, IsBounded}
 use Rattle.machine_core.proofs.Opening.{opening_sound}
 use Rattle.machine_core.proofs.Requests.{flat_in_use}
@@ -50,8 +50,8 @@ kept_whole z lawful m sound bounded =
       one_live = sound.live_apart;
       tags_differ = sound.once;
       tags_fit = bounded.few_tags;
-      tags_owed = λ tag. some (flat_due m tag) ∙ flat_in_use m tag;
-      on_its_way = λ s i. let e = all_at_one (is_for s i) m.banks (own_bank z m s i) (λ b d. elsewhere b s i d) in let c =
+      tags_owed = λ tag. some _ ∙ flat_in_use m tag;
+      on_its_way = λ s i. let e = all_at_one _ _ _ (λ b d. elsewhere b s i d) in let c =
           sound.counted s i in omega arith;
       nowhere_else = elsewhere;
       none_stray = λ b place e. stray b place (apply z m (Arrive b place)).answer e (event_ok z lawful m sound (Arrive b place)).run;
@@ -62,22 +62,11 @@ kept_whole z lawful m sound bounded =
     some (Some x) = refl
 
     elsewhere : (b s i : ℕ) → b ≢ own_bank z m s i → tally (is_for s i) (pending (bank_at m.banks b)) ≡ 0
-    elsewhere b s i d = go (tally (is_for s i) (pending (bank_at m.banks b))) refl
-      where
-        go : (n : ℕ) → tally (is_for s i) (pending (bank_at m.banks b)) ≡ n → n ≡ 0
-        go zero e = refl
-        go (suc n) e = absurd (d (sym (bounded.at_its_bank b s i (omega arith))))
+    elsewhere b s i d = grind arith
 
     stray : (b place : ℕ) (answer : Answer) → answer ≡ Refused StrayWord
         → flat_step (flat_of z m) (Arrive b place) answer ≡ Some (flat_of z (apply z m (Arrive b place)).machine) → ⊥
-    stray b place answer e run =
-        let no : flat_step (flat_of z m) (Arrive b place) answer ≡ None = ap (flat_step (flat_of z m) (Arrive b place)) e in
-        let same : is_some (flat_step (flat_of z m) (Arrive b place) answer) ≡ true = ap is_some run in
-        let never : is_some (flat_step (flat_of z m) (Arrive b place) answer) ≡ false = ap is_some no in
-        cc
+    stray b place answer e run = grind arith
 
 pub walk_is_kept : (z : Sizes) (image : List Word) (events : List Event) → WalkIsKept z image events
-walk_is_kept z image events lawful fits =
-    let h = held_walked z lawful (opening z image)
-    (record { sound = opening_sound z lawful image fits; bounded = opening_bounded z lawful image fits }) events in
-    kept_whole z lawful (walked z (opening z image) events) h.sound h.bounded
+walk_is_kept z image events lawful fits = grind (arith, held_walked, opening_sound, opening_bounded, kept_whole)

@@ -13,9 +13,9 @@ overlaid-split w v (q ∷ rest) at =
     elim (q.at == at) as (λ b. overlaid (cond b (merged w q.word q.lanes) w) rest at
     ≡ merged w (overlaid (cond b (merged v q.word q.lanes) v) rest at)
     (cond b (joined q.lanes (queued_lanes rest at)) (queued_lanes rest at))) [
-      | true ↦ overlaid-split (merged w q.word q.lanes) v rest at
+      | true ↦ overlaid-split _ v rest at
           ∙ ap (λ u. merged u (overlaid v rest at) (queued_lanes rest at)) (sym (merged_held w v q.word q.lanes))
-          ∙ sym (merged_over w (merged v q.word q.lanes) (overlaid v rest at) q.lanes (queued_lanes rest at))
+          ∙ sym (merged_over w _ _ q.lanes _)
           ∙ ap (λ u. merged w u (joined q.lanes (queued_lanes rest at)))
           (sym (overlaid-split (merged v q.word q.lanes) v rest at))
       | false ↦ overlaid-split w v rest at

@@ -1,8 +1,7 @@
 -- Loads, stores, prefetches and evictions.
 use Rattle.std.proofs.Common.{◌≡◌, ℕ, zero, suc, ◌+◌, ◌/◌, ◌%◌, ◌<◌, ◌≤◌, Bool, true, false, cond, not, ◌&&◌, ◌||◌, ◌==◌, nat_lt, nat_le}
 use Rattle.std.proofs.Common.{List, [], ◌∷◌, map, length, set, Option, Some, None, option_map, find, filter, is_some, is_none, refl, sym}
-use Rattle.std.proofs.Common.{ap, ap₂, ◌∙◌, subst, arith, ⊎_elim, ltb-true, lt-ltb, add-zero, zero-add, eq-eqb, ne_eqb, eqb-true}
-use Rattle.std.proofs.Common.{div-add-mod'}
+use Rattle.std.proofs.Common.{ap, ap₂, ◌∙◌, arith, ⊎_elim, ltb-true, lt-ltb, add-zero, zero-add, eq-eqb, ne_eqb, eqb-true}
 use Rattle.std.specs.List.{range_with_len, list_any, list_all}
 use Rattle.std.proofs.lemmas.Bool.{cases_eq, not-false, leb-false}
 use Rattle.std.proofs.lemmas.List.FromFn.{length-map-range_with_len}
@@ -14,8 +13,8 @@ use Rattle.flat_model.specs.declared.Cause.TheVariants.{QueueFull, BankFull, Not
 use Rattle.flat_model.specs.declared.Event.{Event}
 use Rattle.flat_model.specs.declared.Event.TheVariants.{Load, Store, Prefetch, Evict}
 use Rattle.flat_model.specs.declared.Answer.TheVariants.{Accepted, Refused}
-use Rattle.flat_model.specs.Words.{merged, has_any, zero_word}
-use Rattle.flat_model.specs.Flat.{word_at, stored, with_due, flat_after, may_answer, load_refusals, store_refusals, prefetch_refusals}
+use Rattle.flat_model.specs.Words.{merged, has_any}
+use Rattle.flat_model.specs.Flat.{word_at, with_due, flat_after, may_answer, load_refusals, store_refusals, prefetch_refusals}
 use Rattle.flat_model.specs.Causes.{is_of_a_load, is_of_a_miss}
 use Rattle.flat_model.proofs.Lanewise.{merged_over}
 use Rattle.memory_banks.specs.declared.BankAnswer.{BankAnswer}
@@ -24,15 +23,15 @@ use Rattle.write_queue.specs.Queue.{overlaid}
 use Rattle.cache_directory.specs.declared.Cell.{Cell}
 use Rattle.cache_unit.specs.declared.Sizes.{Sizes}
 use Rattle.cache_unit.specs.State.{Cache, frame_of, is_present, cell_of, tags, block_of, place_in, first_of, is_pending}
-use Rattle.cache_unit.specs.Causes.{first_cause, ways_of, choose, found, targets_full, is_in_use, miss_causes, lacks_places, lacks_room}
+use Rattle.cache_unit.specs.Causes.{first_cause, ways_of, found, targets_full, is_in_use, miss_causes, lacks_places}
 use Rattle.cache_unit.specs.Causes.{load_cause, store_cause, prefetch_cause, evict_cause}
 use Rattle.cache_unit.specs.Steps.{load_step, store_step, prefetch_step, evict_step, Stepped, unless, fetched, fetches, loaded, written}
 use Rattle.cache_unit.specs.Steps.{evicted_from}
-use Rattle.cache_unit.specs.Forms.{Form, over_form, form as form_of, filled_by, owed}
+use Rattle.cache_unit.specs.Forms.{Form, form as form_of, filled_by}
 use Rattle.cache_unit.specs.FormLaws.{form_at}
 use Rattle.cache_unit.specs.Counts.{tally, bit}
 use Rattle.cache_unit.proofs.FormsLists.{Adds, Adds-tally, Adds-length, tally-filter}
-use Rattle.cache_unit.proofs.FormsSame.{Due, has_tag, dues, due_in, owed-due, dues-tally, tags-dues}
+use Rattle.cache_unit.proofs.FormsSame.{Due, dues, due_in, owed-due, dues-tally, tags-dues}
 use Rattle.cache_unit.proofs.FormsChoosing.{Able}
 use Rattle.cache_unit.proofs.FormsFetching.{range_at}
 use Rattle.cache_unit.proofs.FormsRequests.{none-counted}
@@ -44,23 +43,23 @@ use Rattle.machine_core.specs.Machine.{Machine, backing, joined_with, flat_word,
 use Rattle.machine_core.specs.Sound.{IsSound}
 use Rattle.machine_core.proofs.FromForms.{filled-over, word_from, flat_word-form, word_same, form_present, flat_of-same, Kept, KeptBy}
 use Rattle.machine_core.proofs.Units.{bit-le, kept_word, kept_same, cell_frames, sound_beside}
-use Rattle.machine_core.proofs.Evicting.{gone, gone_same, gone_sound, gone_tags}
-use Rattle.machine_core.proofs.Fetching.{fetched_machine, FetchedBy, fetch_ok, fetched_hit}
+use Rattle.machine_core.proofs.Evicting.{gone_same, gone_sound, gone_tags}
+use Rattle.machine_core.proofs.Fetching.{FetchedBy, fetch_ok, fetched_hit}
 
 -- ---- memory as a list
 
 pub mem_length : (z : Sizes) (m : Machine) → length (flat_of z m).mem ≡ z.words
-mem_length z m = length-map-range_with_len (flat_word z m) 0 z.words
+mem_length z m = length-map-range_with_len _ 0 _
 
 pub mem_at : (z : Sizes) (m : Machine) (at : ℕ) → at < z.words → word_at (flat_of z m).mem at ≡ flat_word z m at
-mem_at z m at l = range_at (flat_word z m) zero_word 0 z.words at l ∙ ap (flat_word z m) (omega arith)
+mem_at z m at l = grind (arith, range_at)
 
 -- a list made from numbers, of which one has another value
 range_set : (f g : ℕ → Word) (a n k : ℕ) → ((j : ℕ) → (j ≡ a + k → ⊥) → g j ≡ f j) → k < n
     → map g (range_with_len a n) ≡ set (map f (range_with_len a n)) k (g (a + k))
 range_set f g a zero k others l = absurd (omega arith)
 range_set f g a (suc n) zero others l =
-    ap₂ (λ (x : Word) xs. x ∷ xs) (ap g (sym (add-zero a))) (rest (a + 1) n (omega arith))
+    ap₂ (λ (x : Word) xs. x ∷ xs) (ap g (sym (add-zero a))) (rest _ n (omega arith))
   where
     rest : (b c : ℕ) → a < b → map g (range_with_len b c) ≡ map f (range_with_len b c)
     rest b zero q = refl
@@ -68,21 +67,14 @@ range_set f g a (suc n) zero others l =
 range_set f g a (suc n) (suc k) others l =
     let e : a + 1 + k ≡ a + suc k = omega arith in
     ap₂ (λ (x : Word) xs. x ∷ xs) (others a (λ q. omega arith))
-    (range_set f g (a + 1) n k (λ j ne. others j (λ q. ne (q ∙ sym e))) (omega arith)
-    ∙ ap (λ x. set (map f (range_with_len (a + 1) n)) k (g x)) e)
+    (cc (range_set f g (a + 1) n k (λ j ne. others j (λ q. ne (q ∙ sym e))) (omega arith), e))
 
 -- ---- refusals
 
 -- a refusal that may come changes nothing
 refusal : (z : Sizes) (m : Machine) (event : Event) (cause : Cause) → IsSound z m → may_answer (flat_of z m) event (Refused cause) ≡ true
     → flat_after (flat_of z m) event (Refused cause) ≡ flat_of z m → KeptBy z m event (record { answer = Refused cause; machine = m })
-refusal z m event cause h may stays =
-    record {
-      sound = h;
-      run = ap (λ b. cond b (Some (flat_after (flat_of z m) event (Refused cause))) None) may
-          ∙ ap Some stays;
-      few = λ l. l;
-    }
+refusal z m event cause h may stays = grind arith
 
 -- ---- tags
 
@@ -90,9 +82,9 @@ refusal z m event cause h may stays =
 pub flat_in_use : (m : Machine) (tag : ℕ) → not (is_none (flat_due m tag)) ≡ is_in_use m.cache tag
 unfolding due_in
 flat_in_use m tag =
-    ap (λ o. not (is_none (option_map (filled_by (all_pending m.banks)) o))) (owed-due m.cache tag)
-    ∙ owing (find (has_tag tag) (dues m.cache))
-    ∙ sym (any-find (has_tag tag) (dues m.cache)) ∙ sym (any-map (λ t. t == tag) (λ (d : Due). d.tag) (dues m.cache))
+    ap (λ o. not (is_none (option_map (filled_by (all_pending m.banks)) o))) (owed-due _ tag)
+    ∙ owing _
+    ∙ sym (any-find _ (dues m.cache)) ∙ sym (any-map (λ t. t == tag) (λ (d : Due). d.tag) _)
     ∙ ap (list_any (λ t. t == tag)) (tags-dues m.cache)
   where
     owing : (o : Option Due) → not (is_none (option_map (filled_by (all_pending m.banks)) (option_map (λ (d : Due). d.form) o))) ≡ is_some o
@@ -105,22 +97,22 @@ flat_in_use m tag =
         [ true ↦ refl | false ↦ any-find p xs ]
 
 flat_not_due : (m : Machine) (tag : ℕ) → is_in_use m.cache tag ≡ false → is_none (flat_due m tag) ≡ true
-flat_not_due m tag e = not-false (is_none (flat_due m tag)) (flat_in_use m tag ∙ e)
+flat_not_due m tag e = not-false _ (flat_in_use m tag ∙ e)
 
 -- no tag is owed twice, where a new one is added
 once_more : (tag : ℕ) (xs ys : List ℕ) → Adds tag xs ys → tally (λ t. t == tag) xs ≡ 0 → ((t : ℕ) → tally (λ x. x == t) xs ≤ 1) → (t : ℕ)
     → tally (λ x. x == t) ys ≤ 1
-once_more tag xs ys more none once t = go (tag == t) refl
+once_more tag xs ys more none once t = go _ refl
   where
     go : (b : Bool) → (tag == t) ≡ b → tally (λ x. x == t) ys ≤ 1
     go true e =
         let n = Adds-tally (λ x. x == t) tag xs ys more in
-        let k = subst (λ u. tally (λ x. x == u) xs ≡ 0) (eqb-true tag t e) none in
+        let k = rw (eqb-true tag t e) at none in
         let one = bit-le (tag == t) in
         omega arith
     go false e =
         let n = Adds-tally (λ x. x == t) tag xs ys more in
-        let no : bit (tag == t) ≡ 0 = ap bit e in
+        let no = ap bit e in
         let k = once t in
         omega arith
 
@@ -128,7 +120,7 @@ once_more tag xs ys more none once t = go (tag == t) refl
 
 -- a block begins in memory where one of its words is there
 pub starts_in : (z : Sizes) (at : ℕ) → at < z.words → first_of z (block_of z at) < z.words
-starts_in z at l = let e = div-add-mod' at z.block_words in omega arith
+starts_in z at l = grind arith
 
 -- ---- requests
 
@@ -139,8 +131,8 @@ miss_or : (z : Sizes) (m : Machine) (block : ℕ) (event : Event) (step : Steppe
     → KeptBy z m event (joined_with m.banks (unless
     (first_cause (miss_causes z (room_in z.bank_queue m.banks) m.cache block)) m.cache step))
 miss_or z m block event step h refuse go_on =
-    go (length (filter (λ r. r.valid) m.cache.registers) == z.regs) refl (list_all (is_pending m.cache) (ways_of z block)) refl
-    (lacks_places z m.cache (choose z m.cache block)) (lacks_room z (room_in z.bank_queue m.banks) block)
+    go (length (filter (λ r. r.valid) m.cache.registers) == z.regs) refl _ refl
+    _ _
   where
     go : (a : Bool) → (length (filter (λ r. r.valid) m.cache.registers) == z.regs) ≡ a → (b : Bool)
         → list_all (is_pending m.cache) (ways_of z block) ≡ b → (c d : Bool)
@@ -169,34 +161,34 @@ module _ (z : Sizes) (lawful : IsLawful z) (m : Machine) (h : IsSound z m) where
   accept_load tag at l unused room m2 f hit =
       let c = m2.cache in
       let ps = all_pending m2.banks in
-      let none : length (filter (λ t. t == tag) (tags c)) ≡ 0 = ap (λ ts. length (filter (λ t. t == tag) ts)) f.same_tags
-      ∙ none-counted (λ t. t == tag) (tags m.cache) unused in
+      let none = ap (λ ts. length (filter (λ t. t == tag) ts)) f.same_tags
+      ∙ none-counted (λ t. t == tag) _ unused in
       let by = loaded-by z lawful.some_words c tag at hit (dues-tally c tag ∙ none) in
       let m3 : Machine = record {
-        cache = loaded c tag (place_in z at) (cell_of c (block_of z at) (place_in z at)).word
-            (found c (block_of z at) (place_in z at));
+        cache = loaded c tag _ (cell_of c _ _).word
+            _;
         banks = m2.banks;
       } in
       let back : (a : ℕ) → backing z m3 a ≡ backing z m2 a =
       λ a. ap (λ q. overlaid (word_at (words_after (bank_at m2.banks (a % z.banks))) (a / z.banks)) q a) by.beside.queue in
       let words : (a : ℕ) → flat_word z m3 a ≡ flat_word z m2 a = λ a. word_same z m2 m3 a (by.words a) refl (back a) in
       let form = form_present z c at hit.frame hit.present in
-      let told : option_map (filled_by ps) (form_at z c at) ≡ Some (word_at (flat_of z m).mem at) = ap (option_map (filled_by ps)) form
+      let told = ap (option_map _) form
       ∙ ap (λ o. Some (word_from ps (backing z m2 at) o)) (sym form)
       ∙ ap Some (sym (flat_word-form z m2 at) ∙ f.same.words at ∙ sym (mem_at z m at l)) in
-      let gained : (t : ℕ) → flat_due m3 t ≡ with_due (flat_due m) tag (Some (word_at (flat_of z m).mem at)) t =
-      λ t. ap (option_map (filled_by ps)) (by.owing t) ∙ but ps (t == tag) (form_at z c at) (owed c t)
+      let gained : (t : ℕ) → flat_due m3 t ≡ with_due (flat_due m) tag _ t =
+      λ t. ap (option_map _) (by.owing t) ∙ but ps _ _ _
       ∙ ap₂ (λ o d. cond (t == tag) o d) told (f.same.owing t) in
-      let after : flat_after (flat_of z m) (Load tag at) Accepted ≡ flat_of z m3 =
+      let after : flat_after _ (Load tag at) Accepted ≡ flat_of z m3 =
       λ i. record { mem = map (λ a. sym (words a ∙ f.same.words a) i) (range_with_len 0 z.words); due = λ t. sym (gained t) i } in
-      let may : may_answer (flat_of z m) (Load tag at) Accepted ≡ true =
+      let may =
       ap₂ (λ x y. nat_lt at x && y) (mem_length z m) (flat_not_due m tag unused) ∙ ap (λ b. b && true) (lt-ltb at z.words l) in
-      let once = once_more tag (tags c) (tags m3.cache) by.more (sym (tally-filter (λ t. t == tag) (tags c)) ∙ none) f.sound.once in
+      let once = once_more tag _ _ by.more (sym (tally-filter (λ t. t == tag) _) ∙ none) f.sound.once in
       record {
-        sound = sound_beside z m2 m3.cache f.sound by.beside once
-            (λ a. kept_same z m2 m3 f.sound a (words a) (cell_frames c m3.cache by.frames (block_of z a) (place_in z a)) (back a));
-        run = ap (λ b. cond b (Some (flat_after (flat_of z m) (Load tag at) Accepted)) None) may ∙ ap Some after;
-        few = λ q. (let k = Adds-length tag (tags c) (tags m3.cache) by.more in let s = ap length f.same_tags in omega arith);
+        sound = sound_beside z m2 _ f.sound by.beside once
+            (λ a. kept_same z m2 m3 f.sound a (words a) (cell_frames c m3.cache by.frames _ _) (back a));
+        run = grind arith;
+        few = λ q. (let k = Adds-length tag _ _ by.more in let s = ap length f.same_tags in omega arith);
       }
     where
       but : (ps : List BankAnswer) (b : Bool) (x y : Option Form)
@@ -206,18 +198,17 @@ module _ (z : Sizes) (lawful : IsLawful z) (m : Machine) (h : IsSound z m) where
 
   load_may : (tag at : ℕ) (cause : Cause) (x y : Bool) → nat_lt at z.words ≡ x → is_in_use m.cache tag ≡ y
       → load_refusals x y cause ≡ true → may_answer (flat_of z m) (Load tag at) (Refused cause) ≡ true
-  load_may tag at cause x y p q e =
-      ap₂ (λ a b. load_refusals a b cause) (ap (nat_lt at) (mem_length z m) ∙ p) (flat_in_use m tag ∙ q) ∙ e
+  load_may tag at cause x y p q e = grind (arith, mem_length, flat_in_use)
 
   refuse_load : (tag at : ℕ) (cause : Cause) (x y : Bool) → nat_lt at z.words ≡ x → is_in_use m.cache tag ≡ y
       → load_refusals x y cause ≡ true → KeptBy z m (Load tag at) (record { answer = Refused cause; machine = m })
-  refuse_load tag at cause x y p q e = refusal z m (Load tag at) cause h (load_may tag at cause x y p q e) refl
+  refuse_load tag at cause x y p q e = refusal z m _ cause h (load_may tag at cause x y p q e) refl
 
   pub load_ok : (tag at : ℕ) → Kept z m (Load tag at)
   unfolding load_step load_cause
   load_ok tag at =
-      go (nat_lt at z.words) refl (is_in_use m.cache tag) refl (nat_le z.replies (length (tags m.cache))) refl
-      (is_present m.cache (block_of z at)) refl
+      go _ refl _ refl _ refl
+      _ refl
     where
       block : ℕ
       block = block_of z at
@@ -239,8 +230,8 @@ module _ (z : Sizes) (lawful : IsLawful z) (m : Machine) (h : IsSound z m) where
           → (is_present m.cache (block_of z at) ≡ false → Able z m.cache (block_of z at))
           → KeptBy z m (Load tag at) (joined_with m.banks step)
       accept l u r able =
-          accept_load tag at l u (leb-false z.replies (length (tags m.cache)) r) (fetched_machine z m (block_of z at))
-          (fetch_ok z lawful m h (block_of z at) (starts_in z at l) able) (fetched_hit z lawful m h (block_of z at) able)
+          accept_load tag at l u (leb-false _ _ r) _
+          (fetch_ok z lawful m h _ (starts_in z at l) able) (fetched_hit z lawful m h _ able)
 
       four : Bool
       four = targets_full m.cache (place_in z at) (found m.cache (block_of z at) (place_in z at))
@@ -267,7 +258,7 @@ module _ (z : Sizes) (lawful : IsLawful z) (m : Machine) (h : IsSound z m) where
           by_four true = refuse_load tag at TargetsFull true false p u refl
           by_four false = accept l u r (λ q. cc)
       present_or l p u r false e =
-          miss_or z m (block_of z at) (Load tag at) step h (λ cause q. refuse_load tag at cause true false p u (of_a_load cause q))
+          miss_or z m _ _ step h (λ cause q. refuse_load tag at cause true false p u (of_a_load cause q))
           (λ able. accept l u r (λ q. able))
 
       go : (x : Bool) → nat_lt at z.words ≡ x → (y : Bool) → is_in_use m.cache tag ≡ y → (v : Bool)
@@ -294,53 +285,52 @@ module _ (z : Sizes) (lawful : IsLawful z) (m : Machine) (h : IsSound z m) where
       let c = m2.cache in
       let ps = all_pending m2.banks in
       let by = stored-by z lawful.some_words c at hit word lanes in
-      let m3 : Machine = record { cache = written c (block_of z at) (place_in z at) word lanes; banks = m2.banks } in
+      let m3 : Machine = record { cache = written c _ _ word lanes; banks = m2.banks } in
       let back : (a : ℕ) → backing z m3 a ≡ backing z m2 a =
       λ a. ap (λ q. overlaid (word_at (words_after (bank_at m2.banks (a % z.banks))) (a / z.banks)) q a) by.beside.queue in
-      let over = option_map (over_form lanes word) (form_at z c at) in
+      let over = option_map _ _ in
       let others : (a : ℕ) → (a ≡ at → ⊥) → flat_word z m3 a ≡ flat_word z m2 a =
       λ a n. word_same z m2 m3 a (by.words a ∙ ap (λ b. cond b over (form_at z c a)) (ne_eqb a at n)) refl (back a) in
       let form = form_present z c at hit.frame hit.present in
-      let was : flat_word z m2 at ≡ filled_by ps (form_of c (block_of z at) (place_in z at)) = flat_word-form z m2 at
-      ∙ ap (word_from ps (backing z m2 at)) form in
-      let there : flat_word z m3 at ≡ merged (flat_word z m2 at) word lanes = flat_word-form z m3 at
-      ∙ ap (word_from ps (backing z m3 at)) (by.words at ∙ ap (λ b. cond b over (form_at z c at)) (eq-eqb at at refl)
-      ∙ ap (option_map (over_form lanes word)) form) ∙ filled-over ps lanes word (form_of c (block_of z at) (place_in z at))
+      let was = flat_word-form z m2 at
+      ∙ ap (word_from ps _) form in
+      let there = flat_word-form z m3 at
+      ∙ ap (word_from ps _) (by.words at ∙ ap (λ b. cond b over (form_at z c at)) (eq-eqb at at refl)
+      ∙ ap (option_map _) form) ∙ filled-over ps lanes word (form_of c _ _)
       ∙ ap (λ u. merged u word lanes) (sym was) in
-      let old = cell_of c (block_of z at) (place_in z at) in
-      let kept_at : flat_word z m3 at ≡ kept_word z m3 at = there ∙ ap (λ u. merged u word lanes) (f.sound.kept at)
-      ∙ sym (merged_over (backing z m2 at) old.word word old.dirty lanes)
-      ∙ ap₂ (λ w (x : Cell). merged w x.word x.dirty) (sym (back at)) (sym by.cell) in
+      let old = cell_of c _ _ in
+      let kept_at = there ∙ ap (λ u. merged u word lanes) (f.sound.kept at)
+      ∙ sym (merged_over _ old.word word old.dirty lanes)
+      ∙ ap₂ (λ w (x : Cell). merged w x.word x.dirty) (cc) (sym by.cell) in
       let kept : (a : ℕ) → flat_word z m3 a ≡ kept_word z m3 a =
-      λ a. ⊎_elim (λ e. subst (λ x. flat_word z m3 x ≡ kept_word z m3 x) (sym e) kept_at)
+      λ a. ⊎_elim (λ e. rw e kept_at)
       (λ n. kept_same z m2 m3 f.sound a (others a n) (by.cells a n) (back a)) (cases_eq a at) in
-      let mem_there : flat_word z m3 (0 + at) ≡ merged (word_at (flat_of z m).mem at) word lanes = ap (flat_word z m3) (zero-add at)
+      let mem_there = ap (flat_word z m3) (zero-add at)
       ∙ there ∙ ap (λ u. merged u word lanes) (f.same.words at ∙ sym (mem_at z m at l)) in
       let mem_other : (j : ℕ) → (j ≡ 0 + at → ⊥) → flat_word z m3 j ≡ flat_word z m j = λ j n. others j (λ q. n (q ∙ sym (zero-add at)))
       ∙ f.same.words j in
-      let mem : map (flat_word z m3) (range_with_len 0 z.words) ≡ stored (flat_of z m).mem at word lanes =
-      range_set (flat_word z m) (flat_word z m3) 0 z.words at mem_other l ∙ ap (set (flat_of z m).mem at) mem_there in
-      let owing : (t : ℕ) → flat_due m3 t ≡ flat_due m t = λ t. ap (option_map (filled_by ps)) (by.owing t) ∙ f.same.owing t in
-      let after : flat_after (flat_of z m) (Store at word lanes) Accepted ≡ flat_of z m3 =
+      let mem =
+      range_set _ _ 0 _ at mem_other l ∙ ap (set (flat_of z m).mem at) mem_there in
+      let owing : (t : ℕ) → flat_due m3 t ≡ flat_due m t = λ t. ap (option_map _) (by.owing t) ∙ f.same.owing t in
+      let after : flat_after _ (Store at word lanes) Accepted ≡ flat_of z m3 =
       λ i. record { mem = sym mem i; due = λ t. sym (owing t) i } in
-      let may : may_answer (flat_of z m) (Store at word lanes) Accepted ≡ true = ap₂ (λ x y. nat_lt at x && y) (mem_length z m) any
+      let may = ap₂ (λ x y. nat_lt at x && y) (mem_length z m) any
       ∙ ap (λ b. b && true) (lt-ltb at z.words l) in
-      let same_tags : tags m3.cache ≡ tags m.cache = by.same_tags ∙ f.same_tags in
+      let same_tags = by.same_tags ∙ f.same_tags in
       record {
-        sound = sound_beside z m2 m3.cache f.sound by.beside
-            (λ tag. subst (λ ts. tally (λ t. t == tag) ts ≤ 1) (sym by.same_tags) (f.sound.once tag)) kept;
-        run = ap (λ b. cond b (Some (flat_after (flat_of z m) (Store at word lanes) Accepted)) None) may ∙ ap Some after;
-        few = λ q. subst (λ ts. length ts ≤ z.replies) (sym same_tags) q;
+        sound = sound_beside z m2 _ f.sound by.beside
+            (λ tag. rw (sym by.same_tags) at (f.sound.once tag)) kept;
+        run = grind arith;
+        few = grind arith;
       }
 
   refuse_store : (at : ℕ) (word : Word) (lanes : Lanes) (cause : Cause) (x y : Bool) → nat_lt at z.words ≡ x → has_any lanes ≡ y
       → store_refusals x y cause ≡ true → KeptBy z m (Store at word lanes) (record { answer = Refused cause; machine = m })
-  refuse_store at word lanes cause x y p q e =
-      refusal z m (Store at word lanes) cause h (ap₂ (λ a b. store_refusals a b cause) (ap (nat_lt at) (mem_length z m) ∙ p) q ∙ e) refl
+  refuse_store at word lanes cause x y p q e = grind (arith, refusal, mem_length)
 
   pub store_ok : (at : ℕ) (word : Word) (lanes : Lanes) → Kept z m (Store at word lanes)
   unfolding store_step store_cause
-  store_ok at word lanes = go (nat_lt at z.words) refl (has_any lanes) refl (is_present m.cache (block_of z at)) refl
+  store_ok at word lanes = go _ refl _ refl _ refl
     where
       step : Stepped
       step =
@@ -353,8 +343,8 @@ module _ (z : Sizes) (lawful : IsLawful z) (m : Machine) (h : IsSound z m) where
       accept : at < z.words → has_any lanes ≡ true → (is_present m.cache (block_of z at) ≡ false → Able z m.cache (block_of z at))
           → KeptBy z m (Store at word lanes) (joined_with m.banks step)
       accept l u able =
-          accept_store at word lanes l u (fetched_machine z m (block_of z at))
-          (fetch_ok z lawful m h (block_of z at) (starts_in z at l) able) (fetched_hit z lawful m h (block_of z at) able)
+          accept_store at word lanes l u _
+          (fetch_ok z lawful m h _ (starts_in z at l) able) (fetched_hit z lawful m h _ able)
 
       go : (x : Bool) → nat_lt at z.words ≡ x → (y : Bool) → has_any lanes ≡ y → (b : Bool) → is_present m.cache (block_of z at) ≡ b
           → KeptBy z m (Store at word lanes) (joined_with m.banks
@@ -364,7 +354,7 @@ module _ (z : Sizes) (lawful : IsLawful z) (m : Machine) (h : IsSound z m) where
       go true p false q b e = refuse_store at word lanes NoLanes true false p q refl
       go true p true q true e = accept (ltb-true at z.words p) q (λ r. cc)
       go true p true q false e =
-          miss_or z m (block_of z at) (Store at word lanes) step h
+          miss_or z m _ _ step h
           (λ cause r. refuse_store at word lanes cause true true p q r)
           (λ able. accept (ltb-true at z.words p) q (λ r. able))
 
@@ -372,26 +362,18 @@ module _ (z : Sizes) (lawful : IsLawful z) (m : Machine) (h : IsSound z m) where
 
   refuse_prefetch : (at : ℕ) (cause : Cause) (x : Bool) → nat_lt at z.words ≡ x → prefetch_refusals x cause ≡ true
       → KeptBy z m (Prefetch at) (record { answer = Refused cause; machine = m })
-  refuse_prefetch at cause x p e =
-      refusal z m (Prefetch at) cause h (ap (λ a. prefetch_refusals a cause) (ap (nat_lt at) (mem_length z m) ∙ p) ∙ e) refl
+  refuse_prefetch at cause x p e = grind (arith, refusal, mem_length)
 
   pub prefetch_ok : (at : ℕ) → Kept z m (Prefetch at)
   unfolding prefetch_step prefetch_cause
-  prefetch_ok at = go (nat_lt at z.words) refl (is_present m.cache (block_of z at)) refl
+  prefetch_ok at = go _ refl _ refl
     where
       step : Stepped
       step = record { answer = Accepted; cache = fetched z m.cache (block_of z at); sent = fetches z m.cache (block_of z at) }
 
       accept : at < z.words → (is_present m.cache (block_of z at) ≡ false → Able z m.cache (block_of z at))
           → KeptBy z m (Prefetch at) (joined_with m.banks step)
-      accept l able =
-          let f = fetch_ok z lawful m h (block_of z at) (starts_in z at l) able in
-          record {
-            sound = f.sound;
-            run = ap (λ b. cond b (Some (flat_of z m)) None) (ap (nat_lt at) (mem_length z m) ∙ lt-ltb at z.words l)
-                ∙ ap Some (sym (flat_of-same z m (fetched_machine z m (block_of z at)) f.same));
-            few = λ q. subst (λ ts. length ts ≤ z.replies) (sym f.same_tags) q;
-          }
+      accept l able = grind (arith, fetch_ok, starts_in, mem_length, lt-ltb, flat_of-same)
 
       go : (x : Bool) → nat_lt at z.words ≡ x → (b : Bool) → is_present m.cache (block_of z at) ≡ b
           → KeptBy z m (Prefetch at) (joined_with m.banks
@@ -400,14 +382,14 @@ module _ (z : Sizes) (lawful : IsLawful z) (m : Machine) (h : IsSound z m) where
       go false p b e = refuse_prefetch at OutOfRange false p refl
       go true p true e = accept (ltb-true at z.words p) (λ r. cc)
       go true p false e =
-          miss_or z m (block_of z at) (Prefetch at) step h (λ cause r. refuse_prefetch at cause true p r)
+          miss_or z m _ _ step h (λ cause r. refuse_prefetch at cause true p r)
           (λ able. accept (ltb-true at z.words p) (λ r. able))
 
   -- ---- evictions
 
   pub evict_ok : (block : ℕ) → Kept z m (Evict block)
   unfolding evict_step evict_cause
-  evict_ok block = go (nat_lt (first_of z block) z.words) (frame_of m.cache block) refl
+  evict_ok block = go _ _ refl
     where
       accept : (o : Option ℕ) → frame_of m.cache block ≡ o
           → KeptBy z m (Evict block) (record {
@@ -415,25 +397,20 @@ module _ (z : Sizes) (lawful : IsLawful z) (m : Machine) (h : IsSound z m) where
             machine =
                 record { cache = evicted_from z m.cache block o; banks = m.banks };
           })
-      accept None e = record { sound = h; run = refl; few = λ l. l }
-      accept (Some f) e =
-          record {
-            sound = gone_sound z lawful m h block f e;
-            run = ap Some (sym (flat_of-same z m (gone z lawful m h block f e) (gone_same z lawful m h block f e)));
-            few = λ l. subst (λ ts. length ts ≤ z.replies) (sym (gone_tags z lawful m h block f e)) l;
-          }
+      accept None e = grind arith
+      accept (Some f) e = grind (arith, gone_sound, flat_of-same, gone_same, gone_tags)
 
       go : (x : Bool) (o : Option ℕ) → frame_of m.cache block ≡ o
           → KeptBy z m (Evict block) (joined_with m.banks
           (unless (cond (not x) (Some OutOfRange) (cond (not (is_some o)) (Some NotPresent)
           (cond (lacks_places z m.cache o) (Some QueueFull) None))) m.cache
           (record { answer = Accepted; cache = evicted_from z m.cache block o; sent = [] })))
-      go false o e = refusal z m (Evict block) OutOfRange h refl refl
-      go true None e = refusal z m (Evict block) NotPresent h refl refl
-      go true (Some f) e = by_room (lacks_places z m.cache (Some f))
+      go false o e = grind arith
+      go true None e = grind arith
+      go true (Some f) e = by_room _
         where
           by_room : (b : Bool) → KeptBy z m (Evict block)
               (joined_with m.banks (unless (cond b (Some QueueFull) None) m.cache
               (record { answer = Accepted; cache = evicted_from z m.cache block (Some f); sent = [] })))
-          by_room true = refusal z m (Evict block) QueueFull h refl refl
-          by_room false = accept (Some f) e
+          by_room true = grind arith
+          by_room false = accept _ e

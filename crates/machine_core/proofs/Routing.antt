@@ -1,7 +1,7 @@
 -- Each read and each answer is at the bank of its word.
-use Rattle.std.proofs.Common.{◌≡◌, ℕ, zero, suc, ◌+◌, ◌-◌, ◌*◌, ◌/◌, ◌%◌, ◌<◌, ◌≤◌, Bool, true, false, cond, not, ◌&&◌, ◌==◌, nat_lt, List}
-use Rattle.std.proofs.Common.{[], ◌∷◌, ◌++◌, length, get_or, set, Option, Some, None, is_none, le_refl, slice_get, refl, sym, ap, ◌∙◌}
-use Rattle.std.proofs.Common.{subst, arith, ◌⊎◌, inl, inr, ⊎_elim, get_or-set_same, get_or-set_other, eqb-true}
+use Rattle.std.proofs.Common.{◌≡◌, ℕ, zero, suc, ◌+◌, ◌-◌, ◌*◌, ◌/◌, ◌%◌, ◌<◌, ◌≤◌, Bool, true, false, cond, ◌&&◌, ◌==◌, List}
+use Rattle.std.proofs.Common.{[], ◌∷◌, ◌++◌, length, get_or, set, Option, Some, None, le_refl, slice_get, refl, sym, ap, ◌∙◌}
+use Rattle.std.proofs.Common.{arith, ◌⊎◌, inl, inr, ⊎_elim, get_or-set_same, get_or-set_other, eqb-true}
 use Rattle.std.specs.List.{range_with_len, list_all, remove}
 use Rattle.std.proofs.lemmas.Bool.{cases_eq, cases_lt, and_parts}
 use Rattle.std.proofs.lemmas.List.{get_or_past, set_past}
@@ -13,31 +13,29 @@ use Rattle.flat_model.specs.declared.Cause.TheVariants.{BankFull}
 use Rattle.flat_model.specs.declared.Event.{Event}
 use Rattle.flat_model.specs.declared.Event.TheVariants.{Load, Store, Prefetch, Evict, Drain, Serve, Arrive, Process, Take}
 use Rattle.flat_model.specs.declared.Answer.TheVariants.{Moved, Refused}
-use Rattle.flat_model.specs.Words.{joined}
 use Rattle.memory_banks.specs.declared.Command.{Command}
 use Rattle.memory_banks.specs.declared.Command.TheVariants.{Read, Write}
 use Rattle.memory_banks.specs.declared.BankAnswer.{BankAnswer}
-use Rattle.memory_banks.specs.Banks.{Bank, bank_at, no_bank, pending, all_pending, answers_to, with_command, served, room_in, all_sent}
+use Rattle.memory_banks.specs.Banks.{Bank, bank_at, no_bank, pending, all_pending, answers_to, with_command, room_in, all_sent}
 use Rattle.input_stack.specs.declared.Entry.{Entry}
 use Rattle.write_queue.specs.declared.Queued.{Queued}
 use Rattle.cache_unit.specs.Begun.{begun_register}
-use Rattle.cache_unit.specs.declared.Reply.{Reply}
 use Rattle.cache_unit.specs.declared.Sizes.{Sizes}
-use Rattle.cache_unit.specs.State.{Field, Register, Cache, free_register, frame_of, is_present, register_at, field_at, live_for}
-use Rattle.cache_unit.specs.State.{free_slot, with_cell, with_field, block_of, address, first_of}
-use Rattle.cache_unit.specs.Causes.{choose, Found, Here, Coming, load_cause, store_cause, prefetch_cause, evict_cause, arrive_cause}
+use Rattle.cache_unit.specs.State.{Field, Register, Cache, free_register, frame_of, is_present, register_at}
+use Rattle.cache_unit.specs.State.{with_cell, with_field, address, first_of}
+use Rattle.cache_unit.specs.Causes.{Found, Here, Coming}
 use Rattle.miss_registers.specs.Registers.{made_obsolete, finished, marked}
-use Rattle.cache_unit.specs.Steps.{Stepped, unless, obsoleted, released, evicted, evicted_from, installed}
-use Rattle.cache_unit.specs.Steps.{missed, reads, fetched, fetches, loaded, noted, written_in, written, load_step, store_step}
+use Rattle.cache_unit.specs.Steps.{Stepped, unless, released, evicted, evicted_from, installed}
+use Rattle.cache_unit.specs.Steps.{reads, fetched, fetches, loaded, written, load_step, store_step}
 use Rattle.cache_unit.specs.Steps.{prefetch_step, evict_step, drain_first, drain_step, arrived, processed, process_entry, process_step}
-use Rattle.cache_unit.specs.Steps.{take_reply, take_step}
+use Rattle.cache_unit.specs.Steps.{take_step}
 use Rattle.cache_unit.specs.Counts.{tally, bit}
 use Rattle.cache_unit.proofs.FormsLists.{Adds-tally, Adds-remove, tally-append, flat_map_part, read_set}
 use Rattle.cache_unit.proofs.FormsChoosing.{Able, free_register_at, some_frame}
 use Rattle.cache_unit.proofs.FormsProcessing.{done}
 use Rattle.machine_core.specs.Law.{IsLawful}
 use Rattle.memory_banks.specs.Memory.{without_answer}
-use Rattle.machine_core.specs.Machine.{Machine, apply, joined_with, serve_from, take_in, arrive_from}
+use Rattle.machine_core.specs.Machine.{Machine, apply, joined_with, take_in, arrive_from}
 use Rattle.machine_core.specs.Sound.{is_for, IsSound, IsBounded}
 use Rattle.machine_core.proofs.Serving.{served-pending}
 use Rattle.machine_core.proofs.Units.{bit-pos, sound_unit}
@@ -53,7 +51,7 @@ Routed z m = (b s i : ℕ) → 1 ≤ tally (is_for s i) (pending (bank_at m.bank
 -- ---- one bank among all
 
 pub pending_part : (p : BankAnswer → Bool) (banks : List Bank) (b : ℕ) → tally p (pending (bank_at banks b)) ≤ tally p (all_pending banks)
-pending_part p banks b = ⊎_elim within past (cases_lt b (length banks))
+pending_part p banks b = ⊎_elim within past (cases_lt b _)
   where
     within : b < length banks → tally p (pending (bank_at banks b)) ≤ tally p (all_pending banks)
     within l =
@@ -69,11 +67,7 @@ pending_part p banks b = ⊎_elim within past (cases_lt b (length banks))
 -- what is on its way is for a valid register
 valid_for : (z : Sizes) (m : Machine) → IsSound z m → (b s i : ℕ) → 1 ≤ tally (is_for s i) (pending (bank_at m.banks b))
     → (register_at m.cache s).valid ≡ true
-valid_for z m sound b s i l =
-    let part = pending_part (is_for s i) m.banks b in
-    let c = sound.counted s i in
-    let w = bit-pos ((register_at m.cache s).valid && (nat_lt i z.block_words && not (field_at m.cache s i).processed)) (omega arith) in
-    (and_parts (register_at m.cache s).valid (nat_lt i z.block_words && not (field_at m.cache s i).processed) w).0
+valid_for z m sound b s i l = grind (arith, pending_part, m.banks, sound.counted, bit-pos, m.cache, and_parts)
 
 -- ---- machines whose banks have no more on its way
 
@@ -85,34 +79,12 @@ abbrev NoMore : List Bank → List Bank → Type 0
 NoMore banks banks' = (b s i : ℕ) → tally (is_for s i) (pending (bank_at banks' b)) ≤ tally (is_for s i) (pending (bank_at banks b))
 
 still_routed : (z : Sizes) (m m' : Machine) → IsSound z m' → NoMore m.banks m'.banks → Blocks m.cache m'.cache → Routed z m → Routed z m'
-still_routed z m m' sound less blocks h b s i l =
-    ap (λ k. address z k i % z.banks) (blocks s (valid_for z m' sound b s i l)) ∙ h b s i (let n = less b s i in omega arith)
+still_routed z m m' sound less blocks h b s i l = grind (arith, valid_for)
 
 -- a bank is another one, with no more on its way
 one_bank : (banks : List Bank) (k : ℕ) (bank : Bank)
     → ((s i : ℕ) → tally (is_for s i) (pending bank) ≤ tally (is_for s i) (pending (bank_at banks k))) → NoMore banks (set banks k bank)
-one_bank banks k bank less b s i = ⊎_elim here there (cases_eq b k)
-  where
-    same : {x y : ℕ} → x ≡ y → x ≤ y
-    same e = omega arith
-
-    there : (b ≡ k → ⊥) → tally (is_for s i) (pending (bank_at (set banks k bank) b)) ≤ tally (is_for s i) (pending (bank_at banks b))
-    there n = same (ap (λ (x : Bank). tally (is_for s i) (pending x)) (get_or-set_other banks k b bank no_bank n))
-
-    here : b ≡ k → tally (is_for s i) (pending (bank_at (set banks k bank) b)) ≤ tally (is_for s i) (pending (bank_at banks b))
-    here q = subst (λ j. tally (is_for s i) (pending (bank_at (set banks k bank) j)) ≤ tally (is_for s i) (pending (bank_at banks j)))
-        (sym q) (⊎_elim within past (cases_lt k (length banks)))
-      where
-        within : k < length banks → tally (is_for s i) (pending (bank_at (set banks k bank) k)) ≤ tally (is_for s i)
-            (pending (bank_at banks k))
-        within l =
-            let e = ap (λ (x : Bank). tally (is_for s i) (pending x)) (get_or-set_same banks k bank no_bank l) in
-            let n = less s i in
-            omega arith
-
-        past : length banks ≤ k → tally (is_for s i) (pending (bank_at (set banks k bank) k)) ≤ tally (is_for s i)
-            (pending (bank_at banks k))
-        past l = same (ap (λ (xs : List Bank). tally (is_for s i) (pending (bank_at xs k))) (set_past banks k bank l))
+one_bank banks k bank less b s i = grind (arith, cases_eq, get_or-set_other, cases_lt, get_or-set_same, set_past)
 
 -- ---- the reads of a block
 
@@ -125,7 +97,7 @@ one_read : (z : Sizes) (some : 0 < z.banks) (slot : ℕ) (banks : List Bank) (at
     → 1 ≤ tally (is_for s i) (pending (bank_at (one_more z some slot banks at) b))
     → (1 ≤ tally (is_for s i) (pending (bank_at banks b))) ⊎ ((at % z.banks ≡ b) × (slot ≡ s) × (at % z.block_words ≡ i))
 unfolding with_command
-one_read z some slot banks at b s i l = ⊎_elim here there (cases_eq b (at % z.banks))
+one_read z some slot banks at b s i l = ⊎_elim here there (cases_eq b _)
   where
     k : ℕ
     k = at % z.banks
@@ -143,13 +115,13 @@ one_read z some slot banks at b s i l = ⊎_elim here there (cases_eq b (at % z.
     there n = inl (let e = ap (λ (x : Bank). tally (is_for s i) (pending x)) (get_or-set_other banks k b new no_bank n) in omega arith)
 
     here : b ≡ at % z.banks → Goal
-    here q = ⊎_elim within past (cases_lt k (length banks))
+    here q = ⊎_elim within past (cases_lt k _)
       where
         past : length banks ≤ k → Goal
         past p = inl (let e = ap (λ (xs : List Bank). tally (is_for s i) (pending (bank_at xs b))) (set_past banks k new p) in omega arith)
 
         within : k < length banks → Goal
-        within p = go ((slot == s) && (at % z.block_words == i)) refl
+        within p = go _ refl
           where
             x : BankAnswer
             x = record {
@@ -163,7 +135,7 @@ one_read z some slot banks at b s i l = ⊎_elim here there (cases_eq b (at % z.
                 ≡ tally (is_for s i) (pending (bank_at banks b)) + (bit ((slot == s) && (at % z.block_words == i)) + 0)
             grown =
                 let e = ap (λ (y : Bank). tally (is_for s i) (pending y))
-                (ap (bank_at (set banks k new)) q ∙ get_or-set_same banks k new no_bank p) in
+                (ap (bank_at _) q ∙ get_or-set_same banks k new no_bank p) in
                 let r = ap (λ ys. tally (is_for s i) (bank.answers ++ ys))
                 (answers_to-read bank.words bank.queue slot (at % z.block_words) (at / z.banks)) in
                 let n1 = tally-append (is_for s i) bank.answers (answers_to bank.words bank.queue ++ x ∷ []) in
@@ -173,8 +145,8 @@ one_read z some slot banks at b s i l = ⊎_elim here there (cases_eq b (at % z.
                 omega arith
 
             go : (t : Bool) → ((slot == s) && (at % z.block_words == i)) ≡ t → Goal
-            go true e = let p' = and_parts (slot == s) (at % z.block_words == i) e in
-                inr (sym q, eqb-true slot s p'.0, eqb-true (at % z.block_words) i p'.1)
+            go true e = let p' = and_parts _ _ e in
+                inr (sym q, eqb-true slot s p'.0, eqb-true _ i p'.1)
             go false e = inl (let g = grown in let e' = ap bit e in omega arith)
 
 all_reads : (z : Sizes) (some : 0 < z.banks) (slot n a : ℕ) (banks : List Bank) (b s i : ℕ)
@@ -184,7 +156,7 @@ all_reads z some slot zero a banks b s i l = inl l
 all_reads z some slot (suc n) a banks b s i l =
     ⊎_elim (λ k. ⊎_elim (λ o. inl o) (λ r. inr (a, omega arith, omega arith, r.0, r.1, r.2)) (one_read z some slot banks a b s i k))
     (λ r. inr (r.0, (let lo = r.1 in omega arith), (let hi = r.2 in omega arith), r.3, r.4, r.5))
-    (all_reads z some slot n (a + 1) (one_more z some slot banks a) b s i l)
+    (all_reads z some slot n _ _ b s i l)
 
 -- ---- a miss
 
@@ -193,7 +165,7 @@ routed_miss : (z : Sizes) (lawful : IsLawful z) (m : Machine) → IsSound z m �
     → Routed z (record { cache = installed z (released z m.cache f) block f slot; banks = all_sent m.banks (reads z block (Some slot)) })
 unfolding installed released
 routed_miss z lawful m sound h block f slot there free b s i l =
-    ⊎_elim before now (all_reads z lawful.some_banks slot z.block_words (first_of z block) m.banks b s i l)
+    ⊎_elim before now (all_reads z lawful.some_banks slot _ _ _ b s i l)
   where
     fresh : Register
     fresh = begun_register z.block_words (released z m.cache f).queue block f
@@ -204,9 +176,8 @@ routed_miss z lawful m sound h block f slot there free b s i l =
     before : 1 ≤ tally (is_for s i) (pending (bank_at m.banks b)) → address z (get_or registers s free_register).block i % z.banks ≡ b
     before k =
         let v = valid_for z m sound b s i k in
-        let other : s ≡ slot → ⊥ = λ q. (let v' : (register_at m.cache slot).valid ≡ true =
-        ap (λ j. (register_at m.cache j).valid) (sym q) ∙ v in cc) in
-        ap (λ (r : Register). address z r.block i % z.banks) (get_or-set_other m.cache.registers slot s fresh free_register other)
+        let other : s ≡ slot → ⊥ = λ q. (cc) in
+        ap (λ (r : Register). address z r.block i % z.banks) (get_or-set_other _ slot s fresh free_register other)
         ∙ h b s i k
 
     now : ReadFrom z slot (first_of z block) z.block_words b s i → address z (get_or registers s free_register).block i % z.banks ≡ b
@@ -215,39 +186,26 @@ routed_miss z lawful m sound h block f slot there free b s i l =
         let k = at - first_of z block in
         let whole : at ≡ block * z.block_words + k = let lo = r.1 in omega arith in
         let small : k < z.block_words = let hi = r.2 in let lo = r.1 in omega arith in
-        let place : k ≡ i = sym (mod-mul-add block z.block_words k small) ∙ ap (λ x. x % z.block_words) (sym whole) ∙ r.5 in
-        let own : get_or registers s free_register ≡ fresh = ap (λ j. get_or registers j free_register) (sym r.4)
-        ∙ get_or-set_same m.cache.registers slot fresh free_register there in
+        let place = sym (mod-mul-add block _ k small) ∙ ap (λ x. x % z.block_words) (sym whole) ∙ r.5 in
+        let own = ap (λ j. get_or registers j free_register) (sym r.4)
+        ∙ get_or-set_same _ slot fresh free_register there in
         ap (λ (x : Register). address z x.block i % z.banks) own ∙ ap (λ j. address z block j % z.banks) (sym place)
         ∙ ap (λ x. x % z.banks) (sym whole) ∙ r.3
 
 routed_fetch : (z : Sizes) (lawful : IsLawful z) (m : Machine) → IsSound z m → Routed z m → (block : ℕ)
     → (is_present m.cache block ≡ false → Able z m.cache block) → Routed z (fetched_machine z m block)
 unfolding fetched fetches
-routed_fetch z lawful m sound h block able =
-    go (is_present m.cache block) refl (choose z m.cache block) refl (free_slot m.cache) refl
-  where
-    go : (p : Bool) → is_present m.cache block ≡ p → (o : Option ℕ) → choose z m.cache block ≡ o → (s : Option ℕ) → free_slot m.cache ≡ s
-        → Routed z (record { cache = cond p m.cache (missed z m.cache block o s); banks = all_sent m.banks (cond p [] (reads z block s)) })
-    go true ep o eo s e = h
-    go false ep None eo s e =
-        let some = some_frame z m.cache (sound_unit z lawful m sound) block (able ep).1 in
-        let none : is_none (choose z m.cache block) ≡ true = ap is_none eo in
-        cc
-    go false ep (Some f) eo None e = h
-    go false ep (Some f) eo (Some slot) e =
-        let r = free_register_at m.cache slot e in
-        routed_miss z lawful m sound h block f slot r.0 r.1
+routed_fetch z lawful m sound h block able = grind (arith, m.cache, m.banks, some_frame, sound_unit, free_register_at, routed_miss)
 
 -- ---- the registers of each step
 
 same_blocks : (c : Cache) (slot : ℕ) (r : Register) → r.block ≡ (register_at c slot).block → (s : ℕ)
     → (get_or (set c.registers slot r) s free_register).block ≡ (register_at c s).block
-same_blocks c slot r e s = read_set (λ (x : Register). x.block) free_register c.registers slot r e s
+same_blocks c slot r e s = read_set (λ (x : Register). x.block) free_register _ slot r e s
 
 blocks_field : (c : Cache) (slot i : ℕ) (f : Field) → Blocks c (with_field c slot i f)
 unfolding with_field
-blocks_field c slot i f s v = same_blocks c slot (record (register_at c slot) { fields = set (register_at c slot).fields i f }) refl s
+blocks_field c slot i f s v = grind (arith, same_blocks)
 
 blocks_loaded : (c : Cache) (tag i : ℕ) (buffer : Word) (o : Found) → Blocks c (loaded c tag i buffer o)
 blocks_loaded c tag i buffer (Here w) s v = refl
@@ -255,35 +213,12 @@ blocks_loaded c tag i buffer (Coming slot) s v = blocks_field c slot i _ s v
 
 blocks_written : (c : Cache) (block i : ℕ) (word : Word) (lanes : Lanes) → Blocks c (written c block i word lanes)
 unfolding with_cell with_field
-blocks_written c block i word lanes s v = buffer (frame_of c block) (live_for c block) v
-  where
-    code : (d : Cache) → d.registers ≡ c.registers → (o : Option ℕ) → (register_at (noted d o i lanes) s).block ≡ (register_at c s).block
-    code d e None = ap (λ rs. (get_or rs s free_register).block) e
-    code d e (Some slot) = go (field_at d slot i).processed
-      where
-        go : (b : Bool) → (register_at (cond b d
-            (with_field d slot i (record (field_at d slot i) { code = joined (field_at d slot i).code lanes }))) s).block
-            ≡ (register_at c s).block
-        go true = ap (λ (rs : List Register). (get_or rs s free_register).block) e
-        go false = same_blocks d slot (record (register_at d slot) {
-          fields =
-              set (register_at d slot).fields i (record (field_at d slot i) { code = joined (field_at d slot i).code lanes });
-        }) refl s
-            ∙ ap (λ (rs : List Register). (get_or rs s free_register).block) e
-
-    buffer : (f : Option ℕ) (o : Option ℕ) → (register_at (noted (written_in c f i word lanes) o i lanes) s).valid ≡ true
-        → (register_at (noted (written_in c f i word lanes) o i lanes) s).block ≡ (register_at c s).block
-    buffer None o v' = code c refl o
-    buffer (Some f) o v' = code (written_in c (Some f) i word lanes) refl o
+blocks_written c block i word lanes s v = grind (arith, same_blocks)
 
 blocks_evicted : (z : Sizes) (c : Cache) (block : ℕ) (o : Option ℕ) → Blocks c (evicted_from z c block o)
 unfolding evicted released made_obsolete
 blocks_evicted z c block None s v = refl
-blocks_evicted z c block (Some f) s v = go (live_for c block)
-  where
-    go : (o : Option ℕ) → (get_or (obsoleted c.registers o) s free_register).block ≡ (register_at c s).block
-    go None = refl
-    go (Some slot) = same_blocks c slot (made_obsolete (register_at c slot)) refl s
+blocks_evicted z c block (Some f) s v = grind (arith, c.registers, same_blocks)
 
 blocks_processed : (c : Cache) (place : ℕ) (e : Entry) → Blocks c (processed c place e)
 unfolding processed finished
@@ -298,23 +233,23 @@ blocks_processed c place e s v = go (list_all (λ (f : Field). f.processed) fiel
     go : (b : Bool) → (get_or (set c.registers e.slot (cond b free_register kept)) s free_register).valid ≡ true
         → (get_or (set c.registers e.slot (cond b free_register kept)) s free_register).block ≡ (register_at c s).block
     go false v' = same_blocks c e.slot kept refl s
-    go true v' = ⊎_elim here (λ n. ap (λ (r : Register). r.block) (get_or-set_other c.registers e.slot s free_register free_register n))
+    go true v' = ⊎_elim here (λ n. ap (λ (r : Register). r.block) (get_or-set_other _ e.slot s free_register free_register n))
         (cases_eq s e.slot)
       where
         here : s ≡ e.slot → (get_or (set c.registers e.slot free_register) s free_register).block ≡ (register_at c s).block
-        here q = ⊎_elim within past (cases_lt e.slot (length c.registers))
+        here q = ⊎_elim within past (cases_lt e.slot _)
           where
             within : e.slot < length c.registers → (get_or (set c.registers e.slot free_register) s free_register).block
                 ≡ (register_at c s).block
             within l =
-                let no : (get_or (set c.registers e.slot free_register) s free_register).valid ≡ false =
+                let no =
                 ap (λ k. (get_or (set c.registers e.slot free_register) k free_register).valid) q
-                ∙ ap (λ (r : Register). r.valid) (get_or-set_same c.registers e.slot free_register free_register l) in
+                ∙ ap (λ (r : Register). r.valid) (get_or-set_same _ e.slot free_register free_register l) in
                 cc
 
             past : length c.registers ≤ e.slot → (get_or (set c.registers e.slot free_register) s free_register).block
                 ≡ (register_at c s).block
-            past l = ap (λ (rs : List Register). (get_or rs s free_register).block) (set_past c.registers e.slot free_register l)
+            past l = ap (λ (rs : List Register). (get_or rs s free_register).block) (set_past _ e.slot free_register l)
 
 -- ---- each event
 
@@ -332,40 +267,40 @@ module _ (z : Sizes) (lawful : IsLawful z) (m : Machine) (sound : IsSound z m) (
   load_routed : (tag at : ℕ) → Routed z (apply z m (Load tag at)).machine
   unfolding load_step
   load_routed tag at =
-      unless_routed z m (load_cause z (room_in z.bank_queue m.banks) m.cache tag at) _ h (event_ok z lawful m sound (Load tag at)).sound
+      unless_routed z m _ _ h (event_ok z lawful m sound (Load tag at)).sound
       (λ e after.
-      still_routed z (fetched_machine z m (block_of z at)) _ after (no_more _) (blocks_loaded _ tag _ _ _)
-      (routed_fetch z lawful m sound h (block_of z at) (may_able z m (block_of z at) (load_may_miss z m tag at e))))
+      still_routed z (fetched_machine z m _) _ after (no_more _) (blocks_loaded _ tag _ _ _)
+      (routed_fetch z lawful m sound h _ (may_able z m _ (load_may_miss z m tag at e))))
 
   store_routed : (at : ℕ) (word : Word) (lanes : Lanes) → Routed z (apply z m (Store at word lanes)).machine
   unfolding store_step
   store_routed at word lanes =
-      unless_routed z m (store_cause z (room_in z.bank_queue m.banks) m.cache at lanes) _ h
+      unless_routed z m _ _ h
       (event_ok z lawful m sound (Store at word lanes)).sound (λ e after.
-      still_routed z (fetched_machine z m (block_of z at)) _ after (no_more _) (blocks_written _ _ _ word lanes)
-      (routed_fetch z lawful m sound h (block_of z at) (may_able z m (block_of z at) (store_may_miss z m at lanes e))))
+      still_routed z (fetched_machine z m _) _ after (no_more _) (blocks_written _ _ _ word lanes)
+      (routed_fetch z lawful m sound h _ (may_able z m _ (store_may_miss z m at lanes e))))
 
   prefetch_routed : (at : ℕ) → Routed z (apply z m (Prefetch at)).machine
   unfolding prefetch_step
   prefetch_routed at =
-      unless_routed z m (prefetch_cause z (room_in z.bank_queue m.banks) m.cache at) _ h (event_ok z lawful m sound (Prefetch at)).sound
+      unless_routed z m _ _ h (event_ok z lawful m sound (Prefetch at)).sound
       (λ e after.
-      routed_fetch z lawful m sound h (block_of z at) (may_able z m (block_of z at) (prefetch_may_miss z m at e)))
+      routed_fetch z lawful m sound h _ (may_able z m _ (prefetch_may_miss z m at e)))
 
   evict_routed : (block : ℕ) → Routed z (apply z m (Evict block)).machine
   unfolding evict_step
   evict_routed block =
-      unless_routed z m (evict_cause z m.cache block) _ h (event_ok z lawful m sound (Evict block)).sound (λ e after.
-      still_routed z m _ after (no_more m.banks) (blocks_evicted z m.cache block (frame_of m.cache block)) h)
+      unless_routed z m _ _ h (event_ok z lawful m sound (Evict block)).sound (λ e after.
+      still_routed z m _ after (no_more _) (blocks_evicted z m.cache block (frame_of m.cache block)) h)
 
   drain_routed : Routed z (apply z m Drain).machine
   unfolding drain_step with_command
-  drain_routed = go m.cache.queue (event_ok z lawful m sound Drain).sound
+  drain_routed = go _ (event_ok z lawful m sound Drain).sound
     where
       go : (queue : List Queued) → IsSound z (joined_with m.banks (drain_first z (room_in z.bank_queue m.banks) m.cache queue)).machine
           → Routed z (joined_with m.banks (drain_first z (room_in z.bank_queue m.banks) m.cache queue)).machine
       go [] after = h
-      go (q ∷ rest) after = by_room (nat_lt 0 (room_in z.bank_queue m.banks (q.at % z.banks))) after
+      go (q ∷ rest) after = by_room _ after
         where
           k : ℕ
           k = q.at % z.banks
@@ -383,30 +318,20 @@ module _ (z : Sizes) (lawful : IsLawful z) (m : Machine) (sound : IsSound z m) (
 
           by_room : (t : Bool) → IsSound z (outcome t) → Routed z (outcome t)
           by_room false a = h
-          by_room true a =
-              still_routed z m _ a (one_bank m.banks k (with_command bank write)
-              (λ s i. (let e = ap (λ xs. tally (is_for s i) (bank.answers ++ xs))
-              (answers_to-write bank.words bank.queue (q.at / z.banks) q.word q.lanes) in omega arith))) (λ s v. refl) h
+          by_room true a = grind (arith, still_routed, one_bank, k, answers_to-write, bank.words, bank.queue, q.word)
 
   serve_routed : (b : ℕ) → Routed z (apply z m (Serve b)).machine
-  serve_routed b = go (bank_at m.banks b).queue refl (event_ok z lawful m sound (Serve b)).sound
-    where
-      go : (queue : List Command) → (bank_at m.banks b).queue ≡ queue → IsSound z (serve_from m b queue).machine
-          → Routed z (serve_from m b queue).machine
-      go [] e after = h
-      go (first ∷ rest) e after =
-          still_routed z m _ after (one_bank m.banks b (served (bank_at m.banks b) first rest)
-          (λ s i. (let k = ap (tally (is_for s i)) (served-pending (bank_at m.banks b) first rest e) in omega arith))) (λ s v. refl) h
+  serve_routed b = grind (arith, event_ok, still_routed, one_bank, served-pending)
 
   arrive_routed : (b place : ℕ) → Routed z (apply z m (Arrive b place)).machine
   unfolding arrived marked
   arrive_routed b place =
-      go (slice_get (bank_at m.banks b).answers place) refl (event_ok z lawful m sound (Arrive b place)).sound
+      go _ refl (event_ok z lawful m sound (Arrive b place)).sound
     where
       go : (o : Option BankAnswer) → slice_get (bank_at m.banks b).answers place ≡ o → IsSound z (arrive_from z m b place o).machine
           → Routed z (arrive_from z m b place o).machine
       go None e after = h
-      go (Some a) e after = by_cause (arrive_cause z m.cache a.slot a.i) after
+      go (Some a) e after = by_cause _ after
         where
           bank : Bank
           bank = bank_at m.banks b
@@ -420,26 +345,21 @@ module _ (z : Sizes) (lawful : IsLawful z) (m : Machine) (sound : IsSound z m) (
 
           by_cause : (o : Option Cause) → IsSound z (take_in z m b place a o).machine → Routed z (take_in z m b place a o).machine
           by_cause (Some cause) k = h
-          by_cause None k = still_routed z m _ k (one_bank m.banks b (without_answer bank place) fewer)
-              (λ s v. same_blocks m.cache a.slot (marked (register_at m.cache a.slot) a.i) refl s) h
+          by_cause None k = still_routed z m _ k (one_bank _ b _ fewer)
+              (λ s v. same_blocks m.cache a.slot _ refl s) h
 
   process_routed : (place : ℕ) → Routed z (apply z m (Process place)).machine
   unfolding process_step
-  process_routed place = go (slice_get m.cache.stack place) (event_ok z lawful m sound (Process place)).sound
+  process_routed place = go _ (event_ok z lawful m sound (Process place)).sound
     where
       go : (o : Option Entry) → IsSound z (joined_with m.banks (process_entry m.cache place o)).machine
           → Routed z (joined_with m.banks (process_entry m.cache place o)).machine
       go None after = h
-      go (Some e) after = still_routed z m _ after (no_more m.banks) (blocks_processed m.cache place e) h
+      go (Some e) after = still_routed z m _ after (no_more _) (blocks_processed _ place e) h
 
   take_routed : (place : ℕ) → Routed z (apply z m (Take place)).machine
   unfolding take_step
-  take_routed place = go (slice_get m.cache.ready place) (event_ok z lawful m sound (Take place)).sound
-    where
-      go : (o : Option Reply) → IsSound z (joined_with m.banks (take_reply m.cache place o)).machine
-          → Routed z (joined_with m.banks (take_reply m.cache place o)).machine
-      go None after = h
-      go (Some r) after = still_routed z m _ after (no_more m.banks) (λ s v. refl) h
+  take_routed place = grind arith
 
   event_routed : (event : Event) → Routed z (apply z m event).machine
   event_routed (Load tag at) = load_routed tag at

@@ -1,9 +1,9 @@
 -- The reads of a block go to their banks.
 use Rattle.std.proofs.Common.{◌≡◌, ℕ, zero, suc, ◌+◌, ◌*◌, ◌/◌, ◌%◌, ◌<◌, ◌≤◌, Bool, true, false, cond, ◌&&◌, ◌==◌, nat_lt, nat_le, List}
-use Rattle.std.proofs.Common.{[], ◌∷◌, ◌++◌, map, length, set, Some, find, refl, sym, ap, ap₂, ◌∙◌, subst, arith, length-set, ⊎_elim}
-use Rattle.std.proofs.Common.{mod-lt, eq-eqb, ne_eqb, add-zero, leb-true, ltb-true, le-leb, lt-ltb}
+use Rattle.std.proofs.Common.{[], ◌∷◌, ◌++◌, map, length, set, Some, find, refl, ap, ap₂, ◌∙◌, subst, arith, length-set, ⊎_elim}
+use Rattle.std.proofs.Common.{mod-lt, eq-eqb, ne_eqb}
 use Rattle.std.specs.List.{range_with_len}
-use Rattle.std.proofs.lemmas.Bool.{cases_eq, cases_order, lt-leb}
+use Rattle.std.proofs.lemmas.Bool.{cases_eq}
 use Rattle.std.proofs.lemmas.Nat.{mod-mul-add}
 use Rattle.flat_model.specs.declared.Word.{Word}
 use Rattle.flat_model.specs.Flat.{word_at, stored}
@@ -33,7 +33,7 @@ AddsAll [] old new = new ≡ old
 AddsAll {X} (x ∷ xs) old new = (mid : List X) × Adds x old mid × AddsAll xs mid new
 
 pub AddsAll-tally : {X : Type 0} (p : X → Bool) (xs old new : List X) → AddsAll xs old new → tally p new ≡ tally p old + tally p xs
-AddsAll-tally p [] old new a = ap (tally p) a ∙ sym (add-zero (tally p old))
+AddsAll-tally p [] old new a = grind arith
 AddsAll-tally p (x ∷ xs) old new a =
     let one = Adds-tally p x old a.0 a.1 in
     let rest = AddsAll-tally p xs a.0 new a.2 in
@@ -44,7 +44,7 @@ AddsAll-find_other p [] old new a none = ap (find p) a
 AddsAll-find_other p (x ∷ xs) old new a none = go (p x) refl (AddsAll-find_other p xs a.0 new a.2)
   where
     go : (b : Bool) → p x ≡ b → (tally p xs ≡ 0 → find p new ≡ find p a.0) → find p new ≡ find p old
-    go true e rest = let k = ap bit e in absurd (omega arith)
+    go true e rest = grind arith
     go false e rest = let k = ap bit e in rest (omega arith) ∙ Adds-find_other p x old a.0 a.1 e
 
 -- where the old list has none and the new elements one, that one is found
@@ -86,24 +86,24 @@ module _ (z : Sizes) (some_banks : 0 < z.banks) (slot : ℕ) where
   one_words : (banks : List Bank) (at b : ℕ) → words_after (bank_at (one_more banks at) b) ≡ words_after (bank_at banks b)
   unfolding with_command
   one_words banks at b =
-      let bank = bank_at banks (at % z.banks) in
-      read_set words_after no_bank banks (at % z.banks) _ (after-read bank.words bank.queue slot (at % z.block_words) (at / z.banks)) b
+      let bank = bank_at banks _ in
+      read_set words_after no_bank banks _ _ (after-read bank.words bank.queue slot _ _) b
 
   one_length : (banks : List Bank) (at b : ℕ) → length (bank_at (one_more banks at) b).words ≡ length (bank_at banks b).words
   unfolding with_command
-  one_length banks at b = read_set (λ (x : Bank). length x.words) no_bank banks (at % z.banks) _ refl b
+  one_length banks at b = read_set (λ (x : Bank). length x.words) no_bank banks _ _ refl b
 
   one_adds : (banks : List Bank) (at : ℕ) → length banks ≡ z.banks
       → Adds (answer_at z banks slot at) (all_pending banks) (all_pending (one_more banks at))
   unfolding with_command
   one_adds banks at n =
-      let bank = bank_at banks (at % z.banks) in
+      let bank = bank_at banks _ in
       let there : at % z.banks < length banks = let k = mod-lt at some_banks in omega arith in
-      let part = flat_map_part pending no_bank banks (at % z.banks) there in
+      let part = flat_map_part pending no_bank banks _ there in
       let x = answer_at z banks slot at in
-      let more : Adds x (pending bank) (bank.answers ++ (answers_to bank.words bank.queue ++ x ∷ [])) =
-      Adds-left bank.answers x _ _ (Adds-push x (answers_to bank.words bank.queue)) in
-      let e = answers_to-read bank.words bank.queue slot (at % z.block_words) (at / z.banks) in
+      let more =
+      Adds-left bank.answers x _ _ (Adds-push x _) in
+      let e = answers_to-read bank.words bank.queue slot _ _ in
       Adds-same x _ _ _ _ part.now (part.then _ ∙ ap (λ l. part.front ++ ((bank.answers ++ l) ++ part.back)) e)
       (Adds-left part.front x _ _ (Adds-right part.back x _ _ more))
 
@@ -112,27 +112,27 @@ module _ (z : Sizes) (some_banks : 0 < z.banks) (slot : ℕ) where
   pub sent_words : (ats : List ℕ) (banks : List Bank) (b : ℕ)
       → words_after (bank_at (all_sent banks (commands z slot ats)) b) ≡ words_after (bank_at banks b)
   sent_words [] banks b = refl
-  sent_words (at ∷ ats) banks b = sent_words ats (one_more banks at) b ∙ one_words banks at b
+  sent_words (at ∷ ats) banks b = sent_words ats _ b ∙ one_words banks at b
 
   pub sent_lengths : (ats : List ℕ) (banks : List Bank) (b : ℕ)
       → length (bank_at (all_sent banks (commands z slot ats)) b).words ≡ length (bank_at banks b).words
   sent_lengths [] banks b = refl
-  sent_lengths (at ∷ ats) banks b = sent_lengths ats (one_more banks at) b ∙ one_length banks at b
+  sent_lengths (at ∷ ats) banks b = sent_lengths ats _ b ∙ one_length banks at b
 
   pub sent_number : (ats : List ℕ) (banks : List Bank) → length (all_sent banks (commands z slot ats)) ≡ length banks
   sent_number [] banks = refl
-  sent_number (at ∷ ats) banks = sent_number ats (one_more banks at) ∙ length-set banks (at % z.banks) _
+  sent_number (at ∷ ats) banks = sent_number ats _ ∙ length-set banks _ _
 
   pub sent_adds : (ats : List ℕ) (banks : List Bank) → length banks ≡ z.banks
       → AddsAll (map (answer_at z banks slot) ats) (all_pending banks) (all_pending (all_sent banks (commands z slot ats)))
   sent_adds [] banks n = refl
   sent_adds (at ∷ ats) banks n =
       let banks1 = one_more banks at in
-      let rest = sent_adds ats banks1 (length-set banks (at % z.banks) _ ∙ n) in
-      let same : map (answer_at z banks1 slot) ats ≡ map (answer_at z banks slot) ats =
-      map-same (answer_at z banks1 slot) (answer_at z banks slot) ats
+      let rest = sent_adds ats banks1 (length-set banks _ _ ∙ n) in
+      let same =
+      map-same _ _ ats
       (λ a. ap (λ ws. record { slot = slot; i = a % z.block_words; word = word_at ws (a / z.banks) })
-      (one_words banks at (a % z.banks))) in (
+      (one_words banks at _)) in (
         all_pending banks1,
         one_adds banks at n,
         subst
@@ -147,41 +147,20 @@ pub reads_other : (z : Sizes) (banks : List Bank) (slot t j : ℕ) (ats : List �
 reads_other z banks slot t j [] n = refl
 reads_other z banks slot t j (at ∷ ats) n =
     let ih = reads_other z banks slot t j ats n in
-    let no : bit ((slot == t) && (at % z.block_words == j)) ≡ 0 = ap (λ b. bit (b && (at % z.block_words == j))) (ne_eqb slot t n) in
+    let no = ap (λ b. bit (b && (at % z.block_words == j))) (ne_eqb slot t n) in
     omega arith
 
 one_step : (r n j : ℕ) → bit (r == j) + bit (nat_le (suc r) j && nat_lt j (suc r + n)) ≡ bit (nat_le r j && nat_lt j (r + suc n))
-one_step r n j = ⊎_elim same (⊎_elim below above) (cases_order r j)
-  where
-    same : r ≡ j → bit (r == j) + bit (nat_le (suc r) j && nat_lt j (suc r + n)) ≡ bit (nat_le r j && nat_lt j (r + suc n))
-    same e = cc (eq-eqb r j e, lt-leb (suc r) j (omega arith), le-leb r j (omega arith), lt-ltb j (r + suc n) (omega arith))
-
-    below : r < j → bit (r == j) + bit (nat_le (suc r) j && nat_lt j (suc r + n)) ≡ bit (nat_le r j && nat_lt j (r + suc n))
-    below l =
-        let e : suc r + n ≡ r + suc n = omega arith in
-        let b : bit (nat_lt j (suc r + n)) ≡ bit (nat_lt j (r + suc n)) = ap (λ k. bit (nat_lt j k)) e in
-        ap₂ (λ x y. bit x + bit (y && nat_lt j (suc r + n))) (ne_eqb r j (λ q. omega arith)) (le-leb (suc r) j l)
-        ∙ (let k : 0 + bit (nat_lt j (suc r + n)) ≡ bit (nat_lt j (r + suc n)) = omega arith in k)
-        ∙ ap (λ x. bit (x && nat_lt j (r + suc n))) (sym (le-leb r j (omega arith)))
-
-    above : j < r → bit (r == j) + bit (nat_le (suc r) j && nat_lt j (suc r + n)) ≡ bit (nat_le r j && nat_lt j (r + suc n))
-    above l =
-        ap₂ (λ x y. bit x + bit (y && nat_lt j (suc r + n))) (ne_eqb r j (λ q. omega arith)) (lt-leb (suc r) j (omega arith))
-        ∙ ap (λ x. bit (x && nat_lt j (r + suc n))) (sym (lt-leb r j l))
+one_step r n j = grind arith
 
 -- the answers for words r .. r + n of a block
 pub reads_tally : (z : Sizes) (banks : List Bank) (slot b : ℕ) (r n a j : ℕ) → a ≡ b * z.block_words + r → r + n ≤ z.block_words
     → tally (is_for slot j) (map (answer_at z banks slot) (range_with_len a n)) ≡ bit (nat_le r j && nat_lt j (r + n))
-reads_tally z banks slot b r zero a j e l = nothing (nat_le r j) refl (nat_lt j (r + 0)) refl
-  where
-    nothing : (x : Bool) → nat_le r j ≡ x → (y : Bool) → nat_lt j (r + 0) ≡ y → 0 ≡ bit (x && y)
-    nothing false p y q = refl
-    nothing true p false q = refl
-    nothing true p true q = let p' = leb-true r j p in let q' = ltb-true j (r + 0) q in absurd (omega arith)
+reads_tally z banks slot b r zero a j e l = grind arith
 reads_tally z banks slot b r (suc n) a j e l =
-    let here : a % z.block_words ≡ r = ap (λ k. k % z.block_words) e ∙ mod-mul-add b z.block_words r (omega arith) in
+    let here = ap (λ k. k % z.block_words) e ∙ mod-mul-add b _ r (omega arith) in
     let ih = reads_tally z banks slot b (suc r) n (a + 1) j (omega arith) (omega arith) in
-    let own : bit ((slot == slot) && (a % z.block_words == j)) ≡ bit (r == j) =
+    let own =
     ap₂ (λ x y. bit (x && (y == j))) (eq-eqb slot slot refl) here in
     ap₂ (λ x y. x + y) own ih ∙ one_step r n j
 
@@ -191,27 +170,21 @@ pub reads_find : (z : Sizes) (banks : List Bank) (slot b : ℕ) (r n a j : ℕ) 
     ≡ Some (record { slot = slot; i = j; word = base_in z banks (b * z.block_words + j) })
 reads_find z banks slot b r zero a j e l lo hi = absurd (omega arith)
 reads_find z banks slot b r (suc n) a j e l lo hi =
-    ⊎_elim here (λ n'. there n' (reads_find z banks slot b (suc r) n (a + 1) j (omega arith) (omega arith) (omega arith) (omega arith)))
+    ⊎_elim here (λ n'. there n' (reads_find z banks slot b (suc r) n _ j (omega arith) (omega arith) (omega arith) (omega arith)))
     (cases_eq r j)
   where
     word_r : a % z.block_words ≡ r
-    word_r = ap (λ k. k % z.block_words) e ∙ mod-mul-add b z.block_words r (omega arith)
+    word_r = grind arith
 
     test : ((slot == slot) && (a % z.block_words == j)) ≡ (r == j)
-    test = ap₂ (λ x y. x && (y == j)) (eq-eqb slot slot refl) word_r
+    test = grind arith
 
     here : r ≡ j → find (is_for slot j) (map (answer_at z banks slot) (range_with_len a (suc n)))
         ≡ Some (record { slot = slot; i = j; word = base_in z banks (b * z.block_words + j) })
-    here q =
-        ap (λ x. cond x (Some (answer_at z banks slot a))
-        (find (is_for slot j) (map (answer_at z banks slot) (range_with_len (a + 1) n)))) (test ∙ eq-eqb r j q)
-        ∙ ap Some (ap₂ (λ x y. record { slot = slot; i = x; word = base_in z banks y }) (word_r ∙ q)
-        (e ∙ ap (λ k. b * z.block_words + k) q))
+    here q = grind arith
 
     there : (r ≡ j → ⊥) → find (is_for slot j) (map (answer_at z banks slot) (range_with_len (a + 1) n))
         ≡ Some (record { slot = slot; i = j; word = base_in z banks (b * z.block_words + j) })
         → find (is_for slot j) (map (answer_at z banks slot) (range_with_len a (suc n)))
         ≡ Some (record { slot = slot; i = j; word = base_in z banks (b * z.block_words + j) })
-    there n' rest =
-        ap (λ x. cond x (Some (answer_at z banks slot a))
-        (find (is_for slot j) (map (answer_at z banks slot) (range_with_len (a + 1) n)))) (test ∙ ne_eqb r j n') ∙ rest
+    there n' rest = grind arith

@@ -1,9 +1,9 @@
 -- What the calls of the unit and of the banks make of a machine, as one event.
-use Rattle.std.proofs.Common.{◌≡◌, ℕ, List, [], ◌∷◌, ◌++◌, slice_get, slice_set, Option, Some, None, refl, sym, ap, ap₂, ◌∙◌, subst}
+use Rattle.std.proofs.Common.{◌≡◌, ℕ, List, [], ◌∷◌, ◌++◌, slice_set, Option, Some, None, refl, sym, ap, ap₂, ◌∙◌, subst}
 use Rattle.flat_model.specs.declared.Cause.{Cause}
 use Rattle.flat_model.specs.declared.Event.{Event}
 use Rattle.flat_model.specs.declared.Answer.{Answer}
-use Rattle.flat_model.specs.declared.Answer.TheVariants.{Accepted, Moved, Refused}
+use Rattle.flat_model.specs.declared.Answer.TheVariants.{Accepted, Moved}
 use Rattle.memory_banks.specs.declared.Command.{Command}
 use Rattle.memory_banks.specs.declared.BankAnswer.{BankAnswer}
 use Rattle.memory_banks.specs.Banks.{bank_at, room_in, all_sent}
@@ -15,7 +15,7 @@ use Rattle.cache_unit.specs.declared.Sizes.{Sizes}
 use Rattle.cache_unit.specs.State.{Cache, UnitState, frame_of}
 use Rattle.cache_unit.specs.Makes as cache
 use Rattle.cache_unit.specs.Makes.{MakesOver}
-use Rattle.cache_unit.specs.Causes.{arrive_cause, evict_cause}
+use Rattle.cache_unit.specs.Causes.{arrive_cause}
 use Rattle.cache_unit.specs.Steps.{Stepped, unless, evicted_from, moved, arrived, arrive_step, evict_step, process_step, process_entry}
 use Rattle.cache_unit.specs.Steps.{take_step, take_reply}
 use Rattle.memory_banks.specs.Memory.{without_answer}
@@ -37,8 +37,8 @@ pub joins : (step : (ℕ → ℕ) → Stepped) (unit : UnitState) (old : Memory)
     → Makes (joined_with old.banks (step (room_in unit.sizes.bank_queue old.banks))) unit old answer unit' new
 joins step unit old answer unit' new e h =
     let by : ℕ → Type 0 = λ l. MakesOver sent_of rooms SameButQueues (step (room_in l old.banks)) unit old answer unit' new in
-    let g : by unit.sizes.bank_queue = subst by e h in
-    let same = banks_sent old new (step (room_in unit.sizes.bank_queue old.banks)).sent g.lines in
+    let g = subst by e h in
+    let same = banks_sent old new (step _).sent g.lines in
     record {
       answer = g.made.answer;
       unit = g.made.unit;
@@ -49,7 +49,7 @@ joins step unit old answer unit' new e h =
 
 pub evict_silent : (z : Sizes) (c : Cache) (block : ℕ) → (evict_step z c block).sent ≡ []
 unfolding evict_step
-evict_silent z c block = go (evict_cause z c block)
+evict_silent z c block = go _
   where
     go : (o : Option Cause) → (unless o c (record {
       answer = Accepted;
@@ -62,7 +62,7 @@ evict_silent z c block = go (evict_cause z c block)
 
 pub process_silent : (c : Cache) (place : ℕ) → (process_step c place).sent ≡ []
 unfolding process_step
-process_silent c place = go (slice_get c.stack place)
+process_silent c place = go _
   where
     go : (o : Option Entry) → (process_entry c place o).sent ≡ []
     go None = refl
@@ -70,7 +70,7 @@ process_silent c place = go (slice_get c.stack place)
 
 pub take_silent : (c : Cache) (place : ℕ) → (take_step c place).sent ≡ []
 unfolding take_step
-take_silent c place = go (slice_get c.ready place)
+take_silent c place = go _
   where
     go : (o : Option Reply) → (take_reply c place o).sent ≡ []
     go None = refl
@@ -117,7 +117,7 @@ module _ (unit : UnitState) (old : Memory) (b place : ℕ) (o : Option BankAnswe
     where
       go : (cause : Option Cause) → cache.Makes (step_for cause) unit answer unit' → Makes (taken_for cause) unit old answer unit' new
       go None h = record { answer = h.answer; unit = h.unit; banks = without }
-      go (Some cause) h = let never : Refused cause ≡ Moved = sym h.answer ∙ moves in cc
+      go (Some cause) h = let never = sym h.answer ∙ moves in cc
 
   pub left : (answer ≡ Moved → ⊥) → Makes (arrive_from unit.sizes (machine_of unit old) b place o) unit old answer unit' old
   left stays = of_bank old (go cause_is by_cause)
@@ -149,28 +149,27 @@ module _ (unit : UnitState) (old : Memory) (events more : List Event) (event : E
   here = ap₂ (λ (v : UnitState) (k : Memory). apply v.sizes (machine_of v k) event) u_is n_is
 
   then : (apply unit.sizes stand event).machine ≡ walked unit.sizes (machine_of unit old) more
-  then = sym (walked_more unit.sizes (machine_of unit old) events event) ∙ ap (walked unit.sizes (machine_of unit old)) (sym next)
+  then = sym (walked_more unit.sizes _ events event) ∙ ap (walked unit.sizes _) (sym next)
 
   pub walk_told : (answers answers' : List Answer) (answer : Answer) → answers ≡ told unit.sizes (machine_of unit old) events
       → answer ≡ (apply u.sizes (machine_of u n) event).answer → answers' ≡ answers ++ answer ∷ []
       → answers' ≡ told unit.sizes (machine_of unit old) more
   walk_told answers answers' answer so_far is e =
-      e ∙ ap₂ (λ l a. l ++ a ∷ []) so_far (is ∙ ap (λ (o : Outcome). o.answer) here)
-      ∙ sym (told_more unit.sizes (machine_of unit old) events event) ∙ ap (told unit.sizes (machine_of unit old)) (sym next)
+      cc (e, ap₂ (λ l a. l ++ a ∷ []) so_far (is ∙ ap (λ (o : Outcome). o.answer) here), told_more unit.sizes _ events event, next)
 
   pub walk_unit : (v : UnitState) → v ≡ record u { cache = (apply u.sizes (machine_of u n) event).machine.cache }
       → v ≡ record unit { cache = (walked unit.sizes (machine_of unit old) more).cache }
   walk_unit v e =
-      let sizes : u.sizes ≡ unit.sizes = ap (λ (w : UnitState). w.sizes) u_is in
-      let cache : (apply u.sizes (machine_of u n) event).machine.cache ≡ (walked unit.sizes (machine_of unit old) more).cache =
+      let sizes = ap (λ (w : UnitState). w.sizes) u_is in
+      let cache =
       ap (λ (o : Outcome). o.machine.cache) here ∙ ap (λ (m : Machine). m.cache) then in
       e ∙ (λ i. record { sizes = sizes i; cache = cache i })
 
   pub walk_banks : (k : Memory) → k ≡ with_banks n (apply u.sizes (machine_of u n) event).machine.banks
       → k ≡ with_banks old (walked unit.sizes (machine_of unit old) more).banks
   walk_banks k e =
-      let words : n.words ≡ old.words = ap (λ (m : Memory). m.words) n_is in
-      let limit : n.limit ≡ old.limit = ap (λ (m : Memory). m.limit) n_is in
-      let banks : (apply u.sizes (machine_of u n) event).machine.banks ≡ (walked unit.sizes (machine_of unit old) more).banks =
+      let words = ap (λ (m : Memory). m.words) n_is in
+      let limit = ap (λ (m : Memory). m.limit) n_is in
+      let banks =
       ap (λ (o : Outcome). o.machine.banks) here ∙ ap (λ (m : Machine). m.banks) then in
       e ∙ (λ i. record { words = words i; limit = limit i; banks = banks i })

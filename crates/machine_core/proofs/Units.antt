@@ -1,19 +1,18 @@
 -- A sound machine's unit is a sound one, and a machine whose unit is within it is sound, too.
-use Rattle.std.proofs.Common.{◌≡◌, ℕ, zero, suc, ◌+◌, ◌/◌, ◌%◌, ◌<◌, ◌≤◌, Bool, true, false, not, ◌&&◌, ◌==◌, nat_lt, List, [], ◌∷◌, length}
-use Rattle.std.proofs.Common.{Some, remove, slice_get, refl, sym, ap, ap₂, ◌∙◌, subst, arith, eq-eqb, ltb-true}
+use Rattle.std.proofs.Common.{◌≡◌, ℕ, zero, suc, ◌+◌, ◌≤◌, Bool, true, false, ◌&&◌, ◌==◌, List, [], ◌∷◌, length}
+use Rattle.std.proofs.Common.{Some, remove, slice_get, refl, sym, ap, ap₂, ◌∙◌, arith, eq-eqb, ltb-true}
 use Rattle.std.proofs.lemmas.Bool.{and_parts, not-true}
 use Rattle.flat_model.specs.declared.Word.{Word}
 use Rattle.flat_model.specs.Words.{merged}
 use Rattle.memory_banks.specs.Banks.{Bank, bank_at, all_pending}
 use Rattle.input_stack.specs.declared.Entry.{Entry}
-use Rattle.cache_directory.specs.declared.Cell.{Cell}
 use Rattle.cache_directory.specs.Frames as dir
 use Rattle.cache_unit.specs.declared.Sizes.{Sizes}
-use Rattle.cache_unit.specs.State.{Cache, tags, frame_of, cell_of, block_of, place_in, register_at, field_at}
+use Rattle.cache_unit.specs.State.{Cache, tags, cell_of, block_of, place_in, register_at, field_at}
 use Rattle.cache_unit.specs.SoundCache.{HasWord, IsSoundCache}
 use Rattle.cache_unit.specs.Counts.{tally, bit}
 use Rattle.cache_unit.proofs.FormsLists.{Adds-tally, Adds-remove, tally-filter}
-use Rattle.cache_unit.proofs.Within.{waits_for, FramesLike, frames_like-same, RegistersWithin, registers_within-same, Within, within_like, Beside}
+use Rattle.cache_unit.proofs.Within.{waits_for, Within, Beside}
 use Rattle.machine_core.specs.Law.{IsLawful}
 use Rattle.machine_core.specs.Machine.{Machine, backing, flat_word}
 use Rattle.machine_core.specs.Sound.{is_for, is_entry_for, AllIn, InOrder, IsSound}
@@ -29,44 +28,36 @@ bit-pos false h = absurd (omega arith)
 -- ---- the stack's words
 
 pub own_entry : (e : Entry) → is_entry_for e.slot e.i e ≡ true
-own_entry e = ap₂ (λ x y. x && y) (eq-eqb e.slot e.slot refl) (eq-eqb e.i e.i refl)
+own_entry e = grind arith
 
 pub entry_counted : (stack : List Entry) (k : ℕ) (e : Entry) → slice_get stack k ≡ Some e
     → tally (is_entry_for e.slot e.i) stack ≡ 1 + tally (is_entry_for e.slot e.i) (remove stack k)
 entry_counted stack k e found =
     let n = Adds-tally (is_entry_for e.slot e.i) e _ _ (Adds-remove e stack k found) in
-    let one : bit (is_entry_for e.slot e.i e) ≡ 1 = ap bit (own_entry e) in
+    let one = ap bit (own_entry e) in
     omega arith
 
 passes : {X : Type 0} (p : X → Bool) (xs : List X) (k : ℕ) (x : X) → slice_get xs k ≡ Some x → p x ≡ true → 1 ≤ tally p xs
-passes p xs k x found e = let n = Adds-tally p x _ _ (Adds-remove x xs k found) in let one : bit (p x) ≡ 1 = ap bit e in omega arith
+passes p xs k x found e = let n = Adds-tally p x _ _ (Adds-remove x xs k found) in let one = ap bit e in omega arith
 
 -- where one passes at most, it has one place
 one_place : {X : Type 0} (p : X → Bool) (xs : List X) → tally p xs ≤ 1 → (j k : ℕ) (x y : X)
     → slice_get xs j ≡ Some x → slice_get xs k ≡ Some y → p x ≡ true → p y ≡ true → j ≡ k
 one_place p [] l j k x y ex ey px py = cc
 one_place p (v ∷ xs) l zero zero x y ex ey px py = refl
-one_place p (v ∷ xs) l zero (suc k) x y ex ey px py =
-    let same : v ≡ x = cc in
-    let one : bit (p v) ≡ 1 = ap bit (ap p same ∙ px) in
-    let more = passes p xs k y ey py in
-    absurd (omega arith)
-one_place p (v ∷ xs) l (suc j) zero x y ex ey px py =
-    let same : v ≡ y = cc in
-    let one : bit (p v) ≡ 1 = ap bit (ap p same ∙ py) in
-    let more = passes p xs j x ex px in
-    absurd (omega arith)
+one_place p (v ∷ xs) l zero (suc k) x y ex ey px py = grind (arith, passes)
+one_place p (v ∷ xs) l (suc j) zero x y ex ey px py = grind (arith, passes)
 one_place p (v ∷ xs) l (suc j) (suc k) x y ex ey px py = ap suc (one_place p xs (omega arith) j k x y ex ey px py)
 
 -- the register of a word in the stack waits for it
 pub entry_waits : (z : Sizes) (m : Machine) → IsSound z m → (k : ℕ) (e : Entry) → slice_get m.cache.stack k ≡ Some e → HasWord z m.cache e
 entry_waits z m h k e found =
-    let there = entry_counted m.cache.stack k e found in
+    let there = entry_counted _ k e found in
     let count = h.counted e.slot e.i in
-    let w = bit-pos (waits_for z m.cache e.slot e.i) (omega arith) in
-    let p = and_parts (register_at m.cache e.slot).valid (nat_lt e.i z.block_words && not (field_at m.cache e.slot e.i).processed) w in
-    let q = and_parts (nat_lt e.i z.block_words) (not (field_at m.cache e.slot e.i).processed) p.1 in
-    record { valid = p.0; there = ltb-true e.i z.block_words q.0; waits = not-true (field_at m.cache e.slot e.i).processed q.1 }
+    let w = bit-pos _ (omega arith) in
+    let p = and_parts (register_at m.cache e.slot).valid _ w in
+    let q = and_parts _ _ p.1 in
+    record { valid = p.0; there = ltb-true e.i _ q.0; waits = not-true (field_at m.cache e.slot e.i).processed q.1 }
 
 pub sound_unit : (z : Sizes) → IsLawful z → (m : Machine) → IsSound z m → IsSoundCache z m.cache
 sound_unit z lawful m h =
@@ -85,9 +76,9 @@ sound_unit z lawful m h =
       entries_apart = λ j k d e p q s i.
           let count = h.counted d.slot d.i in
           let most = bit-le (waits_for z m.cache d.slot d.i) in
-          let same = ap₂ (λ x y. x && y) (eq-eqb e.slot d.slot (sym s)) (eq-eqb e.i d.i (sym i)) in
-          one_place (is_entry_for d.slot d.i) m.cache.stack (omega arith) j k d e p q (own_entry d) same;
-      once = λ tag. subst (λ n. n ≤ 1) (sym (tally-filter (λ t. t == tag) (tags m.cache))) (h.once tag);
+          let same = ap₂ (λ x y. x && y) (eq-eqb e.slot _ (sym s)) (eq-eqb e.i d.i (sym i)) in
+          one_place (is_entry_for _ d.i) _ (omega arith) j k d e p q (own_entry d) same;
+      once = λ tag. rw (tally-filter (λ t. t == tag) _) (h.once tag);
     }
 
 -- ---- what is kept
@@ -95,7 +86,7 @@ sound_unit z lawful m h =
 -- the cells go by the frames alone
 pub cell_frames : (c d : Cache) → d.directory.frames ≡ c.directory.frames → (b i : ℕ) → cell_of d b i ≡ cell_of c b i
 unfolding dir.frame_of
-cell_frames c d e b i = ap (λ fs. cell_of (record c { directory = record c.directory { frames = fs } }) b i) e
+cell_frames c d e b i = grind arith
 
 -- a word's backing, with the buffer's bytes in the dirty lanes
 abbrev pub kept_word : Sizes → Machine → ℕ → Word
@@ -105,8 +96,7 @@ kept_word z m at =
 pub kept_same : (z : Sizes) (m m' : Machine) → IsSound z m → (at : ℕ) → flat_word z m' at ≡ flat_word z m at
     → cell_of m'.cache (block_of z at) (place_in z at) ≡ cell_of m.cache (block_of z at) (place_in z at)
     → backing z m' at ≡ backing z m at → flat_word z m' at ≡ kept_word z m' at
-kept_same z m m' h at words cell back =
-    words ∙ h.kept at ∙ ap₂ (λ w (c : Cell). merged w c.word c.dirty) (sym back) (sym cell)
+kept_same z m m' h at words cell back = grind arith
 
 -- the banks have as many words
 pub record BanksLike (old new : List Bank) : Type 0 where
@@ -117,9 +107,7 @@ pub record BanksLike (old new : List Bank) : Type 0 where
 
 pub InOrder-within : (z : Sizes) (c d : Cache) → Within c d → d.directory.orders ≡ c.directory.orders → InOrder z c.directory
     → InOrder z d.directory
-InOrder-within z c d w e h =
-    let P : List (List ℕ) → Type 0 = λ os. InOrder z (record d.directory { orders = os }) in
-    subst P (sym e) (record { placed = λ f b q. h.placed f b (w.frames.held f b q).0; in_set = h.in_set; sized = h.sized })
+InOrder-within z c d w e h = grind arith
 
 pub sound_within : (z : Sizes) (m m' : Machine) → IsSound z m → Within m.cache m'.cache → InOrder z m'.cache.directory
     → AllIn z m'.cache.queue → ((tag : ℕ) → tally (λ t. t == tag) (tags m'.cache) ≤ 1)
@@ -128,20 +116,19 @@ pub sound_within : (z : Sizes) (m m' : Machine) → IsSound z m → Within m.cac
 sound_within z m m' h w order queue once counted kept banks =
     record {
       frames_apart = λ f g b p q. h.frames_apart f g b (w.frames.held f b p).0 (w.frames.held g b q).0;
-      live_apart = λ s t p q e. let a = w.registers.live s p in let b = w.registers.live t q in
-          h.live_apart s t a.0 b.0 (sym a.1 ∙ e ∙ b.1);
-      live_present = λ s p. let a = w.registers.live s p in let f = h.live_present s a.0 in (f.0, w.stays s f.0 p f.1 ∙ ap Some (sym a.1));
+      live_apart = grind arith;
+      live_present = grind arith;
       counted = counted;
       once = once;
       kept = kept;
       whole_frames = λ f b p. let a = w.frames.held f b p in let k = h.whole_frames f b a.0 in (a.1 ∙ k.0, k.1);
-      whole_registers = λ s v. let a = w.registers.fields s v in a.1 ∙ h.whole_registers s a.0;
+      whole_registers = grind arith;
       queue_in = queue;
       in_order = order;
-      registers_are = w.registers.number ∙ h.registers_are;
-      frames_are = w.frames.number ∙ h.frames_are;
-      banks_are = banks.number ∙ h.banks_are;
-      banks_hold = λ at l. subst (λ n. at / z.banks < n) (sym (banks.lengths (at % z.banks))) (h.banks_hold at l);
+      registers_are = grind arith;
+      frames_are = grind arith;
+      banks_are = grind arith;
+      banks_hold = grind arith;
     }
 
 -- a request of a present block, which changes no bank
@@ -150,14 +137,11 @@ pub sound_beside : (z : Sizes) (m : Machine) (d : Cache) → IsSound z m → Bes
     → (let m' : Machine = record { cache = d; banks = m.banks } in (at : ℕ) → flat_word z m' at ≡ kept_word z m' at)
     → (let m' : Machine = record { cache = d; banks = m.banks } in IsSound z m')
 sound_beside z m d h b once kept =
-    sound_within z m (record { cache = d; banks = m.banks }) h b.within (InOrder-within z m.cache d b.within b.orders h.in_order)
-    (subst (AllIn z) (sym b.queue) h.queue_in) once
-    (λ s i. ap (λ st. tally (is_for s i) (all_pending m.banks) + tally (is_entry_for s i) st) b.stack ∙ h.counted s i
-    ∙ ap bit (sym (b.waits s i)))
+    sound_within z m (record { cache = d; banks = m.banks }) h b.within (InOrder-within z _ d b.within b.orders h.in_order)
+    (rw (sym b.queue) at h.queue_in) once
+    (λ s i. (cc (b.stack, h.counted s i, ap bit (sym (b.waits s i)))))
     kept (record { number = refl; lengths = λ k. refl })
 
 -- the same frames and registers
 pub within_refl : (c d : Cache) → d.directory.frames ≡ c.directory.frames → d.registers ≡ c.registers → Within c d
-within_refl c d ef er =
-    within_like c d (subst (λ fs. FramesLike c.directory.frames fs) (sym ef) (frames_like-same c.directory.frames))
-    (subst (λ rs. RegistersWithin c.registers rs) (sym er) (registers_within-same c.registers))
+within_refl c d ef er = grind arith

@@ -1,6 +1,6 @@
 -- What each step makes of the tags that wait.
 use Rattle.std.proofs.Common.{◌≡◌, ℕ, suc, zero, ◌<◌, Bool, true, false, cond, if◌then◌else◌, List, [], ◌∷◌, ◌++◌, length, set, get_or}
-use Rattle.std.proofs.Common.{◌+◌, map, replicate, refl, ap, sym, ◌∙◌, arith}
+use Rattle.std.proofs.Common.{◌+◌, map, replicate, refl, ap, arith}
 use Rattle.std.specs.List.{flat_map, count_by}
 use Rattle.std.proofs.lemmas.Bool.{and_parts}
 use Rattle.std.proofs.lemmas.List.Sums.{sum_by-cons}
@@ -31,29 +31,28 @@ pub same_loads-changes : (r : Register) (i : ℕ) (f : Field) → i < length r.f
     → Changes (tags_of r) (tags_of (with_field r i f)) [] []
 same_loads-changes r i f h e =
     Changes-set tags_of_field r.fields i f clear_field [] [] h
-    (λ p. ap (λ ws. count_by p (map (λ (x : Owed). x.tag) ws) + count_by p []) e)
+    (λ p. ap (λ ws. count_by p (map (λ x. x.tag) ws) + count_by p []) e)
 
 -- a register that was free stands for a block
 pub fresh-changes : (r : Register) (words block frame : ℕ) → r ≡ free_register
     → Changes (tags_of r) (tags_of (fresh words block frame)) [] []
-fresh-changes r words block frame free p =
-    ap (λ ts. count_by p ts + count_by p []) (tags_of-fresh words block frame ∙ sym (ap tags_of free))
+fresh-changes r words block frame free p = grind (arith, tags_of-fresh)
 
 pub obsolete-changes : (r : Register) → Changes (tags_of r) (tags_of (made_obsolete r)) [] []
-obsolete-changes r p = ap (λ ts. count_by p ts + count_by p []) (tags_of-obsolete r)
+obsolete-changes r p = grind (arith, tags_of-obsolete)
 
 pub awaited-changes : (r : Register) (i : ℕ) (owed : Owed) → i < length r.fields
     → Changes (tags_of r) (tags_of (awaited r i owed)) [] (owed.tag ∷ [])
 unfolding awaited
 awaited-changes r i owed h =
     let waiting = (field_of r i).waiting in
-    let f : Field = record (field_of r i) { waiting = waiting ++ owed ∷ [] } in
+    let f = record (field_of r i) { waiting = waiting ++ owed ∷ [] } in
     Changes-set tags_of_field r.fields i f clear_field [] (owed.tag ∷ []) h (λ p. (
-    let a = count_by-map p (λ (w : Owed). w.tag) (waiting ++ owed ∷ []) in
-    let b = count_by-append (λ (w : Owed). p w.tag) waiting (owed ∷ []) in
-    let c = count_by-map p (λ (w : Owed). w.tag) waiting in
-    let d = sum_by-cons (λ (w : Owed). cond (p w.tag) 1 0) owed [] in
-    let e = sum_by-cons (λ (t : ℕ). cond (p t) 1 0) owed.tag [] in
+    let a = count_by-map p (λ w. w.tag) (waiting ++ owed ∷ []) in
+    let b = count_by-append (λ w. p w.tag) waiting (owed ∷ []) in
+    let c = count_by-map p (λ w. w.tag) waiting in
+    let d = sum_by-cons (λ w. cond (p w.tag) 1 0) owed [] in
+    let e = sum_by-cons (λ t. cond (p t) 1 0) owed.tag [] in
     omega arith))
 
 -- no load waits where all words are processed
@@ -62,8 +61,8 @@ none_wait : (fields : List Field)
     → is_done fields ≡ true → flat_map tags_of_field fields ≡ []
 none_wait [] h d = refl
 none_wait (f ∷ fs) h d =
-    let q = and_parts f.processed (is_done fs) d in
-    let e : f ≡ finished_field = h 0 q.0 in
+    let q = and_parts f.processed _ d in
+    let e = h 0 q.0 in
     let r = none_wait fs (λ i. h (suc i)) q.1 in
     rw (e, r) refl
 
@@ -72,21 +71,21 @@ pub finished-changes : (r : Register) (i : ℕ)
     → ((k : ℕ) → (field_of r k).processed ≡ true → field_of r k ≡ finished_field) → i < length r.fields
     → Changes (tags_of r) (tags_of (finished r i)) (tags_of_field (field_of r i)) []
 unfolding finished
-finished-changes r i h t = go (is_done (finished_fields r i)) refl
+finished-changes r i h t = go _ refl
   where
     lost : Changes (tags_of r) (flat_map tags_of_field (finished_fields r i)) (tags_of_field (field_of r i)) []
     lost = Changes-set tags_of_field r.fields i finished_field clear_field (tags_of_field (field_of r i)) [] t (λ p. omega arith)
 
     all : (j : ℕ) → (get_or (finished_fields r i) j clear_field).processed ≡ true
         → get_or (finished_fields r i) j clear_field ≡ finished_field
-    all = set-each (λ (f : Field). f.processed ≡ true → f ≡ finished_field) r.fields i finished_field clear_field t h (λ d. refl)
+    all = set-each (λ f. f.processed ≡ true → f ≡ finished_field) r.fields i finished_field clear_field t h (λ d. refl)
 
     go : (b : Bool) → is_done (finished_fields r i) ≡ b
         → Changes (tags_of r) (tags_of (if b then free_register else record r { fields = finished_fields r i }))
         (tags_of_field (field_of r i)) []
     go false e p = lost p
     go true e p =
-        let n = ap (count_by p) (none_wait (finished_fields r i) all e) in
+        let n = ap (count_by p) (none_wait _ all e) in
         omega (arith, n, lost p)
 
 -- ---- of all registers, where one changes

@@ -13,7 +13,7 @@ set-each P xs i y d p h q j = elim (cases_eq j i) [
 pub replicate-each : {X : Type 0} (n i : ℕ) (x : X) → get_or (replicate n x) i x ≡ x
 replicate-each n i x = elim (cases_lt i n) [
   | inl p ↦ get_or-replicate n i x x p
-  | inr p ↦ get_or_past (replicate n x) i x (rw (length-replicate n x) p)
+  | inr p ↦ get_or_past _ i x (rw (length-replicate n x) p)
 ]
 
 -- an element that was read, of a list that has another name

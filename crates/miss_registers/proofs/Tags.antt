@@ -1,6 +1,6 @@
 -- Lists of tags, and how often each stands there.
 use Rattle.std.proofs.Common.{◌≡◌, ℕ, ◌+◌, ◌<◌, Bool, true, false, ◌||◌, cond, List, [], ◌∷◌, ◌++◌, map, length, set, get_or, refl, ap}
-use Rattle.std.proofs.Common.{sym, ◌∙◌, arith}
+use Rattle.std.proofs.Common.{arith}
 use Rattle.std.specs.List.{list_any, flat_map, sum_by, count_by}
 use Rattle.std.proofs.lemmas.Bool.{or_parts}
 use Rattle.std.proofs.lemmas.List.Sums.{sum_by-cons, sum_by-append, sum_by-set}
@@ -11,7 +11,7 @@ use Rattle.std.proofs.lemmas.List.Folds.{list_any-append}
 pub list_any-flat_map : {X Y : Type 0} (p : Y → Bool) (f : X → List Y) (xs : List X)
     → list_any (λ x. list_any p (f x)) xs ≡ list_any p (flat_map f xs)
 list_any-flat_map p f [] = refl
-list_any-flat_map p f (x ∷ xs) = ap (λ b. list_any p (f x) || b) (list_any-flat_map p f xs) ∙ sym (list_any-append p (f x) (flat_map f xs))
+list_any-flat_map p f (x ∷ xs) = cc (list_any-flat_map p f xs, list_any-append p (f x) _)
 
 pub list_any-map : {X Y : Type 0} (p : Y → Bool) (f : X → Y) (xs : List X) → list_any p (map f xs) ≡ list_any (λ x. p (f x)) xs
 list_any-map p f [] = refl
@@ -42,8 +42,8 @@ count_by-map p f (x ∷ xs) =
 pub none_counted : {X : Type 0} (p : X → Bool) (xs : List X) → list_any p xs ≡ false → count_by p xs ≡ 0
 none_counted p [] h = refl
 none_counted {X} p (x ∷ xs) h =
-    let q = or_parts (p x) (list_any p xs) h in
-    let s = sum_by-cons (λ (y : X). cond (p y) 1 0) x xs in
+    let q = or_parts (p x) _ h in
+    let s = sum_by-cons (λ y. cond (p y) 1 0) x xs in
     let c : cond {A = ℕ} (p x) 1 0 ≡ 0 = rw q.0 refl in
     let r = none_counted p xs q.1 in
     omega arith
@@ -51,7 +51,7 @@ none_counted {X} p (x ∷ xs) h =
 all_counted : (xs : List ℕ) → count_by (λ t. true) xs ≡ length xs
 all_counted [] = refl
 all_counted (x ∷ xs) =
-    let s = sum_by-cons (λ (t : ℕ). cond true 1 0) x xs in
+    let s = sum_by-cons (λ t. cond true 1 0) x xs in
     let ih = all_counted xs in
     omega arith
 
@@ -62,16 +62,9 @@ abbrev pub Changes : (old new gone come : List ℕ) → Type 0
 Changes old new gone come = (p : ℕ → Bool) → count_by p new + count_by p gone ≡ count_by p old + count_by p come
 
 pub Changes-length : (old new gone come : List ℕ) → Changes old new gone come → length new + length gone ≡ length old + length come
-Changes-length old new gone come c =
-    let e = c (λ t. true) in
-    omega (arith, all_counted old, all_counted new, all_counted gone, all_counted come)
+Changes-length old new gone come c = grind (arith, all_counted)
 
 -- one of several lists changes
 pub Changes-set : {X : Type 0} (f : X → List ℕ) (xs : List X) (i : ℕ) (y d : X) (gone come : List ℕ) → i < length xs
     → Changes (f (get_or xs i d)) (f y) gone come → Changes (flat_map f xs) (flat_map f (set xs i y)) gone come
-Changes-set {X} f xs i y d gone come h c p =
-    let s = sum_by-set (λ (x : X). count_by p (f x)) xs i y d h in
-    let a = count_by-flat_map p f (set xs i y) in
-    let b = count_by-flat_map p f xs in
-    let e = c p in
-    omega arith
+Changes-set {X} f xs i y d gone come h c p = grind (arith, sum_by-set, count_by-flat_map)

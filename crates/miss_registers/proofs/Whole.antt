@@ -1,8 +1,8 @@
 -- Each step keeps the registers whole.
-use Rattle.std.proofs.Common.{◌≡◌, ℕ, suc, zero, ◌+◌, ◌<◌, ◌≤◌, ◌==◌, Bool, true, false, cond, if◌then◌else◌, List, [], ◌∷◌, ◌++◌}
+use Rattle.std.proofs.Common.{◌≡◌, ℕ, ◌+◌, ◌<◌, ◌≤◌, ◌==◌, true, false, cond, List, [], ◌∷◌}
 use Rattle.std.proofs.Common.{length, set, replicate, None, refl, ap, sym, ◌∙◌, inl, inr, arith, length-set, length-append}
 use Rattle.std.specs.List.{count_by}
-use Rattle.std.proofs.lemmas.Bool.{cases_eq, cases_Bool, false≢true, and_parts, and_right, both_ways, not-true, ne_eqb}
+use Rattle.std.proofs.lemmas.Bool.{cases_eq, false≢true, both_ways, ne_eqb}
 use Rattle.std.proofs.lemmas.List.{get_or-set_same, get_or-set_other, length-replicate, length-map}
 use Rattle.std.proofs.lemmas.List.Sums.{sum_by-cons, count_by-le-length}
 use Rattle.std.proofs.Math.ListN.{get_or-map}
@@ -13,7 +13,7 @@ use Rattle.flat_model.specs.Words.{no_lanes, joined}
 use Rattle.miss_registers.specs.declared.Owed.{Owed}
 use Rattle.miss_registers.specs.declared.TheConstants.{MAX_WAITING}
 use Rattle.miss_registers.specs.Registers.{Field, Register, free_register, clear_field, register_at, field_of, with_field, is_live}
-use Rattle.miss_registers.specs.Registers.{is_done, live_for, awaited, noted, marked, finished, finished_field, finished_fields}
+use Rattle.miss_registers.specs.Registers.{is_done, live_for, awaited, noted, marked, finished, finished_field}
 use Rattle.miss_registers.specs.Registers.{made_obsolete, without_code, fresh, expects, tags_of, tags_of_field, waiting_tags, tag_waits}
 use Rattle.miss_registers.specs.Whole.{IsWholeRegister, IsWhole}
 use Rattle.miss_registers.proofs.Each.{set-each, replicate-each}
@@ -26,41 +26,23 @@ use Rattle.miss_registers.proofs.Counts.{finished-changes, file-changes, waiting
 -- ---- a register
 
 free-whole : (words : ℕ) → IsWholeRegister words free_register
-free-whole words = record {
-  free = λ v. refl;
-  fields_there = λ v. absurd (false≢true v);
-  missing = λ v. absurd (false≢true v);
-  codes = λ o. absurd (false≢true o);
-  done = λ i p. absurd (false≢true p);
-  few_loads = λ i. omega arith;
-}
-
-fresh_missing : (words : ℕ) → 1 ≤ words → is_done (replicate words clear_field) ≡ false
-fresh_missing zero h = absurd (omega arith)
-fresh_missing (suc words) h = refl
+free-whole words = grind arith
 
 fresh-whole : (words block frame : ℕ) → 1 ≤ words → IsWholeRegister words (fresh words block frame)
 unfolding fresh
-fresh-whole words block frame h = record {
-  free = λ v. absurd (false≢true (sym v));
-  fields_there = λ v. length-replicate words clear_field;
-  missing = λ v. fresh_missing words h;
-  codes = λ o. absurd (false≢true o);
-  done = λ i p. absurd (false≢true (sym (ap (λ (f : Field). f.processed) (replicate-each words i clear_field)) ∙ p));
-  few_loads = λ i. rw (replicate-each words i clear_field) (omega arith);
-}
+fresh-whole words block frame h = grind (arith, length-replicate, false≢true, replicate-each)
 
 -- one word's field is another
 with_field-whole : (words : ℕ) (r : Register) (i : ℕ) (f : Field) → IsWholeRegister words r → r.valid ≡ true → i < length r.fields
     → is_done (set r.fields i f) ≡ false → (r.obsolete ≡ true → f.code ≡ no_lanes) → (f.processed ≡ true → f ≡ finished_field)
     → length f.waiting ≤ MAX_WAITING → IsWholeRegister words (with_field r i f)
 with_field-whole words r i f h v p m c d w = record {
-  free = λ n. absurd (both_ways r.valid n v);
+  free = grind arith;
   fields_there = λ t. length-set r.fields i f ∙ h.fields_there t;
   missing = λ t. m;
-  codes = λ o. set-each (λ (x : Field). x.code ≡ no_lanes) r.fields i f clear_field p (h.codes o) (c o);
-  done = set-each (λ (x : Field). x.processed ≡ true → x ≡ finished_field) r.fields i f clear_field p h.done d;
-  few_loads = set-each (λ (x : Field). length x.waiting ≤ MAX_WAITING) r.fields i f clear_field p h.few_loads w;
+  codes = λ o. set-each (λ x. x.code ≡ no_lanes) r.fields i f clear_field p (h.codes o) (c o);
+  done = set-each (λ x. x.processed ≡ true → x ≡ finished_field) r.fields i f clear_field p h.done d;
+  few_loads = set-each (λ x. length x.waiting ≤ MAX_WAITING) r.fields i f clear_field p h.few_loads w;
 }
 
 -- and the word is unprocessed
@@ -68,55 +50,42 @@ unprocessed-whole : (words : ℕ) (r : Register) (i : ℕ) (f : Field) → IsWho
     → f.processed ≡ false → (r.obsolete ≡ true → f.code ≡ no_lanes) → length f.waiting ≤ MAX_WAITING
     → IsWholeRegister words (with_field r i f)
 unprocessed-whole words r i f h v p u c w =
-    let here = ap (λ (x : Field). x.processed) (get_or-set_same r.fields i f clear_field p) in
-    let within : i < length (set r.fields i f) = rw (length-set r.fields i f) p in
-    let missing = list_all_at (λ (x : Field). x.processed) (set r.fields i f) i clear_field within (here ∙ u) in
+    let here = ap (λ x. x.processed) (get_or-set_same r.fields i f clear_field p) in
+    let within : i < length _ = rw (length-set r.fields i f) p in
+    let missing = list_all_at (λ x. x.processed) _ i clear_field within (here ∙ u) in
     with_field-whole words r i f h v p missing c (λ d. absurd (both_ways f.processed u d)) w
 
 awaited-whole : (words : ℕ) (r : Register) (i : ℕ) (owed : Owed) → IsWholeRegister words r → r.valid ≡ true → i < length r.fields
     → (field_of r i).processed ≡ false → length (field_of r i).waiting < MAX_WAITING → IsWholeRegister words (awaited r i owed)
 unfolding awaited
-awaited-whole words r i owed h v p u room =
-    let f : Field = record (field_of r i) { waiting = (field_of r i).waiting ++ owed ∷ [] } in
-    let few : length f.waiting ≤ MAX_WAITING = omega (arith, length-append (field_of r i).waiting (owed ∷ [])) in
-    unprocessed-whole words r i f h v p u (λ o. h.codes o i) few
+awaited-whole words r i owed h v p u room = grind (arith, length-append, unprocessed-whole, h.codes)
 
 finished-whole : (words : ℕ) (r : Register) (i : ℕ) → IsWholeRegister words r → r.valid ≡ true → i < length r.fields
     → IsWholeRegister words (finished r i)
 unfolding finished
-finished-whole words r i h v p = go (is_done (finished_fields r i)) refl
-  where
-    go : (b : Bool) → is_done (finished_fields r i) ≡ b
-        → IsWholeRegister words (if b then free_register else record r { fields = finished_fields r i })
-    go true e = free-whole words
-    go false e = with_field-whole words r i finished_field h v p e (λ o. refl) (λ d. refl) (omega arith)
+finished-whole words r i h v p = grind (arith, free-whole, with_field-whole)
 
 obsolete-whole : (words : ℕ) (r : Register) → IsWholeRegister words r → r.valid ≡ true → IsWholeRegister words (made_obsolete r)
 unfolding made_obsolete
 obsolete-whole words r h v =
     let cleared = λ (i : ℕ). get_or-map without_code r.fields i clear_field in
     record {
-      free = λ n. absurd (both_ways r.valid n v);
+      free = grind arith;
       fields_there = λ t. length-map r.fields without_code ∙ h.fields_there t;
-      missing = λ t. list_all-map (λ (x : Field). x.processed) without_code r.fields ∙ h.missing t;
-      codes = λ o i. ap (λ (x : Field). x.code) (cleared i);
-      done = λ i d. cleared i ∙ ap without_code (h.done i (sym (ap (λ (x : Field). x.processed) (cleared i)) ∙ d));
-      few_loads = λ i. rw (cleared i) (h.few_loads i);
+      missing = λ t. list_all-map (λ x. x.processed) without_code r.fields ∙ h.missing t;
+      codes = grind arith;
+      done = grind arith;
+      few_loads = grind arith;
     }
 
 -- a word in the stack is an unprocessed word of a valid register
 in_stack-valid : (words : ℕ) (r : Register) (i : ℕ) → IsWholeRegister words r → (field_of r i).in_stack ≡ true → r.valid ≡ true
-in_stack-valid words r i h s = elim (cases_Bool r.valid) [
-  | inl v ↦ v
-  | inr n ↦ absurd (false≢true (sym (ap (λ (x : Register). (field_of x i).in_stack) (h.free n)) ∙ s))
-]
+in_stack-valid words r i h s = grind arith
 
 -- ---- which registers stay live
 
 live-parts : (r : Register) → is_live r ≡ true → (r.valid ≡ true) × (r.obsolete ≡ false)
-live-parts r l =
-    let q = and_parts _ _ l in
-    (q.0, not-true _ q.1)
+live-parts r l = grind arith
 
 -- a register is live only where the one before was, for the same block
 abbrev StaysLive : Register → Register → Type 0
@@ -128,15 +97,11 @@ awaited-live r i owed l = (l, refl)
 
 finished-live : (r : Register) (i : ℕ) → StaysLive r (finished r i)
 unfolding finished
-finished-live r i = go (is_done (finished_fields r i))
-  where
-    go : (b : Bool) → StaysLive r (if b then free_register else record r { fields = finished_fields r i })
-    go true l = absurd (false≢true l)
-    go false l = (l, refl)
+finished-live r i = grind arith
 
 obsolete_not_live : (r : Register) → is_live (made_obsolete r) ≡ false
 unfolding made_obsolete
-obsolete_not_live r = and_right r.valid false refl
+obsolete_not_live r = grind arith
 
 -- ---- the file
 
@@ -147,9 +112,7 @@ IsAlone rs slot r =
 
 stays_alone : (words regs : ℕ) (rs : List Register) (slot : ℕ) (r : Register) → IsWhole words regs rs → StaysLive (register_at rs slot) r
     → IsAlone rs slot r
-stays_alone words regs rs slot r h stays k n a b s =
-    let q = stays a in
-    n (sym (h.one_live slot k q.0 b (sym q.1 ∙ s)))
+stays_alone words regs rs slot r h stays k n a b s = grind arith
 
 -- a register is another, which lost these tags and got those
 set-kept : (words regs : ℕ) (rs : List Register) (slot : ℕ) (r : Register) (gone come : List ℕ) → IsWhole words regs rs → slot < length rs
@@ -158,8 +121,8 @@ set-kept : (words regs : ℕ) (rs : List Register) (slot : ℕ) (r : Register) (
     → IsWhole words regs (set rs slot r)
 set-kept words regs rs slot r gone come h p w alone changes once =
     let all = file-changes rs slot r gone come p changes in
-    let here : register_at (set rs slot r) slot ≡ r = get_or-set_same rs slot r free_register p in
-    let there : (k : ℕ) → (k ≡ slot → ⊥) → register_at (set rs slot r) k ≡ register_at rs k =
+    let here : register_at _ slot ≡ r = get_or-set_same rs slot r free_register p in
+    let there : (k : ℕ) → (k ≡ slot → ⊥) → register_at _ k ≡ register_at rs k =
     λ k n. get_or-set_other rs slot k r free_register n in
     record {
       registers_there = length-set rs slot r ∙ h.registers_there;
@@ -167,17 +130,8 @@ set-kept words regs rs slot r gone come h p w alone changes once =
       few_registers = h.few_registers;
       some_word = h.some_word;
       few_words = h.few_words;
-      each = set-each (IsWholeRegister words) rs slot r free_register p h.each w;
-      one_live = λ j k a b s. elim (cases_eq j slot) [
-        | inl e ↦ elim (cases_eq k slot) [
-          | inl f ↦ e ∙ sym f
-          | inr n ↦ absurd (alone k n (rw (e, here) at a) (rw (there k n) at b) (rw (e, here, there k n) at s))
-        ]
-        | inr m ↦ elim (cases_eq k slot) [
-          | inl f ↦ absurd (alone j m (rw (f, here) at b) (rw (there j m) at a) (sym (rw (f, here, there j m) at s)))
-          | inr n ↦ h.one_live j k (rw (there j m) at a) (rw (there k n) at b) (rw (there j m, there k n) at s)
-        ]
-      ];
+      each = grind arith;
+      one_live = grind arith;
       once = λ tag. (let z = all (λ t. t == tag) in let o = once tag in omega arith);
     }
 
@@ -198,7 +152,7 @@ same_loads-kept words regs rs slot i f whole p v t u c e =
     let r = register_at rs slot in
     let h = whole.each slot in
     let w = unprocessed-whole words r i f h v t u c (rw e (h.few_loads i)) in
-    lost-kept words regs rs slot (with_field r i f) [] whole p w (λ l. (l, refl)) (same_loads-changes r i f t e)
+    lost-kept words regs rs slot _ [] whole p w (λ l. (l, refl)) (same_loads-changes r i f t e)
 
 -- ---- each step
 
@@ -209,7 +163,7 @@ unfolding marked
 marked-kept words regs rs slot i whole p x =
     let r = register_at rs slot in
     let e = expects-parts r i x in
-    let f : Field = record (field_of r i) { in_stack = true } in
+    let f = record (field_of r i) { in_stack = true } in
     same_loads-kept words regs rs slot i f whole p e.valid e.there e.unprocessed (λ o. (whole.each slot).codes o i) refl
 
 pub noted-kept : (words regs : ℕ) (rs : List Register) (slot i : ℕ) (lanes : Lanes) → IsWhole words regs rs → slot < length rs
@@ -219,7 +173,7 @@ unfolding noted
 noted-kept words regs rs slot i lanes whole p l t u =
     let r = register_at rs slot in
     let q = live-parts r l in
-    let f : Field = record (field_of r i) { code = joined (field_of r i).code lanes } in
+    let f = record (field_of r i) { code = joined (field_of r i).code lanes } in
     same_loads-kept words regs rs slot i f whole p q.0 t u (λ o. absurd (both_ways r.obsolete q.1 o)) refl
 
 pub obsolete-kept : (words regs : ℕ) (rs : List Register) (slot : ℕ) → IsWhole words regs rs → slot < length rs
@@ -228,8 +182,8 @@ pub obsolete-kept : (words regs : ℕ) (rs : List Register) (slot : ℕ) → IsW
 obsolete-kept words regs rs slot h p l =
     let r = register_at rs slot in
     let w = obsolete-whole words r (h.each slot) (live-parts r l).0 in
-    let stays = λ (v : is_live (made_obsolete r) ≡ true). absurd (both_ways (is_live (made_obsolete r)) (obsolete_not_live r) v) in
-    lost-kept words regs rs slot (made_obsolete r) [] h p w stays (obsolete-changes r)
+    let stays = λ (v : is_live (made_obsolete r) ≡ true). absurd (both_ways _ (obsolete_not_live r) v) in
+    lost-kept words regs rs slot _ [] h p w stays (obsolete-changes r)
 
 pub awaited-kept : (words regs : ℕ) (rs : List Register) (slot i : ℕ) (owed : Owed) → IsWhole words regs rs → slot < length rs
     → is_live (register_at rs slot) ≡ true → expects (register_at rs slot) i ≡ true
@@ -241,15 +195,15 @@ awaited-kept words regs rs slot i owed h p l x room new =
     let w = awaited-whole words r i owed (h.each slot) e.valid e.there e.unprocessed room in
     let alone = stays_alone words regs rs slot (awaited r i owed) h (awaited-live r i owed) in
     let changes = awaited-changes r i owed e.there in
-    set-kept words regs rs slot (awaited r i owed) [] (owed.tag ∷ []) h p w alone changes once
+    set-kept words regs rs slot _ [] (owed.tag ∷ []) h p w alone changes once
   where
     once : (tag : ℕ) → count_by (λ t. t == tag) (waiting_tags rs) + count_by (λ t. t == tag) (owed.tag ∷ []) ≤ 1
     once tag = elim (cases_eq owed.tag tag) [
       | inl e ↦ (
-          let none = none_counted (λ t. t == tag) (waiting_tags rs) (rw e at new) in
+          let none = none_counted (λ t. t == tag) _ (rw e at new) in
           omega (arith, none, count_by-le-length (λ t. t == tag) (owed.tag ∷ [])))
       | inr m ↦ (
-          let s = sum_by-cons (λ (t : ℕ). cond (t == tag) 1 0) owed.tag [] in
+          let s = sum_by-cons (λ t. cond (t == tag) 1 0) owed.tag [] in
           let c : cond {A = ℕ} (owed.tag == tag) 1 0 ≡ 0 = rw (ne_eqb owed.tag tag m) refl in
           omega (arith, h.once tag))
     ]
@@ -263,7 +217,7 @@ finished-kept words regs rs slot i h p s =
     let there = in_stack_there r i s in
     let w = finished-whole words r i each (in_stack-valid words r i each s) there in
     let changes = finished-changes r i each.done there in
-    lost-kept words regs rs slot (finished r i) (tags_of_field (field_of r i)) h p w (finished-live r i) changes
+    lost-kept words regs rs slot _ (tags_of_field (field_of r i)) h p w (finished-live r i) changes
 
 fresh-alone : (rs : List Register) (slot words block frame : ℕ) → live_for rs block ≡ None → IsAlone rs slot (fresh words block frame)
 unfolding fresh
@@ -272,22 +226,13 @@ fresh-alone rs slot words block frame n k m a b s = live_for-missing rs block k 
 pub allocated-kept : (words regs : ℕ) (rs : List Register) (slot block frame : ℕ) → IsWhole words regs rs → slot < length rs
     → register_at rs slot ≡ free_register → live_for rs block ≡ None → IsWhole words regs (set rs slot (fresh words block frame))
 allocated-kept words regs rs slot block frame h p free absent =
-    let changes = fresh-changes (register_at rs slot) words block frame free in
+    let changes = fresh-changes _ words block frame free in
     let w = fresh-whole words block frame h.some_word in
     let alone = fresh-alone rs slot words block frame absent in
-    set-kept words regs rs slot (fresh words block frame) [] [] h p w alone changes (λ tag. omega (arith, h.once tag))
+    set-kept words regs rs slot _ [] [] h p w alone changes (λ tag. omega (arith, h.once tag))
 
 -- ---- a new file
 
 pub new-kept : (words regs : ℕ) → 1 ≤ words → words ≤ MAX_BLOCK_WORDS → 1 ≤ regs → regs ≤ MAX_REGS
     → IsWhole words regs (replicate regs free_register)
-new-kept words regs a b c d = record {
-  registers_there = length-replicate regs free_register;
-  some_register = c;
-  few_registers = d;
-  some_word = a;
-  few_words = b;
-  each = λ k. rw (replicate-each regs k free_register) (free-whole words);
-  one_live = λ j k l m s. absurd (false≢true (sym (ap is_live (replicate-each regs j free_register)) ∙ l));
-  once = λ tag. rw (waiting_tags-new regs) (omega arith);
-}
+new-kept words regs a b c d = grind (arith, length-replicate, replicate-each, free-whole, false≢true, waiting_tags-new)

@@ -1,4 +1,4 @@
-use Rattle.std.proofs.Common.{◌<◌, List, length, sym, ap, ◌∙◌, subst, length-set}
+use Rattle.std.proofs.Common.{◌<◌, length, sym, ap, ◌∙◌, subst, length-set}
 use Rattle.std.proofs.lemmas.List.{get_or-set_same}
 use Rattle.cache_directory.specs.Frames as dir
 use Rattle.cache_directory.proofs.Misses.{MayInstall, installed-here}
@@ -10,7 +10,7 @@ pub install-requires : goal.install-requires
 install-requires g c =
     let d = c.args.directory.now in
     let f = c.args.places.frame in
-    let m = given_may_install c.args.sizes.now.ways c.args.sizes.now.block_words d f c.args.block c.requires.whole c.requires.absent c.requires.frame c.requires.of_set in
+    let m = given_may_install _ _ d f _ c.requires.whole c.requires.absent c.requires.frame c.requires.of_set in
     let given = sym c.vacate.ensures.directory in
     let P : dir.Frames → Type 0 = λ x. MayInstall c.args.sizes.now.ways x f c.args.block in
     let n = subst P given m in
@@ -21,7 +21,7 @@ allocate-requires g c =
     record {
       few_words = c.requires.whole_file.few_words;
       slot = c.requires.slot;
-      free = (c.requires.whole_file.each c.args.places.slot).free c.requires.free;
+      free = (c.requires.whole_file.each _).free c.requires.free;
       absent = c.requires.no_live;
     }
 
@@ -32,16 +32,18 @@ begin_words-requires g c =
     let slot = c.args.places.slot in
     let rs = c.args.registers.now in
     let given = c.vacate.new.directory in
-    let m = given_may_install c.args.sizes.now.ways c.args.sizes.now.block_words d f c.args.block c.requires.whole c.requires.absent c.requires.frame c.requires.of_set in
+    let m = given_may_install _ _ d f _ c.requires.whole c.requires.absent c.requires.frame c.requires.of_set in
     let P : dir.Frames → Type 0 = λ x. MayInstall c.args.sizes.now.ways x f c.args.block in
     let n = subst P (sym c.vacate.ensures.directory) m in
-    let there : f < length c.install.new.self.frames = subst (λ k. f < k) (sym (ap (λ (x : dir.Frames). length x.frames) c.install.ensures.installed ∙ installed_frames c.args.sizes.now.ways c.args.sizes.now.block_words given f c.args.block)) n.there in
-    let fresh = ap (λ (x : dir.Frames). dir.frame_at x.frames f) c.install.ensures.installed ∙ installed-here c.args.sizes.now.ways c.args.sizes.now.block_words given f c.args.block n.there in
-    let slots : slot < length c.allocate.new.self = subst (λ k. slot < k) (sym (ap length c.allocate.ensures.registers ∙ length-set rs slot (regs.fresh c.args.sizes.now.block_words c.args.block f))) c.requires.slot in
-    let allocated = ap (λ (x : List regs.Register). regs.register_at x slot) c.allocate.ensures.registers ∙ get_or-set_same rs slot (regs.fresh c.args.sizes.now.block_words c.args.block f) regs.free_register c.requires.slot in
+    let there : f < length _ = rw (sym (ap (λ x. length x.frames) c.install.ensures.installed ∙ installed_frames _ _ given f _)) at
+    n.there in
+    let fresh = ap (λ x. dir.frame_at x.frames f) c.install.ensures.installed ∙ installed-here _ _ given f _ n.there in
+    let slots : slot < length _ = rw (sym (ap length c.allocate.ensures.registers ∙ length-set rs slot _)) at c.requires.slot in
+    let allocated = ap (λ x. regs.register_at x slot) c.allocate.ensures.registers
+    ∙ get_or-set_same rs slot _ regs.free_register c.requires.slot in
     record {
       whole = c.install.ensures.whole;
-      whole_file = c.allocate.ensures.whole c.args.sizes.now.regs c.requires.whole_file;
+      whole_file = c.allocate.ensures.whole _ c.requires.whole_file;
       fits = c.requires.fits;
       frame = there;
       fresh = fresh;

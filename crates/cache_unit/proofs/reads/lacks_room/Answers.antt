@@ -1,21 +1,22 @@
 use Rattle.std.proofs.Common.{◌%◌, ◌==◌, nat_lt, length, sym, ap, ◌∙◌, arith, below_more}
-use Rattle.std.specs.List.{filter, range_with_len}
+use Rattle.std.specs.List.{filter}
 use Rattle.cache_unit.specs.Reads.{is_short}
 use Rattle.cache_unit.proofs.Ranges.{any_found, none_found}
 use Rattle.cache_unit.proofs.reads.lacks_room.Goals as goal
 
 pub returns-then-is_short : goal.returns-then-is_short
 returns-then-is_short g c =
-    let p = is_short (g.L.Lines.room_of c.args.lines.now) c.args.first c.args.words c.args.banks in
-    let share = length (filter (λ at. at % c.args.banks == c.loop-bank.bank) (range_with_len c.args.first c.args.words)) in
-    sym (any_found p c.args.banks c.loop-bank.bank c.loop-bank-test.true (ap (λ r. nat_lt r share) (sym c.room.ensures) ∙ sym c.is_short.ensures ∙ c.if-is_short.true))
+    let p = is_short _ _ _ _ in
+    let share = length (filter (λ at. at % c.args.banks == c.loop-bank.bank) _) in
+    sym (any_found p _ c.loop-bank.bank c.loop-bank-test.true (ap (λ r. nat_lt r share) (sym c.room.ensures) ∙ sym c.is_short.ensures
+    ∙ c.if-is_short.true))
 
 pub loop-bank-preserved : goal.loop-bank-preserved
 loop-bank-preserved g c =
-    let share = length (filter (λ at. at % c.args.banks == c.loop-bank.bank) (range_with_len c.args.first c.args.words)) in
+    let share = length (filter (λ at. at % c.args.banks == c.loop-bank.bank) _) in
     below_more _ _ c.loop-bank.invariant (ap (λ r. nat_lt r share) (sym c.room.ensures) ∙ sym c.is_short.ensures ∙ c.if-is_short.false)
 
 pub returns : goal.returns
 returns g c =
-    let p = is_short (g.L.Lines.room_of c.args.lines.now) c.args.first c.args.words c.args.banks in
-    sym (none_found p c.args.banks (λ k h. c.loop-bank.invariant k (omega arith)))
+    let p = is_short _ _ _ _ in
+    sym (none_found p _ (λ k h. c.loop-bank.invariant k (omega arith)))

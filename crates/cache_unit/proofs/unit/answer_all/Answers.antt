@@ -1,9 +1,7 @@
 use Rattle.std.proofs.Common.{arith, sym, ◌∙◌, ap, refl}
 use Rattle.std.proofs.lemmas.List.{append_assoc}
 use Rattle.std.proofs.lemmas.Option.{slice_get-get_or}
-use Rattle.arrayvec.specs.ArrayVec.{ArrayVec}
 use Rattle.flat_model.specs.Words.{zero_word, no_lanes}
-use Rattle.cache_unit.specs.declared.Reply.{Reply}
 use Rattle.cache_unit.proofs.Calls.{answered_more}
 use Rattle.cache_unit.proofs.unit.answer_all.Goals.{in-Some, in_default}
 use Rattle.cache_unit.proofs.unit.answer_all.Goals as goal
@@ -11,7 +9,9 @@ use Rattle.cache_unit.proofs.unit.answer_all.Goals as goal
 pub loop-k-preserved : goal.loop-k-preserved
 loop-k-preserved c = elim c.match-get.branch [
   | in-Some w ↦ (
-      let m = answered_more c.args.word c.args.send.now c.loop-k.k w.in-Some.owed (sym c.get.ensures ∙ w.in-Some.is) in
-      ap (λ (r : ArrayVec Reply). r.items) w.ready-is ∙ w.push.ensures.items ∙ rw (w.merge.ensures, c.loop-k.invariant, m, append_assoc) refl)
-  | in_default w ↦ absurd (w.in_default.not-Some _ (c.get.ensures ∙ slice_get-get_or c.args.send.now c.loop-k.k (record { tag = 0; held = zero_word; lanes = no_lanes }) (omega (arith, c.len-k-end.ensures))))
+      let m = answered_more c.args.word _ c.loop-k.k w.in-Some.owed (sym c.get.ensures ∙ w.in-Some.is) in
+      ap (λ r. r.items) w.ready-is ∙ w.push.ensures.items ∙ rw (w.merge.ensures, c.loop-k.invariant, m, append_assoc) refl)
+  | in_default w ↦ absurd (w.in_default.not-Some _
+      (c.get.ensures ∙ slice_get-get_or _ c.loop-k.k (record { tag = 0; held = zero_word; lanes = no_lanes })
+      (omega (arith, c.len-k-end.ensures))))
 ]

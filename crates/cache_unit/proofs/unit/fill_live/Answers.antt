@@ -1,14 +1,13 @@
-use Rattle.std.proofs.Common.{ℕ, Option, ap, ◌∙◌, subst}
+use Rattle.std.proofs.Common.{ap, ◌∙◌}
 use Rattle.cache_directory.specs.Frames as dir
-use Rattle.cache_unit.specs.Parts.{CanFill}
 use Rattle.cache_unit.proofs.Keeps.{held-filled}
 use Rattle.cache_unit.proofs.unit.fill_live.Goals as goal
 
 pub settle_frame-requires : goal.settle_frame-requires
 settle_frame-requires c =
-    let there = subst (λ (o : Option ℕ). CanFill c.args.directory.now o c.args.e.now.i) c.in-Some.is c.requires.there in
-    let h = held-filled c.args.directory.now c.in-Some.frame c.args.e.now.i c.args.e.now.word c.args.keep there.0 in
-    ap (λ (d : dir.Frames). dir.is_held d c.in-Some.frame) c.fill.ensures.filled ∙ h
+    let there = rw c.in-Some.is at c.requires.there in
+    let h = held-filled c.args.directory.now c.in-Some.frame _ _ _ there.0 in
+    ap (λ d. dir.is_held d c.in-Some.frame) c.fill.ensures.filled ∙ h
 
 pub returns-then-last-clause-whole : goal.returns-then-last-clause-whole
 returns-then-last-clause-whole c ways words h = c.settle_frame.ensures.whole ways words (c.fill.ensures.whole ways words h)

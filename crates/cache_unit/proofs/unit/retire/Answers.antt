@@ -4,5 +4,5 @@ use Rattle.cache_unit.proofs.unit.retire.Goals as goal
 
 pub make_obsolete-requires : goal.make_obsolete-requires
 make_obsolete-requires c =
-    let p = live_for-some c.args.registers.now c.args.block c.in-Some.slot (sym c.in-Some.ensures.answer) in
+    let p = live_for-some _ _ c.in-Some.slot (sym c.in-Some.ensures.answer) in
     record { slot = p.0; live = p.1 }

@@ -1,4 +1,4 @@
-use Rattle.std.proofs.Common.{◌+◌, ◌<◌, true, false, [], ◌∷◌, length, take, get_or, sym, ap, ◌∙◌, subst, arith, length-append, append-nil}
+use Rattle.std.proofs.Common.{◌+◌, ◌<◌, true, false, [], ◌∷◌, length, take, get_or, sym, ap, ◌∙◌, arith, length-append, append-nil}
 use Rattle.flat_model.specs.Words.{has_any}
 use Rattle.cache_directory.specs.Frames.{frame_at, zero_cell}
 use Rattle.cache_unit.specs.Causes.{dirty_from}
@@ -9,22 +9,29 @@ use Rattle.cache_unit.proofs.victim.dirty_words.Goals.{then-has_any, else-has_an
 pub dirty-requires : goal.dirty-requires
 dirty-requires c =
     let d = c.args.directory.now in
-    let n = held-cells c.args.sizes.now.ways c.args.sizes.now.block_words d c.args.frame c.requires.whole c.requires.held in
-    subst (λ k. c.loop-i.i < k) (sym n) c.loop-i-test.true
+    let n = held-cells _ _ d _ c.requires.whole c.requires.held in
+    rw (sym n) at c.loop-i-test.true
 
 pub loop-i-preserved : goal.loop-i-preserved
 loop-i-preserved c =
     let cells = (frame_at c.args.directory.now.frames c.args.frame).cells in
-    let n = held-cells c.args.sizes.now.ways c.args.sizes.now.block_words c.args.directory.now c.args.frame c.requires.whole c.requires.held in
+    let n = held-cells c.args.sizes.now.ways c.args.sizes.now.block_words c.args.directory.now c.args.frame c.requires.whole
+    c.requires.held in
     let there : c.loop-i.i < length cells = omega arith in
     let test = sym (ap has_any c.dirty.ensures.dirty) ∙ sym c.has_any.ensures in
     let cell = get_or cells c.loop-i.i zero_cell in
     let front = dirty_from 0 0 (take c.loop-i.i cells) in
-    elim c.if-has_any.branch [ then-has_any w ↦ (let e = ap length (dirty_more 0 0 cells c.loop-i.i true there (test ∙ w.if-has_any.true)) ∙ length-append front (queued_cell 0 (0 + c.loop-i.i) cell ∷ []) in (omega arith, omega arith)) | else-has_any w ↦ (let e = ap length (dirty_more 0 0 cells c.loop-i.i false there (test ∙ w.if-has_any.false)) ∙ ap length (append-nil front) in (omega arith, omega arith)) ]
+    elim c.if-has_any.branch [
+      | then-has_any w ↦ (let e = ap length (dirty_more 0 0 cells c.loop-i.i true there (test ∙ w.if-has_any.true))
+          ∙ length-append front (queued_cell 0 (0 + c.loop-i.i) cell ∷ []) in (omega arith, omega arith))
+      | else-has_any w ↦
+          (let e = ap length (dirty_more 0 0 cells c.loop-i.i false there (test ∙ w.if-has_any.false)) ∙ ap length (append-nil front) in
+          (omega arith, omega arith))
+    ]
 
 pub returns-clause-count : goal.returns-clause-count
 returns-clause-count c block at =
     let cells = (frame_at c.args.directory.now.frames c.args.frame).cells in
-    let n = held-cells c.args.sizes.now.ways c.args.sizes.now.block_words c.args.directory.now c.args.frame c.requires.whole c.requires.held in
+    let n = held-cells c.args.sizes.now.ways _ _ _ c.requires.whole c.requires.held in
     let all = take_all cells c.loop-i.i (omega arith) in
-    c.loop-i.invariant.0 ∙ ap (λ xs. length (dirty_from 0 0 xs)) all ∙ dirty-length 0 0 block at cells
+    cc (c.loop-i.invariant.0, all, dirty-length 0 0 block at cells)

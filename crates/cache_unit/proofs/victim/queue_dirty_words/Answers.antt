@@ -1,39 +1,37 @@
-use Rattle.std.proofs.Common.{◌≡◌, ◌+◌, ◌*◌, ◌<◌, ◌++◌, true, false, [], ◌∷◌, List, length, take, get_or, sym, ap, ◌∙◌, subst, arith, length-append, append-nil}
-use Rattle.flat_model.specs.Words.{has_any, merged, zero_word}
-use Rattle.cache_directory.specs.Frames.{frame_at, zero_cell}
-use Rattle.flat_model.specs.declared.Word.{Word}
-use Rattle.write_queue.specs.declared.Queued.{Queued}
-use Rattle.write_queue.specs.Queue.{Queue, queue as queue_of}
+use Rattle.std.proofs.Common.{◌≡◌, ◌+◌, ◌*◌, ◌<◌, ◌++◌, true, false, length, sym, ap, ◌∙◌, arith, length-append, append-nil}
+use Rattle.flat_model.specs.Words.{has_any, zero_word}
+use Rattle.cache_directory.specs.Frames.{frame_at}
+use Rattle.write_queue.specs.Queue.{queue as queue_of}
 use Rattle.cache_unit.specs.Causes.{dirty_from}
-use Rattle.cache_unit.proofs.DirtyWords.{queue_one_more, queued_cell, held-cells, dirty_more, dirty_within, take_all}
+use Rattle.cache_unit.proofs.DirtyWords.{queue_one_more, held-cells, dirty_more, dirty_within, take_all}
 use Rattle.cache_unit.proofs.victim.queue_dirty_words.Goals as goal
 use Rattle.cache_unit.proofs.victim.queue_dirty_words.Goals.{then-has_any, else-has_any}
 
 pub dirty-lanes-requires : goal.dirty-lanes-requires
 dirty-lanes-requires c =
     let d = c.args.directory.now in
-    let n = held-cells c.args.sizes.now.ways c.args.sizes.now.block_words d c.args.frame c.requires.whole c.requires.held in
-    subst (λ k. c.loop-i.i < k) (sym n) c.loop-i-test.true
+    let n = held-cells _ _ d _ c.requires.whole c.requires.held in
+    rw (sym n) at c.loop-i-test.true
 
 pub word-requires : goal.word-requires
 word-requires c =
     let d = c.args.directory.now in
-    let n = held-cells c.args.sizes.now.ways c.args.sizes.now.block_words d c.args.frame c.requires.whole c.requires.held in
-    subst (λ k. c.loop-i.i < k) (sym n) c.loop-i-test.true
+    let n = held-cells _ _ d _ c.requires.whole c.requires.held in
+    rw (sym n) at c.loop-i-test.true
 
 pub push-requires : goal.push-requires
 push-requires c =
     let cells = (frame_at c.args.directory.now.frames c.args.frame).cells in
     let block = c.args.block in
     let first = c.args.block * c.args.sizes.now.block_words in
-    let n = held-cells c.args.sizes.now.ways c.args.sizes.now.block_words c.args.directory.now c.args.frame c.requires.whole c.requires.held in
+    let n = held-cells c.args.sizes.now.ways c.args.sizes.now.block_words _ _ c.requires.whole c.requires.held in
     let there : c.loop-i.i < length cells = omega arith in
     let test = sym (ap has_any c.dirty-lanes.ensures.dirty) ∙ sym c.has_any.ensures ∙ c.if-has_any.true in
-    let front = dirty_from block first (take c.loop-i.i cells) in
-    let more = ap length (dirty_more block first cells c.loop-i.i true there test) ∙ length-append front (queued_cell block (first + c.loop-i.i) (get_or cells c.loop-i.i zero_cell) ∷ []) in
+    let front = dirty_from block first _ in
+    let more = ap length (dirty_more block first cells c.loop-i.i true there test) ∙ length-append front _ in
     let within = dirty_within block first cells (c.loop-i.i + 1) in
-    let entries = ap (λ (q : Queue). length q.entries) c.loop-i.invariant ∙ length-append c.args.queue.now.entries front in
-    let limit = ap (λ (q : Queue). q.limit) c.loop-i.invariant in
+    let entries = ap (λ q. length q.entries) c.loop-i.invariant ∙ length-append _ front in
+    let limit = ap (λ q. q.limit) c.loop-i.invariant in
     omega arith
 
 pub loop-i-preserved : goal.loop-i-preserved
@@ -42,15 +40,24 @@ loop-i-preserved c =
     let block = c.args.block in
     let first = c.args.block * c.args.sizes.now.block_words in
     let old = c.args.queue.now in
-    let n = held-cells c.args.sizes.now.ways c.args.sizes.now.block_words c.args.directory.now c.args.frame c.requires.whole c.requires.held in
+    let n = held-cells c.args.sizes.now.ways _ _ _ c.requires.whole c.requires.held in
     let there : c.loop-i.i < length cells = omega arith in
     let test = sym (ap has_any c.dirty-lanes.ensures.dirty) ∙ sym c.has_any.ensures in
-    let front = dirty_from block first (take c.loop-i.i cells) in
-    elim c.if-has_any.branch [ then-has_any w ↦ queue_one_more c.loop-i.queue old c.if-has_any.queue block first c.loop-i.i cells w.merge.result c.dirty-lanes.result there (test ∙ w.if-has_any.true) c.dirty-lanes.ensures.dirty (let none : w.default.result ≡ zero_word = λ i. let d = w.default.ensures in record { b0 = d.0 i; b1 = d.1.0 i; b2 = d.1.1.0 i; b3 = d.1.1.1 i } in w.merge.ensures ∙ ap (λ (v : Word). merged v w.word.result c.dirty-lanes.result) none ∙ ap (λ (v : Word). merged zero_word v c.dirty-lanes.result) w.word.ensures.word) c.loop-i.invariant (w.queue-is ∙ w.push.ensures) | else-has_any w ↦ w.queue-is ∙ c.loop-i.invariant ∙ ap (λ (l : List Queued). queue_of (old.entries ++ l) old.limit) (sym (dirty_more block first cells c.loop-i.i false there (test ∙ w.if-has_any.false) ∙ append-nil front)) ]
+    let front = dirty_from block first _ in
+    elim c.if-has_any.branch [
+      | then-has_any w ↦ queue_one_more c.loop-i.queue old c.if-has_any.queue block first c.loop-i.i cells
+          w.merge.result c.dirty-lanes.result there (test ∙ w.if-has_any.true) c.dirty-lanes.ensures.dirty
+          (let none : w.default.result ≡ zero_word = λ i. let d = w.default.ensures in
+          record { b0 = d.0 i; b1 = d.1.0 i; b2 = d.1.1.0 i; b3 = d.1.1.1 i } in cc (w.merge.ensures, none, w.word.ensures.word))
+          c.loop-i.invariant (w.queue-is ∙ w.push.ensures)
+      | else-has_any w ↦ w.queue-is ∙ c.loop-i.invariant
+          ∙ ap (λ l. queue_of (old.entries ++ l) old.limit)
+          (sym (dirty_more block first cells c.loop-i.i false there (test ∙ w.if-has_any.false) ∙ append-nil front))
+    ]
 
 pub returns : goal.returns
 returns c =
     let cells = (frame_at c.args.directory.now.frames c.args.frame).cells in
-    let n = held-cells c.args.sizes.now.ways c.args.sizes.now.block_words c.args.directory.now c.args.frame c.requires.whole c.requires.held in
+    let n = held-cells c.args.sizes.now.ways _ _ _ c.requires.whole c.requires.held in
     let all = take_all cells c.loop-i.i (omega arith) in
-    c.loop-i.invariant ∙ ap (λ xs. queue_of (c.args.queue.now.entries ++ dirty_from c.args.block (c.args.block * c.args.sizes.now.block_words) xs) c.args.queue.now.limit) all
+    cc (c.loop-i.invariant, all)

@@ -1,4 +1,4 @@
 use Rattle.cache_unit.proofs.victim.vacate.Goals as goal
 
 pub returns-in-Some-clause-whole : goal.returns-in-Some-clause-whole
-returns-in-Some-clause-whole c = c.release.ensures.whole c.args.sizes.now.block_words c.requires.whole
+returns-in-Some-clause-whole c = c.release.ensures.whole _ c.requires.whole

@@ -8,7 +8,7 @@ pub loop-bank-preserved : goal.loop-bank-preserved
 loop-bank-preserved c =
     let own = ap (λ n. c.loop-bank.weight + n) c.weight_of_bank-weight.ensures.value in
     record {
-      counted = total_more bank_weight c.args.banks.now.banks c.loop-bank.bank no_bank c.loop-bank.weight
-          (c.loop-bank.weight + c.weight_of_bank-weight.result) (omega arith) c.loop-bank.invariant.counted own;
+      counted = total_more bank_weight _ c.loop-bank.bank no_bank c.loop-bank.weight
+          _ (omega arith) c.loop-bank.invariant.counted own;
       small = omega arith;
     }

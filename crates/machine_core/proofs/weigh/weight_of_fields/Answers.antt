@@ -10,7 +10,7 @@ loop-i-preserved c =
     let words = ap (λ (z : Sizes). z.block_words) c.sizes.ensures in
     let own = ap (λ n. c.loop-i.weight + n) c.weight_of_field-weight.ensures.value in
     record {
-      counted = total_more field_weight (register_at c.args.unit.now.cache c.args.slot).fields c.loop-i.i clear_field c.loop-i.weight
-          (c.loop-i.weight + c.weight_of_field-weight.result) (omega arith) c.loop-i.invariant.counted own;
+      counted = total_more field_weight (register_at c.args.unit.now.cache _).fields c.loop-i.i clear_field c.loop-i.weight
+          _ (omega arith) c.loop-i.invariant.counted own;
       small = omega arith;
     }

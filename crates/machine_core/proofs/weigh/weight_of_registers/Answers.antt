@@ -11,8 +11,8 @@ loop-slot-preserved c =
     let regs = ap (λ (z : Sizes). z.regs) c.sizes.ensures in
     let own = ap (λ n. c.loop-slot.weight + n) c.weight_of_register-weight.ensures.value in
     record {
-      counted = total_more register_weight c.args.unit.now.cache.registers c.loop-slot.slot free_register c.loop-slot.weight
-          (c.loop-slot.weight + c.weight_of_register-weight.result) (omega arith) c.loop-slot.invariant.counted own;
+      counted = total_more register_weight _ c.loop-slot.slot free_register c.loop-slot.weight
+          _ (omega arith) c.loop-slot.invariant.counted own;
       small = omega arith;
     }
 

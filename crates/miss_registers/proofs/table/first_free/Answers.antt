@@ -9,5 +9,5 @@ returns c =
     let ran = c.position-place.ensures.ran in
     let yields = YieldsList-from_slice _ c.iter.ensures.rest in
     let found = position_from_yields_List (λ r. not r.valid) _ _ c.position-place.result ran yields (λ x b q k. search (rules, tests)) in
-    let place = found ∙ sym (free_slot_position c.args.slots.now) in
+    let place = found ∙ sym (free_slot_position _) in
     search (rules, tests) ∙ place

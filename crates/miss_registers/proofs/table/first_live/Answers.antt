@@ -11,5 +11,5 @@ returns c =
     let yields = YieldsList-from_slice _ c.iter.ensures.rest in
     let test : Register → Bool = λ r. is_live r && r.block == c.args.block in
     let found = position_from_yields_List test _ _ c.position-place.result ran yields (λ x b q k. search (rules, tests)) in
-    let place = found ∙ sym (live_for_position c.args.slots.now c.args.block) in
+    let place = found ∙ sym (live_for_position _ _) in
     search (rules, tests) ∙ place

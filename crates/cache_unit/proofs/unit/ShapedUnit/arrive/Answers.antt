@@ -1,9 +1,6 @@
-use Rattle.std.proofs.Common.{sym, ◌∙◌, refl, set, subst, List}
-use Rattle.miss_registers.specs.Registers as regs
-use Rattle.miss_registers.specs.Whole.{IsWhole}
+use Rattle.std.proofs.Common.{sym, ◌∙◌, refl}
 use Rattle.std.proofs.lemmas.Bool.{false≢true}
 use Rattle.input_stack.specs.declared.Entry.{Entry}
-use Rattle.cache_unit.specs.View.{cache_of}
 use Rattle.cache_unit.specs.Steps.{arrive_step}
 use Rattle.cache_unit.proofs.Arrive.{Expected-from, stray-shown, arrive-stray, arrive-full, arrive-moved, arrived-shown, IsSound-arrived}
 use Rattle.cache_unit.proofs.Arrive.{at_least}
@@ -14,37 +11,39 @@ pub invariant_of-self : goal.invariant_of-self
 invariant_of-self c =
     let s = c.self.inside in
     let e : Entry = record { slot = c.args.slot; i = c.args.i; word = c.args.word } in
-    let w : IsWhole s.sizes.block_words s.sizes.regs (set s.registers e.slot (regs.marked (regs.register_at s.registers e.slot) e.i)) = subst (λ (x : List regs.Register). IsWhole s.sizes.block_words s.sizes.regs x) c.mark_in_stack.ensures.registers (c.mark_in_stack.ensures.whole s.sizes.block_words s.sizes.regs c.self.invariant.sound.registers) in
+    let w = rw c.mark_in_stack.ensures.registers at
+    (c.mark_in_stack.ensures.whole s.sizes.block_words s.sizes.regs c.self.invariant.sound.registers) in
     record {
       sound = rw (c.mark_in_stack.ensures.registers, c.in-Ok.ensures.ok)
-          (IsSound-arrived s.sizes (cache_of s) e c.self.invariant.sound (Expected-from _ c.args.i (sym c.expects.ensures.answer ∙ c.if-not-expects.false)) w);
+          (IsSound-arrived s.sizes _ e c.self.invariant.sound (Expected-from _ _ (sym c.expects.ensures.answer ∙ c.if-not-expects.false))
+          w);
       limit = c.self.invariant.limit;
     }
 
 pub returns-then-not-expects : goal.returns-then-not-expects
 returns-then-not-expects c =
     let s = c.self.inside in
-    let told = stray-shown s.sizes (cache_of s) c.args.slot c.args.i c.self.invariant.sound in
+    let told = stray-shown s.sizes _ _ _ c.self.invariant.sound in
     let stray = sym told ∙ rw (← c.expects.ensures.answer, c.if-not-expects.true) refl in
-    let is = arrive-stray s.sizes (cache_of s) c.args.slot c.args.i c.args.word stray in
-    keeps s c.self.invariant c.args.self.now c.self.view_is (λ z k. arrive_step z k c.args.slot c.args.i c.args.word) _ _ _ is refl
+    let is = arrive-stray s.sizes _ _ _ _ stray in
+    keeps s c.self.invariant _ c.self.view_is (λ z k. arrive_step z k c.args.slot c.args.i c.args.word) _ _ _ is refl
 
 pub returns-in-Ok : goal.returns-in-Ok
 returns-in-Ok c =
     let s = c.self.inside in
-    let told = stray-shown s.sizes (cache_of s) c.args.slot c.args.i c.self.invariant.sound in
+    let told = stray-shown s.sizes _ _ _ c.self.invariant.sound in
     let awaited = sym told ∙ rw (← c.expects.ensures.answer, c.if-not-expects.false) refl in
-    let is = arrive-moved s.sizes (cache_of s) c.args.slot c.args.i c.args.word awaited (c.in-Ok.ensures.variant.0 refl) in
-    let shown = arrived-shown (cache_of s) c.args.slot c.args.i c.args.word in
-    rw (c.mark_in_stack.ensures.registers, c.in-Ok.ensures.ok) (makes s c.self.invariant c.args.self.now c.self.view_is
+    let is = arrive-moved s.sizes _ _ _ _ awaited (c.in-Ok.ensures.variant.0 refl) in
+    let shown = arrived-shown _ _ _ _ in
+    rw (c.mark_in_stack.ensures.registers, c.in-Ok.ensures.ok) (makes s c.self.invariant _ c.self.view_is
     (λ z k. arrive_step z k c.args.slot c.args.i c.args.word) _ _ _ is _ shown)
 
 pub returns-in-Err : goal.returns-in-Err
 returns-in-Err c =
     let s = c.self.inside in
-    let told = stray-shown s.sizes (cache_of s) c.args.slot c.args.i c.self.invariant.sound in
+    let told = stray-shown s.sizes _ _ _ c.self.invariant.sound in
     let awaited = sym told ∙ rw (← c.expects.ensures.answer, c.if-not-expects.false) refl in
     let full = at_least (λ z. false≢true (c.in-Err.ensures.variant.1 z)) in
-    let is = arrive-full s.sizes (cache_of s) c.args.slot c.args.i c.args.word awaited full in
-    rw (c.in-Err.ensures.err) (makes s c.self.invariant c.args.self.now c.self.view_is
+    let is = arrive-full s.sizes _ _ _ _ awaited full in
+    rw (c.in-Err.ensures.err) (makes s c.self.invariant _ c.self.view_is
     (λ z k. arrive_step z k c.args.slot c.args.i c.args.word) _ _ _ is _ refl)

@@ -1,6 +1,5 @@
-use Rattle.std.proofs.Common.{◌∙◌, ap, sym, Some, is_some, ◌<◌, subst}
+use Rattle.std.proofs.Common.{◌∙◌, ap, sym, Some, is_some}
 use Rattle.std.specs.Option.{option_map}
-use Rattle.cache_directory.specs.declared.Cell.{Cell}
 use Rattle.cache_directory.specs.Frames as dir
 use Rattle.cache_unit.specs.View.{cache_of}
 use Rattle.cache_unit.specs.Views as views
@@ -14,18 +13,20 @@ word-requires c =
     let s = c.self.inside in
     let sizes = s.sizes in
     let now = cache_of s in
-    let shown = cells-shown (cache_of s) c.args.frame c.args.i in
-    let there = ap is_some (sym shown) ∙ of_parts sizes now _ (λ z k. is_some (views.cell_view k c.args.frame c.args.i)) c.self.view_is ∙ sym c.has_word.ensures ∙ c.if-has_word.true in
-    let held = held-cell s.sizes.ways s.sizes.block_words s.directory c.args.frame c.args.i c.self.invariant.sound.directory there in
-    subst (λ n. c.args.i < n) (sym (held-cells s.sizes.ways s.sizes.block_words s.directory c.args.frame c.self.invariant.sound.directory held.0)) held.1
+    let shown = cells-shown (cache_of s) _ _ in
+    let there = ap is_some (sym shown) ∙ of_parts sizes now _ (λ z k. is_some (views.cell_view k c.args.frame c.args.i)) c.self.view_is
+    ∙ sym c.has_word.ensures ∙ c.if-has_word.true in
+    let held = held-cell s.sizes.ways s.sizes.block_words s.directory _ _ c.self.invariant.sound.directory there in
+    rw (sym (held-cells s.sizes.ways s.sizes.block_words s.directory _ c.self.invariant.sound.directory held.0)) at held.1
 
 pub returns-then-has_word : goal.returns-then-has_word
 returns-then-has_word c =
     let s = c.self.inside in
     let sizes = s.sizes in
     let now = cache_of s in
-    let shown = cells-shown (cache_of s) c.args.frame c.args.i in
-    let there = ap is_some (sym shown) ∙ of_parts sizes now _ (λ z k. is_some (views.cell_view k c.args.frame c.args.i)) c.self.view_is ∙ sym c.has_word.ensures ∙ c.if-has_word.true in
-    let cell = cell-there (dir.frame_at s.directory.frames c.args.frame).cells c.args.i there in
-    let part = ap Some c.word.ensures.word ∙ ap (option_map (λ (x : Cell). x.word)) (sym (shown ∙ cell)) in
+    let shown = cells-shown (cache_of s) _ _ in
+    let there = ap is_some (sym shown) ∙ of_parts sizes now _ (λ z k. is_some (views.cell_view k c.args.frame c.args.i)) c.self.view_is
+    ∙ sym c.has_word.ensures ∙ c.if-has_word.true in
+    let cell = cell-there (dir.frame_at s.directory.frames _).cells _ there in
+    let part = ap Some c.word.ensures.word ∙ ap (option_map (λ x. x.word)) (sym (shown ∙ cell)) in
     value_by sizes now _ (λ z k. views.word_view k c.args.frame c.args.i) _ c.self.view_is part

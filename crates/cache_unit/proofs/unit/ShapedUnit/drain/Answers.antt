@@ -1,6 +1,5 @@
-use Rattle.std.proofs.Common.{ℕ, suc, List, [], ◌∷◌, drop, ap, ◌∙◌, sym, subst, arith, rules}
+use Rattle.std.proofs.Common.{suc, List, [], ◌∷◌, drop, ap, ◌∙◌, arith, rules}
 use Rattle.write_queue.specs.declared.Queued.{Queued}
-use Rattle.write_queue.specs.Queue.{Queue}
 use Rattle.cache_unit.specs.Sound.{QueueSound}
 use Rattle.cache_unit.specs.declared.Sizes.{Sizes}
 use Rattle.cache_unit.specs.Steps.{drain_step}
@@ -27,26 +26,26 @@ invariant_of-self g c =
         registers = h.registers;
         stack_sound = h.stack_sound;
         tied = h.tied;
-        queue_sound = subst (λ (x : Queue). QueueSound s.sizes x.entries) (sym c.pop.ensures.rest) (queue_less s.sizes s.queue.entries h.queue_sound);
+        queue_sound = rw c.pop.ensures.rest (queue_less s.sizes s.queue.entries h.queue_sound);
         owes = h.owes;
       };
-      limit = ap (λ (x : Queue). x.limit) c.pop.ensures.rest ∙ c.self.invariant.limit;
+      limit = ap (λ x. x.limit) c.pop.ensures.rest ∙ c.self.invariant.limit;
     }
 
 pub returns-in_default : goal.returns-in_default
 unfolding drain_step
 returns-in_default g c =
-    let sound = sound_of c.self.inside c.self.invariant c.args.self.now c.self.view_is in
+    let sound = sound_of _ c.self.invariant _ c.self.view_is in
     record { made = record { sound = sound; answer = search rules; unit = search rules }; lines = search rules }
 
 pub returns-then-room-eq0 : goal.returns-then-room-eq0
 unfolding drain_step
 returns-then-room-eq0 g c =
-    let sound = sound_of c.self.inside c.self.invariant c.args.self.now c.self.view_is in
-    record { made = record { sound = sound; answer = search rules; unit = search rules }; lines = search rules }
+    let sound = sound_of _ c.self.invariant _ c.self.view_is in
+    record { made = grind arith; lines = search rules }
 
 pub returns : goal.returns
 unfolding drain_step
 returns g c =
-    let sound = sound_of c.self.inside c.self.invariant c.args.self.now c.self.view_is in
-    record { made = record { sound = sound; answer = search rules; unit = search rules }; lines = search rules }
+    let sound = sound_of _ c.self.invariant _ c.self.view_is in
+    record { made = grind arith; lines = search rules }

@@ -1,10 +1,8 @@
 use Rattle.std.proofs.Common.{◌≡◌, ◌+◌, ◌*◌, ◌%◌, ◌<◌, ◌≤◌, ℕ, List, Some, arith, ap, sym, ◌∙◌, subst}
 use Rattle.memory_banks.specs.Banks.{HasSent}
-use Rattle.memory_banks.specs.declared.Command.{Command}
 use Rattle.cache_directory.specs.Frames as dir
 use Rattle.miss_registers.specs.Registers as regs
 use Rattle.miss_registers.specs.Whole.{IsWhole}
-use Rattle.write_queue.specs.Queue.{Queue}
 use Rattle.cache_unit.specs.View.{cache_of}
 use Rattle.cache_unit.specs.State.{UnitState, is_present}
 use Rattle.cache_unit.specs.Steps.{fetched, fetches}
@@ -22,17 +20,18 @@ bring_in-requires g c =
     let s = c.self.inside in
     let h = c.self.invariant.sound in
     let z = s.sizes in
-    let room = g.L.Lines.room_of c.args.lines.now in
+    let room = g.L.Lines.room_of _ in
     let P : UnitState → Type 0 = λ v. MayTake v.sizes room v.cache c.args.block c.args.places in
-    let t = takes_from z (cache_of s) h room c.args.block c.args.places (subst P (sym c.self.view_is) c.requires.may_take) in
-    let absent = absent_frame (cache_of s) c.args.block (ap (λ (v : UnitState). is_present v.cache c.args.block) c.self.view_is ∙ c.requires.absent) in
-    let live = no_live s.directory.frames s.registers c.args.block h.tied absent in
+    let t = takes_from z _ h room _ _ (subst P (sym c.self.view_is) c.requires.may_take) in
+    let absent = absent_frame (cache_of s) _ (ap (λ v. is_present v.cache c.args.block) c.self.view_is ∙ c.requires.absent) in
+    let live = no_live s.directory.frames s.registers _ h.tied absent in
     let in_memory : c.args.block * s.sizes.block_words + s.sizes.block_words ≤ s.sizes.words =
-    subst (λ (v : UnitState). c.args.block * v.sizes.block_words + v.sizes.block_words ≤ v.sizes.words) (sym c.self.view_is) c.requires.in_memory in
+    rw (sym c.self.view_is) at c.requires.in_memory in
     let little = h.ranges.little_memory in
     let small : c.args.block * s.sizes.block_words + s.sizes.block_words < 4294967296 = omega arith in
-    let held : (b : ℕ) → (dir.frame_at s.directory.frames c.args.places.frame).block ≡ Some b → b * s.sizes.block_words + s.sizes.block_words < 4294967296 = λ b e. (let m = h.in_memory c.args.places.frame b e in omega arith) in
-    let banks = room_for_all room c.args.places.slot (c.args.block * s.sizes.block_words) s.sizes.block_words s.sizes.banks h.ranges.some_banks t.banks in
+    let held : (b : ℕ) → (dir.frame_at s.directory.frames _).block ≡ Some b → b * s.sizes.block_words + s.sizes.block_words < 4294967296 =
+    λ b e. (let m = h.in_memory _ b e in omega arith) in
+    let banks = room_for_all room _ _ s.sizes.block_words s.sizes.banks h.ranges.some_banks t.banks in
     record {
       whole = h.directory;
       whole_file = h.registers;
@@ -44,7 +43,7 @@ bring_in-requires g c =
       no_live = live;
       fits = small;
       held_fits = held;
-      room = rw c.self.invariant.limit t.queue;
+      room = grind arith;
       some_banks = h.ranges.some_banks;
       bank_room = banks;
     }
@@ -54,19 +53,20 @@ invariant_of-self g c =
     let s = c.self.inside in
     let h = c.self.invariant.sound in
     let z = s.sizes in
-    let room = g.L.Lines.room_of c.args.lines.now in
+    let room = g.L.Lines.room_of _ in
     let f = c.args.places.frame in
     let slot = c.args.places.slot in
     let P : UnitState → Type 0 = λ v. MayTake v.sizes room v.cache c.args.block c.args.places in
-    let t = takes_from z (cache_of s) h room c.args.block c.args.places (subst P (sym c.self.view_is) c.requires.may_take) in
-    let absent = absent_frame (cache_of s) c.args.block (ap (λ (v : UnitState). is_present v.cache c.args.block) c.self.view_is ∙ c.requires.absent) in
+    let t = takes_from z _ h room _ _ (subst P (sym c.self.view_is) c.requires.may_take) in
+    let absent = absent_frame (cache_of s) _ (ap (λ v. is_present v.cache c.args.block) c.self.view_is ∙ c.requires.absent) in
     let in_memory : c.args.block * s.sizes.block_words + s.sizes.block_words ≤ s.sizes.words =
-    subst (λ (v : UnitState). c.args.block * v.sizes.block_words + v.sizes.block_words ≤ v.sizes.words) (sym c.self.view_is) c.requires.in_memory in
+    rw (sym c.self.view_is) at c.requires.in_memory in
     let b = c.bring_in.ensures in
     let D : dir.Frames → Type 0 = dir.IsWhole s.sizes.ways s.sizes.block_words in
     let R : List regs.Register → Type 0 = IsWhole s.sizes.block_words s.sizes.regs in
-    let all = IsSound-missed z (cache_of s) c.args.block f slot h t.there t.idle absent t.slot t.free in_memory t.queue (subst D b.directory b.whole) (subst R b.registers b.whole_file) in
-    record { sound = rw (b.directory, b.registers, b.queue) all; limit = ap (λ (q : Queue). q.limit) b.queue ∙ c.self.invariant.limit }
+    let all = IsSound-missed z _ _ f slot h t.there t.idle absent t.slot t.free in_memory t.queue (subst D b.directory b.whole)
+    (subst R b.registers b.whole_file) in
+    record { sound = rw (b.directory, b.registers, b.queue) all; limit = ap (λ q. q.limit) b.queue ∙ c.self.invariant.limit }
 
 pub returns-clause-unit : goal.returns-clause-unit
 returns-clause-unit g c =
@@ -74,15 +74,15 @@ returns-clause-unit g c =
     let h = c.self.invariant.sound in
     let z = s.sizes in
     let now = cache_of s in
-    let room = g.L.Lines.room_of c.args.lines.now in
+    let room = g.L.Lines.room_of _ in
     let f = c.args.places.frame in
     let slot = c.args.places.slot in
     let P : UnitState → Type 0 = λ v. MayTake v.sizes room v.cache c.args.block c.args.places in
     let may = subst P (sym c.self.view_is) c.requires.may_take in
-    let t = takes_from z (cache_of s) h room c.args.block c.args.places may in
-    let absent = ap (λ (v : UnitState). is_present v.cache c.args.block) c.self.view_is ∙ c.requires.absent in
+    let t = takes_from z _ h room _ _ may in
+    let absent = ap (λ v. is_present v.cache c.args.block) c.self.view_is ∙ c.requires.absent in
     let of_set = t.of_set ∙ ap (λ n. c.args.block % n) h.sets in
-    let shown = fetched-shown z (cache_of s) c.args.block f slot h.directory of_set absent may.frame may.slot in
+    let shown = fetched-shown z _ _ f slot h.directory of_set absent may.frame may.slot in
     let b = c.bring_in.ensures in
     rw (b.directory, b.registers, b.queue) (cache_by z now _ _ (λ y k. fetched y k c.args.block) c.self.view_is shown)
 
@@ -91,11 +91,11 @@ returns-clause-lines g c =
     let s = c.self.inside in
     let z = s.sizes in
     let now = cache_of s in
-    let room = g.L.Lines.room_of c.args.lines.now in
+    let room = g.L.Lines.room_of _ in
     let P : UnitState → Type 0 = λ v. MayTake v.sizes room v.cache c.args.block c.args.places in
     let may = subst P (sym c.self.view_is) c.requires.may_take in
-    let absent = ap (λ (v : UnitState). is_present v.cache c.args.block) c.self.view_is ∙ c.requires.absent in
-    let sent = fetches-shown z now c.args.block c.args.places.slot absent may.slot in
+    let absent = ap (λ v. is_present v.cache c.args.block) c.self.view_is ∙ c.requires.absent in
+    let sent = fetches-shown z now _ _ absent may.slot in
     let all = value_by z now _ (λ y k. fetches y k c.args.block) _ c.self.view_is sent in
-    let Q : List (ℕ × Command) → Type 0 = HasSent g.L.Lines.sent_to g.L.Lines.room_of g.L.Lines.same c.args.lines.now c.bring_in.new.lines in
+    let Q : List _ → Type 0 = HasSent g.L.Lines.sent_to g.L.Lines.room_of g.L.Lines.same _ _ in
     subst Q all c.bring_in.ensures.lines

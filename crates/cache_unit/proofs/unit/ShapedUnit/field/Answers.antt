@@ -10,5 +10,5 @@ returns c =
     let s = c.self.inside in
     let sizes = s.sizes in
     let now = cache_of s in
-    let shown = field-shown sizes (cache_of s) c.args.slot c.args.i c.self.invariant.sound in
+    let shown = field-shown sizes _ _ _ c.self.invariant.sound in
     value_by sizes now _ (λ z k. views.field_view z k c.args.slot c.args.i) _ c.self.view_is (c.field.ensures.answer ∙ shown)

@@ -3,7 +3,7 @@ use Rattle.cache_unit.specs.declared.Lookup.{Lookup}
 use Rattle.cache_unit.specs.declared.Lookup.TheVariants.{Hit, Join, Miss}
 use Rattle.cache_unit.specs.declared.unit.present.Finding.{Finding}
 use Rattle.cache_unit.specs.declared.unit.present.Finding.TheVariants as finding
-use Rattle.cache_unit.specs.State.{UnitState, Cache, is_present, frame_of}
+use Rattle.cache_unit.specs.State.{Cache, is_present, frame_of}
 use Rattle.cache_unit.specs.Causes.{Found, Here, Coming, found}
 use Rattle.cache_unit.specs.Lookups.{lookup_in}
 use Rattle.cache_unit.specs.Parts.{finding_of}
@@ -24,14 +24,14 @@ returns-in_default c =
     let s = c.self.inside in
     let u = c.args.self.now in
     let look = sym c.look.ensures.found ∙ c.in_default.is in
-    let away = ap (λ (v : UnitState). is_present v.cache c.args.block) (sym c.self.view_is) ∙ ap is_some look in
+    let away = ap (λ v. is_present v.cache c.args.block) (sym c.self.view_is) ∙ ap is_some look in
     sym (ap (λ b. if b then lookup_in (found u.cache c.args.block c.args.i) else Miss) away)
 
 pub find_word-requires : goal.find_word-requires
 find_word-requires c =
     let s = c.self.inside in
     let look = sym c.in-Some.ensures.found in
-    let held = ap (λ (v : UnitState). frame_of v.cache c.args.block) (sym c.self.view_is) ∙ look in
+    let held = ap (λ v. frame_of v.cache c.args.block) (sym c.self.view_is) ∙ look in
     record { word = c.requires; held = held }
 
 pub returns-in-Here : goal.returns-in-Here
@@ -40,8 +40,8 @@ returns-in-Here c =
     let s = c.self.inside in
     let u = c.args.self.now in
     let look = sym c.in-Some.ensures.found in
-    let here = ap (λ (v : UnitState). is_present v.cache c.args.block) (sym c.self.view_is) ∙ ap is_some look in
-    let e = ap said (sym c.in-Here.is ∙ c.find_word.ensures) ∙ said_of u.cache c.args.block c.args.i (found u.cache c.args.block c.args.i) in
+    let here = ap (λ v. is_present v.cache c.args.block) (sym c.self.view_is) ∙ ap is_some look in
+    let e = ap said (sym c.in-Here.is ∙ c.find_word.ensures) ∙ said_of u.cache _ _ _ in
     e ∙ sym (ap (λ b. if b then lookup_in (found u.cache c.args.block c.args.i) else Miss) here)
 
 pub returns-in-Coming : goal.returns-in-Coming
@@ -50,6 +50,6 @@ returns-in-Coming c =
     let s = c.self.inside in
     let u = c.args.self.now in
     let look = sym c.in-Some.ensures.found in
-    let here = ap (λ (v : UnitState). is_present v.cache c.args.block) (sym c.self.view_is) ∙ ap is_some look in
-    let e = ap said (sym c.in-Coming.is ∙ c.find_word.ensures) ∙ said_of u.cache c.args.block c.args.i (found u.cache c.args.block c.args.i) in
+    let here = ap (λ v. is_present v.cache c.args.block) (sym c.self.view_is) ∙ ap is_some look in
+    let e = ap said (sym c.in-Coming.is ∙ c.find_word.ensures) ∙ said_of u.cache _ _ _ in
     e ∙ sym (ap (λ b. if b then lookup_in (found u.cache c.args.block c.args.i) else Miss) here)

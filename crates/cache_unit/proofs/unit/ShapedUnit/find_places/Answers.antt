@@ -1,5 +1,4 @@
-use Rattle.std.proofs.Common.{Some, arith, sym, ◌∙◌, subst, mod-lt}
-use Rattle.flat_model.specs.declared.Cause.TheVariants.{NoRegister, SetPending, QueueFull, BankFull}
+use Rattle.std.proofs.Common.{arith, sym, ◌∙◌, subst, mod-lt}
 use Rattle.cache_unit.specs.View.{cache_of}
 use Rattle.cache_unit.specs.State.{UnitState}
 use Rattle.cache_unit.specs.Causes.{first_cause, miss_causes}
@@ -14,18 +13,19 @@ returns-in_default-clause-refused g c =
     let s = c.self.inside in
     let z = s.sizes in
     let now = cache_of s in
-    let room = g.L.Lines.room_of c.args.lines.now in
-    let t = find_no_register z (cache_of s) c.self.invariant.sound room c.args.block (sym c.free_slot.ensures.answer ∙ c.in_default.is) in
-    sym (value_by z now _ (λ y k. first_cause (miss_causes y room k c.args.block)) (Some NoRegister) c.self.view_is (sym t))
+    let room = g.L.Lines.room_of _ in
+    let t = find_no_register z _ c.self.invariant.sound room _ (sym c.free_slot.ensures.answer ∙ c.in_default.is) in
+    sym (value_by z now _ (λ y k. first_cause (miss_causes y room k c.args.block)) _ c.self.view_is (sym t))
 
 pub returns-in_default-choose_frame-clause-refused : goal.returns-in_default-choose_frame-clause-refused
 returns-in_default-choose_frame-clause-refused g c =
     let s = c.self.inside in
     let z = s.sizes in
     let now = cache_of s in
-    let room = g.L.Lines.room_of c.args.lines.now in
-    let t = find_set_pending z (cache_of s) c.self.invariant.sound room c.args.block c.in-Some.slot (sym c.in-Some.ensures.answer) (sym c.choose_frame.ensures ∙ c.in_default-choose_frame.is) in
-    sym (value_by z now _ (λ y k. first_cause (miss_causes y room k c.args.block)) (Some SetPending) c.self.view_is (sym t))
+    let room = g.L.Lines.room_of _ in
+    let t = find_set_pending z _ c.self.invariant.sound room _ c.in-Some.slot (sym c.in-Some.ensures.answer)
+    (sym c.choose_frame.ensures ∙ c.in_default-choose_frame.is) in
+    sym (value_by z now _ (λ y k. first_cause (miss_causes y room k c.args.block)) _ c.self.view_is (sym t))
 
 pub choose_frame-requires : goal.choose_frame-requires
 choose_frame-requires g c = c.self.invariant.sound.directory
@@ -34,7 +34,8 @@ pub words_owed-requires : goal.words_owed-requires
 words_owed-requires g c =
     let s = c.self.inside in
     let h = c.self.invariant.sound in
-    let there = chosen_can s.sizes.ways s.sizes.block_words s.directory _ c.in-Some-choose_frame.frame h.directory (mod-lt c.args.block h.directory.some_set) (sym c.in-Some-choose_frame.ensures) in
+    let there = chosen_can s.sizes.ways s.sizes.block_words s.directory _ c.in-Some-choose_frame.frame h.directory
+    (mod-lt _ h.directory.some_set) (sym c.in-Some-choose_frame.ensures) in
     record { whole = h.directory; frame = there.there }
 
 pub returns-then-room-words_owed-clause-refused : goal.returns-then-room-words_owed-clause-refused
@@ -42,34 +43,38 @@ returns-then-room-words_owed-clause-refused g c =
     let s = c.self.inside in
     let z = s.sizes in
     let now = cache_of s in
-    let room = g.L.Lines.room_of c.args.lines.now in
+    let room = g.L.Lines.room_of _ in
     let r = c.room.ensures.value in
     let limit = c.self.invariant.limit in
     let w = c.words_owed.ensures in
-    let t = find_queue_full z (cache_of s) c.self.invariant.sound room c.args.block c.in-Some.slot c.in-Some-choose_frame.frame (sym c.in-Some.ensures.answer) (sym c.in-Some-choose_frame.ensures) (omega arith) in
-    sym (value_by z now _ (λ y k. first_cause (miss_causes y room k c.args.block)) (Some QueueFull) c.self.view_is (sym t))
+    let t = find_queue_full z _ c.self.invariant.sound room _ c.in-Some.slot c.in-Some-choose_frame.frame (sym c.in-Some.ensures.answer)
+    (sym c.in-Some-choose_frame.ensures) (omega arith) in
+    sym (value_by z now _ (λ y k. first_cause (miss_causes y room k c.args.block)) _ c.self.view_is (sym t))
 
 pub returns-then-lacks_room-clause-refused : goal.returns-then-lacks_room-clause-refused
 returns-then-lacks_room-clause-refused g c =
     let s = c.self.inside in
     let z = s.sizes in
     let now = cache_of s in
-    let room = g.L.Lines.room_of c.args.lines.now in
+    let room = g.L.Lines.room_of _ in
     let r = c.room.ensures.value in
     let limit = c.self.invariant.limit in
     let w = c.words_owed.ensures in
-    let t = find_bank_full z (cache_of s) c.self.invariant.sound room c.args.block c.in-Some.slot c.in-Some-choose_frame.frame (sym c.in-Some.ensures.answer) (sym c.in-Some-choose_frame.ensures) (omega arith) (sym c.lacks_room.ensures ∙ c.if-lacks_room.true) in
-    sym (value_by z now _ (λ y k. first_cause (miss_causes y room k c.args.block)) (Some BankFull) c.self.view_is (sym t))
+    let t = find_bank_full z _ c.self.invariant.sound room _ c.in-Some.slot c.in-Some-choose_frame.frame (sym c.in-Some.ensures.answer)
+    (sym c.in-Some-choose_frame.ensures) (omega arith) (sym c.lacks_room.ensures ∙ c.if-lacks_room.true) in
+    sym (value_by z now _ (λ y k. first_cause (miss_causes y room k c.args.block)) _ c.self.view_is (sym t))
 
 pub returns-clause-found : goal.returns-clause-found
 returns-clause-found g c =
     let s = c.self.inside in
     let z = s.sizes in
     let now = cache_of s in
-    let room = g.L.Lines.room_of c.args.lines.now in
+    let room = g.L.Lines.room_of _ in
     let r = c.room.ensures.value in
     let limit = c.self.invariant.limit in
     let w = c.words_owed.ensures in
-    let t = find_places z (cache_of s) c.self.invariant.sound room c.args.block c.in-Some.slot c.in-Some-choose_frame.frame (sym c.in-Some.ensures.answer) (sym c.in-Some-choose_frame.ensures) (omega arith) (sym c.lacks_room.ensures ∙ c.if-lacks_room.false) in
-    let P : UnitState → Type 0 = λ v. MayTake v.sizes room v.cache c.args.block (record { frame = c.in-Some-choose_frame.frame; slot = c.in-Some.slot }) in
+    let t = find_places z _ c.self.invariant.sound room _ c.in-Some.slot c.in-Some-choose_frame.frame (sym c.in-Some.ensures.answer)
+    (sym c.in-Some-choose_frame.ensures) (omega arith) (sym c.lacks_room.ensures ∙ c.if-lacks_room.false) in
+    let P : UnitState → Type 0 = λ v. MayTake v.sizes room v.cache c.args.block
+    (record { frame = c.in-Some-choose_frame.frame; slot = c.in-Some.slot }) in
     subst P c.self.view_is t

@@ -1,8 +1,7 @@
-use Rattle.std.proofs.Common.{◌<◌, is_some, ap, ap₂, sym, ◌∙◌, subst}
+use Rattle.std.proofs.Common.{is_some, ap, ap₂, sym, ◌∙◌}
 use Rattle.flat_model.specs.Words.{zero_word, merged}
 use Rattle.cache_unit.specs.declared.unit.present.Finding.TheVariants as finding
-use Rattle.cache_directory.specs.declared.Cell.{Cell}
-use Rattle.cache_unit.specs.State.{UnitState, frame_of}
+use Rattle.cache_unit.specs.State.{frame_of}
 use Rattle.cache_unit.specs.Causes.{found}
 use Rattle.cache_unit.specs.Parts.{finding_of}
 use Rattle.cache_unit.specs.View.{cache_of}
@@ -10,39 +9,40 @@ use Rattle.cache_unit.proofs.Same.{live_for-some}
 use Rattle.cache_unit.proofs.DirtyWords.{held-cells}
 use Rattle.cache_unit.proofs.Keeps.{frame_of-some}
 use Rattle.cache_unit.proofs.Stepping.{value_by}
-use Rattle.cache_unit.proofs.Present.{cell_found, finding-processed, finding-written, finding-stacked, finding-coming, finding-resident, zero_from}
+use Rattle.cache_unit.proofs.Present.{cell_found, finding-processed, finding-written, finding-stacked, finding-coming, finding-resident}
+use Rattle.cache_unit.proofs.Present.{zero_from}
 use Rattle.cache_unit.proofs.unit.ShapedUnit.find_word.Goals as goal
 
 pub word-buffer-requires : goal.word-buffer-requires
 word-buffer-requires c =
     let s = c.self.inside in
-    let held = ap (λ (v : UnitState). frame_of v.cache c.args.block) c.self.view_is ∙ c.requires.held in
-    let b = (frame_of-some s.directory.frames c.args.block c.args.frame held).1 in
-    let l = subst (λ (v : UnitState). c.args.i < v.sizes.block_words) (sym c.self.view_is) c.requires.word in
-    subst (λ n. c.args.i < n) (sym (held-cells s.sizes.ways s.sizes.block_words s.directory c.args.frame c.self.invariant.sound.directory (ap is_some b))) l
+    let held = ap (λ v. frame_of v.cache c.args.block) c.self.view_is ∙ c.requires.held in
+    let b = (frame_of-some s.directory.frames _ _ held).1 in
+    let l = rw (sym c.self.view_is) at c.requires.word in
+    rw (sym (held-cells s.sizes.ways s.sizes.block_words s.directory _ c.self.invariant.sound.directory (ap is_some b))) at l
 
 pub returns-in_default : goal.returns-in_default
 returns-in_default c =
     let s = c.self.inside in
     let z = s.sizes in
     let now = cache_of s in
-    let held = ap (λ (v : UnitState). frame_of v.cache c.args.block) c.self.view_is ∙ c.requires.held in
-    let buffer = c.word-buffer.ensures.word ∙ sym (ap (λ (x : Cell). x.word) (cell_found now c.args.block c.args.frame c.args.i held)) in
-    let is = finding-resident now c.args.block c.args.i (sym c.live_for.ensures.answer ∙ c.in_default.is) in
+    let held = ap (λ v. frame_of v.cache c.args.block) c.self.view_is ∙ c.requires.held in
+    let buffer = c.word-buffer.ensures.word ∙ sym (ap (λ x. x.word) (cell_found now _ _ _ held)) in
+    let is = finding-resident now _ _ (sym c.live_for.ensures.answer ∙ c.in_default.is) in
     value_by z now _ (λ y k. finding_of k c.args.block c.args.i (found k c.args.block c.args.i)) _ c.self.view_is
     (ap finding.Here buffer ∙ sym is)
 
 pub missing_code-requires : goal.missing_code-requires
-missing_code-requires c = (live_for-some c.self.inside.registers c.args.block c.in-Some.slot (sym c.in-Some.ensures.answer)).0
+missing_code-requires c = (live_for-some _ _ c.in-Some.slot (sym c.in-Some.ensures.answer)).0
 
 pub returns-in_default-missing_code : goal.returns-in_default-missing_code
 returns-in_default-missing_code c =
     let s = c.self.inside in
     let z = s.sizes in
     let now = cache_of s in
-    let held = ap (λ (v : UnitState). frame_of v.cache c.args.block) c.self.view_is ∙ c.requires.held in
-    let buffer = c.word-buffer.ensures.word ∙ sym (ap (λ (x : Cell). x.word) (cell_found now c.args.block c.args.frame c.args.i held)) in
-    let is = finding-processed now c.args.block c.args.i c.in-Some.slot (sym c.in-Some.ensures.answer)
+    let held = ap (λ v. frame_of v.cache c.args.block) c.self.view_is ∙ c.requires.held in
+    let buffer = c.word-buffer.ensures.word ∙ sym (ap (λ x. x.word) (cell_found now _ _ _ held)) in
+    let is = finding-processed now _ _ c.in-Some.slot (sym c.in-Some.ensures.answer)
     (sym c.missing_code.ensures ∙ c.in_default-missing_code.is) in
     value_by z now _ (λ y k. finding_of k c.args.block c.args.i (found k c.args.block c.args.i)) _ c.self.view_is
     (ap finding.Here buffer ∙ sym is)
@@ -52,9 +52,9 @@ returns-then-has_all c =
     let s = c.self.inside in
     let z = s.sizes in
     let now = cache_of s in
-    let held = ap (λ (v : UnitState). frame_of v.cache c.args.block) c.self.view_is ∙ c.requires.held in
-    let buffer = c.word-buffer.ensures.word ∙ sym (ap (λ (x : Cell). x.word) (cell_found now c.args.block c.args.frame c.args.i held)) in
-    let is = finding-written now c.args.block c.args.i c.in-Some.slot (sym c.in-Some.ensures.answer) c.in-Some-missing_code.code
+    let held = ap (λ v. frame_of v.cache c.args.block) c.self.view_is ∙ c.requires.held in
+    let buffer = c.word-buffer.ensures.word ∙ sym (ap (λ x. x.word) (cell_found now _ _ _ held)) in
+    let is = finding-written now _ _ c.in-Some.slot (sym c.in-Some.ensures.answer) c.in-Some-missing_code.code
     (sym c.in-Some-missing_code.ensures) (sym c.has_all.ensures ∙ c.if-has_all.true) in
     value_by z now _ (λ y k. finding_of k c.args.block c.args.i (found k c.args.block c.args.i)) _ c.self.view_is
     (ap finding.Here buffer ∙ sym is)
@@ -64,29 +64,29 @@ returns-in-Some-find c =
     let s = c.self.inside in
     let z = s.sizes in
     let now = cache_of s in
-    let held = ap (λ (v : UnitState). frame_of v.cache c.args.block) c.self.view_is ∙ c.requires.held in
-    let buffer = c.word-buffer.ensures.word ∙ sym (ap (λ (x : Cell). x.word) (cell_found now c.args.block c.args.frame c.args.i held)) in
+    let held = ap (λ v. frame_of v.cache c.args.block) c.self.view_is ∙ c.requires.held in
+    let buffer = c.word-buffer.ensures.word ∙ sym (ap (λ x. x.word) (cell_found now _ _ _ held)) in
     let code = c.in-Some-missing_code.code in
     let word = c.in-Some-find.word in
-    let is = finding-stacked now c.args.block c.args.i c.in-Some.slot (sym c.in-Some.ensures.answer) code
+    let is = finding-stacked now _ _ c.in-Some.slot (sym c.in-Some.ensures.answer) code
     (sym c.in-Some-missing_code.ensures) word (sym c.has_all.ensures ∙ c.if-has_all.false) (sym c.in-Some-find.ensures) in
     value_by z now _ (λ y k. finding_of k c.args.block c.args.i (found k c.args.block c.args.i)) _ c.self.view_is
-    (ap finding.Here (c.merge.ensures ∙ ap (λ w. merged word w code) buffer) ∙ sym is)
+    (ap finding.Here (cc (c.merge.ensures, buffer)) ∙ sym is)
 
 pub waiting-requires : goal.waiting-requires
-waiting-requires c = (live_for-some c.self.inside.registers c.args.block c.in-Some.slot (sym c.in-Some.ensures.answer)).0
+waiting-requires c = (live_for-some _ _ c.in-Some.slot (sym c.in-Some.ensures.answer)).0
 
 pub returns-in-None : goal.returns-in-None
 returns-in-None c =
     let s = c.self.inside in
     let z = s.sizes in
     let now = cache_of s in
-    let held = ap (λ (v : UnitState). frame_of v.cache c.args.block) c.self.view_is ∙ c.requires.held in
-    let buffer = c.word-buffer.ensures.word ∙ sym (ap (λ (x : Cell). x.word) (cell_found now c.args.block c.args.frame c.args.i held)) in
+    let held = ap (λ v. frame_of v.cache c.args.block) c.self.view_is ∙ c.requires.held in
+    let buffer = c.word-buffer.ensures.word ∙ sym (ap (λ x. x.word) (cell_found now _ _ _ held)) in
     let code = c.in-Some-missing_code.code in
-    let is = finding-coming now c.args.block c.args.i c.in-Some.slot (sym c.in-Some.ensures.answer) code
+    let is = finding-coming now _ _ c.in-Some.slot (sym c.in-Some.ensures.answer) code
     (sym c.in-Some-missing_code.ensures) (sym c.has_all.ensures ∙ c.if-has_all.false) (sym c.find.ensures ∙ c.in-None.is) in
-    let held_bytes = c.merge-in-None.ensures ∙ ap (λ w. merged w c.word-buffer.result code) (zero_from c.default.result c.default.ensures)
+    let held_bytes = c.merge-in-None.ensures ∙ ap (λ w. merged w c.word-buffer.result code) (zero_from _ c.default.ensures)
     ∙ ap (λ w. merged zero_word w code) buffer in
     value_by z now _ (λ y k. finding_of k c.args.block c.args.i (found k c.args.block c.args.i)) _ c.self.view_is
     (ap₂ (λ w n. finding.Coming c.in-Some.slot w code n) held_bytes c.waiting.ensures ∙ sym is)

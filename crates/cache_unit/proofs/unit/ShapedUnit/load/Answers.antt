@@ -1,10 +1,7 @@
-use Rattle.std.proofs.Common.{◌≡◌, ◌<◌, ◌==◌, ℕ, Some, None, length, refl, ap, ap₂, sym, ◌∙◌, subst, Bool}
+use Rattle.std.proofs.Common.{◌≡◌, ◌<◌, ◌==◌, ℕ, length, refl, ap, ap₂, sym, ◌∙◌, subst, Bool}
 use Rattle.std.specs.List.{list_any}
-use Rattle.memory_banks.specs.Banks.{HasSent}
 use Rattle.cache_unit.specs.State.{UnitState, Cache, block_of, place_in, tags}
-use Rattle.cache_unit.specs.Steps.{fetched, fetches, load_step}
-use Rattle.cache_unit.specs.Makes.{MakesOver}
-use Rattle.cache_unit.specs.Requests.{absence_cause, is_full_for, load_answer, load_present}
+use Rattle.cache_unit.specs.Requests.{is_full_for, load_answer, load_present}
 use Rattle.cache_unit.proofs.Making.{steps, refuses}
 use Rattle.cache_unit.proofs.Requesting.{load_outside, load_in_use, load_owes_all, load_absent, load_decided, absent_not_full, less_from}
 use Rattle.cache_unit.proofs.unit.ShapedUnit.load.Goals as goal
@@ -12,73 +9,70 @@ use Rattle.cache_unit.proofs.unit.ShapedUnit.load.Goals as goal
 pub returns-then-is_outside : goal.returns-then-is_outside
 returns-then-is_outside g c =
     let u = c.args.self.now in
-    let room = g.L.Lines.room_of c.args.lines.now in
-    let is = load_outside u.sizes room u.cache c.args.at c.args.tag (sym c.is_outside.ensures.outside ∙ c.if-is_outside.true) in
-    refuses _ _ _ u c.args.lines.now c.is_outside.ensures.sound _ (g.met.L.Lines.same_self c.args.lines.now) _ is _ _ refl refl
+    let room = g.L.Lines.room_of _ in
+    let is = load_outside u.sizes room u.cache _ _ (sym c.is_outside.ensures.outside ∙ c.if-is_outside.true) in
+    refuses _ _ _ u _ c.is_outside.ensures.sound _ (g.met.L.Lines.same_self _) _ is _ _ refl refl
 
 pub returns-then-is_in_use : goal.returns-then-is_in_use
 returns-then-is_in_use g c =
     let u = c.args.self.now in
-    let room = g.L.Lines.room_of c.args.lines.now in
-    let is = load_in_use u.sizes room u.cache c.args.at c.args.tag (sym c.is_outside.ensures.outside ∙ c.if-is_outside.false)
+    let room = g.L.Lines.room_of _ in
+    let is = load_in_use u.sizes room u.cache _ _ (sym c.is_outside.ensures.outside ∙ c.if-is_outside.false)
     (sym c.is_in_use.ensures ∙ c.if-is_in_use.true) in
-    refuses _ _ _ u c.args.lines.now c.is_outside.ensures.sound _ (g.met.L.Lines.same_self c.args.lines.now) _ is _ _ refl refl
+    refuses _ _ _ u _ c.is_outside.ensures.sound _ (g.met.L.Lines.same_self _) _ is _ _ refl refl
 
 pub returns-then-owes_all : goal.returns-then-owes_all
 returns-then-owes_all g c =
     let u = c.args.self.now in
-    let room = g.L.Lines.room_of c.args.lines.now in
-    let is = load_owes_all u.sizes room u.cache c.args.at c.args.tag (sym c.is_outside.ensures.outside ∙ c.if-is_outside.false)
+    let room = g.L.Lines.room_of _ in
+    let is = load_owes_all u.sizes room u.cache _ _ (sym c.is_outside.ensures.outside ∙ c.if-is_outside.false)
     (sym c.is_in_use.ensures ∙ c.if-is_in_use.false) (sym c.owes_all.ensures ∙ c.if-owes_all.true) in
-    refuses _ _ _ u c.args.lines.now c.is_outside.ensures.sound _ (g.met.L.Lines.same_self c.args.lines.now) _ is _ _ refl refl
+    refuses _ _ _ u _ c.is_outside.ensures.sound _ (g.met.L.Lines.same_self _) _ is _ _ refl refl
 
 pub returns-in-Err : goal.returns-in-Err
 returns-in-Err g c =
     let u = c.args.self.now in
-    let room = g.L.Lines.room_of c.args.lines.now in
-    let cause = subst (λ b. absence_cause u.sizes room u.cache b ≡ Some c.in-Err.cause) c.block_of-block.ensures.value
-    c.in-Err.ensures.cause in
-    let room_for = absent_not_full u.sizes room u.cache (block_of u.sizes c.args.at) (place_in u.sizes c.args.at) c.in-Err.cause cause in
-    let is = load_absent u.sizes room u.cache c.args.at c.args.tag c.in-Err.cause (sym c.is_outside.ensures.outside ∙ c.if-is_outside.false)
+    let room = g.L.Lines.room_of _ in
+    let cause = rw c.block_of-block.ensures.value at c.in-Err.ensures.cause in
+    let room_for = absent_not_full u.sizes room u.cache _ _ c.in-Err.cause cause in
+    let is = load_absent u.sizes room u.cache _ _ c.in-Err.cause (sym c.is_outside.ensures.outside ∙ c.if-is_outside.false)
     (sym c.is_in_use.ensures ∙ c.if-is_in_use.false) (sym c.owes_all.ensures ∙ c.if-owes_all.false) room_for cause in
-    refuses _ _ _ u c.args.lines.now c.is_outside.ensures.sound _ (g.met.L.Lines.same_self c.args.lines.now) _ is _ _
+    refuses _ _ _ u _ c.is_outside.ensures.sound _ (g.met.L.Lines.same_self _) _ is _ _
     c.in-Err.ensures.unit_kept c.in-Err.ensures.lines_kept
 
 pub load_present-requires : goal.load_present-requires
 load_present-requires g c =
     let u = c.args.self.now in
     let v = c.make_present.new.self in
-    let kept = ap (λ (x : UnitState). x.sizes) c.in-Ok.ensures.unit in
-    let word = subst (λ n. c.place_in-i.result < n) (ap (λ (x : UnitState). x.sizes.block_words) (sym c.in-Ok.ensures.unit)) c.place_in-i.ensures.small in
+    let kept = ap (λ x. x.sizes) c.in-Ok.ensures.unit in
+    let word = rw (ap (λ x. x.sizes.block_words) (sym c.in-Ok.ensures.unit)) at c.place_in-i.ensures.small in
     let free = ap (λ l. list_any (λ t. t == c.args.tag) l) c.in-Ok.ensures.tags_kept ∙ sym c.is_in_use.ensures ∙ c.if-is_in_use.false in
-    let few = subst (λ l. length l < v.sizes.replies) (sym c.in-Ok.ensures.tags_kept) (subst (λ (x : UnitState). length (tags u.cache) < x.sizes.replies) (sym c.in-Ok.ensures.unit) (less_from u.sizes.replies (length (tags u.cache)) (sym c.owes_all.ensures ∙ c.if-owes_all.false))) in
+    let few = rw (sym c.in-Ok.ensures.tags_kept) at
+    (subst (λ x. length (tags u.cache) < x.sizes.replies) (sym c.in-Ok.ensures.unit)
+    (less_from u.sizes.replies _ (sym c.owes_all.ensures ∙ c.if-owes_all.false))) in
     record { word = word; held = c.in-Ok.ensures.held; new_tag = free; replies = few }
 
 pub returns-in-Ok : goal.returns-in-Ok
 returns-in-Ok g c =
     let u = c.args.self.now in
-    let room = g.L.Lines.room_of c.args.lines.now in
-    let none = subst (λ b. absence_cause u.sizes room u.cache b ≡ None) c.block_of-block.ensures.value c.in-Ok.ensures.no_cause in
-    let is = load_decided u.sizes room u.cache c.args.at c.args.tag (sym c.is_outside.ensures.outside ∙ c.if-is_outside.false)
+    let room = g.L.Lines.room_of _ in
+    let none = rw c.block_of-block.ensures.value at c.in-Ok.ensures.no_cause in
+    let is = load_decided u.sizes room u.cache _ _ (sym c.is_outside.ensures.outside ∙ c.if-is_outside.false)
     (sym c.is_in_use.ensures ∙ c.if-is_in_use.false) (sym c.owes_all.ensures ∙ c.if-owes_all.false) none in
     let v = c.make_present.new.self in
     let w = c.load_present.new.self in
-    let block = block_of u.sizes c.args.at in
-    let place = place_in u.sizes c.args.at in
-    let unit = subst (λ b. v ≡ record u { cache = fetched u.sizes u.cache b }) c.block_of-block.ensures.value c.in-Ok.ensures.unit in
+    let block = block_of u.sizes _ in
+    let place = place_in u.sizes _ in
+    let unit = rw c.block_of-block.ensures.value at c.in-Ok.ensures.unit in
     let after : Cache → ℕ → ℕ → Bool → Cache = λ d b i full. load_present d c.args.tag b i full in
     let full : ℕ → ℕ → Bool = λ b i. is_full_for u.cache b i in
     let told = c.load_present.ensures.unit
     ∙ ap (λ f. let x : UnitState = record { sizes = v.sizes; cache = after v.cache c.block_of-block.result c.place_in-i.result f } in x)
     (c.in-Ok.ensures.targets c.place_in-i.result) in
-    let stored = subst (λ b. w ≡ record v { cache = after v.cache b c.place_in-i.result (full b c.place_in-i.result) })
-    c.block_of-block.ensures.value told in
-    let placed = subst (λ i. w ≡ record v { cache = after v.cache block i (full block i) }) c.place_in-i.ensures.value stored in
-    let made = subst (λ (x : UnitState). w ≡ record x { cache = after x.cache block place (full block place) }) unit placed in
+    let stored = rw c.block_of-block.ensures.value at told in
+    let placed = rw c.place_in-i.ensures.value at stored in
+    let made = subst (λ x. w ≡ record x { cache = after x.cache block place (full block place) }) unit placed in
     let answer = c.load_present.ensures.answer ∙ ap load_answer (c.in-Ok.ensures.targets c.place_in-i.result)
     ∙ ap₂ (λ b i. load_answer (full b i)) c.block_of-block.ensures.value c.place_in-i.ensures.value in
-    let sent = subst (λ b. HasSent g.L.Lines.sent_to g.L.Lines.room_of g.L.Lines.same c.args.lines.now c.make_present.new.lines
-    (fetches u.sizes u.cache b)) c.block_of-block.ensures.value c.in-Ok.ensures.lines in
-    subst (λ a. MakesOver g.L.Lines.sent_to g.L.Lines.room_of g.L.Lines.same (load_step u.sizes room u.cache c.args.tag c.args.at)
-    u c.args.lines.now a w c.make_present.new.lines) (sym answer)
-    (steps _ _ _ u c.args.lines.now c.is_outside.ensures.sound _ _ is w c.make_present.new.lines made sent)
+    let sent = rw c.block_of-block.ensures.value at c.in-Ok.ensures.lines in
+    rw (sym answer) at (steps _ _ _ u _ c.is_outside.ensures.sound _ _ is w _ made sent)

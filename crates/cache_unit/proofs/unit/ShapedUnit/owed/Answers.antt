@@ -1,6 +1,6 @@
-use Rattle.std.proofs.Common.{◌+◌, ◌≤◌, length, subst, arith}
+use Rattle.std.proofs.Common.{length, arith}
 use Rattle.cache_unit.specs.View.{cache_of}
-use Rattle.cache_unit.specs.State.{UnitState, tags}
+use Rattle.cache_unit.specs.State.{tags}
 use Rattle.cache_unit.proofs.Stepping.{value_by}
 use Rattle.cache_unit.proofs.Tags.{owing-all, length-tags}
 use Rattle.cache_unit.proofs.Making.{sound_of}
@@ -31,9 +31,9 @@ returns-clause-few c =
     let b = length-tags (cache_of s) c.self.invariant.sound.registers in
     let few = c.self.invariant.sound.owes.few in
     let x = c.awaited.ensures.answer in
-    subst (λ (v : UnitState). c.awaited.result + c.len.result ≤ v.sizes.replies) c.self.view_is (omega arith)
+    rw (← c.self.view_is) (omega arith)
 
 pub returns-clause-sound : goal.returns-clause-sound
 returns-clause-sound c =
     let s = c.self.inside in
-    sound_of s c.self.invariant c.args.self.now c.self.view_is
+    sound_of s c.self.invariant _ c.self.view_is

@@ -1,11 +1,7 @@
-use Rattle.std.proofs.Common.{rules, ℕ, sym, ◌∙◌, refl, Option, List, subst, set}
+use Rattle.std.proofs.Common.{rules, sym, ◌∙◌, refl, subst}
 use Rattle.cache_directory.specs.Frames as dir
 use Rattle.miss_registers.specs.Registers as regs
-use Rattle.miss_registers.specs.Whole.{IsWhole}
-use Rattle.cache_unit.specs.View.{cache_of}
-use Rattle.cache_unit.specs.Parts.{filled_live, CanFill}
 use Rattle.cache_unit.specs.Steps.{process_step}
-use Rattle.cache_unit.proofs.Process.{live_of}
 use Rattle.cache_unit.proofs.Calls.{Taken-from, can_finish, can_fill, can_answer, sound_after, shown_after, processes}
 use Rattle.cache_unit.proofs.Making.{makes, sound_of}
 use Rattle.cache_unit.proofs.unit.ShapedUnit.process.Goals as goal
@@ -13,36 +9,37 @@ use Rattle.cache_unit.proofs.unit.ShapedUnit.process.Goals as goal
 pub finish_word-end-requires : goal.finish_word-end-requires
 finish_word-end-requires c =
     let s = c.self.inside in
-    let t = Taken-from s.stack c.args.place c.in-Some.e (sym c.remove.ensures.value ∙ c.in-Some.is) in
-    let r = can_finish s.sizes (cache_of s) c.args.place c.in-Some.e c.self.invariant.sound t in
+    let t = Taken-from s.stack _ c.in-Some.e (sym c.remove.ensures.value ∙ c.in-Some.is) in
+    let r = can_finish s.sizes _ _ c.in-Some.e c.self.invariant.sound t in
     record { slot = r.0; in_stack = r.1; done = (c.self.invariant.sound.registers.each c.in-Some.e.slot).done }
 
 pub fill_live-requires : goal.fill_live-requires
 fill_live-requires c =
     let s = c.self.inside in
-    let t = Taken-from s.stack c.args.place c.in-Some.e (sym c.remove.ensures.value ∙ c.in-Some.is) in
-    let there = can_fill s.sizes (cache_of s) c.args.place c.in-Some.e c.self.invariant.sound t in
-    record { there = subst (λ (o : Option ℕ). CanFill s.directory o c.in-Some.e.i) (sym c.finish_word-end.ensures.live) there }
+    let t = Taken-from s.stack _ c.in-Some.e (sym c.remove.ensures.value ∙ c.in-Some.is) in
+    let there = can_fill s.sizes _ _ c.in-Some.e c.self.invariant.sound t in
+    record { there = rw (sym c.finish_word-end.ensures.live) at there }
 
 pub answer_all-requires : goal.answer_all-requires
 answer_all-requires c =
     let s = c.self.inside in
-    let t = Taken-from s.stack c.args.place c.in-Some.e (sym c.remove.ensures.value ∙ c.in-Some.is) in
-    rw c.finish_word-end.ensures.send (can_answer s.sizes (cache_of s) c.args.place c.in-Some.e c.self.invariant.sound t)
+    let t = Taken-from s.stack _ c.in-Some.e (sym c.remove.ensures.value ∙ c.in-Some.is) in
+    rw c.finish_word-end.ensures.send (can_answer s.sizes _ _ c.in-Some.e c.self.invariant.sound t)
 
 pub invariant_of-self-2 : goal.invariant_of-self-2
 invariant_of-self-2 c =
     let s = c.self.inside in
     let e = c.in-Some.e in
-    let t = Taken-from s.stack c.args.place e (sym c.remove.ensures.value ∙ c.in-Some.is) in
+    let t = Taken-from s.stack _ e (sym c.remove.ensures.value ∙ c.in-Some.is) in
     let f = c.finish_word-end.ensures in
     let z = s.sizes in
     let r = regs.register_at s.registers e.slot in
-    let d : dir.IsWhole s.sizes.ways s.sizes.block_words (filled_live s.directory (live_of r) e.i e.word (regs.field_of r e.i).code (regs.is_done (regs.finished_fields r e.i))) = subst (λ (x : dir.Frames). dir.IsWhole s.sizes.ways s.sizes.block_words x) (c.fill_live.ensures.filled ∙ rw (f.live, f.keep, f.last) refl) (c.fill_live.ensures.whole s.sizes.ways s.sizes.block_words c.self.invariant.sound.directory) in
-    let w : IsWhole s.sizes.block_words s.sizes.regs (set s.registers e.slot (regs.finished r e.i)) = subst (λ (x : List regs.Register). IsWhole s.sizes.block_words s.sizes.regs x) f.registers (f.whole s.sizes.block_words s.sizes.regs c.self.invariant.sound.registers) in
+    let d = subst (λ x. dir.IsWhole s.sizes.ways s.sizes.block_words x) (c.fill_live.ensures.filled ∙ rw (f.live, f.keep, f.last) refl)
+    (c.fill_live.ensures.whole s.sizes.ways s.sizes.block_words c.self.invariant.sound.directory) in
+    let w = rw f.registers at (f.whole s.sizes.block_words s.sizes.regs c.self.invariant.sound.registers) in
     record {
       sound = rw (c.fill_live.ensures.filled, f.registers, c.in-Some.ensures.taken, f.live, f.keep, f.last, c.answer_all.ensures, f.send)
-          (sound_after z (cache_of s) c.args.place e _ c.self.invariant.sound t d w);
+          (sound_after z _ _ e _ c.self.invariant.sound t d w);
       limit = c.self.invariant.limit;
     }
 
@@ -51,13 +48,13 @@ returns c =
     let s = c.self.inside in
     let e = c.in-Some.e in
     let some = sym c.remove.ensures.value ∙ c.in-Some.is in
-    let is = processes (cache_of s) c.args.place e some in
-    let shown = shown_after s.sizes (cache_of s) c.args.place e c.self.invariant.sound some in
+    let is = processes _ _ e some in
+    let shown = shown_after s.sizes _ _ e c.self.invariant.sound some in
     let f = c.finish_word-end.ensures in
     rw (c.fill_live.ensures.filled, f.registers, c.in-Some.ensures.taken, c.answer_all.ensures, f.send, f.live, f.keep, f.last)
-    (makes s c.self.invariant c.args.self.now c.self.view_is (λ z k. process_step k c.args.place) _ _ _ is _ shown)
+    (makes s c.self.invariant _ c.self.view_is (λ z k. process_step k c.args.place) _ _ _ is _ shown)
 
 pub returns-in_default : goal.returns-in_default
 unfolding process_step
 returns-in_default c =
-    record { sound = sound_of c.self.inside c.self.invariant c.args.self.now c.self.view_is; answer = search rules; unit = search rules }
+    record { sound = sound_of _ c.self.invariant _ c.self.view_is; answer = search rules; unit = search rules }

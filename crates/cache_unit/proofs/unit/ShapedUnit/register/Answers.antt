@@ -10,5 +10,5 @@ returns c =
     let s = c.self.inside in
     let sizes = s.sizes in
     let now = cache_of s in
-    let shown = register-shown sizes (cache_of s) c.args.slot c.self.invariant.sound in
+    let shown = register-shown sizes _ _ c.self.invariant.sound in
     value_by sizes now _ (λ z k. views.register_view k c.args.slot) _ c.self.view_is (c.register.ensures.answer ∙ shown)

@@ -1,9 +1,7 @@
 use Rattle.std.proofs.Common.{refl, arith}
-use Rattle.std.specs.List.{remove}
 use Rattle.cache_unit.specs.View.{cache_of}
 use Rattle.cache_unit.specs.Steps.{take_step}
-use Rattle.std.proofs.Common.{List, ap}
-use Rattle.cache_unit.specs.declared.Reply.{Reply}
+use Rattle.std.proofs.Common.{ap}
 use Rattle.cache_unit.proofs.Making.{makes, keeps}
 use Rattle.cache_unit.proofs.Owing.{owes-remove}
 use Rattle.cache_unit.proofs.Stepping.{taken, none_taken, IsSound-ready}
@@ -13,21 +11,21 @@ pub invariant_of-self : goal.invariant_of-self
 invariant_of-self c =
     let s = c.self.inside in
     let z = s.sizes in
-    let o = owes-remove z s.ready.items s.registers c.args.place c.self.invariant.sound.owes in
+    let o = owes-remove z s.ready.items s.registers _ c.self.invariant.sound.owes in
     record {
-      sound = rw c.remove-reply.ensures.items (IsSound-ready z (cache_of s) (remove s.ready.items c.args.place) o c.self.invariant.sound);
+      sound = rw c.remove-reply.ensures.items (IsSound-ready z _ _ o c.self.invariant.sound);
       limit = c.self.invariant.limit;
     }
 
 pub returns-then-place-len : goal.returns-then-place-len
 returns-then-place-len c =
     let s = c.self.inside in
-    let is = taken (cache_of s) c.args.place c.remove-reply.result (omega arith) c.remove-reply.ensures.value in
-    let shown = ap (λ (r : List Reply). record (cache_of s) { ready = r }) c.remove-reply.ensures.items in
-    makes s c.self.invariant c.args.self.now c.self.view_is (λ z k. take_step k c.args.place) _ _ _ is _ shown
+    let is = taken _ _ c.remove-reply.result (omega arith) c.remove-reply.ensures.value in
+    let shown = ap (λ r. record (cache_of s) { ready = r }) c.remove-reply.ensures.items in
+    makes s c.self.invariant _ c.self.view_is (λ z k. take_step k c.args.place) _ _ _ is _ shown
 
 pub returns-else-place-len : goal.returns-else-place-len
 returns-else-place-len c =
     let s = c.self.inside in
-    let is = none_taken (cache_of s) c.args.place (omega arith) in
-    keeps s c.self.invariant c.args.self.now c.self.view_is (λ z k. take_step k c.args.place) _ _ _ is refl
+    let is = none_taken _ _ (omega arith) in
+    keeps s c.self.invariant _ c.self.view_is (λ z k. take_step k c.args.place) _ _ _ is refl

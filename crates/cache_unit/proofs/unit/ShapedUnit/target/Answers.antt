@@ -10,5 +10,5 @@ returns c =
     let s = c.self.inside in
     let sizes = s.sizes in
     let now = cache_of s in
-    let shown = target-shown (cache_of s) c.args.slot c.args.i c.args.place in
+    let shown = target-shown (cache_of s) _ _ _ in
     value_by sizes now _ (λ z k. views.target_view k c.args.slot c.args.i c.args.place) _ c.self.view_is (c.target.ensures.answer ∙ shown)

@@ -12,34 +12,35 @@ valid_by false o e = absurd (false≢true e)
 
 pub missing_code-requires : goal.missing_code-requires
 missing_code-requires c =
-    let p = live_for-some c.args.registers.now c.args.block c.in-Some.slot (sym c.in-Some.ensures.answer) in
+    let p = live_for-some _ _ c.in-Some.slot (sym c.in-Some.ensures.answer) in
     p.0
 
 pub note_store-requires : goal.note_store-requires
 note_store-requires c =
     let rs = c.args.registers.now in
-    let p = live_for-some rs c.args.block c.in-Some.slot (sym c.in-Some.ensures.answer) in
+    let p = live_for-some rs _ c.in-Some.slot (sym c.in-Some.ensures.answer) in
     let v = valid_by (regs.register_at rs c.in-Some.slot).valid (regs.register_at rs c.in-Some.slot).obsolete p.1 in
     let n = (c.requires.whole.each c.in-Some.slot).fields_there v in
     let there : c.args.i < length (regs.register_at rs c.in-Some.slot).fields = omega (arith, c.requires.there) in
-    let e = missing_parts (regs.field_at rs c.in-Some.slot c.args.i) _ (sym c.in-Some-missing_code.ensures) in
+    let e = missing_parts (regs.field_at rs c.in-Some.slot _) _ (sym c.in-Some-missing_code.ensures) in
     record { slot = p.0; live = p.1; there = there; unprocessed = e.0 }
 
 pub returns-in_default-missing_code-clause-noted : goal.returns-in_default-missing_code-clause-noted
 returns-in_default-missing_code-clause-noted c =
     let rs = c.args.registers.now in
     let slot = c.in-Some.slot in
-    let done = none_missing (regs.field_at rs slot c.args.i) (sym c.missing_code.ensures ∙ c.in_default-missing_code.is) in
-    let noted = set rs slot (regs.noted (regs.register_at rs slot) c.args.i c.args.lanes) in
+    let done = none_missing (regs.field_at rs slot _) (sym c.missing_code.ensures ∙ c.in_default-missing_code.is) in
+    let noted = set rs slot _ in
     sym (ap (λ o. noted_for rs o c.args.i c.args.lanes) (sym c.in-Some.ensures.answer) ∙ ap (λ b. if b then rs else noted) done)
 
 pub returns-clause-noted : goal.returns-clause-noted
 returns-clause-noted c =
     let rs = c.args.registers.now in
     let slot = c.in-Some.slot in
-    let e = missing_parts (regs.field_at rs slot c.args.i) _ (sym c.in-Some-missing_code.ensures) in
-    let noted = set rs slot (regs.noted (regs.register_at rs slot) c.args.i c.args.lanes) in
-    c.note_store.ensures.registers ∙ sym (ap (λ o. noted_for rs o c.args.i c.args.lanes) (sym c.in-Some.ensures.answer) ∙ ap (λ b. if b then rs else noted) e.0)
+    let e = missing_parts (regs.field_at rs slot _) _ (sym c.in-Some-missing_code.ensures) in
+    let noted = set rs slot _ in
+    c.note_store.ensures.registers ∙ sym (ap (λ o. noted_for rs o c.args.i c.args.lanes) (sym c.in-Some.ensures.answer)
+    ∙ ap (λ b. if b then rs else noted) e.0)
 
 pub returns-clause-whole : goal.returns-clause-whole
-returns-clause-whole c = c.note_store.ensures.whole c.args.sizes.now.block_words c.args.sizes.now.regs c.requires.whole
+returns-clause-whole c = c.note_store.ensures.whole _ _ c.requires.whole

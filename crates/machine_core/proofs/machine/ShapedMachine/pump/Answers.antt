@@ -1,8 +1,7 @@
 use Rattle.std.proofs.Common.{◌≡◌, Some, subst, sym, ◌∙◌}
-use Rattle.std.specs.Option.{IsNone}
 use Rattle.machine_core.specs.Machine.{MachineState}
-use Rattle.machine_core.specs.Pump.{pumped, weight}
-use Rattle.machine_core.specs.Law.{IsDriven, IsKept}
+use Rattle.machine_core.specs.Pump.{pumped}
+use Rattle.machine_core.specs.Law.{IsDriven}
 use Rattle.machine_core.proofs.Whole.{is_driven, is_kept, pump_rests, pump_moves, pump_lowers}
 use Rattle.machine_core.proofs.machine.ShapedMachine.pump.Goals as goal
 
@@ -10,12 +9,11 @@ pub returns-in_err-event-clause-rests : goal.returns-in_err-event-clause-rests
 returns-in_err-event-clause-rests c =
     let driven = is_driven c.self.invariant in
     let none = sym c.next_event.ensures ∙ c.in_err-event.was in
-    subst (λ (s : MachineState). (IsNone c.from_residual.result → weight s.machine ≡ 0)
-    × (weight s.machine ≡ 0 → IsNone c.from_residual.result)) c.self.view_is (pump_rests _ _ _ driven none c.from_residual.ensures)
+    rw (← c.self.view_is) (pump_rests _ _ _ driven none c.from_residual.ensures)
 
 pub returns-in_err-event-clause-kept : goal.returns-in_err-event-clause-kept
 returns-in_err-event-clause-kept c =
-    subst (λ (s : MachineState). IsKept s.sizes s.machine) c.self.view_is (is_kept c.self.invariant)
+    rw (← c.self.view_is) (is_kept c.self.invariant)
 
 pub returns-clause-rests : goal.returns-clause-rests
 returns-clause-rests c =
@@ -29,4 +27,4 @@ returns-clause-lowers c =
     let driven = subst (λ (s : MachineState). IsDriven s.sizes s.machine) c.self.view_is (is_driven c.self.invariant) in
     let some = sym c.next_event.ensures ∙ c.in_ok-event.was in
     let now = subst (λ (s : MachineState). pumped s.sizes s.machine ≡ Some c.in_ok-event.event) c.self.view_is some in
-    pump_lowers _ _ c.apply.new.self c.in_ok-event.event driven now c.apply.ensures.machine
+    pump_lowers _ _ _ c.in_ok-event.event driven now c.apply.ensures.machine

@@ -1,14 +1,11 @@
-use Rattle.std.proofs.Common.{◌≡◌, ℕ, Some, take, subst, arith}
-use Rattle.flat_model.specs.Flat.{flat_run}
-use Rattle.machine_core.specs.Machine.{MachineState, flat_of}
-use Rattle.machine_core.specs.Whole.{machine_of}
+use Rattle.std.proofs.Common.{ℕ, take, arith}
 use Rattle.machine_core.proofs.Whole.{takes_answers_walked, whole_walked, flat_then, is_kept}
 use Rattle.machine_core.proofs.machine.ShapedMachine.run.Goals as goal
 
 pub walk-requires : goal.walk-requires
 walk-requires c =
     let made = c.in_ok-answers.ensures in
-    let few = λ (n : ℕ) (b : ℕ). takes_answers_walked c.self.invariant (take n c.args.events.now) b in
+    let few = λ (n : ℕ) (b : ℕ). takes_answers_walked c.self.invariant (take n _) b in
     record { limit = c.self.invariant.limit; few = few; empty = made.items; room = omega arith }
 
 pub invariant_of-self : goal.invariant_of-self
@@ -22,9 +19,8 @@ invariant_of-self-2 c = whole_walked c.self.invariant c.args.events.now _ _ c.wa
 
 pub returns-clause-flat : goal.returns-clause-flat
 returns-clause-flat c =
-    let flat = flat_then c.self.invariant c.args.events.now _ _ _ c.walk.ensures.answers c.walk.ensures.unit c.walk.ensures.banks in
-    subst (λ (s : MachineState). flat_run (flat_of s.sizes s.machine) c.args.events.now c.walk.new.answers.items
-    ≡ Some (flat_of c.walk.new.unit.sizes (machine_of c.walk.new.unit c.walk.new.banks))) c.self.view_is flat
+    let flat = flat_then c.self.invariant _ _ _ _ c.walk.ensures.answers c.walk.ensures.unit c.walk.ensures.banks in
+    rw (← c.self.view_is) flat
 
 pub returns-clause-kept : goal.returns-clause-kept
 returns-clause-kept c = is_kept (whole_walked c.self.invariant c.args.events.now _ _ c.walk.ensures.unit c.walk.ensures.banks)

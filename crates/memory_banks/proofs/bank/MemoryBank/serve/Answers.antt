@@ -1,5 +1,4 @@
 use Rattle.std.proofs.Common.{Some, sym, ◌∙◌, ap, append-nil}
-use Rattle.memory_banks.specs.declared.Command.TheVariants.{Write}
 use Rattle.memory_banks.proofs.Serving.{first_served}
 use Rattle.memory_banks.proofs.bank.MemoryBank.serve.Goals as goal
 
@@ -7,5 +6,6 @@ pub returns-in-Some-Write-clause-bank : goal.returns-in-Some-Write-clause-bank
 returns-in-Some-Write-clause-bank c =
     let w = c.in-Some-Write in
     let front = ap Some (sym w.field-0-is) ∙ w.ensures.value in
-    ap (λ q. record { words = c.store.new.words.items; queue = q; answers = c.self.inside.answers.items }) (ap (λ q. q.items) c.pop_front.ensures.items)
-    ∙ first_served c.self.inside.words.items _ c.self.inside.queue.items c.self.inside.answers.items _ c.args.self.now (Write w.place w.word w.lanes) c.self.view_is front c.store.ensures (sym (append-nil _))
+    ap (λ q. record { words = c.store.new.words.items; queue = q; answers = c.self.inside.answers.items })
+    (ap (λ q. q.items) c.pop_front.ensures.items)
+    ∙ first_served _ _ _ _ _ _ _ c.self.view_is front c.store.ensures (sym (append-nil _))

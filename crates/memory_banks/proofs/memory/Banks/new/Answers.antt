@@ -1,10 +1,10 @@
-use Rattle.std.proofs.Common.{length, sym, ◌∙◌}
+use Rattle.std.proofs.Common.{sym, ◌∙◌}
 use Rattle.memory_banks.proofs.Making.{in_range}
 use Rattle.memory_banks.proofs.memory.Banks.new.Goals as goal
 
 pub over-requires : goal.over-requires
 over-requires c =
-    let r = in_range (length c.args.image.now) c.args.shape.now (sym c.bad_field.ensures ∙ c.in_default.is) in
+    let r = in_range _ c.args.shape.now (sym c.bad_field.ensures ∙ c.in_default.is) in
     record {
       some_words = r.some_words;
       few_words = r.most_words;

@@ -9,7 +9,7 @@ opening_banks-requires-clause-fits c = subst (λ n. n ≤ MAX_MEMORY) (sym c.req
 pub invariant_of-result : goal.invariant_of-result
 invariant_of-result c =
     let r = c.requires in
-    let range : InRange _ c.args.shape.now = record {
+    let range : InRange _ _ = record {
       some_words = r.some_words;
       most_words = r.few_words;
       some_banks = r.some_banks;

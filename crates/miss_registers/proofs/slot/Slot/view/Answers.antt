@@ -1,4 +1,4 @@
-use Rattle.std.proofs.Common.{◌≡◌, ◌+◌, cond, List, [], ◌∷◌, refl, ap, ◌∙◌}
+use Rattle.std.proofs.Common.{◌≡◌, cond, List, [], ◌∷◌, refl, ◌∙◌}
 use Rattle.std.specs.List.{count_by}
 use Rattle.std.proofs.lemmas.List.Sums.{sum_by-cons}
 use Rattle.miss_registers.specs.Registers.{Field}
@@ -8,10 +8,10 @@ use Rattle.miss_registers.proofs.slot.Slot.view.Goals as goal
 processed_shown-count : (fields : List Field) → count_by (λ f. f.processed) fields ≡ processed_shown fields
 processed_shown-count [] = refl
 processed_shown-count (f ∷ rest) =
-    sum_by-cons (λ (x : Field). cond x.processed 1 0) f rest ∙ ap (λ n. cond f.processed 1 0 + n) (processed_shown-count rest)
+    cc (sum_by-cons (λ x. cond x.processed 1 0) f rest, processed_shown-count rest)
 
 pub returns : goal.returns
 returns c =
     let counted : c.processed_count.result ≡ processed_shown c.self.inside.fields.items =
-    c.processed_count.ensures ∙ rw c.as_slice.ensures.value (processed_shown-count c.self.inside.fields.items) in
+    c.processed_count.ensures ∙ rw c.as_slice.ensures.value (processed_shown-count _) in
     rw (c.frame_shown.ensures, counted, ← c.self.view_is) refl

@@ -6,14 +6,14 @@ use Rattle.miss_registers.proofs.table.RegisterTable.allocate.Goals as goal
 pub invariant_of-self : goal.invariant_of-self
 invariant_of-self c =
     let xs = c.self.inside.slots.items in
-    let v : xs ≡ c.args.self.now = c.self.view_is in
+    let v = c.self.view_is in
     let a = c.args in
     let counted = rw v at c.self.invariant in
-    rw (c.allocate.ensures, v) (counted ∙ allocated-count c.args.self.now a.slot a.words a.block a.frame c.requires.slot c.requires.free)
+    rw (c.allocate.ensures, v) (counted ∙ allocated-count _ a.slot a.words a.block a.frame c.requires.slot c.requires.free)
 
 pub returns-clause-whole : goal.returns-clause-whole
 returns-clause-whole c =
-    let v : c.self.inside.slots.items ≡ c.args.self.now = c.self.view_is in
+    let v : c.self.inside.slots.items ≡ _ = c.self.view_is in
     let a = c.args in
     let q = c.requires in
     rw (c.allocate.ensures, v) (λ regs h. allocated-kept a.words regs _ a.slot a.block a.frame h q.slot q.free q.absent)

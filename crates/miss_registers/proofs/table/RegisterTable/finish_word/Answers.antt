@@ -11,40 +11,40 @@ finish_word-end-requires c =
     let xs = c.self.inside.slots.items in
     let register = c.index_mut-register in
     let v = c.self.view_is in
-    let e = element_is xs c.args.self.now c.args.slot register.result.now free_register v c.requires.slot register.ensures.value in
-    record { there = in_stack_there register.result.now c.args.i (rw e c.requires.in_stack) }
+    let e = element_is xs _ _ register.result.now free_register v c.requires.slot register.ensures.value in
+    record { there = in_stack_there register.result.now _ (rw e c.requires.in_stack) }
 
 pub overflow_sub-self : goal.overflow_sub-self
 overflow_sub-self c =
     let xs = c.self.inside.slots.items in
-    let v : xs ≡ c.args.self.now = c.self.view_is in
+    let v : xs ≡ _ = c.self.view_is in
     let register = c.index_mut-register in
     let q = c.requires in
-    let e = element_is xs c.args.self.now c.args.slot register.result.now free_register v q.slot register.ensures.value in
+    let e = element_is xs _ _ register.result.now free_register v q.slot register.ensures.value in
     let sent : c.len.result ≡ length (field_at c.args.self.now c.args.slot c.args.i).waiting =
     c.len.ensures.count ∙ ap length c.finish_word-end.ensures.send ∙ rw e refl in
     let counted = rw v at c.self.invariant in
-    let left = finished-count c.args.self.now c.args.slot c.args.i q.slot q.done q.in_stack in
+    let left = finished-count _ _ _ q.slot q.done q.in_stack in
     omega (arith, counted, left, sent)
 
 pub invariant_of-self : goal.invariant_of-self
 invariant_of-self c =
     let xs = c.self.inside.slots.items in
-    let v : xs ≡ c.args.self.now = c.self.view_is in
+    let v : xs ≡ _ = c.self.view_is in
     let register = c.index_mut-register in
     let q = c.requires in
-    let e = element_is xs c.args.self.now c.args.slot register.result.now free_register v q.slot register.ensures.value in
+    let e = element_is xs _ _ register.result.now free_register v q.slot register.ensures.value in
     let sent : c.len.result ≡ length (field_at c.args.self.now c.args.slot c.args.i).waiting =
     c.len.ensures.count ∙ ap length c.finish_word-end.ensures.send ∙ rw e refl in
     let counted = rw v at c.self.invariant in
-    let left = finished-count c.args.self.now c.args.slot c.args.i q.slot q.done q.in_stack in
+    let left = finished-count _ _ _ q.slot q.done q.in_stack in
     rw (c.finish_word-end.ensures.register, e, v) (omega (arith, counted, left, sent))
 
 pub returns-clause-whole : goal.returns-clause-whole
 returns-clause-whole c =
     let xs = c.self.inside.slots.items in
-    let v : xs ≡ c.args.self.now = c.self.view_is in
+    let v : xs ≡ _ = c.self.view_is in
     let register = c.index_mut-register in
     let q = c.requires in
-    let e = element_is xs c.args.self.now c.args.slot register.result.now free_register v q.slot register.ensures.value in
-    rw (c.finish_word-end.ensures.register, e, v) (λ words regs h. finished-kept words regs _ c.args.slot c.args.i h q.slot q.in_stack)
+    let e = element_is xs _ _ register.result.now free_register v q.slot register.ensures.value in
+    rw (c.finish_word-end.ensures.register, e, v) (λ words regs h. finished-kept words regs _ _ _ h q.slot q.in_stack)

@@ -9,19 +9,19 @@ use Rattle.miss_registers.proofs.table.RegisterTable.mark_in_stack.Goals as goal
 pub invariant_of-self : goal.invariant_of-self
 invariant_of-self c =
     let xs = c.self.inside.slots.items in
-    let v : xs ≡ c.args.self.now = c.self.view_is in
+    let v = c.self.view_is in
     let register = c.index_mut-register in
     let q = c.requires in
-    let e = element_is xs c.args.self.now c.args.slot register.result.now free_register v q.slot register.ensures.value in
+    let e = element_is xs _ _ register.result.now free_register v q.slot register.ensures.value in
     let counted = rw v at c.self.invariant in
-    let word = expects-parts (register_at c.args.self.now c.args.slot) c.args.i q.expected in
-    rw (c.mark_in_stack.ensures, e, v) (counted ∙ marked-count c.args.self.now c.args.slot c.args.i q.slot word.there)
+    let word = expects-parts (register_at c.args.self.now c.args.slot) _ q.expected in
+    rw (c.mark_in_stack.ensures, e, v) (counted ∙ marked-count _ _ _ q.slot word.there)
 
 pub returns-clause-whole : goal.returns-clause-whole
 returns-clause-whole c =
     let xs = c.self.inside.slots.items in
-    let v : xs ≡ c.args.self.now = c.self.view_is in
+    let v : xs ≡ _ = c.self.view_is in
     let register = c.index_mut-register in
     let q = c.requires in
-    let e = element_is xs c.args.self.now c.args.slot register.result.now free_register v q.slot register.ensures.value in
-    rw (c.mark_in_stack.ensures, e, v) (λ words regs h. marked-kept words regs _ c.args.slot c.args.i h q.slot q.expected)
+    let e = element_is xs _ _ register.result.now free_register v q.slot register.ensures.value in
+    rw (c.mark_in_stack.ensures, e, v) (λ words regs h. marked-kept words regs _ _ _ h q.slot q.expected)

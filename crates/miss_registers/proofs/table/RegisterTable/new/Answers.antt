@@ -4,7 +4,7 @@ use Rattle.miss_registers.proofs.Whole.{new-kept}
 use Rattle.miss_registers.proofs.table.RegisterTable.new.Goals as goal
 
 pub invariant_of-result : goal.invariant_of-result
-invariant_of-result c = rw c.in_ok-slots.ensures (sym (ap length (waiting_tags-new c.args.regs)))
+invariant_of-result c = rw c.in_ok-slots.ensures (sym (ap length (waiting_tags-new _)))
 
 pub returns-clause-whole : goal.returns-clause-whole
-returns-clause-whole c = rw c.in_ok-slots.ensures (λ words. new-kept words c.args.regs)
+returns-clause-whole c = rw c.in_ok-slots.ensures (λ words. new-kept words _)

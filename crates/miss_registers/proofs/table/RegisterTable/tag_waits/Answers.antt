@@ -1,4 +1,4 @@
-use Rattle.std.proofs.Common.{◌≡◌, ◌==◌, ◌≤◌, ℕ, zero, suc, nat_lt, false, length, refl, sym, ◌∙◌, arith}
+use Rattle.std.proofs.Common.{◌≡◌, ◌==◌, ◌≤◌, ℕ, zero, suc, nat_lt, false, refl, sym, ◌∙◌, arith}
 use Rattle.miss_registers.specs.Registers.{waiting_tags, tags_of}
 use Rattle.miss_registers.proofs.Tags.{list_any-flat_map}
 use Rattle.miss_registers.proofs.Awaiting.{none_has_tag}
@@ -11,12 +11,12 @@ none_more (suc n) h = absurd (omega arith)
 pub returns-then-self-gt0 : goal.returns-then-self-gt0
 unfolding waiting_tags
 returns-then-self-gt0 c =
-    let v : c.deref.result.now ≡ c.args.self.now = c.deref.ensures.value ∙ c.self.view_is in
+    let v = c.deref.ensures.value ∙ c.self.view_is in
     record { answer = c.one_has_tag.ensures ∙ rw v (list_any-flat_map (λ t. t == c.args.tag) tags_of c.args.self.now) }
 
 pub returns-else-self-gt0 : goal.returns-else-self-gt0
 returns-else-self-gt0 c =
     let v = c.self.view_is in
-    let counted : c.self.inside.awaited ≡ length (waiting_tags c.args.self.now) = rw v at c.self.invariant in
-    let none = none_has_tag c.args.self.now c.args.tag (omega arith) in
-    record { answer = none_more c.self.inside.awaited c.if-self-gt0.false ∙ sym none }
+    let counted = rw v at c.self.invariant in
+    let none = none_has_tag _ _ (omega arith) in
+    record { answer = none_more _ c.if-self-gt0.false ∙ sym none }
