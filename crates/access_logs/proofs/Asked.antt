@@ -1,5 +1,6 @@
 -- Requests that are written one by one.
-use Rattle.std.proofs.Common.{◌≡◌, ℕ, ◌+◌, ◌<◌, Result, Ok, Err, OnErr, List, [], ◌∷◌, ◌++◌, drop, take-append-drop, sym, ◌∙◌, ap, subst, append_assoc, append-nil, arith}
+use Rattle.std.proofs.Common.{◌≡◌, ℕ, ◌+◌, ◌<◌, Result, Ok, Err, OnErr, List, [], ◌∷◌, ◌++◌, drop, take-append-drop, sym, ◌∙◌, ap, subst}
+use Rattle.std.proofs.Common.{append_assoc, append-nil, arith}
 use Rattle.std.specs.Prelude.{map, codes}
 use Rattle.std.specs.List.{range_with_len}
 use Rattle.std.proofs.lemmas.Grind.{flat_map-append}
@@ -18,7 +19,8 @@ on_err_more (Ok x) f p = tt
 on_err_more (Err e) f p = f p
 
 -- the line of a store, piece by piece
-pub store_built : (x0 x1 x2 x3 x4 x5 x6 x7 word_at lanes word : List ℕ) → x0 ≡ [] → x1 ≡ x0 ++ codes "store " → x2 ≡ x1 ++ word_at → x3 ≡ x2 ++ 32 ∷ [] → x4 ≡ x3 ++ lanes → x5 ≡ x4 ++ 32 ∷ [] → x6 ≡ x5 ++ word → x7 ≡ x6 ++ 10 ∷ []
+pub store_built : (x0 x1 x2 x3 x4 x5 x6 x7 word_at lanes word : List ℕ) → x0 ≡ [] → x1 ≡ x0 ++ codes "store " → x2 ≡ x1 ++ word_at
+    → x3 ≡ x2 ++ 32 ∷ [] → x4 ≡ x3 ++ lanes → x5 ≡ x4 ++ 32 ∷ [] → x6 ≡ x5 ++ word → x7 ≡ x6 ++ 10 ∷ []
     → x7 ≡ (codes "store " ++ (word_at ++ (32 ∷ (lanes ++ (32 ∷ word))))) ++ 10 ∷ []
 store_built x0 x1 x2 x3 x4 x5 x6 x7 word_at lanes word e0 e1 e2 e3 e4 e5 e6 e7 =
     let two = e2 ∙ ap (λ l. l ++ word_at) (e1 ∙ ap (λ l. l ++ codes "store ") e0) in
@@ -29,12 +31,14 @@ store_built x0 x1 x2 x3 x4 x5 x6 x7 word_at lanes word e0 e1 e2 e3 e4 e5 e6 e7 =
 
 -- ---- a write that stops behind others
 
-pub stopped_then : {S : Type 0} {step : S → List ℕ → S → Type 0} {refused : S → S → Type 0} {old mid new : S} {xs ys : List ℕ} (zs whole : List ℕ)
+pub stopped_then : {S : Type 0} {step : S → List ℕ → S → Type 0} {refused : S → S → Type 0} {old mid new : S} {xs ys : List ℕ}
+    (zs whole : List ℕ)
     → Moves step old xs mid → Stopped step refused mid ys new → whole ≡ (xs ++ ys) ++ zs → Stopped step refused old whole new
 stopped_then {xs = xs} zs whole p q e = record {
   front = xs ++ q.front;
   back = q.back ++ zs;
-  whole = e ∙ ap (λ l. (xs ++ l) ++ zs) q.whole ∙ append_assoc xs (q.front ++ q.back) zs ∙ ap (λ l. xs ++ l) (append_assoc q.front q.back zs) ∙ sym (append_assoc xs q.front (q.back ++ zs));
+  whole = e ∙ ap (λ l. (xs ++ l) ++ zs) q.whole ∙ append_assoc xs (q.front ++ q.back) zs
+      ∙ ap (λ l. xs ++ l) (append_assoc q.front q.back zs) ∙ sym (append_assoc xs q.front (q.back ++ zs));
   last = q.last;
   moved = moved_then p q.moved;
   refusal = q.refusal;
@@ -42,7 +46,8 @@ stopped_then {xs = xs} zs whole p q e = record {
 
 -- ---- the requests of the words from the first on
 
-text_more : (f : ℕ → Event) (i : ℕ) → requests_text (map f (range_with_len 0 (i + 1))) ≡ requests_text (map f (range_with_len 0 i)) ++ request_text (f i)
+text_more : (f : ℕ → Event) (i : ℕ) → requests_text (map f (range_with_len 0 (i + 1))) ≡ requests_text (map f (range_with_len 0 i))
+    ++ request_text (f i)
 text_more f i =
     let before = map f (range_with_len 0 i) in
     ap requests_text (map-range_with_len_more f 0 i i (omega arith))
@@ -54,14 +59,16 @@ pub moved_next : {S : Type 0} {step : S → List ℕ → S → Type 0} {old mid 
     → Moves step old (requests_text (map f (range_with_len 0 (i + 1)))) new
 moved_next {step = step} {old = old} {new = new} f i p q = subst (λ l. Moves step old l new) (sym (text_more f i)) (moved_then p q)
 
-pub stopped_at : {S : Type 0} {step : S → List ℕ → S → Type 0} {refused : S → S → Type 0} {old mid new : S} (f : ℕ → Event) (i n : ℕ) → i < n
+pub stopped_at : {S : Type 0} {step : S → List ℕ → S → Type 0} {refused : S → S → Type 0} {old mid new : S} (f : ℕ → Event) (i n : ℕ)
+    → i < n
     → Moves step old (requests_text (map f (range_with_len 0 i))) mid → Stopped step refused mid (request_text (f i)) new
     → Stopped step refused old (requests_text (map f (range_with_len 0 n))) new
 stopped_at f i n lt p q =
     let all = map f (range_with_len 0 n) in
     let upto = map f (range_with_len 0 (i + 1)) in
     let rest = drop (i + 1) all in
-    let split : all ≡ upto ++ rest = sym (take-append-drop (i + 1) all) ∙ ap (λ l. l ++ rest) (take-map-range_with_len f 0 n (i + 1) (omega (arith, lt))) in
+    let split : all ≡ upto ++ rest = sym (take-append-drop (i + 1) all)
+    ∙ ap (λ l. l ++ rest) (take-map-range_with_len f 0 n (i + 1) (omega (arith, lt))) in
     let whole : requests_text all ≡ (requests_text (map f (range_with_len 0 i)) ++ request_text (f i)) ++ requests_text rest =
     ap requests_text split ∙ flat_map-append request_text upto rest ∙ ap (λ l. l ++ requests_text rest) (text_more f i) in
     stopped_then (requests_text rest) (requests_text all) p q whole
@@ -70,9 +77,12 @@ stopped_at f i n lt p q =
 
 pub moved_both : {S : Type 0} {step : S → List ℕ → S → Type 0} {old mid new : S} (xs ys : List Event)
     → Moves step old (requests_text xs) mid → Moves step mid (requests_text ys) new → Moves step old (requests_text (xs ++ ys)) new
-moved_both {step = step} {old = old} {new = new} xs ys p q = subst (λ l. Moves step old l new) (sym (flat_map-append request_text xs ys)) (moved_then p q)
+moved_both {step = step} {old = old} {new = new} xs ys p q = subst (λ l. Moves step old l new) (sym (flat_map-append request_text xs ys))
+    (moved_then p q)
 
 pub stopped_second : {S : Type 0} {step : S → List ℕ → S → Type 0} {refused : S → S → Type 0} {old mid new : S} (xs ys : List Event)
-    → Moves step old (requests_text xs) mid → Stopped step refused mid (requests_text ys) new → Stopped step refused old (requests_text (xs ++ ys)) new
+    → Moves step old (requests_text xs) mid → Stopped step refused mid (requests_text ys) new
+    → Stopped step refused old (requests_text (xs ++ ys)) new
 stopped_second xs ys p q =
-    stopped_then [] (requests_text (xs ++ ys)) p q (flat_map-append request_text xs ys ∙ sym (append-nil (requests_text xs ++ requests_text ys)))
+    stopped_then [] (requests_text (xs ++ ys)) p q
+    (flat_map-append request_text xs ys ∙ sym (append-nil (requests_text xs ++ requests_text ys)))

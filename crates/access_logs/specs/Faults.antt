@@ -10,7 +10,8 @@ use Rattle.access_logs.specs.declared.pages.TheConstants.{PAGE_WORDS, MAX_PAGES}
 -- how many words would do, if any
 unfoldable pub remedy_text : ℕ → List ℕ
 remedy_text pages =
-    if nat_le pages MAX_PAGES then decimal (pages * PAGE_WORDS) ++ codes " words would do" else codes "memory has at most " ++ decimal MAX_WORDS ++ codes " words"
+    if nat_le pages MAX_PAGES then decimal (pages * PAGE_WORDS) ++ codes " words would do" else codes "memory has at most "
+    ++ decimal MAX_WORDS ++ codes " words"
 
 -- a number behind its name
 abbrev pub number_text : List ℕ → ℕ → List ℕ

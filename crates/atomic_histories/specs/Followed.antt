@@ -1,6 +1,7 @@
 -- How the judge follows a unit: to each pair of the word that stands there now and the open stores that have taken effect to which ways
 -- may have come, what stood there before on these ways.
-use Rattle.std.specs.Prelude.{ℕ, Bool, true, false, ◌&&◌, ◌||◌, not, if◌then◌else◌, ◌==◌, nat_lt, nat_le, ◌+◌, List, [], ◌∷◌, ◌++◌, map, length, get_or, Option, Some, None, is_some, max, zero, suc}
+use Rattle.std.specs.Prelude.{ℕ, Bool, true, false, ◌&&◌, ◌||◌, not, if◌then◌else◌, ◌==◌, nat_lt, nat_le, ◌+◌, List, [], ◌∷◌, ◌++◌, map}
+use Rattle.std.specs.Prelude.{length, get_or, Option, Some, None, is_some, max, zero, suc}
 use Rattle.std.specs.List.{filter, list_any, find, fold}
 use Rattle.std.specs.Option.{option_eq}
 use Rattle.std.specs.Cmp.Lexicographic.{pointwise}
@@ -266,7 +267,8 @@ ways_after unit u (LoadRequest number address n) = if is_at unit address n then 
 ways_after unit u (LoadResponse number bytes) =
     ways_without_load number u (answered_load unit bytes.now (find (is_under number) u.loads) u)
 ways_after unit u (StoreRequest number address bytes enables) =
-    let stored = at_unit unit (stored_byte address bytes.now enables) in if list_any is_some stored then ways_with_store number stored u else u
+    let stored = at_unit unit (stored_byte address bytes.now enables) in if list_any is_some stored then ways_with_store number stored u
+    else u
 ways_after unit u (StoreResponse number) = ways_without_store number u (answered_store number u)
 
 -- whether an answer needs too many pairs, where so many words are kept of what stood there since the oldest request of an open load

@@ -20,7 +20,8 @@ use Rattle.atomic_histories.specs.Operations.{opened_by, opened_after, has_numbe
 use Rattle.atomic_histories.specs.Followed.{Ways, no_ways, first_ways, ways_after, is_too_wide}
 use Rattle.atomic_histories.specs.Law.{IsAtomic, FaultIs, unit_at}
 use Rattle.atomic_histories.specs.Lost.{IsAtomicBut, FaultIsBut}
-use Rattle.atomic_histories.specs.Held.{Held, covered, units_of, is_without, ways_from, stuck_from, IsWideFrom, unit_after, first_stuck, IsWide}
+use Rattle.atomic_histories.specs.Held.{Held, covered, units_of, is_without, ways_from, stuck_from, IsWideFrom, unit_after, first_stuck}
+use Rattle.atomic_histories.specs.Held.{IsWide}
 use Rattle.atomic_histories.specs.Shown.{shown_unit, words_in}
 
 abbrev pub bytes_of : UnitSize → ℕ

@@ -1,5 +1,6 @@
 -- What stood in a unit before the word of now, on all ways that led to it.
-use Rattle.std.specs.Prelude.{ℕ, ◌≡◌, ◌≤◌, ◌⊎◌, Bool, true, false, ◌&&◌, ◌||◌, if◌then◌else◌, nat_lt, nat_le, min, List, [], ◌∷◌, map, Option, Some, None}
+use Rattle.std.specs.Prelude.{ℕ, ◌≡◌, ◌≤◌, ◌⊎◌, Bool, true, false, ◌&&◌, ◌||◌, if◌then◌else◌, nat_lt, nat_le, min, List, [], ◌∷◌, map}
+use Rattle.std.specs.Prelude.{Option, Some, None}
 use Rattle.std.specs.List.{filter, fold}
 use Rattle.atomic_histories.specs.declared.unit.WatchedLoad.{WatchedLoad}
 

@@ -37,7 +37,8 @@ pub record IsShare (ss : List Stretch) (share : Option Before) (past : Option Pa
 
 -- the shares of the stretches before a place, of which the reference to each shows what is left of its past
 abbrev pub AreShares : (Past → Option Past) → Option Before → ℕ → List Stretch → List (Option Before) → Type 0
-AreShares left bare place ss shares = (before : Before) → IsShare ss (share_in bare shares before) (left (past_at (pasts (take place ss)) before))
+AreShares left bare place ss shares = (before : Before)
+    → IsShare ss (share_in bare shares before) (left (past_at (pasts (take place ss)) before))
 
 pub record IsSplit (is : Stood → Bool) (place : ℕ) (ss : List Stretch) (s : Split) : Type 0 where
   pub got : AreShares (got is) None place ss s.got.items
@@ -67,7 +68,8 @@ cut_of since at (Either one other) = merged (at one) (at other)
 
 -- the stretches before a place were moved, and the references that are used show of the new ones what this makes of their pasts
 pub record AreMoved (used : Before → Bool) (to : Past → Past) (place : ℕ) (ss : List Stretch) (m : Moved) : Type 0 where
-  pub same : (before : Before) → used before ≡ true → past_at (pasts m.stretches.items) (moved_to m before) ≡ to (past_at (pasts (take place ss)) before)
+  pub same : (before : Before) → used before ≡ true → past_at (pasts m.stretches.items) (moved_to m before)
+      ≡ to (past_at (pasts (take place ss)) before)
   pub is_in : (before : Before) → IsIn m.stretches.items (moved_to m before)
   pub places : length m.places.items ≡ place
 
@@ -90,7 +92,8 @@ RefersToUsed used place (Either one other) = IsUsedBelow used place one × IsUse
 
 -- from a place on, those that are used refer to used ones
 abbrev pub AreClosed : List Bool → ℕ → List Stretch → Type 0
-AreClosed used from ss = (place : ℕ) (s : Stretch) → from ≤ place → place < length ss → get_or used place true ≡ true → s ≡ get_or ss place s
+AreClosed used from ss = (place : ℕ) (s : Stretch) → from ≤ place → place < length ss → get_or used place true ≡ true
+    → s ≡ get_or ss place s
     → RefersToUsed used place s
 
 -- what was used still is

@@ -36,4 +36,5 @@ UndecidedIsMuch limit h lost history event address =
 
 -- so do the sets of a load for which there are none
 abbrev pub NoSetsAreMuch : ℕ → Held → List ℕ → List HistoryEvent → ℕ → ℕ → ℕ → Type 0
-NoSetsAreMuch limit h lost history a n address = StandsBut h lost history → IsWideLoad limit h a n address → IsMuchAt limit h history address
+NoSetsAreMuch limit h lost history a n address = StandsBut h lost history → IsWideLoad limit h a n address
+    → IsMuchAt limit h history address

@@ -1,12 +1,14 @@
 -- Why an event is refused.
-use Rattle.std.specs.Prelude.{ℕ, ◌+◌, ◌-◌, ◌*◌, ◌%◌, Bool, false, ◌||◌, not, if◌then◌else◌, ◌==◌, nat_lt, nat_le, List, [], ◌∷◌, length, Option, Some, None, is_none, is_some}
+use Rattle.std.specs.Prelude.{ℕ, ◌+◌, ◌-◌, ◌*◌, ◌%◌, Bool, false, ◌||◌, not, if◌then◌else◌, ◌==◌, nat_lt, nat_le, List, [], ◌∷◌, length}
+use Rattle.std.specs.Prelude.{Option, Some, None, is_none, is_some}
 use Rattle.std.specs.Option.{option_or}
 use Rattle.std.specs.List.{find, list_any, list_all, filter, range_with_len}
 use Rattle.miss_registers.specs.declared.TheConstants.{MAX_WAITING}
 use Rattle.flat_model.specs.declared.Word.{Word}
 use Rattle.flat_model.specs.declared.Lanes.{Lanes}
 use Rattle.flat_model.specs.declared.Cause.{Cause}
-use Rattle.flat_model.specs.declared.Cause.TheVariants.{OutOfRange, NoLanes, TagInUse, RepliesFull, TargetsFull, NoRegister, SetPending, QueueFull, BankFull, NotPresent, StackFull, StrayWord}
+use Rattle.flat_model.specs.declared.Cause.TheVariants.{OutOfRange, NoLanes, TagInUse, RepliesFull, TargetsFull, NoRegister, SetPending}
+use Rattle.flat_model.specs.declared.Cause.TheVariants.{QueueFull, BankFull, NotPresent, StackFull, StrayWord}
 use Rattle.flat_model.specs.Words.{zero_word, has_any, has_all, merged}
 use Rattle.write_queue.specs.declared.Queued.{Queued}
 use Rattle.input_stack.specs.Stack.{stack_word}
@@ -126,7 +128,8 @@ evict_cause z c block =
 -- a word that no register waits for
 abbrev pub is_stray : Sizes → Cache → ℕ → ℕ → Bool
 is_stray z c slot i =
-    not (register_at c slot).valid || (not (nat_lt i z.block_words) || ((field_at c slot i).processed || is_some (stack_word c.stack slot i)))
+    not (register_at c slot).valid
+    || (not (nat_lt i z.block_words) || ((field_at c slot i).processed || is_some (stack_word c.stack slot i)))
 
 unfoldable pub arrive_cause : Sizes → Cache → ℕ → ℕ → Option Cause
 arrive_cause z c slot i =

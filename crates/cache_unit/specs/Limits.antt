@@ -1,8 +1,11 @@
 -- The ranges of a machine's numbers, in the order of the checks.
 use Rattle.std.specs.Prelude.{ℕ, ◌+◌, ◌-◌, ◌/◌, ◌%◌, ◌&&◌, not, if◌then◌else◌, ◌==◌, Option, Some, None}
-use Rattle.flat_model.specs.declared.limits.TheConstants.{MAX_BLOCK_WORDS, MAX_WAYS, MAX_CONST_WAYS, MAX_REGS, MAX_CONST_REGS, MAX_DEPTH, MAX_CONST_DEPTH, MAX_WORDS, MAX_MEMORY, MAX_SETS, MAX_BANKS, MAX_BANK_QUEUE, MAX_WRITE_QUEUE, MAX_REPLIES}
+use Rattle.flat_model.specs.declared.limits.TheConstants.{MAX_BLOCK_WORDS, MAX_WAYS, MAX_CONST_WAYS, MAX_REGS, MAX_CONST_REGS, MAX_DEPTH}
+use Rattle.flat_model.specs.declared.limits.TheConstants.{MAX_CONST_DEPTH, MAX_WORDS, MAX_MEMORY, MAX_SETS, MAX_BANKS, MAX_BANK_QUEUE}
+use Rattle.flat_model.specs.declared.limits.TheConstants.{MAX_WRITE_QUEUE, MAX_REPLIES}
 use Rattle.flat_model.specs.declared.ShapeField.{ShapeField}
-use Rattle.flat_model.specs.declared.ShapeField.TheVariants.{BlockWords, Ways, Regs, Depth, Words, Sets, Banks, BankQueue, WriteQueue, Replies}
+use Rattle.flat_model.specs.declared.ShapeField.TheVariants.{BlockWords, Ways, Regs, Depth, Words, Sets, Banks, BankQueue, WriteQueue}
+use Rattle.flat_model.specs.declared.ShapeField.TheVariants.{Replies}
 use Rattle.flat_model.specs.Ranges.{is_between}
 use Rattle.cache_unit.specs.declared.Sizes.{Sizes}
 

@@ -1,7 +1,8 @@
 -- What holds of the parts of a unit.
 use Rattle.std.specs.Prelude.{ℕ, ◌+◌, ◌*◌, ◌%◌, ◌<◌, ◌≤◌, ◌≡◌, Bool, true, false, ◌==◌, List, length, Some, slice_index_or}
 use Rattle.std.specs.List.{sum_by, count_by, All}
-use Rattle.flat_model.specs.declared.limits.TheConstants.{MAX_BLOCK_WORDS, MAX_WAYS, MAX_REGS, MAX_DEPTH, MAX_MEMORY, MAX_SETS, MAX_BANKS, MAX_BANK_QUEUE, MAX_WRITE_QUEUE, MAX_REPLIES}
+use Rattle.flat_model.specs.declared.limits.TheConstants.{MAX_BLOCK_WORDS, MAX_WAYS, MAX_REGS, MAX_DEPTH, MAX_MEMORY, MAX_SETS, MAX_BANKS}
+use Rattle.flat_model.specs.declared.limits.TheConstants.{MAX_BANK_QUEUE, MAX_WRITE_QUEUE, MAX_REPLIES}
 use Rattle.flat_model.specs.Words.{zero_word}
 use Rattle.input_stack.specs.declared.Entry.{Entry}
 use Rattle.write_queue.specs.declared.Queued.{Queued}
@@ -82,7 +83,8 @@ pub record Stands (stack : List Entry) (s i : ℕ) : Type 0 where
 -- each entry of the stack is for a marked word, no two are for one word, and each marked word has one
 pub record StackSound (rs : List regs.Register) (stack : List Entry) : Type 0 where
   pub entries : (k : ℕ) → k < length stack → HasInStack (regs.register_at rs (entry_at stack k).slot) (entry_at stack k).i
-  pub distinct : (j k : ℕ) → j < k → k < length stack → (entry_at stack j).slot ≡ (entry_at stack k).slot → (entry_at stack j).i ≡ (entry_at stack k).i → ⊥
+  pub distinct : (j k : ℕ) → j < k → k < length stack → (entry_at stack j).slot ≡ (entry_at stack k).slot
+      → (entry_at stack j).i ≡ (entry_at stack k).i → ⊥
   pub marks : (s i : ℕ) → (regs.field_of (regs.register_at rs s) i).in_stack ≡ true → Stands stack s i
 
 -- a frame is pending exactly where a live register brings its words

@@ -20,7 +20,8 @@ pub record IsSoundCache (z : Sizes) (c : Cache) : Type 0 where
   pub registers_are : length c.registers ≡ z.regs
   -- a block is in one frame, and has one live register, and then it is present
   pub frames_apart : (f g block : ℕ) → (frame_at c f).block ≡ Some block → (frame_at c g).block ≡ Some block → f ≡ g
-  pub live_apart : (s t : ℕ) → is_live (register_at c s) ≡ true → is_live (register_at c t) ≡ true → (register_at c s).block ≡ (register_at c t).block → s ≡ t
+  pub live_apart : (s t : ℕ) → is_live (register_at c s) ≡ true → is_live (register_at c t) ≡ true
+      → (register_at c s).block ≡ (register_at c t).block → s ≡ t
   pub live_present : (s : ℕ) → is_live (register_at c s) ≡ true → (f : ℕ) × ((frame_at c f).block ≡ Some (register_at c s).block)
   -- a frame that holds a block has its words, and so has a valid register
   pub cells : (f block : ℕ) → (frame_at c f).block ≡ Some block → length (frame_at c f).cells ≡ z.block_words
@@ -29,6 +30,7 @@ pub record IsSoundCache (z : Sizes) (c : Cache) : Type 0 where
   pub placed : (f block : ℕ) → (frame_at c f).block ≡ Some block → list_any (λ g. g == f) (order_of c.directory (f / z.ways)) ≡ true
   -- a word stands in the stack once, where its register still waits for it
   pub entries : (k : ℕ) (e : Entry) → slice_get c.stack k ≡ Some e → HasWord z c e
-  pub entries_apart : (j k : ℕ) (d e : Entry) → slice_get c.stack j ≡ Some d → slice_get c.stack k ≡ Some e → d.slot ≡ e.slot → d.i ≡ e.i → j ≡ k
+  pub entries_apart : (j k : ℕ) (d e : Entry) → slice_get c.stack j ≡ Some d → slice_get c.stack k ≡ Some e → d.slot ≡ e.slot → d.i ≡ e.i
+      → j ≡ k
   -- a tag is owed one value
   pub once : (tag : ℕ) → length (filter (λ t. t == tag) (tags c)) ≤ 1

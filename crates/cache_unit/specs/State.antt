@@ -1,5 +1,6 @@
 -- The shown state of the cache unit, and how it is read.
-use Rattle.std.specs.Prelude.{ℕ, suc, ◌+◌, ◌*◌, ◌/◌, ◌%◌, Bool, false, if◌then◌else◌, List, [], ◌∷◌, ◌++◌, map, replicate, Option, Some, None, is_some, slice_set, slice_index_or}
+use Rattle.std.specs.Prelude.{ℕ, suc, ◌+◌, ◌*◌, ◌/◌, ◌%◌, Bool, false, if◌then◌else◌, List, [], ◌∷◌, ◌++◌, map, replicate, Option, Some}
+use Rattle.std.specs.Prelude.{None, is_some, slice_set, slice_index_or}
 use Rattle.cache_unit.specs.declared.Reply.{Reply}
 use Rattle.input_stack.specs.declared.Entry.{Entry}
 use Rattle.write_queue.specs.declared.Queued.{Queued}

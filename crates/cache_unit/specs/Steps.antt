@@ -21,9 +21,11 @@ use Rattle.cache_unit.specs.declared.Sizes.{Sizes}
 use Rattle.cache_directory.specs.Frames as dir
 use Rattle.miss_registers.specs.Registers.{marked, finished, finished_fields, is_done}
 use Rattle.miss_registers.specs.Registers as regs
-use Rattle.cache_unit.specs.State.{Register, Cache, frame_at, frame_of, is_present, register_at, field_at, is_live, live_for, free_slot, cell_of, with_cell, with_field, block_of, place_in, order_of}
+use Rattle.cache_unit.specs.State.{Register, Cache, frame_at, frame_of, is_present, register_at, field_at, is_live, live_for, free_slot}
+use Rattle.cache_unit.specs.State.{cell_of, with_cell, with_field, block_of, place_in, order_of}
 use Rattle.cache_unit.specs.Begun.{begun_frame, begun_register}
-use Rattle.cache_unit.specs.Causes.{choose, dirty_words, addresses, Found, Here, Coming, found, load_cause, store_cause, prefetch_cause, evict_cause, arrive_cause}
+use Rattle.cache_unit.specs.Causes.{choose, dirty_words, addresses, Found, Here, Coming, found, load_cause, store_cause, prefetch_cause}
+use Rattle.cache_unit.specs.Causes.{evict_cause, arrive_cause}
 
 -- an answer, the unit after it, and the commands sent, each with its bank
 pub record Stepped : Type 0 where

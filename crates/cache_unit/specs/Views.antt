@@ -1,5 +1,6 @@
 -- What the views of the unit show.
-use Rattle.std.specs.Prelude.{ℕ, Bool, true, false, ◌&&◌, not, if◌then◌else◌, nat_lt, List, [], ◌∷◌, length, Option, Some, None, is_some, slice_get}
+use Rattle.std.specs.Prelude.{ℕ, Bool, true, false, ◌&&◌, not, if◌then◌else◌, nat_lt, List, [], ◌∷◌, length, Option, Some, None, is_some}
+use Rattle.std.specs.Prelude.{slice_get}
 use Rattle.std.specs.Option.{unwrap_or, option_map}
 use Rattle.std.specs.List.{list_all}
 use Rattle.flat_model.specs.declared.Answer.{Answer}
@@ -76,4 +77,5 @@ is_empty (x ∷ xs) = false
 -- no valid register, and nothing that memory doesn't have
 abbrev pub is_clean : Cache → Bool
 is_clean c =
-    list_all (λ r. not r.valid) c.registers && (list_all (λ f. list_all (λ cell. not (has_any cell.dirty)) f.cells) c.directory.frames && is_empty c.queue)
+    list_all (λ r. not r.valid) c.registers
+    && (list_all (λ f. list_all (λ cell. not (has_any cell.dirty)) f.cells) c.directory.frames && is_empty c.queue)

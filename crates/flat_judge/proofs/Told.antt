@@ -1,5 +1,5 @@
 -- A reason tells the status of the step.
-use Rattle.std.proofs.Common.{◌≡◌, ℕ, Bool, true, false, List, refl}
+use Rattle.std.proofs.Common.{◌≡◌, Bool, true, false, List, refl}
 use Rattle.std.specs.Prelude.{Option, Some, None, if◌then◌else◌, ◌==◌, length, nat_lt, is_none}
 use Rattle.flat_model.specs.declared.Word.{Word}
 use Rattle.flat_model.specs.declared.Event.{Event}
@@ -52,14 +52,18 @@ against_is s (Take place) (Value tag word) = value_is (s.due tag)
 against_is s (Take place) Nothing = refl
 against_is s (Take place) (Refused cause) = refl
 
-by_tests : (table may : Bool) (reason : Reason) (next : Flat) → IsAgainst reason → status_by (number_of (if table then (if may then None else Some reason) else Some NoTable)) ≡ status_of (if table then Some (if may then Some next else None) else None)
+by_tests : (table may : Bool) (reason : Reason) (next : Flat) → IsAgainst reason
+    → status_by (number_of (if table then (if may then None else Some reason) else Some NoTable))
+    ≡ status_of (if table then Some (if may then Some next else None) else None)
 by_tests false may reason next is = refl
 by_tests true true reason next is = refl
 by_tests true false reason next is = is
 
-pub status_told : (words : List Word) (due : List Due) (event : Option Event) (answer : Option Answer) → status_by (number_of (why words due event answer)) ≡ status_of (judged words due event answer)
+pub status_told : (words : List Word) (due : List Due) (event : Option Event) (answer : Option Answer)
+    → status_by (number_of (why words due event answer)) ≡ status_of (judged words due event answer)
 status_told words due None answer = refl
 status_told words due (Some event) None = refl
 status_told words due (Some event) (Some answer) =
     let s = flat words due in
-    by_tests (length due == TAGS) (may_answer s event answer) (against s event answer) (flat_after s event answer) (against_is s event answer)
+    by_tests (length due == TAGS) (may_answer s event answer) (against s event answer) (flat_after s event answer)
+    (against_is s event answer)

@@ -10,7 +10,8 @@ use Rattle.flat_model.specs.Words.{has_any}
 use Rattle.flat_judge.specs.declared.table.Due.{Due}
 use Rattle.flat_judge.specs.declared.table.TheConstants.{TAGS}
 use Rattle.flat_judge.specs.declared.reasons.Reason.{Reason}
-use Rattle.flat_judge.specs.declared.reasons.Reason.TheVariants.{OutOfRange, NoLanes, TagInUse, NothingOwed, WrongWord, OtherAnswer, NoEvent, NoAnswer, NoTable}
+use Rattle.flat_judge.specs.declared.reasons.Reason.TheVariants.{OutOfRange, NoLanes, TagInUse, NothingOwed, WrongWord, OtherAnswer}
+use Rattle.flat_judge.specs.declared.reasons.Reason.TheVariants.{NoEvent, NoAnswer, NoTable}
 use Rattle.flat_judge.specs.Judge.{flat}
 
 -- what stands against any answer to a load but one: there is no such word, or else the tag is owed a word already

@@ -1,11 +1,13 @@
 -- Words, one lane at a time.
-use Rattle.std.proofs.Common.{◌≡◌, ℕ, zero, suc, bit_or, ◌<◌, Bool, true, false, cond, ◌&&◌, ◌||◌, max, ◌*◌, bit_and, refl, sym, ap, ap₂, ◌∙◌, arith, ◌==◌}
+use Rattle.std.proofs.Common.{◌≡◌, ℕ, zero, suc, bit_or, ◌<◌, Bool, true, false, cond, ◌&&◌, ◌||◌, max, ◌*◌, bit_and, refl, sym, ap, ap₂}
+use Rattle.std.proofs.Common.{◌∙◌, arith, ◌==◌}
 use Rattle.std.specs.Int.{bit_at}
 use Rattle.std.proofs.lemmas.Grind.{common_steps}
 use Rattle.std.proofs.lemmas.Nat.Bits.{and_pow, bit_at_or, bit_at-lt}
 use Rattle.flat_model.specs.declared.Word.{Word}
 use Rattle.flat_model.specs.declared.Lanes.{Lanes}
-use Rattle.flat_model.specs.Words.{Lane, Lane0, Lane1, Lane2, Lane3, byte, word_of, mask_of, has, has_any, has_all, no_lanes, joined, merged}
+use Rattle.flat_model.specs.Words.{Lane, Lane0, Lane1, Lane2, Lane3, byte, word_of, mask_of, has, has_any, has_all, no_lanes, joined}
+use Rattle.flat_model.specs.Words.{merged}
 
 pub byte_word_of : (f : Lane → ℕ) (l : Lane) → byte (word_of f) l ≡ f l
 byte_word_of f Lane0 = refl
@@ -49,7 +51,8 @@ has-bit n Lane3 = ap (λ k. k == 8) (and_pow n 3) ∙ scaled 8 refl refl (bit_at
 pub has-joined : (m n : Lanes) (l : Lane) → has (joined m n) l ≡ (has m l || has n l)
 unfolding has joined
 has-joined m n l =
-    has-bit (bit_or m.0 n.0) l ∙ ap (λ k. k == 1) (bit_at_or m.0 n.0 (place l)) ∙ both (bit_at m.0 (place l)) (bit_at n.0 (place l)) (bit_at-lt m.0 (place l)) (bit_at-lt n.0 (place l)) ∙ sym (ap₂ (λ x y. x || y) (has-bit m.0 l) (has-bit n.0 l))
+    has-bit (bit_or m.0 n.0) l ∙ ap (λ k. k == 1) (bit_at_or m.0 n.0 (place l)) ∙ both (bit_at m.0 (place l)) (bit_at n.0 (place l))
+    (bit_at-lt m.0 (place l)) (bit_at-lt n.0 (place l)) ∙ sym (ap₂ (λ x y. x || y) (has-bit m.0 l) (has-bit n.0 l))
   where
     both : (a b : ℕ) → a < 2 → b < 2 → (max a b == 1) ≡ ((a == 1) || (b == 1))
     both a b ha hb = grind arith
@@ -57,7 +60,8 @@ has-joined m n l =
 pub none_from_any : (m : Lanes) → has_any m ≡ false → (l : Lane) → has m l ≡ false
 none_from_any m h l = go (has m Lane0) refl (has m Lane1) refl (has m Lane2) refl (has m Lane3) refl h l
   where
-    go : (a : Bool) → has m Lane0 ≡ a → (b : Bool) → has m Lane1 ≡ b → (c : Bool) → has m Lane2 ≡ c → (d : Bool) → has m Lane3 ≡ d → (a || (b || (c || d))) ≡ false → (k : Lane) → has m k ≡ false
+    go : (a : Bool) → has m Lane0 ≡ a → (b : Bool) → has m Lane1 ≡ b → (c : Bool) → has m Lane2 ≡ c → (d : Bool) → has m Lane3 ≡ d
+        → (a || (b || (c || d))) ≡ false → (k : Lane) → has m k ≡ false
     go false p false q false r false s e Lane0 = p
     go false p false q false r false s e Lane1 = q
     go false p false q false r false s e Lane2 = r
@@ -70,7 +74,8 @@ none_from_any m h l = go (has m Lane0) refl (has m Lane1) refl (has m Lane2) ref
 pub all_from_all : (m : Lanes) → has_all m ≡ true → (l : Lane) → has m l ≡ true
 all_from_all m h l = go (has m Lane0) refl (has m Lane1) refl (has m Lane2) refl (has m Lane3) refl h l
   where
-    go : (a : Bool) → has m Lane0 ≡ a → (b : Bool) → has m Lane1 ≡ b → (c : Bool) → has m Lane2 ≡ c → (d : Bool) → has m Lane3 ≡ d → (a && (b && (c && d))) ≡ true → (k : Lane) → has m k ≡ true
+    go : (a : Bool) → has m Lane0 ≡ a → (b : Bool) → has m Lane1 ≡ b → (c : Bool) → has m Lane2 ≡ c → (d : Bool) → has m Lane3 ≡ d
+        → (a && (b && (c && d))) ≡ true → (k : Lane) → has m k ≡ true
     go true p true q true r true s e Lane0 = p
     go true p true q true r true s e Lane1 = q
     go true p true q true r true s e Lane2 = r
@@ -93,7 +98,8 @@ merged-all u o m h = same_word_from _ _ (λ l. byte-merged u o m l ∙ ap (λ b.
 
 -- the bytes that stand outside the lanes don't count
 pub merged_held : (u v o : Word) (m : Lanes) → merged u (merged v o m) m ≡ merged u o m
-merged_held u v o m = same_word_from _ _ (λ l. byte-merged u (merged v o m) m l ∙ ap (λ b. cond (has m l) b (byte u l)) (byte-merged v o m l) ∙ twice (has m l) (byte o l) (byte v l) (byte u l) ∙ sym (byte-merged u o m l))
+merged_held u v o m = same_word_from _ _ (λ l. byte-merged u (merged v o m) m l ∙ ap (λ b. cond (has m l) b (byte u l))
+    (byte-merged v o m l) ∙ twice (has m l) (byte o l) (byte v l) (byte u l) ∙ sym (byte-merged u o m l))
   where
     twice : (b : Bool) (x y z : ℕ) → cond b (cond b x y) z ≡ cond b x z
     twice true x y z = refl
@@ -103,7 +109,9 @@ merged_held u v o m = same_word_from _ _ (λ l. byte-merged u (merged v o m) m l
 pub merged_over : (u o w : Word) (m n : Lanes) → merged u (merged o w n) (joined m n) ≡ merged (merged u o m) w n
 merged_over u o w m n =
     same_word_from _ _ (λ l.
-    byte-merged u (merged o w n) (joined m n) l ∙ ap (λ b. cond b (byte (merged o w n) l) (byte u l)) (has-joined m n l) ∙ ap (λ b. cond (has m l || has n l) b (byte u l)) (byte-merged o w n l) ∙ both (has m l) (has n l) (byte w l) (byte o l) (byte u l) ∙ ap (λ b. cond (has n l) (byte w l) b) (sym (byte-merged u o m l)) ∙ sym (byte-merged (merged u o m) w n l))
+    byte-merged u (merged o w n) (joined m n) l ∙ ap (λ b. cond b (byte (merged o w n) l) (byte u l)) (has-joined m n l)
+    ∙ ap (λ b. cond (has m l || has n l) b (byte u l)) (byte-merged o w n l) ∙ both (has m l) (has n l) (byte w l) (byte o l) (byte u l)
+    ∙ ap (λ b. cond (has n l) (byte w l) b) (sym (byte-merged u o m l)) ∙ sym (byte-merged (merged u o m) w n l))
   where
     both : (a b : Bool) (x y z : ℕ) → cond (a || b) (cond b x y) z ≡ cond b x (cond a y z)
     both true true x y z = refl

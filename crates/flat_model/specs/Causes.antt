@@ -2,7 +2,8 @@
 -- events may be refused so. Their numbers stand with flat memory.
 use Rattle.std.specs.Prelude.{ℕ, Bool, true, false, List, codes}
 use Rattle.flat_model.specs.declared.Cause.{Cause}
-use Rattle.flat_model.specs.declared.Cause.TheVariants.{OutOfRange, NoLanes, TagInUse, RepliesFull, TargetsFull, BlockQueued, NoRegister, SetPending, QueueFull, BankFull, NotPresent, StackFull, StrayWord}
+use Rattle.flat_model.specs.declared.Cause.TheVariants.{OutOfRange, NoLanes, TagInUse, RepliesFull, TargetsFull, BlockQueued, NoRegister}
+use Rattle.flat_model.specs.declared.Cause.TheVariants.{SetPending, QueueFull, BankFull, NotPresent, StackFull, StrayWord}
 use Rattle.flat_model.specs.declared.Event.{Event}
 use Rattle.flat_model.specs.declared.Event.TheVariants.{Load, Store, Prefetch, Evict, Drain, Arrive}
 

@@ -1,7 +1,8 @@
 -- The texts of faults.
 use Rattle.std.specs.Prelude.{ℕ, List, ◌++◌, codes, decimal}
 use Rattle.flat_model.specs.declared.ShapeField.{ShapeField}
-use Rattle.flat_model.specs.declared.ShapeField.TheVariants.{BlockWords, Ways, Regs, Depth, Words, Sets, Banks, BankQueue, WriteQueue, Replies, Ports, Journal, Image}
+use Rattle.flat_model.specs.declared.ShapeField.TheVariants.{BlockWords, Ways, Regs, Depth, Words, Sets, Banks, BankQueue, WriteQueue}
+use Rattle.flat_model.specs.declared.ShapeField.TheVariants.{Replies, Ports, Journal, Image}
 use Rattle.flat_model.specs.declared.MakeFault.{MakeFault}
 use Rattle.flat_model.specs.declared.MakeFault.TheVariants as make
 use Rattle.flat_model.specs.declared.memory.ReplayFault.{ReplayFault}

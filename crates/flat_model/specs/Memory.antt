@@ -47,7 +47,8 @@ more_owed event answer = 0
 -- what each fault says of the run that was replayed
 abbrev pub FaultIs : Flat → List Event → List Answer → ReplayFault → Type 0
 FaultIs s events answers Lengths = (length events ≢ length answers) × (flat_run s events answers ≡ None)
-FaultIs s events answers (Mismatch place) = (first_fault s events answers ≡ Some place) × (length events ≡ length answers) × (flat_run s events answers ≡ None)
+FaultIs s events answers (Mismatch place) = (first_fault s events answers ≡ Some place) × (length events ≡ length answers) ×
+    (flat_run s events answers ≡ None)
 FaultIs s events answers OutOfMemory = length events ≡ length answers
 
 -- what each fault says of the step that was asked for: it is none, or a load was owed a word

@@ -14,7 +14,8 @@ use Rattle.atomic_histories.specs.Lost.{IsAtomicBut, FaultIsBut}
 use Rattle.atomic_histories.specs.Held.{Held, nothing_held, IsWide, StandsBut}
 use Rattle.atomic_histories.specs.May as may
 use Rattle.atomic_histories.specs.Judge.{held, limit_of, HasSameMemory, StepFaultIsBut}
-use Rattle.history_handles.specs.Atomic.{Atomic, opening, with_event, forgetting, IsLawful, IsRefused, IsFormed, IsHeld, followed, IsJudgeOf, IsUndecided, IsUndecidedByte}
+use Rattle.history_handles.specs.Atomic.{Atomic, opening, with_event, forgetting, IsLawful, IsRefused, IsFormed, IsHeld, followed}
+use Rattle.history_handles.specs.Atomic.{IsJudgeOf, IsUndecided, IsUndecidedByte}
 use Rattle.history_handles.specs.Faults.{of_atomic}
 use Rattle.history_handles.specs.Kept.{AtomicFaultIs, NoSetIs}
 

@@ -1,5 +1,6 @@
 -- Which operations are open, as both laws count them.
-use Rattle.std.proofs.Common.{◌≡◌, ℕ, Bool, true, false, ◌&&◌, ◌||◌, not, ◌==◌, List, [], ◌∷◌, ◌++◌, map, length, fold, None, inl, inr, refl, sym, ap, ◌∙◌, subst, eqb-true}
+use Rattle.std.proofs.Common.{◌≡◌, ℕ, Bool, true, false, ◌&&◌, ◌||◌, not, ◌==◌, List, [], ◌∷◌, ◌++◌, map, length, fold, None, inl, inr}
+use Rattle.std.proofs.Common.{refl, sym, ap, ◌∙◌, subst, eqb-true}
 use Rattle.std.specs.Prelude.{is_none}
 use Rattle.std.specs.List.{list_any}
 use Rattle.std.proofs.lemmas.Bool.{cases_Bool, and_parts, and_from, eq-eqb}
@@ -138,7 +139,8 @@ agrees_after o w ks (StoreRequest n a bytes e) g f =
     record {
       loads = g.loads;
       stores = λ m.
-          stores_more w.stores o.stores n a bytes.now e w.moment (record { number = n; address = a; length = length bytes.now }) refl p.1.0 m
+          stores_more w.stores o.stores n a bytes.now e w.moment (record { number = n; address = a; length = length bytes.now }) refl p.1.0
+          m
           (g.stores m);
     }
 agrees_after o w ks (StoreResponse n) g f = record { loads = g.loads; stores = stores_fewer w.stores o.stores n w.moment g.stores }

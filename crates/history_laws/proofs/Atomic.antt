@@ -1,5 +1,7 @@
 -- An atomic history is a regular one.
-use Rattle.std.proofs.Common.{◌≡◌, ℕ, ◌+◌, ◌*◌, ◌/◌, ◌%◌, ◌<◌, ◌≤◌, Bool, true, false, ◌||◌, not, if◌then◌else◌, List, [], ◌∷◌, ◌++◌, length, fold, Option, Some, None, slice_get, inl, inr, refl, sym, ap, ◌∙◌, subst, append-nil, append_assoc, div-add-mod', mod-lt, eq-eqb, eqb-true, arith}
+use Rattle.std.proofs.Common.{◌≡◌, ℕ, ◌+◌, ◌*◌, ◌/◌, ◌%◌, ◌<◌, ◌≤◌, Bool, true, false, ◌||◌, not, if◌then◌else◌, List, [], ◌∷◌, ◌++◌}
+use Rattle.std.proofs.Common.{length, fold, Option, Some, None, slice_get, inl, inr, refl, sym, ap, ◌∙◌, subst, append-nil, append_assoc}
+use Rattle.std.proofs.Common.{div-add-mod', mod-lt, eq-eqb, eqb-true, arith}
 use Rattle.std.specs.Prelude.{is_none, is_some, IsTrue}
 use Rattle.std.specs.Borrow.{Bor}
 use Rattle.std.specs.List.{All, find, list_any}
@@ -12,14 +14,17 @@ use Rattle.memory_histories.specs.declared.events.Rest.{Rest}
 use Rattle.memory_histories.specs.declared.windows.StoreByte.{StoreByte}
 use Rattle.memory_histories.specs.Windows.{Windows, windows_after}
 use Rattle.memory_histories.specs.Windows as windows
-use Rattle.memory_histories.specs.Regular.{is_inside, has_enabled, load_request_fault, load_response_fault, store_request_fault, store_response_fault, may_return, may_return_byte, fault, regular_run}
+use Rattle.memory_histories.specs.Regular.{is_inside, has_enabled, load_request_fault, load_response_fault, store_request_fault}
+use Rattle.memory_histories.specs.Regular.{store_response_fault, may_return, may_return_byte, fault, regular_run}
 use Rattle.memory_histories.specs.Kept.{Kept, kept_after, IsTimely, StandsFor}
 use Rattle.memory_histories.specs.Kept as keeps
 use Rattle.memory_histories.proofs.Stands.{stands_first, stands_after}
 use Rattle.atomic_histories.specs.declared.unit.UnitPlace.{UnitPlace}
 use Rattle.atomic_histories.specs.Words.{at_unit, initial_byte, stored_byte, byte_for, is_at, is_as_it_stood}
 use Rattle.atomic_histories.specs.Operations.{Opened, none_opened, opened_after, opened_by, has_number, form_fault}
-use Rattle.atomic_histories.specs.Law.{OpenLoad, UnitMemory, HiddenStep, MayBe, starts, steps, sees, untouched, is_load, is_got, may_answer_load, may_answer_store, with_load, with_store, without_load, without_store, seen, unit_at, is_formed, IsAtomicAt}
+use Rattle.atomic_histories.specs.Law.{OpenLoad, UnitMemory, HiddenStep, MayBe, starts, steps, sees, untouched, is_load, is_got}
+use Rattle.atomic_histories.specs.Law.{may_answer_load, may_answer_store, with_load, with_store, without_load, without_store, seen, unit_at}
+use Rattle.atomic_histories.specs.Law.{is_formed, IsAtomicAt}
 use Rattle.atomic_histories.specs.Stands.{Each}
 use Rattle.atomic_histories.proofs.Lists.{one_each, no_snoc, all_each, one_elim}
 use Rattle.atomic_histories.proofs.Links.{none_is}
@@ -28,8 +33,10 @@ use Rattle.history_laws.proofs.Lists.{each_all, each_find, each_get}
 use Rattle.history_laws.proofs.Pieces.{Marked, is_number, IsSome}
 use Rattle.history_laws.proofs.Open.{no_loads, loads_any, loads_under, no_fault, store_formed, answer_formed, marked_after}
 use Rattle.history_laws.proofs.Words.{lane, lane_unit, word_lane, byte_inside}
-use Rattle.history_laws.proofs.Fits.{Fits, IsAllowed, fits_store, fits_load, fits_requested, fits_answered, fits_store_requested, fits_store_answered, IsLoad, HasLoad}
-use Rattle.history_laws.proofs.Agrees.{formed_parts, formed_more, load_byte, number_of, its_number, Agrees, marks_from, marks_more, agrees_from}
+use Rattle.history_laws.proofs.Fits.{Fits, IsAllowed, fits_store, fits_load, fits_requested, fits_answered, fits_store_requested}
+use Rattle.history_laws.proofs.Fits.{fits_store_answered, IsLoad, HasLoad}
+use Rattle.history_laws.proofs.Agrees.{formed_parts, formed_more, load_byte, number_of, its_number, Agrees, marks_from, marks_more}
+use Rattle.history_laws.proofs.Agrees.{agrees_from}
 
 -- The event before which a unit was so. ----
 

@@ -1,6 +1,7 @@
 -- A load that takes effect late, at one unit: what the unit may be is what it may be if the load took effect at its request, but for
 -- what the load got.
-use Rattle.std.proofs.Common.{◌≡◌, ◌⊎◌, ℕ, ◌==◌, Bool, true, false, ◌||◌, not, if◌then◌else◌, List, [], ◌∷◌, ◌++◌, map, Option, Some, None, inl, inr, refl, sym, ap, ◌∙◌, subst, eq-eqb, eqb-true, append-nil, append_assoc}
+use Rattle.std.proofs.Common.{◌≡◌, ◌⊎◌, ℕ, ◌==◌, Bool, true, false, ◌||◌, not, if◌then◌else◌, List, [], ◌∷◌, ◌++◌, map, Option, Some, None}
+use Rattle.std.proofs.Common.{inl, inr, refl, sym, ap, ◌∙◌, subst, eq-eqb, eqb-true, append-nil, append_assoc}
 use Rattle.std.specs.Prelude.{is_some}
 use Rattle.std.specs.List.{list_any}
 use Rattle.std.proofs.lemmas.Bool.{cases_Bool}
@@ -11,7 +12,8 @@ use Rattle.memory_histories.proofs.Lists.{filter-map}
 use Rattle.atomic_histories.specs.declared.unit.OpenStore.{OpenStore}
 use Rattle.atomic_histories.specs.declared.unit.UnitPlace.{UnitPlace}
 use Rattle.atomic_histories.specs.Words.{at_unit, stored_byte, is_at, is_word_of}
-use Rattle.atomic_histories.specs.Law.{OpenLoad, UnitMemory, HiddenStep, MayBe, starts, steps, sees, done_load, is_load, is_got, may_answer_load, may_answer_store, with_load, with_store, without_load, without_store, seen}
+use Rattle.atomic_histories.specs.Law.{OpenLoad, UnitMemory, HiddenStep, MayBe, starts, steps, sees, done_load, is_load, is_got}
+use Rattle.atomic_histories.specs.Law.{may_answer_load, may_answer_store, with_load, with_store, without_load, without_store, seen}
 use Rattle.atomic_histories.specs.Stands.{Each}
 use Rattle.atomic_histories.proofs.Lists.{each_weaker, each_map, each_split, all_each}
 use Rattle.history_laws.proofs.Lists.{each_passes, each_always, false_if}

@@ -1,5 +1,7 @@
 -- What a unit of the atomic law may be, beside the windows of the regular law: at one of its bytes.
-use Rattle.std.proofs.Common.{◌≡◌, ℕ, zero, suc, ◌+◌, ◌<◌, ◌≤◌, ◌⊎◌, Bool, true, false, ◌&&◌, ◌||◌, not, ◌==◌, if◌then◌else◌, nat_lt, List, [], ◌∷◌, ◌++◌, map, length, Option, Some, None, slice_get, inl, inr, refl, sym, ap, ◌∙◌, subst, arith, eqb-true}
+use Rattle.std.proofs.Common.{◌≡◌, ℕ, zero, suc, ◌+◌, ◌<◌, ◌≤◌, ◌⊎◌, Bool, true, false, ◌&&◌, ◌||◌, not, ◌==◌, if◌then◌else◌, nat_lt, List}
+use Rattle.std.proofs.Common.{[], ◌∷◌, ◌++◌, map, length, Option, Some, None, slice_get, inl, inr, refl, sym, ap, ◌∙◌, subst, arith}
+use Rattle.std.proofs.Common.{eqb-true}
 use Rattle.std.specs.Prelude.{is_none, is_some}
 use Rattle.std.specs.List.{All, filter, list_any}
 use Rattle.std.proofs.lemmas.Bool.{cases_Bool, and_parts, and_from, lt-ltb, eq-eqb}
@@ -15,12 +17,14 @@ use Rattle.memory_histories.proofs.Requests.{IsNew, store_bytes-new, left_reques
 use Rattle.atomic_histories.specs.declared.unit.OpenStore.{OpenStore}
 use Rattle.atomic_histories.specs.declared.unit.UnitPlace.{UnitPlace}
 use Rattle.atomic_histories.specs.Words.{at_unit, first_byte, initial_byte, stored_byte, is_at, written_byte, written, is_as_it_stood}
-use Rattle.atomic_histories.specs.Law.{OpenLoad, UnitMemory, done_store, done_load, is_store, is_load, may_answer_store, with_load, with_store, without_load, without_store}
+use Rattle.atomic_histories.specs.Law.{OpenLoad, UnitMemory, done_store, done_load, is_store, is_load, may_answer_store, with_load}
+use Rattle.atomic_histories.specs.Law.{with_store, without_load, without_store}
 use Rattle.atomic_histories.specs.Stands.{Each, One}
 use Rattle.atomic_histories.proofs.Lists.{each_weaker, each_append, each_map, each_both, one_weaker, one_left, one_last, one_map, one_each}
 use Rattle.atomic_histories.proofs.Lists.{one_filter, each_replace, each_at, all_each}
 use Rattle.history_laws.specs.Laws.{IsByte}
-use Rattle.history_laws.proofs.Lists.{each_all, each_passing, one_unfilter, one_split, one_right, one_replace, one_replaced, one_at, one_never, or_more, each_always, any_one, any_none, false_if, or_true}
+use Rattle.history_laws.proofs.Lists.{each_all, each_passing, one_unfilter, one_split, one_right, one_replace, one_replaced, one_at}
+use Rattle.history_laws.proofs.Lists.{one_never, or_more, each_always, any_one, any_none, false_if, or_true}
 use Rattle.history_laws.proofs.Pieces.{Marked, is_number, false_true}
 use Rattle.history_laws.proofs.Words.{lane, lane_written, length_written, lane_unit, stored_new, each_new, IsNewByte, new_byte}
 
@@ -319,7 +323,8 @@ module _ (image : List ℕ) (rest : Rest) (unit : UnitPlace) (j : ℕ) where
               (
                 omega arith,
                 λ p q.
-                    absurd (false_true (is_at unit a len) e (and_from (nat_lt a (unit.first + unit.size)) (nat_lt unit.first (a + len)) (lt-ltb
+                    absurd (false_true (is_at unit a len) e
+                    (and_from (nat_lt a (unit.first + unit.size)) (nat_lt unit.first (a + len)) (lt-ltb
                     a (unit.first + unit.size) (omega arith)) (lt-ltb unit.first (a + len) (omega arith)))),
               ),
               tt,

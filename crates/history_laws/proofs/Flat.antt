@@ -1,5 +1,7 @@
 -- A flat history is an atomic one: each operation takes effect right behind its request.
-use Rattle.std.proofs.Common.{◌≡◌, ℕ, zero, suc, ◌+◌, ◌-◌, ◌/◌, ◌%◌, ◌<◌, ◌≤◌, Bool, true, false, ◌&&◌, ◌||◌, not, ◌==◌, cond, if◌then◌else◌, nat_le, nat_lt, List, [], ◌∷◌, ◌++◌, map, length, Option, Some, None, slice_get, inl, inr, refl, sym, ap, ◌∙◌, subst, append-nil, append_assoc, eq-eqb, eqb-true, arith}
+use Rattle.std.proofs.Common.{◌≡◌, ℕ, zero, suc, ◌+◌, ◌-◌, ◌/◌, ◌%◌, ◌<◌, ◌≤◌, Bool, true, false, ◌&&◌, ◌||◌, not, ◌==◌, cond}
+use Rattle.std.proofs.Common.{if◌then◌else◌, nat_le, nat_lt, List, [], ◌∷◌, ◌++◌, map, length, Option, Some, None, slice_get, inl, inr}
+use Rattle.std.proofs.Common.{refl, sym, ap, ◌∙◌, subst, append-nil, append_assoc, eq-eqb, eqb-true, arith}
 use Rattle.std.specs.Prelude.{is_none, is_some, IsTrue}
 use Rattle.std.specs.Borrow.{Bor}
 use Rattle.std.specs.List.{filter, find, list_any, range_with_len, zip, position, prefix_len}
@@ -18,23 +20,29 @@ use Rattle.memory_histories.specs.declared.reasons.Owed.{Owed}
 use Rattle.memory_histories.specs.declared.reasons.Owed.TheVariants as owed
 use Rattle.memory_histories.specs.declared.reasons.StoreName.{StoreName}
 use Rattle.memory_histories.specs.declared.flat.OwedByte.{OwedByte}
-use Rattle.memory_histories.specs.Regular.{is_inside, has_enabled, load_request_fault, load_response_fault, store_request_fault, store_response_fault, wrong_byte, wrong_place}
-use Rattle.memory_histories.specs.Flat.{Flat, initial, with_value, with_bytes, stored, is_paid_by, may_return, is_of, is_open, flat_fault, flat_after, flat_run}
+use Rattle.memory_histories.specs.Regular.{is_inside, has_enabled, load_request_fault, load_response_fault, store_request_fault}
+use Rattle.memory_histories.specs.Regular.{store_response_fault, wrong_byte, wrong_place}
+use Rattle.memory_histories.specs.Flat.{Flat, initial, with_value, with_bytes, stored, is_paid_by, may_return, is_of, is_open, flat_fault}
+use Rattle.memory_histories.specs.Flat.{flat_after, flat_run}
 use Rattle.memory_histories.specs.Flat as flat
 use Rattle.memory_histories.proofs.Lists.{list_any-kept, list_any-filter}
 use Rattle.atomic_histories.specs.declared.unit.Operation.{Operation}
 use Rattle.atomic_histories.specs.declared.unit.OpenStore.{OpenStore}
 use Rattle.atomic_histories.specs.declared.unit.UnitPlace.{UnitPlace}
-use Rattle.atomic_histories.specs.Words.{at_lane, at_unit, first_byte, initial_byte, byte_for, enabled_byte, stored_byte, is_at, written_byte, written, is_as_it_stood, is_word_of}
+use Rattle.atomic_histories.specs.Words.{at_lane, at_unit, first_byte, initial_byte, byte_for, enabled_byte, stored_byte, is_at}
+use Rattle.atomic_histories.specs.Words.{written_byte, written, is_as_it_stood, is_word_of}
 use Rattle.atomic_histories.specs.Operations.{Opened, none_opened, opened_after, has_number, form_fault}
-use Rattle.atomic_histories.specs.Law.{OpenLoad, UnitMemory, MayBe, starts, steps, sees, untouched, done_store, done_load, is_store, is_load, is_got, may_answer_load, may_answer_store, with_load, with_store, without_load, without_store, unit_at, is_formed}
+use Rattle.atomic_histories.specs.Law.{OpenLoad, UnitMemory, MayBe, starts, steps, sees, untouched, done_store, done_load, is_store}
+use Rattle.atomic_histories.specs.Law.{is_load, is_got, may_answer_load, may_answer_store, with_load, with_store, without_load}
+use Rattle.atomic_histories.specs.Law.{without_store, unit_at, is_formed}
 use Rattle.atomic_histories.specs.Stands.{Each, One}
 use Rattle.atomic_histories.proofs.Lists.{each_weaker, each_append, one_weaker, one_left, one_last, each_filter, one_filter}
 use Rattle.history_laws.specs.Laws.{FlatIsAtomic, FlatIsRegular}
 use Rattle.history_laws.proofs.Atomic.{atomic_is_regular}
 use Rattle.history_laws.proofs.Lists.{each_passing, each_passes, any_one, any_none, each_always, false_if, or_true}
 use Rattle.history_laws.proofs.Pieces.{Marked, is_number, AreDifferent, bytes_of, piece, false_true}
-use Rattle.history_laws.proofs.Open.{Loads, no_loads, loads_any, loads_more, loads_fewer, loads_under, length_bytes, load_formed, inside_some, marked_after}
+use Rattle.history_laws.proofs.Open.{Loads, no_loads, loads_any, loads_more, loads_fewer, loads_under, length_bytes, load_formed}
+use Rattle.history_laws.proofs.Open.{inside_some, marked_after}
 use Rattle.history_laws.proofs.Words.{lane_map, zero_plus, lane_word, stored_inside, enabled_first, enabled_next}
 
 -- What stands at an address. ----
@@ -245,7 +253,8 @@ without_one number n m xs = elim (cases_Bool (n == m)) [
   | inr e ↦ rw e (list_any-kept (λ x. not (number x == n)) (λ x. number x == m) (λ x f. kept_other number n m x e f) xs)
 ]
 
-pub agrees_after : (o : Opened) (f : Flat) (ks : List (Marked (ℕ → Owed))) (event : HistoryEvent) → Agrees o f ks → form_fault o event ≡ None
+pub agrees_after : (o : Opened) (f : Flat) (ks : List (Marked (ℕ → Owed))) (event : HistoryEvent) → Agrees o f ks
+    → form_fault o event ≡ None
     → Agrees (opened_after o event) (flat_after f event) (marked_after f.memory ks event)
 agrees_after o f ks (LoadRequest n a len) g h =
     let p = load_formed (is_inside a len) (list_any (has_number n) o.loads) h in
@@ -324,7 +333,8 @@ answer_of o f ks n bytes g h =
           owed_number owed_named k) bytes.now) right));
     }
 
-pub formed_after : (o : Opened) (f : Flat) (ks : List (Marked (ℕ → Owed))) (event : HistoryEvent) → Agrees o f ks → flat_fault f event ≡ None
+pub formed_after : (o : Opened) (f : Flat) (ks : List (Marked (ℕ → Owed))) (event : HistoryEvent) → Agrees o f ks
+    → flat_fault f event ≡ None
     → form_fault o event ≡ None
 formed_after o f ks (LoadRequest n a len) g h = ap (load_request_fault (is_inside a len)) (sym (loads_any owed_byte owed_number owed_named
     ks f.loads o.loads g.loads n)) ∙ h

@@ -1,5 +1,7 @@
 -- A run whose last value is late is an atomic history.
-use Rattle.std.proofs.Common.{◌≡◌, ℕ, zero, suc, ◌+◌, ◌*◌, ◌<◌, ◌≤◌, Bool, true, false, ◌&&◌, not, ◌==◌, if◌then◌else◌, nat_lt, List, [], ◌∷◌, ◌++◌, length, Option, Some, None, slice_get, inl, inr, refl, sym, ap, ◌∙◌, subst, eq-eqb, eqb-true, append-nil, append_assoc}
+use Rattle.std.proofs.Common.{◌≡◌, ℕ, zero, suc, ◌+◌, ◌*◌, ◌<◌, ◌≤◌, Bool, true, false, ◌&&◌, not, ◌==◌, if◌then◌else◌, nat_lt, List, []}
+use Rattle.std.proofs.Common.{◌∷◌, ◌++◌, length, Option, Some, None, slice_get, inl, inr, refl, sym, ap, ◌∙◌, subst, eq-eqb, eqb-true}
+use Rattle.std.proofs.Common.{append-nil, append_assoc}
 use Rattle.std.specs.Prelude.{is_none, is_some, IsTrue}
 use Rattle.std.specs.Borrow.{Bor}
 use Rattle.std.specs.List.{list_any}
@@ -16,7 +18,8 @@ use Rattle.memory_histories.specs.Flat as flat
 use Rattle.atomic_histories.specs.declared.unit.UnitPlace.{UnitPlace}
 use Rattle.atomic_histories.specs.Words.{is_word_of}
 use Rattle.atomic_histories.specs.Operations.{Opened, none_opened, opened_after, has_number, form_fault}
-use Rattle.atomic_histories.specs.Law.{OpenLoad, UnitMemory, IsAtomic, MayBe, starts, sees, untouched, is_load, may_answer_load, without_load, unit_at, is_formed}
+use Rattle.atomic_histories.specs.Law.{OpenLoad, UnitMemory, IsAtomic, MayBe, starts, sees, untouched, is_load, may_answer_load}
+use Rattle.atomic_histories.specs.Law.{without_load, unit_at, is_formed}
 use Rattle.atomic_histories.specs.Stands.{Each, One}
 use Rattle.atomic_histories.proofs.Lists.{each_weaker, each_append, one_weaker}
 use Rattle.flat_model.specs.declared.Word.{Word}
@@ -32,7 +35,8 @@ use Rattle.history_laws.specs.Late.{is_value_of, has_no_value, HasStood, LateIsA
 use Rattle.history_laws.proofs.Lists.{false_if}
 use Rattle.history_laws.proofs.Pieces.{Marked, is_number}
 use Rattle.history_laws.proofs.Open.{any_operation, load_formed, marked_after}
-use Rattle.history_laws.proofs.Flat.{word_of, owed_byte, owed_number, owed_named, IsBound, Holds, got_paid, next, Agrees, agrees_after, formed_after, formed_from, first_agrees, first_holds, no_other}
+use Rattle.history_laws.proofs.Flat.{word_of, owed_byte, owed_number, owed_named, IsBound, Holds, got_paid, next, Agrees, agrees_after}
+use Rattle.history_laws.proofs.Flat.{formed_after, formed_from, first_agrees, first_holds, no_other}
 use Rattle.history_laws.proofs.Told.{Tells, eqb_swap, known_paid, value_taken, told_step, run_append, first_tells}
 use Rattle.history_laws.proofs.Delay.{and_then, late, none_late, Suits, follows, settles, answers_late}
 

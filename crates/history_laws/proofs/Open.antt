@@ -1,5 +1,6 @@
 -- The loads that are open, as the atomic law has them and as a law of single bytes has them; and events that aren't malformed.
-use Rattle.std.proofs.Common.{◌≡◌, ℕ, zero, suc, ◌+◌, ◌<◌, ◌≤◌, Bool, true, false, not, ◌==◌, if◌then◌else◌, List, [], ◌∷◌, ◌++◌, map, length, Option, Some, None, slice_get, refl, sym, ap, ◌∙◌, arith, eqb-true}
+use Rattle.std.proofs.Common.{◌≡◌, ℕ, zero, suc, ◌+◌, ◌<◌, ◌≤◌, Bool, true, false, not, ◌==◌, if◌then◌else◌, List, [], ◌∷◌, ◌++◌, map}
+use Rattle.std.proofs.Common.{length, Option, Some, None, slice_get, refl, sym, ap, ◌∙◌, arith, eqb-true}
 use Rattle.std.specs.List.{filter, find, list_any, range_with_len, zip}
 use Rattle.std.specs.Option.{option_map}
 use Rattle.std.proofs.lemmas.Bool.{and_parts, leb-true, eq-eqb, ne_eqb}
@@ -13,7 +14,8 @@ use Rattle.atomic_histories.specs.declared.unit.Operation.{Operation}
 use Rattle.atomic_histories.specs.Stands.{Each}
 use Rattle.atomic_histories.specs.Operations.{has_number, without_number, answer_fault}
 use Rattle.atomic_histories.proofs.Lists.{each_append, each_filter}
-use Rattle.history_laws.proofs.Pieces.{Marked, operation_of, is_number, AreDifferent, IsSome, bytes_of, all_bytes, any_bytes, bytes_under, bytes_without, bytes_more, each_paid, different_more, different_fewer, no_wrong_place}
+use Rattle.history_laws.proofs.Pieces.{Marked, operation_of, is_number, AreDifferent, IsSome, bytes_of, all_bytes, any_bytes, bytes_under}
+use Rattle.history_laws.proofs.Pieces.{bytes_without, bytes_more, each_paid, different_more, different_fewer, no_wrong_place}
 
 -- Events that aren't malformed. ----
 

@@ -1,5 +1,6 @@
 -- The bytes of the open loads, beside the loads that they are of.
-use Rattle.std.proofs.Common.{◌≡◌, ℕ, zero, suc, ◌+◌, ◌<◌, ◌≤◌, Bool, true, false, ◌||◌, not, ◌==◌, List, [], ◌∷◌, ◌++◌, map, length, Some, None, slice_get, inl, inr, append_assoc, append-nil, eqb-true, refl, sym, ap, ◌∙◌, subst, arith}
+use Rattle.std.proofs.Common.{◌≡◌, ℕ, zero, suc, ◌+◌, ◌<◌, ◌≤◌, Bool, true, false, ◌||◌, not, ◌==◌, List, [], ◌∷◌, ◌++◌, map, length, Some}
+use Rattle.std.proofs.Common.{None, slice_get, inl, inr, append_assoc, append-nil, eqb-true, refl, sym, ap, ◌∙◌, subst, arith}
 use Rattle.std.specs.List.{filter, find, list_any, range_with_len, zip, position, prefix_len}
 use Rattle.std.proofs.lemmas.Bool.{cases_Bool, le-ltb, eq-eqb}
 use Rattle.std.proofs.Math.Bool.{or_assoc}

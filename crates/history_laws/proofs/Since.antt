@@ -1,5 +1,6 @@
 -- What stood at an address since a load was accepted, by the fold over the lines of a run, stood there at some moment of the run.
-use Rattle.std.proofs.Common.{◌≡◌, ℕ, ◌+◌, Bool, true, false, ◌&&◌, not, ◌==◌, if◌then◌else◌, nat_lt, List, [], ◌∷◌, ◌++◌, length, Option, Some, None, inl, inr, refl, sym, ap, ◌∙◌, subst, eqb-true, append-nil, append_assoc}
+use Rattle.std.proofs.Common.{◌≡◌, ℕ, ◌+◌, Bool, true, false, ◌&&◌, not, ◌==◌, if◌then◌else◌, nat_lt, List, [], ◌∷◌, ◌++◌, length, Option}
+use Rattle.std.proofs.Common.{Some, None, inl, inr, refl, sym, ap, ◌∙◌, subst, eqb-true, append-nil, append_assoc}
 use Rattle.std.specs.List.{list_any}
 use Rattle.std.proofs.lemmas.Bool.{cases_Bool, and_parts, and_from, ltb-true}
 use Rattle.std.proofs.lemmas.List.{get_or-set_same}
@@ -20,7 +21,8 @@ use Rattle.run_reasons.specs.declared.origins.TagUse.TheVariants.{Never, Loaded,
 use Rattle.run_reasons.specs.declared.reason.Reason.{Reason}
 use Rattle.run_reasons.specs.declared.reason.Reason.TheVariants.{HasLanes, NoLanes}
 use Rattle.run_reasons.specs.declared.reason.Mismatch.{Mismatch}
-use Rattle.run_reasons.specs.Origins.{Origins, beginning, accepted_load, is_open_at, tags_after, since_after, origins_after, origins_then, origins_from, origins_of}
+use Rattle.run_reasons.specs.Origins.{Origins, beginning, accepted_load, is_open_at, tags_after, since_after, origins_after, origins_then}
+use Rattle.run_reasons.specs.Origins.{origins_from, origins_of}
 use Rattle.run_reasons.specs.Reasons.{is_ever, never, is_out_of_range, tag_reason, value_reason, place_reason, reason_here, reason_of}
 use Rattle.atomic_histories.specs.Law.{IsAtomic}
 use Rattle.memory_histories.specs.declared.events.Rest.TheVariants.{Zeros}

@@ -1,5 +1,7 @@
 -- A run of flat memory, told as a history, is one of the flat law.
-use Rattle.std.proofs.Common.{◌≡◌, ◌≢◌, ℕ, zero, suc, ◌+◌, ◌-◌, ◌*◌, ◌/◌, ◌%◌, ◌<◌, ◌≤◌, Bool, true, false, ◌&&◌, ◌||◌, not, ◌==◌, cond, if◌then◌else◌, nat_lt, List, [], ◌∷◌, ◌++◌, map, length, get_or, Option, Some, None, slice_get, inl, inr, refl, sym, ap, ◌∙◌, subst, eq-eqb, eqb-true, append-nil, arith}
+use Rattle.std.proofs.Common.{◌≡◌, ◌≢◌, ℕ, zero, suc, ◌+◌, ◌-◌, ◌*◌, ◌/◌, ◌%◌, ◌<◌, ◌≤◌, Bool, true, false, ◌&&◌, ◌||◌, not, ◌==◌, cond}
+use Rattle.std.proofs.Common.{if◌then◌else◌, nat_lt, List, [], ◌∷◌, ◌++◌, map, length, get_or, Option, Some, None, slice_get, inl, inr}
+use Rattle.std.proofs.Common.{refl, sym, ap, ◌∙◌, subst, eq-eqb, eqb-true, append-nil, arith}
 use Rattle.std.specs.Prelude.{is_none, is_some, IsTrue}
 use Rattle.std.specs.Int.{bit_at}
 use Rattle.std.specs.List.{filter, list_any, zip}
@@ -18,7 +20,8 @@ use Rattle.memory_histories.specs.declared.reasons.Owed.TheVariants as owed
 use Rattle.memory_histories.specs.declared.reasons.StoreName.{StoreName}
 use Rattle.memory_histories.specs.declared.flat.OwedByte.{OwedByte}
 use Rattle.memory_histories.specs.Regular.{is_inside, has_enabled, load_response_fault, wrong_place}
-use Rattle.memory_histories.specs.Flat.{Flat, initial, stored, owed_bytes, is_paid_by, may_return, is_of, is_open, flat_fault, flat_after, flat_step, flat_run}
+use Rattle.memory_histories.specs.Flat.{Flat, initial, stored, owed_bytes, is_paid_by, may_return, is_of, is_open, flat_fault, flat_after}
+use Rattle.memory_histories.specs.Flat.{flat_step, flat_run}
 use Rattle.memory_histories.specs.Flat as flat
 use Rattle.atomic_histories.specs.Words.{enabled_byte, stored_byte, written_byte}
 use Rattle.flat_model.specs.declared.Word.{Word}
@@ -35,7 +38,8 @@ use Rattle.cache_unit.specs.declared.Sizes.{Sizes}
 use Rattle.machine_core.specs.Machine as machine
 use Rattle.machine_core.proofs.Walking.{walk_is_flat}
 use Rattle.history_laws.specs.Laws.{IsFlat, ReturnsBytes}
-use Rattle.history_laws.specs.Told.{word_bytes, image_bytes, seen_bytes, told_events, told_history, IsAddressable, RunIsLawful, MachineIsLawful}
+use Rattle.history_laws.specs.Told.{word_bytes, image_bytes, seen_bytes, told_events, told_history, IsAddressable, RunIsLawful}
+use Rattle.history_laws.specs.Told.{MachineIsLawful}
 use Rattle.history_laws.proofs.Lists.{false_if}
 use Rattle.history_laws.proofs.Pieces.{false_true, no_wrong_place}
 use Rattle.history_laws.proofs.Words.{stored_inside}
@@ -395,7 +399,8 @@ module _ (n : ℕ) (fits : n ≤ 4611686018427387904) where
   nothing_told : (s : model.Flat) (f : Flat) → Tells n s f → (g : Flat) × ((flat_run f [] ≡ Some g) × Tells n s g)
   nothing_told s f h = (f, (refl, h))
 
-  pub told_step : (s : model.Flat) (f : Flat) (event : Event) (answer : Answer) → Tells n s f → may_answer s event answer ≡ true → (g : Flat)
+  pub told_step : (s : model.Flat) (f : Flat) (event : Event) (answer : Answer) → Tells n s f → may_answer s event answer ≡ true
+      → (g : Flat)
       × ((flat_run f (told_events event answer) ≡ Some g) × Tells n (model.flat_after s event answer) g)
   told_step s f (Load tag at) Accepted h may = load_accepted s f h tag at may
   told_step s f (Load tag at) Moved h may = nothing_told s f h

@@ -1,5 +1,6 @@
 -- Where a load may get a byte from.
-use Rattle.std.proofs.Common.{◌≡◌, ℕ, zero, suc, ◌<◌, ◌↔◌, ◌⊎◌, ◌&&◌, not, Bool, true, false, List, [], ◌∷◌, map, length, slice_get, inl, inr, refl, sym, ap, subst, arith}
+use Rattle.std.proofs.Common.{◌≡◌, ℕ, zero, suc, ◌<◌, ◌↔◌, ◌⊎◌, ◌&&◌, not, Bool, true, false, List, [], ◌∷◌, map, length, slice_get, inl}
+use Rattle.std.proofs.Common.{inr, refl, sym, ap, subst, arith}
 use Rattle.std.specs.Bool.{Decides}
 use Rattle.std.specs.List.{Any, Contains, filter, list_any}
 use Rattle.std.proofs.lemmas.Bool.{cases_Bool}
@@ -9,7 +10,8 @@ use Rattle.std.proofs.lemmas.List.Elements.{Contains-append_left, Contains-appen
 use Rattle.memory_histories.specs.declared.events.Rest.{Rest}
 use Rattle.memory_histories.specs.declared.windows.StoreByte.{StoreByte}
 use Rattle.memory_histories.specs.declared.windows.LoadByte.{LoadByte}
-use Rattle.memory_histories.specs.Regular.{IsOverwritten, IsInitial, IsCovered, MayReturn, is_overwritten, is_initial, is_covered, overwrites}
+use Rattle.memory_histories.specs.Regular.{IsOverwritten, IsInitial, IsCovered, MayReturn, is_overwritten, is_initial, is_covered}
+use Rattle.memory_histories.specs.Regular.{overwrites}
 use Rattle.history_reasons.specs.declared.givers.Source.{Source}
 use Rattle.history_reasons.specs.declared.givers.Source.TheVariants.{Initial, Store}
 use Rattle.history_reasons.specs.Reasons.{Overwrote, Covered, covers}
@@ -108,7 +110,8 @@ module _ (image : List ℕ) (rest : Rest) (stores : List StoreByte) (l : LoadByt
 
   first_law : Decides is_first (IsInitial (slice_get image l.address) rest b × ¬ (IsCovered stores l))
   first_law =
-      Decides-and _ _ (initial (slice_get image l.address) rest b) (Decides-not _ (any_decides (covers l) (Covered l) (covers_law l) stores))
+      Decides-and _ _ (initial (slice_get image l.address) rest b)
+      (Decides-not _ (any_decides (covers l) (Covered l) (covers_law l) stores))
 
   is_source : (x : Source) → Contains (sources image rest stores l b) x → IsSource image rest stores l b x
   is_source x c = elim (Contains-append_cases (initial_source is_first) (map Store (givers stores l b)) x c) [

@@ -1,5 +1,7 @@
 -- A log is of the history whose events it notes, and says true reasons.
-use Rattle.std.proofs.Common.{◌≡◌, ℕ, ◌+◌, ◌-◌, ◌<◌, ◌≤◌, ◌==◌, ◌&&◌, ◌↔◌, if◌then◌else◌, Bool, true, false, List, [], ◌∷◌, ◌++◌, map, drop, length, Option, Some, None, Result, Ok, Err, IfOk, inl, inr, refl, sym, ◌∙◌, ap, subst, arith, length-drop, length-append}
+use Rattle.std.proofs.Common.{◌≡◌, ℕ, ◌+◌, ◌-◌, ◌<◌, ◌≤◌, ◌==◌, ◌&&◌, ◌↔◌, if◌then◌else◌, Bool, true, false, List, [], ◌∷◌, ◌++◌, map, drop}
+use Rattle.std.proofs.Common.{length, Option, Some, None, Result, Ok, Err, IfOk, inl, inr, refl, sym, ◌∙◌, ap, subst, arith, length-drop}
+use Rattle.std.proofs.Common.{length-append}
 use Rattle.std.specs.Prelude.{nat_le, nat_lt, IfSome}
 use Rattle.std.specs.Int.Count.{ones_in}
 use Rattle.std.proofs.lemmas.Bool.{cases_Bool, ltb-false, leb-true, ne_eqb, and_parts}
@@ -19,7 +21,9 @@ use Rattle.history_reasons.specs.declared.places.StorePlace.{StorePlace}
 use Rattle.history_reasons.specs.declared.Reason.{Reason}
 use Rattle.history_reasons.specs.declared.Reason.TheVariants.{NeverThere, InitialOverwritten, StoreOverwritten}
 use Rattle.history_reasons.specs.Reasons.{HasReason, Stores, Overwrote, last_reason}
-use Rattle.history_reasons.specs.Log.{IsLogOf, noted_stores, noted_loads, AreNoted, count_then, noted_places, shortened, gone, is_within, IsNoted, IsCounted, IsShortened, forgotten, left_stores, has_all, of_store, part_reason, kept_reason, told_reason, IsTrueOf, idle, kept_sources, told_sources, kept_at_request, told_at_request}
+use Rattle.history_reasons.specs.Log.{IsLogOf, noted_stores, noted_loads, AreNoted, count_then, noted_places, shortened, gone, is_within}
+use Rattle.history_reasons.specs.Log.{IsNoted, IsCounted, IsShortened, forgotten, left_stores, has_all, of_store, part_reason, kept_reason}
+use Rattle.history_reasons.specs.Log.{told_reason, IsTrueOf, idle, kept_sources, told_sources, kept_at_request, told_at_request}
 use Rattle.history_reasons.specs.declared.givers.Source.TheVariants.{Store}
 use Rattle.history_reasons.specs.Sources.{givers, sources, at_request}
 use Rattle.history_reasons.specs.Places.{AreFound}

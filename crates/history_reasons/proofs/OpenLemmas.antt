@@ -16,7 +16,8 @@ use Rattle.history_reasons.specs.declared.stores.KeptStore.{KeptStore}
 use Rattle.history_reasons.specs.Loads.{without_load}
 use Rattle.history_reasons.specs.Places.{is_place_of, moved_down}
 use Rattle.history_reasons.specs.Log.{told_loads, noted_places, IsNoted, IsShortened, IsCounted, forgotten, gone}
-use Rattle.history_reasons.specs.Open.{load_operation, store_operation, operation_under, loads_then, stores_then, without_operation, HasNoneOpen, HasSameOpen, HasOpenAfter}
+use Rattle.history_reasons.specs.Open.{load_operation, store_operation, operation_under, loads_then, stores_then, without_operation}
+use Rattle.history_reasons.specs.Open.{HasNoneOpen, HasSameOpen, HasOpenAfter}
 
 -- What is asked of them. ----
 

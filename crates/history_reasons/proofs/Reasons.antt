@@ -1,5 +1,6 @@
 -- What a search finds, and why a byte may not be returned.
-use Rattle.std.proofs.Common.{◌≡◌, ℕ, zero, suc, ◌+◌, ◌-◌, ◌<◌, ◌↔◌, Bool, true, false, if◌then◌else◌, List, [], ◌∷◌, length, drop, Option, Some, None, slice_get, get_or, inl, inr, refl, sym, ◌∙◌, ap, subst, arith, length-drop}
+use Rattle.std.proofs.Common.{◌≡◌, ℕ, zero, suc, ◌+◌, ◌-◌, ◌<◌, ◌↔◌, Bool, true, false, if◌then◌else◌, List, [], ◌∷◌, length, drop, Option}
+use Rattle.std.proofs.Common.{Some, None, slice_get, get_or, inl, inr, refl, sym, ◌∙◌, ap, subst, arith, length-drop}
 use Rattle.std.specs.Prelude.{reverse, IfSome}
 use Rattle.std.specs.Bool.{Decides}
 use Rattle.std.specs.List.{Any, Contains, find}
@@ -15,7 +16,8 @@ use Rattle.memory_histories.specs.Regular.{IsBefore, IsLeft, IsInitial, MayRetur
 use Rattle.memory_histories.proofs.Law.{may_return_decides}
 use Rattle.history_reasons.specs.declared.Reason.{Reason}
 use Rattle.history_reasons.specs.declared.Reason.TheVariants.{NeverThere, InitialOverwritten, StoreOverwritten}
-use Rattle.history_reasons.specs.Reasons.{Stores, Overwrote, Covered, IsLast, HasReason, stores_byte, covers, last_that, reason_by, last_reason}
+use Rattle.history_reasons.specs.Reasons.{Stores, Overwrote, Covered, IsLast, HasReason, stores_byte, covers, last_that, reason_by}
+use Rattle.history_reasons.specs.Reasons.{last_reason}
 
 -- Searches. ----
 

@@ -1,11 +1,14 @@
 -- Stores that are kept whole, and the bytes that they stand for.
-use Rattle.std.proofs.Common.{◌≡◌, ℕ, zero, suc, ◌+◌, ◌-◌, ◌*◌, ◌%◌, ◌/◌, ◌<◌, ◌≤◌, ◌==◌, ◌&&◌, if◌then◌else◌, true, false, List, [], ◌∷◌, ◌++◌, map, take, drop, length, get_or, slice_get, Option, Some, None, inl, inr, refl, sym, ◌∙◌, ap, ap₂, arith}
+use Rattle.std.proofs.Common.{◌≡◌, ℕ, zero, suc, ◌+◌, ◌-◌, ◌*◌, ◌%◌, ◌/◌, ◌<◌, ◌≤◌, ◌==◌, ◌&&◌, if◌then◌else◌, true, false, List, [], ◌∷◌}
+use Rattle.std.proofs.Common.{◌++◌, map, take, drop, length, get_or, slice_get, Option, Some, None, inl, inr, refl, sym, ◌∙◌, ap, ap₂}
+use Rattle.std.proofs.Common.{arith}
 use Rattle.std.specs.Prelude.{nat_le, is_none, is_some, min, count_ones, ◌^◌}
 use Rattle.std.specs.Int.{bit_at}
 use Rattle.std.specs.Int.Count.{ones_in, ones}
 use Rattle.std.proofs.lemmas.Bool.{cases_Bool, eq-eqb, ne_eqb, eqb-true, eqb-false, leb-true, leb-false}
 use Rattle.std.proofs.lemmas.Nat.{div-add-mod', mod-pow-add, mod_below, mod_low, ones_cat}
-use Rattle.std.proofs.lemmas.List.{append-nil, map-append, drop-drop, drop_all, drop-append-le, get_or-drop, nil_from_length, flat_map_more, at_drop_more}
+use Rattle.std.proofs.lemmas.List.{append-nil, map-append, drop-drop, drop_all, drop-append-le, get_or-drop, nil_from_length, flat_map_more}
+use Rattle.std.proofs.lemmas.List.{at_drop_more}
 use Rattle.std.proofs.Math.Pow.{pow-lt}
 use Rattle.std.proofs.Math.Seq.{drop-append-add}
 use Rattle.memory_histories.specs.declared.windows.StoreByte.{StoreByte}
@@ -13,7 +16,8 @@ use Rattle.memory_histories.specs.Windows.{store_bytes, after_response}
 use Rattle.memory_histories.specs.Parts.{lane_bytes, lanes_of, lane_at}
 use Rattle.memory_histories.proofs.Lanes.{lane_past, lane_stored, length-lanes_of, store_lanes}
 use Rattle.history_reasons.specs.declared.stores.KeptStore.{KeptStore}
-use Rattle.history_reasons.specs.Stores.{bytes_in, all_lanes, lanes_in, first_in, bytes_of, all_bytes, with_store, is_open_store, after_answer, lanes_with, without_first, gone_stores, gone_bytes, without_bytes}
+use Rattle.history_reasons.specs.Stores.{bytes_in, all_lanes, lanes_in, first_in, bytes_of, all_bytes, with_store, is_open_store}
+use Rattle.history_reasons.specs.Stores.{after_answer, lanes_with, without_first, gone_stores, gone_bytes, without_bytes}
 use Rattle.history_reasons.specs.Log.{shortened}
 
 -- Lanes. ----

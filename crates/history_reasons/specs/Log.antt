@@ -1,5 +1,6 @@
 -- What a log keeps of a history, to say why a byte is wrong.
-use Rattle.std.specs.Prelude.{ℕ, ◌≡◌, ◌≤◌, ◌+◌, ◌-◌, ◌*◌, ◌/◌, ◌==◌, ◌&&◌, nat_lt, min, if◌then◌else◌, Bool, true, not, List, [], ◌∷◌, ◌++◌, map, drop, length, Option, Some, None, vec_len, vec_capacity}
+use Rattle.std.specs.Prelude.{ℕ, ◌≡◌, ◌≤◌, ◌+◌, ◌-◌, ◌*◌, ◌/◌, ◌==◌, ◌&&◌, nat_lt, min, if◌then◌else◌, Bool, true, not, List, [], ◌∷◌, ◌++◌}
+use Rattle.std.specs.Prelude.{map, drop, length, Option, Some, None, vec_len, vec_capacity}
 use Rattle.std.specs.Int.Count.{ones_in}
 use Rattle.std.specs.List.{filter}
 use Rattle.memory_histories.specs.declared.events.HistoryEvent.{HistoryEvent}

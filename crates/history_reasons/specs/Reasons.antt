@@ -1,5 +1,6 @@
 -- Why a load may not return a byte by the regular law.
-use Rattle.std.specs.Prelude.{ℕ, ◌≡◌, ◌<◌, ◌==◌, ◌&&◌, if◌then◌else◌, Bool, true, false, List, length, Option, Some, None, reverse, slice_get}
+use Rattle.std.specs.Prelude.{ℕ, ◌≡◌, ◌<◌, ◌==◌, ◌&&◌, if◌then◌else◌, Bool, true, false, List, length, Option, Some, None, reverse}
+use Rattle.std.specs.Prelude.{slice_get}
 use Rattle.std.specs.List.{Any, find, slice_index_or}
 use Rattle.std.specs.Option.{option_map}
 use Rattle.memory_histories.specs.declared.events.Rest.{Rest}

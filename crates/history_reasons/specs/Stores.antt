@@ -1,5 +1,6 @@
 -- The stores of a log, each kept whole.
-use Rattle.std.specs.Prelude.{ℕ, ◌+◌, ◌-◌, ◌==◌, ◌&&◌, nat_le, min, if◌then◌else◌, Bool, List, [], ◌∷◌, ◌++◌, take, drop, length, Option, Some, None, suc, zero, is_none, reverse}
+use Rattle.std.specs.Prelude.{ℕ, ◌+◌, ◌-◌, ◌==◌, ◌&&◌, nat_le, min, if◌then◌else◌, Bool, List, [], ◌∷◌, ◌++◌, take, drop, length, Option}
+use Rattle.std.specs.Prelude.{Some, None, suc, zero, is_none, reverse}
 use Rattle.std.specs.List.{flat_map, filter_map, find}
 use Rattle.std.specs.Option.{option_map}
 use Rattle.memory_histories.specs.declared.windows.StoreByte.{StoreByte}

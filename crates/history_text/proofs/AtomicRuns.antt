@@ -4,7 +4,8 @@ use Rattle.std.specs.Prelude.{is_none}
 use Rattle.memory_histories.specs.declared.events.HistoryEvent.{HistoryEvent}
 use Rattle.memory_histories.specs.declared.events.HistoryEvent.TheVariants.{LoadRequest, LoadResponse, StoreRequest, StoreResponse}
 use Rattle.memory_histories.specs.declared.events.HistoryFault.{HistoryFault}
-use Rattle.memory_histories.specs.declared.events.HistoryFault.TheVariants.{OutOfRange, NoByteEnabled, NumberInUse, NotOpen, WrongLength, WrongByte}
+use Rattle.memory_histories.specs.declared.events.HistoryFault.TheVariants.{OutOfRange, NoByteEnabled, NumberInUse, NotOpen, WrongLength}
+use Rattle.memory_histories.specs.declared.events.HistoryFault.TheVariants.{WrongByte}
 use Rattle.memory_histories.specs.declared.events.Rest.{Rest}
 use Rattle.memory_histories.specs.declared.sets.ByteSet.{ByteSet}
 use Rattle.atomic_histories.specs.declared.memory.AtomicMemory.{AtomicMemory}
@@ -12,7 +13,8 @@ use Rattle.atomic_histories.specs.declared.memory.AtomicFault.{AtomicFault}
 use Rattle.atomic_histories.specs.declared.memory.AtomicFault.TheVariants as atomic
 use Rattle.atomic_histories.specs.declared.unit.UnitPlace.{UnitPlace}
 use Rattle.atomic_histories.specs.Operations.{Opened, none_opened, opened_after, opened_by, form_fault}
-use Rattle.atomic_histories.specs.Law.{UnitMemory, untouched, seen, MayBe, starts, steps, sees, unit_at, is_formed, IsAtomicAt, IsAtomic, IsWrongPlace, FaultIs}
+use Rattle.atomic_histories.specs.Law.{UnitMemory, untouched, seen, MayBe, starts, steps, sees, unit_at, is_formed, IsAtomicAt, IsAtomic}
+use Rattle.atomic_histories.specs.Law.{IsWrongPlace, FaultIs}
 use Rattle.atomic_histories.specs.Followed.{Pair, Ways}
 use Rattle.atomic_histories.specs.Stands.{Each, EachWay, IsOn, StandsFor}
 use Rattle.atomic_histories.specs.Held.{Held, nothing_held, IsWide, StandsForAll, StandsBut}
@@ -36,7 +38,11 @@ plain_alike (StoreRequest number address bytes enables) = record { at_unit = λ 
 plain_alike (StoreResponse number) = record { at_unit = λ unit m. refl; faulty = λ o. refl; opens = λ o. refl }
 
 alike_plain : (e : HistoryEvent) → Alike (plain e) e
-alike_plain e = let a = plain_alike e in record { at_unit = λ unit m. sym (a.at_unit unit m); faulty = λ o. sym (a.faulty o); opens = λ o. sym (a.opens o) }
+alike_plain e = let a = plain_alike e in record {
+  at_unit = λ unit m. sym (a.at_unit unit m);
+  faulty = λ o. sym (a.faulty o);
+  opens = λ o. sym (a.opens o);
+}
 
 -- ---- the last event
 
@@ -57,7 +63,8 @@ no_snoc [] x h = cc
 no_snoc (a ∷ xs) x h = cc
 
 -- what a unit may be behind an event, it may be behind one that is like it
-may_be : (unit : UnitPlace) (start : UnitMemory) (es : List HistoryEvent) (e f : HistoryEvent) → Alike e f → (hs : List HistoryEvent) (m : UnitMemory)
+may_be : (unit : UnitPlace) (start : UnitMemory) (es : List HistoryEvent) (e f : HistoryEvent) → Alike e f
+    → (hs : List HistoryEvent) (m : UnitMemory)
     → MayBe unit start hs m → hs ≡ es ++ e ∷ [] → MayBe unit start (es ++ f ∷ []) m
 may_be unit start es e f a hs m starts is = absurd (no_snoc es e is)
 may_be unit start es e f a hs m (steps gs k n r step) is = steps (es ++ f ∷ []) k n (may_be unit start es e f a gs k r is) step
@@ -73,7 +80,8 @@ formed : (o : Opened) (es : List HistoryEvent) (e f : HistoryEvent) → Alike e 
 formed o [] e f a = ap (λ x. is_none x && true) (a.faulty o)
 formed o (x ∷ xs) e f a = ap (λ t. is_none (form_fault o x) && t) (formed (opened_after o x) xs e f a)
 
-opened : (o : Opened) (es : List HistoryEvent) (e f : HistoryEvent) → Alike e f → fold opened_after o (es ++ e ∷ []) ≡ fold opened_after o (es ++ f ∷ [])
+opened : (o : Opened) (es : List HistoryEvent) (e f : HistoryEvent) → Alike e f
+    → fold opened_after o (es ++ e ∷ []) ≡ fold opened_after o (es ++ f ∷ [])
 opened o [] e f a = a.opens o
 opened o (x ∷ xs) e f a = opened (opened_after o x) xs e f a
 
@@ -103,7 +111,8 @@ unit_stands start unit u es e f a b s = record {
     each_of (p ∷ ps) h =
         (λ path has m on. may_be unit start es e f a (es ++ e ∷ []) m (h.0 path has m on) refl, each_of ps h.1)
 
-all_stand : (k : Held) (es : List HistoryEvent) (e f : HistoryEvent) → Alike e f → Alike f e → StandsForAll k (es ++ e ∷ []) → StandsForAll k (es ++ f ∷ [])
+all_stand : (k : Held) (es : List HistoryEvent) (e f : HistoryEvent) → Alike e f → Alike f e → StandsForAll k (es ++ e ∷ [])
+    → StandsForAll k (es ++ f ∷ [])
 all_stand k es e f a b s = record {
   sized = s.sized;
   formed = sym (formed none_opened es e f a) ∙ s.formed;
@@ -135,7 +144,8 @@ wrong_place image rest size es (StoreResponse number) place h = absurd h
 
 fault_too : (image : List ℕ) (rest : Rest) (size : ℕ) (es : List HistoryEvent) (e : HistoryEvent) (cause : HistoryFault)
     → FaultIs image rest size es e cause → FaultIs image rest size es (plain e) cause
-fault_too image rest size es e (WrongByte place) (none, h) = ((alike_plain e).faulty (opened_by es) ∙ none, wrong_place image rest size es e place h)
+fault_too image rest size es e (WrongByte place) (none, h) =
+    ((alike_plain e).faulty (opened_by es) ∙ none, wrong_place image rest size es e place h)
 fault_too image rest size es e OutOfRange h = (alike_plain e).faulty (opened_by es) ∙ h
 fault_too image rest size es e NoByteEnabled h = (alike_plain e).faulty (opened_by es) ∙ h
 fault_too image rest size es e NumberInUse h = (alike_plain e).faulty (opened_by es) ∙ h
@@ -171,7 +181,8 @@ took_more m n after events event t same limit (atomic, stands) =
       subst (λ (b : Began). IsAtomic b.image b.rest b.size (events ++ plain event ∷ [])) (same_began (held n) (held m) t.memory) more,
     )
 
-pub took_still : (m n after : AtomicMemory) (events : List HistoryEvent) → Took m events n → held after ≡ held n → limit_of after ≡ limit_of n
+pub took_still : (m n after : AtomicMemory) (events : List HistoryEvent) → Took m events n → held after ≡ held n
+    → limit_of after ≡ limit_of n
     → Took m events after
 took_still m n after events t same limit = record {
   memory = subst (λ (h : Held). HasSameMemory h (held m)) (sym same) t.memory;
@@ -243,4 +254,5 @@ new_judge m stands = (
 -- what holds of its law holds of the atomic law of its image
 pub by_image : (P : Law → Type 0) (m : AtomicMemory) (image : List ℕ) (rest : Rest) (size limit : ℕ) → held m ≡ nothing_held image rest size
     → limit_of m ≡ limit → P (law_of m) → P (law_from (began (nothing_held image rest size)) limit)
-by_image P m image rest size limit is same p = subst (λ l. P (law_from (began (nothing_held image rest size)) l)) same (subst (λ h. P (law_from (began h) (limit_of m))) is p)
+by_image P m image rest size limit is same p = subst (λ l. P (law_from (began (nothing_held image rest size)) l)) same
+    (subst (λ h. P (law_from (began h) (limit_of m))) is p)

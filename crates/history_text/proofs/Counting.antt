@@ -22,17 +22,35 @@ pub record Few (c : Counts) (n : ℕ) : Type 0 where
   pub responses : c.responses ≤ n
 
 few_more : (c : Counts) (n : ℕ) (e : HistoryEvent) → Few c n → Few (counted c e) (n + 1)
-few_more c n (LoadRequest number address k) f = record { events = omega (arith, f.events); requests = omega (arith, f.requests); responses = omega (arith, f.responses) }
-few_more c n (LoadResponse number bytes) f = record { events = omega (arith, f.events); requests = omega (arith, f.requests); responses = omega (arith, f.responses) }
-few_more c n (StoreRequest number address bytes enables) f = record { events = omega (arith, f.events); requests = omega (arith, f.requests); responses = omega (arith, f.responses) }
-few_more c n (StoreResponse number) f = record { events = omega (arith, f.events); requests = omega (arith, f.requests); responses = omega (arith, f.responses) }
+few_more c n (LoadRequest number address k) f = record {
+  events = omega (arith, f.events);
+  requests = omega (arith, f.requests);
+  responses = omega (arith, f.responses);
+}
+few_more c n (LoadResponse number bytes) f = record {
+  events = omega (arith, f.events);
+  requests = omega (arith, f.requests);
+  responses = omega (arith, f.responses);
+}
+few_more c n (StoreRequest number address bytes enables) f =
+    record { events = omega (arith, f.events); requests = omega (arith, f.requests); responses = omega (arith, f.responses) }
+few_more c n (StoreResponse number) f = record {
+  events = omega (arith, f.events);
+  requests = omega (arith, f.requests);
+  responses = omega (arith, f.responses);
+}
 
 few_then : (c : Counts) (n m : ℕ) (es : List HistoryEvent) → Few c n → m ≡ n + length es → Few (fold counted c es) m
-few_then c n m [] f e = record { events = omega (arith, f.events); requests = omega (arith, f.requests); responses = omega (arith, f.responses) }
+few_then c n m [] f e = record {
+  events = omega (arith, f.events);
+  requests = omega (arith, f.requests);
+  responses = omega (arith, f.responses);
+}
 few_then c n m (x ∷ xs) f e = few_then (counted c x) (n + 1) m xs (few_more c n x f) (omega arith)
 
 pub few_counts : (events : List HistoryEvent) → Few (counts_of events) (length events)
-few_counts events = few_then no_counts 0 (length events) events (record { events = refl; requests = omega arith; responses = omega arith }) (omega arith)
+few_counts events = few_then no_counts 0 (length events) events (record { events = refl; requests = omega arith; responses = omega arith })
+    (omega arith)
 
 -- the judge took one event more, and it was noted
 pub stands_more : {J : Type 0} {took : J → List HistoryEvent → J → Type 0} {start : Begin J} {events : List HistoryEvent} {w v : Windows}

@@ -15,7 +15,8 @@ use Rattle.history_text.specs.Told.{ToldLaw, Begin, law_begun}
 use Rattle.history_text.specs.declared.judged.Stop.{Stop}
 use Rattle.history_text.specs.declared.judged.Stop.TheVariants as stop
 
-module _ {R J : Type 0} (gave : R → List ℕ → R → Type 0) (failed : R → R → Type 0) {took : J → List HistoryEvent → J → Type 0} {law : J → Law} {start : Begin J} {judged : Judged J} {bytes pending : List ℕ} {texts : List (List ℕ)} {count : ℕ} {r last : R} where
+module _ {R J : Type 0} (gave : R → List ℕ → R → Type 0) (failed : R → R → Type 0) {took : J → List HistoryEvent → J → Type 0} {law : J
+    → Law} {start : Begin J} {judged : Judged J} {bytes pending : List ℕ} {texts : List (List ℕ)} {count : ℕ} {r last : R} where
   abbrev so_far : Moves (Came gave) r bytes last → (h : HasRead took law start bytes texts judged pending count)
       → ReadSoFar gave (law_begun law start) r last texts pending
   so_far moves h = record { bytes = bytes; read = moves; text = h.text }
@@ -28,14 +29,17 @@ module _ {R J : Type 0} (gave : R → List ℕ → R → Type 0) (failed : R →
       → HasRead took law start bytes texts judged pending count → gave last [] r' → EndsWith judged.counts pending count e
       → Judges gave failed (law_begun law start) r r' e
   told_end {r' = r'} (Ok x) moves h ends told =
-      let whole : ReadSoFar gave (law_begun law start) r last texts [] = subst (ReadSoFar gave (law_begun law start) r last texts) told.0 (so_far moves h) in
+      let whole : ReadSoFar gave (law_begun law start) r last texts [] = subst (ReadSoFar gave (law_begun law start) r last texts) told.0
+      (so_far moves h) in
       subst (λ y. Judges gave failed (law_begun law start) r r' (Ok y)) (sym told.1)
       (texts, last, whole, ends, ap (λ (c : Counts). c.events) h.stands.count, ap (λ (c : Counts). open_in c) h.stands.count)
   told_end {r' = r'} (Err f) moves h ends told =
-      subst (λ y. Judges gave failed (law_begun law start) r r' (Err y)) (sym told.1) (texts, pending, last, so_far moves h, ends, told.0, ap (λ n. n + 1) h.number)
+      subst (λ y. Judges gave failed (law_begun law start) r r' (Err y)) (sym told.1)
+      (texts, pending, last, so_far moves h, ends, told.0, ap (λ n. n + 1) h.number)
 
   abbrev pub into : {r' : R} (piece : List ℕ) (why : Stop) → Moves (Came gave) r bytes last
-      → HasRead took law start bytes texts judged pending count → Came gave last piece r' → EndsIn (law_begun law start) (bytes ++ piece) why
+      → HasRead took law start bytes texts judged pending count → Came gave last piece r'
+      → EndsIn (law_begun law start) (bytes ++ piece) why
       → ReadInto gave (law_begun law start) r r' why
   into {r' = r'} piece why moves h gives ends = record {
     before = texts;
@@ -62,7 +66,9 @@ told_by gave failed (stop.Fault fault.Write) ends here = absurd ends.ends
 
 pub told_in : {R J : Type 0} (gave : R → List ℕ → R → Type 0) (failed : R → R → Type 0) {took : J → List HistoryEvent → J → Type 0}
     {law : J → Law} {start : Begin J} {judged : Judged J} {bytes pending : List ℕ} {texts : List (List ℕ)} {count : ℕ} {r last r' : R}
-    (piece : List ℕ) (why : Stop) (e : Result HistoryEnd TraceFault) → Moves (Came gave) r bytes last → HasRead took law start bytes texts judged pending count → Came gave last piece r' → EndsIn (law_begun law start) (bytes ++ piece) why
+    (piece : List ℕ) (why : Stop) (e : Result HistoryEnd TraceFault) → Moves (Came gave) r bytes last
+    → HasRead took law start bytes texts judged pending count → Came gave last piece r' → EndsIn (law_begun law start) (bytes ++ piece) why
     → e ≡ ended_by why → Judges gave failed (law_begun law start) r r' e
 told_in gave failed {law = law} {start = start} {r = r} {r' = r'} piece why e moves h gives ends is =
-    subst (Judges gave failed (law_begun law start) r r') (sym is) (told_by gave failed why ends (into gave failed piece why moves h gives ends))
+    subst (Judges gave failed (law_begun law start) r r') (sym is)
+    (told_by gave failed why ends (into gave failed piece why moves h gives ends))

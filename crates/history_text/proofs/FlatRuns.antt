@@ -1,5 +1,6 @@
 -- A judge of the flat law keeps to it.
-use Rattle.std.proofs.Common.{◌≡◌, ℕ, ◌+◌, Bool, true, false, cond, Some, None, List, [], ◌∷◌, ◌++◌, length, refl, sym, ◌∙◌, ap, subst, arith}
+use Rattle.std.proofs.Common.{◌≡◌, ℕ, ◌+◌, Bool, true, false, cond, Some, None, List, [], ◌∷◌, ◌++◌, length, refl, sym, ◌∙◌, ap, subst}
+use Rattle.std.proofs.Common.{arith}
 use Rattle.std.specs.Prelude.{is_none}
 use Rattle.std.specs.Option.{option_and_then}
 use Rattle.memory_histories.specs.declared.events.HistoryEvent.{HistoryEvent}
@@ -61,7 +62,8 @@ moment_is s (x ∷ xs) f run =
 
 -- it took one event more
 pub took_more : (m n after : FlatHistory) (events : List HistoryEvent) (event : HistoryEvent) → Took m events n
-    → flat_step (shown n) event ≡ Some (shown after) → Took m (events ++ plain event ∷ []) after × (law_of m).passes (events ++ plain event ∷ [])
+    → flat_step (shown n) event ≡ Some (shown after) → Took m (events ++ plain event ∷ []) after ×
+    (law_of m).passes (events ++ plain event ∷ [])
 took_more m n after events event (new, run) step =
     let more = run_more (shown m) events (plain event) (shown n) (shown after) run (plain_step (shown n) event ∙ step) in
     ((new, more), (shown after, more))

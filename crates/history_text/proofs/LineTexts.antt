@@ -1,5 +1,7 @@
 -- How bytes become lines.
-use Rattle.std.proofs.Common.{◌≡◌, ◌≢◌, ℕ, ◌+◌, ◌<◌, ◌≤◌, Bool, true, false, Option, None, Some, Result, Ok, Err, List, [], ◌∷◌, ◌++◌, length, take, drop, get_or, length-append, append-nil, append_assoc, take-append-drop, refl, sym, ◌∙◌, ap, subst, arith}
+use Rattle.std.proofs.Common.{◌≡◌, ◌≢◌, ℕ, ◌+◌, ◌<◌, ◌≤◌, Bool, true, false, Option, None, Some, Result, Ok, Err, List, [], ◌∷◌, ◌++◌}
+use Rattle.std.proofs.Common.{length, take, drop, get_or, length-append, append-nil, append_assoc, take-append-drop, refl, sym, ◌∙◌, ap}
+use Rattle.std.proofs.Common.{subst, arith}
 use Rattle.std.specs.Prelude.{nat_lt}
 use Rattle.std.proofs.Math.Seq.{get_or-append_seam}
 use Rattle.std.proofs.lemmas.List.{get_or_append_left, take_all, take_more}
@@ -58,7 +60,11 @@ joined_more (t ∷ ts) text = ap (λ l. t ++ (10 ∷ l)) (joined_more ts text) �
 -- more bytes behind the lines
 pub good_more : {f : List ℕ → Option LineFault} {most : ℕ} {bytes rest : List ℕ} {texts : List (List ℕ)} (more : List ℕ)
     → Good f most bytes texts rest → Good f most (bytes ++ more) texts (rest ++ more)
-good_more {rest = rest} {texts = texts} more p = record { each = p.each; split = ap (λ l. l ++ more) p.split ∙ append_assoc (joined_texts texts) rest more }
+good_more {rest = rest} {texts = texts} more p = record {
+  each = p.each;
+  split = ap (λ l. l ++ more) p.split
+      ∙ append_assoc (joined_texts texts) rest more;
+}
 
 -- the bytes behind the lines are a line that ends here
 pub good_line : {f : List ℕ → Option LineFault} {most : ℕ} {bytes text : List ℕ} {texts : List (List ℕ)} → Good f most bytes texts text
@@ -73,19 +79,22 @@ good_line {f = f} {most = most} {bytes = bytes} {text = text} {texts = texts} p 
 pub one_more : (before bytes : List ℕ) (i b : ℕ) → i < length bytes → b ≡ get_or bytes i 0
     → (before ++ take i bytes) ++ b ∷ [] ≡ before ++ take (i + 1) bytes
 one_more before bytes i b lt is =
-    append_assoc before (take i bytes) (b ∷ []) ∙ ap (λ x. before ++ (take i bytes ++ x ∷ [])) is ∙ ap (λ l. before ++ l) (sym (take_more bytes i 0 lt))
+    append_assoc before (take i bytes) (b ∷ []) ∙ ap (λ x. before ++ (take i bytes ++ x ∷ [])) is
+    ∙ ap (λ l. before ++ l) (sym (take_more bytes i 0 lt))
 
 pub rest_behind : (before bytes : List ℕ) (i b : ℕ) → i < length bytes → b ≡ get_or bytes i 0
     → ((before ++ take i bytes) ++ b ∷ []) ++ drop (i + 1) bytes ≡ before ++ bytes
 rest_behind before bytes i b lt is =
-    ap (λ l. l ++ drop (i + 1) bytes) (one_more before bytes i b lt is) ∙ append_assoc before (take (i + 1) bytes) (drop (i + 1) bytes) ∙ ap (λ l. before ++ l) (take-append-drop (i + 1) bytes)
+    ap (λ l. l ++ drop (i + 1) bytes) (one_more before bytes i b lt is) ∙ append_assoc before (take (i + 1) bytes) (drop (i + 1) bytes)
+    ∙ ap (λ l. before ++ l) (take-append-drop (i + 1) bytes)
 
 -- ---- events
 
 -- one line more
 pub events_more : (texts : List (List ℕ)) (text : List ℕ) → events_of (texts ++ text ∷ []) ≡ events_of texts ++ events_in (line_of text)
 events_more [] text = append-nil (events_in (line_of text))
-events_more (t ∷ ts) text = ap (λ l. events_in (line_of t) ++ l) (events_more ts text) ∙ sym (append_assoc (events_in (line_of t)) (events_of ts) (events_in (line_of text)))
+events_more (t ∷ ts) text = ap (λ l. events_in (line_of t) ++ l) (events_more ts text)
+    ∙ sym (append_assoc (events_in (line_of t)) (events_of ts) (events_in (line_of text)))
 
 one_event : (r : Result (Option HistoryEvent) LineFault) → length (events_in r) ≤ 1
 one_event (Ok None) = omega arith

@@ -1,5 +1,7 @@
 -- What a byte makes of the lines that were read.
-use Rattle.std.proofs.Common.{◌≡◌, ◌≢◌, ℕ, ◌+◌, ◌^◌, ◌<◌, ◌≤◌, ◌==◌, Bool, true, false, if◌then◌else◌, Option, Some, None, Result, Ok, Err, OnOk, IfOk, IfErr, IsErrAnd, List, [], ◌∷◌, ◌++◌, length, take, get_or, length-append, append-nil, append_assoc, refl, sym, ◌∙◌, ap, subst, arith}
+use Rattle.std.proofs.Common.{◌≡◌, ◌≢◌, ℕ, ◌+◌, ◌^◌, ◌<◌, ◌≤◌, ◌==◌, Bool, true, false, if◌then◌else◌, Option, Some, None, Result, Ok, Err}
+use Rattle.std.proofs.Common.{OnOk, IfOk, IfErr, IsErrAnd, List, [], ◌∷◌, ◌++◌, length, take, get_or, length-append, append-nil}
+use Rattle.std.proofs.Common.{append_assoc, refl, sym, ◌∙◌, ap, subst, arith}
 use Rattle.std.specs.List.{fold}
 use Rattle.std.proofs.lemmas.Bool.Decides.{nat_tests}
 use Rattle.std.proofs.lemmas.List.{take_all}
@@ -17,18 +19,21 @@ use Rattle.history_text.specs.Laws.{Law}
 use Rattle.history_text.specs.Refusals.{IsRefusal}
 use Rattle.history_text.specs.Operations.{no_counts}
 use Rattle.history_text.specs.Judged.{Stands, StepStops}
-use Rattle.history_text.specs.Histories.{most_lines, history_fault, events_in, events_of, IsEventLine, EndsAt, EndsIn, HasRead, texts_with, LineStops, bytes_left}
+use Rattle.history_text.specs.Histories.{most_lines, history_fault, events_in, events_of, IsEventLine, EndsAt, EndsIn, HasRead, texts_with}
+use Rattle.history_text.specs.Histories.{LineStops, bytes_left}
 use Rattle.history_text.specs.declared.judged.Judged.{Judged}
 use Rattle.history_text.specs.Notes.{Telling, AreNotesOf, opening_windows, line_then, text_then, windows_of}
 use Rattle.history_text.specs.Told.{ToldLaw, Begin, law_begun}
 use Rattle.history_text.specs.declared.judged.Stop.{Stop}
 use Rattle.history_text.specs.declared.judged.Stop.TheVariants as stop
 use Rattle.history_text.proofs.Counting.{fold_more}
-use Rattle.history_text.proofs.LineTexts.{none_yet, none_more, begins_said, begins_long, good_more, good_line, one_more, events_more, events_few}
+use Rattle.history_text.proofs.LineTexts.{none_yet, none_more, begins_said, begins_long, good_more, good_line, one_more, events_more}
+use Rattle.history_text.proofs.LineTexts.{events_few}
 
 -- ---- a byte that ends no line
 
-pub read_char : {J : Type 0} {took : J → List HistoryEvent → J → Type 0} {law : J → Law} {start : Begin J} {judged : Judged J} {bytes pending : List ℕ} {texts : List (List ℕ)}
+pub read_char : {J : Type 0} {took : J → List HistoryEvent → J → Type 0} {law : J
+    → Law} {start : Begin J} {judged : Judged J} {bytes pending : List ℕ} {texts : List (List ℕ)}
     {count : ℕ} (b : ℕ)
     → HasRead took law start bytes texts judged pending count → b ≢ 10 → length pending + 1 ≤ MAX_PAIR → count < most_lines
     → HasRead took law start (bytes ++ b ∷ []) texts judged (pending ++ b ∷ []) count
@@ -57,10 +62,12 @@ windows_more : (t : Telling) (texts : List (List ℕ)) (text : List ℕ)
     → windows_of t (texts ++ text ∷ []) ≡ text_then (windows_of t texts) (line_of text)
 windows_more t texts text = fold_more (λ w x. text_then w (line_of x)) (opening_windows t) texts text
 
-ended_line : {J : Type 0} {took : J → List HistoryEvent → J → Type 0} {law : J → Law} {start : Begin J} {judged after : Judged J} {bytes pending : List ℕ} {texts : List (List ℕ)}
+ended_line : {J : Type 0} {took : J → List HistoryEvent → J → Type 0} {law : J
+    → Law} {start : Begin J} {judged after : Judged J} {bytes pending : List ℕ} {texts : List (List ℕ)}
     {count next : ℕ}
     (h : HasRead took law start bytes texts judged pending count) → history_fault pending ≡ None
-    → Stands took start (events_of texts ++ events_in (line_of pending)) (text_then (windows_of start.telling texts) (line_of pending)) after
+    → Stands took start (events_of texts ++ events_in (line_of pending)) (text_then (windows_of start.telling texts) (line_of pending))
+    after
     → (law start.judge).passes (events_of texts ++ events_in (line_of pending)) → next ≡ count + 1
     → HasRead took law start (bytes ++ 10 ∷ []) (texts ++ pending ∷ []) after [] next
 ended_line {took = took} {law = law} {start = start} {after = after} {pending = pending} {texts = texts} h good stands passes at =
@@ -80,14 +87,16 @@ ended_line {took = took} {law = law} {start = start} {after = after} {pending = 
     }
 
 -- a line that is passed over
-pub read_passed : {J : Type 0} {took : J → List HistoryEvent → J → Type 0} {law : J → Law} {start : Begin J} {judged after : Judged J} {bytes pending : List ℕ} {texts : List (List ℕ)}
+pub read_passed : {J : Type 0} {took : J → List HistoryEvent → J → Type 0} {law : J
+    → Law} {start : Begin J} {judged after : Judged J} {bytes pending : List ℕ} {texts : List (List ℕ)}
     {count next : ℕ}
     (h : HasRead took law start bytes texts judged pending count) → line_of pending ≡ Ok None
     → Stands took start (events_of texts) (line_then (windows_of start.telling texts) None) after → next ≡ count + 1
     → HasRead took law start (bytes ++ 10 ∷ []) (texts ++ pending ∷ []) after [] next
 read_passed {took = took} {law = law} {start = start} {after = after} {pending = pending} {texts = texts} h said stands at =
     let w : Windows = windows_of start.telling texts in
-    let same : events_of texts ++ events_in (line_of pending) ≡ events_of texts = ap (λ r. events_of texts ++ events_in r) said ∙ append-nil (events_of texts) in
+    let same : events_of texts ++ events_in (line_of pending) ≡ events_of texts = ap (λ r. events_of texts ++ events_in r) said
+    ∙ append-nil (events_of texts) in
     let later : text_then w (line_of pending) ≡ line_then w None = ap (text_then w) said in
     ended_line h (ap fault_of said)
     (subst (λ v. Stands took start (events_of texts ++ events_in (line_of pending)) v after) (sym later)
@@ -104,7 +113,8 @@ pub read_event : {J : Type 0} {took : J → List HistoryEvent → J → Type 0} 
     → HasRead took law start (bytes ++ 10 ∷ []) (texts ++ pending ∷ []) after [] next
 read_event {took = took} {law = law} {start = start} {after = after} {pending = pending} {texts = texts} event h said taken at =
     let w : Windows = windows_of start.telling texts in
-    let same : events_of texts ++ events_in (line_of pending) ≡ events_of texts ++ event ∷ [] = ap (λ r. events_of texts ++ events_in r) said in
+    let same : events_of texts ++ events_in (line_of pending) ≡ events_of texts ++ event ∷ [] =
+    ap (λ r. events_of texts ++ events_in r) said in
     let later : text_then w (line_of pending) ≡ line_then w (Some event) = ap (text_then w) said in
     ended_line h (ap fault_of said)
     (subst (λ v. Stands took start (events_of texts ++ events_in (line_of pending)) v after) (sym later)
@@ -143,7 +153,8 @@ pub moment_of : (t : Telling) (texts : List (List ℕ)) → (windows_of t texts)
 moment_of t texts = let all = moments_from (opening_windows t) texts in omega (arith, all)
 
 -- before the first line
-pub begins : {J : Type 0} {took : J → List HistoryEvent → J → Type 0} {law : J → Law} {start : Begin J} {judged : Judged J} {pending : List ℕ} {count : ℕ}
+pub begins : {J : Type 0} {took : J → List HistoryEvent → J → Type 0} {law : J
+    → Law} {start : Begin J} {judged : Judged J} {pending : List ℕ} {count : ℕ}
     → took start.judge [] start.judge → (law start.judge).passes [] → AreNotesOf judged.notes start.telling (opening_windows start.telling)
     → judged.judge ≡ start.judge → judged.counts ≡ no_counts → judged.loads.items ≡ [] → pending ≡ [] → count ≡ 0
     → HasRead took law start [] [] judged pending count
@@ -159,14 +170,17 @@ begins {took = took} {law = law} {start = start} {judged = judged} taken passes 
 -- ---- where a reading ends
 
 -- the end at a byte, in all the bytes so far
-abbrev pub ends_in : {J : Type 0} {took : J → List HistoryEvent → J → Type 0} {law : J → Law} {start : Begin J} {judged : Judged J} {bytes pending : List ℕ} {texts : List (List ℕ)}
+abbrev pub ends_in : {J : Type 0} {took : J → List HistoryEvent → J → Type 0} {law : J
+    → Law} {start : Begin J} {judged : Judged J} {bytes pending : List ℕ} {texts : List (List ℕ)}
     {count : ℕ} (b : ℕ) (why : Stop)
-    (h : HasRead took law start bytes texts judged pending count) → EndsAt (law_begun law start) texts (pending ++ b ∷ []) why → EndsIn (law_begun law start) (bytes ++ b ∷ []) why
+    (h : HasRead took law start bytes texts judged pending count) → EndsAt (law_begun law start) texts (pending ++ b ∷ []) why
+    → EndsIn (law_begun law start) (bytes ++ b ∷ []) why
 ends_in {bytes = bytes} {pending = pending} {texts = texts} b why h ends = record {
   texts = texts;
   found = pending ++ b ∷ [];
   more = [];
-  good = subst (Good history_fault MAX_PAIR (bytes ++ b ∷ []) texts) (sym (append-nil (pending ++ b ∷ []))) (good_more (b ∷ []) h.text.good);
+  good = subst (Good history_fault MAX_PAIR (bytes ++ b ∷ []) texts) (sym (append-nil (pending ++ b ∷ [])))
+      (good_more (b ∷ []) h.text.good);
   passes = h.text.passes;
   ends = ends;
 }
@@ -182,21 +196,27 @@ ends_more {bytes = bytes} why more p = record {
   ends = p.ends;
 }
 
-pub ends_too_many : {J : Type 0} {took : J → List HistoryEvent → J → Type 0} {law : J → Law} {start : Begin J} {judged : Judged J} {bytes pending : List ℕ} {texts : List (List ℕ)}
+pub ends_too_many : {J : Type 0} {took : J → List HistoryEvent → J → Type 0} {law : J
+    → Law} {start : Begin J} {judged : Judged J} {bytes pending : List ℕ} {texts : List (List ℕ)}
     {count : ℕ} (b : ℕ)
     → HasRead took law start bytes texts judged pending count → count ≡ most_lines
     → EndsAt (law_begun law start) texts (pending ++ b ∷ []) (stop.Fault fault.TooManyLines)
 ends_too_many {pending = pending} {texts = texts} b h full = (sym h.number ∙ full, omega (arith, length-append pending (b ∷ [])))
 
-pub ends_long : {J : Type 0} {took : J → List HistoryEvent → J → Type 0} {law : J → Law} {start : Begin J} {judged : Judged J} {bytes pending : List ℕ} {texts : List (List ℕ)}
+pub ends_long : {J : Type 0} {took : J → List HistoryEvent → J → Type 0} {law : J
+    → Law} {start : Begin J} {judged : Judged J} {bytes pending : List ℕ} {texts : List (List ℕ)}
     {count : ℕ} (b number : ℕ)
     → HasRead took law start bytes texts judged pending count → b ≢ 10 → length pending ≡ MAX_PAIR → number ≡ count + 1
     → EndsAt (law_begun law start) texts (pending ++ b ∷ []) (stop.Fault (fault.Line number TooLong))
 ends_long {pending = pending} {texts = texts} b number h ne long at =
-    let found : List ℕ = pending ++ b ∷ [] in
-    (omega (arith, at, h.number), begins_long found (omega (arith, long, length-append pending (b ∷ []))) (none_more pending b ne h.text.unfinished))
+    let found : List ℕ = pending ++ b ∷ [] in (
+      omega (arith, at, h.number),
+      begins_long found (omega (arith, long, length-append pending (b ∷ [])))
+          (none_more pending b ne h.text.unfinished),
+    )
 
-pub ends_faulty : {J : Type 0} {took : J → List HistoryEvent → J → Type 0} {law : J → Law} {start : Begin J} {judged : Judged J} {bytes pending : List ℕ} {texts : List (List ℕ)}
+pub ends_faulty : {J : Type 0} {took : J → List HistoryEvent → J → Type 0} {law : J
+    → Law} {start : Begin J} {judged : Judged J} {bytes pending : List ℕ} {texts : List (List ℕ)}
     {count : ℕ} (number : ℕ) (f : LineFault)
     → HasRead took law start bytes texts judged pending count → number ≡ count + 1 → IsSaid f → line_of pending ≡ Err f
     → EndsAt (law_begun law start) texts (pending ++ 10 ∷ []) (stop.Fault (fault.Line number f))
@@ -207,58 +227,74 @@ event_line : (pending : List ℕ) (event : HistoryEvent) → IsGood history_faul
     → IsEventLine (pending ++ 10 ∷ []) event
 event_line pending event good said = record { text = pending; ended = refl; good = good; said = said }
 
-pub ends_step : {J : Type 0} {took : J → List HistoryEvent → J → Type 0} {law : J → Law} {start : Begin J} {judged : Judged J} {bytes pending : List ℕ} {texts : List (List ℕ)}
+pub ends_step : {J : Type 0} {took : J → List HistoryEvent → J → Type 0} {law : J
+    → Law} {start : Begin J} {judged : Judged J} {bytes pending : List ℕ} {texts : List (List ℕ)}
     {count : ℕ} (event : HistoryEvent) (number : ℕ) (why : Stop)
     (h : HasRead took law start bytes texts judged pending count) → line_of pending ≡ Ok (Some event) → number ≡ count + 1 → number < 2 ^ 64
-    → StepStops (law_begun law start) (events_of texts) (windows_of start.telling texts) number event why → EndsAt (law_begun law start) texts (pending ++ 10 ∷ []) why
+    → StepStops (law_begun law start) (events_of texts) (windows_of start.telling texts) number event why
+    → EndsAt (law_begun law start) texts (pending ++ 10 ∷ []) why
 ends_step {law = law} {start = start} {pending = pending} {texts = texts} event number (stop.Refused refusal) h said at fits ends =
     let place : number ≡ length texts + 1 = omega (arith, at, h.number) in
-    let line = event_line pending event (h.text.short, h.text.unfinished, ap fault_of said) said in
-    (event, line, subst (λ n. IsRefusal (law_begun law start) (events_of texts) (windows_of start.telling texts) n event refusal) place ends)
+    let line = event_line pending event (h.text.short, h.text.unfinished, ap fault_of said) said in (
+      event,
+      line,
+      subst (λ n. IsRefusal (law_begun law start) (events_of texts) (windows_of start.telling texts) n event refusal) place
+          ends,
+    )
 ends_step {pending = pending} {texts = texts} event number (stop.Undecided n address) h said at fits ends =
     let line = event_line pending event (h.text.short, h.text.unfinished, ap fault_of said) said in
     (event, line, ends.0, omega (arith, at, h.number, ends.1))
 ends_step event number (stop.Fault fault.OutOfMemory) h said at fits ends = tt
-ends_step {texts = texts} event number (stop.Fault fault.TooManyLines) h said at fits ends = absurd (omega (arith, at, fits, h.number, ends, events_few texts))
+ends_step {texts = texts} event number (stop.Fault fault.TooManyLines) h said at fits ends =
+    absurd (omega (arith, at, fits, h.number, ends, events_few texts))
 ends_step event number (stop.Fault (fault.Line n f)) h said at fits ends = absurd ends
 ends_step event number (stop.Fault fault.Read) h said at fits ends = absurd ends
 ends_step event number (stop.Fault fault.Write) h said at fits ends = absurd ends
 
 -- a line that isn't taken, if it is an event
-pub ends_line : {J : Type 0} {took : J → List HistoryEvent → J → Type 0} {law : J → Law} {start : Begin J} {judged : Judged J} {bytes pending : List ℕ} {texts : List (List ℕ)}
+pub ends_line : {J : Type 0} {took : J → List HistoryEvent → J → Type 0} {law : J
+    → Law} {start : Begin J} {judged : Judged J} {bytes pending : List ℕ} {texts : List (List ℕ)}
     {count : ℕ} (number : ℕ) (event : Option HistoryEvent) (why : Stop)
     (h : HasRead took law start bytes texts judged pending count) → line_of pending ≡ Ok event → number ≡ count + 1 → number < 2 ^ 64
-    → LineStops (law_begun law start) (events_of texts) (windows_of start.telling texts) number event why → EndsAt (law_begun law start) texts (pending ++ 10 ∷ []) why
+    → LineStops (law_begun law start) (events_of texts) (windows_of start.telling texts) number event why
+    → EndsAt (law_begun law start) texts (pending ++ 10 ∷ []) why
 ends_line number None why h said at fits ends = absurd ends
 ends_line number (Some event) why h said at fits ends = ends_step event number why h said at fits ends
 
 -- ---- bytes that end a line, and bytes that don't
 
-pub at_line_end : {J : Type 0} {took : J → List HistoryEvent → J → Type 0} {law : J → Law} {start : Begin J} {judged : Judged J} {pending : List ℕ}
+pub at_line_end : {J : Type 0} {took : J → List HistoryEvent → J → Type 0} {law : J
+    → Law} {start : Begin J} {judged : Judged J} {pending : List ℕ}
     {count : ℕ} (bytes : List ℕ) (texts : List (List ℕ)) (b : ℕ) (left : List ℕ) → b ≡ 10
     → HasRead took law start (bytes ++ 10 ∷ []) (texts ++ left ∷ []) judged pending count
     → HasRead took law start (bytes ++ b ∷ []) (texts_with b texts left) judged pending count
 at_line_end {took = took} {law = law} {start = start} {judged = judged} {pending = pending} {count = count} bytes texts b left is h =
     subst (λ x. HasRead took law start (bytes ++ x ∷ []) (texts_with x texts left) judged pending count) (sym is) h
 
-pub within_line : {J : Type 0} {took : J → List HistoryEvent → J → Type 0} {law : J → Law} {start : Begin J} {judged : Judged J} {bytes pending : List ℕ} {texts : List (List ℕ)}
+pub within_line : {J : Type 0} {took : J → List HistoryEvent → J → Type 0} {law : J
+    → Law} {start : Begin J} {judged : Judged J} {bytes pending : List ℕ} {texts : List (List ℕ)}
     {count : ℕ} (b : ℕ) (left : List ℕ) → b ≢ 10
     → HasRead took law start bytes texts judged pending count → HasRead took law start bytes (texts_with b texts left) judged pending count
 within_line {took = took} {law = law} {start = start} {judged = judged} {bytes = bytes} {pending = pending} {texts = texts} {count = count} b left ne h =
     subst (λ t. HasRead took law start bytes t judged pending count) (texts_same b texts left ne) h
 
 -- one byte more of a piece, and all of them
-pub read_on : {J : Type 0} {took : J → List HistoryEvent → J → Type 0} {law : J → Law} {start : Begin J} {judged : Judged J} {pending : List ℕ} {texts : List (List ℕ)}
+pub read_on : {J : Type 0} {took : J → List HistoryEvent → J → Type 0} {law : J
+    → Law} {start : Begin J} {judged : Judged J} {pending : List ℕ} {texts : List (List ℕ)}
     {count : ℕ} (bytes : List ℕ) (piece : List ℕ) (i b : ℕ) → i < length piece → b ≡ get_or piece i 0
     → HasRead took law start ((bytes ++ take i piece) ++ b ∷ []) texts judged pending count
     → HasRead took law start (bytes ++ take (i + 1) piece) texts judged pending count
-read_on {took = took} {law = law} {start = start} {judged = judged} {pending = pending} {texts = texts} {count = count} bytes piece i b lt is h =
+read_on {took = took} {law = law} {start = start} {judged = judged} {pending = pending} {texts = texts} {count = count} bytes piece i b lt
+    is h =
     subst (λ l. HasRead took law start l texts judged pending count) (one_more bytes piece i b lt is) h
 
-pub read_all : {J : Type 0} {took : J → List HistoryEvent → J → Type 0} {law : J → Law} {start : Begin J} {judged : Judged J} {pending : List ℕ} {texts : List (List ℕ)}
+pub read_all : {J : Type 0} {took : J → List HistoryEvent → J → Type 0} {law : J
+    → Law} {start : Begin J} {judged : Judged J} {pending : List ℕ} {texts : List (List ℕ)}
     {count : ℕ} (bytes : List ℕ) (piece : List ℕ) (i : ℕ) → length piece ≤ i
-    → HasRead took law start (bytes ++ take i piece) texts judged pending count → HasRead took law start (bytes ++ piece) texts judged pending count
-read_all {took = took} {law = law} {start = start} {judged = judged} {pending = pending} {texts = texts} {count = count} bytes piece i whole h =
+    → HasRead took law start (bytes ++ take i piece) texts judged pending count
+    → HasRead took law start (bytes ++ piece) texts judged pending count
+read_all {took = took} {law = law} {start = start} {judged = judged} {pending = pending} {texts = texts} {count = count} bytes piece i whole
+    h =
     subst (λ l. HasRead took law start (bytes ++ l) texts judged pending count) (take_all i piece whole) h
 
 -- ---- what holds at the end that a call had

@@ -1,5 +1,6 @@
 -- A judge of the regular law keeps to it.
-use Rattle.std.proofs.Common.{◌≡◌, ℕ, ◌+◌, Bool, true, false, cond, Option, Some, None, List, [], ◌∷◌, ◌++◌, length, refl, sym, ◌∙◌, ap, subst, arith}
+use Rattle.std.proofs.Common.{◌≡◌, ℕ, ◌+◌, Bool, true, false, cond, Option, Some, None, List, [], ◌∷◌, ◌++◌, length, refl, sym, ◌∙◌, ap}
+use Rattle.std.proofs.Common.{subst, arith}
 use Rattle.std.specs.Prelude.{is_none}
 use Rattle.std.specs.Option.{option_and_then}
 use Rattle.memory_histories.specs.declared.events.HistoryEvent.{HistoryEvent}
@@ -33,7 +34,8 @@ plain_after w (StoreResponse number) = refl
 
 -- ---- runs
 
-pub through : {A B : Type 0} (o : Option A) (f : A → Option B) (b : B) → option_and_then f o ≡ Some b → (a : A) × (o ≡ Some a) × (f a ≡ Some b)
+pub through : {A B : Type 0} (o : Option A) (f : A → Option B) (b : B) → option_and_then f o ≡ Some b → (a : A) × (o ≡ Some a) ×
+    (f a ≡ Some b)
 through None f b e = cc
 through (Some a) f b e = (a, refl, e)
 
@@ -42,12 +44,14 @@ stepped true v w e = cc
 stepped false v w e = cc
 
 last_step : (w : Windows) (e : HistoryEvent) → fault w e ≡ None → regular_run w (e ∷ []) ≡ Some (windows_after w e)
-last_step w e none = ap (λ (o : Option HistoryFault). option_and_then (λ v. regular_run v []) (cond (is_none o) (Some (windows_after w e)) None)) none
+last_step w e none = ap (λ (o : Option HistoryFault). option_and_then (λ v. regular_run v [])
+    (cond (is_none o) (Some (windows_after w e)) None)) none
 
 -- one event more
 run_more : (s : Windows) (es : List HistoryEvent) (e : HistoryEvent) (w : Windows) → regular_run s es ≡ Some w → fault w e ≡ None
     → regular_run s (es ++ e ∷ []) ≡ Some (windows_after w e)
-run_more s [] e w run none = let same : s ≡ w = cc in subst (λ x. regular_run x (e ∷ []) ≡ Some (windows_after w e)) (sym same) (last_step w e none)
+run_more s [] e w run none = let same : s ≡ w = cc in
+    subst (λ x. regular_run x (e ∷ []) ≡ Some (windows_after w e)) (sym same) (last_step w e none)
 run_more s (x ∷ xs) e w run none =
     let t = through (regular_step s x) (λ v. regular_run v xs) w run in
     ap (option_and_then (λ v. regular_run v (xs ++ e ∷ []))) t.1 ∙ run_more t.0 xs e w t.2 none
@@ -102,10 +106,12 @@ pub began : (m : RegularMemory) (image : List ℕ) (rest : Rest) → StandsFor (
     → Took m [] m × (law_of m).passes []
 began m image rest stands =
     let here = opening (kept m).image (kept m).rest in
-    let same : opening image rest ≡ here = ap (λ i. opening i rest) (sym stands.same_image) ∙ ap (opening (kept m).image) (sym stands.same_rest) in
+    let same : opening image rest ≡ here = ap (λ i. opening i rest) (sym stands.same_image)
+    ∙ ap (opening (kept m).image) (sym stands.same_rest) in
     ((here, refl, subst (StandsFor (kept m)) same stands), (here, refl))
 
 -- what holds of its law holds of the regular law of its image
 pub by_image : (P : Law → Type 0) (m : RegularMemory) (image : List ℕ) (rest : Rest) → StandsFor (kept m) (opening image rest)
     → P (law_of m) → P (regular_law image rest)
-by_image P m image rest stands p = subst (λ r. P (regular_law image r)) stands.same_rest (subst (λ i. P (regular_law i (kept m).rest)) stands.same_image p)
+by_image P m image rest stands p = subst (λ r. P (regular_law image r)) stands.same_rest
+    (subst (λ i. P (regular_law i (kept m).rest)) stands.same_image p)

@@ -9,7 +9,8 @@ use Rattle.memory_histories.specs.Sets.{has}
 use Rattle.history_text.specs.Answers.{bytes_in_set}
 
 counted : (n : ℕ) → range_with_len 0 (n + 1) ≡ range_with_len 0 n ++ n ∷ []
-counted n = sym (map-id (range_with_len 0 (n + 1))) ∙ map-range_with_len_more (λ (x : ℕ). x) 0 n n (omega arith) ∙ ap (λ l. l ++ n ∷ []) (map-id (range_with_len 0 n))
+counted n = sym (map-id (range_with_len 0 (n + 1))) ∙ map-range_with_len_more (λ (x : ℕ). x) 0 n n (omega arith)
+    ∙ ap (λ l. l ++ n ∷ []) (map-id (range_with_len 0 n))
 
 filtered : (set : ByteSet) (n : ℕ)
     → filter (has set) (range_with_len 0 (n + 1)) ≡ filter (has set) (range_with_len 0 n) ++ filter (has set) (n ∷ [])
@@ -25,7 +26,8 @@ with_byte set bytes more n smaller is pushed =
 pub without_byte : (set : ByteSet) (bytes more : List ℕ) (n : ℕ) → bytes ≡ filter (has set) (range_with_len 0 n) → has set n ≡ false
     → more ≡ bytes → more ≡ filter (has set) (range_with_len 0 (n + 1))
 without_byte set bytes more n smaller is same =
-    same ∙ smaller ∙ sym (append-nil (filter (has set) (range_with_len 0 n))) ∙ sym (filtered set n ∙ ap (λ t. filter (has set) (range_with_len 0 n) ++ cond t (n ∷ []) []) is)
+    same ∙ smaller ∙ sym (append-nil (filter (has set) (range_with_len 0 n)))
+    ∙ sym (filtered set n ∙ ap (λ t. filter (has set) (range_with_len 0 n) ++ cond t (n ∷ []) []) is)
 
 pub all_bytes : (set : ByteSet) (bytes : List ℕ) (n : ℕ) → n ≡ 256 → bytes ≡ filter (has set) (range_with_len 0 n)
     → bytes ≡ bytes_in_set set

@@ -14,7 +14,8 @@ use Rattle.history_text.specs.declared.answers.ByteSource.TheVariants as source
 use Rattle.history_text.specs.declared.answers.AllowedByte.{AllowedByte}
 use Rattle.history_text.specs.declared.answers.OverwrittenByte.{OverwrittenByte}
 use Rattle.history_text.specs.declared.answers.RefusalCause.{RefusalCause}
-use Rattle.history_text.specs.declared.answers.RefusalCause.TheVariants.{OutOfRange, NoByteEnabled, NumberInUse, NotOpen, WrongLength, WrongByte, NoMoment}
+use Rattle.history_text.specs.declared.answers.RefusalCause.TheVariants.{OutOfRange, NoByteEnabled, NumberInUse, NotOpen, WrongLength}
+use Rattle.history_text.specs.declared.answers.RefusalCause.TheVariants.{WrongByte, NoMoment}
 use Rattle.history_text.specs.declared.answers.Refusal.{Refusal}
 use Rattle.history_text.specs.declared.answers.HistoryEnd.{HistoryEnd}
 use Rattle.history_text.specs.declared.answers.HistoryEnd.TheVariants.{OfLaw, Refused, Undecided}
@@ -72,11 +73,13 @@ overwritten_there_text (Some o) =
 
 -- why an operation is none of the law
 abbrev pub cause_text : RefusalCause → List ℕ
-cause_text (OutOfRange address n) = codes "has " ++ (decimal n ++ (codes " bytes at " ++ (address_text address ++ codes ": it must have 1 to 64, all below 2^64")))
+cause_text (OutOfRange address n) = codes "has "
+    ++ (decimal n ++ (codes " bytes at " ++ (address_text address ++ codes ": it must have 1 to 64, all below 2^64")))
 cause_text NoByteEnabled = codes "has no byte enabled"
 cause_text NumberInUse = codes "is open already"
 cause_text NotOpen = codes "isn't open"
-cause_text (WrongLength requested returned) = codes "returned " ++ (decimal returned ++ (codes " bytes, of " ++ (decimal requested ++ codes " requested")))
+cause_text (WrongLength requested returned) = codes "returned "
+    ++ (decimal returned ++ (codes " bytes, of " ++ (decimal requested ++ codes " requested")))
 cause_text (WrongByte address returned allowed sources overwritten) =
     codes "returned " ++ (byte_text returned ++ (codes " at " ++ (address_text address ++ (codes ", which may be "
     ++ (alternatives_text sources.items ++ overwritten_text overwritten)))))
@@ -84,14 +87,16 @@ cause_text (NoMoment address overwritten) =
     codes "returned what stood at no moment in the unit with " ++ (address_text address ++ overwritten_there_text overwritten)
 
 abbrev pub refusal_text : Refusal → List ℕ
-refusal_text r = codes "line " ++ (decimal r.line ++ (codes ": " ++ (kind_text r.kind ++ (codes " " ++ (decimal r.number ++ (codes " " ++ cause_text r.cause))))))
+refusal_text r = codes "line "
+    ++ (decimal r.line ++ (codes ": " ++ (kind_text r.kind ++ (codes " " ++ (decimal r.number ++ (codes " " ++ cause_text r.cause))))))
 
 -- how many operations are open, if some are
 abbrev pub open_text : ℕ → List ℕ
 open_text count = if count == 0 then [] else codes ", " ++ (decimal count ++ codes " operations open")
 
 abbrev pub end_text : LawName → HistoryEnd → List ℕ
-end_text law (OfLaw events open_count) = codes "history of " ++ (decimal events ++ (codes " events is " ++ (law_text law ++ open_text open_count)))
+end_text law (OfLaw events open_count) = codes "history of "
+    ++ (decimal events ++ (codes " events is " ++ (law_text law ++ open_text open_count)))
 end_text law (Refused refusal) = refusal_text refusal
 end_text law (Undecided line address) =
     codes "line " ++ (decimal line ++ (codes ": undecided: there are too many orders in which the open operations may have taken effect in the unit with " ++ address_text address))

@@ -14,7 +14,8 @@ law_from began = record {
   passes = λ events. (f : Flat) × (flat_run began events ≡ Some f);
   refuses = λ events event cause. (f : Flat) × (flat_run began events ≡ Some f) × (flat_fault f event ≡ Some cause);
   allows = λ events number address set. (f : Flat) × (flat_run began events ≡ Some f) × IsOwedSet (find (is_at number address) f.loads) set;
-  returns = λ events number address set. (f : Flat) × (flat_run began events ≡ Some f) × IsOwedSet (find (is_at number address) f.loads) set;
+  returns = λ events number address set. (f : Flat) × (flat_run began events ≡ Some f) ×
+      IsOwedSet (find (is_at number address) f.loads) set;
   undecides = λ events event address. ⊥;
 }
 

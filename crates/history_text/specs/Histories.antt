@@ -1,5 +1,6 @@
 -- How a history is read, and judged line by line.
-use Rattle.std.specs.Prelude.{◌≡◌, ℕ, ◌+◌, ◌-◌, ◌*◌, ◌<◌, ◌≤◌, ◌==◌, if◌then◌else◌, Option, None, Some, Result, Ok, Err, List, [], ◌∷◌, ◌++◌, length}
+use Rattle.std.specs.Prelude.{◌≡◌, ℕ, ◌+◌, ◌-◌, ◌*◌, ◌<◌, ◌≤◌, ◌==◌, if◌then◌else◌, Option, None, Some, Result, Ok, Err, List, [], ◌∷◌}
+use Rattle.std.specs.Prelude.{◌++◌, length}
 use Rattle.std.specs.Option.{option_to_list}
 use Rattle.memory_histories.specs.declared.events.HistoryEvent.{HistoryEvent}
 use Rattle.memory_histories.specs.Windows.{Windows}
@@ -62,7 +63,8 @@ pub record IsEventLine (found : List ℕ) (event : HistoryEvent) : Type 0 where
 -- one, or one too many.
 abbrev pub EndsAt : ToldLaw → List (List ℕ) → List ℕ → Stop → Type 0
 EndsAt law texts found (stop.Refused refusal) =
-    (event : HistoryEvent) × IsEventLine found event × IsRefusal law (events_of texts) (windows_of law.telling texts) (length texts + 1) event refusal
+    (event : HistoryEvent) × IsEventLine found event ×
+    IsRefusal law (events_of texts) (windows_of law.telling texts) (length texts + 1) event refusal
 EndsAt law texts found (stop.Undecided line address) =
     (event : HistoryEvent) × IsEventLine found event × law.judged.undecides (events_of texts) event address × (line ≡ length texts + 1)
 EndsAt law texts found (stop.Fault (fault.Line n f)) = (n ≡ length texts + 1) × BeginsFaulty history_fault MAX_PAIR found f
@@ -83,7 +85,8 @@ pub record EndsIn (law : ToldLaw) (bytes : List ℕ) (why : Stop) : Type 0 where
 -- ---- what was read
 
 -- Up to here, before a read or at the end, the lines of a history of the law came, and the start of another line.
-pub record ReadSoFar {R : Type 0} (gave : R → List ℕ → R → Type 0) (law : ToldLaw) (r r' : R) (texts : List (List ℕ)) (pending : List ℕ) : Type 0 where
+pub record ReadSoFar {R : Type 0} (gave : R → List ℕ → R → Type 0) (law : ToldLaw) (r r' : R) (texts : List (List ℕ))
+    (pending : List ℕ) : Type 0 where
   pub bytes : List ℕ
   pub read : Moves (Came gave) r bytes r'
   pub text : IsHistory law bytes texts pending
@@ -99,7 +102,8 @@ pub record ReadInto {R : Type 0} (gave : R → List ℕ → R → Type 0) (law :
   pub ends : EndsIn law (so_far.bytes ++ piece) why
 
 -- How the judging of a history ends.
-abbrev pub Judges : {R : Type 0} (gave : R → List ℕ → R → Type 0) (failed : R → R → Type 0) (law : ToldLaw) (r r' : R) → Result HistoryEnd TraceFault → Type 0
+abbrev pub Judges : {R : Type 0} (gave : R → List ℕ → R → Type 0) (failed : R → R → Type 0) (law : ToldLaw) (r r' : R)
+    → Result HistoryEnd TraceFault → Type 0
 -- all of it is one of the law
 Judges {R} gave failed law r r' (Ok (history.OfLaw events still_open)) =
     (texts : List (List ℕ)) × (last : R) × ReadSoFar gave law r last texts [] × gave last [] r'
@@ -107,10 +111,12 @@ Judges {R} gave failed law r r' (Ok (history.OfLaw events still_open)) =
 -- a line makes it none, or can't be decided
 Judges gave failed law r r' (Ok (history.Refused refusal)) = ReadInto gave law r r' (stop.Refused refusal)
 Judges gave failed law r r' (Ok (history.Undecided line address)) = ReadInto gave law r r' (stop.Undecided line address)
-Judges {R} gave failed law r r' (Err fault.Read) = (texts : List (List ℕ)) × (pending : List ℕ) × (last : R) × ReadSoFar gave law r last texts pending × failed last r'
+Judges {R} gave failed law r r' (Err fault.Read) = (texts : List (List ℕ)) × (pending : List ℕ) × (last : R) ×
+    ReadSoFar gave law r last texts pending × failed last r'
 -- the input ended within a line
 Judges {R} gave failed law r r' (Err (fault.Line n NotEnded)) =
-    (texts : List (List ℕ)) × (pending : List ℕ) × (last : R) × ReadSoFar gave law r last texts pending × gave last [] r' × (0 < length pending) × (n ≡ length texts + 1)
+    (texts : List (List ℕ)) × (pending : List ℕ) × (last : R) × ReadSoFar gave law r last texts pending × gave last [] r' ×
+    (0 < length pending) × (n ≡ length texts + 1)
 Judges gave failed law r r' (Err (fault.Line n f)) = ReadInto gave law r r' (stop.Fault (fault.Line n f))
 Judges gave failed law r r' (Err fault.TooManyLines) = ReadInto gave law r r' (stop.Fault fault.TooManyLines)
 Judges gave failed law r r' (Err fault.OutOfMemory) = Unit {0}
@@ -125,7 +131,8 @@ ended_by (stop.Fault f) = Err f
 -- ---- in the middle of a reading
 
 -- These bytes were read: the lines of a history of the law, and the start of another line.
-pub record HasRead {J : Type 0} (took : J → List HistoryEvent → J → Type 0) (law : J → Law) (start : Begin J) (bytes : List ℕ) (texts : List (List ℕ)) (judged : Judged J) (pending : List ℕ) (count : ℕ) : Type 0 where
+pub record HasRead {J : Type 0} (took : J → List HistoryEvent → J → Type 0) (law : J → Law) (start : Begin J) (bytes : List ℕ)
+    (texts : List (List ℕ)) (judged : Judged J) (pending : List ℕ) (count : ℕ) : Type 0 where
   pub text : IsHistory (law_begun law start) bytes texts pending
   pub number : count ≡ length texts
   pub room : 0 < length pending → count < most_lines

@@ -12,7 +12,8 @@ use Rattle.history_text.specs.Operations.{counts_of, open_loads}
 use Rattle.history_text.specs.Refusals.{IsRefusal}
 
 -- from its beginning on the judge took these events, and this is what they add up to; and what the lines add up to
-pub record Stands {J : Type 0} (took : J → List HistoryEvent → J → Type 0) (start : Begin J) (events : List HistoryEvent) (w : Windows) (judged : Judged J) : Type 0 where
+pub record Stands {J : Type 0} (took : J → List HistoryEvent → J → Type 0) (start : Begin J) (events : List HistoryEvent) (w : Windows)
+    (judged : Judged J) : Type 0 where
   pub taken : took start.judge events judged.judge
   pub count : judged.counts ≡ counts_of events
   pub loads_open : judged.loads.items ≡ open_loads events

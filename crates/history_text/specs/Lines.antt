@@ -70,7 +70,8 @@ store_request_with number address bytes (Some enables) = Some (StoreRequest numb
 store_request_with number address bytes None = None
 
 abbrev pub store_request_bytes : Option ℕ → Option ℕ → Option (List ℕ) → Option (List ℕ) → Option HistoryEvent
-store_request_bytes (Some number) (Some address) (Some bytes) enables = store_request_with number address bytes (enables_of (length bytes) enables)
+store_request_bytes (Some number) (Some address) (Some bytes) enables =
+    store_request_with number address bytes (enables_of (length bytes) enables)
 store_request_bytes number address bytes enables = None
 
 abbrev pub store_request_behind : List ℕ → List ℕ → List ℕ × Option (List ℕ) → Option HistoryEvent

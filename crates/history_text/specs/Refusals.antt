@@ -10,7 +10,8 @@ use Rattle.memory_histories.specs.Windows.{Windows}
 use Rattle.history_text.specs.declared.answers.OperationKind.{OperationKind}
 use Rattle.history_text.specs.declared.answers.OperationKind.TheVariants.{Load, Store}
 use Rattle.history_text.specs.declared.answers.RefusalCause.{RefusalCause}
-use Rattle.history_text.specs.declared.answers.RefusalCause.TheVariants.{OutOfRange, NoByteEnabled, NumberInUse, NotOpen, WrongLength, WrongByte, NoMoment}
+use Rattle.history_text.specs.declared.answers.RefusalCause.TheVariants.{OutOfRange, NoByteEnabled, NumberInUse, NotOpen, WrongLength}
+use Rattle.history_text.specs.declared.answers.RefusalCause.TheVariants.{WrongByte, NoMoment}
 use Rattle.history_text.specs.declared.answers.Refusal.{Refusal}
 use Rattle.history_text.specs.declared.judged.OpenLoad.{OpenLoad}
 use Rattle.history_text.specs.declared.answers.AllowedByte.{AllowedByte}
@@ -41,7 +42,8 @@ request_cause address n fault.WrongLength = OutOfRange address n
 request_cause address n (fault.WrongByte place) = OutOfRange address n
 
 -- the byte that came and those that the load may return, each with all that it may come from; and who overwrote the one that came
-pub record IsWrongByte (t : Telling) (w : Windows) (load : OpenLoad) (bytes : List ℕ) (place returned : ℕ) (allowed : ByteSet) (cause : RefusalCause) : Type 0 where
+pub record IsWrongByte (t : Telling) (w : Windows) (load : OpenLoad) (bytes : List ℕ) (place returned : ℕ) (allowed : ByteSet)
+    (cause : RefusalCause) : Type 0 where
   pub sources : Vec AllowedByte
   pub named : sources.items ≡ alternatives_of t w load.number (byte_address load place) (bytes_in_set allowed)
   pub is : cause ≡ WrongByte (byte_address load place) returned allowed sources (overwritten_in t w load bytes place)
@@ -77,7 +79,8 @@ IsCause law events w (StoreResponse number) f cause = cause ≡ NotOpen
 
 -- the event of this line, behind the lines before it, which have these events and add up to these windows, makes the history none of the
 -- law
-pub record IsRefusal (law : ToldLaw) (events : List HistoryEvent) (w : Windows) (line : ℕ) (event : HistoryEvent) (refusal : Refusal) : Type 0 where
+pub record IsRefusal (law : ToldLaw) (events : List HistoryEvent) (w : Windows) (line : ℕ) (event : HistoryEvent) (refusal : Refusal) : Type
+    0 where
   pub at : refusal.line ≡ line
   pub kind : refusal.kind ≡ kind_of event
   pub number : refusal.number ≡ number_of event

@@ -80,7 +80,8 @@ pub data Told {W : Type 0} (took : W → List ℕ → W → Type 0) (law : ToldL
       → Moves took v out u → Told took law w (texts ++ text ∷ []) u
 
 -- these lines were written, and then a write of this one was refused
-pub record Breaks {W : Type 0} (took : W → List ℕ → W → Type 0) (refused : W → W → Type 0) (law : ToldLaw) (w : W) (texts : List (List ℕ)) (text : List ℕ) (w' : W) : Type 0 where
+pub record Breaks {W : Type 0} (took : W → List ℕ → W → Type 0) (refused : W → W → Type 0) (law : ToldLaw) (w : W) (texts : List (List ℕ))
+    (text : List ℕ) (w' : W) : Type 0 where
   pub last : W
   pub before : Told took law w texts last
   pub out : List ℕ
@@ -88,9 +89,11 @@ pub record Breaks {W : Type 0} (took : W → List ℕ → W → Type 0) (refused
   pub stopped : Stopped took refused last out w'
 
 -- why a line wasn't written behind the lines before it
-abbrev pub TellStops : {W : Type 0} (took : W → List ℕ → W → Type 0) (refused : W → W → Type 0) (law : ToldLaw) (events : List HistoryEvent) (text : List ℕ) (w w' : W) → Stop → Type 0
+abbrev pub TellStops : {W : Type 0} (took : W → List ℕ → W → Type 0) (refused : W → W → Type 0) (law : ToldLaw) (events : List HistoryEvent)
+    (text : List ℕ) (w w' : W) → Stop → Type 0
 TellStops took refused law events text w w' (stop.Fault fault.OutOfMemory) = Unit {0}
-TellStops took refused law events text w w' (stop.Fault fault.Write) = (out : List ℕ) × IsTold law events text out × Stopped took refused w out w'
+TellStops took refused law events text w w' (stop.Fault fault.Write) = (out : List ℕ) × IsTold law events text out ×
+    Stopped took refused w out w'
 TellStops took refused law events text w w' (stop.Fault (fault.Line n f)) = ⊥
 TellStops took refused law events text w w' (stop.Fault fault.TooManyLines) = ⊥
 TellStops took refused law events text w w' (stop.Fault fault.Read) = ⊥
@@ -98,20 +101,24 @@ TellStops took refused law events text w w' (stop.Refused refusal) = ⊥
 TellStops took refused law events text w w' (stop.Undecided line address) = ⊥
 
 -- why these bytes behind good lines end a reading, and what was written then
-abbrev pub ByteStops : {W : Type 0} (took : W → List ℕ → W → Type 0) (refused : W → W → Type 0) (law : ToldLaw) (w : W) (texts : List (List ℕ)) (found : List ℕ) (w' : W) → Stop → Type 0
+abbrev pub ByteStops : {W : Type 0} (took : W → List ℕ → W → Type 0) (refused : W → W → Type 0) (law : ToldLaw) (w : W)
+    (texts : List (List ℕ)) (found : List ℕ) (w' : W) → Stop → Type 0
 ByteStops took refused law w texts found w' (stop.Refused refusal) =
     (e : EndsAt law texts found (stop.Refused refusal)) × Told took law w (texts ++ e.1.text ∷ []) w'
 ByteStops took refused law w texts found w' (stop.Undecided line address) =
     (e : EndsAt law texts found (stop.Undecided line address)) × Told took law w (texts ++ e.1.text ∷ []) w'
-ByteStops took refused law w texts found w' (stop.Fault (fault.Line n f)) = EndsAt law texts found (stop.Fault (fault.Line n f)) × Told took law w texts w'
-ByteStops took refused law w texts found w' (stop.Fault fault.TooManyLines) = EndsAt law texts found (stop.Fault fault.TooManyLines) × Told took law w texts w'
+ByteStops took refused law w texts found w' (stop.Fault (fault.Line n f)) = EndsAt law texts found (stop.Fault (fault.Line n f)) ×
+    Told took law w texts w'
+ByteStops took refused law w texts found w' (stop.Fault fault.TooManyLines) = EndsAt law texts found (stop.Fault fault.TooManyLines) ×
+    Told took law w texts w'
 ByteStops took refused law w texts found w' (stop.Fault fault.OutOfMemory) = Unit {0}
 ByteStops took refused law w texts found w' (stop.Fault fault.Read) = ⊥
 ByteStops took refused law w texts found w' (stop.Fault fault.Write) =
     (text : List ℕ) × (found ≡ text ++ line_feed ∷ []) × Breaks took refused law w texts text w'
 
 -- the lines of a history of the law, and then a good line of which a write was refused, whatever follows
-pub record BreaksIn {W : Type 0} (took : W → List ℕ → W → Type 0) (refused : W → W → Type 0) (law : ToldLaw) (w : W) (bytes : List ℕ) (w' : W) : Type 0 where
+pub record BreaksIn {W : Type 0} (took : W → List ℕ → W → Type 0) (refused : W → W → Type 0) (law : ToldLaw) (w : W) (bytes : List ℕ)
+    (w' : W) : Type 0 where
   pub texts : List (List ℕ)
   pub text : List ℕ
   pub more : List ℕ
@@ -129,7 +136,8 @@ abbrev pub ToldBy : {W : Type 0} (took : W → List ℕ → W → Type 0) (law :
 ToldBy took law w bytes w' why = (e : EndsIn law bytes why) × Told took law w (lines_told law bytes why e) w'
 
 -- what is written where a reading ends
-abbrev pub ToldIn : {W : Type 0} (took : W → List ℕ → W → Type 0) (refused : W → W → Type 0) (law : ToldLaw) (w : W) (bytes : List ℕ) (w' : W) → Stop → Type 0
+abbrev pub ToldIn : {W : Type 0} (took : W → List ℕ → W → Type 0) (refused : W → W → Type 0) (law : ToldLaw) (w : W) (bytes : List ℕ)
+    (w' : W) → Stop → Type 0
 ToldIn took refused law w bytes w' (stop.Refused refusal) = ToldBy took law w bytes w' (stop.Refused refusal)
 ToldIn took refused law w bytes w' (stop.Undecided line address) = ToldBy took law w bytes w' (stop.Undecided line address)
 ToldIn took refused law w bytes w' (stop.Fault (fault.Line n f)) = ToldBy took law w bytes w' (stop.Fault (fault.Line n f))
@@ -139,22 +147,27 @@ ToldIn took refused law w bytes w' (stop.Fault fault.Read) = ⊥
 ToldIn took refused law w bytes w' (stop.Fault fault.Write) = BreaksIn took refused law w bytes w'
 
 -- one piece more came, and in it a write was refused
-abbrev pub BreaksInto : {R W : Type 0} (gave : R → List ℕ → R → Type 0) (took : W → List ℕ → W → Type 0) (refused : W → W → Type 0) (law : ToldLaw) (r r' : R) (w w' : W) → Type 0
+abbrev pub BreaksInto : {R W : Type 0} (gave : R → List ℕ → R → Type 0) (took : W → List ℕ → W → Type 0) (refused : W → W → Type 0)
+    (law : ToldLaw) (r r' : R) (w w' : W) → Type 0
 BreaksInto {R} gave took refused law r r' w w' =
     (before : List (List ℕ)) × (pending : List ℕ) × (last : R) × (s : ReadSoFar gave law r last before pending)
     × (piece : List ℕ) × Came gave last piece r' × BreaksIn took refused law w (s.bytes ++ piece) w'
 
 -- one piece more came, and in it the reading ends
-abbrev pub ToldInto : {R W : Type 0} (gave : R → List ℕ → R → Type 0) (took : W → List ℕ → W → Type 0) (law : ToldLaw) (r r' : R) (w w' : W) → Stop → Type 0
-ToldInto gave took law r r' w w' why = (i : ReadInto gave law r r' why) × Told took law w (lines_told law (i.so_far.bytes ++ i.piece) why i.ends) w'
+abbrev pub ToldInto : {R W : Type 0} (gave : R → List ℕ → R → Type 0) (took : W → List ℕ → W → Type 0) (law : ToldLaw) (r r' : R) (w w' : W)
+    → Stop → Type 0
+ToldInto gave took law r r' w w' why = (i : ReadInto gave law r r' why) ×
+    Told took law w (lines_told law (i.so_far.bytes ++ i.piece) why i.ends) w'
 
 -- How a history is judged, and its lines are written: all of them that are told of, unless there is too little memory.
-abbrev pub Writes : {R W : Type 0} (gave : R → List ℕ → R → Type 0) (failed : R → R → Type 0) (took : W → List ℕ → W → Type 0) (refused : W → W → Type 0) (law : ToldLaw) (r r' : R) (w w' : W)
+abbrev pub Writes : {R W : Type 0} (gave : R → List ℕ → R → Type 0) (failed : R → R → Type 0) (took : W → List ℕ → W → Type 0)
+    (refused : W → W → Type 0) (law : ToldLaw) (r r' : R) (w w' : W)
     → Result HistoryEnd TraceFault → Type 0
 Writes gave failed took refused law r r' w w' (Ok (history.OfLaw events still_open)) =
     (j : Judges gave failed law r r' (Ok (history.OfLaw events still_open))) × Told took law w j.0 w'
 Writes gave failed took refused law r r' w w' (Ok (history.Refused refusal)) = ToldInto gave took law r r' w w' (stop.Refused refusal)
-Writes gave failed took refused law r r' w w' (Ok (history.Undecided line address)) = ToldInto gave took law r r' w w' (stop.Undecided line address)
+Writes gave failed took refused law r r' w w' (Ok (history.Undecided line address)) =
+    ToldInto gave took law r r' w w' (stop.Undecided line address)
 Writes gave failed took refused law r r' w w' (Err fault.Read) = (j : Judges gave failed law r r' (Err fault.Read)) × Told took law w j.0 w'
 Writes gave failed took refused law r r' w w' (Err (fault.Line n NotEnded)) =
     (j : Judges gave failed law r r' (Err (fault.Line n NotEnded))) × Told took law w j.0 w'

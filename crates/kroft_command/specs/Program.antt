@@ -1,6 +1,7 @@
 -- What the program does: for its task, as the words were understood, the machine and the image that were read, and its input,
 -- which bytes go to its output, and by which status or fault it ends.
-use Rattle.std.specs.Prelude.{◌≡◌, ◌≢◌, ◌⊎◌, ℕ, ◌*◌, ◌/◌, ◌<◌, ◌≤◌, Bool, true, false, Option, Result, Ok, Err, List, [], ◌∷◌, ◌++◌, length, map}
+use Rattle.std.specs.Prelude.{◌≡◌, ◌≢◌, ◌⊎◌, ℕ, ◌*◌, ◌/◌, ◌<◌, ◌≤◌, Bool, true, false, Option, Result, Ok, Err, List, [], ◌∷◌, ◌++◌, length}
+use Rattle.std.specs.Prelude.{map}
 use Rattle.std.specs.List.{flat_map}
 use Rattle.std.specs.String.{string_bytes}
 use Rattle.std.specs.Global.{Global, Vec}
@@ -89,8 +90,10 @@ use Rattle.kroft_command.specs.declared.command_line.MachineName.TheVariants as 
 use Rattle.kroft_command.specs.declared.command_line.Task.{Task}
 use Rattle.kroft_command.specs.declared.command_line.Task.TheVariants as task
 use Rattle.kroft_command.specs.declared.fault.ToolFault.{ToolFault}
-use Rattle.kroft_command.specs.declared.fault.ToolFault.TheVariants.{CommandLine as Words, Job, MachineUnreadable, ImageUnreadable, LongImage as TooLong}
-use Rattle.kroft_command.specs.Tool.{IsInRange, timings_in, registers_in, line, write_fault, no_memory, of_machine, of_trace, of_show, of_log}
+use Rattle.kroft_command.specs.declared.fault.ToolFault.TheVariants.{CommandLine as Words, Job, MachineUnreadable, ImageUnreadable}
+use Rattle.kroft_command.specs.declared.fault.ToolFault.TheVariants.{LongImage as TooLong}
+use Rattle.kroft_command.specs.Tool.{IsInRange, timings_in, registers_in, line, write_fault, no_memory, of_machine, of_trace, of_show}
+use Rattle.kroft_command.specs.Tool.{of_log}
 
 -- how an end is told: by a status, or by a fault
 abbrev pub told : {X F : Type 0} (status_for : X → ℕ) (fault_for : F → ToolFault) → Result X F → Result ℕ ToolFault

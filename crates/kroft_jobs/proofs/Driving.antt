@@ -20,7 +20,7 @@ use Rattle.round_driver.specs.declared.timing.Timing.{Timing}
 use Rattle.kroft_jobs.specs.Asking.{Asks, AsksNothing}
 use Rattle.kroft_jobs.specs.Driving.{IsToldAndDriven, DrivesAll}
 use Rattle.kroft_jobs.specs.declared.asked.RequestText.{RequestText}
-use Rattle.kroft_jobs.specs.declared.asked.RequestText.TheVariants.{Trace, Lackey, Din}
+use Rattle.kroft_jobs.specs.declared.asked.RequestText.TheVariants.{Lackey, Din}
 
 -- what is read as requests is asked as requests
 pub all_requests : (events : List Event) → AllByRecursion IsRequest events → list_all is_request events ≡ true
@@ -36,7 +36,8 @@ all_requests (Process place ∷ events) all = absurd all.0
 all_requests (Take place ∷ events) all = absurd all.0
 
 -- a log has as many requests at most as a trace has lines
-pub log_few : {R : Type 0} (gave : R → List ℕ → R → Type 0) (access_in : List ℕ → Result (Option Access) LineFault) (room : ℕ) (r r' : R) (requests : List Event) (groups : List AccessGroup)
+pub log_few : {R : Type 0} (gave : R → List ℕ → R → Type 0) (access_in : List ℕ → Result (Option Access) LineFault) (room : ℕ) (r r' : R)
+    (requests : List Event) (groups : List AccessGroup)
     → LogSays gave access_in room r r' requests groups → length requests ≤ most_lines
 log_few gave access_in room r r' requests groups said = subst (λ l. length l ≤ most_lines) (sym said.requests) said.fits.requests
 
@@ -56,7 +57,8 @@ module _ {R W E : Type 0} (gave : R → List ℕ → R → Type 0) (failed : R �
   driven_not f d = inr (requests, groups, f, asks, refl, d)
 
 -- a log that can't be read asks nothing
-module _ {A R : Type 0} (gave : R → List ℕ → R → Type 0) (failed : R → R → Type 0) (from : RequestText) (room room' : ℕ) (input input' : R) (same : room ≡ room') where
+module _ {A R : Type 0} (gave : R → List ℕ → R → Type 0) (failed : R → R → Type 0) (from : RequestText) (room room' : ℕ) (input input' : R)
+    (same : room ≡ room') where
   pub lackey_fails : from ≡ Lackey → (result : Result A LogFault) → IfErr result (LogFails gave failed lackey_access room input input')
       → IfErr result (AsksNothing gave failed from room' input input')
   lackey_fails is (Ok log) fails = fails

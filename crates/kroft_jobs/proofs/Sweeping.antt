@@ -28,14 +28,16 @@ use Rattle.kroft_jobs.specs.Sweeping.{IsCounted, IsDetailed, AreCounted, AreSwep
 
 -- ---- the fault of a sweep over a trace that was read
 
-module _ {R : Type 0} (gave : R → List ℕ → R → Type 0) (failed : R → R → Type 0) (machines : List Sizes) (input input' : R) (texts : List (List ℕ)) (whole : ReadWhole gave trace_fault MAX_LINE input input' texts) where
+module _ {R : Type 0} (gave : R → List ℕ → R → Type 0) (failed : R → R → Type 0) (machines : List Sizes) (input input' : R)
+    (texts : List (List ℕ)) (whole : ReadWhole gave trace_fault MAX_LINE input input' texts) where
   fails : (fault : SweepFault) → FaultSays bad_machine machines fault → SweepFails gave failed machines input input' (of_sweep fault)
   fails (sweep.BadShape place field) says = (texts, place, whole, says)
   fails sweep.TurnLimit says = (texts, whole, says)
   fails sweep.OutOfMemory says = tt
 
   pub unswept : {X : Type 0} (made : List Sizes) → made ≡ machines → (fault : SweepFault) → FaultSays bad_machine made fault
-      → (result : Result X JobFault) → IsErrAnd result (λ told. told ≡ of_sweep fault) → IfErr result (SweepFails gave failed machines input input')
+      → (result : Result X JobFault) → IsErrAnd result (λ told. told ≡ of_sweep fault)
+      → IfErr result (SweepFails gave failed machines input input')
   unswept made same fault says (Ok rows) told = tt
   unswept made same fault says (Err f) told =
       let here = fails fault (subst (λ zs. FaultSays bad_machine zs fault) same says) in
@@ -43,14 +45,19 @@ module _ {R : Type 0} (gave : R → List ℕ → R → Type 0) (failed : R → R
 
 -- ---- what is counted of requests that were read
 
-pub table_counted : (timing : Timing) (s : MachineState) (requests said : List Event) (table : Table) → requests ≡ said → list_all is_request requests ≡ true → table ≡ table_of timing s requests → RequestsEnd timing s requests → IsCounted timing s said table
+pub table_counted : (timing : Timing) (s : MachineState) (requests said : List Event) (table : Table) → requests ≡ said
+    → list_all is_request requests ≡ true → table ≡ table_of timing s requests → RequestsEnd timing s requests
+    → IsCounted timing s said table
 table_counted timing s requests said table read all made ends = subst (λ events. IsCounted timing s events table) read (made, ends all)
 
-pub all_detailed : (timing : Timing) (s : MachineState) (requests said : List Event) (details : Details) → requests ≡ said → list_all is_request requests ≡ true → details ≡ details_of timing s requests → RequestsEnd timing s requests → IsDetailed timing s said details
+pub all_detailed : (timing : Timing) (s : MachineState) (requests said : List Event) (details : Details) → requests ≡ said
+    → list_all is_request requests ≡ true → details ≡ details_of timing s requests → RequestsEnd timing s requests
+    → IsDetailed timing s said details
 all_detailed timing s requests said details read all made ends = subst (λ events. IsDetailed timing s events details) read (made, ends all)
 
 pub rows_counted : (timing : Timing) (requests said : List Event) (made swept : List Sizes) (rows : List RoundsRow) → requests ≡ said
-    → list_all is_request requests ≡ true → made ≡ swept → rows ≡ map (rounds_row_of timing requests) made → EachRunEnds timing requests made
+    → list_all is_request requests ≡ true → made ≡ swept → rows ≡ map (rounds_row_of timing requests) made
+    → EachRunEnds timing requests made
     → AreCounted timing swept said rows
 rows_counted timing requests said made swept rows read all same counted ends =
     let here = subst (λ zs. AreCounted timing zs requests rows) same (counted, λ i u inside. ends i u inside all) in

@@ -26,14 +26,16 @@ room_of z = min z.words MAX_WORDS / PAGE_WORDS
 
 -- The input was read whole, and says these requests: a trace by its lines; a log by its accesses, of each of which the
 -- requests are a group.
-abbrev pub Asks : {R : Type 0} (gave : R → List ℕ → R → Type 0) → RequestText → (room : ℕ) (input input' : R) → List Event → List AccessGroup → Type 0
+abbrev pub Asks : {R : Type 0} (gave : R → List ℕ → R → Type 0) → RequestText → (room : ℕ) (input input' : R) → List Event
+    → List AccessGroup → Type 0
 Asks gave Trace room input input' requests groups =
     (texts : List (List ℕ)) × ReadWhole gave trace_fault MAX_LINE input input' texts × (requests ≡ requests_of texts) × (groups ≡ [])
 Asks gave Lackey room input input' requests groups = LogSays gave lackey_access room input input' requests groups
 Asks gave Din room input input' requests groups = LogSays gave din_access room input input' requests groups
 
 -- Why it wasn't. Memory may be missing anywhere.
-abbrev pub AsksNothing : {R : Type 0} (gave : R → List ℕ → R → Type 0) (failed : R → R → Type 0) → RequestText → (room : ℕ) (input input' : R) → LogFault → Type 0
+abbrev pub AsksNothing : {R : Type 0} (gave : R → List ℕ → R → Type 0) (failed : R → R → Type 0) → RequestText
+    → (room : ℕ) (input input' : R) → LogFault → Type 0
 AsksNothing gave failed Trace room input input' fault =
     (f : TraceFault) × (fault ≡ log.Trace f) × ReadFails gave failed trace_fault MAX_LINE input input' f
 AsksNothing gave failed Lackey room input input' fault = LogFails gave failed lackey_access room input input' fault

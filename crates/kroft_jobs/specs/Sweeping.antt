@@ -35,7 +35,8 @@ abbrev pub IsDetailed : (timing : Timing) (s : MachineState) (requests : List Ev
 IsDetailed timing s requests details = (details ≡ details_of timing s requests) × IsOverInTime timing s requests
 
 -- The requests of an input are counted in rounds: their details, and, of a log, its accesses.
-abbrev pub CountsAll : {R : Type 0} (gave : R → List ℕ → R → Type 0) (from : RequestText) (room : ℕ) (timing : Timing) (s : MachineState) (input input' : R) → Details → Option AccessCounts → Type 0
+abbrev pub CountsAll : {R : Type 0} (gave : R → List ℕ → R → Type 0) (from : RequestText) (room : ℕ) (timing : Timing) (s : MachineState)
+    (input input' : R) → Details → Option AccessCounts → Type 0
 CountsAll gave from room timing s input input' details accesses =
     (requests : List Event) × (groups : List AccessGroup) × Asks gave from room input input' requests groups
     × IsDetailed timing s requests details × (accesses ≡ accesses_of from groups details.outcomes)
@@ -55,7 +56,8 @@ AreSwept (timing ∷ timings) machines requests (swept ∷ rest) =
 
 -- Why a sweep over a trace has no rows. A fault of the trace goes before one of the machines, of which the first that has
 -- one is told. Memory may be missing anywhere.
-abbrev pub SweepFails : {R : Type 0} (gave : R → List ℕ → R → Type 0) (failed : R → R → Type 0) (machines : List Sizes) (input input' : R) → JobFault → Type 0
+abbrev pub SweepFails : {R : Type 0} (gave : R → List ℕ → R → Type 0) (failed : R → R → Type 0) (machines : List Sizes) (input input' : R)
+    → JobFault → Type 0
 SweepFails gave failed machines input input' (Trace fault) =
     (texts : List (List ℕ)) × ReadStops gave failed trace_fault MAX_LINE input input' texts fault
 SweepFails gave failed machines input input' (Shape (shape.BadShape field)) =

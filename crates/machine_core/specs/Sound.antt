@@ -1,5 +1,6 @@
 -- What each machine that a walk comes to keeps.
-use Rattle.std.specs.Prelude.{◌≡◌, ℕ, ◌+◌, ◌*◌, ◌/◌, ◌%◌, ◌<◌, ◌≤◌, Bool, true, false, ◌&&◌, not, ◌==◌, nat_lt, List, [], ◌∷◌, length, Option, Some, None, slice_index_or}
+use Rattle.std.specs.Prelude.{◌≡◌, ℕ, ◌+◌, ◌*◌, ◌/◌, ◌%◌, ◌<◌, ◌≤◌, Bool, true, false, ◌&&◌, not, ◌==◌, nat_lt, List, [], ◌∷◌, length}
+use Rattle.std.specs.Prelude.{Option, Some, None, slice_index_or}
 use Rattle.std.specs.List.{list_any, list_all}
 use Rattle.flat_model.specs.declared.Word.{Word}
 use Rattle.flat_model.specs.Words.{merged, zero_word}
@@ -60,14 +61,18 @@ AllIn z (q ∷ rest) = (q.at < z.words) × AllIn z rest
 pub record IsSound (z : Sizes) (m : Machine) : Type 0 where
   -- a block is in one frame, and has one live register, and then it is present
   pub frames_apart : (f g b : ℕ) → (frame_at m.cache f).block ≡ Some b → (frame_at m.cache g).block ≡ Some b → f ≡ g
-  pub live_apart : (s t : ℕ) → is_live (register_at m.cache s) ≡ true → is_live (register_at m.cache t) ≡ true → (register_at m.cache s).block ≡ (register_at m.cache t).block → s ≡ t
-  pub live_present : (s : ℕ) → is_live (register_at m.cache s) ≡ true → (f : ℕ) × ((frame_at m.cache f).block ≡ Some (register_at m.cache s).block)
+  pub live_apart : (s t : ℕ) → is_live (register_at m.cache s) ≡ true → is_live (register_at m.cache t) ≡ true
+      → (register_at m.cache s).block ≡ (register_at m.cache t).block → s ≡ t
+  pub live_present : (s : ℕ) → is_live (register_at m.cache s) ≡ true → (f : ℕ) ×
+      ((frame_at m.cache f).block ≡ Some (register_at m.cache s).block)
   -- each word that a register waits for is once on its way, and nothing else is
-  pub counted : (s i : ℕ) → tally (is_for s i) (all_pending m.banks) + tally (is_entry_for s i) m.cache.stack ≡ wanted z (register_at m.cache s) i
+  pub counted : (s i : ℕ) → tally (is_for s i) (all_pending m.banks) + tally (is_entry_for s i) m.cache.stack
+      ≡ wanted z (register_at m.cache s) i
   -- no tag is owed two values
   pub once : (tag : ℕ) → tally (λ t. t == tag) (tags m.cache) ≤ 1
   -- a word is its backing with the buffer's bytes in the dirty lanes
-  pub kept : (at : ℕ) → flat_word z m at ≡ merged (backing z m at) (cell_of m.cache (block_of z at) (place_in z at)).word (cell_of m.cache (block_of z at) (place_in z at)).dirty
+  pub kept : (at : ℕ) → flat_word z m at ≡ merged (backing z m at) (cell_of m.cache (block_of z at) (place_in z at)).word
+      (cell_of m.cache (block_of z at) (place_in z at)).dirty
   -- the sizes of the parts
   pub whole_frames : (f b : ℕ) → (frame_at m.cache f).block ≡ Some b → (length (frame_at m.cache f).cells
       ≡ z.block_words) × (first_of z b < z.words)

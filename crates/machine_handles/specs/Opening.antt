@@ -1,7 +1,8 @@
 -- How C is told of a machine that it opens.
 use Rattle.std.specs.Prelude.{◌≡◌, ◌≢◌, ℕ, if◌then◌else◌, Option, Some, None, is_some}
 use Rattle.flat_model.specs.declared.ShapeField.{ShapeField}
-use Rattle.flat_model.specs.declared.ShapeField.TheVariants.{BlockWords, Ways, Regs, Depth, Words, Sets, Banks, BankQueue, WriteQueue, Replies, Ports, Journal, Image}
+use Rattle.flat_model.specs.declared.ShapeField.TheVariants.{BlockWords, Ways, Regs, Depth, Words, Sets, Banks, BankQueue, WriteQueue}
+use Rattle.flat_model.specs.declared.ShapeField.TheVariants.{Replies, Ports, Journal, Image}
 use Rattle.machine_core.specs.Machine.{MachineState}
 use Rattle.machine_handles.specs.declared.views.ShapeRow.{ShapeRow}
 use Rattle.machine_handles.specs.declared.made.OpenFault.{OpenFault}

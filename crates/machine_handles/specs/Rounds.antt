@@ -17,7 +17,8 @@ use Rattle.flat_judge.specs.Rows.{event_of}
 use Rattle.machine_handles.specs.declared.rounds.TheConstants.{MOST_REQUESTS}
 use Rattle.machine_handles.specs.declared.rounds.CountsRow.{CountsRow}
 use Rattle.machine_handles.specs.declared.rounds.RoundsFault.{RoundsFault}
-use Rattle.machine_handles.specs.declared.rounds.RoundsFault.TheVariants.{Closed, InRounds, NoRounds, BadLatency, TooMany, NoRequest, OutOfMemory}
+use Rattle.machine_handles.specs.declared.rounds.RoundsFault.TheVariants.{Closed, InRounds, NoRounds, BadLatency, TooMany, NoRequest}
+use Rattle.machine_handles.specs.declared.rounds.RoundsFault.TheVariants.{OutOfMemory}
 use Rattle.machine_handles.specs.Behind.{Standing}
 
 -- ---- what is driven

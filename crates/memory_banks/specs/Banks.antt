@@ -1,5 +1,6 @@
 -- Banks: what their commands leave, and what their reads are answered.
-use Rattle.std.specs.Prelude.{◌≡◌, ℕ, ◌+◌, ◌-◌, ◌*◌, ◌/◌, ◌==◌, nat_lt, if◌then◌else◌, List, [], ◌∷◌, ◌++◌, map, length, slice_set, slice_index_or}
+use Rattle.std.specs.Prelude.{◌≡◌, ℕ, ◌+◌, ◌-◌, ◌*◌, ◌/◌, ◌==◌, nat_lt, if◌then◌else◌, List, [], ◌∷◌, ◌++◌, map, length, slice_set}
+use Rattle.std.specs.Prelude.{slice_index_or}
 use Rattle.std.specs.List.{range_with_len, flat_map}
 use Rattle.flat_model.specs.declared.Word.{Word}
 use Rattle.flat_model.specs.Flat.{word_at, stored}
@@ -83,7 +84,8 @@ all_sent banks [] = banks
 all_sent banks (c ∷ rest) = all_sent (slice_set banks c.0 (with_command (bank_at banks c.0) c.1)) rest
 
 -- what sends make of lines: the commands have gone to their banks in this order, and nothing else has changed
-pub record HasSent {L : Type 0} (sent_to : L → ℕ → List Command) (room_of : L → ℕ → ℕ) (same : L → L → Type 0) (old new : L) (sent : List (ℕ × Command)) : Type 0 where
+pub record HasSent {L : Type 0} (sent_to : L → ℕ → List Command) (room_of : L → ℕ → ℕ) (same : L → L → Type 0) (old new : L)
+    (sent : List (ℕ × Command)) : Type 0 where
   pub kept : same old new
   pub queued : (b : ℕ) → sent_to new b ≡ sent_to old b ++ commands_for b sent
   pub rooms : (b : ℕ) → room_of new b + length (commands_for b sent) ≡ room_of old b

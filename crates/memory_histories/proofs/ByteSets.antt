@@ -1,5 +1,6 @@
 -- Sets of bytes as their tests.
-use Rattle.std.proofs.Common.{◌≡◌, ◌≢◌, ℕ, zero, suc, ◌-◌, ◌*◌, ◌/◌, ◌^◌, ◌<◌, ◌≤◌, ◌%◌, ◌||◌, ◌==◌, Bool, false, nat_lt, List, [], ◌∷◌, get_or, set, max, inl, inr, refl, sym, ap, ◌∙◌, arith}
+use Rattle.std.proofs.Common.{◌≡◌, ◌≢◌, ℕ, zero, suc, ◌-◌, ◌*◌, ◌/◌, ◌^◌, ◌<◌, ◌≤◌, ◌%◌, ◌||◌, ◌==◌, Bool, false, nat_lt, List, [], ◌∷◌}
+use Rattle.std.proofs.Common.{get_or, set, max, inl, inr, refl, sym, ap, ◌∙◌, arith}
 use Rattle.std.specs.Prelude.{bit_or}
 use Rattle.std.specs.Int.{bit_at}
 use Rattle.std.proofs.lemmas.Bool.{cases_eq, cases_lt, eq-eqb, ne_eqb, lt-ltb, le-ltb, or_right}
@@ -20,11 +21,13 @@ bit_joined : (n k i : ℕ) → (bit_at (bit_or n (2 ^ k)) i == 1) ≡ ((bit_at n
 bit_joined n k i = elim (cases_eq k i) [
   | inl e ↦
       let p : bit_at (2 ^ k) i ≡ 1 = rw (← e) (bit_at-pow_same k) in
-      let one : bit_at (bit_or n (2 ^ k)) i ≡ 1 = bit_at_or n (2 ^ k) i ∙ (ap (λ x. max (bit_at n i) x) p ∙ max_one (bit_at n i) (bit_at-lt n i)) in
+      let one : bit_at (bit_or n (2 ^ k)) i ≡ 1 = bit_at_or n (2 ^ k) i
+      ∙ (ap (λ x. max (bit_at n i) x) p ∙ max_one (bit_at n i) (bit_at-lt n i)) in
       eq-eqb (bit_at (bit_or n (2 ^ k)) i) 1 one ∙ sym (or_right (bit_at n i == 1) (k == i) (eq-eqb k i e))
   | inr ne ↦
       let other : i ≢ k = λ e. ne (sym e) in
-      let same : bit_at (bit_or n (2 ^ k)) i ≡ bit_at n i = bit_at_or n (2 ^ k) i ∙ (ap (λ x. max (bit_at n i) x) (bit_at-pow_other k i other) ∙ max_zero (bit_at n i)) in
+      let same : bit_at (bit_or n (2 ^ k)) i ≡ bit_at n i = bit_at_or n (2 ^ k) i
+      ∙ (ap (λ x. max (bit_at n i) x) (bit_at-pow_other k i other) ∙ max_zero (bit_at n i)) in
       ap (λ x. x == 1) same ∙ sym (ap (λ x. (bit_at n i == 1) || x) (ne_eqb k i ne) ∙ or_false (bit_at n i == 1))
 ]
 

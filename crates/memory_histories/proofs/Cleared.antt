@@ -1,5 +1,6 @@
 -- Lanes that are written over, one by one.
-use Rattle.std.proofs.Common.{◌≡◌, ℕ, suc, ◌+◌, ◌<◌, ◌≤◌, List, [], ◌∷◌, ◌++◌, length, take, drop, get_or, set, Option, None, refl, sym, ◌∙◌, append_assoc, add-one, drop-cons, take-append-drop, append-nil, drop-set-lt, arith}
+use Rattle.std.proofs.Common.{◌≡◌, ℕ, suc, ◌+◌, ◌<◌, ◌≤◌, List, [], ◌∷◌, ◌++◌, length, take, drop, get_or, set, Option, None, refl, sym}
+use Rattle.std.proofs.Common.{◌∙◌, append_assoc, add-one, drop-cons, take-append-drop, append-nil, drop-set-lt, arith}
 use Rattle.std.proofs.lemmas.List.{take_more_set, drop_all}
 use Rattle.memory_histories.specs.Parts.{cleared, cleared_lanes}
 

@@ -1,5 +1,6 @@
 -- What a load is owed as a set of bytes, and memory with the bytes of a store, as the loops over them go.
-use Rattle.std.proofs.Common.{◌≡◌, ℕ, ◌+◌, ◌-◌, ◌/◌, ◌%◌, ◌<◌, Bool, true, false, if◌then◌else◌, ◌==◌, List, [], ◌∷◌, length, drop, get_or, Option, Some, refl, ap, ◌∙◌, inl, inr, subst, arith, add-one}
+use Rattle.std.proofs.Common.{◌≡◌, ℕ, ◌+◌, ◌-◌, ◌/◌, ◌%◌, ◌<◌, Bool, true, false, if◌then◌else◌, ◌==◌, List, [], ◌∷◌, length, drop, get_or}
+use Rattle.std.proofs.Common.{Option, Some, refl, ap, ◌∙◌, inl, inr, subst, arith, add-one}
 use Rattle.std.proofs.lemmas.Bool.{cases_Bool}
 use Rattle.std.proofs.lemmas.List.{at_drop_more}
 use Rattle.memory_histories.specs.declared.events.Rest.{Rest}
@@ -27,7 +28,8 @@ owed_set_law o l e = subst (λ x. IsOwedSet x (Some (owed_set l.owed))) e (owed_
 -- Loops. ----
 
 pub owed_bytes-more : (memory : ℕ → Owed) (n a k i : ℕ) → i < k
-    → owed_bytes memory n (a + i) (k - i) ≡ record { number = n; address = a + i; owed = memory (a + i) } ∷ owed_bytes memory n (a + (i + 1)) (k - (i + 1))
+    → owed_bytes memory n (a + i) (k - i) ≡ record { number = n; address = a + i; owed = memory (a + i) } ∷ owed_bytes memory n
+    (a + (i + 1)) (k - (i + 1))
 owed_bytes-more memory n a k i h =
     let e : k - i ≡ (k - (i + 1)) + 1 = omega arith in
     let s : a + i + 1 ≡ a + (i + 1) = omega arith in
@@ -43,11 +45,13 @@ with_bytes-more at value a bs i e h =
 -- Memory. ----
 
 module _ (image : List ℕ) (rest : Rest) where
-  standing-value : (w : ℕ → Option Owed) (a : ℕ) (o : Owed) (q : ℕ) → standing image rest (with_value w a (Some o)) q ≡ with_value (standing image rest w) a o q
+  standing-value : (w : ℕ → Option Owed) (a : ℕ) (o : Owed) (q : ℕ)
+      → standing image rest (with_value w a (Some o)) q ≡ with_value (standing image rest w) a o q
   standing-value w a o q = elim (cases_Bool (a == q)) [ inl e ↦ rw e refl | inr e ↦ rw e refl ]
 
   standing-if : (t : Bool) (w : ℕ → Option Owed) (a : ℕ) (o : Owed)
-      → standing image rest (if t then with_value w a (Some o) else w) ≡ (if t then with_value (standing image rest w) a o else standing image rest w)
+      → standing image rest (if t then with_value w a (Some o) else w)
+      ≡ (if t then with_value (standing image rest w) a o else standing image rest w)
   standing-if true w a o = fun_ext (standing-value w a o)
   standing-if false w a o = refl
 

@@ -1,9 +1,12 @@
 -- The lanes of a store, and the bytes that they stand for.
-use Rattle.std.proofs.Common.{◌≡◌, ◌≢◌, ℕ, zero, suc, ◌+◌, ◌-◌, ◌*◌, ◌/◌, ◌%◌, ◌<◌, ◌≤◌, Bool, true, false, ◌&&◌, ◌||◌, not, if◌then◌else◌, ◌==◌, nat_le, nat_lt, List, [], ◌∷◌, ◌++◌, map, length, Option, None, Some, slice_get, refl, sym, ap, ap₂, ◌∙◌, inl, inr, arith, subst, append-nil}
+use Rattle.std.proofs.Common.{◌≡◌, ◌≢◌, ℕ, zero, suc, ◌+◌, ◌-◌, ◌*◌, ◌/◌, ◌%◌, ◌<◌, ◌≤◌, Bool, true, false, ◌&&◌, ◌||◌, not, if◌then◌else◌}
+use Rattle.std.proofs.Common.{◌==◌, nat_le, nat_lt, List, [], ◌∷◌, ◌++◌, map, length, Option, None, Some, slice_get, refl, sym, ap, ap₂}
+use Rattle.std.proofs.Common.{◌∙◌, inl, inr, arith, subst, append-nil}
 use Rattle.std.specs.Prelude.{is_none, is_some}
 use Rattle.std.specs.Int.{bit_at}
 use Rattle.std.specs.List.{filter, list_any, range_with_len}
-use Rattle.std.proofs.lemmas.Bool.{false≢true, cases_Bool, cases_lt, cases_eq, eqb-true, eq-eqb, ne_eqb, le-leb, lt-leb, lt-ltb, le-ltb, leb-true, eqb-false}
+use Rattle.std.proofs.lemmas.Bool.{false≢true, cases_Bool, cases_lt, cases_eq, eqb-true, eq-eqb, ne_eqb, le-leb, lt-leb, lt-ltb, le-ltb}
+use Rattle.std.proofs.lemmas.Bool.{leb-true, eqb-false}
 use Rattle.std.proofs.lemmas.Nat.{div-add-mod'}
 use Rattle.std.proofs.lemmas.Nat.Bits.{bit_at_lowest, bit_at-suc}
 use Rattle.memory_histories.specs.declared.windows.StoreByte.{StoreByte}
@@ -48,7 +51,8 @@ lane_stored a (b ∷ bs) e (suc k) =
 pub store_lanes : (n a : ℕ) (bs : List ℕ) (e t : ℕ) → store_bytes n a bs e t ≡ lane_bytes n a (lanes_of bs e) t None
 store_lanes n a [] e t = refl
 store_lanes n a (b ∷ bs) e t = elim (cases_Bool (e % 2 == 1)) [
-  | inl h ↦ rw h (ap (λ xs. (record { number = n; address = a; byte = b; began = t; ended = None }) ∷ xs) (store_lanes n (a + 1) bs (e / 2) t))
+  | inl h ↦ rw h (ap (λ xs. (record { number = n; address = a; byte = b; began = t; ended = None }) ∷ xs)
+      (store_lanes n (a + 1) bs (e / 2) t))
   | inr h ↦ rw h (store_lanes n (a + 1) bs (e / 2) t)
 ]
 
@@ -56,7 +60,8 @@ module _ (n t : ℕ) (o : Option ℕ) where
   abbrev pub byte_at : ℕ → ℕ → StoreByte
   byte_at a b = record { number = n; address = a; byte = b; began = t; ended = o }
 
-  pub set_lanes : (a : ℕ) (ls : List (Option ℕ)) (x : ℕ) (set : ByteSet) → with_stores (lane_bytes n a ls t o) x set ≡ with_known set (lane_at a ls x)
+  pub set_lanes : (a : ℕ) (ls : List (Option ℕ)) (x : ℕ) (set : ByteSet)
+      → with_stores (lane_bytes n a ls t o) x set ≡ with_known set (lane_at a ls x)
   set_lanes a [] x set = refl
   set_lanes a (None ∷ ls) x set = elim (cases_Bool (a == x)) [
     | inl e ↦ rw e (set_lanes (a + 1) ls x set ∙ ap (with_known set) (lane_once a ls x e))
@@ -81,17 +86,20 @@ module _ (n t : ℕ) (o : Option ℕ) where
   pub answered_lanes : (m a : ℕ) (ls : List (Option ℕ)) → map (answered_at m) (lane_bytes n a ls t o) ≡ lane_bytes n a ls t (Some m)
   answered_lanes m a [] = refl
   answered_lanes m a (None ∷ ls) = answered_lanes m (a + 1) ls
-  answered_lanes m a (Some b ∷ ls) = ap (λ xs. (record { number = n; address = a; byte = b; began = t; ended = Some m }) ∷ xs) (answered_lanes m (a + 1) ls)
+  answered_lanes m a (Some b ∷ ls) = ap (λ xs. (record { number = n; address = a; byte = b; began = t; ended = Some m }) ∷ xs)
+      (answered_lanes m (a + 1) ls)
 
   -- whether its store is open under a number
   or_and_true : (c x : Bool) → (c || (c && x)) ≡ (c && true)
   or_and_true true x = refl
   or_and_true false x = refl
 
-  pub any_lane : (k a : ℕ) (ls : List (Option ℕ)) → list_any (is_open k) (lane_bytes n a ls t o) ≡ ((is_none o && (n == k)) && list_any is_some ls)
+  pub any_lane : (k a : ℕ) (ls : List (Option ℕ)) → list_any (is_open k) (lane_bytes n a ls t o)
+      ≡ ((is_none o && (n == k)) && list_any is_some ls)
   any_lane k a [] = sym (and_false (is_none o && (n == k)))
   any_lane k a (None ∷ ls) = any_lane k (a + 1) ls
-  any_lane k a (Some b ∷ ls) = ap (λ x. (is_none o && (n == k)) || x) (any_lane k (a + 1) ls) ∙ or_and_true (is_none o && (n == k)) (list_any is_some ls)
+  any_lane k a (Some b ∷ ls) = ap (λ x. (is_none o && (n == k)) || x) (any_lane k (a + 1) ls)
+      ∙ or_and_true (is_none o && (n == k)) (list_any is_some ls)
 
   -- a test that all the bytes pass, and one that none passes
   pub all_pass : (q : StoreByte → Bool) (a : ℕ) (ls : List (Option ℕ)) → ((x b : ℕ) → a ≤ x → x < a + length ls → q (byte_at x b) ≡ true)
@@ -99,15 +107,19 @@ module _ (n t : ℕ) (o : Option ℕ) where
   all_pass q a [] h = refl
   all_pass q a (None ∷ ls) h = all_pass q (a + 1) ls (λ x b l m. h x b (omega arith) (omega arith))
   all_pass q a (Some b ∷ ls) h =
-      rw (h a b (omega arith) (omega arith)) (ap (λ xs. byte_at a b ∷ xs) (all_pass q (a + 1) ls (λ x c l m. h x c (omega arith) (omega arith))))
+      rw (h a b (omega arith) (omega arith)) (ap (λ xs. byte_at a b ∷ xs) (all_pass q (a + 1) ls
+      (λ x c l m. h x c (omega arith) (omega arith))))
 
-  pub none_passes : (q : StoreByte → Bool) (a : ℕ) (ls : List (Option ℕ)) → ((x b : ℕ) → a ≤ x → x < a + length ls → q (byte_at x b) ≡ false)
+  pub none_passes : (q : StoreByte → Bool) (a : ℕ) (ls : List (Option ℕ))
+      → ((x b : ℕ) → a ≤ x → x < a + length ls → q (byte_at x b) ≡ false)
       → filter q (lane_bytes n a ls t o) ≡ []
   none_passes q a [] h = refl
   none_passes q a (None ∷ ls) h = none_passes q (a + 1) ls (λ x b l m. h x b (omega arith) (omega arith))
-  none_passes q a (Some b ∷ ls) h = rw (h a b (omega arith) (omega arith)) (none_passes q (a + 1) ls (λ x c l m. h x c (omega arith) (omega arith)))
+  none_passes q a (Some b ∷ ls) h = rw (h a b (omega arith) (omega arith)) (none_passes q (a + 1) ls
+      (λ x c l m. h x c (omega arith) (omega arith)))
 
-  pub same_pass : (p q : StoreByte → Bool) (a : ℕ) (ls : List (Option ℕ)) → ((x b : ℕ) → a ≤ x → x < a + length ls → p (byte_at x b) ≡ q (byte_at x b))
+  pub same_pass : (p q : StoreByte → Bool) (a : ℕ) (ls : List (Option ℕ))
+      → ((x b : ℕ) → a ≤ x → x < a + length ls → p (byte_at x b) ≡ q (byte_at x b))
       → filter p (lane_bytes n a ls t o) ≡ filter q (lane_bytes n a ls t o)
   same_pass p q a [] h = refl
   same_pass p q a (None ∷ ls) h = same_pass p q (a + 1) ls (λ x b l m. h x b (omega arith) (omega arith))
@@ -116,7 +128,8 @@ module _ (n t : ℕ) (o : Option ℕ) where
 
   -- The bytes of a unit. ----
 
-  map_range : (f g : ℕ → Option ℕ) (base w : ℕ) → ((x : ℕ) → base ≤ x → f x ≡ g x) → map f (range_with_len base w) ≡ map g (range_with_len base w)
+  map_range : (f g : ℕ → Option ℕ) (base w : ℕ) → ((x : ℕ) → base ≤ x → f x ≡ g x)
+      → map f (range_with_len base w) ≡ map g (range_with_len base w)
   map_range f g base zero h = refl
   map_range f g base (suc w) h = ap₂ (λ x xs. x ∷ xs) (h base (omega arith)) (map_range f g (base + 1) w (λ x l. h x (omega arith)))
 
@@ -139,19 +152,23 @@ module _ (n t : ℕ) (o : Option ℕ) where
   ])
 
   window_front : (a w : ℕ) (l : Option ℕ) (ls : List (Option ℕ))
-      → filter (inside a (suc w)) (lane_bytes n (a + 1) ls t o) ≡ lane_bytes n (a + 1) (map (lane_at (a + 1) ls) (range_with_len (a + 1) w)) t o
-      → filter (inside a (suc w)) (lane_bytes n a (l ∷ ls) t o) ≡ lane_bytes n a (l ∷ map (lane_at (a + 1) ls) (range_with_len (a + 1) w)) t o
+      → filter (inside a (suc w)) (lane_bytes n (a + 1) ls t o) ≡ lane_bytes n (a + 1) (map (lane_at (a + 1) ls) (range_with_len (a + 1) w))
+      t o
+      → filter (inside a (suc w)) (lane_bytes n a (l ∷ ls) t o) ≡ lane_bytes n a (l ∷ map (lane_at (a + 1) ls) (range_with_len (a + 1) w)) t
+      o
   window_front a w None ls h = h
   window_front a w (Some b) ls h = rw (le-leb a a (omega arith), lt-ltb a (a + suc w) (omega arith)) (ap (λ xs. byte_at a b ∷ xs) h)
 
-  window_here : (a w : ℕ) (ls : List (Option ℕ)) → filter (inside a w) (lane_bytes n a ls t o) ≡ lane_bytes n a (map (lane_at a ls) (range_with_len a w)) t o
+  window_here : (a w : ℕ) (ls : List (Option ℕ)) → filter (inside a w) (lane_bytes n a ls t o)
+      ≡ lane_bytes n a (map (lane_at a ls) (range_with_len a w)) t o
   window_here a w [] = sym (nothing a a w)
   window_here a zero (l ∷ ls) = none_inside a (l ∷ ls) a
   window_here a (suc w) (l ∷ ls) =
       let here : lane_at a (l ∷ ls) a ≡ l = rw (eq-eqb a a refl) refl in
       let rest : map (lane_at a (l ∷ ls)) (range_with_len (a + 1) w) ≡ map (lane_at (a + 1) ls) (range_with_len (a + 1) w) =
       map_range (lane_at a (l ∷ ls)) (lane_at (a + 1) ls) (a + 1) w (λ x h. rw (ne_eqb a x (λ e. omega arith)) refl) in
-      let more : filter (inside a (suc w)) (lane_bytes n (a + 1) ls t o) ≡ lane_bytes n (a + 1) (map (lane_at (a + 1) ls) (range_with_len (a + 1) w)) t o =
+      let more : filter (inside a (suc w)) (lane_bytes n (a + 1) ls t o)
+      ≡ lane_bytes n (a + 1) (map (lane_at (a + 1) ls) (range_with_len (a + 1) w)) t o =
       same_pass (inside a (suc w)) (inside (a + 1) w) (a + 1) ls (λ x b h m. above a w x h) ∙ window_here (a + 1) w ls in
       window_front a w l ls more ∙ sym (ap₂ (λ x xs. lane_bytes n a (x ∷ xs) t o) here rest)
 
@@ -160,7 +177,8 @@ module _ (n t : ℕ) (o : Option ℕ) where
   window_later g base a zero ls e = none_inside a ls base
   window_later zero base a (suc w) ls e =
       let s : base ≡ a = omega arith in
-      subst (λ x. filter (inside x (suc w)) (lane_bytes n a ls t o) ≡ lane_bytes n x (map (lane_at a ls) (range_with_len x (suc w))) t o) (sym s) (window_here a (suc w) ls)
+      subst (λ x. filter (inside x (suc w)) (lane_bytes n a ls t o) ≡ lane_bytes n x (map (lane_at a ls) (range_with_len x (suc w))) t o)
+      (sym s) (window_here a (suc w) ls)
   window_later (suc g) base a (suc w) ls e =
       rw (lane_before a ls base (omega arith))
       (same_pass (inside base (suc w)) (inside (base + 1) w) a ls (λ x b h m. above base w x (omega arith))
@@ -175,7 +193,8 @@ module _ (n t : ℕ) (o : Option ℕ) where
       → filter (inside base w) (lane_bytes n a ls t o) ≡ lane_bytes n base (map (lane_at a ls) (range_with_len base w)) t o
   window_earlier zero a base w ls e =
       let s : a ≡ base = omega arith in
-      subst (λ x. filter (inside x w) (lane_bytes n a ls t o) ≡ lane_bytes n x (map (lane_at a ls) (range_with_len x w)) t o) s (window_here a w ls)
+      subst (λ x. filter (inside x w) (lane_bytes n a ls t o) ≡ lane_bytes n x (map (lane_at a ls) (range_with_len x w)) t o) s
+      (window_here a w ls)
   window_earlier (suc g) a base w [] e = sym (nothing base base w)
   window_earlier (suc g) a base w (l ∷ ls) e =
       let rest : map (lane_at a (l ∷ ls)) (range_with_len base w) ≡ map (lane_at (a + 1) ls) (range_with_len base w) =
@@ -187,7 +206,8 @@ module _ (n t : ℕ) (o : Option ℕ) where
   inside_unit u x =
       let d = div-add-mod' x 8 in
       elim (cases_Bool (x / 8 == u)) [
-        | inl e ↦ let s : x / 8 ≡ u = eqb-true (x / 8) u e in rw (e, le-leb (8 * u) x (omega arith), lt-ltb x (8 * u + 8) (omega arith)) refl
+        | inl e ↦ let s : x / 8 ≡ u = eqb-true (x / 8) u e in
+            rw (e, le-leb (8 * u) x (omega arith), lt-ltb x (8 * u + 8) (omega arith)) refl
         | inr e ↦ elim (cases_Bool (nat_le (8 * u) x)) [
           | inl l ↦
               let low = leb-true (8 * u) x l in
@@ -233,8 +253,10 @@ module _ (n t : ℕ) (o : Option ℕ) where
   -- What is left of lanes that are written over. ----
 
   clear_front : (a : ℕ) (e l : Option ℕ) (es ls : List (Option ℕ))
-      → filter (λ s. not (is_some (lane_at a (e ∷ es) s.address))) (lane_bytes n (a + 1) ls t o) ≡ lane_bytes n (a + 1) (cleared_lanes es ls) t o
-      → filter (λ s. not (is_some (lane_at a (e ∷ es) s.address))) (lane_bytes n a (l ∷ ls) t o) ≡ lane_bytes n a (cleared e l ∷ cleared_lanes es ls) t o
+      → filter (λ s. not (is_some (lane_at a (e ∷ es) s.address))) (lane_bytes n (a + 1) ls t o)
+      ≡ lane_bytes n (a + 1) (cleared_lanes es ls) t o
+      → filter (λ s. not (is_some (lane_at a (e ∷ es) s.address))) (lane_bytes n a (l ∷ ls) t o)
+      ≡ lane_bytes n a (cleared e l ∷ cleared_lanes es ls) t o
   clear_front a None None es ls h = h
   clear_front a (Some c) None es ls h = h
   clear_front a None (Some b) es ls h = rw (eq-eqb a a refl) (ap (λ xs. byte_at a b ∷ xs) h)
@@ -272,7 +294,8 @@ module _ (n t : ℕ) (o : Option ℕ) where
           all_pass (λ s. nat_le u (unit_of s.address)) a (Some b ∷ ls) (λ x c l m. le-leb u (x / 8) (omega arith)) in
           let none : filter (is_in u) (lane_bytes n a (Some b ∷ ls) t o) ≡ [] =
           none_passes (is_in u) a (Some b ∷ ls) (λ x c l m. ne_eqb (x / 8) u (λ q. omega arith)) in
-          let rest : filter (λ s. nat_le (u + 1) (unit_of s.address)) (lane_bytes n a (Some b ∷ ls) t o) ≡ lane_bytes n a (Some b ∷ ls) t o =
+          let rest : filter (λ s. nat_le (u + 1) (unit_of s.address)) (lane_bytes n a (Some b ∷ ls) t o)
+          ≡ lane_bytes n a (Some b ∷ ls) t o =
           all_pass (λ s. nat_le (u + 1) (unit_of s.address)) a (Some b ∷ ls) (λ x c l m. le-leb (u + 1) (x / 8) (omega arith)) in
           all ∙ sym (ap₂ (λ xs ys. xs ++ ys) none rest)
     ]
@@ -292,13 +315,15 @@ store_from n u a bs e t = rw (store_lanes n a bs e t) (from_unit n t None u a (l
 pub store_whole : (n u a : ℕ) (bs : List ℕ) (e t : ℕ) → u ≡ unit_of a
     → filter (λ s. nat_le u (unit_of s.address)) (store_bytes n a bs e t) ≡ store_bytes n a bs e t
 store_whole n u a bs e t h =
-    rw (store_lanes n a bs e t) (all_pass n t None (λ s. nat_le u (unit_of s.address)) a (lanes_of bs e) (λ x b l m. le-leb u (x / 8) (omega arith)))
+    rw (store_lanes n a bs e t) (all_pass n t None (λ s. nat_le u (unit_of s.address)) a (lanes_of bs e)
+    (λ x b l m. le-leb u (x / 8) (omega arith)))
 
 pub store_over : (n u a : ℕ) (bs : List ℕ) (e t : ℕ) → 1 ≤ length bs → (a + (length bs - 1)) / 8 < u
     → filter (λ s. nat_le u (unit_of s.address)) (store_bytes n a bs e t) ≡ []
 store_over n u a bs e t some h =
     let long = length-lanes_of bs e in
-    rw (store_lanes n a bs e t) (none_passes n t None (λ s. nat_le u (unit_of s.address)) a (lanes_of bs e) (λ x b l m. lt-leb u (x / 8) (omega arith)))
+    rw (store_lanes n a bs e t) (none_passes n t None (λ s. nat_le u (unit_of s.address)) a (lanes_of bs e)
+    (λ x b l m. lt-leb u (x / 8) (omega arith)))
 
 -- a store that lies in one unit
 pub store_one : (n u a : ℕ) (bs : List ℕ) (e t : ℕ) → u ≡ unit_of a → 1 ≤ length bs → a % 8 + length bs ≤ 8
@@ -306,4 +331,5 @@ pub store_one : (n u a : ℕ) (bs : List ℕ) (e t : ℕ) → u ≡ unit_of a �
 store_one n u a bs e t h some l =
     let its = filter (is_in u) (store_bytes n a bs e t) in
     sym (append-nil its)
-    ∙ (ap (λ xs. its ++ xs) (sym (store_over n (u + 1) a bs e t some (omega arith))) ∙ (sym (store_from n u a bs e t) ∙ store_whole n u a bs e t h))
+    ∙ (ap (λ xs. its ++ xs) (sym (store_over n (u + 1) a bs e t some (omega arith)))
+    ∙ (sym (store_from n u a bs e t) ∙ store_whole n u a bs e t h))

@@ -1,5 +1,6 @@
 -- Tests over lists that are made of others.
-use Rattle.std.proofs.Common.{◌≡◌, ℕ, Bool, true, false, ◌&&◌, ◌||◌, not, List, [], ◌∷◌, map, length, Some, get_or, suc, inl, inr, refl, subst, ap, ◌∙◌}
+use Rattle.std.proofs.Common.{◌≡◌, ℕ, Bool, true, false, ◌&&◌, ◌||◌, not, List, [], ◌∷◌, map, length, Some, get_or, suc, inl, inr, refl}
+use Rattle.std.proofs.Common.{subst, ap, ◌∙◌}
 use Rattle.std.specs.List.{All, filter, find, list_any, zip, prefix_len, position}
 use Rattle.std.specs.Option.{option_map}
 use Rattle.std.proofs.lemmas.Bool.{cases_Bool}
@@ -103,11 +104,14 @@ and_kept : (k q : Bool) → (q ≡ true → k ≡ true) → (k && q) ≡ q
 and_kept k true h = rw (h refl) refl
 and_kept k false h = and_false k
 
-pub list_any-kept : {X : Type 0} (keep q : X → Bool) → ((x : X) → q x ≡ true → keep x ≡ true) → (xs : List X) → list_any q (filter keep xs) ≡ list_any q xs
+pub list_any-kept : {X : Type 0} (keep q : X → Bool) → ((x : X) → q x ≡ true → keep x ≡ true) → (xs : List X)
+    → list_any q (filter keep xs) ≡ list_any q xs
 list_any-kept keep q h xs = list_any-filter keep q xs ∙ list_any-same (λ x. keep x && q x) q (λ x. and_kept (keep x) (q x) (h x)) xs
 
-pub filter-kept : {X : Type 0} (keep q : X → Bool) → ((x : X) → q x ≡ true → keep x ≡ true) → (xs : List X) → filter q (filter keep xs) ≡ filter q xs
-filter-kept keep q h xs = filter-filter keep q xs ∙ filter-agree (λ x. keep x && q x) q xs (λ k d l. and_kept (keep (get_or xs k d)) (q (get_or xs k d)) (h (get_or xs k d)))
+pub filter-kept : {X : Type 0} (keep q : X → Bool) → ((x : X) → q x ≡ true → keep x ≡ true) → (xs : List X)
+    → filter q (filter keep xs) ≡ filter q xs
+filter-kept keep q h xs = filter-filter keep q xs ∙ filter-agree (λ x. keep x && q x) q xs
+    (λ k d l. and_kept (keep (get_or xs k d)) (q (get_or xs k d)) (h (get_or xs k d)))
 
 -- Look-ups. ----
 
@@ -126,18 +130,23 @@ find-All P q (y ∷ ys) a x e = elim (cases_Bool (q y)) [
 ]
 
 -- the first place at which two tests over pairs that agree fail
-pub prefix_len-zip : {X Y : Type 0} (f : X → Y) (p : X → ℕ → Bool) (q : Y → ℕ → Bool) (xs : List X) (bs : List ℕ) → All (λ x. (b : ℕ) → p x b ≡ q (f x) b) xs
+pub prefix_len-zip : {X Y : Type 0} (f : X → Y) (p : X → ℕ → Bool) (q : Y → ℕ → Bool) (xs : List X) (bs : List ℕ)
+    → All (λ x. (b : ℕ) → p x b ≡ q (f x) b) xs
     → prefix_len (λ t. not (not (p t.0 t.1))) (zip xs bs) ≡ prefix_len (λ t. not (not (q t.0 t.1))) (zip (map f xs) bs)
 prefix_len-zip f p q [] bs a = refl
 prefix_len-zip f p q (x ∷ xs) [] a = refl
 prefix_len-zip f p q (x ∷ xs) (b ∷ bs) a =
-    rw (All-head (λ y. (c : ℕ) → p y c ≡ q (f y) c) x xs a b, prefix_len-zip f p q xs bs (All-tail (λ y. (c : ℕ) → p y c ≡ q (f y) c) x xs a)) refl
+    rw (
+      All-head (λ y. (c : ℕ) → p y c ≡ q (f y) c) x xs a b,
+      prefix_len-zip f p q xs bs (All-tail (λ y. (c : ℕ) → p y c ≡ q (f y) c) x xs a),
+    ) refl
 
 length-zip_map : {X Y : Type 0} (f : X → Y) (xs : List X) (bs : List ℕ) → length (zip xs bs) ≡ length (zip (map f xs) bs)
 length-zip_map f [] bs = refl
 length-zip_map f (x ∷ xs) [] = refl
 length-zip_map f (x ∷ xs) (b ∷ bs) = ap suc (length-zip_map f xs bs)
 
-pub position-zip : {X Y : Type 0} (f : X → Y) (p : X → ℕ → Bool) (q : Y → ℕ → Bool) (xs : List X) (bs : List ℕ) → All (λ x. (b : ℕ) → p x b ≡ q (f x) b) xs
+pub position-zip : {X Y : Type 0} (f : X → Y) (p : X → ℕ → Bool) (q : Y → ℕ → Bool) (xs : List X) (bs : List ℕ)
+    → All (λ x. (b : ℕ) → p x b ≡ q (f x) b) xs
     → position (λ t. not (p t.0 t.1)) (zip xs bs) ≡ position (λ t. not (q t.0 t.1)) (zip (map f xs) bs)
 position-zip f p q xs bs a = rw (prefix_len-zip f p q xs bs a, length-zip_map f xs bs) refl

@@ -1,5 +1,6 @@
 -- Which stores a load may still see, and that those that are dropped change no answer.
-use Rattle.std.proofs.Common.{◌≡◌, ℕ, suc, ◌+◌, ◌<◌, ◌≤◌, Bool, true, false, ◌&&◌, ◌||◌, not, ◌==◌, List, map, Option, None, Some, get_or, refl, sym, ap, ap₂, ◌∙◌, inl, inr, arith}
+use Rattle.std.proofs.Common.{◌≡◌, ℕ, suc, ◌+◌, ◌<◌, ◌≤◌, Bool, true, false, ◌&&◌, ◌||◌, not, ◌==◌, List, map, Option, None, Some, get_or}
+use Rattle.std.proofs.Common.{refl, sym, ap, ap₂, ◌∙◌, inl, inr, arith}
 use Rattle.std.specs.Prelude.{zero, is_none, is_some}
 use Rattle.std.specs.List.{All, Contains, filter, list_any}
 use Rattle.std.proofs.lemmas.Bool.{false≢true, cases_Bool, and_parts, and_from, eqb-true, eq-eqb, ltb-true, lt-ltb, le-ltb, not_from_false}
@@ -9,8 +10,10 @@ use Rattle.memory_histories.specs.declared.windows.StoreByte.{StoreByte}
 use Rattle.memory_histories.specs.declared.windows.LoadByte.{LoadByte}
 use Rattle.memory_histories.specs.Windows.{is_open, after_response}
 use Rattle.memory_histories.specs.Regular.{is_before, overwrites, is_overwritten, is_left, is_covered}
-use Rattle.memory_histories.specs.Kept.{is_past, is_live, is_in, unit_of, is_dropped, answered_at, joined, answered_after, is_unanswered, is_seen, EndsBefore, IsTimely}
-use Rattle.memory_histories.proofs.Lists.{or_false, and_false, list_any-agree, list_any-same, list_any-never, list_any-map, list_any-filter, list_any-or, filter-agree, filter-filter, filter-map, map_kept, list_any-kept, filter-kept}
+use Rattle.memory_histories.specs.Kept.{is_past, is_live, is_in, unit_of, is_dropped, answered_at, joined, answered_after, is_unanswered}
+use Rattle.memory_histories.specs.Kept.{is_seen, EndsBefore, IsTimely}
+use Rattle.memory_histories.proofs.Lists.{or_false, and_false, list_any-agree, list_any-same, list_any-never, list_any-map, list_any-filter}
+use Rattle.memory_histories.proofs.Lists.{list_any-or, filter-agree, filter-filter, filter-map, map_kept, list_any-kept, filter-kept}
 
 -- Open stores. ----
 
@@ -23,7 +26,8 @@ open_none n s h = none_from s.ended (and_parts (is_none s.ended) (s.number == n)
 
 -- an open byte is not overwritten
 pub never_past : (stores : List StoreByte) (s : StoreByte) → s.ended ≡ None → is_past stores s ≡ false
-never_past stores s e = list_any-never (λ other. (other.address == s.address) && (is_before s.ended other.began && is_some other.ended)) (λ other. rw e (and_false (other.address == s.address))) stores
+never_past stores s e = list_any-never (λ other. (other.address == s.address) && (is_before s.ended other.began && is_some other.ended))
+    (λ other. rw e (and_false (other.address == s.address))) stores
 
 open_unanswered : (n : ℕ) (s : StoreByte) → is_open n s ≡ true → is_unanswered s ≡ true
 open_unanswered n s h = (and_parts (is_none s.ended) (s.number == n) h).0
@@ -47,10 +51,12 @@ before_began : (t b m : ℕ) (o : Option ℕ) → EndsBefore t b o → is_before
 before_began t b m None h k = absurd (false≢true k)
 before_began t b m (Some e) h k = let l = ltb-true e m k in let f = h.0 in omega arith
 
-pub overwritten_now : (t : ℕ) (stores : List StoreByte) → All (IsTimely t) stores → (s : StoreByte) → is_overwritten stores s t ≡ is_past stores s
+pub overwritten_now : (t : ℕ) (stores : List StoreByte) → All (IsTimely t) stores → (s : StoreByte)
+    → is_overwritten stores s t ≡ is_past stores s
 overwritten_now t stores a s =
     list_any-agree (overwrites s t) (λ other. (other.address == s.address) && (is_before s.ended other.began && is_some other.ended)) stores
-    (λ k d l. ap (λ x. ((get_or stores k d).address == s.address) && (is_before s.ended (get_or stores k d).began && x)) (before_now t (get_or stores k d).began (get_or stores k d).ended (a k d l).1))
+    (λ k d l. ap (λ x. ((get_or stores k d).address == s.address) && (is_before s.ended (get_or stores k d).began && x))
+    (before_now t (get_or stores k d).began (get_or stores k d).ended (a k d l).1))
 
 -- the stores that were answered at an address: the latest of them is live
 abbrev ended_at : ℕ → StoreByte → Bool
@@ -60,7 +66,8 @@ abbrev overwrites_now : StoreByte → StoreByte → Bool
 overwrites_now s other = (other.address == s.address) && (is_before s.ended other.began && is_some other.ended)
 
 -- what an overwriting store is: of the same address, answered, and requested later
-overwriting : (t a : ℕ) (s other : StoreByte) → IsTimely t s → ended_at a s ≡ true → overwrites_now s other ≡ true → (ended_at a other ≡ true) × (s.began < other.began)
+overwriting : (t a : ℕ) (s other : StoreByte) → IsTimely t s → ended_at a s ≡ true → overwrites_now s other ≡ true
+    → (ended_at a other ≡ true) × (s.began < other.began)
 overwriting t a s other y q o =
     let p = and_parts (other.address == s.address) (is_before s.ended other.began && is_some other.ended) o in
     let r = and_parts (is_before s.ended other.began) (is_some other.ended) p.1 in
@@ -68,12 +75,15 @@ overwriting t a s other y q o =
     let here : (other.address == a) ≡ true = rw same (and_parts (s.address == a) (is_some s.ended) q).0 in
     (and_from (other.address == a) (is_some other.ended) here r.1, before_began t s.began other.began s.ended y.1 r.0)
 
-seen : (a : ℕ) (stores : List StoreByte) (s : StoreByte) → Contains stores s → ended_at a s ≡ true → is_past stores s ≡ false → list_any (ended_at a) (filter (is_live stores) stores) ≡ true
+seen : (a : ℕ) (stores : List StoreByte) (s : StoreByte) → Contains stores s → ended_at a s ≡ true → is_past stores s ≡ false
+    → list_any (ended_at a) (filter (is_live stores) stores) ≡ true
 seen a stores s c q live =
     list_any-filter (is_live stores) (ended_at a) stores
-    ∙ list_any-from_Any (λ x. is_live stores x && ended_at a x) stores (c.0, s, c.1, c.2, and_from (is_live stores s) (ended_at a s) (not_from_false (is_past stores s) live) q)
+    ∙ list_any-from_Any (λ x. is_live stores x && ended_at a x) stores
+    (c.0, s, c.1, c.2, and_from (is_live stores s) (ended_at a s) (not_from_false (is_past stores s) live) q)
 
-climb : (t a : ℕ) (stores : List StoreByte) → All (IsTimely t) stores → (n : ℕ) (s : StoreByte) → Contains stores s → ended_at a s ≡ true → t ≤ s.began + n → list_any (ended_at a) (filter (is_live stores) stores) ≡ true
+climb : (t a : ℕ) (stores : List StoreByte) → All (IsTimely t) stores → (n : ℕ) (s : StoreByte) → Contains stores s → ended_at a s ≡ true
+    → t ≤ s.began + n → list_any (ended_at a) (filter (is_live stores) stores) ≡ true
 climb t a stores timely zero s c q h = let y = (All-contains (IsTimely t) stores s timely c).0 in absurd (omega arith)
 climb t a stores timely (suc n) s c q h = elim (cases_Bool (is_past stores s)) [
   | inl past ↦
@@ -84,14 +94,17 @@ climb t a stores timely (suc n) s c q h = elim (cases_Bool (is_past stores s)) [
   | inr live ↦ seen a stores s c q live
 ]
 
-some_live : (t a : ℕ) (stores : List StoreByte) → All (IsTimely t) stores → list_any (ended_at a) stores ≡ true → list_any (ended_at a) (filter (is_live stores) stores) ≡ true
+some_live : (t a : ℕ) (stores : List StoreByte) → All (IsTimely t) stores → list_any (ended_at a) stores ≡ true
+    → list_any (ended_at a) (filter (is_live stores) stores) ≡ true
 some_live t a stores timely h =
     let w = Any-from_list_any (ended_at a) stores h in
     climb t a stores timely t w.1 (w.0, w.2, w.3) w.4 (omega arith)
 
-some_stored : (a : ℕ) (stores : List StoreByte) → list_any (ended_at a) (filter (is_live stores) stores) ≡ true → list_any (ended_at a) stores ≡ true
+some_stored : (a : ℕ) (stores : List StoreByte) → list_any (ended_at a) (filter (is_live stores) stores) ≡ true
+    → list_any (ended_at a) stores ≡ true
 some_stored a stores h =
-    let w = Any-from_list_any (λ x. is_live stores x && ended_at a x) stores (sym (list_any-filter (is_live stores) (ended_at a) stores) ∙ h) in
+    let w = Any-from_list_any (λ x. is_live stores x && ended_at a x) stores
+    (sym (list_any-filter (is_live stores) (ended_at a) stores) ∙ h) in
     list_any-from_Any (ended_at a) stores (w.0, w.1, w.2, w.3, (and_parts (is_live stores w.1) (ended_at a w.1) w.4).1)
 
 same_tests : (x y : Bool) → (x ≡ true → y ≡ true) → (y ≡ true → x ≡ true) → x ≡ y
@@ -122,7 +135,8 @@ pub covered_now : (t : ℕ) (stores : List StoreByte) → All (IsTimely t) store
     → is_covered stores l ≡ list_any (λ s. s.address == l.address) (filter (is_seen (unit_of l.address) stores) stores)
 covered_now t stores timely l e =
     list_any-agree (λ s. (s.address == l.address) && is_before s.ended l.began) (ended_at l.address) stores
-    (λ k d i. ap (λ x. ((get_or stores k d).address == l.address) && x) (rw e (before_now t (get_or stores k d).began (get_or stores k d).ended (timely k d i).1)))
+    (λ k d i. ap (λ x. ((get_or stores k d).address == l.address) && x)
+    (rw e (before_now t (get_or stores k d).began (get_or stores k d).ended (timely k d i).1)))
     ∙ (same_tests (list_any (ended_at l.address) stores) (list_any (ended_at l.address) (filter (is_live stores) stores))
     (some_live t l.address stores timely) (some_stored l.address stores)
     ∙ seen_covers l.address stores)
@@ -144,7 +158,8 @@ left_live : (t : ℕ) (stores : List StoreByte) → All (IsTimely t) stores → 
 left_live t stores timely l b e =
     list_any-same (λ s. (s.address == l.address) && ((s.byte == b) && not (is_overwritten stores s l.began)))
     (λ s. is_live stores s && puts l.address b s)
-    (λ s. ap (λ x. (s.address == l.address) && ((s.byte == b) && not x)) (rw e (overwritten_now t stores timely s)) ∙ left_test (s.address == l.address) (s.byte == b) (is_past stores s)) stores
+    (λ s. ap (λ x. (s.address == l.address) && ((s.byte == b) && not x)) (rw e (overwritten_now t stores timely s))
+    ∙ left_test (s.address == l.address) (s.byte == b) (is_past stores s)) stores
 
 -- what a load may see is of an answered store, in its unit, or of an open one
 seen_test : (v x y u : Bool) (o : Option ℕ) → (o ≡ None → v ≡ true) → (x ≡ true → u ≡ true)
@@ -216,12 +231,20 @@ past_after : (n t : ℕ) (stores : List StoreByte) → All (IsTimely t) stores �
     ≡ (is_past stores s || list_any (drops s) (filter (is_open n) stores))
 past_after n t stores timely s =
     list_any-map (after_response n t) (overwrites_now (after_response n t s)) stores
-    ∙ list_any-agree (λ o. overwrites_now (after_response n t s) (after_response n t o)) (λ o. overwrites_now s o || (is_open n o && ((o.address == s.address) && is_before s.ended o.began))) stores
+    ∙ list_any-agree (λ o. overwrites_now (after_response n t s) (after_response n t o))
+    (λ o. overwrites_now s o || (is_open n o && ((o.address == s.address) && is_before s.ended o.began))) stores
     (λ k d l. let o = get_or stores k d in
-    rw (after-address n t o, after-address n t s, after-began n t o, after-some n t o, after-before n t o.began s (le_of_lt_now (timely k d l).0))
+    rw (
+      after-address n t o,
+      after-address n t s,
+      after-began n t o,
+      after-some n t o,
+      after-before n t o.began s (le_of_lt_now (timely k d l).0),
+    )
     (or_test (o.address == s.address) (is_before s.ended o.began) (is_some o.ended) (is_open n o)))
     ∙ (list_any-or (overwrites_now s) (λ o. is_open n o && ((o.address == s.address) && is_before s.ended o.began)) stores
-    ∙ ap (λ x. is_past stores s || x) (sym (list_any-filter (is_open n) (λ e. (e.address == s.address) && is_before s.ended e.began) stores)))
+    ∙ ap (λ x. is_past stores s || x) (sym (list_any-filter (is_open n) (λ e. (e.address == s.address) && is_before s.ended e.began)
+    stores)))
 
 -- what overwrites a byte lies in its unit
 dropped_test : (x u y : Bool) → (x ≡ true → u ≡ true) → (x && (u && y)) ≡ (x && y)
@@ -347,17 +370,27 @@ overwritten_answered n t m stores timely h s =
     list_any-map (after_response n t) (overwrites (after_response n t s) m) stores
     ∙ list_any-agree (λ o. overwrites (after_response n t s) m (after_response n t o)) (overwrites s m) stores
     (λ k d l. let o = get_or stores k d in
-    rw (after-address n t o, after-address n t s, after-began n t o, after-before n t o.began s (le_of_lt_now (timely k d l).0), after-before n t m o h) refl)
+    rw (
+      after-address n t o,
+      after-address n t s,
+      after-began n t o,
+      after-before n t o.began s (le_of_lt_now (timely k d l).0),
+      after-before n t m o h,
+    ) refl)
 
-pub left_answered : (n t : ℕ) (stores : List StoreByte) → All (IsTimely t) stores → (l : LoadByte) (b : ℕ) → l.began ≤ t → is_left (map (after_response n t) stores) l b ≡ is_left stores l b
+pub left_answered : (n t : ℕ) (stores : List StoreByte) → All (IsTimely t) stores → (l : LoadByte) (b : ℕ) → l.began ≤ t
+    → is_left (map (after_response n t) stores) l b ≡ is_left stores l b
 left_answered n t stores timely l b h =
     let f = after_response n t in
     list_any-map f (λ s. (s.address == l.address) && ((s.byte == b) && not (is_overwritten (map f stores) s l.began))) stores
-    ∙ list_any-same (λ s. ((f s).address == l.address) && (((f s).byte == b) && not (is_overwritten (map f stores) (f s) l.began))) (λ s. (s.address == l.address) && ((s.byte == b) && not (is_overwritten stores s l.began)))
+    ∙ list_any-same (λ s. ((f s).address == l.address) && (((f s).byte == b) && not (is_overwritten (map f stores) (f s) l.began)))
+    (λ s. (s.address == l.address) && ((s.byte == b) && not (is_overwritten stores s l.began)))
     (λ s. rw (after-address n t s, after-byte n t s, overwritten_answered n t l.began stores timely h s) refl) stores
 
-pub covered_answered : (n t : ℕ) (stores : List StoreByte) (l : LoadByte) → l.began ≤ t → is_covered (map (after_response n t) stores) l ≡ is_covered stores l
+pub covered_answered : (n t : ℕ) (stores : List StoreByte) (l : LoadByte) → l.began ≤ t
+    → is_covered (map (after_response n t) stores) l ≡ is_covered stores l
 covered_answered n t stores l h =
     list_any-map (after_response n t) (λ s. (s.address == l.address) && is_before s.ended l.began) stores
-    ∙ list_any-same (λ s. ((after_response n t s).address == l.address) && is_before (after_response n t s).ended l.began) (λ s. (s.address == l.address) && is_before s.ended l.began)
+    ∙ list_any-same (λ s. ((after_response n t s).address == l.address) && is_before (after_response n t s).ended l.began)
+    (λ s. (s.address == l.address) && is_before s.ended l.began)
     (λ s. rw (after-address n t s, after-before n t l.began s h) refl) stores

@@ -1,5 +1,6 @@
 -- A store of one part alone, and a load that alone has its number.
-use Rattle.std.proofs.Common.{◌≡◌, ℕ, zero, suc, ◌+◌, ◌<◌, Bool, true, false, ◌&&◌, ◌||◌, not, List, [], ◌∷◌, ◌++◌, take, drop, length, get_or, Some, None, refl, ap, ◌∙◌, inl, inr, arith, append-nil, add-one, drop-cons}
+use Rattle.std.proofs.Common.{◌≡◌, ℕ, zero, suc, ◌+◌, ◌<◌, Bool, true, false, ◌&&◌, ◌||◌, not, List, [], ◌∷◌, ◌++◌, take, drop, length}
+use Rattle.std.proofs.Common.{get_or, Some, None, refl, ap, ◌∙◌, inl, inr, arith, append-nil, add-one, drop-cons}
 use Rattle.std.specs.List.{All, filter, list_any, position}
 use Rattle.std.proofs.lemmas.Bool.{cases_Bool}
 use Rattle.std.proofs.lemmas.List.Elements.{All-nil, All-cons}
@@ -46,7 +47,8 @@ only_place q xs k d e f =
 nothing : StorePart
 nothing = record { number = 0; unit = 0; lanes = []; began = 0; ended = None }
 
-pub only : (n : ℕ) (ps : List StorePart) (k : ℕ) → position (is_open_part n) ps ≡ Some k → list_any (is_open_part n) (drop (k + 1) ps) ≡ false → IsOnly n ps k
+pub only : (n : ℕ) (ps : List StorePart) (k : ℕ) → position (is_open_part n) ps ≡ Some k
+    → list_any (is_open_part n) (drop (k + 1) ps) ≡ false → IsOnly n ps k
 only n ps k e f = only_place (is_open_part n) ps k nothing e f
 
 pub only_load : (n : ℕ) (os : List OpenLoad) (k : ℕ) → position (is_load_of n) os ≡ Some k
@@ -55,7 +57,8 @@ only_load n [] k e f = cc
 only_load n (o ∷ os) k e f = only_place (is_load_of n) (o ∷ os) k o e f
 
 -- its bytes, and those of the other open stores
-pub only_bytes : (n : ℕ) (ps : List StorePart) (k : ℕ) (d : StorePart) → IsOnly n ps k → filter (is_open n) (parts_bytes ps) ≡ part_bytes (get_or ps k d)
+pub only_bytes : (n : ℕ) (ps : List StorePart) (k : ℕ) (d : StorePart) → IsOnly n ps k
+    → filter (is_open n) (parts_bytes ps) ≡ part_bytes (get_or ps k d)
 only_bytes n ps k d h =
     let one : take 1 (drop k ps) ≡ get_or ps k d ∷ [] = ap (take 1) (drop-cons ps k d h.0) in
     filter_open n ps ∙ (ap parts_bytes (h.1.0 ∙ one) ∙ append-nil (part_bytes (get_or ps k d)))

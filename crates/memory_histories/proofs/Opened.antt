@@ -1,5 +1,8 @@
 -- The open loads, and the bytes that they stand for.
-use Rattle.std.proofs.Common.{◌≡◌, ℕ, zero, suc, ◌+◌, ◌-◌, ◌*◌, ◌<◌, ◌≤◌, Bool, true, false, ◌&&◌, ◌||◌, not, if◌then◌else◌, ◌==◌, nat_le, nat_lt, min, List, [], ◌∷◌, ◌++◌, map, drop, length, length-append, length-drop, append_assoc, append-nil, add-one, drop-cons, drop-set-lt, take, set, get_or, Option, None, Some, slice_get, refl, sym, ap, ap₂, ◌∙◌, inl, inr, arith}
+use Rattle.std.proofs.Common.{◌≡◌, ℕ, zero, suc, ◌+◌, ◌-◌, ◌*◌, ◌<◌, ◌≤◌, Bool, true, false, ◌&&◌, ◌||◌, not, if◌then◌else◌, ◌==◌, nat_le}
+use Rattle.std.proofs.Common.{nat_lt, min, List, [], ◌∷◌, ◌++◌, map, drop, length, length-append, length-drop, append_assoc, append-nil}
+use Rattle.std.proofs.Common.{add-one, drop-cons, drop-set-lt, take, set, get_or, Option, None, Some, slice_get, refl, sym, ap, ap₂, ◌∙◌}
+use Rattle.std.proofs.Common.{inl, inr, arith}
 use Rattle.std.specs.List.{filter, find, fold, list_any, zip, position_from}
 use Rattle.std.specs.Option.{option_map}
 use Rattle.std.specs.Prelude.{IfSome}
@@ -21,7 +24,8 @@ use Rattle.memory_histories.specs.Windows.{load_bytes}
 use Rattle.memory_histories.specs.Regular.{wrong_place, load_response_fault}
 use Rattle.memory_histories.specs.Kept.{opened_at, after_stores, is_open_of, is_open_at, may_have}
 use Rattle.memory_histories.specs.Parts.{part_bytes, parts_bytes, eight}
-use Rattle.memory_histories.specs.Loads.{set_bytes, load_open, loads_open, is_load_of, counted, shown_sets, is_near, or_next, first_set_at, wrong_in, behind, response_fault}
+use Rattle.memory_histories.specs.Loads.{set_bytes, load_open, loads_open, is_load_of, counted, shown_sets, is_near, or_next, first_set_at}
+use Rattle.memory_histories.specs.Loads.{wrong_in, behind, response_fault}
 use Rattle.memory_histories.proofs.Lists.{and_false, position-zip}
 use Rattle.memory_histories.proofs.Lanes.{lane_before, lane_past}
 use Rattle.memory_histories.proofs.Pieces.{take_most, with_part, all_shown_more}
@@ -46,11 +50,13 @@ any_open_load k (o ∷ os) =
     ∙ ap₂ (λ x y. x || y) (any_set k o.number o.address o.began o.sets.items) (any_open_load k os)
 
 -- a test by the number alone
-all_sets : (q : OpenByte → Bool) (c : Bool) (n a t : ℕ) (ss : List ByteSet) → ((x : ℕ) (s : ByteSet) → q (record { load = record { number = n; address = x; began = t }; may = s }) ≡ c)
+all_sets : (q : OpenByte → Bool) (c : Bool) (n a t : ℕ) (ss : List ByteSet)
+    → ((x : ℕ) (s : ByteSet) → q (record { load = record { number = n; address = x; began = t }; may = s }) ≡ c)
     → filter q (set_bytes n a t ss) ≡ (if c then set_bytes n a t ss else [])
 all_sets q true n a t [] h = refl
 all_sets q false n a t [] h = refl
-all_sets q true n a t (s ∷ ss) h = rw (h a s) (ap (λ xs. (record { load = record { number = n; address = a; began = t }; may = s }) ∷ xs) (all_sets q true n (a + 1) t ss h))
+all_sets q true n a t (s ∷ ss) h = rw (h a s) (ap (λ xs. (record { load = record { number = n; address = a; began = t }; may = s }) ∷ xs)
+    (all_sets q true n (a + 1) t ss h))
 all_sets q false n a t (s ∷ ss) h = rw (h a s) (all_sets q false n (a + 1) t ss h)
 
 pub of_load : (k : ℕ) (o : OpenLoad) → filter (is_open_of k) (load_open o) ≡ (if is_load_of k o then load_open o else [])
@@ -65,7 +71,8 @@ filter_loads k (o ∷ os) = filter-append (is_open_of k) (load_open o) (loads_op
       rw e (ap₂ (λ x y. x ++ y) its (filter_loads k os))
 ]
 
-pub filter_ended : (k : ℕ) (os : List OpenLoad) → filter (λ o. not (is_open_of k o)) (loads_open os) ≡ loads_open (filter (λ o. not (is_load_of k o)) os)
+pub filter_ended : (k : ℕ) (os : List OpenLoad) → filter (λ o. not (is_open_of k o)) (loads_open os)
+    ≡ loads_open (filter (λ o. not (is_load_of k o)) os)
 filter_ended k [] = refl
 filter_ended k (o ∷ os) =
     let q : OpenByte → Bool = λ (b : OpenByte). not (is_open_of k b) in
@@ -82,11 +89,14 @@ length-set_bytes n a t [] = refl
 length-set_bytes n a t (s ∷ ss) = ap suc (length-set_bytes n (a + 1) t ss)
 
 pub count_bytes : (k : ℕ) (os : List OpenLoad) (total : ℕ) → total ≤ 340282366920938463463374607431768211455
-    → fold counted total (filter (is_load_of k) os) ≡ min (total + length (filter (is_open_of k) (loads_open os))) 340282366920938463463374607431768211455
+    → fold counted total (filter (is_load_of k) os) ≡ min (total + length (filter (is_open_of k) (loads_open os)))
+    340282366920938463463374607431768211455
 count_bytes k [] total h = omega arith
 count_bytes k (o ∷ os) total h =
-    let split : length (filter (is_open_of k) (loads_open (o ∷ os))) ≡ length (filter (is_open_of k) (load_open o)) + length (filter (is_open_of k) (loads_open os)) =
-    ap length (filter-append (is_open_of k) (load_open o) (loads_open os)) ∙ length-append (filter (is_open_of k) (load_open o)) (filter (is_open_of k) (loads_open os)) in
+    let split : length (filter (is_open_of k) (loads_open (o ∷ os))) ≡ length (filter (is_open_of k) (load_open o)) + length
+    (filter (is_open_of k) (loads_open os)) =
+    ap length (filter-append (is_open_of k) (load_open o) (loads_open os)) ∙ length-append (filter (is_open_of k) (load_open o))
+    (filter (is_open_of k) (loads_open os)) in
     elim (cases_Bool (is_load_of k o)) [
       | inl e ↦
           let its : length (filter (is_open_of k) (load_open o)) ≡ length o.sets.items =
@@ -99,7 +109,8 @@ count_bytes k (o ∷ os) total h =
           rw e (omega arith)
     ]
 
-pub same_response : (xs : List OpenByte) (bytes : List ℕ) (count : ℕ) (place : Option ℕ) → count ≡ min (0 + length xs) 340282366920938463463374607431768211455
+pub same_response : (xs : List OpenByte) (bytes : List ℕ) (count : ℕ) (place : Option ℕ)
+    → count ≡ min (0 + length xs) 340282366920938463463374607431768211455
     → length bytes < 18446744073709551616 → place ≡ wrong_place may_have xs bytes
     → response_fault count (length bytes) place ≡ load_response_fault may_have xs bytes
 same_response xs bytes count place e h p = elim (cases_lt (length xs) 340282366920938463463374607431768211455) [
@@ -149,7 +160,8 @@ zip_nil (y ∷ ys) i = refl
 
 from_sets : (n a t : ℕ) (ss : List ByteSet) (ys : List OpenByte) (bs : List ℕ) (i : ℕ)
     → position_from is_bad i (zip (set_bytes n a t ss ++ ys) bs)
-    ≡ next (position_from is_wrong i (zip ss bs)) (position_from is_bad (i + min (length ss) (length bs)) (zip ys (drop (min (length ss) (length bs)) bs)))
+    ≡ next (position_from is_wrong i (zip ss bs)) (position_from is_bad (i + min (length ss) (length bs))
+    (zip ys (drop (min (length ss) (length bs)) bs)))
 from_sets n a t [] ys bs i =
     let z : min 0 (length bs) ≡ 0 = omega arith in
     let e : i + min 0 (length bs) ≡ i = omega arith in
@@ -220,20 +232,25 @@ module _ (k : ℕ) (os : List OpenLoad) (n : ℕ) (o : OpenLoad) (bs : List ℕ)
 
   at_load : position_from is_bad i (zip (filter (is_open_of k) (loads_open (drop n os))) bs)
       ≡ next (option_map (λ p. i + p) (wrong_in k o bs))
-      (position_from is_bad (i + (length bs - length (behind k o bs))) (zip (filter (is_open_of k) (loads_open (drop (n + 1) os))) (behind k o bs)))
-  at_load = ap (λ ls. position_from is_bad i (zip (filter (is_open_of k) (loads_open ls)) bs)) left_from ∙ from_load k o (drop (n + 1) os) bs i
+      (position_from is_bad (i + (length bs - length (behind k o bs)))
+      (zip (filter (is_open_of k) (loads_open (drop (n + 1) os))) (behind k o bs)))
+  at_load = ap (λ ls. position_from is_bad i (zip (filter (is_open_of k) (loads_open ls)) bs)) left_from
+      ∙ from_load k o (drop (n + 1) os) bs i
 
   pub found_wrong : (place : ℕ) → Some place ≡ wrong_in k o bs
       → Some (i + place) ≡ position_from is_bad i (zip (filter (is_open_of k) (loads_open (drop n os))) bs)
   found_wrong place e =
-      let rest = position_from is_bad (i + (length bs - length (behind k o bs))) (zip (filter (is_open_of k) (loads_open (drop (n + 1) os))) (behind k o bs)) in
+      let rest = position_from is_bad (i + (length bs - length (behind k o bs)))
+      (zip (filter (is_open_of k) (loads_open (drop (n + 1) os))) (behind k o bs)) in
       ap (λ w. next (option_map (λ p. i + p) w) rest) e ∙ sym at_load
 
   pub not_wrong : ◌≡◌ {A = Option ℕ} None (wrong_in k o bs)
-      → position_from is_bad (i + (length bs - length (behind k o bs))) (zip (filter (is_open_of k) (loads_open (drop (n + 1) os))) (behind k o bs))
+      → position_from is_bad (i + (length bs - length (behind k o bs)))
+      (zip (filter (is_open_of k) (loads_open (drop (n + 1) os))) (behind k o bs))
       ≡ position_from is_bad i (zip (filter (is_open_of k) (loads_open (drop n os))) bs)
   not_wrong e =
-      let rest = position_from is_bad (i + (length bs - length (behind k o bs))) (zip (filter (is_open_of k) (loads_open (drop (n + 1) os))) (behind k o bs)) in
+      let rest = position_from is_bad (i + (length bs - length (behind k o bs)))
+      (zip (filter (is_open_of k) (loads_open (drop (n + 1) os))) (behind k o bs)) in
       ap (λ w. next (option_map (λ p. i + p) w) rest) e ∙ sym at_load
 
 pub no_longer : (k : ℕ) (o : OpenLoad) (bs : List ℕ) → length (behind k o bs) ≤ length bs
@@ -244,14 +261,17 @@ no_longer k o bs = elim (cases_Bool (is_load_of k o)) [
 
 -- Sets. ----
 
-pub shown_load : (p : StorePart) (n a t : ℕ) (ss : List ByteSet) → set_bytes n a t (shown_sets p a ss) ≡ map (after_stores (part_bytes p)) (set_bytes n a t ss)
+pub shown_load : (p : StorePart) (n a t : ℕ) (ss : List ByteSet)
+    → set_bytes n a t (shown_sets p a ss) ≡ map (after_stores (part_bytes p)) (set_bytes n a t ss)
 shown_load p n a t [] = refl
 shown_load p n a t (s ∷ ss) =
-    ap₂ (λ m os. (record { load = record { number = n; address = a; began = t }; may = m }) ∷ os) (sym (with_part p a s)) (shown_load p n (a + 1) t ss)
+    ap₂ (λ m os. (record { load = record { number = n; address = a; began = t }; may = m }) ∷ os) (sym (with_part p a s))
+    (shown_load p n (a + 1) t ss)
 
 far_behind : (p : StorePart) (a : ℕ) (ss : List ByteSet) → a + length ss ≤ 8 * p.unit → shown_sets p a ss ≡ ss
 far_behind p a [] h = refl
-far_behind p a (s ∷ ss) h = rw (lane_before (8 * p.unit) (eight p) a (omega arith)) (ap (λ xs. s ∷ xs) (far_behind p (a + 1) ss (omega arith)))
+far_behind p a (s ∷ ss) h = rw (lane_before (8 * p.unit) (eight p) a (omega arith))
+    (ap (λ xs. s ∷ xs) (far_behind p (a + 1) ss (omega arith)))
 
 far_before : (p : StorePart) (a : ℕ) (ss : List ByteSet) → 8 * p.unit + 8 ≤ a → shown_sets p a ss ≡ ss
 far_before p a [] h = refl
@@ -270,14 +290,16 @@ far p a ss h = elim (cases_lt (8 * p.unit) (a + length ss)) [
 
 pub loads-append : (xs ys : List OpenLoad) → loads_open (xs ++ ys) ≡ loads_open xs ++ loads_open ys
 loads-append [] ys = refl
-loads-append (o ∷ os) ys = ap (λ zs. load_open o ++ zs) (loads-append os ys) ∙ sym (append_assoc (load_open o) (loads_open os) (loads_open ys))
+loads-append (o ∷ os) ys = ap (λ zs. load_open o ++ zs) (loads-append os ys)
+    ∙ sym (append_assoc (load_open o) (loads_open os) (loads_open ys))
 
 -- one part more is shown
 pub part_shown : (ps : List StorePart) (i : ℕ) (d : StorePart) (v w : OpenLoad) → i < length ps
     → load_open w ≡ map (after_stores (part_bytes (get_or ps i d))) (load_open v)
     → map (after_stores (parts_bytes (drop (i + 1) ps))) (load_open w) ≡ map (after_stores (parts_bytes (drop i ps))) (load_open v)
 part_shown ps i d v w within e =
-    rw (add-one, drop-cons ps i d within, e) (sym (all_shown_more (part_bytes (get_or ps i d)) (parts_bytes (drop (suc i) ps)) (load_open v)))
+    rw (add-one, drop-cons ps i d within, e) (sym (all_shown_more (part_bytes (get_or ps i d)) (parts_bytes (drop (suc i) ps))
+    (load_open v)))
 
 -- one load more is shown
 pub one_shown : (f : OpenByte → OpenByte) (os : List OpenLoad) (i : ℕ) (v d : OpenLoad) → i < length os
@@ -291,7 +313,8 @@ one_shown f os i v d h e =
     loads-append (take i os) (v ∷ []) ∙ ap (λ xs. loads_open (take i os) ++ xs) (append-nil (load_open v)) in
     let left : map f (loads_open (drop i os)) ≡ load_open v ++ map f (loads_open (drop (suc i) os)) =
     ap (λ os. map f (loads_open os)) (drop-cons os i d h)
-    ∙ (map-append f (load_open (get_or os i d)) (loads_open (drop (suc i) os)) ∙ ap (λ xs. xs ++ map f (loads_open (drop (suc i) os))) (sym e)) in
+    ∙ (map-append f (load_open (get_or os i d)) (loads_open (drop (suc i) os)) ∙ ap (λ xs. xs ++ map f (loads_open (drop (suc i) os)))
+    (sym e)) in
     rw (t, add-one, r, all) (append_assoc (loads_open (take i os)) (load_open v) (map f (loads_open (drop (suc i) os)))
     ∙ sym (ap (λ xs. loads_open (take i os) ++ xs) left))
 
@@ -304,7 +327,8 @@ same_none : (c : Bool) → ◌≡◌ {A = Option ByteSet} None (if c then None e
 same_none true = refl
 same_none false = refl
 
-find_none : (k x n a t : ℕ) (ss : List ByteSet) → (n == k) ≡ false → option_map (λ o. o.may) (find (is_open_at k x) (set_bytes n a t ss)) ≡ None
+find_none : (k x n a t : ℕ) (ss : List ByteSet) → (n == k) ≡ false → option_map (λ o. o.may) (find (is_open_at k x) (set_bytes n a t ss))
+    ≡ None
 find_none k x n a t [] h = refl
 find_none k x n a t (s ∷ ss) h = rw h (find_none k x n (a + 1) t ss h)
 

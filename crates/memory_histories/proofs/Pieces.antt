@@ -1,5 +1,7 @@
 -- The parts of stores, and the bytes that they stand for.
-use Rattle.std.proofs.Common.{◌≡◌, ◌≢◌, ℕ, zero, suc, ◌+◌, ◌*◌, ◌/◌, ◌<◌, ◌≤◌, Bool, true, false, ◌&&◌, ◌||◌, not, if◌then◌else◌, ◌==◌, List, [], ◌∷◌, ◌++◌, map, take, length, Option, None, get_or, refl, sym, ap, ap₂, ◌∙◌, inl, inr, arith, append_assoc, append-nil, Vec, Global, Result, Ok, Err}
+use Rattle.std.proofs.Common.{◌≡◌, ◌≢◌, ℕ, zero, suc, ◌+◌, ◌*◌, ◌/◌, ◌<◌, ◌≤◌, Bool, true, false, ◌&&◌, ◌||◌, not, if◌then◌else◌, ◌==◌}
+use Rattle.std.proofs.Common.{List, [], ◌∷◌, ◌++◌, map, take, length, Option, None, get_or, refl, sym, ap, ap₂, ◌∙◌, inl, inr, arith}
+use Rattle.std.proofs.Common.{append_assoc, append-nil, Vec, Global, Result, Ok, Err}
 use Rattle.std.specs.Prelude.{is_some, IfOk}
 use Rattle.std.specs.List.{filter, list_any, fold}
 use Rattle.std.proofs.lemmas.Bool.{cases_Bool, cases_lt, eq-eqb, eqb-true, eqb-false}
@@ -14,9 +16,12 @@ use Rattle.memory_histories.specs.Sets.{with_byte}
 use Rattle.memory_histories.specs.Windows.{is_open}
 use Rattle.memory_histories.specs.Regular.{is_before}
 use Rattle.memory_histories.specs.Kept.{with_stores, is_covered_by, is_in, is_dropped, answered_at, answered_after, after_stores}
-use Rattle.memory_histories.specs.Parts.{lane_bytes, lane_at, eight, part_bytes, parts_bytes, is_open_part, has_lane, is_open_with, part_at, with_known, cleared, cleared_lanes, without_part, without_parts, answered_part, is_part_in, joined_parts}
+use Rattle.memory_histories.specs.Parts.{lane_bytes, lane_at, eight, part_bytes, parts_bytes, is_open_part, has_lane, is_open_with, part_at}
+use Rattle.memory_histories.specs.Parts.{with_known, cleared, cleared_lanes, without_part, without_parts, answered_part, is_part_in}
+use Rattle.memory_histories.specs.Parts.{joined_parts}
 use Rattle.memory_histories.proofs.Lists.{and_false, filter-agree, filter-filter}
-use Rattle.memory_histories.proofs.Lanes.{byte_at, lane_before, lane_past, set_lanes, covered_lanes, answered_lanes, any_lane, all_pass, none_passes, same_pass, any_at, clear_lanes, no_lane}
+use Rattle.memory_histories.proofs.Lanes.{byte_at, lane_before, lane_past, set_lanes, covered_lanes, answered_lanes, any_lane, all_pass}
+use Rattle.memory_histories.proofs.Lanes.{none_passes, same_pass, any_at, clear_lanes, no_lane}
 
 pub take_most : (n : ℕ) (ls : List (Option ℕ)) → length (take n ls) ≤ n
 take_most zero ls = omega arith
@@ -35,7 +40,8 @@ any_open k (p ∷ ps) =
     list_any-append (is_open k) (part_bytes p) (parts_bytes ps)
     ∙ ap₂ (λ x y. x || y) (any_lane p.number p.began p.ended k (8 * p.unit) (eight p)) (any_open k ps)
 
-filter_parts : (q : StoreByte → Bool) (r : StorePart → Bool) → ((p : StorePart) → filter q (part_bytes p) ≡ (if r p then part_bytes p else []))
+filter_parts : (q : StoreByte → Bool) (r : StorePart → Bool)
+    → ((p : StorePart) → filter q (part_bytes p) ≡ (if r p then part_bytes p else []))
     → (ps : List StorePart) → filter q (parts_bytes ps) ≡ parts_bytes (filter r ps)
 filter_parts q r h [] = refl
 filter_parts q r h (p ∷ ps) = filter-append q (part_bytes p) (parts_bytes ps) ∙ elim (cases_Bool (r p)) [
@@ -176,7 +182,8 @@ drop_part u e p =
               (λ x b l m. ap not (and_false (is_some (part_at e x)))))
           | inl y ↦
               let same : p.unit ≡ e.unit = eqb-true p.unit e.unit w in
-              rw y (same_pass n t o (λ s. not (is_some (part_at e s.address) && true)) (λ s. not (is_some (lane_at a (eight e) s.address))) a (eight p)
+              rw y (same_pass n t o (λ s. not (is_some (part_at e s.address) && true)) (λ s. not (is_some (lane_at a (eight e) s.address)))
+              a (eight p)
               (λ x b l m. ap not (and_true (is_some (part_at e x))) ∙ ap (λ v. not (is_some (lane_at (8 * v) (eight e) x))) (sym same))
               ∙ (clear_lanes n t o a (eight e) (eight p) ∙ sym (ap (λ xs. lane_bytes n a xs t o) (take_cleared 8 e.lanes p.lanes))))
         ])
@@ -217,7 +224,8 @@ answered_parts m (p ∷ ps) =
     ∙ ap₂ (λ x y. x ++ y) (answered_lanes p.number p.began p.ended m (8 * p.unit) (eight p)) (answered_parts m ps)
 
 pub after_parts : (m u : ℕ) (es ps : List StorePart)
-    → parts_bytes (filter has_lane (map (without_parts u es) ps) ++ joined_parts m es u) ≡ answered_after m (parts_bytes es) u (parts_bytes ps)
+    → parts_bytes (filter has_lane (map (without_parts u es) ps) ++ joined_parts m es u) ≡ answered_after m (parts_bytes es) u
+    (parts_bytes ps)
 after_parts m u es ps =
     parts-append (filter has_lane (map (without_parts u es) ps)) (joined_parts m es u)
     ∙ ap₂ (λ x y. x ++ y) (without_empty (map (without_parts u es) ps) ∙ sym (drop_all u es ps))
@@ -225,14 +233,16 @@ after_parts m u es ps =
 
 -- the same of one part, in its own unit
 pub after_part : (m : ℕ) (e : StorePart) (ps : List StorePart)
-    → parts_bytes (filter has_lane (map (without_part e.unit e) ps) ++ answered_part m e ∷ []) ≡ answered_after m (part_bytes e) e.unit (parts_bytes ps)
+    → parts_bytes (filter has_lane (map (without_part e.unit e) ps) ++ answered_part m e ∷ []) ≡ answered_after m (part_bytes e) e.unit
+    (parts_bytes ps)
 after_part m e ps =
     let its : joined_parts m (e ∷ []) e.unit ≡ answered_part m e ∷ [] = rw (eq-eqb e.unit e.unit refl) refl in
     let all = after_parts m e.unit (e ∷ []) ps in
     rw (its, append-nil (part_bytes e)) at all
 
 -- the parts of the store that is open under a number
-pub opened_parts : {E : Type 0} (r : Result (Vec StorePart Global) E) (k : ℕ) (ps : List StorePart) → IfOk r (λ v. v.items ≡ filter (is_open_part k) ps)
+pub opened_parts : {E : Type 0} (r : Result (Vec StorePart Global) E) (k : ℕ) (ps : List StorePart)
+    → IfOk r (λ v. v.items ≡ filter (is_open_part k) ps)
     → IfOk r (λ v. parts_bytes v.items ≡ filter (is_open k) (parts_bytes ps))
 opened_parts (Ok v) k ps h = ap parts_bytes h ∙ sym (filter_open k ps)
 opened_parts (Err e) k ps h = tt

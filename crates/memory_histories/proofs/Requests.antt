@@ -1,5 +1,6 @@
 -- What a request changes for the loads that are open, and what a load that is requested now may return.
-use Rattle.std.proofs.Common.{◌≡◌, ℕ, ◌+◌, ◌/◌, ◌%◌, Bool, true, false, ◌&&◌, ◌||◌, not, ◌==◌, List, [], ◌∷◌, ◌++◌, Option, None, Some, get_or, slice_get, refl, sym, ap, ap₂, ◌∙◌, inl, inr, append-nil}
+use Rattle.std.proofs.Common.{◌≡◌, ℕ, ◌+◌, ◌/◌, ◌%◌, Bool, true, false, ◌&&◌, ◌||◌, not, ◌==◌, List, [], ◌∷◌, ◌++◌, Option, None, Some}
+use Rattle.std.proofs.Common.{get_or, slice_get, refl, sym, ap, ap₂, ◌∙◌, inl, inr, append-nil}
 use Rattle.std.specs.Prelude.{is_none, is_some}
 use Rattle.std.specs.List.{All, filter, list_any}
 use Rattle.std.proofs.Math.Bool.{or_assoc}
@@ -14,8 +15,10 @@ use Rattle.memory_histories.specs.declared.sets.ByteSet.{ByteSet}
 use Rattle.memory_histories.specs.Sets.{has, with_byte, no_bytes}
 use Rattle.memory_histories.specs.Windows.{store_bytes}
 use Rattle.memory_histories.specs.Regular.{is_before, overwrites, is_overwritten, is_left, is_covered, is_initial, may_return_byte}
-use Rattle.memory_histories.specs.Kept.{initial_set, with_stores, is_covered_by, first_set, opened, unit_of, is_in, is_past, is_live, is_unanswered, is_seen, IsTimely}
-use Rattle.memory_histories.proofs.Lists.{or_false, and_false, list_any-agree, list_any-same, list_any-never, filter-agree, filter-always, filter-never}
+use Rattle.memory_histories.specs.Kept.{initial_set, with_stores, is_covered_by, first_set, opened, unit_of, is_in, is_past, is_live}
+use Rattle.memory_histories.specs.Kept.{is_unanswered, is_seen, IsTimely}
+use Rattle.memory_histories.proofs.Lists.{or_false, and_false, list_any-agree, list_any-same, list_any-never, filter-agree, filter-always}
+use Rattle.memory_histories.proofs.Lists.{filter-never}
 use Rattle.memory_histories.proofs.ByteSets.{has-with_byte, has-no_bytes, has-all_bytes}
 use Rattle.memory_histories.proofs.Live.{covered_now, left_now, puts}
 
@@ -46,23 +49,29 @@ store_bytes-new n a [] e t = All-nil (IsNew t)
 store_bytes-new n a (b ∷ bs) e t =
     let more = store_bytes-new n (a + 1) bs (e / 2) t in
     elim (cases_Bool (e % 2 == 1)) [
-      | inl h ↦ rw h (All-cons (IsNew t) (record { number = n; address = a; byte = b; began = t; ended = None }) (store_bytes n (a + 1) bs (e / 2) t) (refl, refl) more)
+      | inl h ↦ rw h (All-cons (IsNew t) (record { number = n; address = a; byte = b; began = t; ended = None })
+          (store_bytes n (a + 1) bs (e / 2) t) (refl, refl) more)
       | inr h ↦ rw h more
     ]
 
 -- a test that no open byte passes gives what it gave before
-any_before : (p : StoreByte → Bool) → ((s : StoreByte) → s.ended ≡ None → p s ≡ false) → (t : ℕ) (stores added : List StoreByte) → All (IsNew t) added → list_any p (stores ++ added) ≡ list_any p stores
+any_before : (p : StoreByte → Bool) → ((s : StoreByte) → s.ended ≡ None → p s ≡ false) → (t : ℕ) (stores added : List StoreByte)
+    → All (IsNew t) added → list_any p (stores ++ added) ≡ list_any p stores
 any_before p h t stores added new =
-    list_any-append p stores added ∙ (ap (λ x. list_any p stores || x) (list_any_none p added (λ k d l. h (get_or added k d) (new k d l).1)) ∙ or_false (list_any p stores))
+    list_any-append p stores added ∙ (ap (λ x. list_any p stores || x) (list_any_none p added (λ k d l. h (get_or added k d) (new k d l).1))
+    ∙ or_false (list_any p stores))
 
-past_before : (t : ℕ) (stores added : List StoreByte) → All (IsNew t) added → (s : StoreByte) → is_past (stores ++ added) s ≡ is_past stores s
+past_before : (t : ℕ) (stores added : List StoreByte) → All (IsNew t) added → (s : StoreByte)
+    → is_past (stores ++ added) s ≡ is_past stores s
 past_before t stores added new s =
     any_before (λ o. (o.address == s.address) && (is_before s.ended o.began && is_some o.ended))
     (λ o e. rw (e, and_false (is_before s.ended o.began)) (and_false (o.address == s.address))) t stores added new
 
-overwritten_before : (m t : ℕ) (stores added : List StoreByte) → All (IsNew t) added → (s : StoreByte) → is_overwritten (stores ++ added) s m ≡ is_overwritten stores s m
+overwritten_before : (m t : ℕ) (stores added : List StoreByte) → All (IsNew t) added → (s : StoreByte)
+    → is_overwritten (stores ++ added) s m ≡ is_overwritten stores s m
 overwritten_before m t stores added new s =
-    any_before (overwrites s m) (λ o e. rw (e, and_false (is_before s.ended o.began)) (and_false (o.address == s.address))) t stores added new
+    any_before (overwrites s m) (λ o e. rw (e, and_false (is_before s.ended o.began)) (and_false (o.address == s.address))) t stores added
+    new
 
 never_overwritten : (stores : List StoreByte) (s : StoreByte) (m : ℕ) → s.ended ≡ None → is_overwritten stores s m ≡ false
 never_overwritten stores s m e = list_any-never (overwrites s m) (λ o. rw e (and_false (o.address == s.address))) stores
@@ -91,18 +100,24 @@ left_requested t stores added new l b =
     let before = list_any-same p (λ s. (s.address == l.address) && ((s.byte == b) && not (is_overwritten stores s l.began)))
     (λ s. ap (λ x. (s.address == l.address) && ((s.byte == b) && not x)) (overwritten_before l.began t stores added new s)) stores in
     let behind = list_any-agree p (λ s. (s.address == l.address) && (s.byte == b)) added
-    (λ k d i. let s = get_or added k d in ap (λ x. (s.address == l.address) && ((s.byte == b) && not x)) (never_overwritten (stores ++ added) s l.began (new k d i).1) ∙ ap (λ x. (s.address == l.address) && x) (and_true (s.byte == b))) in
+    (λ k d i. let s = get_or added k d in ap (λ x. (s.address == l.address) && ((s.byte == b) && not x))
+    (never_overwritten (stores ++ added) s l.began (new k d i).1) ∙ ap (λ x. (s.address == l.address) && x) (and_true (s.byte == b))) in
     list_any-append p stores added ∙ (ap (λ x. x || list_any p added) before ∙ ap (λ x. is_left stores l b || x) behind)
 
-pub covered_requested : (t : ℕ) (stores added : List StoreByte) → All (IsNew t) added → (l : LoadByte) → is_covered (stores ++ added) l ≡ is_covered stores l
-covered_requested t stores added new l = any_before (λ s. (s.address == l.address) && is_before s.ended l.began) (λ s e. rw e (and_false (s.address == l.address))) t stores added new
+pub covered_requested : (t : ℕ) (stores added : List StoreByte) → All (IsNew t) added → (l : LoadByte)
+    → is_covered (stores ++ added) l ≡ is_covered stores l
+covered_requested t stores added new l = any_before (λ s. (s.address == l.address) && is_before s.ended l.began)
+    (λ s e. rw e (and_false (s.address == l.address))) t stores added new
 
 -- Sets. ----
 
-pub has-with_stores : (stores : List StoreByte) (a : ℕ) (set : ByteSet) (b : ℕ) → has (with_stores stores a set) b ≡ (has set b || list_any (λ s. (s.address == a) && (s.byte == b)) stores)
+pub has-with_stores : (stores : List StoreByte) (a : ℕ) (set : ByteSet) (b : ℕ)
+    → has (with_stores stores a set) b ≡ (has set b || list_any (λ s. (s.address == a) && (s.byte == b)) stores)
 has-with_stores [] a set b = sym (or_false (has set b))
 has-with_stores (s ∷ ss) a set b = elim (cases_Bool (s.address == a)) [
-  | inl e ↦ rw e (has-with_stores ss a (with_byte set s.byte) b ∙ (ap (λ x. x || list_any (λ o. (o.address == a) && (o.byte == b)) ss) (has-with_byte set s.byte b) ∙ or_assoc (has set b) (s.byte == b) (list_any (λ o. (o.address == a) && (o.byte == b)) ss)))
+  | inl e ↦ rw e (has-with_stores ss a (with_byte set s.byte) b
+      ∙ (ap (λ x. x || list_any (λ o. (o.address == a) && (o.byte == b)) ss) (has-with_byte set s.byte b)
+      ∙ or_assoc (has set b) (s.byte == b) (list_any (λ o. (o.address == a) && (o.byte == b)) ss)))
   | inr e ↦ rw e (has-with_stores ss a set b)
 ]
 
@@ -150,9 +165,12 @@ or_and false false true = refl
 or_and false false false = refl
 
 -- and that of a load that is open when a store is requested
-pub requested_exact : (image : List ℕ) (r : Rest) (t : ℕ) (stores added : List StoreByte) → All (IsNew t) added → (l : LoadByte) (set : ByteSet) (b : ℕ)
-    → has set b ≡ may_return_byte image r stores l b → has (with_stores added l.address set) b ≡ may_return_byte image r (stores ++ added) l b
+pub requested_exact : (image : List ℕ) (r : Rest) (t : ℕ) (stores added : List StoreByte) → All (IsNew t) added
+    → (l : LoadByte) (set : ByteSet) (b : ℕ)
+    → has set b ≡ may_return_byte image r stores l b
+    → has (with_stores added l.address set) b ≡ may_return_byte image r (stores ++ added) l b
 requested_exact image r t stores added new l set b h =
     has-with_stores added l.address set b
     ∙ rw (h, left_requested t stores added new l b, covered_requested t stores added new l)
-    (or_and (is_left stores l b) (list_any (λ s. (s.address == l.address) && (s.byte == b)) added) (is_initial (slice_get image l.address) r b && not (is_covered stores l)))
+    (or_and (is_left stores l b) (list_any (λ s. (s.address == l.address) && (s.byte == b)) added)
+    (is_initial (slice_get image l.address) r b && not (is_covered stores l)))

@@ -1,5 +1,7 @@
 -- The sets of a load's bytes once parts of stores are shown to it.
-use Rattle.std.proofs.Common.{◌≡◌, ℕ, zero, suc, ◌+◌, ◌-◌, ◌*◌, ◌/◌, ◌%◌, ◌<◌, ◌≤◌, ◌≢◌, ◌&&◌, true, false, nat_lt, min, max, List, [], ◌∷◌, ◌++◌, map, length, length-drop, take, drop, replicate, get_or, set, Option, None, refl, sym, ap, ap₂, ◌∙◌, inl, inr, arith, append_assoc, append-nil, add-one, drop-cons, drop-set-lt, take-append-drop}
+use Rattle.std.proofs.Common.{◌≡◌, ℕ, zero, suc, ◌+◌, ◌-◌, ◌*◌, ◌/◌, ◌%◌, ◌<◌, ◌≤◌, ◌≢◌, ◌&&◌, true, false, nat_lt, min, max, List, [], ◌∷◌}
+use Rattle.std.proofs.Common.{◌++◌, map, length, length-drop, take, drop, replicate, get_or, set, Option, None, refl, sym, ap, ap₂, ◌∙◌}
+use Rattle.std.proofs.Common.{inl, inr, arith, append_assoc, append-nil, add-one, drop-cons, drop-set-lt, take-append-drop}
 use Rattle.std.specs.List.{fold, range_with_len}
 use Rattle.std.proofs.lemmas.Bool.{cases_lt, eq-eqb, ne_eqb, lt-ltb, le-ltb}
 use Rattle.std.proofs.lemmas.List.{take_more_set, take_all, drop_all}

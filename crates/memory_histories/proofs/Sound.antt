@@ -16,7 +16,8 @@ no_end : {e : ℕ} → None ≡ Some e → ⊥
 no_end h = cc
 
 -- a store that was answered took effect, within its window
-placed : (time : ℕ → ℕ) (s : StoreByte) (o : Option ℕ) (e : ℕ) → IsWithin time s o → s.ended ≡ Some e → (m : ℕ) × ((o ≡ Some m) × ((time s.began < m) × (m < time e)))
+placed : (time : ℕ → ℕ) (s : StoreByte) (o : Option ℕ) (e : ℕ) → IsWithin time s o → s.ended ≡ Some e → (m : ℕ) ×
+    ((o ≡ Some m) × ((time s.began < m) × (m < time e)))
 placed time s None e w h = absurd (no_end (sym w ∙ h))
 placed time s (Some m) e w h = (m, (refl, (w.0, subst (IsAnsweredAfter time m) h w.1)))
 
@@ -24,7 +25,8 @@ same_moment : (m n : ℕ) → Some m ≡ Some n → m ≡ n
 same_moment m n h = cc
 
 -- a store that was overwritten before the load's request isn't the latest at the load's moment
-not_latest : (image : List ℕ) (rest : Rest) (stores : List StoreByte) (l : LoadByte) (b : ℕ) (x : Explains image rest stores l b) (s : StoreByte) → Contains stores s → IsOverwritten stores s l.began → IsLatest x.effect x.moment stores s → ⊥
+not_latest : (image : List ℕ) (rest : Rest) (stores : List StoreByte) (l : LoadByte) (b : ℕ) (x : Explains image rest stores l b)
+    (s : StoreByte) → Contains stores s → IsOverwritten stores s l.began → IsLatest x.effect x.moment stores s → ⊥
 not_latest image rest stores l b x s c over latest =
     let o : StoreByte = over.1 in
     let d : Contains stores o = (over.0, over.2, over.3) in
@@ -44,7 +46,8 @@ not_latest image rest stores l b x s c over latest =
     absurd (omega arith)
 
 -- and where none took effect before the load's moment, none was answered before its request
-not_covered : (image : List ℕ) (rest : Rest) (stores : List StoreByte) (l : LoadByte) (b : ℕ) (x : Explains image rest stores l b) → IsCovered stores l → NoneBefore x.effect x.moment stores l.address → ⊥
+not_covered : (image : List ℕ) (rest : Rest) (stores : List StoreByte) (l : LoadByte) (b : ℕ) (x : Explains image rest stores l b)
+    → IsCovered stores l → NoneBefore x.effect x.moment stores l.address → ⊥
 not_covered image rest stores l b x c none =
     let o : StoreByte = c.1 in
     let d : Contains stores o = (c.0, c.2, c.3) in
@@ -55,10 +58,14 @@ not_covered image rest stores l b x c none =
     let load : x.time l.began < x.moment = x.after_request in
     none o d c.4.0 q.0 q.1.0 (omega arith)
 
-got_law : (image : List ℕ) (rest : Rest) (stores : List StoreByte) (l : LoadByte) (b : ℕ) (x : Explains image rest stores l b) → Any (λ s. (s.address ≡ l.address) × ((s.byte ≡ b) × IsLatest x.effect x.moment stores s)) stores ⊎ (IsInitial (slice_get image l.address) rest b × NoneBefore x.effect x.moment stores l.address)
+got_law : (image : List ℕ) (rest : Rest) (stores : List StoreByte) (l : LoadByte) (b : ℕ) (x : Explains image rest stores l b)
+    → Any (λ s. (s.address ≡ l.address) × ((s.byte ≡ b) × IsLatest x.effect x.moment stores s)) stores ⊎
+    (IsInitial (slice_get image l.address) rest b × NoneBefore x.effect x.moment stores l.address)
     → MayReturn image rest stores l b
-got_law image rest stores l b x (inl (k, s, i, e, p)) = inl (k, s, i, e, (p.0, (p.1.0, λ over. not_latest image rest stores l b x s (k, i, e) over p.1.1)))
+got_law image rest stores l b x (inl (k, s, i, e, p)) =
+    inl (k, s, i, e, (p.0, (p.1.0, λ over. not_latest image rest stores l b x s (k, i, e) over p.1.1)))
 got_law image rest stores l b x (inr p) = inr (p.0, λ c. not_covered image rest stores l b x c p.1)
 
-pub explained : (image : List ℕ) (rest : Rest) (stores : List StoreByte) (l : LoadByte) (b : ℕ) → Explains image rest stores l b → MayReturn image rest stores l b
+pub explained : (image : List ℕ) (rest : Rest) (stores : List StoreByte) (l : LoadByte) (b : ℕ) → Explains image rest stores l b
+    → MayReturn image rest stores l b
 explained image rest stores l b x = got_law image rest stores l b x x.got

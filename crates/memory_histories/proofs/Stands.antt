@@ -1,5 +1,6 @@
 -- What is kept of a history judges it as the law does.
-use Rattle.std.proofs.Common.{◌≡◌, ℕ, ◌+◌, ◌≤◌, Bool, not, if◌then◌else◌, List, map, length, Option, None, Some, Result, Ok, Err, get_or, refl, sym, ap, ◌∙◌, inl, inr, arith, subst}
+use Rattle.std.proofs.Common.{◌≡◌, ℕ, ◌+◌, ◌≤◌, Bool, not, if◌then◌else◌, List, map, length, Option, None, Some, Result, Ok, Err, get_or}
+use Rattle.std.proofs.Common.{refl, sym, ap, ◌∙◌, inl, inr, arith, subst}
 use Rattle.std.specs.Prelude.{is_none, OnOk, IfErr}
 use Rattle.std.specs.Borrow.{Bor}
 use Rattle.std.specs.List.{All, filter, find, list_any, range_with_len}
@@ -18,8 +19,10 @@ use Rattle.memory_histories.specs.declared.windows.LoadByte.{LoadByte}
 use Rattle.memory_histories.specs.declared.kept.OpenByte.{OpenByte}
 use Rattle.memory_histories.specs.Windows.{Windows, store_bytes, load_bytes, is_open, is_of, is_at, after_response, windows_after}
 use Rattle.memory_histories.specs.Windows as windows
-use Rattle.memory_histories.specs.Regular.{fault, may_return, is_inside, has_enabled, load_request_fault, load_response_fault, store_request_fault, store_response_fault}
-use Rattle.memory_histories.specs.Kept.{Kept, opened_at, after_stores, answered_after, unit_of, is_unanswered, is_seen, is_open_of, is_open_at, may_have, kept_fault, kept_after, kept_step, EndsBefore, IsTimely, IsExact, StandsFor}
+use Rattle.memory_histories.specs.Regular.{fault, may_return, is_inside, has_enabled, load_request_fault, load_response_fault}
+use Rattle.memory_histories.specs.Regular.{store_request_fault, store_response_fault}
+use Rattle.memory_histories.specs.Kept.{Kept, opened_at, after_stores, answered_after, unit_of, is_open_of}
+use Rattle.memory_histories.specs.Kept.{is_open_at, may_have, kept_fault, kept_after, kept_step, EndsBefore, IsTimely, IsExact, StandsFor}
 use Rattle.memory_histories.specs.Kept as keeps
 use Rattle.memory_histories.specs.Shown.{KeptFaultIs, StepFaultIs, IsSetOf}
 use Rattle.memory_histories.proofs.Lists.{list_any-map, filter-map, map-map, find-map, find-All, position-zip}
@@ -34,20 +37,26 @@ any_of k w s n = sym (list_any-map (λ o. o.load) (is_of n) k.open_bytes) ∙ ap
 any_open : (k : Kept) (w : Windows) → StandsFor k w → (n : ℕ) → list_any (is_open n) k.stores ≡ list_any (is_open n) w.stores
 any_open k w s n = ap (list_any (is_open n)) s.open_stores ∙ list_any-open w.stores n
 
-response_map : {X Y : Type 0} (f : X → Y) (p : X → ℕ → Bool) (q : Y → ℕ → Bool) (xs : List X) (bs : List ℕ) → All (λ x. (b : ℕ) → p x b ≡ q (f x) b) xs
+response_map : {X Y : Type 0} (f : X → Y) (p : X → ℕ → Bool) (q : Y → ℕ → Bool) (xs : List X) (bs : List ℕ)
+    → All (λ x. (b : ℕ) → p x b ≡ q (f x) b) xs
     → load_response_fault p xs bs ≡ load_response_fault q (map f xs) bs
 response_map f p q xs bs a = rw (position-zip f p q xs bs a, length-map xs f) refl
 
-of_response : (k : Kept) (w : Windows) → StandsFor k w → (n : ℕ) (bs : List ℕ) → load_response_fault may_have (filter (is_open_of n) k.open_bytes) bs ≡ load_response_fault (may_return w) (filter (is_of n) w.loads) bs
+of_response : (k : Kept) (w : Windows) → StandsFor k w → (n : ℕ) (bs : List ℕ)
+    → load_response_fault may_have (filter (is_open_of n) k.open_bytes) bs ≡ load_response_fault (may_return w) (filter (is_of n) w.loads)
+    bs
 of_response k w s n bs =
     response_map (λ o. o.load) may_have (may_return w) (filter (is_open_of n) k.open_bytes) bs
-    (All-weaker (IsExact w) (λ o. (b : ℕ) → may_have o b ≡ may_return w o.load b) (λ o h. h.1) (filter (is_open_of n) k.open_bytes) (All-filter (is_open_of n) (IsExact w) k.open_bytes s.exact))
-    ∙ ap (λ ls. load_response_fault (may_return w) ls bs) (sym (filter-map (λ o. o.load) (is_of n) k.open_bytes) ∙ ap (filter (is_of n)) s.load_bytes)
+    (All-weaker (IsExact w) (λ o. (b : ℕ) → may_have o b ≡ may_return w o.load b) (λ o h. h.1) (filter (is_open_of n) k.open_bytes)
+    (All-filter (is_open_of n) (IsExact w) k.open_bytes s.exact))
+    ∙ ap (λ ls. load_response_fault (may_return w) ls bs)
+    (sym (filter-map (λ o. o.load) (is_of n) k.open_bytes) ∙ ap (filter (is_of n)) s.load_bytes)
 
 pub fault_same : (k : Kept) (w : Windows) (event : HistoryEvent) → StandsFor k w → kept_fault k event ≡ fault w event
 fault_same k w (LoadRequest n a len) s = ap (load_request_fault (is_inside a len)) (any_of k w s n)
 fault_same k w (LoadResponse n bytes) s = of_response k w s n bytes.now
-fault_same k w (StoreRequest n a bytes e) s = ap (store_request_fault (is_inside a (length bytes.now)) (has_enabled bytes.now e)) (any_open k w s n)
+fault_same k w (StoreRequest n a bytes e) s = ap (store_request_fault (is_inside a (length bytes.now)) (has_enabled bytes.now e))
+    (any_open k w s n)
 fault_same k w (StoreResponse n) s = ap store_response_fault (any_open k w s n)
 
 -- Steps. ----
@@ -81,7 +90,8 @@ next w stores loads = record { image = w.image; rest = w.rest; moment = w.moment
 exact_later : (w : Windows) (loads : List LoadByte) (o : OpenByte) → IsExact w o → IsExact (next w w.stores loads) o
 exact_later w loads o h = let l = h.0 in (omega arith, h.1)
 
-requests_load : (k : Kept) (w : Windows) → StandsFor k w → (n a len : ℕ) → StandsFor (kept_after k (LoadRequest n a len)) (windows_after w (LoadRequest n a len))
+requests_load : (k : Kept) (w : Windows) → StandsFor k w → (n a len : ℕ)
+    → StandsFor (kept_after k (LoadRequest n a len)) (windows_after w (LoadRequest n a len))
 requests_load k w s n a len =
     let f = opened_at k.image k.rest k.stores k.answered in
     let ls = load_bytes n a len k.moment in
@@ -99,14 +109,18 @@ requests_load k w s n a len =
       same_moment = ap (λ t. t + 1) s.same_moment;
       open_stores = s.open_stores;
       answered_stores = s.answered_stores;
-      load_bytes = map-append (λ o. o.load) k.open_bytes (map f ls) ∙ rw (s.load_bytes, map-map f (λ o. o.load) ls, map_same ls, s.same_moment) refl;
+      load_bytes = map-append (λ o. o.load) k.open_bytes (map f ls)
+          ∙ rw (s.load_bytes, map-map f (λ o. o.load) ls, map_same ls, s.same_moment) refl;
       exact = All-append (IsExact later) k.open_bytes (map f ls)
           (All-weaker (IsExact w) (IsExact later) (λ o h. exact_later w later.loads o h) k.open_bytes s.exact)
-          (All-map (IsExact later) f ls (All-map (λ l. IsExact later (f l)) (λ x. record { number = n; address = x; began = k.moment }) (range_with_len a len) (λ i d l. exact_f (record { number = n; address = get_or (range_with_len a len) i d; began = k.moment }) s.same_moment)));
+          (All-map (IsExact later) f ls (All-map (λ l. IsExact later (f l)) (λ x. record { number = n; address = x; began = k.moment })
+          (range_with_len a len) (λ i d l. exact_f (record { number = n; address = get_or (range_with_len a len) i d; began = k.moment })
+          s.same_moment)));
       timely = all_timely_later w.moment w.stores s.timely;
     }
 
-answers_load : (k : Kept) (w : Windows) → StandsFor k w → (n : ℕ) (bytes : Bor (List ℕ)) → StandsFor (kept_after k (LoadResponse n bytes)) (windows_after w (LoadResponse n bytes))
+answers_load : (k : Kept) (w : Windows) → StandsFor k w → (n : ℕ) (bytes : Bor (List ℕ))
+    → StandsFor (kept_after k (LoadResponse n bytes)) (windows_after w (LoadResponse n bytes))
 answers_load k w s n bytes =
     let later = windows_after w (LoadResponse n bytes) in
     record {
@@ -116,11 +130,13 @@ answers_load k w s n bytes =
       open_stores = s.open_stores;
       answered_stores = s.answered_stores;
       load_bytes = sym (filter-map (λ o. o.load) (λ l. not (is_of n l)) k.open_bytes) ∙ ap (filter (λ l. not (is_of n l))) s.load_bytes;
-      exact = All-filter (λ o. not (is_open_of n o)) (IsExact later) k.open_bytes (All-weaker (IsExact w) (IsExact later) (λ o h. exact_later w later.loads o h) k.open_bytes s.exact);
+      exact = All-filter (λ o. not (is_open_of n o)) (IsExact later) k.open_bytes
+          (All-weaker (IsExact w) (IsExact later) (λ o h. exact_later w later.loads o h) k.open_bytes s.exact);
       timely = all_timely_later w.moment w.stores s.timely;
     }
 
-requests_store : (k : Kept) (w : Windows) → StandsFor k w → (n a : ℕ) (bytes : Bor (List ℕ)) (e : ℕ) → StandsFor (kept_after k (StoreRequest n a bytes e)) (windows_after w (StoreRequest n a bytes e))
+requests_store : (k : Kept) (w : Windows) → StandsFor k w → (n a : ℕ) (bytes : Bor (List ℕ)) (e : ℕ)
+    → StandsFor (kept_after k (StoreRequest n a bytes e)) (windows_after w (StoreRequest n a bytes e))
 requests_store k w s n a bytes e =
     let added = store_bytes n a bytes.now e w.moment in
     let new = store_bytes-new n a bytes.now e w.moment in
@@ -135,11 +151,14 @@ requests_store k w s n a bytes e =
       load_bytes = map-map (after_stores (store_bytes n a bytes.now e k.moment)) (λ o. o.load) k.open_bytes ∙ s.load_bytes;
       exact = rw s.same_moment (All-map (IsExact later) (after_stores added) k.open_bytes
           (All-weaker (IsExact w) (λ o. IsExact later (after_stores added o))
-          (λ o h. let l = h.0 in (omega arith, λ b. requested_exact w.image w.rest w.moment w.stores added new o.load o.may b (h.1 b))) k.open_bytes s.exact));
-      timely = All-append (IsTimely (w.moment + 1)) w.stores added (all_timely_later w.moment w.stores s.timely) (All-weaker (IsNew w.moment) (IsTimely (w.moment + 1)) (new_timely w.moment) added new);
+          (λ o h. let l = h.0 in (omega arith, λ b. requested_exact w.image w.rest w.moment w.stores added new o.load o.may b (h.1 b)))
+          k.open_bytes s.exact));
+      timely = All-append (IsTimely (w.moment + 1)) w.stores added (all_timely_later w.moment w.stores s.timely)
+          (All-weaker (IsNew w.moment) (IsTimely (w.moment + 1)) (new_timely w.moment) added new);
     }
 
-answers_store : (k : Kept) (w : Windows) → StandsFor k w → (n : ℕ) → StandsFor (kept_after k (StoreResponse n)) (windows_after w (StoreResponse n))
+answers_store : (k : Kept) (w : Windows) → StandsFor k w → (n : ℕ)
+    → StandsFor (kept_after k (StoreResponse n)) (windows_after w (StoreResponse n))
 answers_store k w s n =
     let f = after_response n w.moment in
     let later = windows_after w (StoreResponse n) in
@@ -155,9 +174,15 @@ answers_store k w s n =
           ∙ answered_seen n w.moment unit w.stores (k.answered unit) s.timely (s.answered_stores unit) test));
       load_bytes = s.load_bytes;
       exact = All-weaker (IsExact w) (IsExact later)
-          (λ o h. let l = h.0 in let before : o.load.began ≤ w.moment = omega arith in
-          (omega arith, λ b. h.1 b ∙ sym (rw (left_answered n w.moment w.stores s.timely o.load b before, covered_answered n w.moment w.stores o.load before) refl))) k.open_bytes s.exact;
-      timely = All-map (IsTimely (w.moment + 1)) f w.stores (All-weaker (IsTimely w.moment) (λ x. IsTimely (w.moment + 1) (f x)) (answered_timely n w.moment) w.stores s.timely);
+          (λ o h. let l = h.0 in let before : o.load.began ≤ w.moment = omega arith in (
+            omega arith,
+            λ b. h.1 b ∙ sym (rw (
+              left_answered n w.moment w.stores s.timely o.load b before,
+              covered_answered n w.moment w.stores o.load before,
+            ) refl),
+          )) k.open_bytes s.exact;
+      timely = All-map (IsTimely (w.moment + 1)) f w.stores
+          (All-weaker (IsTimely w.moment) (λ x. IsTimely (w.moment + 1) (f x)) (answered_timely n w.moment) w.stores s.timely);
     }
 
 pub stands_after : (k : Kept) (w : Windows) (event : HistoryEvent) → StandsFor k w → StandsFor (kept_after k event) (windows_after w event)
@@ -191,16 +216,22 @@ accepted_law (Ok u) k k' event h w s =
     (sym (fault_same k w event s) ∙ p.0, subst (λ x. StandsFor x (windows_after w event)) p.1 (stands_after k w event s))
 accepted_law (Err e) k k' event h w s = tt
 
-pub refused_law : (r : Result (Unit {0}) StepFault) (k : Kept) (event : HistoryEvent) → IfErr r (KeptFaultIs k event) → (w : Windows) → StandsFor k w → IfErr r (StepFaultIs w event)
+pub refused_law : (r : Result (Unit {0}) StepFault) (k : Kept) (event : HistoryEvent) → IfErr r (KeptFaultIs k event) → (w : Windows)
+    → StandsFor k w → IfErr r (StepFaultIs w event)
 refused_law (Ok u) k event h w s = tt
 refused_law (Err (Refused cause)) k event h w s = sym (fault_same k w event s) ∙ h
 refused_law (Err TooLong) k event h w s = (sym (fault_same k w event s) ∙ h.0, sym s.same_moment ∙ h.1)
 refused_law (Err OutOfMemory) k event h w s = sym (fault_same k w event s) ∙ h
 
-set_of : (w : Windows) (n a : ℕ) (xs : List OpenByte) → map (λ o. o.load) xs ≡ w.loads → All (IsExact w) xs → (o : Option OpenByte) → find (is_open_at n a) xs ≡ o → IsSetOf w n a (option_map (λ x. x.may) o)
+set_of : (w : Windows) (n a : ℕ) (xs : List OpenByte) → map (λ o. o.load) xs ≡ w.loads → All (IsExact w) xs → (o : Option OpenByte)
+    → find (is_open_at n a) xs ≡ o → IsSetOf w n a (option_map (λ x. x.may) o)
 set_of w n a xs e h None f = rw (← e) (find-map (λ o. o.load) (is_at n a) xs ∙ ap (option_map (λ o. o.load)) f)
-set_of w n a xs e h (Some o) f =
-    (o.load, rw (← e) (find-map (λ x. x.load) (is_at n a) xs ∙ ap (option_map (λ x. x.load)) f), (find-All (IsExact w) (is_open_at n a) xs h o f).1)
+set_of w n a xs e h (Some o) f = (
+  o.load,
+  rw (← e) (find-map (λ x. x.load) (is_at n a) xs ∙ ap (option_map (λ x. x.load)) f),
+  (find-All (IsExact w) (is_open_at n a) xs h o f).1,
+)
 
-pub set_law : (k : Kept) (w : Windows) (n a : ℕ) → StandsFor k w → IsSetOf w n a (option_map (λ o. o.may) (find (is_open_at n a) k.open_bytes))
+pub set_law : (k : Kept) (w : Windows) (n a : ℕ) → StandsFor k w
+    → IsSetOf w n a (option_map (λ o. o.may) (find (is_open_at n a) k.open_bytes))
 set_law k w n a s = set_of w n a k.open_bytes s.load_bytes s.exact (find (is_open_at n a) k.open_bytes) refl

@@ -1,5 +1,6 @@
 -- Units that change when a store is answered.
-use Rattle.std.proofs.Common.{◌≡◌, ℕ, Bool, ◌||◌, true, false, if◌then◌else◌, ◌==◌, not, List, [], ◌∷◌, ◌++◌, get_or, refl, sym, subst, ap, ◌∙◌, inl, inr, append-nil}
+use Rattle.std.proofs.Common.{◌≡◌, ℕ, Bool, ◌||◌, true, false, if◌then◌else◌, ◌==◌, not, List, [], ◌∷◌, ◌++◌, get_or, refl, sym, subst, ap}
+use Rattle.std.proofs.Common.{◌∙◌, inl, inr, append-nil}
 use Rattle.std.specs.List.{All, filter, list_any}
 use Rattle.std.proofs.lemmas.Bool.{false≢true, cases_Bool, eqb-true, eq-eqb}
 use Rattle.std.proofs.lemmas.List.Elements.{All-head, All-tail, All-weaker}
@@ -46,7 +47,8 @@ none_in cs unit ending none whole =
     ])
 
 -- no byte of these parts lies in the unit
-none_there : (unit : ℕ) (ending : List StorePart) → filter (is_part_in unit) ending ≡ [] → All (λ s. is_in unit s ≡ false) (parts_bytes ending)
+none_there : (unit : ℕ) (ending : List StorePart) → filter (is_part_in unit) ending ≡ []
+    → All (λ s. is_in unit s ≡ false) (parts_bytes ending)
 none_there unit ending e = none_pass (is_in unit) (parts_bytes ending) (filter_in unit ending ∙ ap parts_bytes e)
 
 put_from : (t : ℕ) (ending : List StoreByte) (f : ℕ → List StoreByte) (unit : ℕ) (cs : List UnitChange) → All (IsAfter t ending f) cs
@@ -72,7 +74,8 @@ one_part t p f g here others unit = elim (cases_Bool (p.unit == unit)) [
   | inr e ↦
       let none : filter (is_part_in unit) (p ∷ []) ≡ [] = rw e refl in
       let all : parts_bytes (p ∷ []) ≡ part_bytes p = append-nil (part_bytes p) in
-      others unit e ∙ sym (untouched t (part_bytes p) (f unit) unit (subst (All (λ s. is_in unit s ≡ false)) all (none_there unit (p ∷ []) none)))
+      others unit e ∙ sym (untouched t (part_bytes p) (f unit) unit
+      (subst (All (λ s. is_in unit s ≡ false)) all (none_there unit (p ∷ []) none)))
 ]
 
 -- Whether the units of the bytes so far are among the changes. ----
@@ -98,4 +101,5 @@ still_whole cs c bytes a =
 
 pub has_last : (cs : List UnitChange) (c : UnitChange) (s : StorePart) → c.unit ≡ s.unit → HasUnit (cs ++ c ∷ []) s
 has_last cs c s e =
-    any_more cs c s.unit ∙ (ap (λ x. list_any (is_of_unit s.unit) cs || x) (eq-eqb c.unit s.unit e) ∙ or_true (list_any (is_of_unit s.unit) cs))
+    any_more cs c s.unit ∙ (ap (λ x. list_any (is_of_unit s.unit) cs || x) (eq-eqb c.unit s.unit e)
+    ∙ or_true (list_any (is_of_unit s.unit) cs))

@@ -39,7 +39,8 @@ pub new_then_old : Passes (StoreRequest 1 4096 (bytes (90 ∷ [])) 1 ∷ [] ++ l
 new_then_old = refl
 
 -- once the store is answered, no load sees what stood there before it
-pub old_after_new : Stops (StoreRequest 1 4096 (bytes (90 ∷ [])) 1 ∷ StoreResponse 1 ∷ LoadRequest 1 4096 1 ∷ []) (LoadResponse 1 (bytes (0 ∷ []))) (WrongByte 0)
+pub old_after_new : Stops (StoreRequest 1 4096 (bytes (90 ∷ [])) 1 ∷ StoreResponse 1 ∷ LoadRequest 1 4096 1 ∷ [])
+    (LoadResponse 1 (bytes (0 ∷ []))) (WrongByte 0)
 old_after_new = refl
 
 -- two overlapping stores: a load behind them sees either, and not what stood there before

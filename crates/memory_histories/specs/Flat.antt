@@ -1,5 +1,6 @@
 -- The flat law: an operation takes effect at its request, so a load is owed the bytes that stand there then.
-use Rattle.std.specs.Prelude.{ℕ, ◌+◌, ◌/◌, ◌%◌, Bool, ◌&&◌, not, if◌then◌else◌, ◌==◌, nat_lt, List, [], ◌∷◌, ◌++◌, map, length, Option, Some, None, is_none, slice_get}
+use Rattle.std.specs.Prelude.{ℕ, ◌+◌, ◌/◌, ◌%◌, Bool, ◌&&◌, not, if◌then◌else◌, ◌==◌, nat_lt, List, [], ◌∷◌, ◌++◌, map, length, Option}
+use Rattle.std.specs.Prelude.{Some, None, is_none, slice_get}
 use Rattle.std.specs.List.{filter, list_any, range_with_len}
 use Rattle.std.specs.Option.{option_and_then}
 use Rattle.memory_histories.specs.declared.events.HistoryEvent.{HistoryEvent}
@@ -11,7 +12,8 @@ use Rattle.memory_histories.specs.declared.reasons.Owed.{Owed}
 use Rattle.memory_histories.specs.declared.reasons.StoreName.{StoreName}
 use Rattle.memory_histories.specs.declared.reasons.Owed.TheVariants as owed
 use Rattle.memory_histories.specs.declared.flat.OwedByte.{OwedByte}
-use Rattle.memory_histories.specs.Regular.{is_inside, has_enabled, load_request_fault, load_response_fault, store_request_fault, store_response_fault}
+use Rattle.memory_histories.specs.Regular.{is_inside, has_enabled, load_request_fault, load_response_fault, store_request_fault}
+use Rattle.memory_histories.specs.Regular.{store_response_fault}
 
 -- what stands at each address, how many events there were, the numbers of the open stores, and what the open loads are owed
 pub record Flat : Type 0 where
@@ -72,12 +74,14 @@ is_open number n = n == number
 abbrev pub flat_fault : Flat → HistoryEvent → Option HistoryFault
 flat_fault f (LoadRequest number address n) = load_request_fault (is_inside address n) (list_any (is_of number) f.loads)
 flat_fault f (LoadResponse number bytes) = load_response_fault may_return (filter (is_of number) f.loads) bytes.now
-flat_fault f (StoreRequest number address bytes enables) = store_request_fault (is_inside address (length bytes.now)) (has_enabled bytes.now enables) (list_any (is_open number) f.stores)
+flat_fault f (StoreRequest number address bytes enables) =
+    store_request_fault (is_inside address (length bytes.now)) (has_enabled bytes.now enables) (list_any (is_open number) f.stores)
 flat_fault f (StoreResponse number) = store_response_fault (list_any (is_open number) f.stores)
 
 -- what an event changes
 abbrev pub memory_after : Flat → HistoryEvent → (ℕ → Owed)
-memory_after f (StoreRequest number address bytes enables) = stored f.memory (record { number = number; requested = f.moment }) address bytes.now enables
+memory_after f (StoreRequest number address bytes enables) =
+    stored f.memory (record { number = number; requested = f.moment }) address bytes.now enables
 memory_after f event = f.memory
 
 abbrev pub stores_after : Flat → HistoryEvent → List ℕ

@@ -23,11 +23,13 @@ abbrev Stops : List HistoryEvent → HistoryEvent → HistoryFault → Type 0
 Stops events event cause = option_map (λ f. flat_fault f event) (flat_run start events) ≡ Some (Some cause)
 
 -- new then old: a store stands in memory from its request on
-pub new_then_old : Stops (StoreRequest 1 4096 (bytes (90 ∷ [])) 1 ∷ [] ++ load 1 1 (90 ∷ []) ++ LoadRequest 2 4096 1 ∷ []) (LoadResponse 2 (bytes (0 ∷ []))) (WrongByte 0)
+pub new_then_old : Stops (StoreRequest 1 4096 (bytes (90 ∷ [])) 1 ∷ [] ++ load 1 1 (90 ∷ []) ++ LoadRequest 2 4096 1 ∷ [])
+    (LoadResponse 2 (bytes (0 ∷ []))) (WrongByte 0)
 new_then_old = refl
 
 -- a lost store
-pub old_after_new : Stops (StoreRequest 1 4096 (bytes (90 ∷ [])) 1 ∷ StoreResponse 1 ∷ LoadRequest 1 4096 1 ∷ []) (LoadResponse 1 (bytes (0 ∷ []))) (WrongByte 0)
+pub old_after_new : Stops (StoreRequest 1 4096 (bytes (90 ∷ [])) 1 ∷ StoreResponse 1 ∷ LoadRequest 1 4096 1 ∷ [])
+    (LoadResponse 1 (bytes (0 ∷ []))) (WrongByte 0)
 old_after_new = refl
 
 -- of two overlapping stores the one that was requested last stands there

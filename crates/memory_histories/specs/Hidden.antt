@@ -23,7 +23,8 @@ IsLatest effect moment stores s =
 
 -- no store to the byte took effect before the moment
 abbrev pub NoneBefore : (StoreByte → Option ℕ) → ℕ → List StoreByte → ℕ → Type 0
-NoneBefore effect moment stores address = (other : StoreByte) → Contains stores other → other.address ≡ address → (n : ℕ) → effect other ≡ Some n → n < moment → ⊥
+NoneBefore effect moment stores address = (other : StoreByte) → Contains stores other → other.address ≡ address → (n : ℕ)
+    → effect other ≡ Some n → n < moment → ⊥
 
 -- there are hidden moments for the stores so far and for this load, at which it got this byte
 pub record Explains (image : List ℕ) (rest : Rest) (stores : List StoreByte) (l : LoadByte) (b : ℕ) : Type 0 where

@@ -1,6 +1,7 @@
 -- What the judge keeps of a history: the bytes of the open stores, those of answered stores that a load may still see, and of
 -- each byte of an open load what it may return if it is answered now.
-use Rattle.std.specs.Prelude.{ℕ, ◌≡◌, ◌+◌, ◌/◌, ◌<◌, Bool, ◌&&◌, not, if◌then◌else◌, ◌==◌, List, [], ◌++◌, map, Option, Some, None, is_none, is_some, slice_get, length}
+use Rattle.std.specs.Prelude.{ℕ, ◌≡◌, ◌+◌, ◌/◌, ◌<◌, Bool, ◌&&◌, not, if◌then◌else◌, ◌==◌, List, [], ◌++◌, map, Option, Some, None, is_none}
+use Rattle.std.specs.Prelude.{is_some, slice_get, length}
 use Rattle.std.specs.List.{All, filter, list_any, fold}
 use Rattle.memory_histories.specs.declared.events.HistoryEvent.{HistoryEvent}
 use Rattle.memory_histories.specs.declared.events.HistoryEvent.TheVariants.{LoadRequest, LoadResponse, StoreRequest, StoreResponse}
@@ -13,7 +14,8 @@ use Rattle.memory_histories.specs.declared.sets.ByteSet.{ByteSet}
 use Rattle.memory_histories.specs.declared.kept.OpenByte.{OpenByte}
 use Rattle.memory_histories.specs.Sets.{has, with_byte, no_bytes, all_bytes}
 use Rattle.memory_histories.specs.Windows.{Windows, store_bytes, load_bytes, is_open, is_of, is_at}
-use Rattle.memory_histories.specs.Regular.{is_before, is_inside, has_enabled, load_request_fault, load_response_fault, store_request_fault, store_response_fault, may_return_byte}
+use Rattle.memory_histories.specs.Regular.{is_before, is_inside, has_enabled, load_request_fault, load_response_fault, store_request_fault}
+use Rattle.memory_histories.specs.Regular.{store_response_fault, may_return_byte}
 
 -- `stores` are the bytes of the open stores. `answered` gives those of answered stores by unit, that is by eight aligned
 -- addresses, so that an event looks at the units of its operation alone
@@ -113,7 +115,8 @@ abbrev pub next_open : Kept → HistoryEvent → List OpenByte
 next_open k (LoadRequest number address n) = k.open_bytes ++ map (opened_at k.image k.rest k.stores k.answered)
     (load_bytes number address n k.moment)
 next_open k (LoadResponse number bytes) = filter (λ o. not (is_open_of number o)) k.open_bytes
-next_open k (StoreRequest number address bytes enables) = map (after_stores (store_bytes number address bytes.now enables k.moment)) k.open_bytes
+next_open k (StoreRequest number address bytes enables) =
+    map (after_stores (store_bytes number address bytes.now enables k.moment)) k.open_bytes
 next_open k event = k.open_bytes
 
 abbrev pub kept_after : Kept → HistoryEvent → Kept

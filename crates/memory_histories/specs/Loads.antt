@@ -1,5 +1,6 @@
 -- The open loads, as the judge of the regular law keeps them: of each load one set for each of its bytes.
-use Rattle.std.specs.Prelude.{ℕ, ◌≡◌, ◌<◌, not, take, ◌+◌, ◌-◌, ◌*◌, Bool, ◌&&◌, ◌==◌, nat_le, nat_lt, min, drop, List, [], ◌∷◌, ◌++◌, length, Option, Some, None, slice_get, if◌then◌else◌}
+use Rattle.std.specs.Prelude.{ℕ, ◌≡◌, ◌<◌, not, take, ◌+◌, ◌-◌, ◌*◌, Bool, ◌&&◌, ◌==◌, nat_le, nat_lt, min, drop, List, [], ◌∷◌, ◌++◌}
+use Rattle.std.specs.Prelude.{length, Option, Some, None, slice_get, if◌then◌else◌}
 use Rattle.std.specs.List.{filter}
 use Rattle.memory_histories.specs.declared.loads.OpenLoad.{OpenLoad}
 use Rattle.memory_histories.specs.declared.kept.OpenByte.{OpenByte}

@@ -1,11 +1,13 @@
 -- The regular law: which byte a load may return, each byte for itself.
-use Rattle.std.specs.Prelude.{ℕ, ◌≡◌, ◌+◌, ◌/◌, ◌%◌, ◌<◌, ◌⊎◌, Bool, true, false, ◌&&◌, ◌||◌, not, if◌then◌else◌, ◌==◌, nat_lt, nat_le, List, [], ◌∷◌, length, Option, Some, None, is_none, slice_get}
+use Rattle.std.specs.Prelude.{ℕ, ◌≡◌, ◌+◌, ◌/◌, ◌%◌, ◌<◌, ◌⊎◌, Bool, true, false, ◌&&◌, ◌||◌, not, if◌then◌else◌, ◌==◌, nat_lt, nat_le}
+use Rattle.std.specs.Prelude.{List, [], ◌∷◌, length, Option, Some, None, is_none, slice_get}
 use Rattle.std.specs.List.{Any, filter, list_any, zip, position}
 use Rattle.std.specs.Option.{option_and_then}
 use Rattle.memory_histories.specs.declared.events.HistoryEvent.{HistoryEvent}
 use Rattle.memory_histories.specs.declared.events.HistoryEvent.TheVariants.{LoadRequest, LoadResponse, StoreRequest, StoreResponse}
 use Rattle.memory_histories.specs.declared.events.HistoryFault.{HistoryFault}
-use Rattle.memory_histories.specs.declared.events.HistoryFault.TheVariants.{OutOfRange, NoByteEnabled, NumberInUse, NotOpen, WrongLength, WrongByte}
+use Rattle.memory_histories.specs.declared.events.HistoryFault.TheVariants.{OutOfRange, NoByteEnabled, NumberInUse, NotOpen, WrongLength}
+use Rattle.memory_histories.specs.declared.events.HistoryFault.TheVariants.{WrongByte}
 use Rattle.memory_histories.specs.declared.events.Rest.{Rest}
 use Rattle.memory_histories.specs.declared.events.Rest.TheVariants.{Zeros, Unknown}
 use Rattle.memory_histories.specs.declared.windows.StoreByte.{StoreByte}
@@ -125,7 +127,8 @@ load_response_fault may loads bytes =
 abbrev pub fault : Windows → HistoryEvent → Option HistoryFault
 fault w (LoadRequest number address n) = load_request_fault (is_inside address n) (list_any (is_of number) w.loads)
 fault w (LoadResponse number bytes) = load_response_fault (may_return w) (filter (is_of number) w.loads) bytes.now
-fault w (StoreRequest number address bytes enables) = store_request_fault (is_inside address (length bytes.now)) (has_enabled bytes.now enables) (list_any (is_open number) w.stores)
+fault w (StoreRequest number address bytes enables) =
+    store_request_fault (is_inside address (length bytes.now)) (has_enabled bytes.now enables) (list_any (is_open number) w.stores)
 fault w (StoreResponse number) = store_response_fault (list_any (is_open number) w.stores)
 
 -- one event, where it is one of the law

@@ -38,11 +38,13 @@ is_of_unit unit change = change.unit == unit
 -- what is kept of the units with these changes: of two of one unit the first counts
 abbrev pub put_units : (ℕ → List StoreByte) → List UnitChange → ℕ → List StoreByte
 put_units answered [] unit = answered unit
-put_units answered (change ∷ changes) unit = if is_of_unit unit change then parts_bytes change.after.parts.items else put_units answered changes unit
+put_units answered (change ∷ changes) unit = if is_of_unit unit change then parts_bytes change.after.parts.items
+    else put_units answered changes unit
 
 -- a change is what the answer to the store with these bytes makes of its unit
 abbrev pub IsAfter : ℕ → List StoreByte → (ℕ → List StoreByte) → UnitChange → Type 0
-IsAfter moment ending answered change = parts_bytes change.after.parts.items ≡ answered_after moment ending change.unit (answered change.unit)
+IsAfter moment ending answered change =
+    parts_bytes change.after.parts.items ≡ answered_after moment ending change.unit (answered change.unit)
 
 -- the unit of a part is among those that change
 abbrev pub HasUnit : List UnitChange → StorePart → Type 0
@@ -77,4 +79,5 @@ StepFaultIs w event OutOfMemory = fault w event ≡ None
 -- the set is what the open load of this number may return at an address, and there is none if no such load asks for the byte
 abbrev pub IsSetOf : Windows → ℕ → ℕ → Option ByteSet → Type 0
 IsSetOf w number address None = find (is_at number address) w.loads ≡ None
-IsSetOf w number address (Some set) = (l : LoadByte) × (find (is_at number address) w.loads ≡ Some l) × ((b : ℕ) → has set b ≡ may_return w l b)
+IsSetOf w number address (Some set) = (l : LoadByte) × (find (is_at number address) w.loads ≡ Some l) ×
+    ((b : ℕ) → has set b ≡ may_return w l b)

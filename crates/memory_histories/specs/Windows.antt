@@ -48,7 +48,8 @@ is_at number address l = is_of number l && (l.address == address)
 
 -- the byte after the response of the store that is open under this number
 abbrev pub after_response : ℕ → ℕ → StoreByte → StoreByte
-after_response number moment s = if is_open number s then record { number = s.number; address = s.address; byte = s.byte; began = s.began; ended = Some moment } else s
+after_response number moment s = if is_open number s
+    then record { number = s.number; address = s.address; byte = s.byte; began = s.began; ended = Some moment } else s
 
 -- what an event changes
 abbrev pub stores_after : Windows → HistoryEvent → List StoreByte

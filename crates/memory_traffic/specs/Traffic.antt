@@ -1,5 +1,6 @@
 -- The access of each number: what is drawn for it, and what follows from that.
-use Rattle.std.specs.Prelude.{ℕ, ◌+◌, ◌-◌, ◌*◌, ◌/◌, ◌%◌, ◌^◌, ◌≡◌, ◌≢◌, ◌<◌, ◌≤◌, max, if◌then◌else◌, ◌==◌, nat_lt, Bool, ◌&&◌, not, List, ◌++◌, drop}
+use Rattle.std.specs.Prelude.{ℕ, ◌+◌, ◌-◌, ◌*◌, ◌/◌, ◌%◌, ◌^◌, ◌≡◌, ◌≢◌, ◌<◌, ◌≤◌, max, if◌then◌else◌, ◌==◌, nat_lt, Bool, ◌&&◌, not, List}
+use Rattle.std.specs.Prelude.{◌++◌, drop}
 use Rattle.rand_pcg.specs.Lcg.{Lcg, started, increment_of}
 use Rattle.rand_pcg.specs.Pcg.{pcg32, multiplier_64}
 use Rattle.rand_core.specs.Steps.{fill_via_u32, u64_via_u32}

@@ -27,6 +27,7 @@ pub record IsWhole (words regs : ℕ) (rs : List Register) : Type 0 where
   pub few_words : words ≤ MAX_BLOCK_WORDS
   pub each : (slot : ℕ) → IsWholeRegister words (register_at rs slot)
   -- two live registers of one block are one
-  pub one_live : (j k : ℕ) → is_live (register_at rs j) ≡ true → is_live (register_at rs k) ≡ true → (register_at rs j).block ≡ (register_at rs k).block → j ≡ k
+  pub one_live : (j k : ℕ) → is_live (register_at rs j) ≡ true → is_live (register_at rs k) ≡ true
+      → (register_at rs j).block ≡ (register_at rs k).block → j ≡ k
   -- no tag waits twice
   pub once : (tag : ℕ) → count_by (λ t. t == tag) (waiting_tags rs) ≤ 1

@@ -3,7 +3,8 @@ use Rattle.std.specs.Prelude.{ℕ, ◌/◌, ◌%◌, Bool, if◌then◌else◌, 
 use Rattle.flat_model.specs.Texts.{byte_text, word_text, event_text, answer_text}
 use Rattle.named_fields.specs.Texts.{separated, quoted, escaped, doubled}
 use Rattle.named_fields.specs.declared.figures.Figure.{Figure}
-use Rattle.named_fields.specs.declared.figures.Figure.TheVariants.{Count, Hundredths, Truth, Name, OfWord, OfByte, OfEvent, OfAnswer, Numbers, Bytes, Quoted, Missing}
+use Rattle.named_fields.specs.declared.figures.Figure.TheVariants.{Count, Hundredths, Truth, Name, OfWord, OfByte, OfEvent, OfAnswer}
+use Rattle.named_fields.specs.declared.figures.Figure.TheVariants.{Numbers, Bytes, Quoted, Missing}
 use Rattle.named_fields.specs.declared.fields.Field.{Field}
 use Rattle.named_fields.specs.declared.format.Format.{Format}
 use Rattle.named_fields.specs.declared.format.Format.TheVariants.{Text, Csv, Json}

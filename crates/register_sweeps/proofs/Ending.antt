@@ -1,12 +1,14 @@
 -- Each request of a sweep ends, and each accepted load is paid.
-use Rattle.std.proofs.Common.{◌≡◌, ℕ, zero, suc, ◌+◌, ◌-◌, ◌<◌, ◌≤◌, Bool, true, false, cond, nat_lt, List, [], ◌∷◌, length, Option, Some, None, is_some, is_none, refl, sym, ap, subst, ◌∙◌, arith}
+use Rattle.std.proofs.Common.{◌≡◌, ℕ, zero, suc, ◌+◌, ◌-◌, ◌<◌, ◌≤◌, Bool, true, false, cond, nat_lt, List, [], ◌∷◌, length, Option, Some}
+use Rattle.std.proofs.Common.{None, is_some, is_none, refl, sym, ap, subst, ◌∙◌, arith}
 use Rattle.flat_model.specs.declared.Word.{Word}
 use Rattle.flat_model.specs.declared.Event.{Event}
 use Rattle.flat_model.specs.declared.Event.TheVariants.{Load, Store, Prefetch, Evict, Drain, Serve, Arrive, Process, Take}
 use Rattle.flat_model.specs.declared.Answer.{Answer}
 use Rattle.flat_model.specs.declared.Answer.TheVariants.{Accepted, Moved, Value, Nothing, Refused}
 use Rattle.flat_model.specs.declared.Cause.{Cause}
-use Rattle.flat_model.specs.declared.Cause.TheVariants.{OutOfRange, NoLanes, TagInUse, RepliesFull, TargetsFull, BlockQueued, NoRegister, SetPending, QueueFull, BankFull, NotPresent, StackFull, StrayWord}
+use Rattle.flat_model.specs.declared.Cause.TheVariants.{OutOfRange, NoLanes, TagInUse, RepliesFull, TargetsFull, BlockQueued, NoRegister}
+use Rattle.flat_model.specs.declared.Cause.TheVariants.{SetPending, QueueFull, BankFull, NotPresent, StackFull, StrayWord}
 use Rattle.flat_model.specs.Memory.{is_load}
 use Rattle.flat_model.specs.Flat.{Flat, may_answer, flat_after, flat_step, word_at, is_owed}
 use Rattle.cache_unit.specs.declared.Sizes.{Sizes}
@@ -23,7 +25,9 @@ use Rattle.round_driver.specs.Rounds.{is_end}
 use Rattle.round_driver.specs.Walks.{is_request}
 use Rattle.round_driver.proofs.Requests.{request_stays, request_ends}
 use Rattle.register_sweeps.specs.declared.row.Row.{Row}
-use Rattle.register_sweeps.specs.Sweep.{Course, course, with_pump, with_pumped, pump_once, with_end, ask, ends, stall, pump_and_wait, ask_again, serve, serve_all, pump_times, run_dry, loads_between, accepted_loads, empty_row, row_from}
+use Rattle.register_sweeps.specs.Sweep.{Course, course, with_pump, with_pumped, pump_once, with_end, ask, ends, stall, pump_and_wait}
+use Rattle.register_sweeps.specs.Sweep.{ask_again, serve, serve_all, pump_times, run_dry, loads_between, accepted_loads, empty_row}
+use Rattle.register_sweeps.specs.Sweep.{row_from}
 use Rattle.register_sweeps.proofs.Turns.{event_sizes, pump_sizes}
 use Rattle.register_sweeps.proofs.Owing.{Owing, owe, pay, all_paid}
 use Rattle.register_sweeps.proofs.Steps.{listed, changed}
@@ -47,7 +51,8 @@ good_after s event g =
     }
 
 -- the step of flat memory that an event makes
-step_of : (s : MachineState) (event : Event) → Good s → flat_step (flat_of s.sizes s.machine) event (answered s event) ≡ Some (flat_of s.sizes (after_event s event).machine)
+step_of : (s : MachineState) (event : Event) → Good s → flat_step (flat_of s.sizes s.machine) event (answered s event)
+    ≡ Some (flat_of s.sizes (after_event s event).machine)
 unfolding answered after_event
 step_of s event g = flat_apply s.sizes g.lawful s.machine g.sound event
 
@@ -66,7 +71,8 @@ pump_lighter s g h = go (pumped s.sizes s.machine) refl
 
 -- ---- at weight 0 a request ends
 
-pub at_rest : (s : MachineState) (event : Event) → Good s → is_request event ≡ true → weight s.machine ≡ 0 → is_end (answered s event) ≡ true
+pub at_rest : (s : MachineState) (event : Event) → Good s → is_request event ≡ true → weight s.machine ≡ 0
+    → is_end (answered s event) ≡ true
 at_rest s event g r rest = request_ends s (bound_at_rest s.sizes g.lawful g.roomy s.machine g.sound g.bounded rest) event r
 
 -- ---- the counts and what is owed
@@ -83,7 +89,8 @@ pub record Counted (c : Course) (ended loads : ℕ) : Type 0 where
   pub paid : length tags + c.row.values ≡ loads
 
 -- what an event does to what is owed
-due_after : (s : MachineState) (event : Event) → Good s → due_of (after_event s event) ≡ (flat_after (flat_of s.sizes s.machine) event (answered s event)).due
+due_after : (s : MachineState) (event : Event) → Good s
+    → due_of (after_event s event) ≡ (flat_after (flat_of s.sizes s.machine) event (answered s event)).due
 due_after s event g = sym (ap (λ f. f.due) (changed _ _ event (answered s event) (step_of s event g)))
 
 -- what an answer leaves owed: a value pays one tag
@@ -96,7 +103,8 @@ owed_is_some : (o : Option Word) (w : Word) → is_owed o w ≡ true → is_some
 owed_is_some None w h = cc
 owed_is_some (Some v) w h = refl
 
-settles : (f : Flat) (event : Event) (a : Answer) (tags : List ℕ) → Owing f.due tags → may_answer f event a ≡ true → is_load event ≡ false → Settled (flat_after f event a).due tags a
+settles : (f : Flat) (event : Event) (a : Answer) (tags : List ℕ) → Owing f.due tags → may_answer f event a ≡ true → is_load event ≡ false
+    → Settled (flat_after f event a).due tags a
 settles f (Load tag at) a tags owes may load = absurd (no load)
 settles f (Store at word lanes) Accepted tags owes may load = record { left = tags; owing = owes; values = λ row. refl }
 settles f (Store at word lanes) Moved tags owes may load = record { left = tags; owing = owes; values = λ row. refl }
@@ -148,7 +156,9 @@ abbrev Moves : Option Event → Type 0
 Moves None = Unit {0}
 Moves (Some event) = is_load event ≡ false
 
-driven_moves : (ready stack : Bool) (answers commands : Option ℕ) (queue : Bool) → Moves (first_event (when ready (Take 0) ∷ when stack (Process 0) ∷ option_map (λ b. Arrive b 0) answers ∷ option_map (λ b. Serve b) commands ∷ when queue Drain ∷ []))
+driven_moves : (ready stack : Bool) (answers commands : Option ℕ) (queue : Bool)
+    → Moves (first_event (when ready (Take 0) ∷ when stack (Process 0) ∷ option_map (λ b. Arrive b 0) answers ∷ option_map
+    (λ b. Serve b) commands ∷ when queue Drain ∷ []))
 driven_moves true stack answers commands queue = refl
 driven_moves false true answers commands queue = refl
 driven_moves false false (Some b) commands queue = refl
@@ -158,7 +168,8 @@ driven_moves false false None None false = tt
 
 pumped_moves : (z : Sizes) (m : Machine) → Moves (pumped z m)
 pumped_moves z m =
-    driven_moves (has_items m.cache.ready) (has_items m.cache.stack) (lowest z m (λ b. has_items b.answers)) (lowest z m (λ b. has_items b.queue)) (has_items m.cache.queue)
+    driven_moves (has_items m.cache.ready) (has_items m.cache.stack) (lowest z m (λ b. has_items b.answers))
+    (lowest z m (λ b. has_items b.queue)) (has_items m.cache.queue)
 
 pump_ends : (row : Row) (a : Answer) → (with_pump row a).accepted + (with_pump row a).denied ≡ row.accepted + row.denied
 pump_ends row Accepted = refl
@@ -183,7 +194,8 @@ pub counted_pump : (c : Course) (ended loads : ℕ) → Counted c ended loads �
 unfolding pump_tells pump_leaves
 counted_pump c ended loads k = go (pumped c.state.sizes c.state.machine) (pumped_moves c.state.sizes c.state.machine)
   where
-    go : (o : Option Event) → Moves o → Counted (course (after_some c.state o) (with_pumped c.row (option_map (λ event. (event, answered c.state event)) o))) ended loads
+    go : (o : Option Event) → Moves o → Counted (course (after_some c.state o) (with_pumped c.row
+        (option_map (λ event. (event, answered c.state event)) o))) ended loads
     go None moves = record { good = k.good; ends = k.ends; tags = k.tags; owes = k.owes; paid = k.paid }
     go (Some event) moves =
         let a = answered c.state event in
@@ -204,7 +216,8 @@ counted_wait c ended loads k =
 
 -- ---- a request is asked
 
-end_counts : (row : Row) (a : Answer) → is_end a ≡ true → (with_end row a).accepted + (with_end row a).denied ≡ row.accepted + row.denied + 1
+end_counts : (row : Row) (a : Answer) → is_end a ≡ true → (with_end row a).accepted + (with_end row a).denied
+    ≡ row.accepted + row.denied + 1
 end_counts row Accepted h = omega arith
 end_counts row (Refused OutOfRange) h = omega arith
 end_counts row (Refused NoLanes) h = omega arith
@@ -283,7 +296,8 @@ record Taken (due : ℕ → Option Word) (tags : List ℕ) (event : Event) (row 
   owing : Owing due left
   more : length left ≡ length tags + loads_between event row (with_end row a)
 
-takes : (f : Flat) (event : Event) (a : Answer) (tags : List ℕ) (row : Row) → Owing f.due tags → may_answer f event a ≡ true → is_request event ≡ true → Taken (flat_after f event a).due tags event row a
+takes : (f : Flat) (event : Event) (a : Answer) (tags : List ℕ) (row : Row) → Owing f.due tags → may_answer f event a ≡ true
+    → is_request event ≡ true → Taken (flat_after f event a).due tags event row a
 takes f (Load tag at) Accepted tags row owes may r =
     record {
       left = tag ∷ tags;
@@ -317,7 +331,8 @@ takes f (Arrive bank place) a tags row owes may r = absurd (no (sym r))
 takes f (Process place) a tags row owes may r = absurd (no (sym r))
 takes f (Take place) a tags row owes may r = absurd (no (sym r))
 
-counted_end : (event : Event) (c : Course) (ended loads : ℕ) → is_request event ≡ true → Counted c ended loads → ends event c ≡ true → Counted (ask event c) (ended + 1) (loads + loads_between event c.row (ask event c).row)
+counted_end : (event : Event) (c : Course) (ended loads : ℕ) → is_request event ≡ true → Counted c ended loads → ends event c ≡ true
+    → Counted (ask event c) (ended + 1) (loads + loads_between event c.row (ask event c).row)
 counted_end event c ended loads r k h =
     let a = answered c.state event in
     let f = flat_of c.state.sizes c.state.machine in
@@ -348,11 +363,13 @@ Served event c d ended loads = Counted d (ended + 1) (loads + loads_between even
 same_start : (event : Event) (old new row : Row) → old.accepted ≡ new.accepted → loads_between event old row ≡ loads_between event new row
 same_start event old new row e = ap (λ n. cond (is_load event) (row.accepted - n) 0) e
 
-pub ask_again_step : (n : ℕ) (event : Event) (c : Course) (b : Bool) → ends event (pump_and_wait c) ≡ b → ask_again (suc n) event c ≡ cond b (ask event (pump_and_wait c)) (ask_again n event (ask event (pump_and_wait c)))
+pub ask_again_step : (n : ℕ) (event : Event) (c : Course) (b : Bool) → ends event (pump_and_wait c) ≡ b
+    → ask_again (suc n) event c ≡ cond b (ask event (pump_and_wait c)) (ask_again n event (ask event (pump_and_wait c)))
 unfolding ask_again
 ask_again_step n event c b e = ap (λ x. cond x (ask event (pump_and_wait c)) (ask_again n event (ask event (pump_and_wait c)))) e
 
-asked_again : (n : ℕ) (event : Event) (c : Course) (ended loads : ℕ) → is_request event ≡ true → Counted c ended loads → weight c.state.machine ≤ n → 0 < weight c.state.machine → Served event c (ask_again n event c) ended loads
+asked_again : (n : ℕ) (event : Event) (c : Course) (ended loads : ℕ) → is_request event ≡ true → Counted c ended loads
+    → weight c.state.machine ≤ n → 0 < weight c.state.machine → Served event c (ask_again n event c) ended loads
 asked_again zero event c ended loads r k few some = absurd (omega arith)
 asked_again (suc n) event c ended loads r k few some = go (ends event p) refl (asked_again n event p ended loads r pumped)
   where
@@ -368,11 +385,13 @@ asked_again (suc n) event c ended loads r k few some = go (ends event p) refl (a
     start : p.row.accepted ≡ c.row.accepted
     start = pumped_accepts c.row (pump_tells c.state)
 
-    go : (b : Bool) → ends event p ≡ b → (weight p.state.machine ≤ n → 0 < weight p.state.machine → Served event p (ask_again n event p) ended loads) → Served event c (ask_again (suc n) event c) ended loads
+    go : (b : Bool) → ends event p ≡ b → (weight p.state.machine ≤ n → 0 < weight p.state.machine
+        → Served event p (ask_again n event p) ended loads) → Served event c (ask_again (suc n) event c) ended loads
     go true e rest =
         let served = counted_end event p ended loads r pumped e in
         let again : ask_again (suc n) event c ≡ ask event p = ask_again_step n event c true e in
-        let here : Served event c (ask event p) ended loads = subst (λ l. Counted (ask event p) (ended + 1) (loads + l)) (same_start event p.row c.row (ask event p).row start) served in
+        let here : Served event c (ask event p) ended loads = subst (λ l. Counted (ask event p) (ended + 1) (loads + l))
+        (same_start event p.row c.row (ask event p).row start) served in
         subst (λ d. Served event c d ended loads) (sym again) here
     go false e rest =
         let same : ask event p ≡ p = waits event p r e in
@@ -382,24 +401,29 @@ asked_again (suc n) event c ended loads r k few some = go (ends event p) refl (a
         let below : weight p.state.machine ≤ n = omega (arith, light, few) in
         let left : 0 < weight p.state.machine = omega (arith, heavy) in
         let d = ask_again n event p in
-        let here : Served event c d ended loads = subst (λ l. Counted d (ended + 1) (loads + l)) (same_start event p.row c.row d.row start) (rest below left) in
+        let here : Served event c d ended loads = subst (λ l. Counted d (ended + 1) (loads + l)) (same_start event p.row c.row d.row start)
+        (rest below left) in
         subst (λ d. Served event c d ended loads) (sym again) here
 
-pub served : (event : Event) (c : Course) (ended loads : ℕ) → is_request event ≡ true → Counted c ended loads → Served event c (serve event c) ended loads
+pub served : (event : Event) (c : Course) (ended loads : ℕ) → is_request event ≡ true → Counted c ended loads
+    → Served event c (serve event c) ended loads
 unfolding weight_of
 served event c ended loads r k = go (ends event c) refl
   where
-    go : (b : Bool) → ends event c ≡ b → Served event c (cond b (ask event c) (ask_again (weight_of (after_event c.state event)) event (stall (ask event c)))) ended loads
+    go : (b : Bool) → ends event c ≡ b → Served event c (cond b (ask event c) (ask_again (weight_of (after_event c.state event)) event
+        (stall (ask event c)))) ended loads
     go true e = counted_end event c ended loads r k e
     go false e =
         let same : ask event c ≡ c = waits event c r e in
-        let stalled : Counted (stall c) ended loads = record { good = k.good; ends = k.ends; tags = k.tags; owes = k.owes; paid = k.paid } in
+        let stalled : Counted (stall c) ended loads =
+        record { good = k.good; ends = k.ends; tags = k.tags; owes = k.owes; paid = k.paid } in
         let heavy : (weight c.state.machine ≡ 0 → ⊥) = λ rests. no (sym (at_rest c.state event k.good r rests) ∙ e) in
         let some : 0 < weight c.state.machine = omega (arith, heavy) in
         let asked = asked_again (weight c.state.machine) event (stall c) ended loads r stalled (omega arith) some in
         subst (λ d. Served event c (ask_again (weight d.state.machine) event (stall d)) ended loads) (sym same) asked
 
-counted_all : (events : List Event) (c : Course) (ended loads : ℕ) → list_all is_request events ≡ true → Counted c ended loads → Counted (serve_all events c) (ended + length events) (loads + accepted_loads events c)
+counted_all : (events : List Event) (c : Course) (ended loads : ℕ) → list_all is_request events ≡ true → Counted c ended loads
+    → Counted (serve_all events c) (ended + length events) (loads + accepted_loads events c)
 counted_all [] c ended loads r k =
     let ends : ended ≡ ended + 0 = omega arith in
     let paid : loads ≡ loads + 0 = omega arith in
@@ -427,7 +451,8 @@ pump_down s n g h = go (pumped s.sizes s.machine) refl
     go None e = let rests = pumped_rests s.sizes g.lawful g.roomy s.machine g.sound e in omega (arith, rests)
     go (Some event) e = let lower = pumped_lowers s.sizes g.lawful g.roomy s.machine g.sound event e in omega (arith, lower, h)
 
-dry : (n : ℕ) (c : Course) (ended loads : ℕ) → Counted c ended loads → weight c.state.machine ≤ n → Counted (pump_times n c) ended loads × (weight (pump_times n c).state.machine ≡ 0)
+dry : (n : ℕ) (c : Course) (ended loads : ℕ) → Counted c ended loads → weight c.state.machine ≤ n → Counted (pump_times n c) ended loads ×
+    (weight (pump_times n c).state.machine ≡ 0)
 unfolding pump_times
 dry zero c ended loads k h = (k, omega (arith, h))
 dry (suc n) c ended loads k h = dry n (pump_once c) ended loads (counted_pump c ended loads k) (pump_down c.state n k.good h)
@@ -464,14 +489,16 @@ again_sizes (suc n) event c = go (ends event (pump_and_wait c)) refl (again_size
     start : (ask event (pump_and_wait c)).state.sizes ≡ c.state.sizes
     start = event_sizes (pump_and_wait c).state event ∙ pump_sizes c.state
 
-    go : (b : Bool) → ends event (pump_and_wait c) ≡ b → (ask_again n event (ask event (pump_and_wait c))).state.sizes ≡ (ask event (pump_and_wait c)).state.sizes → (ask_again (suc n) event c).state.sizes ≡ c.state.sizes
+    go : (b : Bool) → ends event (pump_and_wait c) ≡ b → (ask_again n event (ask event (pump_and_wait c))).state.sizes
+        ≡ (ask event (pump_and_wait c)).state.sizes → (ask_again (suc n) event c).state.sizes ≡ c.state.sizes
     go true e rest = ap (λ d. d.state.sizes) (ask_again_step n event c true e) ∙ start
     go false e rest = ap (λ d. d.state.sizes) (ask_again_step n event c false e) ∙ rest ∙ start
 
 serve_sizes : (event : Event) (c : Course) → (serve event c).state.sizes ≡ c.state.sizes
 serve_sizes event c = go (ends event c)
   where
-    go : (b : Bool) → (cond b (ask event c) (ask_again (weight_of (after_event c.state event)) event (stall (ask event c)))).state.sizes ≡ c.state.sizes
+    go : (b : Bool) → (cond b (ask event c) (ask_again (weight_of (after_event c.state event)) event (stall (ask event c)))).state.sizes
+        ≡ c.state.sizes
     go true = event_sizes c.state event
     go false = again_sizes (weight_of (after_event c.state event)) event (stall (ask event c)) ∙ event_sizes c.state event
 
@@ -480,7 +507,11 @@ all_sizes [] c = refl
 all_sizes (event ∷ events) c = all_sizes events (serve event c) ∙ serve_sizes event c
 
 -- each request is counted once, each accepted load has its value, and nothing is left to do
-pub row_counts : (s : MachineState) (regs : ℕ) (events : List Event) → Good s → 0 < s.sizes.words → ((tag : ℕ) → is_some (due_of s tag) ≡ false) → list_all is_request events ≡ true → ((row_from s regs events).accepted + (row_from s regs events).denied ≡ length events) × ((row_from s regs events).values ≡ accepted_loads events (course s (empty_row regs))) × (pump_tells (run_dry (serve_all events (course s (empty_row regs)))).state ≡ None)
+pub row_counts : (s : MachineState) (regs : ℕ) (events : List Event) → Good s → 0 < s.sizes.words
+    → ((tag : ℕ) → is_some (due_of s tag) ≡ false) → list_all is_request events ≡ true
+    → ((row_from s regs events).accepted + (row_from s regs events).denied ≡ length events) ×
+    ((row_from s regs events).values ≡ accepted_loads events (course s (empty_row regs))) ×
+    (pump_tells (run_dry (serve_all events (course s (empty_row regs)))).state ≡ None)
 unfolding pump_tells weight_of
 row_counts s regs events g words none r =
     let begin = course s (empty_row regs) in

@@ -56,7 +56,8 @@ whole_after_turns (suc n) event c whole = go (ends event p) refl (whole_after_tu
     asked : IsWholeState (ask event p).state
     asked = whole_after_event p.state event (whole_after_pump c.state whole)
 
-    go : (b : Bool) → ends event p ≡ b → IsWholeState (ask_again n event (ask event p)).state → IsWholeState (ask_again (suc n) event c).state
+    go : (b : Bool) → ends event p ≡ b → IsWholeState (ask_again n event (ask event p)).state
+        → IsWholeState (ask_again (suc n) event c).state
     go true e rest = subst (λ d. IsWholeState d.state) (sym (ask_again_step n event c true e)) asked
     go false e rest = subst (λ d. IsWholeState d.state) (sym (ask_again_step n event c false e)) rest
 
@@ -65,13 +66,15 @@ whole_after_turns (suc n) event c whole = go (ends event p) refl (whole_after_tu
 pub still_waits : (event : Event) (c : Course) → is_request event ≡ true → ends event c ≡ false → ends event (ask event c) ≡ false
 still_waits event c request h = ap (ends event) (waits event c request h) ∙ h
 
-some_weight : (s : MachineState) (event : Event) → IsWholeState s → is_request event ≡ true → is_end (answered s event) ≡ false → 0 < weight s.machine
+some_weight : (s : MachineState) (event : Event) → IsWholeState s → is_request event ≡ true → is_end (answered s event) ≡ false
+    → 0 < weight s.machine
 some_weight s event whole request h =
     let heavy : (weight s.machine ≡ 0 → ⊥) = λ rests. no (sym (at_rest s event (good s whole) request rests) ∙ h) in
     omega (arith, heavy)
 
 -- two numbers of turns, neither below the weight, do the same
-same_turns : (n m : ℕ) (event : Event) (c : Course) → is_request event ≡ true → IsWholeState c.state → 0 < weight c.state.machine → weight c.state.machine ≤ n → weight c.state.machine ≤ m → ask_again n event c ≡ ask_again m event c
+same_turns : (n m : ℕ) (event : Event) (c : Course) → is_request event ≡ true → IsWholeState c.state → 0 < weight c.state.machine
+    → weight c.state.machine ≤ n → weight c.state.machine ≤ m → ask_again n event c ≡ ask_again m event c
 same_turns zero m event c request whole some first second = absurd (omega (arith, some, first))
 same_turns (suc n) zero event c request whole some first second = absurd (omega (arith, some, second))
 same_turns (suc n) (suc m) event c request whole some first second = go (ends event p) refl (same_turns n m event p request pumped)
@@ -85,7 +88,8 @@ same_turns (suc n) (suc m) event c request whole some first second = go (ends ev
     lighter : weight p.state.machine < weight c.state.machine
     lighter = pump_lighter c.state (good c.state whole) some
 
-    go : (b : Bool) → ends event p ≡ b → (0 < weight p.state.machine → weight p.state.machine ≤ n → weight p.state.machine ≤ m → ask_again n event p ≡ ask_again m event p) → ask_again (suc n) event c ≡ ask_again (suc m) event c
+    go : (b : Bool) → ends event p ≡ b → (0 < weight p.state.machine → weight p.state.machine ≤ n → weight p.state.machine ≤ m
+        → ask_again n event p ≡ ask_again m event p) → ask_again (suc n) event c ≡ ask_again (suc m) event c
     go true e rest = ask_again_step n event c true e ∙ sym (ask_again_step m event c true e)
     go false e rest =
         let stays : ask event p ≡ p = waits event p request e in
@@ -97,7 +101,8 @@ same_turns (suc n) (suc m) event c request whole some first second = go (ends ev
         by_n ∙ rest (some_weight p.state event pumped request e) below_n below_m ∙ sym by_m
 
 -- as many turns as any weight do what as many as this machine's weight do
-pub enough_turns : (n : ℕ) (event : Event) (c : Course) → is_request event ≡ true → IsWholeState c.state → ends event c ≡ false → most_weight c.state.sizes ≤ n → ask_again n event c ≡ ask_again (weight_of c.state) event c
+pub enough_turns : (n : ℕ) (event : Event) (c : Course) → is_request event ≡ true → IsWholeState c.state → ends event c ≡ false
+    → most_weight c.state.sizes ≤ n → ask_again n event c ≡ ask_again (weight_of c.state) event c
 unfolding weight_of
 enough_turns n event c request whole h most =
     let g = good c.state whole in

@@ -1,12 +1,14 @@
 -- A request that lacks room for a miss is refused again until a word is processed or a queued word is drained.
-use Rattle.std.proofs.Common.{◌≡◌, ℕ, zero, suc, ◌+◌, ◌%◌, ◌==◌, Bool, true, false, ◌&&◌, cond, not, nat_lt, List, [], ◌∷◌, length, get_or, set, take, Option, Some, None, is_some, is_none, find, filter, slice_get, refl, sym, ap, subst, ◌∙◌}
+use Rattle.std.proofs.Common.{◌≡◌, ℕ, zero, suc, ◌+◌, ◌%◌, ◌==◌, Bool, true, false, ◌&&◌, cond, not, nat_lt, List, [], ◌∷◌, length, get_or}
+use Rattle.std.proofs.Common.{set, take, Option, Some, None, is_some, is_none, find, filter, slice_get, refl, sym, ap, subst, ◌∙◌}
 use Rattle.std.proofs.lemmas.Bool.{and_parts, true≢false as no}
 use Rattle.flat_model.specs.Causes.{ends_request}
 use Rattle.flat_model.specs.Words.{has_any}
 use Rattle.flat_model.specs.declared.Word.{Word}
 use Rattle.flat_model.specs.declared.Lanes.{Lanes}
 use Rattle.flat_model.specs.declared.Cause.{Cause}
-use Rattle.flat_model.specs.declared.Cause.TheVariants.{OutOfRange, NoLanes, TagInUse, RepliesFull, TargetsFull, NoRegister, SetPending, QueueFull, BankFull}
+use Rattle.flat_model.specs.declared.Cause.TheVariants.{OutOfRange, NoLanes, TagInUse, RepliesFull, TargetsFull, NoRegister, SetPending}
+use Rattle.flat_model.specs.declared.Cause.TheVariants.{QueueFull, BankFull}
 use Rattle.flat_model.specs.declared.Event.{Event}
 use Rattle.flat_model.specs.declared.Event.TheVariants.{Load, Store, Prefetch, Evict, Drain, Serve, Arrive, Process, Take}
 use Rattle.flat_model.specs.declared.Answer.{Answer}
@@ -16,10 +18,12 @@ use Rattle.memory_banks.specs.declared.BankAnswer.{BankAnswer}
 use Rattle.memory_banks.specs.Banks.{Bank, bank_at}
 use Rattle.cache_unit.specs.declared.Reply.{Reply}
 use Rattle.cache_unit.specs.declared.Sizes.{Sizes}
-use Rattle.cache_unit.specs.State.{Cache, Register, free_register, register_at, frame_at, live_for, is_present, is_pending_block, is_pending, block_of, place_in, order_of}
+use Rattle.cache_unit.specs.State.{Cache, Register, free_register, register_at, frame_at, live_for, is_present, is_pending_block}
+use Rattle.cache_unit.specs.State.{is_pending, block_of, place_in, order_of}
 use Rattle.miss_registers.specs.Registers.{marked}
 use Rattle.cache_unit.proofs.Marks.{live-marked}
-use Rattle.cache_unit.specs.Causes.{first_cause, miss_causes, choose, is_resident_block, ways_of, lacks_places, targets_full, found, load_cause, store_cause, prefetch_cause, arrive_cause}
+use Rattle.cache_unit.specs.Causes.{first_cause, miss_causes, choose, is_resident_block, ways_of, lacks_places, targets_full, found}
+use Rattle.cache_unit.specs.Causes.{load_cause, store_cause, prefetch_cause, arrive_cause}
 use Rattle.cache_unit.specs.Steps.{Stepped, unless, load_step, store_step, prefetch_step, take_step, take_reply, arrived}
 use Rattle.machine_core.specs.Machine.{Machine, MachineState, apply, joined_with, serve_from, arrive_from, take_in}
 use Rattle.machine_core.specs.AnyMachine.{answered, after_event, after_some, pump_tells, pump_leaves}
@@ -31,18 +35,22 @@ use Rattle.round_driver.specs.Walks.{is_request}
 use Rattle.register_sweeps.specs.declared.row.Row.{Row}
 use Rattle.register_sweeps.specs.Sweep.{Course, course, ask, ends, pump_once, pump_and_wait}
 use Rattle.register_sweeps.proofs.Turns.{waited}
-use Rattle.register_sweeps.specs.Lacking.{is_lack, is_of_a_word, is_refused_room, leaves_room, may_make_room, lacks_room_at, lacks_room_in, lacks_room}
+use Rattle.register_sweeps.specs.Lacking.{is_lack, is_of_a_word, is_refused_room, leaves_room, may_make_room, lacks_room_at, lacks_room_in}
+use Rattle.register_sweeps.specs.Lacking.{lacks_room}
 use Rattle.register_sweeps.proofs.Ending.{waits}
 
 -- ---- a request that was refused for want of room lacks it
 
 -- a cause that isn't one of the three doesn't hold
-other : (b : Bool) (y : Cause) (rest : Option Cause) (c : Cause) → is_lack y ≡ false → is_lack c ≡ true → cond b (Some y) rest ≡ Some c → (b ≡ false) × (rest ≡ Some c)
+other : (b : Bool) (y : Cause) (rest : Option Cause) (c : Cause) → is_lack y ≡ false → is_lack c ≡ true → cond b (Some y) rest ≡ Some c
+    → (b ≡ false) × (rest ≡ Some c)
 other true y rest c n l h = let same : y ≡ c = cc in absurd (no (sym l ∙ ap is_lack (sym same) ∙ n))
 other false y rest c n l h = (refl, h)
 
 -- the three are looked for before the banks' room
-one_of_three : (a b q r : Bool) (c : Cause) → is_lack c ≡ true → first_cause ((a, NoRegister) ∷ (b, SetPending) ∷ (q, QueueFull) ∷ (r, BankFull) ∷ []) ≡ Some c → is_some (first_cause ((a, NoRegister) ∷ (b, SetPending) ∷ (q, QueueFull) ∷ [])) ≡ true
+one_of_three : (a b q r : Bool) (c : Cause) → is_lack c ≡ true
+    → first_cause ((a, NoRegister) ∷ (b, SetPending) ∷ (q, QueueFull) ∷ (r, BankFull) ∷ []) ≡ Some c
+    → is_some (first_cause ((a, NoRegister) ∷ (b, SetPending) ∷ (q, QueueFull) ∷ [])) ≡ true
 one_of_three true b q r c l h = refl
 one_of_three false true q r c l h = refl
 one_of_three false false true r c l h = refl
@@ -63,7 +71,8 @@ module _ (z : Sizes) (room : ℕ → ℕ) (c : Cache) (at : ℕ) (x : Cause) (la
   block = block_of z at
 
   -- of a word in memory
-  within : not (nat_lt at z.words) ≡ false → (here : List (Bool × Cause)) → (first_cause here ≡ Some x → ⊥) → (p : Bool) → is_present c block ≡ p → first_cause (cond p here (miss_causes z room c block)) ≡ Some x → lacks_room_at z c at ≡ true
+  within : not (nat_lt at z.words) ≡ false → (here : List (Bool × Cause)) → (first_cause here ≡ Some x → ⊥) → (p : Bool)
+      → is_present c block ≡ p → first_cause (cond p here (miss_causes z room c block)) ≡ Some x → lacks_room_at z c at ≡ true
   within inside here nothing true e h = absurd (nothing h)
   within inside here nothing false e h =
       let three = one_of_three _ _ _ _ x lack h in
@@ -76,7 +85,8 @@ module _ (z : Sizes) (room : ℕ → ℕ) (c : Cache) (at : ℕ) (x : Cause) (la
       let inside = other _ OutOfRange _ x refl lack h in
       let fresh = other _ TagInUse _ x refl lack inside.1 in
       let replies = other _ RepliesFull _ x refl lack fresh.1 in
-      within inside.0 ((full, TargetsFull) ∷ []) (λ t. let none = (other full TargetsFull None x refl lack t).1 in absurd cc) (is_present c block) refl replies.1
+      within inside.0 ((full, TargetsFull) ∷ []) (λ t. let none = (other full TargetsFull None x refl lack t).1 in absurd cc)
+      (is_present c block) refl replies.1
 
   store_lacks : (lanes : Lanes) → store_cause z room c at lanes ≡ Some x → (has_any lanes && lacks_room_at z c at) ≡ true
   unfolding store_cause
@@ -93,15 +103,20 @@ module _ (z : Sizes) (room : ℕ → ℕ) (c : Cache) (at : ℕ) (x : Cause) (la
       within inside.0 [] (λ t. absurd cc) (is_present c block) refl inside.1
 
 -- the cause of a refusal
-cause_of : (banks : List Bank) (c : Cache) (why : Option Cause) (step : Stepped) (x : Cause) → step.answer ≡ Accepted → (joined_with banks (unless why c step)).answer ≡ Refused x → why ≡ Some x
+cause_of : (banks : List Bank) (c : Cache) (why : Option Cause) (step : Stepped) (x : Cause) → step.answer ≡ Accepted
+    → (joined_with banks (unless why c step)).answer ≡ Refused x → why ≡ Some x
 cause_of banks c (Some y) step x e h = let same : y ≡ x = cc in ap Some same
 cause_of banks c None step x e h = let differ : Accepted ≡ Refused x = sym e ∙ h in cc
 
-refused_lacks : (s : MachineState) (event : Event) (x : Cause) → (is_of_a_word event && is_lack x) ≡ true → answered s event ≡ Refused x → lacks_room s event ≡ true
+refused_lacks : (s : MachineState) (event : Event) (x : Cause) → (is_of_a_word event && is_lack x) ≡ true → answered s event ≡ Refused x
+    → lacks_room s event ≡ true
 unfolding answered load_step store_step prefetch_step
-refused_lacks s (Load tag at) x l h = load_lacks s.sizes _ s.machine.cache at x l tag (cause_of s.machine.banks s.machine.cache _ _ x refl h)
-refused_lacks s (Store at word lanes) x l h = store_lacks s.sizes _ s.machine.cache at x l lanes (cause_of s.machine.banks s.machine.cache _ _ x refl h)
-refused_lacks s (Prefetch at) x l h = prefetch_lacks s.sizes _ s.machine.cache at x l (cause_of s.machine.banks s.machine.cache _ _ x refl h)
+refused_lacks s (Load tag at) x l h = load_lacks s.sizes _ s.machine.cache at x l tag
+    (cause_of s.machine.banks s.machine.cache _ _ x refl h)
+refused_lacks s (Store at word lanes) x l h = store_lacks s.sizes _ s.machine.cache at x l lanes
+    (cause_of s.machine.banks s.machine.cache _ _ x refl h)
+refused_lacks s (Prefetch at) x l h = prefetch_lacks s.sizes _ s.machine.cache at x l
+    (cause_of s.machine.banks s.machine.cache _ _ x refl h)
 refused_lacks s (Evict block) x l h = cc
 refused_lacks s Drain x l h = cc
 refused_lacks s (Serve bank) x l h = cc
@@ -109,7 +124,8 @@ refused_lacks s (Arrive bank place) x l h = cc
 refused_lacks s (Process place) x l h = cc
 refused_lacks s (Take place) x l h = cc
 
-pub lacks_where_refused : (s : MachineState) (event : Event) (a : Answer) → answered s event ≡ a → is_refused_room event a ≡ true → lacks_room s event ≡ true
+pub lacks_where_refused : (s : MachineState) (event : Event) (a : Answer) → answered s event ≡ a → is_refused_room event a ≡ true
+    → lacks_room s event ≡ true
 lacks_where_refused s event (Refused x) e h = refused_lacks s event x h e
 lacks_where_refused s event Accepted e h = cc
 lacks_where_refused s event Moved e h = cc
@@ -124,7 +140,8 @@ record Passes (why : Option Cause) : Type 0 where
   is : why ≡ Some cause
   passes : ends_request cause ≡ false
 
-three_pass : (a b q r : Bool) → is_some (first_cause ((a, NoRegister) ∷ (b, SetPending) ∷ (q, QueueFull) ∷ [])) ≡ true → Passes (first_cause ((a, NoRegister) ∷ (b, SetPending) ∷ (q, QueueFull) ∷ (r, BankFull) ∷ []))
+three_pass : (a b q r : Bool) → is_some (first_cause ((a, NoRegister) ∷ (b, SetPending) ∷ (q, QueueFull) ∷ [])) ≡ true
+    → Passes (first_cause ((a, NoRegister) ∷ (b, SetPending) ∷ (q, QueueFull) ∷ (r, BankFull) ∷ []))
 three_pass true b q r h = record { cause = NoRegister; is = refl; passes = refl }
 three_pass false true q r h = record { cause = SetPending; is = refl; passes = refl }
 three_pass false false true r h = record { cause = QueueFull; is = refl; passes = refl }
@@ -154,20 +171,24 @@ module _ (z : Sizes) (room : ℕ → ℕ) (c : Cache) (at : ℕ) (lacks : lacks_
 
   load_passes : (tag : ℕ) → Passes (load_cause z room c tag at)
   unfolding load_cause
-  load_passes tag = skipped (nat_lt at z.words) OutOfRange _ inside (before _ TagInUse _ refl (before _ RepliesFull _ refl (absent _ (is_present c missed) three.0)))
+  load_passes tag = skipped (nat_lt at z.words) OutOfRange _ inside
+      (before _ TagInUse _ refl (before _ RepliesFull _ refl (absent _ (is_present c missed) three.0)))
 
   store_passes : (lanes : Lanes) → has_any lanes ≡ true → Passes (store_cause z room c at lanes)
   unfolding store_cause
-  store_passes lanes some = skipped (nat_lt at z.words) OutOfRange _ inside (skipped (has_any lanes) NoLanes _ some (absent _ (is_present c missed) three.0))
+  store_passes lanes some = skipped (nat_lt at z.words) OutOfRange _ inside
+      (skipped (has_any lanes) NoLanes _ some (absent _ (is_present c missed) three.0))
 
   prefetch_passes : Passes (prefetch_cause z room c at)
   unfolding prefetch_cause
   prefetch_passes = skipped (nat_lt at z.words) OutOfRange _ inside (absent _ (is_present c missed) three.0)
 
-passes_on : (banks : List Bank) (c : Cache) (why : Option Cause) (step : Stepped) → Passes why → is_end (joined_with banks (unless why c step)).answer ≡ false
+passes_on : (banks : List Bank) (c : Cache) (why : Option Cause) (step : Stepped) → Passes why
+    → is_end (joined_with banks (unless why c step)).answer ≡ false
 passes_on banks c why step p = subst (λ o. is_end (joined_with banks (unless o c step)).answer ≡ false) (sym p.is) p.passes
 
-pub lacking_waits : (s : MachineState) (event : Event) → lacks_room s event ≡ true → (is_request event ≡ true) × (is_end (answered s event) ≡ false)
+pub lacking_waits : (s : MachineState) (event : Event) → lacks_room s event ≡ true → (is_request event ≡ true) ×
+    (is_end (answered s event) ≡ false)
 unfolding answered load_step store_step prefetch_step
 lacking_waits s (Load tag at) h = (refl, passes_on s.machine.banks s.machine.cache _ _ (load_passes s.sizes _ s.machine.cache at h tag))
 lacking_waits s (Store at word lanes) h =
@@ -264,7 +285,8 @@ module _ (z : Sizes) (c : Cache) where
         ((n == z.regs, NoRegister) ∷ (p, SetPending) ∷ (lacks_places z c o, QueueFull) ∷ []))) in
         ap (λ n. said n (list_all (is_pending after) (ways_of z block)) (choose z after block)) taken_registers
         ∙ ap (λ p. said (length (filter (λ (r : Register). r.valid) c.registers)) p (choose z after block)) (all_pending block)
-        ∙ ap (λ o. said (length (filter (λ (r : Register). r.valid) c.registers)) (list_all (is_pending c) (ways_of z block)) o) (chosen block)
+        ∙ ap (λ o. said (length (filter (λ (r : Register). r.valid) c.registers)) (list_all (is_pending c) (ways_of z block)) o)
+        (chosen block)
 
     with_arrived : (event : Event) → lacks_room_in z after event ≡ lacks_room_in z c event
     with_arrived (Load tag at) = room_at at
@@ -310,7 +332,8 @@ module _ (z : Sizes) (m : Machine) (event : Event) where
   made (Process place) h = cc
 
 -- a pump that doesn't make room leaves a request without it
-pub still_lacks : (s : MachineState) (event : Event) → may_make_room (pump_tells s) ≡ false → lacks_room s event ≡ true → lacks_room (pump_leaves s) event ≡ true
+pub still_lacks : (s : MachineState) (event : Event) → may_make_room (pump_tells s) ≡ false → lacks_room s event ≡ true
+    → lacks_room (pump_leaves s) event ≡ true
 unfolding pump_tells pump_leaves after_event
 still_lacks s event none h = go (pumped s.sizes s.machine) none
   where
@@ -319,7 +342,8 @@ still_lacks s event none h = go (pumped s.sizes s.machine) none
     go (Some e) n = made s.sizes s.machine event e (true_of_not (leaves_room e) n) ∙ h
 
 -- behind an ask that was refused room, too
-pub asked_lacks : (s : MachineState) (row : Row) (event : Event) (a : Answer) → answered s event ≡ a → is_refused_room event a ≡ true → lacks_room (after_event s event) event ≡ true
+pub asked_lacks : (s : MachineState) (row : Row) (event : Event) (a : Answer) → answered s event ≡ a → is_refused_room event a ≡ true
+    → lacks_room (after_event s event) event ≡ true
 asked_lacks s row event a e h =
     let lacks = lacks_where_refused s event a e h in
     subst (λ (c : Course). lacks_room c.state event ≡ true) (sym (lacking_stays (course s row) event lacks).1) lacks
@@ -330,11 +354,14 @@ pub record IsRefusedAgain (s t : MachineState) (row counted : Row) (event : Even
   pub ends : false ≡ ends event (pump_and_wait (course s row))
   pub course : course t counted ≡ ask event (pump_and_wait (course s row))
 
-pub refused_again : (s t : MachineState) (row told : Row) (event : Event) → course t told ≡ pump_once (course s row) → may_make_room (pump_tells s) ≡ false → lacks_room s event ≡ true → IsRefusedAgain s t row (record told { waited = told.waited + 1 }) event
+pub refused_again : (s t : MachineState) (row told : Row) (event : Event) → course t told ≡ pump_once (course s row)
+    → may_make_room (pump_tells s) ≡ false → lacks_room s event ≡ true
+    → IsRefusedAgain s t row (record told { waited = told.waited + 1 }) event
 refused_again s t row told event h none lacked =
     let here = course t (record told { waited = told.waited + 1 }) in
     let pumped : here ≡ pump_and_wait (course s row) = waited s t row told h in
-    let lacks : lacks_room t event ≡ true = subst (λ m. lacks_room m event ≡ true) (sym (ap (λ (c : Course). c.state) h)) (still_lacks s event none lacked) in
+    let lacks : lacks_room t event ≡ true = subst (λ m. lacks_room m event ≡ true) (sym (ap (λ (c : Course). c.state) h))
+    (still_lacks s event none lacked) in
     let stays = lacking_stays here event lacks in
     record {
       lacks = lacks;

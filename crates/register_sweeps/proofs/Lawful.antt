@@ -1,5 +1,6 @@
 -- A machine whose numbers are in their ranges keeps what machines keep.
-use Rattle.std.proofs.Common.{◌≡◌, true, List, map, get_or, replicate, is_some, None, Result, Ok, Err, IfOk, Vec, Global, sym, ap, subst, ◌∙◌, arith}
+use Rattle.std.proofs.Common.{◌≡◌, true, List, map, get_or, replicate, is_some, None, Result, Ok, Err, IfOk, Vec, Global, sym, ap, subst}
+use Rattle.std.proofs.Common.{◌∙◌, arith}
 use Rattle.std.specs.List.{list_all}
 use Rattle.std.proofs.lemmas.List.{length-replicate, get_or-map}
 use Rattle.flat_model.specs.declared.Event.{Event}
@@ -28,17 +29,20 @@ good_machine z r =
     }
 
 -- the row of such a machine counts each request once, and each accepted load's value
-pub counts_all : (z : Sizes) (events : List Event) → bad_machine z ≡ None → list_all is_request events ≡ true → CountsAll events z (row_of events z)
+pub counts_all : (z : Sizes) (events : List Event) → bad_machine z ≡ None → list_all is_request events ≡ true
+    → CountsAll events z (row_of events z)
 counts_all z events h r =
     let range = numbers.in_size z (at_run_time z h) in
     let opened = flat_opening z (lawful z range) (replicate z.words zero_word) (length-replicate z.words zero_word) in
     let words = range.some_memory in
-    let counts = row_counts (new_machine z) z.regs events (good_machine z range) (omega (arith, words)) (λ tag. ap (λ f. is_some (f.due tag)) opened) r in
+    let counts = row_counts (new_machine z) z.regs events (good_machine z range) (omega (arith, words))
+    (λ tag. ap (λ f. is_some (f.due tag)) opened) r in
     record { each_ends = counts.0; each_is_paid = counts.1; nothing_left = counts.2 }
 
 -- the rows of such machines count all requests
 pub rows_count_all : (events : List Event) (zs : List Sizes) (r : Result (Vec Row Global) SweepFault) → AreGood zs
-    → IfOk r (λ rows. rows.items ≡ map (row_of events) zs) → IfOk r (λ rows. list_all is_request events ≡ true → EachCountsAll events zs rows.items)
+    → IfOk r (λ rows. rows.items ≡ map (row_of events) zs)
+    → IfOk r (λ rows. list_all is_request events ≡ true → EachCountsAll events zs rows.items)
 rows_count_all events zs (Err e) good said = tt
 rows_count_all events zs (Ok rows) good said = λ requests i z row l.
     let each = ap (λ xs. get_or xs i row) said ∙ get_or-map (row_of events) zs i z row l in

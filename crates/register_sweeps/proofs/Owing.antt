@@ -1,5 +1,6 @@
 -- The tags that flat memory owes a word, as a list.
-use Rattle.std.proofs.Common.{◌≡◌, ℕ, suc, Bool, true, false, cond, ◌||◌, ◌==◌, List, [], ◌∷◌, length, Option, Some, None, is_some, is_none, refl, sym, ap, ◌∙◌, arith}
+use Rattle.std.proofs.Common.{◌≡◌, ℕ, suc, Bool, true, false, cond, ◌||◌, ◌==◌, List, [], ◌∷◌, length, Option, Some, None, is_some, is_none}
+use Rattle.std.proofs.Common.{refl, sym, ap, ◌∙◌, arith}
 use Rattle.std.proofs.lemmas.Grind.{common_steps}
 use Rattle.flat_model.specs.declared.Word.{Word}
 use Rattle.flat_model.specs.Flat.{with_due}
@@ -21,7 +22,8 @@ same_tag : (t u : ℕ) → (t == u) ≡ (u == t)
 same_tag t u = grind (arith, common_steps)
 
 -- a tag more is owed
-pub owe : (due : ℕ → Option Word) (tags : List ℕ) (tag : ℕ) (w : Word) → Owing due tags → is_none (due tag) ≡ true → Owing (with_due due tag (Some w)) (tag ∷ tags)
+pub owe : (due : ℕ → Option Word) (tags : List ℕ) (tag : ℕ) (w : Word) → Owing due tags → is_none (due tag) ≡ true
+    → Owing (with_due due tag (Some w)) (tag ∷ tags)
 owe due tags tag w h free = record { apart = (sym (h.owed tag) ∙ not_some (due tag) free, h.apart); owed = λ t. one (t == tag) t refl }
   where
     not_some : (o : Option Word) → is_none o ≡ true → is_some o ≡ false
@@ -40,7 +42,8 @@ fewer : (t : ℕ) (ts : List ℕ) → has t ts ≡ true → suc (length (without
 fewer t [] h = cc
 fewer t (u ∷ us) h = go (u == t) refl (fewer t us)
   where
-    go : (b : Bool) → (u == t) ≡ b → (has t us ≡ true → suc (length (without t us)) ≡ length us) → suc (length (without t (u ∷ us))) ≡ length (u ∷ us)
+    go : (b : Bool) → (u == t) ≡ b → (has t us ≡ true → suc (length (without t us)) ≡ length us)
+        → suc (length (without t (u ∷ us))) ≡ length (u ∷ us)
     go true e rest = rw e refl
     go false e rest = let k : has t us ≡ true = sym (ap (λ b. b || has t us) e) ∙ h in rw e (ap suc (rest k))
 
@@ -69,12 +72,17 @@ still t (u ∷ us) h = go (u == t) refl (still t us h.1)
     go false e rest = let apart : (u == t) ≡ false = e in rw e (others t u us apart ∙ h.0, rest)
 
 -- an owed tag is paid
-pub pay : (due : ℕ → Option Word) (tags : List ℕ) (tag : ℕ) → Owing due tags → is_some (due tag) ≡ true → (left : List ℕ) × Owing (with_due due tag None) left × (suc (length left) ≡ length tags)
-pay due tags tag h owed =
-    (without tag tags, record { apart = still tag tags h.apart; owed = λ t. one (t == tag) t refl }, fewer tag tags (sym (h.owed tag) ∙ owed))
+pub pay : (due : ℕ → Option Word) (tags : List ℕ) (tag : ℕ) → Owing due tags → is_some (due tag) ≡ true → (left : List ℕ) ×
+    Owing (with_due due tag None) left × (suc (length left) ≡ length tags)
+pay due tags tag h owed = (
+  without tag tags,
+  record { apart = still tag tags h.apart; owed = λ t. one (t == tag) t refl },
+  fewer tag tags (sym (h.owed tag) ∙ owed),
+)
   where
     one : (b : Bool) (t : ℕ) → (t == tag) ≡ b → is_some (with_due due tag None t) ≡ has t (without tag tags)
-    one true t e = let same : t ≡ tag = grind (arith, common_steps, e) in rw e (sym (ap (λ k. has k (without tag tags)) same ∙ gone tag tags h.apart))
+    one true t e = let same : t ≡ tag = grind (arith, common_steps, e) in
+        rw e (sym (ap (λ k. has k (without tag tags)) same ∙ gone tag tags h.apart))
     one false t e = rw e (h.owed t ∙ sym (others tag t tags e))
 
 -- where nothing is owed, no tag is

@@ -1,5 +1,6 @@
 -- The first shape or machine with a bad number, and the rows of machines that have none.
-use Rattle.std.proofs.Common.{◌≡◌, ℕ, zero, suc, ◌+◌, ◌<◌, List, [], ◌∷◌, map, length, get_or, Option, Some, None, Result, Ok, Err, IfOk, OnOk, Vec, Global, refl, sym, ap, ap₂, subst, ◌∙◌, arith}
+use Rattle.std.proofs.Common.{◌≡◌, ℕ, zero, suc, ◌+◌, ◌<◌, List, [], ◌∷◌, map, length, get_or, Option, Some, None, Result, Ok, Err, IfOk}
+use Rattle.std.proofs.Common.{OnOk, Vec, Global, refl, sym, ap, ap₂, subst, ◌∙◌, arith}
 use Rattle.std.specs.List.{All}
 use Rattle.std.specs.Option.{option_map, option_or}
 use Rattle.std.proofs.lemmas.List.{get_or-map, length-map}
@@ -52,7 +53,8 @@ machines_good ts zs good same = λ i d l.
 
 module _ {A : Type 0} (gives : Sizes → A) (shows : Sizes → Type 0) where
   -- rows that are each that of its machine
-  each_row : (ts : List Sizes) (rows : List A) → length rows ≡ length ts → ((i : ℕ) (t : Sizes) (r : A) → i < length ts → get_or rows i r ≡ gives (get_or ts i t)) → rows ≡ map gives ts
+  each_row : (ts : List Sizes) (rows : List A) → length rows ≡ length ts
+      → ((i : ℕ) (t : Sizes) (r : A) → i < length ts → get_or rows i r ≡ gives (get_or ts i t)) → rows ≡ map gives ts
   each_row [] [] h e = refl
   each_row [] (r ∷ rows) h e = absurd (omega (arith, h))
   each_row (t ∷ ts) [] h e = absurd (omega (arith, h))
@@ -77,7 +79,8 @@ module _ {A : Type 0} (gives : Sizes → A) (shows : Sizes → Type 0) where
   some_row [] i l = absurd (omega (arith, l))
   some_row (r ∷ rows) i l = r
 
-  module _ (ts : List Sizes) (rows : List A) (answers : List (Result A Stop)) (all : map Ok rows ≡ answers) (len : length answers ≡ length ts) (each : EachIsRow ts answers) where
+  module _ (ts : List Sizes) (rows : List A) (answers : List (Result A Stop)) (all : map Ok rows ≡ answers)
+      (len : length answers ≡ length ts) (each : EachIsRow ts answers) where
     as_long : length rows ≡ length ts
     as_long = sym (length-map rows Ok) ∙ ap length all ∙ len
 
@@ -85,7 +88,8 @@ module _ {A : Type 0} (gives : Sizes → A) (shows : Sizes → Type 0) where
     at_place i t r l =
         let long = as_long in
         let inside : i < length rows = omega (arith, long, l) in
-        let answer : get_or answers i (Ok r) ≡ Ok (get_or rows i r) = sym (ap (λ xs. get_or xs i (Ok r)) all) ∙ get_or-map Ok rows i r (Ok r) inside in
+        let answer : get_or answers i (Ok r) ≡ Ok (get_or rows i r) = sym (ap (λ xs. get_or xs i (Ok r)) all)
+        ∙ get_or-map Ok rows i r (Ok r) inside in
         if_ok (IsRow (get_or ts i t)) (get_or answers i (Ok r)) (get_or rows i r) answer (each i (Ok r) t l)
 
     rows_said : rows ≡ map gives ts
@@ -95,11 +99,15 @@ module _ {A : Type 0} (gives : Sizes → A) (shows : Sizes → Type 0) where
     all_shown = λ i t l. let long = as_long in (at_place i t (some_row rows i (omega (arith, long, l))) l).1
 
   -- where every thread gave a row, these are the rows of the machines
-  pub rows_of_answers : (ts : List Sizes) (answers given : List (Result A Stop)) (r : Result (Vec A Global) SweepFault) → IfOk r (λ rows. map Ok rows.items ≡ given) → given ≡ answers → length answers ≡ length ts → EachIsRow ts answers → IfOk r (λ rows. rows.items ≡ map gives ts)
+  pub rows_of_answers : (ts : List Sizes) (answers given : List (Result A Stop)) (r : Result (Vec A Global) SweepFault)
+      → IfOk r (λ rows. map Ok rows.items ≡ given) → given ≡ answers → length answers ≡ length ts → EachIsRow ts answers
+      → IfOk r (λ rows. rows.items ≡ map gives ts)
   rows_of_answers ts answers given (Ok rows) h same len each = rows_said ts rows.items answers (h ∙ same) len each
   rows_of_answers ts answers given (Err e) h same len each = tt
 
   -- and all is shown of the machines that their rows show
-  pub shown_by_answers : (ts : List Sizes) (answers given : List (Result A Stop)) (r : Result (Vec A Global) SweepFault) → IfOk r (λ rows. map Ok rows.items ≡ given) → given ≡ answers → length answers ≡ length ts → EachIsRow ts answers → OnOk r (All shows ts)
+  pub shown_by_answers : (ts : List Sizes) (answers given : List (Result A Stop)) (r : Result (Vec A Global) SweepFault)
+      → IfOk r (λ rows. map Ok rows.items ≡ given) → given ≡ answers → length answers ≡ length ts → EachIsRow ts answers
+      → OnOk r (All shows ts)
   shown_by_answers ts answers given (Ok rows) h same len each = all_shown ts rows.items answers (h ∙ same) len each
   shown_by_answers ts answers given (Err e) h same len each = tt

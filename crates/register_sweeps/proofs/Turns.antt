@@ -10,13 +10,15 @@ use Rattle.std.specs.Option.{option_map}
 use Rattle.register_sweeps.specs.declared.row.Row.{Row}
 use Rattle.register_sweeps.specs.Sweep.{Course, course, pump_once, pump_and_wait, ask, ends, ask_again, pump_times}
 
-pub waited : (s t : MachineState) (row told : Row) → course t told ≡ pump_once (course s row) → course t (record told { waited = told.waited + 1 }) ≡ pump_and_wait (course s row)
+pub waited : (s t : MachineState) (row told : Row) → course t told ≡ pump_once (course s row)
+    → course t (record told { waited = told.waited + 1 }) ≡ pump_and_wait (course s row)
 waited s t row told h = ap (λ c. course c.state (record c.row { waited = c.row.waited + 1 })) h
 
 left : (n i : ℕ) → i < n → n - i ≡ suc (n - (i + 1))
 left n i h = omega arith
 
-more : (n : ℕ) (event : Event) (c : Course) → ask_again (suc n) event c ≡ cond (ends event (pump_and_wait c)) (ask event (pump_and_wait c)) (ask_again n event (ask event (pump_and_wait c)))
+more : (n : ℕ) (event : Event) (c : Course) → ask_again (suc n) event c ≡ cond (ends event (pump_and_wait c)) (ask event (pump_and_wait c))
+    (ask_again n event (ask event (pump_and_wait c)))
 unfolding ask_again
 more n event c = refl
 
@@ -27,12 +29,15 @@ module _ (n i : ℕ) (event : Event) (c d e : Course) (pumped : d ≡ pump_and_w
   pub turn_ends : ends event d ≡ true → ask_again (n - i) event c ≡ e
   turn_ends h =
       let h : ends event (pump_and_wait c) ≡ true = sym (ap (ends event) pumped) ∙ h in
-      ap (λ k. ask_again k event c) (left n i turn) ∙ more (n - (i + 1)) event c ∙ ap (λ b. cond b (ask event (pump_and_wait c)) (ask_again (n - (i + 1)) event (ask event (pump_and_wait c)))) h ∙ sym told
+      ap (λ k. ask_again k event c) (left n i turn) ∙ more (n - (i + 1)) event c
+      ∙ ap (λ b. cond b (ask event (pump_and_wait c)) (ask_again (n - (i + 1)) event (ask event (pump_and_wait c)))) h ∙ sym told
 
   pub turn_goes_on : ends event d ≡ false → ask_again (n - i) event c ≡ ask_again (n - (i + 1)) event e
   turn_goes_on h =
       let h : ends event (pump_and_wait c) ≡ false = sym (ap (ends event) pumped) ∙ h in
-      ap (λ k. ask_again k event c) (left n i turn) ∙ more (n - (i + 1)) event c ∙ ap (λ b. cond b (ask event (pump_and_wait c)) (ask_again (n - (i + 1)) event (ask event (pump_and_wait c)))) h ∙ ap (ask_again (n - (i + 1)) event) (sym told)
+      ap (λ k. ask_again k event c) (left n i turn) ∙ more (n - (i + 1)) event c
+      ∙ ap (λ b. cond b (ask event (pump_and_wait c)) (ask_again (n - (i + 1)) event (ask event (pump_and_wait c)))) h
+      ∙ ap (ask_again (n - (i + 1)) event) (sym told)
 
 pub no_turn_left : (n i : ℕ) (event : Event) (c : Course) → n ≤ i → ask_again (n - i) event c ≡ c
 unfolding ask_again
@@ -59,7 +64,8 @@ pump_sizes s = go (pumped s.sizes s.machine)
     go (Some event) = refl
 
 -- what a pump of the machine leaves and tells, by its state
-pub left_by_pump : (s : MachineState) → record s { machine = driver.after_event s.sizes s.machine (pumped s.sizes s.machine) } ≡ pump_leaves s
+pub left_by_pump : (s : MachineState) → record s { machine = driver.after_event s.sizes s.machine (pumped s.sizes s.machine) }
+    ≡ pump_leaves s
 unfolding pump_leaves after_event
 left_by_pump s = go (pumped s.sizes s.machine)
   where

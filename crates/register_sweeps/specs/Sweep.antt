@@ -1,5 +1,6 @@
 -- What a sweep counts, over the walk of the machine.
-use Rattle.std.specs.Prelude.{⊤, ℕ, zero, suc, ◌≡◌, ◌<◌, ◌+◌, ◌-◌, Bool, if◌then◌else◌, List, [], ◌∷◌, ◌++◌, length, slice_index_or, codes, decimal, Option, Some, None}
+use Rattle.std.specs.Prelude.{⊤, ℕ, zero, suc, ◌≡◌, ◌<◌, ◌+◌, ◌-◌, Bool, if◌then◌else◌, List, [], ◌∷◌, ◌++◌, length, slice_index_or, codes}
+use Rattle.std.specs.Prelude.{decimal, Option, Some, None}
 use Rattle.std.specs.List.{All}
 use Rattle.std.specs.Option.{option_map, option_or}
 use Rattle.shape_files.specs.MachineFile.{bad_machine}
@@ -145,7 +146,8 @@ abbrev pub count_text : List ℕ → ℕ → List ℕ
 count_text name n = codes " " ++ name ++ codes " " ++ decimal n
 
 abbrev pub requests_text : Row → List ℕ
-requests_text row = count_text (codes "accepted") row.accepted ++ count_text (codes "denied") row.denied ++ count_text (codes "stalled") row.stalled
+requests_text row = count_text (codes "accepted") row.accepted ++ count_text (codes "denied") row.denied
+    ++ count_text (codes "stalled") row.stalled
 
 abbrev pub work_text : Row → List ℕ
 work_text row = count_text (codes "waited") row.waited ++ count_text (codes "pumps") row.pumps ++ count_text (codes "values") row.values

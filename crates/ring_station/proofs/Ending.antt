@@ -1,5 +1,6 @@
 -- What an audit behind the threads leaves of what they did, and what stands where all came to their ends.
-use Rattle.std.proofs.Common.{◌≡◌, ℕ, ◌<◌, ◌≤◌, Bool, true, false, ◌&&◌, cond, List, ◌++◌, length, map, slice_index_or, refl, sym, ap, ◌∙◌, subst, arith}
+use Rattle.std.proofs.Common.{◌≡◌, ℕ, ◌<◌, ◌≤◌, Bool, true, false, ◌&&◌, cond, List, ◌++◌, length, map, slice_index_or, refl, sym, ap, ◌∙◌}
+use Rattle.std.proofs.Common.{subst, arith}
 use Rattle.std.specs.Prelude.{Option, Some, None, is_none, vec_len, [], ◌∷◌, take, zero, suc}
 use Rattle.std.specs.Global.{Vec}
 use Rattle.std.specs.List.{list_all}

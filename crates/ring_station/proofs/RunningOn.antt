@@ -1,5 +1,6 @@
 -- Runs of the pieces of scripts, one behind the other: none, one more, the last one, and one that stops.
-use Rattle.std.proofs.Common.{◌≡◌, ℕ, suc, ◌+◌, ◌*◌, ◌<◌, ◌≤◌, ◌⊎◌, inl, inr, List, [], ◌∷◌, ◌++◌, length, map, slice_index_or, refl, sym, ap, ◌∙◌, subst, subst₂, arith, append_assoc}
+use Rattle.std.proofs.Common.{◌≡◌, ℕ, suc, ◌+◌, ◌*◌, ◌<◌, ◌≤◌, ◌⊎◌, inl, inr, List, [], ◌∷◌, ◌++◌, length, map, slice_index_or, refl, sym}
+use Rattle.std.proofs.Common.{ap, ◌∙◌, subst, subst₂, arith, append_assoc}
 use Rattle.std.specs.Prelude.{false}
 use Rattle.std.specs.Global.{Vec}
 use Rattle.std.specs.List.{All}
@@ -16,7 +17,9 @@ use Rattle.station_parts.specs.Ids.{port_id}
 use Rattle.station_parts.specs.Words.{offered, offered_before, taken, has_ended, earlier_of}
 use Rattle.ring_station.specs.declared.fault.SegmentFault.{SegmentFault}
 use Rattle.ring_station.specs.declared.segment.Segment.{Segment}
-use Rattle.ring_station.specs.Segments.{HasRunOn, HaveRunOn, HandsOut, piece_behind, HaveRunNext, HandsOutNext, RunsNext, StopsNext, pieces_of, HasRunPieces, lists_at, journals_of, HaveRunPieces, longest_of, RunsInSegments, StopsBehind, EachKeepsTo, RunsInTurns, StopsInTurns, piece_count}
+use Rattle.ring_station.specs.Segments.{HasRunOn, HaveRunOn, HandsOut, piece_behind, HaveRunNext, HandsOutNext, RunsNext, StopsNext}
+use Rattle.ring_station.specs.Segments.{pieces_of, HasRunPieces, lists_at, journals_of, HaveRunPieces, longest_of, RunsInSegments}
+use Rattle.ring_station.specs.Segments.{StopsBehind, EachKeepsTo, RunsInTurns, StopsInTurns, piece_count}
 use Rattle.ring_station.specs.Within.{KeepsTo}
 use Rattle.ring_station.proofs.Piecing.{pieces-suc, grown_more, converse-push, scripts_whole, all_at, count_is}
 use Rattle.ring_station.proofs.StationRunning.{default_of}
@@ -26,7 +29,8 @@ use Rattle.ring_station.proofs.Within.{keeps_still, keeps_on}
 -- ---- one run, of pieces that were cut
 
 next_is : (begin asks : ℕ) (scripts pieces : List (Vec Ask))
-    → map (λ p. p.items) pieces ≡ map (λ s. piece_behind begin asks s.items) scripts → (p : ℕ) (s : Vec Ask) → p < length scripts → p < length pieces
+    → map (λ p. p.items) pieces ≡ map (λ s. piece_behind begin asks s.items) scripts → (p : ℕ) (s : Vec Ask) → p < length scripts
+    → p < length pieces
     → (slice_index_or pieces p s).items ≡ piece_behind begin asks (slice_index_or scripts p s).items
 next_is begin asks scripts pieces cut p s less there =
     sym (get_or-map (λ (p : Vec Ask). p.items) pieces p s [] there) ∙ ap (λ l. slice_index_or l p []) cut
@@ -161,7 +165,8 @@ pub record HasComeTo {W B R D : ℕ} (begin asks turns : ℕ) (scripts : List (V
     pub each : EachKeepsTo turns 0 asks scripts old new segments
 
 module _ {W B R D : ℕ} (asks turns : ℕ) (scripts : List (Vec Ask)) where
-  pub come_nowhere : (station : Station W B R D) (kept : List Segment → Type 0) → kept [] → HasComeTo 0 asks turns scripts station station kept
+  pub come_nowhere : (station : Station W B R D) (kept : List Segment → Type 0) → kept []
+      → HasComeTo 0 asks turns scripts station station kept
   come_nowhere station kept none = record {
     segments = [];
     begin_is = sym (zero-mul asks);

@@ -1,5 +1,5 @@
 -- What a run makes of the ports with a renewal behind it.
-use Rattle.std.proofs.Common.{◌≡◌, ℕ, ◌<◌, false, List, length, slice_index_or, sym, ◌∙◌, subst}
+use Rattle.std.proofs.Common.{◌≡◌, ◌<◌, false, List, length, slice_index_or, sym, ◌∙◌, subst}
 use Rattle.std.specs.Global.{Vec}
 use Rattle.std.proofs.lemmas.List.Elements.{All-get_or}
 use Rattle.station_journal.specs.declared.asks.Ask.{Ask}

@@ -1,5 +1,6 @@
 -- What one turn makes of a part.
-use Rattle.std.proofs.Common.{◌≡◌, ℕ, ◌+◌, ◌-◌, ◌≤◌, Bool, true, false, cond, List, [], ◌∷◌, ◌++◌, length, refl, sym, ap, ◌∙◌, subst, arith, append-nil, length-append, zero-add}
+use Rattle.std.proofs.Common.{◌≡◌, ℕ, ◌+◌, ◌-◌, ◌≤◌, Bool, true, false, cond, List, [], ◌∷◌, ◌++◌, length, refl, sym, ap, ◌∙◌, subst, arith}
+use Rattle.std.proofs.Common.{append-nil, length-append, zero-add}
 use Rattle.std.specs.Prelude.{Option, Some, None, is_some, nat_le, IfSome, IfNone}
 use Rattle.std.proofs.lemmas.Bool.{leb-true}
 use Rattle.station_journal.specs.declared.asks.Ask.{Ask}
@@ -15,7 +16,8 @@ use Rattle.station_parts.specs.declared.parts.CacheSide.{CacheSide}
 use Rattle.station_parts.specs.declared.parts.Stepped.{Stepped}
 use Rattle.station_parts.specs.declared.parts.Stepped.TheVariants.{Did, Idle, JournalFull, Faulted}
 use Rattle.station_parts.specs.SideState.{SideState, Known, state_of}
-use Rattle.station_parts.specs.SideSteps.{Effect, asked, arrives, brought, work_of, has_work, nothing, effect_of, refusal_of, answer_of, word_fault, StepMakes}
+use Rattle.station_parts.specs.SideSteps.{Effect, asked, arrives, brought, work_of, has_work, nothing, effect_of, refusal_of, answer_of}
+use Rattle.station_parts.specs.SideSteps.{word_fault, StepMakes}
 use Rattle.station_parts.specs.Ids.{bank_id, cache_id}
 use Rattle.station_parts.specs.Rest.{is_at_rest}
 use Rattle.station_parts.specs.Words.{earlier_of, held_of, journal_limit, cache_in, fault_in, received_by}

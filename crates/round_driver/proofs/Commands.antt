@@ -19,7 +19,8 @@ use Rattle.machine_core.proofs.Moving.{leaves_commands}
 abbrev pub HasCommands : ℕ → Bank → Type 0
 HasCommands n x = n ≤ length x.queue
 
-sent_more : (n : ℕ) (banks : List Bank) (sent : List (ℕ × Command)) (b : ℕ) → HasCommands n (bank_at banks b) → HasCommands n (bank_at (all_sent banks sent) b)
+sent_more : (n : ℕ) (banks : List Bank) (sent : List (ℕ × Command)) (b : ℕ) → HasCommands n (bank_at banks b)
+    → HasCommands n (bank_at (all_sent banks sent) b)
 unfolding with_command
 sent_more n banks [] b w = w
 sent_more n banks (c ∷ rest) b w = sent_more n (set banks c.0 more) rest b first
@@ -42,7 +43,8 @@ module _ (z : Sizes) (m : Machine) (b n : ℕ) (w : n ≤ length (bank_at m.bank
 
   pub commands_stay : (event : Event) → leaves_commands b event → n ≤ length (bank_at (apply z m event).machine.banks b).queue
   commands_stay (Load tag at) other = sent_more n m.banks (load_step z (room_in z.bank_queue m.banks) m.cache tag at).sent b w
-  commands_stay (Store at word lanes) other = sent_more n m.banks (store_step z (room_in z.bank_queue m.banks) m.cache at word lanes).sent b w
+  commands_stay (Store at word lanes) other = sent_more n m.banks (store_step z (room_in z.bank_queue m.banks) m.cache at word lanes).sent b
+      w
   commands_stay (Prefetch at) other = sent_more n m.banks (prefetch_step z (room_in z.bank_queue m.banks) m.cache at).sent b w
   commands_stay (Evict block) other = sent_more n m.banks (evict_step z m.cache block).sent b w
   commands_stay Drain other = sent_more n m.banks (drain_step z (room_in z.bank_queue m.banks) m.cache).sent b w
@@ -58,14 +60,16 @@ module _ (z : Sizes) (m : Machine) (b n : ℕ) (w : n ≤ length (bank_at m.bank
       taken : (a : BankAnswer) (cause : Option Cause) → Keeps (take_in z m k place a cause).machine
       taken a (Some cause) = w
       taken a None =
-          bank_at-set (HasCommands n) m.banks k (without_answer (bank_at m.banks k) place) b (λ e. subst (λ j. HasCommands n (bank_at m.banks j)) e w) w
+          bank_at-set (HasCommands n) m.banks k (without_answer (bank_at m.banks k) place) b
+          (λ e. subst (λ j. HasCommands n (bank_at m.banks j)) e w) w
 
       go : (o : Option BankAnswer) → Keeps (arrive_from z m k place o).machine
       go None = w
       go (Some a) = taken a (arrive_cause z m.cache a.slot a.i)
 
 -- a bank that serves has one command less
-pub one_served : (z : Sizes) (m : Machine) (b n : ℕ) → suc n ≤ length (bank_at m.banks b).queue → n ≤ length (bank_at (apply z m (Serve b)).machine.banks b).queue
+pub one_served : (z : Sizes) (m : Machine) (b n : ℕ) → suc n ≤ length (bank_at m.banks b).queue
+    → n ≤ length (bank_at (apply z m (Serve b)).machine.banks b).queue
 unfolding served
 one_served z m b n w = go (bank_at m.banks b).queue refl
   where

@@ -12,7 +12,8 @@ use Rattle.round_driver.specs.declared.details.RoundEnds.{RoundEnds}
 use Rattle.round_driver.specs.declared.outcomes.Outcome.{Outcome}
 use Rattle.round_driver.specs.Machines.{used_registers}
 use Rattle.round_driver.specs.Rounds.{Run, rounds_until_over, start_of}
-use Rattle.round_driver.specs.Details.{counted, counted_all, nothing_told, no_ends, with_end, owed_of, told_of, ends_of, ends_total, told_total}
+use Rattle.round_driver.specs.Details.{counted, counted_all, nothing_told, no_ends, with_end, owed_of, told_of, ends_of, ends_total}
+use Rattle.round_driver.specs.Details.{told_total}
 use Rattle.round_driver.specs.Details.{details_from}
 
 -- ---- nothing was counted yet
@@ -45,19 +46,27 @@ counted_then : (z : MachineNumbers) (t : Told) (xs ys : List Note) → counted_a
 counted_then z t [] ys = refl
 counted_then z t (x ∷ xs) ys = counted_then z (counted z t x) xs ys
 
-pub told_next : (z : MachineNumbers) (before notes after : List Note) (t u : Told) → after ≡ before ++ notes → t ≡ counted_all z (nothing_told z) before → u ≡ counted_all z t notes → u ≡ counted_all z (nothing_told z) after
+pub told_next : (z : MachineNumbers) (before notes after : List Note) (t u : Told) → after ≡ before ++ notes
+    → t ≡ counted_all z (nothing_told z) before → u ≡ counted_all z t notes → u ≡ counted_all z (nothing_told z) after
 told_next z before notes after t u more p q =
-    q ∙ ap (λ x. counted_all z x notes) p ∙ sym (counted_then z (nothing_told z) before notes) ∙ ap (counted_all z (nothing_told z)) (sym more)
+    q ∙ ap (λ x. counted_all z x notes) p ∙ sym (counted_then z (nothing_told z) before notes)
+    ∙ ap (counted_all z (nothing_told z)) (sym more)
 
-ended_once : (n : ℕ) (z : MachineNumbers) (r : Run) → ends_of (suc n) z r ≡ with_end (ends_of n z r) (used_registers (rounds_until_over (suc n) r).state) (owed_of (told_of z (rounds_until_over (suc n) r)))
+ended_once : (n : ℕ) (z : MachineNumbers) (r : Run)
+    → ends_of (suc n) z r ≡ with_end (ends_of n z r) (used_registers (rounds_until_over (suc n) r).state)
+    (owed_of (told_of z (rounds_until_over (suc n) r)))
 unfolding ends_of
 ended_once n z r = refl
 
-pub ends_next : (n : ℕ) (z : MachineNumbers) (r : Run) (d e : RoundEnds) (t : Told) (used : ℕ) → d ≡ ends_of n z r → e ≡ with_end d used (owed_of t) → used ≡ used_registers (rounds_until_over (n + 1) r).state → t ≡ told_of z (rounds_until_over (n + 1) r) → e ≡ ends_of (n + 1) z r
+pub ends_next : (n : ℕ) (z : MachineNumbers) (r : Run) (d e : RoundEnds) (t : Told) (used : ℕ) → d ≡ ends_of n z r
+    → e ≡ with_end d used (owed_of t) → used ≡ used_registers (rounds_until_over (n + 1) r).state
+    → t ≡ told_of z (rounds_until_over (n + 1) r) → e ≡ ends_of (n + 1) z r
 ends_next n z r d e t used p q in_use told =
     let next : n + 1 ≡ suc n = omega arith in
-    let here = λ (k : ℕ). with_end (ends_of n z r) (used_registers (rounds_until_over k r).state) (owed_of (told_of z (rounds_until_over k r))) in
-    let made : e ≡ here (n + 1) = q ∙ ap (λ x. with_end x used (owed_of t)) p ∙ ap₂ (λ a b. with_end (ends_of n z r) a (owed_of b)) in_use told in
+    let here = λ (k : ℕ). with_end (ends_of n z r) (used_registers (rounds_until_over k r).state)
+    (owed_of (told_of z (rounds_until_over k r))) in
+    let made : e ≡ here (n + 1) = q ∙ ap (λ x. with_end x used (owed_of t)) p
+    ∙ ap₂ (λ a b. with_end (ends_of n z r) a (owed_of b)) in_use told in
     made ∙ ap here next ∙ sym (ended_once n z r) ∙ ap (λ k. ends_of k z r) (sym next)
 
 -- ---- the end

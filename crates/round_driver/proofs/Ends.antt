@@ -1,5 +1,6 @@
 -- Every run of requests ends: among any latency + 1 rounds there is one in which the weight falls or a request ends.
-use Rattle.std.proofs.Common.{◌≡◌, ℕ, zero, suc, ◌+◌, ◌-◌, ◌*◌, ◌<◌, ◌≤◌, Bool, true, false, cond, ◌&&◌, List, [], ◌∷◌, ◌++◌, length, Some, refl, sym, ap, ap₂, ◌∙◌, subst, arith, ◌⊎◌, inl, inr, eq-eqb, mul-le-mul_right}
+use Rattle.std.proofs.Common.{◌≡◌, ℕ, zero, suc, ◌+◌, ◌-◌, ◌*◌, ◌<◌, ◌≤◌, Bool, true, false, cond, ◌&&◌, List, [], ◌∷◌, ◌++◌, length, Some}
+use Rattle.std.proofs.Common.{refl, sym, ap, ap₂, ◌∙◌, subst, arith, ◌⊎◌, inl, inr, eq-eqb, mul-le-mul_right}
 use Rattle.std.specs.List.{list_all}
 use Rattle.std.proofs.lemmas.Bool.{and_parts}
 use Rattle.std.proofs.lemmas.List.{length-replicate}
@@ -19,12 +20,14 @@ use Rattle.machine_core.proofs.Whole.{lawful, roomy}
 use Rattle.machine_core.proofs.Counting.{weight_bound}
 use Rattle.machine_core.proofs.Weighing.{rests_or_waits}
 use Rattle.machine_core.proofs.Moving.{HasCommand, leaves_commands}
-use Rattle.round_driver.specs.Rounds.{Course, course, Run, is_end, ends, begun_at, first_begun, next_round, moves, ask, asked, after_round, is_empty, is_over, rounds_until_over, opening, start_of, most_moves, most_rounds, whole_run}
+use Rattle.round_driver.specs.Rounds.{Course, course, Run, is_end, ends, begun_at, first_begun, next_round, moves, ask, asked, after_round}
+use Rattle.round_driver.specs.Rounds.{is_empty, is_over, rounds_until_over, opening, start_of, most_moves, most_rounds, whole_run}
 use Rattle.round_driver.specs.Walks.{is_request, RequestsEnd}
 use Rattle.round_driver.specs.declared.timing.Timing.{Timing}
 use Rattle.round_driver.proofs.Requests.{request_stays, request_ends}
 use Rattle.round_driver.proofs.Runs.{stays, goes, round_over}
-use Rattle.round_driver.proofs.Moves.{Waits, AreBy, IsSteady, IsInFlight, first_waits, Move, Stands, NothingArrives, NoAnswers, steady_after, round_moves}
+use Rattle.round_driver.proofs.Moves.{Waits, AreBy, IsSteady, IsInFlight, first_waits, Move, Stands, NothingArrives, NoAnswers}
+use Rattle.round_driver.proofs.Moves.{steady_after, round_moves}
 
 -- ---- one request
 
@@ -64,7 +67,8 @@ cheap s k whole =
 -- nothing need move in the next d rounds at most: these are as many as a bank takes, or a bank is due then
 abbrev IsQuietFor : ℕ → Run → Type 0
 IsQuietFor d r =
-    (r.schedule.timing.latency ≤ d) ⊎ ((b : ℕ) × (t : ℕ) × (b < r.state.sizes.banks) × (first_begun r.schedule b ≡ Some t) × (t + r.schedule.timing.latency ≤ r.schedule.round + d + 1))
+    (r.schedule.timing.latency ≤ d) ⊎ ((b : ℕ) × (t : ℕ) × (b < r.state.sizes.banks) × (first_begun r.schedule b ≡ Some t) ×
+    (t + r.schedule.timing.latency ≤ r.schedule.round + d + 1))
 
 record IsSound (r : Run) : Type 0 where
   steady : IsSteady r.state r.schedule
@@ -88,7 +92,8 @@ record Goes (d : ℕ) (r next : Run) : Type 0 where
   is_quiet : IsQuietFor quiet next
   cheaper : cost next + quiet < cost r + d
 
-module _ (d : ℕ) (r next : Run) (latency : next.schedule.timing.latency ≡ r.schedule.timing.latency) (round : next.schedule.round ≡ r.schedule.round + 1) (sizes : next.state.sizes ≡ r.state.sizes) (sound : IsSound next) where
+module _ (d : ℕ) (r next : Run) (latency : next.schedule.timing.latency ≡ r.schedule.timing.latency)
+    (round : next.schedule.round ≡ r.schedule.round + 1) (sizes : next.state.sizes ≡ r.state.sizes) (sound : IsSound next) where
   -- the rounds that a request may take
   abbrev each : ℕ
   each = most_moves r.state.sizes * (r.schedule.timing.latency + 1)
@@ -102,13 +107,15 @@ module _ (d : ℕ) (r next : Run) (latency : next.schedule.timing.latency ≡ r.
       let k = r.schedule.timing.latency + 1 in
       let fall : suc (weight next.state.machine) * k ≤ weight r.state.machine * k = mul-le-mul_right k less in
       let left = ap₂ (λ n e. n * e) as_many same_each in
-      let moving : weight next.state.machine * (next.schedule.timing.latency + 1) ≡ weight next.state.machine * k = ap (λ l. weight next.state.machine * (l + 1)) latency in
+      let moving : weight next.state.machine * (next.schedule.timing.latency + 1) ≡ weight next.state.machine * k =
+      ap (λ l. weight next.state.machine * (l + 1)) latency in
       record {
         sound = sound;
         round = round;
         quiet = r.schedule.timing.latency;
         is_quiet = inl (omega (arith, latency));
-        cheaper = less_work (length r.left * each) _ (weight r.state.machine * k) _ (weight next.state.machine) r.schedule.timing.latency d left moving fall;
+        cheaper = less_work (length r.left * each) _ (weight r.state.machine * k) _ (weight next.state.machine) r.schedule.timing.latency d
+            left moving fall;
       }
 
   -- a request less
@@ -119,19 +126,22 @@ module _ (d : ℕ) (r next : Run) (latency : next.schedule.timing.latency ≡ r.
       subst (λ z. weight next.state.machine * k + k ≤ most_moves z * k) sizes (cheap next.state k sound.steady.whole) in
       let left = ap (λ e. length next.left * e) same_each in
       let before = ap (λ n. n * each) fewer in
-      let moving : weight next.state.machine * (next.schedule.timing.latency + 1) ≡ weight next.state.machine * k = ap (λ l. weight next.state.machine * (l + 1)) latency in
+      let moving : weight next.state.machine * (next.schedule.timing.latency + 1) ≡ weight next.state.machine * k =
+      ap (λ l. weight next.state.machine * (l + 1)) latency in
       record {
         sound = sound;
         round = round;
         quiet = r.schedule.timing.latency;
         is_quiet = inl (omega (arith, latency));
-        cheaper = one_less (length next.left) each _ _ (weight r.state.machine * k) _ (weight next.state.machine) r.schedule.timing.latency d left before moving most;
+        cheaper = one_less (length next.left) each _ _ (weight r.state.machine * k) _ (weight next.state.machine) r.schedule.timing.latency
+            d left before moving most;
       }
 
 -- ---- a round
 
 -- where no move did anything, the machine rests or a bank has a command
-stands_waits : (c d : Course) → IsSteady d.state d.schedule → Stands c d → (weight d.state.machine ≡ 0) ⊎ HasCommand d.state.sizes d.state.machine
+stands_waits : (c d : Course) → IsSteady d.state d.schedule → Stands c d → (weight d.state.machine ≡ 0) ⊎
+    HasCommand d.state.sizes d.state.machine
 stands_waits c d steady stands =
     let z = d.state.sizes in
     let rests = rests_or_waits z (lawful z range) (roomy z range) d.state.machine steady.whole.sound in
@@ -165,7 +175,9 @@ begun_steady r sound =
           record { early = later_by r.schedule.round (begun_at r.schedule b) before.early; fits = before.fits };
     }
 
-module _ (d : ℕ) (r : Run) (sound : IsSound r) (quiet : IsQuietFor d r) (next : Run) (move : Move (begun r) (moves (begun r)) (Stands (begun r) (moves (begun r)))) (state : next.state ≡ (moves (begun r)).state) (schedule : next.schedule ≡ (moves (begun r)).schedule) (as_many : length next.left ≡ length r.left) (next_sound : IsSound next) where
+module _ (d : ℕ) (r : Run) (sound : IsSound r) (quiet : IsQuietFor d r) (next : Run)
+    (move : Move (begun r) (moves (begun r)) (Stands (begun r) (moves (begun r)))) (state : next.state ≡ (moves (begun r)).state)
+    (schedule : next.schedule ≡ (moves (begun r)).schedule) (as_many : length next.left ≡ length r.left) (next_sound : IsSound next) where
   abbrev behind : Course
   behind = moves (begun r)
 
@@ -182,7 +194,9 @@ module _ (d : ℕ) (r : Run) (sound : IsSound r) (quiet : IsQuietFor d r) (next 
   banks = ap (λ z. z.banks) sizes
 
   -- a busy bank is due a round sooner
-  nearer : behind.state ≡ r.state → (b t : ℕ) → b < r.state.sizes.banks → first_begun behind.schedule b ≡ Some t → behind.schedule.round - t < behind.schedule.timing.latency → t ≤ r.schedule.round + 1 → t + r.schedule.timing.latency ≤ r.schedule.round + d + 1 ⊎ (r.schedule.timing.latency ≤ d) → Goes d r next
+  nearer : behind.state ≡ r.state → (b t : ℕ) → b < r.state.sizes.banks → first_begun behind.schedule b ≡ Some t
+      → behind.schedule.round - t < behind.schedule.timing.latency → t ≤ r.schedule.round + 1
+      → t + r.schedule.timing.latency ≤ r.schedule.round + d + 1 ⊎ (r.schedule.timing.latency ≤ d) → Goes d r next
   nearer same b t there busy early begins due = go d refl due
     where
       go : (n : ℕ) → d ≡ n → (t + r.schedule.timing.latency ≤ r.schedule.round + d + 1) ⊎ (r.schedule.timing.latency ≤ d) → Goes d r next
@@ -190,7 +204,8 @@ module _ (d : ℕ) (r : Run) (sound : IsSound r) (quiet : IsQuietFor d r) (next 
       go zero e (inr l) = let c = move.latency in absurd (omega (arith, e, l, early, c))
       go (suc n) e o = later (sooner o)
         where
-          sooner : (t + r.schedule.timing.latency ≤ r.schedule.round + d + 1) ⊎ (r.schedule.timing.latency ≤ d) → t + r.schedule.timing.latency ≤ r.schedule.round + d + 1
+          sooner : (t + r.schedule.timing.latency ≤ r.schedule.round + d + 1) ⊎ (r.schedule.timing.latency ≤ d)
+              → t + r.schedule.timing.latency ≤ r.schedule.round + d + 1
           sooner (inl l) = l
           sooner (inr l) = omega (arith, l, begins)
 
@@ -213,7 +228,8 @@ module _ (d : ℕ) (r : Run) (sound : IsSound r) (quiet : IsQuietFor d r) (next 
   stood : behind.state ≡ r.state → Stands (begun r) behind → (weight behind.state.machine ≡ 0 → ⊥) → Goes d r next
   stood same stands busy = go quiet
     where
-      long_quiet : r.schedule.timing.latency ≤ d → (weight behind.state.machine ≡ 0) ⊎ HasCommand behind.state.sizes behind.state.machine → Goes d r next
+      long_quiet : r.schedule.timing.latency ≤ d → (weight behind.state.machine ≡ 0) ⊎ HasCommand behind.state.sizes behind.state.machine
+          → Goes d r next
       long_quiet enough (inl rest) = absurd (busy rest)
       long_quiet enough (inr x) =
           let l = x.1 in
@@ -278,15 +294,19 @@ round_goes d r sound quiet going = go r.left refl sound.requests
     steady_then : (event : Event) → ((b : ℕ) → leaves_commands b event) → IsSteady (after_event behind.state event) behind.schedule
     steady_then event leaves = steady_after event behind.state behind.schedule move.steady leaves
 
-    asks : (event : Event) (rest : List Event) → r.left ≡ event ∷ rest → is_request event ≡ true → list_all is_request rest ≡ true → (b : Bool) → ends event behind ≡ b → Goes d r (next event rest b)
+    asks : (event : Event) (rest : List Event) → r.left ≡ event ∷ rest → is_request event ≡ true → list_all is_request rest ≡ true
+        → (b : Bool) → ends event behind ≡ b → Goes d r (next event rest b)
     asks event rest e request requests true h =
-        let sound : IsSound (next event rest true) = record { steady = steady_then event (request_leaves event request); requests = requests } in
+        let sound : IsSound (next event rest true) =
+        record { steady = steady_then event (request_leaves event request); requests = requests } in
         shorter d r (next event rest true) move.latency move.round (sizes_stay behind.state event ∙ move.sizes) sound (ap length e)
     asks event rest e request requests false h =
         let same : after_event behind.state event ≡ behind.state = request_stays behind.state event request h in
         let all : list_all is_request (event ∷ rest) ≡ true = ap₂ (λ a b. a && b) request requests in
-        let next_sound : IsSound (next event rest false) = record { steady = steady_then event (request_leaves event request); requests = all } in
-        let busy = λ (stood : behind.state ≡ r.state) (light : weight behind.state.machine ≡ 0). ended event (request_ends behind.state (serves behind.state move.steady.whole light) event request) h in
+        let next_sound : IsSound (next event rest false) =
+        record { steady = steady_then event (request_leaves event request); requests = all } in
+        let busy = λ (stood : behind.state ≡ r.state) (light : weight behind.state.machine ≡ 0). ended event
+        (request_ends behind.state (serves behind.state move.steady.whole light) event request) h in
         goes_on d r sound quiet (next event rest false) move same refl (sym (ap length e)) next_sound busy
       where
         ended : (event : Event) → is_end (answered behind.state event) ≡ true → ends event behind ≡ false → ⊥
@@ -321,7 +341,8 @@ over_within zero d r sound quiet few = go (is_over r) refl
 over_within (suc n) d r sound quiet few =
     go (λ q next is_quiet fewer. over_within n q (after_round r) next is_quiet fewer) (is_over r) refl
   where
-    go : ((q : ℕ) → IsSound (after_round r) → IsQuietFor q (after_round r) → cost (after_round r) + q ≤ n → IsOverWithin n (after_round r)) → (b : Bool) → is_over r ≡ b → IsOverWithin (suc n) r
+    go : ((q : ℕ) → IsSound (after_round r) → IsQuietFor q (after_round r) → cost (after_round r) + q ≤ n → IsOverWithin n (after_round r))
+        → (b : Bool) → is_over r ≡ b → IsOverWithin (suc n) r
     go later true e = over_now (suc n) r e
     go later false e =
         let more = round_goes d r sound quiet e in
@@ -335,7 +356,8 @@ over_within (suc n) d r sound quiet few =
 pub requests_end : (timing : Timing) (s : MachineState) (requests : List Event) → IsWholeState s → RequestsEnd timing s requests
 requests_end timing s requests whole all =
     let rest = over_within most timing.latency start sound (inl (omega arith)) few in
-    let same : whole_run timing s requests ≡ rounds_until_over most start = round_over most (most_rounds s.sizes timing.latency (length requests)) start (omega (arith, below)) rest.over in
+    let same : whole_run timing s requests ≡ rounds_until_over most start =
+    round_over most (most_rounds s.sizes timing.latency (length requests)) start (omega (arith, below)) rest.over in
     let round = ap (λ r. r.schedule.round) same in
     let in_time = rest.in_time in
     record { over = ap is_over same ∙ rest.over; in_time = omega (arith, round, in_time, below) }
@@ -359,7 +381,8 @@ requests_end timing s requests whole all =
           steady = record {
             whole = whole;
             places = length-replicate MAX_BANKS none;
-            busy = λ b. subst (IsInFlight 0 (length (bank_at s.machine.banks b).queue)) (sym (idle b)) (record { early = tt; fits = omega arith });
+            busy = λ b. subst (IsInFlight 0 (length (bank_at s.machine.banks b).queue)) (sym (idle b))
+                (record { early = tt; fits = omega arith });
           };
           requests = all;
         }
@@ -374,7 +397,8 @@ requests_end timing s requests whole all =
 
     room : (most < most_rounds s.sizes timing.latency (length requests)) × (cost start + timing.latency ≤ most)
     room =
-        with_room (length requests) (most_moves s.sizes * (timing.latency + 1)) (weight s.machine * (timing.latency + 1)) timing.latency little
+        with_room (length requests) (most_moves s.sizes * (timing.latency + 1)) (weight s.machine * (timing.latency + 1)) timing.latency
+        little
 
     below : most < most_rounds s.sizes timing.latency (length requests)
     below = room.0

@@ -1,5 +1,7 @@
 -- The moves of a round: one of them lowers the weight, or all leave the machine as it was, and show why.
-use Rattle.std.proofs.Common.{◌≡◌, ℕ, zero, suc, ◌+◌, ◌-◌, ◌<◌, ◌≤◌, Bool, true, false, cond, not, ◌&&◌, nat_lt, List, [], ◌∷◌, ◌++◌, length, drop, get_or, slice_get, Option, Some, None, refl, sym, ap, ◌∙◌, subst, arith, ◌⊎◌, inl, inr, ⊎_elim, length-set, get_or-set_same, get_or-set_other, ltb-true, lt-ltb}
+use Rattle.std.proofs.Common.{◌≡◌, ℕ, zero, suc, ◌+◌, ◌-◌, ◌<◌, ◌≤◌, Bool, true, false, cond, not, ◌&&◌, nat_lt, List, [], ◌∷◌, ◌++◌}
+use Rattle.std.proofs.Common.{length, drop, get_or, slice_get, Option, Some, None, refl, sym, ap, ◌∙◌, subst, arith, ◌⊎◌, inl, inr, ⊎_elim}
+use Rattle.std.proofs.Common.{length-set, get_or-set_same, get_or-set_other, ltb-true, lt-ltb}
 use Rattle.std.specs.Option.{option_or}
 use Rattle.std.proofs.lemmas.Bool.{and_parts, cases_eq, cases_lt, ltb-false}
 use Rattle.std.proofs.lemmas.List.{get_or_past, length-append}
@@ -19,7 +21,9 @@ use Rattle.machine_core.proofs.Weighing.{arrive_lowers}
 use Rattle.machine_core.proofs.Moving.{FallsOr, HasCommand, take_falls, process_falls, serve_falls, drain_falls, leaves_commands}
 use Rattle.round_driver.specs.declared.schedule.Schedule.{Schedule}
 use Rattle.round_driver.specs.Machines.{command_count, has_answer, has_stack_room}
-use Rattle.round_driver.specs.Rounds.{Course, scheduled, begun_at, with_begun, first_begun, is_free_since, is_free, with_begin, without_first, is_due_since, attempt, begin, serve_due, bank_turns, first_with_answer, next_with_answer, arrive_from, arrive, moves}
+use Rattle.round_driver.specs.Rounds.{Course, scheduled, begun_at, with_begun, first_begun, is_free_since, is_free, with_begin}
+use Rattle.round_driver.specs.Rounds.{without_first, is_due_since, attempt, begin, serve_due, bank_turns, first_with_answer}
+use Rattle.round_driver.specs.Rounds.{next_with_answer, arrive_from, arrive, moves}
 use Rattle.round_driver.proofs.Commands.{commands_stay, one_served}
 
 -- ---- where a run stands
@@ -82,7 +86,8 @@ whole_after s event h =
     }
 
 -- an event that leaves the banks their commands
-pub steady_after : (event : Event) (s : MachineState) (p : Schedule) → IsSteady s p → ((b : ℕ) → leaves_commands b event) → IsSteady (after_event s event) p
+pub steady_after : (event : Event) (s : MachineState) (p : Schedule) → IsSteady s p → ((b : ℕ) → leaves_commands b event)
+    → IsSteady (after_event s event) p
 unfolding after_event
 steady_after event s p steady leaves =
     record {
@@ -189,7 +194,8 @@ begun b c steady few = go (is_free c.schedule b && nat_lt (length before) (waiti
           steady = record {
             whole = steady.whole;
             places = length-set c.schedule.begun b (before ++ c.schedule.round ∷ []) ∙ steady.places;
-            busy = λ k. ⊎_elim (λ q. subst Flies (sym q) here) (λ apart. subst (InFlightAt k) (sym (other k apart)) (steady.busy k)) (cases_eq k b);
+            busy = λ k. ⊎_elim (λ q. subst Flies (sym q) here) (λ apart. subst (InFlightAt k) (sym (other k apart)) (steady.busy k))
+                (cases_eq k b);
           };
           state = refl;
           round = refl;
@@ -207,7 +213,8 @@ begun b c steady few = go (is_free c.schedule b && nat_lt (length before) (waiti
         here : Flies b
         here =
             let all = length-append before (c.schedule.round ∷ []) in
-            let more : InFlightAt b (before ++ c.schedule.round ∷ []) = record { early = more_by c.schedule.round before (steady.busy b).early; fits = omega (arith, all, free) } in
+            let more : InFlightAt b (before ++ c.schedule.round ∷ []) =
+            record { early = more_by c.schedule.round before (steady.busy b).early; fits = omega (arith, all, free) } in
             subst (InFlightAt b) (sym same) more
 
         first_here : (k t : ℕ) → k ≡ b → first_begun c.schedule k ≡ Some t → first_begun now.schedule k ≡ Some t
@@ -219,7 +226,8 @@ begun b c steady few = go (is_free c.schedule b && nat_lt (length before) (waiti
     stays begins = record { steady = steady; state = refl; round = refl; latency = refl; kept = λ k t e. e; begins = begins }
 
     -- a bank that begins nothing, and has a command, has begun one
-    held : (is_free c.schedule b && nat_lt (length before) (waiting c.state b)) ≡ false → Waits c.state b → (t : ℕ) × (first_begun c.schedule b ≡ Some t)
+    held : (is_free c.schedule b && nat_lt (length before) (waiting c.state b)) ≡ false → Waits c.state b → (t : ℕ) ×
+        (first_begun c.schedule b ≡ Some t)
     held e w = go before refl
       where
         go : (l : List ℕ) → before ≡ l → (t : ℕ) × (first_begun c.schedule b ≡ Some t)
@@ -303,15 +311,19 @@ serves b c steady there = go (begun_at c.schedule b) refl
             let waits = (first_waits c.state c.schedule steady b t (ap (λ l. slice_get l 0) e)).1 in
             serve_falls c.state.sizes (law c.state w) (room c.state w) c.state.machine w.sound b there waits
 
-    due : (t : ℕ) (ts : List ℕ) → begun_at c.schedule b ≡ t ∷ ts → (early : Bool) → nat_lt (c.schedule.round - t) c.schedule.timing.latency ≡ early → Move c (cond (not early) ended c) (ServedOrNot b c (cond (not early) ended c))
+    due : (t : ℕ) (ts : List ℕ) → begun_at c.schedule b ≡ t ∷ ts → (early : Bool) → nat_lt (c.schedule.round - t) c.schedule.timing.latency
+        ≡ early → Move c (cond (not early) ended c) (ServedOrNot b c (cond (not early) ended c))
     due t ts e true q =
-        stays (λ u f. let same : t ≡ u = is_first u f in subst (NotDue c) same (ltb-true (c.schedule.round - t) c.schedule.timing.latency q))
+        stays (λ u f. let same : t ≡ u = is_first u f in
+        subst (NotDue c) same (ltb-true (c.schedule.round - t) c.schedule.timing.latency q))
       where
         is_first : (u : ℕ) → first_begun c.schedule b ≡ Some u → t ≡ u
         is_first u f = let first : Some t ≡ Some u = sym (ap (λ l. slice_get l 0) e) ∙ f in cc
     due t ts e false q = ends t ts e
 
-    go : (begun : List ℕ) → begun_at c.schedule b ≡ begun → Move c (cond (is_due_since c.schedule (slice_get begun 0)) ended c) (ServedOrNot b c (cond (is_due_since c.schedule (slice_get begun 0)) ended c))
+    go : (begun : List ℕ) → begun_at c.schedule b ≡ begun
+        → Move c (cond (is_due_since c.schedule (slice_get begun 0)) ended c)
+        (ServedOrNot b c (cond (is_due_since c.schedule (slice_get begun 0)) ended c))
     go [] e = stays (λ t f. none t (sym (ap (λ l. slice_get l 0) e) ∙ f))
       where
         none : (t : ℕ) → slice_get [] 0 ≡ Some t → NotDue c t
@@ -321,13 +333,16 @@ serves b c steady there = go (begun_at c.schedule b) refl
 -- n banks from this one on had their turns and served nothing: each that has a command has begun one, which isn't due
 pub record Turned (from n : ℕ) (c d : Course) : Type 0 where
   pub kept : (b t : ℕ) → first_begun c.schedule b ≡ Some t → first_begun d.schedule b ≡ Some t
-  pub begins : (b : ℕ) → from ≤ b → b < from + n → Waits c.state b → (t : ℕ) × (first_begun d.schedule b ≡ Some t) × (d.schedule.round - t < d.schedule.timing.latency)
+  pub begins : (b : ℕ) → from ≤ b → b < from + n → Waits c.state b → (t : ℕ) × (first_begun d.schedule b ≡ Some t) ×
+      (d.schedule.round - t < d.schedule.timing.latency)
 
 abbrev AllTurns : ℕ → ℕ → Course → Type 0
 AllTurns n b c = Move c (bank_turns n b c) (Turned b n c (bank_turns n b c))
 
 -- one bank's turn, and then those of the banks behind it
-turn_then : (n b : ℕ) (c : Course) → Steady c → b + suc n ≡ c.state.sizes.banks → (Steady (serve_due b (begin b c)) → b + 1 + n ≡ (serve_due b (begin b c)).state.sizes.banks → AllTurns n (b + 1) (serve_due b (begin b c))) → AllTurns (suc n) b c
+turn_then : (n b : ℕ) (c : Course) → Steady c → b + suc n ≡ c.state.sizes.banks
+    → (Steady (serve_due b (begin b c)) → b + 1 + n ≡ (serve_due b (begin b c)).state.sizes.banks
+    → AllTurns n (b + 1) (serve_due b (begin b c))) → AllTurns (suc n) b c
 unfolding bank_turns
 turn_then n b c steady all later = then c e f first rest both
   where
@@ -379,12 +394,14 @@ turn_then n b c steady all later = then c e f first rest both
         still : (k : ℕ) → first_begun e.schedule k ≡ first_begun d.schedule k
         still k = ap (λ l. slice_get (get_or l k []) 0) served.0
 
-        there_too : (k : ℕ) → b ≤ k → k < b + suc n → (k ≡ b → ⊥) → Waits c.state k → (t : ℕ) × (first_begun f.schedule k ≡ Some t) × (f.schedule.round - t < f.schedule.timing.latency)
+        there_too : (k : ℕ) → b ≤ k → k < b + suc n → (k ≡ b → ⊥) → Waits c.state k → (t : ℕ) × (first_begun f.schedule k ≡ Some t) ×
+            (f.schedule.round - t < f.schedule.timing.latency)
         there_too k lo hi apart w =
             let waits = subst (λ s. Waits s k) (sym same) w in
             turned.begins k (omega (arith, lo, apart)) (omega (arith, hi)) waits
 
-        here : (k : ℕ) → k ≡ b → Waits c.state k → (t : ℕ) × (first_begun f.schedule k ≡ Some t) × (f.schedule.round - t < f.schedule.timing.latency)
+        here : (k : ℕ) → k ≡ b → Waits c.state k → (t : ℕ) × (first_begun f.schedule k ≡ Some t) ×
+            (f.schedule.round - t < f.schedule.timing.latency)
         here k q w =
             let at = begins.begins (subst (Waits c.state) q w) in
             let early = served.1 at.0 at.1 in
@@ -412,7 +429,8 @@ unfolding first_with_answer
 answer_there s zero b k e = cc
 answer_there s (suc n) b k e = go (has_answer s b) refl (answer_there s n (b + 1) k) e
   where
-    go : (h : Bool) → has_answer s b ≡ h → (first_with_answer s n (b + 1) ≡ Some k → has_answer s k ≡ true) → cond h (Some b) (first_with_answer s n (b + 1)) ≡ Some k → has_answer s k ≡ true
+    go : (h : Bool) → has_answer s b ≡ h → (first_with_answer s n (b + 1) ≡ Some k → has_answer s k ≡ true)
+        → cond h (Some b) (first_with_answer s n (b + 1)) ≡ Some k → has_answer s k ≡ true
     go true q later r = let same : b ≡ k = cc in ap (has_answer s) (sym same) ∙ q
     go false q later r = later r
 
@@ -421,7 +439,8 @@ unfolding first_with_answer
 no_answer s zero b k e lo hi = absurd (omega (arith, lo, hi))
 no_answer s (suc n) b k e lo hi = go (has_answer s b) refl (no_answer s n (b + 1) k) e
   where
-    go : (h : Bool) → has_answer s b ≡ h → (first_with_answer s n (b + 1) ≡ None → b + 1 ≤ k → k < b + 1 + n → has_answer s k ≡ false) → cond h (Some b) (first_with_answer s n (b + 1)) ≡ None → has_answer s k ≡ false
+    go : (h : Bool) → has_answer s b ≡ h → (first_with_answer s n (b + 1) ≡ None → b + 1 ≤ k → k < b + 1 + n → has_answer s k ≡ false)
+        → cond h (Some b) (first_with_answer s n (b + 1)) ≡ None → has_answer s k ≡ false
     go true q later r = cc
     go false q later r =
         ⊎_elim (λ same. ap (has_answer s) same ∙ q) (λ apart. later r (omega (arith, lo, apart)) (omega (arith, hi))) (cases_eq k b)
@@ -433,7 +452,8 @@ NoAnswers s = (b : ℕ) → b < s.sizes.banks → (bank_at s.machine.banks b).an
 next_there : (s : MachineState) (next k : ℕ) → next_with_answer s next ≡ Some k → has_answer s k ≡ true
 next_there s next k e = go (first_with_answer s (s.sizes.banks - next) next) refl e
   where
-    go : (o : Option ℕ) → first_with_answer s (s.sizes.banks - next) next ≡ o → option_or o (first_with_answer s next 0) ≡ Some k → has_answer s k ≡ true
+    go : (o : Option ℕ) → first_with_answer s (s.sizes.banks - next) next ≡ o → option_or o (first_with_answer s next 0) ≡ Some k
+        → has_answer s k ≡ true
     go (Some b) q r = answer_there s (s.sizes.banks - next) next k (q ∙ r)
     go None q r = answer_there s next 0 k r
 
@@ -445,7 +465,8 @@ nowhere : (s : MachineState) (next : ℕ) → next_with_answer s next ≡ None �
 unfolding has_answer
 nowhere s next e b l = go (first_with_answer s (s.sizes.banks - next) next) refl e
   where
-    go : (o : Option ℕ) → first_with_answer s (s.sizes.banks - next) next ≡ o → option_or o (first_with_answer s next 0) ≡ None → (bank_at s.machine.banks b).answers ≡ []
+    go : (o : Option ℕ) → first_with_answer s (s.sizes.banks - next) next ≡ o → option_or o (first_with_answer s next 0) ≡ None
+        → (bank_at s.machine.banks b).answers ≡ []
     go (Some k) q r = cc
     go None q r =
         let before = λ (h : b < next). no_answer s next 0 b r (omega arith) (omega (arith, h)) in
@@ -471,7 +492,8 @@ arrives c steady = go (nat_lt (length c.state.machine.cache.stack) c.state.sizes
     stays : NothingArrives c.state → Move c c (Shows c c NothingArrives)
     stays why = record { steady = steady; round = refl; latency = refl; sizes = refl; lighter = inr (refl, (refl, why)) }
 
-    comes : length c.state.machine.cache.stack < c.state.sizes.depth → (b : ℕ) → has_answer c.state b ≡ true → Move c (arrive_from (Some b) c) (Shows c (arrive_from (Some b) c) NothingArrives)
+    comes : length c.state.machine.cache.stack < c.state.sizes.depth → (b : ℕ) → has_answer c.state b ≡ true
+        → Move c (arrive_from (Some b) c) (Shows c (arrive_from (Some b) c) NothingArrives)
     comes room_left b some =
         record {
           steady = attempt_steady (Arrive b 0) behind same (λ k. tt);
@@ -487,7 +509,8 @@ arrives c steady = go (nat_lt (length c.state.machine.cache.stack) c.state.sizes
         same : Steady behind
         same = record { whole = steady.whole; places = steady.places; busy = steady.busy }
 
-        falls : (answers : List BankAnswer) → (bank_at c.state.machine.banks b).answers ≡ answers → weight (apply c.state.sizes c.state.machine (Arrive b 0)).machine < weight c.state.machine
+        falls : (answers : List BankAnswer) → (bank_at c.state.machine.banks b).answers ≡ answers
+            → weight (apply c.state.sizes c.state.machine (Arrive b 0)).machine < weight c.state.machine
         falls [] e = let none : has_items (bank_at c.state.machine.banks b).answers ≡ false = ap has_items e in cc
         falls (a ∷ rest) e =
             let w = steady.whole in
@@ -497,21 +520,27 @@ arrives c steady = go (nat_lt (length c.state.machine.cache.stack) c.state.sizes
             there : (b < length c.state.machine.banks) ⊎ (length c.state.machine.banks ≤ b) → b < length c.state.machine.banks
             there (inl l) = l
             there (inr past) =
-                let none : (bank_at c.state.machine.banks b).answers ≡ [] = ap (λ x. x.answers) (get_or_past c.state.machine.banks b no_bank past) in
+                let none : (bank_at c.state.machine.banks b).answers ≡ [] =
+                ap (λ x. x.answers) (get_or_past c.state.machine.banks b no_bank past) in
                 cc
 
-    next : length c.state.machine.cache.stack < c.state.sizes.depth → (o : Option ℕ) → next_with_answer c.state c.schedule.next ≡ o → Move c (arrive_from o c) (Shows c (arrive_from o c) NothingArrives)
+    next : length c.state.machine.cache.stack < c.state.sizes.depth → (o : Option ℕ) → next_with_answer c.state c.schedule.next ≡ o
+        → Move c (arrive_from o c) (Shows c (arrive_from o c) NothingArrives)
     next room_left None e = stays (inr (nowhere c.state c.schedule.next e))
     next room_left (Some b) e = comes room_left b (next_there c.state c.schedule.next b e)
 
-    go : (h : Bool) → nat_lt (length c.state.machine.cache.stack) c.state.sizes.depth ≡ h → Move c (cond h (arrive_from (next_with_answer c.state c.schedule.next) c) c) (Shows c (cond h (arrive_from (next_with_answer c.state c.schedule.next) c) c) NothingArrives)
+    go : (h : Bool) → nat_lt (length c.state.machine.cache.stack) c.state.sizes.depth ≡ h
+        → Move c (cond h (arrive_from (next_with_answer c.state c.schedule.next) c) c)
+        (Shows c (cond h (arrive_from (next_with_answer c.state c.schedule.next) c) c) NothingArrives)
     go true e =
         next (ltb-true (length c.state.machine.cache.stack) c.state.sizes.depth e) (next_with_answer c.state c.schedule.next) refl
     go false e = stays (inl (ltb-false (length c.state.machine.cache.stack) c.state.sizes.depth e))
 
 -- ---- the stack, the replies, the write queue
 
-attempted : (event : Event) (c : Course) (why : MachineState → Type 0) → Steady c → ((b : ℕ) → leaves_commands b event) → FallsOr c.state.machine (apply c.state.sizes c.state.machine event).machine (why c.state) → Move c (attempt event c) (Shows c (attempt event c) why)
+attempted : (event : Event) (c : Course) (why : MachineState → Type 0) → Steady c → ((b : ℕ) → leaves_commands b event)
+    → FallsOr c.state.machine (apply c.state.sizes c.state.machine event).machine (why c.state)
+    → Move c (attempt event c) (Shows c (attempt event c) why)
 unfolding attempt after_event
 attempted event c why steady leaves falls =
     record {
@@ -522,7 +551,8 @@ attempted event c why steady leaves falls =
       lighter = go falls;
     }
   where
-    go : FallsOr c.state.machine (apply c.state.sizes c.state.machine event).machine (why c.state) → Lighter c (attempt event c) (Shows c (attempt event c) why)
+    go : FallsOr c.state.machine (apply c.state.sizes c.state.machine event).machine (why c.state)
+        → Lighter c (attempt event c) (Shows c (attempt event c) why)
     go (inl p) = inl p
     go (inr p) =
         let same : after_event c.state event ≡ c.state = ap (λ m. record { sizes = c.state.sizes; machine = m }) p.0 in
@@ -536,7 +566,8 @@ Drained s = (s.machine.cache.queue ≡ []) ⊎ HasCommand s.sizes s.machine
 -- why no move of a round did anything
 pub record Stands (c d : Course) : Type 0 where
   pub kept : (b t : ℕ) → first_begun c.schedule b ≡ Some t → first_begun d.schedule b ≡ Some t
-  pub begins : (b : ℕ) → b < c.state.sizes.banks → Waits c.state b → (t : ℕ) × (first_begun d.schedule b ≡ Some t) × (d.schedule.round - t < d.schedule.timing.latency)
+  pub begins : (b : ℕ) → b < c.state.sizes.banks → Waits c.state b → (t : ℕ) × (first_begun d.schedule b ≡ Some t) ×
+      (d.schedule.round - t < d.schedule.timing.latency)
   pub arrived : NothingArrives d.state
   pub processed : d.state.machine.cache.stack ≡ []
   pub taken : d.state.machine.cache.ready ≡ []
@@ -592,7 +623,8 @@ round_moves c steady = then c c3 c5 (then c c1 c3 turned first (λ f g p q. (f, 
     last =
         then c3 c4 c5 taking draining (λ f g p q. (g.0 ∙ f.0, (subst (λ s. s.machine.cache.ready ≡ []) (sym q) f.1, g.1)))
 
-    all : Turned 0 c.state.sizes.banks c c1 × Shows c1 c3 (λ s. NothingArrives s × (s.machine.cache.stack ≡ [])) → Shows c3 c5 (λ s. (s.machine.cache.ready ≡ []) × Drained s) → c3.state ≡ c.state → c5.state ≡ c3.state → Stands c c5
+    all : Turned 0 c.state.sizes.banks c c1 × Shows c1 c3 (λ s. NothingArrives s × (s.machine.cache.stack ≡ []))
+        → Shows c3 c5 (λ s. (s.machine.cache.ready ≡ []) × Drained s) → c3.state ≡ c.state → c5.state ≡ c3.state → Stands c c5
     all f g p q =
         record {
           kept = λ b t e. still b ∙ f.0.kept b t e;
@@ -612,5 +644,6 @@ round_moves c steady = then c c3 c5 (then c c1 c3 turned first (λ f g p q. (f, 
         latency : c5.schedule.timing.latency ≡ c1.schedule.timing.latency
         latency = last.latency ∙ first.latency
 
-        busy : (b : ℕ) → (t : ℕ) × (first_begun c1.schedule b ≡ Some t) × (c1.schedule.round - t < c1.schedule.timing.latency) → (t : ℕ) × (first_begun c5.schedule b ≡ Some t) × (c5.schedule.round - t < c5.schedule.timing.latency)
+        busy : (b : ℕ) → (t : ℕ) × (first_begun c1.schedule b ≡ Some t) × (c1.schedule.round - t < c1.schedule.timing.latency) → (t : ℕ) ×
+            (first_begun c5.schedule b ≡ Some t) × (c5.schedule.round - t < c5.schedule.timing.latency)
         busy b x = let early = x.2 in (x.0, still b ∙ x.1, omega (arith, early, round, latency))

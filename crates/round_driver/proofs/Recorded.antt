@@ -1,5 +1,6 @@
 -- The outcomes of requests, as they are recorded round by round.
-use Rattle.std.proofs.Common.{◌≡◌, ℕ, ◌+◌, ◌<◌, ◌≤◌, Bool, true, false, cond, nat_lt, ◌&&◌, List, [], ◌∷◌, ◌++◌, length, length-append, take, append_assoc, append-nil, refl, sym, ap, ◌∙◌, ⊎_elim, lt-ltb, le-ltb, arith}
+use Rattle.std.proofs.Common.{◌≡◌, ℕ, ◌+◌, ◌<◌, ◌≤◌, Bool, true, false, cond, nat_lt, ◌&&◌, List, [], ◌∷◌, ◌++◌, length, length-append}
+use Rattle.std.proofs.Common.{take, append_assoc, append-nil, refl, sym, ap, ◌∙◌, ⊎_elim, lt-ltb, le-ltb, arith}
 use Rattle.std.proofs.lemmas.Bool.{cases_lt}
 use Rattle.std.proofs.lemmas.List.{take-append-le, take_all}
 use Rattle.flat_model.specs.declared.Event.{Event}
@@ -20,7 +21,8 @@ abbrev Records : ℕ → List Note → List Outcome → Type 0
 Records room ns os = (with_notes (recorded room os) ns).ended ≡ take room (os ++ outcomes_of ns)
 
 -- an outcome more is recorded, if there is room
-one_more : (room : ℕ) (os : List Outcome) (o : Outcome) (ns : List Note) → length os ≤ room → ((xs : List Outcome) → length xs ≤ room → Records room ns xs)
+one_more : (room : ℕ) (os : List Outcome) (o : Outcome) (ns : List Note) → length os ≤ room
+    → ((xs : List Outcome) → length xs ≤ room → Records room ns xs)
     → (with_notes (with_outcome (recorded room os) o) ns).ended ≡ take room (os ++ (o ∷ outcomes_of ns))
 one_more room os o ns le rest =
     let here = λ (c : Bool). (with_notes (recorded room (cond c (os ++ o ∷ []) os)) ns).ended in
@@ -34,14 +36,16 @@ one_more room os o ns le rest =
     ∙ rest os le ∙ take-append-le room os (outcomes_of ns) l ∙ sym (take-append-le room os (o ∷ outcomes_of ns) l) in
     ⊎_elim fits full (cases_lt (length os) room)
 
-note_more : (room : ℕ) (os : List Outcome) (n : Note) (ns : List Note) → length os ≤ room → ((xs : List Outcome) → length xs ≤ room → Records room ns xs) → Records room (n ∷ ns) os
+note_more : (room : ℕ) (os : List Outcome) (n : Note) (ns : List Note) → length os ≤ room
+    → ((xs : List Outcome) → length xs ≤ room → Records room ns xs) → Records room (n ∷ ns) os
 unfolding with_note
 note_more room os n ns le rest = go (is_request n.event && is_end n.answer)
   where
     o : Outcome
     o = outcome_by n.answer n.found
 
-    go : (b : Bool) → (with_notes (cond b (with_outcome (recorded room os) o) (recorded room os)) ns).ended ≡ take room (os ++ cond b (o ∷ outcomes_of ns) (outcomes_of ns))
+    go : (b : Bool) → (with_notes (cond b (with_outcome (recorded room os) o) (recorded room os)) ns).ended
+        ≡ take room (os ++ cond b (o ∷ outcomes_of ns) (outcomes_of ns))
     go true = one_more room os o ns le rest
     go false = rest os le
 
@@ -62,7 +66,9 @@ pub recording_begins : (timing : Timing) (s : MachineState) (requests : List Eve
 unfolding rounds_until_over
 recording_begins timing s requests r h = h
 
-pub recorded_next : (room : ℕ) (before notes after : List Note) (r u : Recorded) → after ≡ before ++ notes → r ≡ with_notes (nothing_recorded room) before → u ≡ with_notes r notes
+pub recorded_next : (room : ℕ) (before notes after : List Note) (r u : Recorded) → after ≡ before ++ notes
+    → r ≡ with_notes (nothing_recorded room) before → u ≡ with_notes r notes
     → u ≡ with_notes (nothing_recorded room) after
 recorded_next room before notes after r u more p q =
-    q ∙ ap (λ x. with_notes x notes) p ∙ sym (recorded_then (nothing_recorded room) before notes) ∙ ap (with_notes (nothing_recorded room)) (sym more)
+    q ∙ ap (λ x. with_notes x notes) p ∙ sym (recorded_then (nothing_recorded room) before notes)
+    ∙ ap (with_notes (nothing_recorded room)) (sym more)

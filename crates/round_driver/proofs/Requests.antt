@@ -1,5 +1,6 @@
 -- A request that isn't ended leaves the machine as it was, and one to a machine at rest ends.
-use Rattle.std.proofs.Common.{◌≡◌, ℕ, ◌<◌, ◌≤◌, Bool, true, false, cond, not, nat_lt, List, Option, Some, None, refl, ap, ◌∙◌, ⊎_elim, lt-ltb, le-ltb}
+use Rattle.std.proofs.Common.{◌≡◌, ℕ, ◌<◌, ◌≤◌, Bool, true, false, cond, not, nat_lt, List, Option, Some, None, refl, ap, ◌∙◌, ⊎_elim}
+use Rattle.std.proofs.Common.{lt-ltb, le-ltb}
 use Rattle.std.proofs.lemmas.Bool.{cases_lt}
 use Rattle.flat_model.specs.declared.Cause.{Cause}
 use Rattle.flat_model.specs.declared.Cause.TheVariants as cause
@@ -23,20 +24,25 @@ use Rattle.round_driver.specs.Walks.{is_request}
 
 -- ---- a request that isn't ended leaves the machine as it was
 
-refused_stays : (banks : List Bank) (c : Cache) (why : Option Cause) (step : Stepped) → step.answer ≡ Accepted → is_end (joined_with banks (unless why c step)).answer ≡ false → (joined_with banks (unless why c step)).machine ≡ record { cache = c; banks = banks }
+refused_stays : (banks : List Bank) (c : Cache) (why : Option Cause) (step : Stepped) → step.answer ≡ Accepted
+    → is_end (joined_with banks (unless why c step)).answer ≡ false
+    → (joined_with banks (unless why c step)).machine ≡ record { cache = c; banks = banks }
 refused_stays banks c (Some why) step e h = refl
 refused_stays banks c None step e h = let yes : is_end step.answer ≡ true = ap is_end e in cc
 
-pub request_stays : (s : MachineState) (event : Event) → is_request event ≡ true → is_end (answered s event) ≡ false → after_event s event ≡ s
+pub request_stays : (s : MachineState) (event : Event) → is_request event ≡ true → is_end (answered s event) ≡ false
+    → after_event s event ≡ s
 unfolding answered after_event load_step store_step prefetch_step evict_step
 request_stays s event r h = ap (λ m. record { sizes = s.sizes; machine = m }) (go event r h)
   where
     rooms : ℕ → ℕ
     rooms = room_in s.sizes.bank_queue s.machine.banks
 
-    go : (e : Event) → is_request e ≡ true → is_end (apply s.sizes s.machine e).answer ≡ false → (apply s.sizes s.machine e).machine ≡ s.machine
+    go : (e : Event) → is_request e ≡ true → is_end (apply s.sizes s.machine e).answer ≡ false
+        → (apply s.sizes s.machine e).machine ≡ s.machine
     go (Load tag at) q k = refused_stays s.machine.banks s.machine.cache (load_cause s.sizes rooms s.machine.cache tag at) _ refl k
-    go (Store at word lanes) q k = refused_stays s.machine.banks s.machine.cache (store_cause s.sizes rooms s.machine.cache at lanes) _ refl k
+    go (Store at word lanes) q k = refused_stays s.machine.banks s.machine.cache (store_cause s.sizes rooms s.machine.cache at lanes) _ refl
+        k
     go (Prefetch at) q k = refused_stays s.machine.banks s.machine.cache (prefetch_cause s.sizes rooms s.machine.cache at) _ refl k
     go (Evict block) q k = refused_stays s.machine.banks s.machine.cache (evict_cause s.sizes s.machine.cache block) _ refl k
     go Drain q k = cc
@@ -47,7 +53,8 @@ request_stays s event r h = ap (λ m. record { sizes = s.sizes; machine = m }) (
 
 -- ---- a request ends where the machine serves requests, as it does where nothing is on its way
 
-denied_ends : (banks : List Bank) (c : Cache) (why : Option Cause) (x : Cause) (step : Stepped) → is_end (Refused x) ≡ true → why ≡ Some x → is_end (joined_with banks (unless why c step)).answer ≡ true
+denied_ends : (banks : List Bank) (c : Cache) (why : Option Cause) (x : Cause) (step : Stepped) → is_end (Refused x) ≡ true → why ≡ Some x
+    → is_end (joined_with banks (unless why c step)).answer ≡ true
 denied_ends banks c None x step e q = cc
 denied_ends banks c (Some y) x step e q = let same : y ≡ x = cc in ap (λ a. is_end (Refused a)) same ∙ e
 

@@ -1,5 +1,6 @@
 -- Rounds, one after another.
-use Rattle.std.proofs.Common.{◌≡◌, ℕ, zero, suc, ◌+◌, ◌≤◌, Bool, true, false, cond, List, [], ◌∷◌, ◌++◌, append_assoc, append-nil, take, length, get_or, ◌<◌, refl, sym, ap, ap₂, subst, ◌∙◌, arith}
+use Rattle.std.proofs.Common.{◌≡◌, ℕ, zero, suc, ◌+◌, ◌≤◌, Bool, true, false, cond, List, [], ◌∷◌, ◌++◌, append_assoc, append-nil, take}
+use Rattle.std.proofs.Common.{length, get_or, ◌<◌, refl, sym, ap, ap₂, subst, ◌∙◌, arith}
 use Rattle.std.proofs.lemmas.List.{take_more}
 use Rattle.flat_model.specs.declared.Event.{Event}
 use Rattle.machine_core.specs.Machine.{MachineState}
@@ -33,7 +34,8 @@ no : true ≡ false → ⊥
 no e = cc
 
 -- one round more
-pub round_more : (n : ℕ) (r : Run) → is_over (rounds_until_over n r) ≡ false → rounds_until_over (n + 1) r ≡ after_round (rounds_until_over n r)
+pub round_more : (n : ℕ) (r : Run) → is_over (rounds_until_over n r) ≡ false
+    → rounds_until_over (n + 1) r ≡ after_round (rounds_until_over n r)
 round_more zero r h =
     let going : is_over r ≡ false = sym (ap is_over (none r)) ∙ h in
     goes 0 r going ∙ none (after_round r) ∙ ap after_round (sym (none r))
@@ -42,7 +44,9 @@ round_more (suc n) r h = go (λ going. round_more n (after_round r) going) (is_o
     next : suc n + 1 ≡ suc (n + 1)
     next = omega arith
 
-    go : (is_over (rounds_until_over n (after_round r)) ≡ false → rounds_until_over (n + 1) (after_round r) ≡ after_round (rounds_until_over n (after_round r))) → (b : Bool) → is_over r ≡ b → rounds_until_over (suc n + 1) r ≡ after_round (rounds_until_over (suc n) r)
+    go : (is_over (rounds_until_over n (after_round r)) ≡ false
+        → rounds_until_over (n + 1) (after_round r) ≡ after_round (rounds_until_over n (after_round r))) → (b : Bool) → is_over r ≡ b
+        → rounds_until_over (suc n + 1) r ≡ after_round (rounds_until_over (suc n) r)
     go later true e = absurd (no (sym e ∙ sym (ap is_over (stays (suc n) r e)) ∙ h))
     go later false e =
         let going : is_over (rounds_until_over n (after_round r)) ≡ false = sym (ap is_over (goes n r e)) ∙ h in
@@ -54,7 +58,9 @@ round_over zero m r le h = stays m r (sym (ap is_over (none r)) ∙ h) ∙ sym (
 round_over (suc n) zero r le h = absurd (omega (arith, le))
 round_over (suc n) (suc m) r le h = go (λ fewer over. round_over n m (after_round r) fewer over) (is_over r) refl
   where
-    go : (n ≤ m → is_over (rounds_until_over n (after_round r)) ≡ true → rounds_until_over m (after_round r) ≡ rounds_until_over n (after_round r)) → (b : Bool) → is_over r ≡ b → rounds_until_over (suc m) r ≡ rounds_until_over (suc n) r
+    go : (n ≤ m → is_over (rounds_until_over n (after_round r)) ≡ true
+        → rounds_until_over m (after_round r) ≡ rounds_until_over n (after_round r)) → (b : Bool) → is_over r ≡ b
+        → rounds_until_over (suc m) r ≡ rounds_until_over (suc n) r
     go later true e = stays (suc m) r e ∙ sym (stays (suc n) r e)
     go later false e =
         let over : is_over (rounds_until_over n (after_round r)) ≡ true = sym (ap is_over (goes n r e)) ∙ h in
@@ -70,13 +76,15 @@ text_then [] ys = refl
 text_then (x ∷ xs) ys = ap (λ t. note_line x ++ t) (text_then xs ys) ∙ sym (append_assoc (note_line x) (run_text xs) (run_text ys))
 
 -- one line more
-pub text_more : (xs : List Note) (i : ℕ) (d : Note) (before line after : List ℕ) → i < length xs → before ≡ run_text (take i xs) → line ≡ note_line (get_or xs i d) → after ≡ before ++ line → after ≡ run_text (take (i + 1) xs)
+pub text_more : (xs : List Note) (i : ℕ) (d : Note) (before line after : List ℕ) → i < length xs → before ≡ run_text (take i xs)
+    → line ≡ note_line (get_or xs i d) → after ≡ before ++ line → after ≡ run_text (take (i + 1) xs)
 text_more xs i d before line after h p q r =
     let more = take_more xs i d h in
     let last : run_text (get_or xs i d ∷ []) ≡ note_line (get_or xs i d) = append-nil (note_line (get_or xs i d)) in
     r ∙ ap₂ (λ a b. a ++ b) p (q ∙ sym last) ∙ sym (text_then (take i xs) (get_or xs i d ∷ [])) ∙ ap run_text (sym more)
 
-stopped_then : {S : Type 0} {step : S → List ℕ → S → Type 0} {refused : S → S → Type 0} {r s t : S} {xs ys : List ℕ} → Moves step r xs s → Stopped step refused s ys t → Stopped step refused r (xs ++ ys) t
+stopped_then : {S : Type 0} {step : S → List ℕ → S → Type 0} {refused : S → S → Type 0} {r s t : S} {xs ys : List ℕ} → Moves step r xs s
+    → Stopped step refused s ys t → Stopped step refused r (xs ++ ys) t
 stopped_then {xs = xs} p q = record {
   front = xs ++ q.front;
   back = q.back;
@@ -95,11 +103,13 @@ counted_then c (x ∷ xs) ys = counted_then (counted c x) xs ys
 -- ---- before the first round
 
 module _ (timing : Timing) (s : MachineState) (requests : List Event) where
-  pub run_begins : (p : Schedule) → p ≡ opening timing → run_of s p requests (rounds_until_over 0 (start_of timing s requests)).told ≡ rounds_until_over 0 (start_of timing s requests)
+  pub run_begins : (p : Schedule) → p ≡ opening timing → run_of s p requests (rounds_until_over 0 (start_of timing s requests)).told
+      ≡ rounds_until_over 0 (start_of timing s requests)
   unfolding rounds_until_over
   run_begins p h = ap (λ p. run_of s p requests []) h
 
-  pub text_begins : {S : Type 0} (step : S → List ℕ → S → Type 0) (w : S) → Moves step w (run_text (rounds_until_over 0 (start_of timing s requests)).told) w
+  pub text_begins : {S : Type 0} (step : S → List ℕ → S → Type 0) (w : S)
+      → Moves step w (run_text (rounds_until_over 0 (start_of timing s requests)).told) w
   unfolding rounds_until_over
   text_begins step w = moved_none w
 
@@ -109,11 +119,14 @@ module _ (timing : Timing) (s : MachineState) (requests : List Event) where
 
 -- ---- a turn of the loop: i rounds of a run, and one more
 
-module _ (i : ℕ) (start : Run) (s : MachineState) (p : Schedule) (left : List Event) (here : run_of s p left (rounds_until_over i start).told ≡ rounds_until_over i start) where
+module _ (i : ℕ) (start : Run) (s : MachineState) (p : Schedule) (left : List Event)
+    (here : run_of s p left (rounds_until_over i start).told ≡ rounds_until_over i start) where
   pub over_here : (n : ℕ) → i ≤ n → is_over_at s left ≡ true → run_of s p left (rounds_until_over i start).told ≡ rounds_until_over n start
   over_here n le over = here ∙ sym (round_over i n start le (sym (ap is_over here) ∙ over))
 
-  module _ (s' : MachineState) (p' : Schedule) (left' : List Event) (notes : List Note) (made : (told : List Note) → run_of s' p' left' (told ++ notes) ≡ after_round (run_of s p left told)) (going : is_over_at s left ≡ false) where
+  module _ (s' : MachineState) (p' : Schedule) (left' : List Event) (notes : List Note)
+      (made : (told : List Note) → run_of s' p' left' (told ++ notes) ≡ after_round (run_of s p left told))
+      (going : is_over_at s left ≡ false) where
     behind : run_of s' p' left' ((rounds_until_over i start).told ++ notes) ≡ rounds_until_over (i + 1) start
     behind = made (rounds_until_over i start).told ∙ ap after_round here ∙ sym (round_more i start (sym (ap is_over here) ∙ going))
 
@@ -126,19 +139,26 @@ module _ (i : ℕ) (start : Run) (s : MachineState) (p : Schedule) (left : List 
     text : run_text (rounds_until_over (i + 1) start).told ≡ run_text (rounds_until_over i start).told ++ run_text notes
     text = ap run_text told_next ∙ text_then (rounds_until_over i start).told notes
 
-    pub text_next : {S : Type 0} (step : S → List ℕ → S → Type 0) (u v w : S) → Moves step u (run_text (rounds_until_over i start).told) v → Moves step v (run_text notes) w → Moves step u (run_text (rounds_until_over (i + 1) start).told) w
+    pub text_next : {S : Type 0} (step : S → List ℕ → S → Type 0) (u v w : S) → Moves step u (run_text (rounds_until_over i start).told) v
+        → Moves step v (run_text notes) w → Moves step u (run_text (rounds_until_over (i + 1) start).told) w
     text_next step u v w a b = subst (λ t. Moves step u t w) (sym text) (moved_then a b)
 
-    text_stops : {S : Type 0} (step : S → List ℕ → S → Type 0) (refused : S → S → Type 0) (u v w : S) → Moves step u (run_text (rounds_until_over i start).told) v → Stopped step refused v (run_text notes) w → Stopped step refused u (run_text (rounds_until_over (i + 1) start).told) w
+    text_stops : {S : Type 0} (step : S → List ℕ → S → Type 0) (refused : S → S → Type 0) (u v w : S)
+        → Moves step u (run_text (rounds_until_over i start).told) v → Stopped step refused v (run_text notes) w
+        → Stopped step refused u (run_text (rounds_until_over (i + 1) start).told) w
     text_stops step refused u v w a b = subst (λ t. Stopped step refused u t w) (sym text) (stopped_then a b)
 
-    pub text_breaks : {S : Type 0} (step : S → List ℕ → S → Type 0) (refused : S → S → Type 0) (u v w : S) (e : TraceFault) → Moves step u (run_text (rounds_until_over i start).told) v → BreaksOff step refused v (run_text notes) w e → BreaksOff step refused u (run_text (rounds_until_over (i + 1) start).told) w e
+    pub text_breaks : {S : Type 0} (step : S → List ℕ → S → Type 0) (refused : S → S → Type 0) (u v w : S) (e : TraceFault)
+        → Moves step u (run_text (rounds_until_over i start).told) v → BreaksOff step refused v (run_text notes) w e
+        → BreaksOff step refused u (run_text (rounds_until_over (i + 1) start).told) w e
     text_breaks step refused u v w Write a b = text_stops step refused u v w a b
     text_breaks step refused u v w OutOfMemory a b = text_next step u v w a b
     text_breaks step refused u v w Read a b = absurd b
     text_breaks step refused u v w TooManyLines a b = absurd b
     text_breaks step refused u v w (Line n f) a b = absurd b
 
-    pub counts_next : (c d : Counting) → c ≡ counted_all nothing (rounds_until_over i start).told → d ≡ counted_all c notes → d ≡ counted_all nothing (rounds_until_over (i + 1) start).told
+    pub counts_next : (c d : Counting) → c ≡ counted_all nothing (rounds_until_over i start).told → d ≡ counted_all c notes
+        → d ≡ counted_all nothing (rounds_until_over (i + 1) start).told
     counts_next c d p q =
-        q ∙ ap (λ x. counted_all x notes) p ∙ sym (counted_then nothing (rounds_until_over i start).told notes) ∙ ap (counted_all nothing) (sym told_next)
+        q ∙ ap (λ x. counted_all x notes) p ∙ sym (counted_then nothing (rounds_until_over i start).told notes)
+        ∙ ap (counted_all nothing) (sym told_next)

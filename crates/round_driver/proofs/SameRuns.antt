@@ -6,7 +6,8 @@ use Rattle.machine_core.specs.Machine.{MachineState}
 use Rattle.round_driver.specs.declared.note.Note.{Note}
 use Rattle.round_driver.specs.declared.schedule.Schedule.{Schedule}
 use Rattle.round_driver.specs.declared.timing.Timing.{Timing}
-use Rattle.round_driver.specs.Rounds.{Course, course, Run, ends, next_round, moves, ask, asked, after_round, is_over, rounds_until_over, start_of}
+use Rattle.round_driver.specs.Rounds.{Course, course, Run, ends, next_round, moves, ask, asked, after_round, is_over, rounds_until_over}
+use Rattle.round_driver.specs.Rounds.{start_of}
 use Rattle.round_driver.specs.Tables.{Counting, counted_all, nothing}
 use Rattle.round_driver.specs.Stepping.{Stepped, offered, without_ended, step, steps_until_over, steps_of, IsSameRun}
 use Rattle.round_driver.proofs.Runs.{counted_then}

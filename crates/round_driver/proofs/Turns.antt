@@ -9,7 +9,8 @@ left n i h = omega arith
 
 -- ---- banks
 
-pub bank_more : (n i : ℕ) (c d e : Course) → d ≡ begin i c → e ≡ serve_due i d → i < n → bank_turns (n - i) i c ≡ bank_turns (n - (i + 1)) (i + 1) e
+pub bank_more : (n i : ℕ) (c d e : Course) → d ≡ begin i c → e ≡ serve_due i d → i < n
+    → bank_turns (n - i) i c ≡ bank_turns (n - (i + 1)) (i + 1) e
 unfolding bank_turns
 bank_more n i c d e p q turn =
     ap (λ k. bank_turns k i c) (left n i turn) ∙ ap (bank_turns (n - (i + 1)) (i + 1)) (ap (serve_due i) (sym p) ∙ sym q)

@@ -1,5 +1,6 @@
 -- A round answers one load at most.
-use Rattle.std.proofs.Common.{◌≡◌, ◌≤◌, ℕ, zero, suc, ◌+◌, nat_lt, ◌%◌, Bool, true, false, cond, List, [], ◌∷◌, ◌++◌, length, append-nil, Option, Some, None, refl, sym, ap, subst, ◌∙◌, arith}
+use Rattle.std.proofs.Common.{◌≡◌, ◌≤◌, ℕ, zero, suc, ◌+◌, nat_lt, ◌%◌, Bool, true, false, cond, List, [], ◌∷◌, ◌++◌, length, append-nil}
+use Rattle.std.proofs.Common.{Option, Some, None, refl, sym, ap, subst, ◌∙◌, arith}
 use Rattle.std.specs.Prelude.{slice_get}
 use Rattle.std.specs.List.{list_all}
 use Rattle.std.proofs.lemmas.List.Elements.{filter-append}
@@ -16,12 +17,14 @@ use Rattle.write_queue.specs.declared.Queued.{Queued}
 use Rattle.cache_unit.specs.declared.Sizes.{Sizes}
 use Rattle.cache_unit.specs.State.{Cache}
 use Rattle.cache_unit.specs.Causes.{load_cause, store_cause, prefetch_cause, evict_cause, arrive_cause}
-use Rattle.cache_unit.specs.Steps.{Stepped, unless, load_step, store_step, prefetch_step, evict_step, drain_first, drain_step, process_entry, process_step}
+use Rattle.cache_unit.specs.Steps.{Stepped, unless, load_step, store_step, prefetch_step, evict_step, drain_first, drain_step}
+use Rattle.cache_unit.specs.Steps.{process_entry, process_step}
 use Rattle.machine_core.specs.Machine.{Machine, MachineState, joined_with, serve_from, take_in, arrive_from}
 use Rattle.machine_core.specs.AnyMachine.{answered}
 use Rattle.round_driver.specs.declared.note.Note.{Note}
 use Rattle.round_driver.specs.declared.schedule.Schedule.{Schedule}
-use Rattle.round_driver.specs.Rounds.{Course, course, is_done, note_of, request_note, attempt, ask, scheduled, begin, serve_due, bank_turns, arrive_from as arrive_at, arrive, moves, asked, after_round, next_round}
+use Rattle.round_driver.specs.Rounds.{Course, course, is_done, note_of, request_note, attempt, ask, scheduled, begin, serve_due, bank_turns}
+use Rattle.round_driver.specs.Rounds.{arrive_from as arrive_at, arrive, moves, asked, after_round, next_round}
 use Rattle.round_driver.specs.Walks.{is_request}
 use Rattle.round_driver.proofs.Walks.{sent_first, kept_first}
 use Rattle.round_driver.specs.Stepping.{RoundsState, offered, is_value, answers, AnswersOneLoad}

@@ -1,5 +1,6 @@
 -- What is told of a run is the machine's walk, and each request ends once.
-use Rattle.std.proofs.Common.{◌≡◌, ℕ, zero, suc, ◌+◌, ◌/◌, ◌%◌, nat_lt, Bool, true, false, ◌&&◌, cond, List, [], ◌∷◌, ◌++◌, Option, Some, None, append_assoc, append-nil, refl, sym, ap, ap₂, subst, ◌∙◌}
+use Rattle.std.proofs.Common.{◌≡◌, ℕ, zero, suc, ◌+◌, ◌/◌, ◌%◌, nat_lt, Bool, true, false, ◌&&◌, cond, List, [], ◌∷◌, ◌++◌, Option, Some}
+use Rattle.std.proofs.Common.{None, append_assoc, append-nil, refl, sym, ap, ap₂, subst, ◌∙◌}
 use Rattle.std.specs.Prelude.{slice_get}
 use Rattle.std.specs.List.{list_all}
 use Rattle.std.proofs.lemmas.Bool.{and_parts}
@@ -24,7 +25,9 @@ use Rattle.machine_core.specs.AnyMachine.{answered, after_event}
 use Rattle.round_driver.specs.declared.note.Note.{Note}
 use Rattle.round_driver.specs.declared.schedule.Schedule.{Schedule}
 use Rattle.round_driver.specs.declared.timing.Timing.{Timing}
-use Rattle.round_driver.specs.Rounds.{Course, course, Run, is_done, is_end, note_of, request_note, attempt, ask, scheduled, begin, serve_due, bank_turns, arrive_from as arrive_at, arrive, moves, asked, after_round, is_over, rounds_until_over, start_of}
+use Rattle.round_driver.specs.Rounds.{Course, course, Run, is_done, is_end, note_of, request_note, attempt, ask, scheduled, begin}
+use Rattle.round_driver.specs.Rounds.{serve_due, bank_turns, arrive_from as arrive_at, arrive, moves, asked, after_round, is_over}
+use Rattle.round_driver.specs.Rounds.{rounds_until_over, start_of}
 use Rattle.round_driver.specs.Walks.{events_of, answers_of, IsWalk, is_request, ended, RunIsTold}
 
 no : true ≡ false → ⊥
@@ -36,15 +39,19 @@ served_nothing : (m : Machine) (b : ℕ) (q : List Command) → is_done (serve_f
 served_nothing m b [] h = refl
 served_nothing m b (c ∷ cs) h = absurd (no h)
 
-took_nothing : (z : Sizes) (m : Machine) (b place : ℕ) (a : BankAnswer) (cause : Option Cause) → is_done (take_in z m b place a cause).answer ≡ false → (take_in z m b place a cause).machine ≡ m
+took_nothing : (z : Sizes) (m : Machine) (b place : ℕ) (a : BankAnswer) (cause : Option Cause)
+    → is_done (take_in z m b place a cause).answer ≡ false → (take_in z m b place a cause).machine ≡ m
 took_nothing z m b place a (Some cause) h = refl
 took_nothing z m b place a None h = absurd (no h)
 
-processed_nothing : (banks : List Bank) (c : Cache) (place : ℕ) (o : Option Entry) → is_done (joined_with banks (process_entry c place o)).answer ≡ false → (joined_with banks (process_entry c place o)).machine ≡ record { cache = c; banks = banks }
+processed_nothing : (banks : List Bank) (c : Cache) (place : ℕ) (o : Option Entry)
+    → is_done (joined_with banks (process_entry c place o)).answer ≡ false → (joined_with banks (process_entry c place o)).machine
+    ≡ record { cache = c; banks = banks }
 processed_nothing banks c place None h = refl
 processed_nothing banks c place (Some e) h = absurd (no h)
 
-replied_nothing : (banks : List Bank) (c : Cache) (place : ℕ) (o : Option Reply) → is_done (joined_with banks (take_reply c place o)).answer ≡ false → (joined_with banks (take_reply c place o)).machine ≡ record { cache = c; banks = banks }
+replied_nothing : (banks : List Bank) (c : Cache) (place : ℕ) (o : Option Reply) → is_done (joined_with banks (take_reply c place o)).answer
+    ≡ false → (joined_with banks (take_reply c place o)).machine ≡ record { cache = c; banks = banks }
 replied_nothing banks c place None h = refl
 replied_nothing banks c place (Some e) h = absurd (no h)
 
@@ -56,19 +63,26 @@ sent_first z c q rest =
 abbrev pub kept_first : Cache → Stepped
 kept_first c = record { answer = Refused BankFull; cache = c; sent = [] }
 
-first_or_not : (banks : List Bank) (c : Cache) (b : Bool) (x y : Stepped) → is_done x.answer ≡ true → (joined_with banks y).machine ≡ record { cache = c; banks = banks } → is_done (joined_with banks (cond b x y)).answer ≡ false → (joined_with banks (cond b x y)).machine ≡ record { cache = c; banks = banks }
+first_or_not : (banks : List Bank) (c : Cache) (b : Bool) (x y : Stepped) → is_done x.answer ≡ true
+    → (joined_with banks y).machine ≡ record { cache = c; banks = banks } → is_done (joined_with banks (cond b x y)).answer ≡ false
+    → (joined_with banks (cond b x y)).machine ≡ record { cache = c; banks = banks }
 first_or_not banks c true x y done same h = absurd (no (sym done ∙ h))
 first_or_not banks c false x y done same h = same
 
-drained_nothing : (z : Sizes) (room : ℕ → ℕ) (banks : List Bank) (c : Cache) (q : List Queued) → is_done (joined_with banks (drain_first z room c q)).answer ≡ false → (joined_with banks (drain_first z room c q)).machine ≡ record { cache = c; banks = banks }
+drained_nothing : (z : Sizes) (room : ℕ → ℕ) (banks : List Bank) (c : Cache) (q : List Queued)
+    → is_done (joined_with banks (drain_first z room c q)).answer ≡ false → (joined_with banks (drain_first z room c q)).machine
+    ≡ record { cache = c; banks = banks }
 drained_nothing z room banks c [] h = refl
-drained_nothing z room banks c (q ∷ rest) h = first_or_not banks c (nat_lt 0 (room (q.at % z.banks))) (sent_first z c q rest) (kept_first c) refl refl h
+drained_nothing z room banks c (q ∷ rest) h = first_or_not banks c (nat_lt 0 (room (q.at % z.banks))) (sent_first z c q rest)
+    (kept_first c) refl refl h
 
-arrived_nothing : (z : Sizes) (m : Machine) (b place : ℕ) (o : Option BankAnswer) → is_done (arrive_from z m b place o).answer ≡ false → (arrive_from z m b place o).machine ≡ m
+arrived_nothing : (z : Sizes) (m : Machine) (b place : ℕ) (o : Option BankAnswer) → is_done (arrive_from z m b place o).answer ≡ false
+    → (arrive_from z m b place o).machine ≡ m
 arrived_nothing z m b place None h = refl
 arrived_nothing z m b place (Some a) h = took_nothing z m b place a (arrive_cause z m.cache a.slot a.i) h
 
-nothing_done : (z : Sizes) (m : Machine) (event : Event) → is_request event ≡ false → is_done (apply z m event).answer ≡ false → (apply z m event).machine ≡ m
+nothing_done : (z : Sizes) (m : Machine) (event : Event) → is_request event ≡ false → is_done (apply z m event).answer ≡ false
+    → (apply z m event).machine ≡ m
 unfolding drain_step process_step take_step
 nothing_done z m (Load tag at) r h = absurd (no r)
 nothing_done z m (Store at word lanes) r h = absurd (no r)
@@ -106,19 +120,24 @@ ended_then : (xs ys : List Note) → ended (xs ++ ys) ≡ ended xs ++ ended ys
 ended_then [] ys = refl
 ended_then (x ∷ xs) ys = go (is_request x.event && is_end x.answer) (ended_then xs ys)
   where
-    go : (b : Bool) → ended (xs ++ ys) ≡ ended xs ++ ended ys → cond b (x.event ∷ ended (xs ++ ys)) (ended (xs ++ ys)) ≡ cond b (x.event ∷ ended xs) (ended xs) ++ ended ys
+    go : (b : Bool) → ended (xs ++ ys) ≡ ended xs ++ ended ys → cond b (x.event ∷ ended (xs ++ ys)) (ended (xs ++ ys))
+        ≡ cond b (x.event ∷ ended xs) (ended xs) ++ ended ys
     go true e = ap (λ l. x.event ∷ l) e
     go false e = e
 
-walk_more : (s : MachineState) (ns : List Note) (t : MachineState) (n : Note) → IsWalk s ns t → n.answer ≡ answered t n.event → IsWalk s (ns ++ n ∷ []) (after_event t n.event)
+walk_more : (s : MachineState) (ns : List Note) (t : MachineState) (n : Note) → IsWalk s ns t → n.answer ≡ answered t n.event
+    → IsWalk s (ns ++ n ∷ []) (after_event t n.event)
 unfolding answered after_event
 walk_more s ns t n h e =
     let at = walked s.sizes s.machine (events_of ns) in
     let all = events_then ns (n ∷ []) in
     let here : n.answer ≡ (apply s.sizes at n.event).answer = e ∙ ap (λ u. (apply u.sizes u.machine n.event).answer) h.ends in
     record {
-      ends = ap (λ u. after_event u n.event) h.ends ∙ ap (λ m. record { sizes = s.sizes; machine = m }) (sym (walked_then s.sizes s.machine (events_of ns) (n.event ∷ []))) ∙ ap (λ es. record { sizes = s.sizes; machine = walked s.sizes s.machine es }) (sym all);
-      tells = ap (told s.sizes s.machine) all ∙ told_then s.sizes s.machine (events_of ns) (n.event ∷ []) ∙ ap₂ (λ a b. a ++ b ∷ []) h.tells (sym here) ∙ sym (answers_then ns (n ∷ []));
+      ends = ap (λ u. after_event u n.event) h.ends ∙ ap (λ m. record { sizes = s.sizes; machine = m })
+          (sym (walked_then s.sizes s.machine (events_of ns) (n.event ∷ [])))
+          ∙ ap (λ es. record { sizes = s.sizes; machine = walked s.sizes s.machine es }) (sym all);
+      tells = ap (told s.sizes s.machine) all ∙ told_then s.sizes s.machine (events_of ns) (n.event ∷ [])
+          ∙ ap₂ (λ a b. a ++ b ∷ []) h.tells (sym here) ∙ sym (answers_then ns (n ∷ []));
     }
 
 -- ---- the moves of a round: what was told before it, and in it
@@ -136,16 +155,21 @@ module _ (s : MachineState) (before : List Note) where
   unfolding attempt
   attempted event c r w = go (is_done (answered c.state event)) refl
     where
-      go : (b : Bool) → is_done (answered c.state event) ≡ b → IsWalked s before (course (after_event c.state event) c.schedule (cond b (c.notes ++ note_of c event ∷ []) c.notes))
+      go : (b : Bool) → is_done (answered c.state event) ≡ b
+          → IsWalked s before (course (after_event c.state event) c.schedule (cond b (c.notes ++ note_of c event ∷ []) c.notes))
       go true e =
           let more = walk_more s (before ++ c.notes) c.state (note_of c event) w.walks refl in
           let place = append_assoc before c.notes (note_of c event ∷ []) in
           let silent : ended (note_of c event ∷ []) ≡ [] = ap (λ b. cond (b && is_end (answered c.state event)) (event ∷ []) []) r in
           record {
             walks = subst (λ ns. IsWalk s ns (after_event c.state event)) place more;
-            none_ended = sym (ap ended place) ∙ ended_then (before ++ c.notes) (note_of c event ∷ []) ∙ ap (λ l. ended (before ++ c.notes) ++ l) silent ∙ append-nil (ended (before ++ c.notes)) ∙ w.none_ended;
+            none_ended = sym (ap ended place) ∙ ended_then (before ++ c.notes) (note_of c event ∷ [])
+                ∙ ap (λ l. ended (before ++ c.notes) ++ l) silent ∙ append-nil (ended (before ++ c.notes)) ∙ w.none_ended;
           }
-      go false e = record { walks = subst (λ t. IsWalk s (before ++ c.notes) t) (sym (unchanged c.state event r e)) w.walks; none_ended = w.none_ended }
+      go false e = record {
+        walks = subst (λ t. IsWalk s (before ++ c.notes) t) (sym (unchanged c.state event r e)) w.walks;
+        none_ended = w.none_ended;
+      }
 
   rescheduled : (p : Schedule) (c : Course) → IsWalked s before c → IsWalked s before (scheduled p c)
   rescheduled p c w = record { walks = w.walks; none_ended = w.none_ended }
@@ -192,11 +216,14 @@ module _ (s : MachineState) (requests : List Event) where
   one_or_none true event rest = refl
   one_or_none false event rest = refl
 
-  left_ends : (b : Bool) (event : Event) (rest : List Event) → list_all is_request (event ∷ rest) ≡ true → list_all is_request (cond b rest (event ∷ rest)) ≡ true
+  left_ends : (b : Bool) (event : Event) (rest : List Event) → list_all is_request (event ∷ rest) ≡ true
+      → list_all is_request (cond b rest (event ∷ rest)) ≡ true
   left_ends true event rest h = (and_parts (is_request event) (list_all is_request rest) h).1
   left_ends false event rest h = h
 
-  asks : (told : List Note) (left : List Event) (c : Course) → IsWalked s told c → (list_all is_request requests ≡ true → (list_all is_request left ≡ true) × (ended told ++ left ≡ requests)) → IsToldSoFar s requests (asked told left c)
+  asks : (told : List Note) (left : List Event) (c : Course) → IsWalked s told c
+      → (list_all is_request requests ≡ true → (list_all is_request left ≡ true) × (ended told ++ left ≡ requests))
+      → IsToldSoFar s requests (asked told left c)
   unfolding ask
   asks told [] c w order = record { walks = w.walks; in_order = λ h. (refl, ap (λ l. l ++ []) w.none_ended ∙ (order h).1) }
   asks told (event ∷ rest) c w order =
@@ -208,15 +235,21 @@ module _ (s : MachineState) (requests : List Event) where
         in_order = λ h.
             let good = and_parts (is_request event) (list_all is_request rest) (order h).0 in
             let last : ended (n ∷ []) ≡ cond b (event ∷ []) [] = ap (λ r. cond (r && b) (event ∷ []) []) good.0 in
-            let all : ended (told ++ (c.notes ++ n ∷ [])) ≡ ended told ++ cond b (event ∷ []) [] = sym (ap ended place) ∙ ended_then (told ++ c.notes) (n ∷ []) ∙ ap₂ (λ x y. x ++ y) w.none_ended last in
-            (left_ends b event rest (order h).0, ap (λ l. l ++ cond b rest (event ∷ rest)) all ∙ append_assoc (ended told) (cond b (event ∷ []) []) (cond b rest (event ∷ rest)) ∙ ap (λ l. ended told ++ l) (one_or_none b event rest) ∙ (order h).1);
+            let all : ended (told ++ (c.notes ++ n ∷ [])) ≡ ended told ++ cond b (event ∷ []) [] = sym (ap ended place)
+            ∙ ended_then (told ++ c.notes) (n ∷ []) ∙ ap₂ (λ x y. x ++ y) w.none_ended last in (
+              left_ends b event rest (order h).0,
+              ap (λ l. l ++ cond b rest (event ∷ rest)) all
+                  ∙ append_assoc (ended told) (cond b (event ∷ []) []) (cond b rest (event ∷ rest))
+                  ∙ ap (λ l. ended told ++ l) (one_or_none b event rest) ∙ (order h).1,
+            );
       }
 
   round_told : (r : Run) → IsToldSoFar s requests r → IsToldSoFar s requests (after_round r)
   unfolding after_round
   round_told r t =
       let none = append-nil r.told in
-      let start : IsWalked s r.told (course r.state _ []) = record { walks = subst (λ ns. IsWalk s ns r.state) (sym none) t.walks; none_ended = ap ended none } in
+      let start : IsWalked s r.told (course r.state _ []) =
+      record { walks = subst (λ ns. IsWalk s ns r.state) (sym none) t.walks; none_ended = ap ended none } in
       asks r.told r.left _ (moved s r.told _ start) t.in_order
 
   rounds_told : (n : ℕ) (r : Run) → IsToldSoFar s requests r → IsToldSoFar s requests (rounds_until_over n r)
@@ -226,6 +259,7 @@ module _ (s : MachineState) (requests : List Event) where
 
 pub run_is_told : (timing : Timing) (s : MachineState) (requests : List Event) (n : ℕ) → RunIsTold timing s requests n
 run_is_told timing s requests n =
-    let start : IsToldSoFar s requests (start_of timing s requests) = record { walks = record { ends = refl; tells = refl }; in_order = λ h. (h, refl) } in
+    let start : IsToldSoFar s requests (start_of timing s requests) =
+    record { walks = record { ends = refl; tells = refl }; in_order = λ h. (h, refl) } in
     let t = rounds_told s requests n (start_of timing s requests) start in
     record { walks = t.walks; in_order = λ h. (t.in_order h).1 }

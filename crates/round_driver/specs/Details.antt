@@ -1,5 +1,6 @@
 -- What is counted of a run beside its table: the requests by kind and set, the loads' waits, and the rounds by their ends.
-use Rattle.std.specs.Prelude.{ℕ, zero, suc, ◌+◌, ◌-◌, ◌/◌, ◌%◌, if◌then◌else◌, List, [], ◌∷◌, replicate, take, length, Option, Some, None, max, slice_set, slice_index_or}
+use Rattle.std.specs.Prelude.{ℕ, zero, suc, ◌+◌, ◌-◌, ◌/◌, ◌%◌, if◌then◌else◌, List, [], ◌∷◌, replicate, take, length, Option, Some, None}
+use Rattle.std.specs.Prelude.{max, slice_set, slice_index_or}
 use Rattle.std.specs.List.{sum}
 use Rattle.std.specs.Int.{leading_zeros, w64}
 use Rattle.flat_model.specs.declared.Cause.{Cause}

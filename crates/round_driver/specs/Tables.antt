@@ -1,7 +1,9 @@
 -- What is counted of a run: each number is a fold over what was told.
-use Rattle.std.specs.Prelude.{ℕ, ◌+◌, ◌-◌, Bool, true, false, if◌then◌else◌, List, [], ◌∷◌, replicate, Option, Some, None, max, slice_set, slice_index_or}
+use Rattle.std.specs.Prelude.{ℕ, ◌+◌, ◌-◌, Bool, true, false, if◌then◌else◌, List, [], ◌∷◌, replicate, Option, Some, None, max, slice_set}
+use Rattle.std.specs.Prelude.{slice_index_or}
 use Rattle.flat_model.specs.declared.Cause.{Cause}
-use Rattle.flat_model.specs.declared.Cause.TheVariants.{TagInUse, RepliesFull, TargetsFull, BlockQueued, NoRegister, SetPending, QueueFull, BankFull}
+use Rattle.flat_model.specs.declared.Cause.TheVariants.{TagInUse, RepliesFull, TargetsFull, BlockQueued, NoRegister, SetPending, QueueFull}
+use Rattle.flat_model.specs.declared.Cause.TheVariants.{BankFull}
 use Rattle.flat_model.specs.declared.Event.{Event}
 use Rattle.flat_model.specs.declared.Event.TheVariants.{Load, Drain}
 use Rattle.flat_model.specs.declared.Answer.{Answer}

@@ -17,7 +17,8 @@ run_text (n ∷ ns) = note_line n ++ run_text ns
 
 -- How the writing of a run broke off: a write of this text stopped at a refusal, or all of it is written and there was
 -- no memory for the lines of the next round.
-abbrev pub BreaksOff : {W : Type 0} (took : W → List ℕ → W → Type 0) (refused : W → W → Type 0) (old : W) (text : List ℕ) (new : W) → TraceFault → Type 0
+abbrev pub BreaksOff : {W : Type 0} (took : W → List ℕ → W → Type 0) (refused : W → W → Type 0) (old : W) (text : List ℕ) (new : W)
+    → TraceFault → Type 0
 BreaksOff took refused old text new fault.Write = Stopped took refused old text new
 BreaksOff took refused old text new fault.OutOfMemory = Moves took old text new
 BreaksOff took refused old text new e = ⊥

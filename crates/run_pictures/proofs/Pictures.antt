@@ -1,5 +1,6 @@
 -- A picture with the text of one place more, and a list of texts with one more.
-use Rattle.std.proofs.Common.{◌≡◌, ℕ, ◌+◌, ◌<◌, List, [], ◌∷◌, ◌++◌, length, take, map, get_or, sym, ap, ap₂, ◌∙◌, subst, String, Global, string_bytes}
+use Rattle.std.proofs.Common.{◌≡◌, ℕ, ◌+◌, ◌<◌, List, [], ◌∷◌, ◌++◌, length, take, map, get_or, sym, ap, ap₂, ◌∙◌, subst, String, Global}
+use Rattle.std.proofs.Common.{string_bytes}
 use Rattle.std.proofs.lemmas.List.{take_more}
 use Rattle.flat_model.specs.Flat.{Flat}
 use Rattle.machine_core.specs.Machine.{MachineState}
@@ -8,18 +9,21 @@ use Rattle.run_pictures.specs.Cells.{IsTextAt}
 use Rattle.run_pictures.specs.Pictures.{Texts, IsPicture}
 
 picture_more : (s : MachineState) (flat : Flat) (places : List Place) (texts : Texts) (place : Place) (text : String Global)
-    → IsPicture s flat places texts → IsTextAt s flat place (string_bytes text) → IsPicture s flat (places ++ place ∷ []) (texts ++ text ∷ [])
+    → IsPicture s flat places texts → IsTextAt s flat place (string_bytes text)
+    → IsPicture s flat (places ++ place ∷ []) (texts ++ text ∷ [])
 picture_more s flat [] [] place text held is = (is, tt)
 picture_more s flat [] (t ∷ ts) place text held is = absurd held
 picture_more s flat (p ∷ ps) [] place text held is = absurd held
 picture_more s flat (p ∷ ps) (t ∷ ts) place text held is = (held.0, picture_more s flat ps ts place text held.1 is)
 
 pub picture_next : (s : MachineState) (flat : Flat) (places : List Place) (i : ℕ) (d : Place) (texts next : Texts) (text : String Global)
-    → IsPicture s flat (take i places) texts → i < length places → IsTextAt s flat (get_or places i d) (string_bytes text) → next ≡ texts ++ text ∷ []
+    → IsPicture s flat (take i places) texts → i < length places → IsTextAt s flat (get_or places i d) (string_bytes text)
+    → next ≡ texts ++ text ∷ []
     → IsPicture s flat (take (i + 1) places) next
 picture_next s flat places i d texts next text held inside is e =
     subst (IsPicture s flat (take (i + 1) places)) (sym e)
-    (subst (λ ps. IsPicture s flat ps (texts ++ text ∷ [])) (sym (take_more places i d inside)) (picture_more s flat (take i places) texts (get_or places i d) text held is))
+    (subst (λ ps. IsPicture s flat ps (texts ++ text ∷ [])) (sym (take_more places i d inside))
+    (picture_more s flat (take i places) texts (get_or places i d) text held is))
 
 -- ---- the texts of a list's items, with that of one more
 

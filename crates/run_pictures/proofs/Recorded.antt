@@ -1,12 +1,14 @@
 -- The lines of a trace or of a recorded run, and what is asked in them.
-use Rattle.std.proofs.Common.{◌≡◌, ℕ, ◌+◌, ◌-◌, ◌<◌, ◌≤◌, Bool, true, false, cond, Option, Some, None, Result, Ok, Err, List, [], ◌∷◌, ◌++◌, length, take, get_or, length-append, append-nil, sym, refl, ◌∙◌, ap, subst, arith}
+use Rattle.std.proofs.Common.{◌≡◌, ℕ, ◌+◌, ◌-◌, ◌<◌, ◌≤◌, Bool, true, false, cond, Option, Some, None, Result, Ok, Err, List, [], ◌∷◌, ◌++◌}
+use Rattle.std.proofs.Common.{length, take, get_or, length-append, append-nil, sym, refl, ◌∙◌, ap, subst, arith}
 use Rattle.std.specs.Prelude.{◌==◌, ◌&&◌, nat_lt, slice_index, IfErr}
 use Rattle.std.specs.Option.{option_to_list}
 use Rattle.std.proofs.Math.Seq.{get_or-append_seam, take-append_seam}
 use Rattle.std.proofs.lemmas.Bool.Decides.{nat_tests}
 use Rattle.std.proofs.lemmas.Grind.{flat_map-append}
 use Rattle.flat_model.specs.declared.Answer.{Answer}
-use Rattle.trace_text.specs.Lines.{IsSaid, cut_of, command_named, is_ended, without_end, said_by, or_field, line_of, line_from, ended_line_of}
+use Rattle.trace_text.specs.Lines.{IsSaid, cut_of, command_named, is_ended, without_end, said_by, or_field, line_of, line_from}
+use Rattle.trace_text.specs.Lines.{ended_line_of}
 use Rattle.trace_text.specs.Pairs.{pair_of, pair_cut, pair_from, pair_with, answered_pair, answer_of, arrow_in, ended_pair_of}
 use Rattle.trace_text.specs.declared.fault.TheConstants.{MAX_LINE, MAX_PAIR}
 use Rattle.trace_text.specs.declared.lines.Line.{Line}
@@ -48,7 +50,8 @@ module _ (text : List ℕ) where
     abbrev reads : List ℕ → Bool → Result X LineFault
     reads w t = cond (nat_lt most (length w)) (Err TooLong) (cond t (of w) (Err NotEnded))
 
-    pub read_ended : cond (nat_lt most (length (without_end (text ++ 10 ∷ [])))) (Err TooLong) (cond (is_ended (text ++ 10 ∷ [])) (of (without_end (text ++ 10 ∷ []))) (Err NotEnded)) ≡ of text
+    pub read_ended : cond (nat_lt most (length (without_end (text ++ 10 ∷ [])))) (Err TooLong)
+        (cond (is_ended (text ++ 10 ∷ [])) (of (without_end (text ++ 10 ∷ []))) (Err NotEnded)) ≡ of text
     read_ended =
         ap (λ w. reads w (is_ended (text ++ 10 ∷ []))) front
         ∙ ap (λ t. reads text t) has_end
@@ -93,7 +96,8 @@ with_fault (line.Register slot) reply f e = cc
 with_fault (line.Bank at) reply f e = cc
 with_fault line.Settled reply f e = cc
 
-from_fault : (r : Result Line LineFault) (reply : List ℕ) → ((g : LineFault) → r ≡ Err g → IsSaid g) → (f : LineFault) → pair_from r reply ≡ Err f → IsSaid f
+from_fault : (r : Result Line LineFault) (reply : List ℕ) → ((g : LineFault) → r ≡ Err g → IsSaid g) → (f : LineFault)
+    → pair_from r reply ≡ Err f → IsSaid f
 from_fault (Err g) reply said f e = is_said g f (said g refl) (err_is (pair_from (Err g) reply) g f refl e)
 from_fault (Ok l) reply said f e = with_fault l reply f e
 
@@ -129,13 +133,15 @@ asked_few (t ∷ ts) = omega (arith, asked_few ts, one_at_most (asked_by (said_o
 
 -- one line more
 pub gathered_more : (old new : AskedSoFar) (asked : Option Asked) (pair : Pair) (texts : List (List ℕ)) (text : List ℕ)
-    → asked ≡ asked_with pair.line pair.answer → Ok pair ≡ said_of text → GathersOne old asked new → Gathered texts old → Gathered (texts ++ text ∷ []) new
+    → asked ≡ asked_with pair.line pair.answer → Ok pair ≡ said_of text → GathersOne old asked new → Gathered texts old
+    → Gathered (texts ++ text ∷ []) new
 gathered_more old new asked pair texts text is read one held =
     let told : asked ≡ asked_by (said_of text) = is ∙ ap asked_by read in
     let more : all_asked texts ++ option_to_list asked ≡ all_asked (texts ++ text ∷ []) =
     ap (λ o. all_asked texts ++ option_to_list o) told ∙ sym (asked_more texts text) in
     record {
-      number = one.number ∙ ap (λ n. n + length (option_to_list asked)) held.number ∙ sym (length-append (all_asked texts) (option_to_list asked)) ∙ ap length more;
+      number = one.number ∙ ap (λ n. n + length (option_to_list asked)) held.number
+          ∙ sym (length-append (all_asked texts) (option_to_list asked)) ∙ ap length more;
       kept = λ few.
           let before : old.count ≤ MOST_EVENTS = omega (arith, one.number, few) in
           one.kept few ∙ ap (λ l. l ++ option_to_list asked) (held.kept before) ∙ more;

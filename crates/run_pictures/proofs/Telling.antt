@@ -19,12 +19,14 @@ use Rattle.run_pictures.proofs.Words.{words_behind}
 words_told : (s t : MachineState) (event : Event) (before : Before) (answer : Answer)
     → before ≡ seen s event → t ≡ after_event s event → answer ≡ answered s event → words_by before t event answer ≡ step_words s event
 words_told s t event before answer saw stands told =
-    ap (λ b. words_by b t event answer) saw ∙ ap (λ u. words_by (seen s event) u event answer) stands ∙ ap (words_by (seen s event) (after_event s event) event) told ∙ words_behind s event
+    ap (λ b. words_by b t event answer) saw ∙ ap (λ u. words_by (seen s event) u event answer) stands
+    ∙ ap (words_by (seen s event) (after_event s event) event) told ∙ words_behind s event
 
 -- a step draws its event
 pub draws_event : (count n : ℕ) (s t : MachineState) (asked : Asked) (before : Before) (made : Made) (step : Step) (d d' : Drawing)
     → before ≡ seen s asked.event → t ≡ after_event s asked.event → made ≡ made_by s asked
-    → step.number ≡ n → step.is_whole ≡ is_whole count n → step.made ≡ made → string_bytes step.words ≡ words_by before t made.event made.answer
+    → step.number ≡ n → step.is_whole ≡ is_whole count n → step.made ≡ made
+    → string_bytes step.words ≡ words_by before t made.event made.answer
     → Draws step.number step.is_whole t step.made (string_bytes step.words) d d' → DrawsEvent count n s asked d d'
 draws_event count n s t asked before made step d d' saw stands is number whole same words drawn =
     let w = string_bytes step.words in
@@ -33,7 +35,8 @@ draws_event count n s t asked before made step d d' saw stands is number whole s
     let sized = subst (λ b. Draws n b t step.made w d d') whole numbered in
     let placed = subst (λ u. Draws n h u step.made w d d') stands sized in
     let told = subst (λ m. Draws n h (after_event s asked.event) m w d d') (same ∙ is) placed in
-    let found = ap (λ m. words_by before t m.event m.answer) is ∙ words_told s t asked.event before (answered s asked.event) saw stands refl in
+    let found = ap (λ m. words_by before t m.event m.answer) is
+    ∙ words_told s t asked.event before (answered s asked.event) saw stands refl in
     subst (λ v. Draws n h (after_event s asked.event) (made_by s asked) v d d') (words ∙ found) told
 
 -- what follows if a call succeeded

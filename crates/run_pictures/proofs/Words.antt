@@ -1,5 +1,6 @@
 -- The words of a step: those that are found behind its event are those of the machine before it.
-use Rattle.std.proofs.Common.{◌≡◌, ℕ, Bool, true, false, List, [], ◌∷◌, Option, Some, None, slice_get, refl, ap, sym, ◌∙◌, cond, nat_lt, ◌/◌, ◌%◌}
+use Rattle.std.proofs.Common.{◌≡◌, ℕ, Bool, true, false, List, [], ◌∷◌, Option, Some, None, slice_get, refl, ap, sym, ◌∙◌, cond, nat_lt}
+use Rattle.std.proofs.Common.{◌/◌, ◌%◌}
 use Rattle.std.proofs.lemmas.Bool.{false≢true}
 use native.Mathlib.Nat.{div-zero, mod-zero}
 use Rattle.flat_model.specs.declared.Event.{Event}
@@ -19,7 +20,8 @@ use Rattle.write_queue.specs.declared.Queued.{Queued}
 use Rattle.cache_unit.specs.declared.Reply.{Reply}
 use Rattle.cache_unit.specs.declared.Sizes.{Sizes}
 use Rattle.cache_unit.specs.Causes.{load_cause, store_cause, prefetch_cause, evict_cause, arrive_cause}
-use Rattle.cache_unit.specs.Steps.{Stepped, unless, load_step, store_step, prefetch_step, evict_step, drain_step, drain_first, process_step, process_entry, take_step, take_reply}
+use Rattle.cache_unit.specs.Steps.{Stepped, unless, load_step, store_step, prefetch_step, evict_step, drain_step, drain_first, process_step}
+use Rattle.cache_unit.specs.Steps.{process_entry, take_step, take_reply}
 use Rattle.machine_core.specs.Machine.{Machine, MachineState, Outcome, apply, joined_with, serve_from, take_in, arrive_from}
 use Rattle.machine_core.specs.AnyMachine.{answered, after_event}
 use Rattle.run_pictures.specs.Words.{seen, refused_words, words_by, step_words}
@@ -80,7 +82,8 @@ serve_leaves : (m : Machine) (bank : ℕ) (queue : List Command) → Leaves m (s
 serve_leaves m bank [] still = refl
 serve_leaves m bank (first ∷ rest) still = absurd (false≢true still)
 
-taken_in_leaves : (z : Sizes) (m : Machine) (bank place : ℕ) (a : BankAnswer) (cause : Option Cause) → Leaves m (take_in z m bank place a cause)
+taken_in_leaves : (z : Sizes) (m : Machine) (bank place : ℕ) (a : BankAnswer) (cause : Option Cause)
+    → Leaves m (take_in z m bank place a cause)
 taken_in_leaves z m bank place a (Some cause) still = refl
 taken_in_leaves z m bank place a None still = absurd (false≢true still)
 
@@ -125,7 +128,8 @@ words_same s event m (Value tag word) leaves = refl
 words_same s event m Nothing leaves = refl
 words_same s event m (Refused cause) leaves = ap (λ n. refused_words (record { sizes = s.sizes; machine = n }) event cause) (leaves refl)
 
-pub words_behind : (s : MachineState) (event : Event) → words_by (seen s event) (after_event s event) event (answered s event) ≡ step_words s event
+pub words_behind : (s : MachineState) (event : Event) → words_by (seen s event) (after_event s event) event (answered s event)
+    ≡ step_words s event
 unfolding answered after_event step_words
 words_behind s event =
     let o = apply s.sizes s.machine event in

@@ -1,5 +1,6 @@
 -- The text of each place of a picture, by the machine's state alone.
-use Rattle.std.specs.Prelude.{◌≡◌, ℕ, Bool, false, ◌&&◌, not, if◌then◌else◌, ◌==◌, List, [], ◌++◌, codes, decimal, Option, Some, None, slice_get}
+use Rattle.std.specs.Prelude.{◌≡◌, ℕ, Bool, false, ◌&&◌, not, if◌then◌else◌, ◌==◌, List, [], ◌++◌, codes, decimal, Option, Some, None}
+use Rattle.std.specs.Prelude.{slice_get}
 use Rattle.std.specs.List.{list_any, range_with_len}
 use Rattle.std.specs.Str.{IsUtf8}
 use Rattle.flat_model.specs.declared.limits.TheConstants.{MAX_REGS}
@@ -133,11 +134,13 @@ entry_text (Some e) = codes "register " ++ (decimal e.slot ++ (codes ", word " +
 
 abbrev pub queued_text : Option Queued → List ℕ
 queued_text None = []
-queued_text (Some q) = codes "word " ++ (decimal q.at ++ (codes ", block " ++ (decimal q.block ++ (codes ": " ++ (mask q.lanes ++ (codes " " ++ digits q.word))))))
+queued_text (Some q) = codes "word "
+    ++ (decimal q.at ++ (codes ", block " ++ (decimal q.block ++ (codes ": " ++ (mask q.lanes ++ (codes " " ++ digits q.word))))))
 
 -- a command: a read for a register's word, or a write of the lanes of a word. Both say where in the bank the word lies
 abbrev pub asked_text : Command → List ℕ
-asked_text (Read slot i place) = codes "read place " ++ (decimal place ++ (codes ": register " ++ (decimal slot ++ (codes ", word " ++ decimal i))))
+asked_text (Read slot i place) = codes "read place "
+    ++ (decimal place ++ (codes ": register " ++ (decimal slot ++ (codes ", word " ++ decimal i))))
 asked_text (Write place word lanes) = codes "write place " ++ (decimal place ++ (codes ": " ++ (mask lanes ++ (codes " " ++ digits word))))
 
 abbrev pub command_text : Option Command → List ℕ

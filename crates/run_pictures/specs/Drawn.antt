@@ -69,9 +69,11 @@ IsDrawn form image s all text =
 
 -- What becomes of a trace or of a recorded run: its events are drawn, each with its recorded answer if that isn't the
 -- machine's. Or it has a fault, or too many events, or memory is missing.
-abbrev pub Shows : {R : Type 0} (gave : R → List ℕ → R → Type 0) (failed : R → R → Type 0) → Form → Image → MachineState → R → R → Result (String Global) ShowFault → Type 0
+abbrev pub Shows : {R : Type 0} (gave : R → List ℕ → R → Type 0) (failed : R → R → Type 0) → Form → Image → MachineState → R → R
+    → Result (String Global) ShowFault → Type 0
 Shows gave failed form image s r r' (Ok text) =
-    (texts : List (List ℕ)) × ReadWhole gave said_fault MAX_PAIR r r' texts × (length (all_asked texts) ≤ MOST_EVENTS) × IsDrawn form image s (all_asked texts) (string_bytes text)
+    (texts : List (List ℕ)) × ReadWhole gave said_fault MAX_PAIR r r' texts × (length (all_asked texts) ≤ MOST_EVENTS) ×
+    IsDrawn form image s (all_asked texts) (string_bytes text)
 Shows gave failed form image s r r' (Err (Trace fault)) = ReadFails gave failed said_fault MAX_PAIR r r' fault
 Shows gave failed form image s r r' (Err TooManyEvents) =
     (texts : List (List ℕ)) × ReadWhole gave said_fault MAX_PAIR r r' texts × (MOST_EVENTS < length (all_asked texts))

@@ -6,7 +6,8 @@ use Rattle.run_pictures.specs.Layouts.{fitted}
 use Rattle.cache_unit.specs.declared.Sizes.{Sizes}
 use Rattle.run_pictures.specs.declared.place.Place.{Place}
 use Rattle.run_pictures.specs.declared.place.TheConstants.{MOST_MEMORY}
-use Rattle.run_pictures.specs.declared.place.Place.TheVariants.{Register, Line, Field, Load, Frame, Cell, Stack, Queue, Command, Answer, Reply, Memory}
+use Rattle.run_pictures.specs.declared.place.Place.TheVariants.{Register, Line, Field, Load, Frame, Cell, Stack, Queue, Command, Answer}
+use Rattle.run_pictures.specs.declared.place.Place.TheVariants.{Reply, Memory}
 
 -- a place's name: a letter, and its numbers with a point between them
 abbrev pub name_text : Place → List ℕ
@@ -74,5 +75,6 @@ memory_shown words = if nat_lt MOST_MEMORY words then MOST_MEMORY else words
 -- the places of a machine's picture, in the order in which they are drawn
 abbrev pub places_in : Sizes → List Place
 places_in z =
-    of_each (register_places z) z.regs ++ of_each (frame_places z) (fitted (z.sets * z.ways)) ++ of_each stack_place z.depth ++ of_each queue_place z.write_queue
+    of_each (register_places z) z.regs ++ of_each (frame_places z) (fitted (z.sets * z.ways)) ++ of_each stack_place z.depth
+    ++ of_each queue_place z.write_queue
     ++ of_each (bank_places z) z.banks ++ of_each reply_place z.replies ++ of_each memory_place (memory_shown z.words)

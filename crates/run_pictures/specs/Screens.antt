@@ -1,5 +1,6 @@
 -- Screens: the lines of each picture.
-use Rattle.std.specs.Prelude.{◌≡◌, ℕ, ◌-◌, ◌^◌, ◌==◌, Bool, true, false, ◌&&◌, ◌||◌, not, nat_eq, if◌then◌else◌, List, [], ◌++◌, codes, decimal, length, Option, Some, None, slice_get}
+use Rattle.std.specs.Prelude.{◌≡◌, ℕ, ◌-◌, ◌^◌, ◌==◌, Bool, true, false, ◌&&◌, ◌||◌, not, nat_eq, if◌then◌else◌, List, [], ◌++◌, codes}
+use Rattle.std.specs.Prelude.{decimal, length, Option, Some, None, slice_get}
 use Rattle.std.specs.Cmp.Lexicographic.{pointwise}
 use Rattle.std.specs.Fmt.{padded, format_spec}
 use Rattle.std.specs.List.{flat_map, list_any, range_with_len}
@@ -153,10 +154,12 @@ head_text n made words =
 -- Before the first event: the first picture, of which nothing changed.
 pub record ScreensOpen (image : Image) (s : MachineState) (p : Screens) : Type 0 where
   pub film : Begins image s p.film
-  pub text : string_bytes p.text ≡ codes "step 0: the machine before the first event\n" ++ picture_text true p.film.places.items p.film.texts.items p.film.texts.items
+  pub text : string_bytes p.text ≡ codes "step 0: the machine before the first event\n"
+      ++ picture_text true p.film.places.items p.film.texts.items p.film.texts.items
 
 -- The step of an event that was made, of this number and told in these words: its picture stands behind the others, whole or
 -- what changed.
 pub record ScreensGoOn (n : ℕ) (whole : Bool) (s : MachineState) (made : Made) (words : List ℕ) (old new : Screens) : Type 0 where
   pub film : GoesOn s made.event made.answer old.film new.film
-  pub text : string_bytes new.text ≡ string_bytes old.text ++ (head_text n made words ++ picture_text whole new.film.places.items old.film.texts.items new.film.texts.items)
+  pub text : string_bytes new.text ≡ string_bytes old.text
+      ++ (head_text n made words ++ picture_text whole new.film.places.items old.film.texts.items new.film.texts.items)

@@ -1,5 +1,6 @@
 -- The signals of a waveform: what is asked and answered, and the machine's state.
-use Rattle.std.specs.Prelude.{◌≡◌, ℕ, Bool, false, List, [], ◌∷◌, ◌++◌, map, if◌then◌else◌, codes, decimal, length, Option, Some, None, slice_get}
+use Rattle.std.specs.Prelude.{◌≡◌, ℕ, Bool, false, List, [], ◌∷◌, ◌++◌, map, if◌then◌else◌, codes, decimal, length, Option, Some, None}
+use Rattle.std.specs.Prelude.{slice_get}
 use Rattle.std.specs.Fmt.{digits}
 use Rattle.std.specs.List.{flat_map, range_with_len}
 use Rattle.std.specs.Option.{is_some}
@@ -22,7 +23,8 @@ use Rattle.run_pictures.specs.declared.waveform.Waveform.{Waveform}
 use Rattle.run_pictures.specs.declared.level.Level.{Level}
 use Rattle.run_pictures.specs.declared.level.Level.TheVariants.{Bit, Number, Kind, Unset}
 use Rattle.run_pictures.specs.declared.signal.Signal.{Signal}
-use Rattle.run_pictures.specs.declared.signal.Signal.TheVariants.{EventKind, Tag, Address, AnswerKind, Cause, Differs, Valid, Obsolete, Block, Stack, Queue, Commands, Answers, Replies}
+use Rattle.run_pictures.specs.declared.signal.Signal.TheVariants.{EventKind, Tag, Address, AnswerKind, Cause, Differs, Valid, Obsolete}
+use Rattle.run_pictures.specs.declared.signal.Signal.TheVariants.{Block, Stack, Queue, Commands, Answers, Replies}
 
 abbrev pub name_text : Signal → List ℕ
 name_text EventKind = codes "event"
@@ -193,7 +195,8 @@ bank_signals bank = Commands bank ∷ (Answers bank ∷ [])
 -- the signals of a machine, in the order in which they are declared
 abbrev pub signals_in : Sizes → List Signal
 signals_in z =
-    event_signals ++ flat_map register_signals (range_with_len 0 z.regs) ++ Stack ∷ [] ++ Queue ∷ [] ++ flat_map bank_signals (range_with_len 0 z.banks) ++ Replies ∷ []
+    event_signals ++ flat_map register_signals (range_with_len 0 z.regs) ++ Stack ∷ [] ++ Queue ∷ []
+    ++ flat_map bank_signals (range_with_len 0 z.banks) ++ Replies ∷ []
 
 abbrev pub declaration_text : ℕ → Option Signal → List ℕ
 declaration_text k None = []
@@ -206,7 +209,8 @@ declaration_at signals k = declaration_text k (slice_get signals k)
 
 abbrev pub declarations_text : List Signal → List ℕ
 declarations_text signals =
-    codes "$timescale 1 ns $end\n$scope module kroft $end\n" ++ (flat_map (declaration_at signals) (range_with_len 0 (length signals)) ++ codes "$upscope $end\n$enddefinitions $end\n")
+    codes "$timescale 1 ns $end\n$scope module kroft $end\n"
+    ++ (flat_map (declaration_at signals) (range_with_len 0 (length signals)) ++ codes "$upscope $end\n$enddefinitions $end\n")
 
 -- ---- waveforms
 
@@ -233,7 +237,8 @@ step_text n changes = codes "#" ++ (decimal n ++ (codes "\n" ++ changes))
 pub record WaveOpens (s : MachineState) (w : Waveform) : Type 0 where
   pub signals : w.signals.items ≡ signals_in s.sizes
   pub values : map string_bytes w.values.items ≡ values_of None s w.signals.items
-  pub text : string_bytes w.text ≡ declarations_text w.signals.items ++ (codes "#0\n$dumpvars\n" ++ (changes_text [] w.values.items ++ codes "$end\n"))
+  pub text : string_bytes w.text ≡ declarations_text w.signals.items
+      ++ (codes "#0\n$dumpvars\n" ++ (changes_text [] w.values.items ++ codes "$end\n"))
 
 -- The step of an event that was made, of this number: the values that changed stand behind the others.
 pub record WaveGoesOn (n : ℕ) (s : MachineState) (made : Made) (old new : Waveform) : Type 0 where

@@ -1,5 +1,6 @@
 -- The lines of a recorded run, with their LF.
-use Rattle.std.proofs.Common.{◌≡◌, ℕ, ◌+◌, ◌-◌, ◌<◌, ◌≤◌, Bool, true, false, cond, Option, Some, None, Result, Ok, Err, List, [], ◌∷◌, ◌++◌, length, take, drop, get_or, length-append, refl, sym, ◌∙◌, ap, subst, arith}
+use Rattle.std.proofs.Common.{◌≡◌, ℕ, ◌+◌, ◌-◌, ◌<◌, ◌≤◌, Bool, true, false, cond, Option, Some, None, Result, Ok, Err, List, [], ◌∷◌, ◌++◌}
+use Rattle.std.proofs.Common.{length, take, drop, get_or, length-append, refl, sym, ◌∙◌, ap, subst, arith}
 use Rattle.std.specs.Prelude.{◌==◌, ◌&&◌, nat_lt, slice_index}
 use Rattle.std.proofs.Math.Seq.{get_or-append_seam, take-append_seam}
 use Rattle.std.proofs.lemmas.Bool.Decides.{nat_tests}
@@ -33,9 +34,12 @@ ended_pair text short =
     let some : 0 < length b = omega (arith, length-append text (10 ∷ [])) in
     let last : slice_index b (length b - 1) ≡ 10 = ap (λ k. get_or b k 0) at ∙ get_or-append_seam text 10 [] 0 in
     let is : is_ended b ≡ true = ended_test (length b) (slice_index b (length b - 1)) some last in
-    let front : without_end b ≡ text = ap (λ t. cond t (take (length b - 1) b) b) is ∙ ap (λ k. take k b) at ∙ take-append_seam text (10 ∷ []) in
-    let whole : List ℕ → Bool → Result Pair LineFault = λ w t. cond (nat_lt MAX_PAIR (length w)) (Err TooLong) (cond t (pair_of w) (Err NotEnded)) in
-    ap (λ w. whole w (is_ended b)) front ∙ ap (λ t. whole text t) is ∙ ap (λ t. cond t (Err TooLong) (pair_of text)) (not_longer (length text) short)
+    let front : without_end b ≡ text = ap (λ t. cond t (take (length b - 1) b) b) is ∙ ap (λ k. take k b) at
+    ∙ take-append_seam text (10 ∷ []) in
+    let whole : List ℕ → Bool → Result Pair LineFault = λ w t. cond (nat_lt MAX_PAIR (length w)) (Err TooLong)
+    (cond t (pair_of w) (Err NotEnded)) in
+    ap (λ w. whole w (is_ended b)) front ∙ ap (λ t. whole text t) is
+    ∙ ap (λ t. cond t (Err TooLong) (pair_of text)) (not_longer (length text) short)
 
 -- ---- the faults of a line that has ended
 
@@ -49,14 +53,16 @@ field_said : (l : Option Line) (f : LineFault) → or_field l ≡ Err f → IsSa
 field_said None f e = is_said Field f tt (err_is (or_field None) Field f refl e)
 field_said (Some l) f e = cc
 
-by_said : {C : Type 0} (said : Option C → Result Line LineFault) (field : C → Option Line) → said None ≡ Err Unknown → ((c : C) → said (Some c) ≡ or_field (field c))
+by_said : {C : Type 0} (said : Option C → Result Line LineFault) (field : C → Option Line) → said None ≡ Err Unknown
+    → ((c : C) → said (Some c) ≡ or_field (field c))
     → (o : Option C) (f : LineFault) → said o ≡ Err f → IsSaid f
 by_said said field none some None f e = is_said Unknown f tt (err_is (said None) Unknown f none e)
 by_said said field none some (Some c) f e = field_said (field c) f (sym (some c) ∙ e)
 
 line_said : (text : List ℕ) (f : LineFault) → line_of text ≡ Err f → IsSaid f
 unfolding line_of
-line_said text f e = by_said (λ o. said_by o (cut_of text).1) (λ c. line_from c (cut_of text).1) refl (λ c. refl) (command_named (cut_of text).0) f e
+line_said text f e = by_said (λ o. said_by o (cut_of text).1) (λ c. line_from c (cut_of text).1) refl (λ c. refl)
+    (command_named (cut_of text).0) f e
 
 answered_said : (l : Line) (a : Option Answer) (f : LineFault) → answered_pair l a ≡ Err f → IsSaid f
 answered_said l None f e = is_said Field f tt (err_is (answered_pair l None) Field f refl e)
@@ -68,7 +74,8 @@ with_said (line.Register slot) answer f e = cc
 with_said (line.Bank at) answer f e = cc
 with_said line.Settled answer f e = cc
 
-from_said : (l : Result Line LineFault) (answer : List ℕ) (f : LineFault) → ((g : LineFault) → l ≡ Err g → IsSaid g) → pair_from l answer ≡ Err f → IsSaid f
+from_said : (l : Result Line LineFault) (answer : List ℕ) (f : LineFault) → ((g : LineFault) → l ≡ Err g → IsSaid g)
+    → pair_from l answer ≡ Err f → IsSaid f
 from_said (Ok l) answer f said e = with_said l answer f e
 from_said (Err g) answer f said e = is_said g f (said g refl) (err_is (pair_from (Err g) answer) g f refl e)
 

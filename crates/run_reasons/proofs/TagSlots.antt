@@ -1,11 +1,13 @@
 -- What is counted and shown of tags after each change of one of them.
-use Rattle.std.proofs.Common.{◌||◌, append-nil, ◌≡◌, ◌≢◌, ℕ, ◌*◌, ◌-◌, ◌<◌, ◌≤◌, Bool, true, false, ◌==◌, cond, if◌then◌else◌, List, [], ◌∷◌, ◌++◌, take, drop, length, replicate, get_or, set, inl, inr, refl, sym, ◌∙◌, ap, subst, eq-eqb, arith}
+use Rattle.std.proofs.Common.{◌||◌, append-nil, ◌≡◌, ◌≢◌, ℕ, ◌*◌, ◌-◌, ◌<◌, ◌≤◌, Bool, true, false, ◌==◌, cond, if◌then◌else◌, List, []}
+use Rattle.std.proofs.Common.{◌∷◌, ◌++◌, take, drop, length, replicate, get_or, set, inl, inr, refl, sym, ◌∙◌, ap, subst, eq-eqb, arith}
 use Rattle.std.specs.Prelude.{slice_set}
 use Rattle.std.specs.List.{sum_by, list_any}
 use Rattle.std.proofs.Math.Path.{fun_ext}
 use Rattle.std.proofs.Math.Seq.{drop-length, take-length}
 use Rattle.std.proofs.lemmas.Bool.{cases_Bool, cases_lt, eqb-true}
-use Rattle.std.proofs.lemmas.List.{length-drop, get_or-set_same, get_or-set_other, get_or-replicate, get_or_past, drop-append-le, length-replicate}
+use Rattle.std.proofs.lemmas.List.{length-drop, get_or-set_same, get_or-set_other, get_or-replicate, get_or_past, drop-append-le}
+use Rattle.std.proofs.lemmas.List.{length-replicate}
 use Rattle.std.proofs.lemmas.List.Sums.{sum_by-le, get_or-le-sum_by}
 use Rattle.std.proofs.lemmas.List.Folds.{sum_by-replicate}
 use Rattle.flat_model.specs.declared.Word.{Word}
@@ -17,7 +19,8 @@ use Rattle.run_reasons.specs.declared.origins.TagUse.TheVariants.{Never, Loaded,
 use Rattle.run_reasons.specs.declared.tags.LeftWord.{LeftWord}
 use Rattle.run_reasons.specs.declared.tags.TagSlot.{TagSlot}
 use Rattle.run_reasons.specs.Origins.{is_open_at, with_use, without_since, with_left}
-use Rattle.run_reasons.specs.TagSlots.{no_slot, slot_at, uses_in, words_at, is_left, words_behind, since_in, is_open, loads_in, loads_at, IsCounted}
+use Rattle.run_reasons.specs.TagSlots.{no_slot, slot_at, uses_in, words_at, is_left, words_behind, since_in, is_open, loads_in, loads_at}
+use Rattle.run_reasons.specs.TagSlots.{IsCounted}
 
 abbrev one_if : Bool → ℕ
 one_if b = if b then 1 else 0
@@ -208,7 +211,8 @@ pub within_left : (slots : List TagSlot) (counts : List ℕ) (loads : ℕ) (left
 within_left slots counts loads left tag load c is = c.behind tag (ap is_open is)
 
 pub has_stood : (slots : List TagSlot) (left : List LeftWord) (tag : ℕ) (load : AcceptedLoad) (word : Word)
-    → uses_in slots tag ≡ Loaded load → list_any (is_left load.at word) (drop (slot_at slots tag).before left) ≡ list_any (λ w. same_word w word) (since_in left slots tag)
+    → uses_in slots tag ≡ Loaded load → list_any (is_left load.at word) (drop (slot_at slots tag).before left)
+    ≡ list_any (λ w. same_word w word) (since_in left slots tag)
 has_stood slots left tag load word is =
     any_at load.at word (drop (slot_at slots tag).before left)
     ∙ ap (λ u. list_any (λ w. same_word w word) (words_behind left (slot_at slots tag).before u)) (sym is)

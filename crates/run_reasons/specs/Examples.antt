@@ -11,7 +11,8 @@ use Rattle.flat_model.specs.Words.{zero_word, has, merged}
 use Rattle.run_reasons.specs.Origins.{Origins, beginning, origins_after, stored_in}
 use Rattle.run_reasons.specs.Pasts.{overwritten_at, overwritten_in, pasts_of}
 use Rattle.run_reasons.specs.Reasons.{reason_of}
-use Rattle.run_reasons.specs.declared.reason.Reason.TheVariants.{NeverAnswered, NeverRefused, Outside, Inside, TagInUse as InUse, NeverLoaded, Taken, WrongWord}
+use Rattle.run_reasons.specs.declared.reason.Reason.TheVariants.{NeverAnswered, NeverRefused, Outside, Inside, TagInUse as InUse}
+use Rattle.run_reasons.specs.declared.reason.Reason.TheVariants.{NeverLoaded, Taken, WrongWord}
 
 abbrev word : ℕ → ℕ → ℕ → ℕ → Word
 word a b c d = record { b0 = a; b1 = b; b2 = c; b3 = d }

@@ -16,7 +16,8 @@ use Rattle.run_reasons.specs.declared.origins.TagUse.{TagUse}
 use Rattle.run_reasons.specs.declared.origins.TagUse.TheVariants as state
 use Rattle.run_reasons.specs.declared.reason.Mismatch.{Mismatch}
 use Rattle.run_reasons.specs.declared.reason.Reason.{Reason}
-use Rattle.run_reasons.specs.declared.reason.Reason.TheVariants.{NeverAnswered, NeverRefused, Outside, Inside, TagInUse, NeverLoaded, Taken, NoLanes, HasLanes, WrongWord}
+use Rattle.run_reasons.specs.declared.reason.Reason.TheVariants.{NeverAnswered, NeverRefused, Outside, Inside, TagInUse, NeverLoaded, Taken}
+use Rattle.run_reasons.specs.declared.reason.Reason.TheVariants.{NoLanes, HasLanes, WrongWord}
 
 -- ---- what an event is answered, whatever flat memory holds
 

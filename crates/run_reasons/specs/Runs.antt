@@ -71,7 +71,8 @@ pub record EndsIn (words : List Word) (bytes : List ℕ) (why : Stop) : Type 0 w
 -- ---- what was read
 
 -- Up to here, before a read or at the end, the lines of a flat run came, and the start of another line.
-pub record ReadSoFar {R : Type 0} (gave : R → List ℕ → R → Type 0) (words : List Word) (r r' : R) (texts : List (List ℕ)) (pending : List ℕ) (steps : ℕ) : Type 0 where
+pub record ReadSoFar {R : Type 0} (gave : R → List ℕ → R → Type 0) (words : List Word) (r r' : R) (texts : List (List ℕ)) (pending : List ℕ)
+    (steps : ℕ) : Type 0 where
   pub bytes : List ℕ
   pub read : Moves (Came gave) r bytes r'
   pub text : IsFlatText words bytes texts pending steps
@@ -88,12 +89,16 @@ pub record ReadInto {R : Type 0} (gave : R → List ℕ → R → Type 0) (words
   pub ends : EndsIn words (so_far.bytes ++ piece) why
 
 -- How the reading of a recorded run ends, over memory of these words.
-abbrev pub Explains : {R : Type 0} (gave : R → List ℕ → R → Type 0) (failed : R → R → Type 0) (words : List Word) (r r' : R) → Result Explanation TraceFault → Type 0
-Explains {R} gave failed words r r' (Ok (explained.Flat steps)) = (texts : List (List ℕ)) × (last : R) × ReadSoFar gave words r last texts [] steps × gave last [] r'
+abbrev pub Explains : {R : Type 0} (gave : R → List ℕ → R → Type 0) (failed : R → R → Type 0) (words : List Word) (r r' : R)
+    → Result Explanation TraceFault → Type 0
+Explains {R} gave failed words r r' (Ok (explained.Flat steps)) = (texts : List (List ℕ)) × (last : R) ×
+    ReadSoFar gave words r last texts [] steps × gave last [] r'
 Explains gave failed words r r' (Ok (explained.Mismatch m)) = ReadInto gave words r r' (stop.Mismatch m)
-Explains {R} gave failed words r r' (Err fault.Read) = (texts : List (List ℕ)) × (pending : List ℕ) × (steps : ℕ) × (last : R) × ReadSoFar gave words r last texts pending steps × failed last r'
+Explains {R} gave failed words r r' (Err fault.Read) = (texts : List (List ℕ)) × (pending : List ℕ) × (steps : ℕ) × (last : R) ×
+    ReadSoFar gave words r last texts pending steps × failed last r'
 -- the input ended within a line
-Explains {R} gave failed words r r' (Err (fault.Line n NotEnded)) = (texts : List (List ℕ)) × (pending : List ℕ) × (steps : ℕ) × (last : R) × ReadSoFar gave words r last texts pending steps × gave last [] r' × (0 < length pending) × (n ≡ length texts + 1)
+Explains {R} gave failed words r r' (Err (fault.Line n NotEnded)) = (texts : List (List ℕ)) × (pending : List ℕ) × (steps : ℕ) ×
+    (last : R) × ReadSoFar gave words r last texts pending steps × gave last [] r' × (0 < length pending) × (n ≡ length texts + 1)
 Explains gave failed words r r' (Err (fault.Line n f)) = ReadInto gave words r r' (stop.Fault (fault.Line n f))
 Explains gave failed words r r' (Err fault.TooManyLines) = ReadInto gave words r r' (stop.Fault fault.TooManyLines)
 Explains gave failed words r r' (Err fault.OutOfMemory) = Unit {0}

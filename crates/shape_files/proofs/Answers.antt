@@ -7,7 +7,8 @@ use Rattle.shape_files.specs.declared.shape_file.TheConstants.{DEFAULT_SHAPE}
 use Rattle.shape_files.specs.declared.shape_file.ShapeFault.{ShapeFault}
 use Rattle.shape_files.specs.declared.shape_file.ShapeFault.TheVariants.{NotToml, UnknownKey, NotWhole, BadShape, OutOfMemory}
 use Rattle.shape_files.specs.declared.shape_file.Numbers.{Numbers}
-use Rattle.shape_files.specs.ShapeFile.{and_then, integer_at, whole, numbers_of, bad_field, shape_said, or_bad, shape_of, has_other_key, table_says}
+use Rattle.shape_files.specs.ShapeFile.{and_then, integer_at, whole, numbers_of, bad_field, shape_said, or_bad, shape_of, has_other_key}
+use Rattle.shape_files.specs.ShapeFile.{table_says}
 
 -- whether an answer is not for want of memory
 abbrev pub has_room : {A : Type 0} → Result A ShapeFault → Bool
@@ -15,7 +16,8 @@ has_room (Ok x) = true
 has_room (Err OutOfMemory) = false
 has_room (Err e) = true
 
-then_room : {A B : Type 0} (r : Result A ShapeFault) (f : A → Result B ShapeFault) → has_room r ≡ true → ((x : A) → has_room (f x) ≡ true) → has_room (and_then r f) ≡ true
+then_room : {A B : Type 0} (r : Result A ShapeFault) (f : A → Result B ShapeFault) → has_room r ≡ true → ((x : A) → has_room (f x) ≡ true)
+    → has_room (and_then r f) ≡ true
 then_room (Ok x) f h k = k x
 then_room (Err NotToml) f h k = refl
 then_room (Err UnknownKey) f h k = refl

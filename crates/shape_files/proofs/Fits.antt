@@ -15,7 +15,8 @@ use Rattle.shape_files.specs.MachineFile.{bad_machine}
 use Rattle.shape_files.specs.ShapeFile.{is_register_count, sizes_of, bad_field}
 
 -- a test that is passed names no field
-passed : (test : Bool) (field : ShapeField) (rest : Option ShapeField) → cond (not test) (Some field) rest ≡ None → (test ≡ true) × (rest ≡ None)
+passed : (test : Bool) (field : ShapeField) (rest : Option ShapeField) → cond (not test) (Some field) rest ≡ None → (test ≡ true) ×
+    (rest ≡ None)
 passed true field rest e = (refl, e)
 passed false field rest e = cc
 

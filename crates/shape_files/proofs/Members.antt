@@ -1,5 +1,6 @@
 -- The keys of a table, one after another.
-use Rattle.std.proofs.Common.{◌≡◌, ℕ, Bool, false, ◌||◌, not, if◌then◌else◌, Option, Some, None, List, [], ◌∷◌, String, Global, string_bytes, refl, ap}
+use Rattle.std.proofs.Common.{◌≡◌, ℕ, Bool, false, ◌||◌, not, if◌then◌else◌, Option, Some, None, List, [], ◌∷◌, String, Global}
+use Rattle.std.proofs.Common.{string_bytes, refl, ap}
 use Rattle.std.specs.Map.{keys_of}
 use Rattle.toml.specs.declared.value.Value.{Value}
 use Rattle.toml.specs.View.{members_view}

@@ -1,11 +1,13 @@
 -- What a shape file says: the answer for every text that TOML's grammar takes.
-use Rattle.std.specs.Prelude.{ℕ, ℤ, pos, negsuc, Bool, false, ◌||◌, not, if◌then◌else◌, ◌==◌, ◌-◌, ◌^◌, nat_lt, List, ◌++◌, Option, Some, None, Result, Ok, Err, codes}
+use Rattle.std.specs.Prelude.{ℕ, ℤ, pos, negsuc, Bool, false, ◌||◌, not, if◌then◌else◌, ◌==◌, ◌-◌, ◌^◌, nat_lt, List, ◌++◌, Option, Some}
+use Rattle.std.specs.Prelude.{None, Result, Ok, Err, codes}
 use Rattle.std.specs.List.{list_any}
 use Rattle.std.specs.Option.{option_map}
 use Rattle.std.specs.Str.{bytes_eq}
 use Rattle.toml.specs.Data.{Members, no_members, member, get_member, as_integer}
 use Rattle.flat_model.specs.declared.ShapeField.{ShapeField}
-use Rattle.flat_model.specs.declared.ShapeField.TheVariants.{Ways, Regs, Words, Sets, Banks, BankQueue, WriteQueue, Replies, BlockWords, Depth, Ports, Journal, Image}
+use Rattle.flat_model.specs.declared.ShapeField.TheVariants.{Ways, Regs, Words, Sets, Banks, BankQueue, WriteQueue, Replies, BlockWords}
+use Rattle.flat_model.specs.declared.ShapeField.TheVariants.{Depth, Ports, Journal, Image}
 use Rattle.flat_model.specs.Ranges.{is_between}
 use Rattle.cache_unit.specs.declared.Sizes.{Sizes}
 use Rattle.cache_unit.specs.Shown as shown
@@ -19,7 +21,8 @@ use Rattle.shape_files.specs.declared.shape_file.Numbers.{Numbers}
 -- whether a shape file may have this key
 abbrev pub is_key : List ℕ → Bool
 is_key k =
-    bytes_eq k (codes "words") || bytes_eq k (codes "sets") || bytes_eq k (codes "ways") || bytes_eq k (codes "regs") || bytes_eq k (codes "banks") || bytes_eq k (codes "bank_queue") || bytes_eq k (codes "write_queue") || bytes_eq k (codes "replies")
+    bytes_eq k (codes "words") || bytes_eq k (codes "sets") || bytes_eq k (codes "ways") || bytes_eq k (codes "regs")
+    || bytes_eq k (codes "banks") || bytes_eq k (codes "bank_queue") || bytes_eq k (codes "write_queue") || bytes_eq k (codes "replies")
 
 -- whether any other key stands at the top
 abbrev pub has_other_key : Members → Bool

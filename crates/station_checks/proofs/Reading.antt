@@ -1,5 +1,6 @@
 -- What is read of one more entry of a journal.
-use Rattle.std.proofs.Common.{◌≡◌, ℕ, zero, suc, ◌+◌, ◌<◌, List, [], ◌∷◌, ◌++◌, length, take, get_or, slice_get, Option, Some, None, refl, sym, ap, ◌∙◌, arith}
+use Rattle.std.proofs.Common.{◌≡◌, ℕ, zero, suc, ◌+◌, ◌<◌, List, [], ◌∷◌, ◌++◌, length, take, get_or, slice_get, Option, Some, None, refl}
+use Rattle.std.proofs.Common.{sym, ap, ◌∙◌, arith}
 use Rattle.std.proofs.lemmas.List.{take_more}
 use Rattle.std.proofs.lemmas.Option.{get_or_from_slice_get, slice_get_within}
 use Rattle.flat_model.specs.declared.Event.{Event}
@@ -48,7 +49,8 @@ told_more port xs i d telling old new within tells before adds =
 
 -- ---- entries that are read one by one
 
-pub read_more : (xs : List Entry) (i : ℕ) (e : Entry) (old new : List Entry) → slice_get xs i ≡ Some e → old ≡ take i xs → new ≡ old ++ e ∷ []
+pub read_more : (xs : List Entry) (i : ℕ) (e : Entry) (old new : List Entry) → slice_get xs i ≡ Some e → old ≡ take i xs
+    → new ≡ old ++ e ∷ []
     → new ≡ take (i + 1) xs
 read_more xs i e old new is before adds =
     adds ∙ ap (λ l. l ++ e ∷ []) before ∙ ap (λ x. take i xs ++ x ∷ []) (sym (get_or_from_slice_get xs i e e is))

@@ -1,5 +1,6 @@
 -- Where every port has had its whole conversation, no telling is left and nothing is owed.
-use Rattle.std.proofs.Common.{◌≡◌, ℕ, suc, ◌+◌, ◌/◌, ◌<◌, ◌≤◌, Bool, true, false, cond, not, ◌&&◌, ◌==◌, nat_lt, List, [], ◌∷◌, ◌++◌, length, None, refl, sym, ap, ap₂, ◌∙◌, arith, append-nil, length-append}
+use Rattle.std.proofs.Common.{◌≡◌, ℕ, suc, ◌+◌, ◌/◌, ◌<◌, ◌≤◌, Bool, true, false, cond, not, ◌&&◌, ◌==◌, nat_lt, List, [], ◌∷◌, ◌++◌}
+use Rattle.std.proofs.Common.{length, None, refl, sym, ap, ap₂, ◌∙◌, arith, append-nil, length-append}
 use Rattle.std.specs.List.{filter, list_all}
 use Rattle.std.proofs.lemmas.Bool.{ltb-true, ltb-false, and_parts}
 use Rattle.std.proofs.lemmas.List.{nil_from_length}
@@ -22,7 +23,8 @@ use Rattle.station_journal.specs.declared.asks.Told.{Told}
 use Rattle.station_journal.specs.declared.asks.Told.TheVariants.{Accepted, Refused, Value}
 use Rattle.station_journal.specs.Journal.{Stand, Brings, AllFit, true_stand, true_word, opening_stand, after_entry, is_full, zeros}
 use Rattle.station_journal.specs.Parts.{asks_of, told_of, is_event_of, is_entry_of, IsOfPorts}
-use Rattle.station_journal.specs.Conversation.{is_value, verdicts_in, value_count, is_request, requests_in, is_final, accepted_loads, Follows}
+use Rattle.station_journal.specs.Conversation.{is_value, verdicts_in, value_count, is_request, requests_in, is_final, accepted_loads}
+use Rattle.station_journal.specs.Conversation.{Follows}
 use Rattle.station_journal.specs.Law.{IsFlatJournal, AsksAreJudged, IsHeard, RunIsAnswered}
 use Rattle.station_journal.proofs.Stepping.{eqb_true}
 use Rattle.station_journal.proofs.Walking.{journal_is_flat}

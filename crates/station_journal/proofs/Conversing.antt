@@ -4,7 +4,8 @@ use Rattle.std.proofs.lemmas.List.Elements.{filter-append}
 use Rattle.miss_registers.proofs.Tags.{count_by-append}
 use Rattle.station_journal.specs.declared.asks.Ask.{Ask}
 use Rattle.station_journal.specs.declared.asks.Told.{Told}
-use Rattle.station_journal.specs.Conversation.{is_value, verdicts_in, value_count, is_final, accepted_load, accepted_loads, Follows, IsUnderWay}
+use Rattle.station_journal.specs.Conversation.{is_value, verdicts_in, value_count, is_final, accepted_load, accepted_loads, Follows}
+use Rattle.station_journal.specs.Conversation.{IsUnderWay}
 
 -- ---- one verdict more
 

@@ -1,5 +1,6 @@
 -- How many reads a journal can have sent.
-use Rattle.std.proofs.Common.{◌≡◌, ℕ, suc, ◌+◌, ◌*◌, ◌%◌, ◌/◌, ◌<◌, ◌≤◌, ◌==◌, nat_lt, Bool, true, false, cond, List, [], ◌∷◌, length, Option, Some, None, ap, arith}
+use Rattle.std.proofs.Common.{◌≡◌, ℕ, suc, ◌+◌, ◌*◌, ◌%◌, ◌/◌, ◌<◌, ◌≤◌, ◌==◌, nat_lt, Bool, true, false, cond, List, [], ◌∷◌, length}
+use Rattle.std.proofs.Common.{Option, Some, None, ap, arith}
 use Rattle.std.specs.List.{count_by}
 use Rattle.std.proofs.lemmas.List.Sums.{count_by-le-length}
 use Rattle.std.proofs.lemmas.List.FromFn.{length-map-range_with_len}
@@ -17,7 +18,8 @@ use Rattle.miss_registers.proofs.Tags.{count_by-append}
 use Rattle.write_queue.specs.declared.Queued.{Queued}
 use Rattle.cache_unit.specs.declared.Sizes.{Sizes}
 use Rattle.cache_unit.specs.State.{Cache, is_present, free_slot, first_of}
-use Rattle.cache_unit.specs.Steps.{Stepped, unless, reads, fetches, moved, arrived, load_step, store_step, prefetch_step, drain_step, drain_first, arrive_step}
+use Rattle.cache_unit.specs.Steps.{Stepped, unless, reads, fetches, moved, arrived, load_step, store_step, prefetch_step, drain_step}
+use Rattle.cache_unit.specs.Steps.{drain_first, arrive_step}
 use Rattle.cache_unit.specs.Causes.{arrive_cause}
 use Rattle.machine_core.proofs.Stepping.{evict_silent, process_silent, take_silent}
 use Rattle.station_journal.specs.declared.journal.Entry.{Entry}

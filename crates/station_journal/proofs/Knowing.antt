@@ -1,6 +1,7 @@
 -- Journals and what is known of the words that came: one entry more, one word more, and the words
 -- that came are the true ones.
-use Rattle.std.proofs.Common.{◌≡◌, ℕ, zero, suc, ◌<◌, Bool, true, false, cond, ◌&&◌, ◌==◌, nat_lt, List, [], ◌∷◌, ◌++◌, length, slice_get, Option, Some, None, is_some, refl, sym, ap, ◌∙◌, subst, IsTrue, arith, append-nil, append_assoc}
+use Rattle.std.proofs.Common.{◌≡◌, ℕ, zero, suc, ◌<◌, Bool, true, false, cond, ◌&&◌, ◌==◌, nat_lt, List, [], ◌∷◌, ◌++◌, length, slice_get}
+use Rattle.std.proofs.Common.{Option, Some, None, is_some, refl, sym, ap, ◌∙◌, subst, IsTrue, arith, append-nil, append_assoc}
 use Rattle.std.specs.List.{filter, count_by}
 use Rattle.std.proofs.lemmas.Bool.{ltb-true}
 use Rattle.std.proofs.lemmas.List.Sums.{length-filter}
@@ -18,7 +19,8 @@ use Rattle.cache_unit.specs.declared.Sizes.{Sizes}
 use Rattle.cache_unit.specs.Steps.{Stepped}
 use Rattle.station_journal.specs.declared.journal.Entry.{Entry}
 use Rattle.station_journal.specs.declared.journal.Entry.TheVariants.{Step, Ended}
-use Rattle.station_journal.specs.Journal.{Stand, Brings, brought, next_word, step, moved_on, may_stand, is_full, Fits, after_entry, Walks, come_word, true_word, zeros_in}
+use Rattle.station_journal.specs.Journal.{Stand, Brings, brought, next_word, step, moved_on, may_stand, is_full, Fits, after_entry, Walks}
+use Rattle.station_journal.specs.Journal.{come_word, true_word, zeros_in}
 use Rattle.station_journal.specs.Side.{ComesOf}
 use Rattle.station_journal.proofs.Standing.{answers_to-append}
 

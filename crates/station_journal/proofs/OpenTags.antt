@@ -1,5 +1,6 @@
 -- The tags that flat memory owes a value, counted along a run.
-use Rattle.std.proofs.Common.{◌≡◌, ℕ, ◌+◌, ◌/◌, ◌≤◌, Bool, true, false, cond, ◌==◌, nat_lt, List, [], ◌∷◌, length, Option, Some, None, is_some, is_none, refl, sym, ap, ◌∙◌, arith, eq-eqb}
+use Rattle.std.proofs.Common.{◌≡◌, ℕ, ◌+◌, ◌/◌, ◌≤◌, Bool, true, false, cond, ◌==◌, nat_lt, List, [], ◌∷◌, length, Option, Some, None}
+use Rattle.std.proofs.Common.{is_some, is_none, refl, sym, ap, ◌∙◌, arith, eq-eqb}
 use Rattle.std.proofs.lemmas.Bool.{and_parts}
 use Rattle.flat_model.specs.declared.Word.{Word}
 use Rattle.flat_model.specs.declared.Event.{Event}

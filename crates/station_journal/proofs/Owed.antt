@@ -1,5 +1,6 @@
 -- What a unit owes, and its tags.
-use Rattle.std.proofs.Common.{◌≡◌, ℕ, true, false, ◌||◌, ◌==◌, not, List, [], ◌∷◌, length, Option, Some, None, option_map, is_none, refl, sym, ap, ◌∙◌, eq-eqb}
+use Rattle.std.proofs.Common.{◌≡◌, ℕ, true, false, ◌||◌, ◌==◌, not, List, [], ◌∷◌, length, Option, Some, None, option_map, is_none, refl}
+use Rattle.std.proofs.Common.{sym, ap, ◌∙◌, eq-eqb}
 use Rattle.std.specs.List.{list_any}
 use Rattle.std.proofs.lemmas.List.{nil_from_length}
 use Rattle.flat_model.specs.declared.Word.{Word}

@@ -1,9 +1,12 @@
 -- What the unit does with the rooms that are known may stand in the journal.
-use Rattle.std.proofs.Common.{◌≡◌, ℕ, ◌+◌, ◌%◌, ◌/◌, ◌<◌, Bool, true, false, cond, not, ◌&&◌, ◌==◌, nat_lt, nat_le, List, [], ◌∷◌, ◌++◌, length, slice_get, Option, Some, None, is_none, refl, sym, ap, ap₂, ◌∙◌, subst, IsTrue, append-nil, ◌⊎◌, inl, inr, lt-ltb}
+use Rattle.std.proofs.Common.{◌≡◌, ℕ, ◌+◌, ◌%◌, ◌/◌, ◌<◌, Bool, true, false, cond, not, ◌&&◌, ◌==◌, nat_lt, nat_le, List, [], ◌∷◌, ◌++◌}
+use Rattle.std.proofs.Common.{length, slice_get, Option, Some, None, is_none, refl, sym, ap, ap₂, ◌∙◌, subst, IsTrue, append-nil, ◌⊎◌, inl}
+use Rattle.std.proofs.Common.{inr, lt-ltb}
 use Rattle.std.specs.List.{filter, list_all}
 use Rattle.flat_model.specs.declared.Lanes.{Lanes}
 use Rattle.flat_model.specs.declared.Cause.{Cause}
-use Rattle.flat_model.specs.declared.Cause.TheVariants.{OutOfRange, NoLanes, TagInUse, RepliesFull, TargetsFull, NoRegister, SetPending, QueueFull, BankFull, NotPresent}
+use Rattle.flat_model.specs.declared.Cause.TheVariants.{OutOfRange, NoLanes, TagInUse, RepliesFull, TargetsFull, NoRegister, SetPending}
+use Rattle.flat_model.specs.declared.Cause.TheVariants.{QueueFull, BankFull, NotPresent}
 use Rattle.flat_model.specs.declared.Event.{Event}
 use Rattle.flat_model.specs.declared.Event.TheVariants.{Load, Store, Prefetch, Evict, Drain, Arrive, Process, Take}
 use Rattle.flat_model.specs.declared.Answer.{Answer}
@@ -20,9 +23,13 @@ use Rattle.cache_unit.specs.declared.Request.TheVariants as requests
 use Rattle.cache_unit.specs.declared.Sizes.{Sizes}
 use Rattle.cache_unit.specs.State.{Cache, frame_of, is_present, is_pending, block_of, place_in, cell_of, tags}
 use Rattle.cache_unit.specs.Views.{is_empty}
-use Rattle.cache_unit.specs.Causes.{first_cause, is_in_use, found, targets_full, ways_of, choose, lacks_places, lacks_room, load_cause, store_cause, prefetch_cause, evict_cause, arrive_cause}
-use Rattle.cache_unit.specs.Steps.{Stepped, unless, loaded, written, fetched, fetches, evicted_from, arrived, moved, request_step, load_step, store_step, prefetch_step, evict_step, drain_step, drain_first, arrive_step, process_step, process_entry, take_step, take_reply}
-use Rattle.station_journal.specs.Journal.{Stand, Brings, ample, brought, next_word, step, may_be_full, may_stand, is_full, event_of, arrived_after, Fits, after_entry}
+use Rattle.cache_unit.specs.Causes.{first_cause, is_in_use, found, targets_full, ways_of, choose, lacks_places, lacks_room, load_cause}
+use Rattle.cache_unit.specs.Causes.{store_cause, prefetch_cause, evict_cause, arrive_cause}
+use Rattle.cache_unit.specs.Steps.{Stepped, unless, loaded, written, fetched, fetches, evicted_from, arrived, moved, request_step}
+use Rattle.cache_unit.specs.Steps.{load_step, store_step, prefetch_step, evict_step, drain_step, drain_first, arrive_step, process_step}
+use Rattle.cache_unit.specs.Steps.{process_entry, take_step, take_reply}
+use Rattle.station_journal.specs.Journal.{Stand, Brings, ample, brought, next_word, step, may_be_full, may_stand, is_full, event_of}
+use Rattle.station_journal.specs.Journal.{arrived_after, Fits, after_entry}
 use Rattle.station_journal.proofs.Rooms.{ample-suffices}
 
 -- ---- a step of the unit may stand in the journal

@@ -1,9 +1,11 @@
 -- Rooms decide nothing but cause 10.
-use Rattle.std.proofs.Common.{◌≡◌, ℕ, zero, suc, ◌+◌, ◌-◌, ◌*◌, ◌/◌, ◌%◌, ◌<◌, ◌≤◌, Bool, true, false, cond, not, ◌==◌, nat_lt, nat_le, List, [], ◌∷◌, length, refl, ap, arith, le-ltb, lt-ltb, mod-lt}
+use Rattle.std.proofs.Common.{◌≡◌, ℕ, zero, suc, ◌+◌, ◌-◌, ◌*◌, ◌/◌, ◌%◌, ◌<◌, ◌≤◌, Bool, true, false, cond, not, ◌==◌, nat_lt, nat_le}
+use Rattle.std.proofs.Common.{List, [], ◌∷◌, length, refl, ap, arith, le-ltb, lt-ltb, mod-lt}
 use Rattle.std.specs.List.{filter, list_all, range_with_len}
 use Rattle.flat_model.specs.declared.Word.{Word}
 use Rattle.flat_model.specs.declared.Lanes.{Lanes}
-use Rattle.flat_model.specs.declared.Cause.TheVariants.{OutOfRange, NoLanes, TagInUse, RepliesFull, TargetsFull, NoRegister, SetPending, QueueFull, BankFull}
+use Rattle.flat_model.specs.declared.Cause.TheVariants.{OutOfRange, NoLanes, TagInUse, RepliesFull, TargetsFull, NoRegister, SetPending}
+use Rattle.flat_model.specs.declared.Cause.TheVariants.{QueueFull, BankFull}
 use Rattle.flat_model.specs.declared.Answer.TheVariants.{Accepted, Moved, Refused}
 use Rattle.flat_model.specs.Words.{has_any}
 use Rattle.memory_banks.specs.declared.Command.TheVariants.{Write}
@@ -11,7 +13,8 @@ use Rattle.memory_banks.specs.Banks.{Bank, bank_at, room_in}
 use Rattle.write_queue.specs.declared.Queued.{Queued}
 use Rattle.cache_unit.specs.declared.Sizes.{Sizes}
 use Rattle.cache_unit.specs.State.{Cache, is_present, is_pending, block_of, place_in, first_of, tags, cell_of}
-use Rattle.cache_unit.specs.Causes.{first_cause, is_in_use, found, targets_full, ways_of, choose, lacks_places, addresses, lacks_room, load_cause, store_cause, prefetch_cause}
+use Rattle.cache_unit.specs.Causes.{first_cause, is_in_use, found, targets_full, ways_of, choose, lacks_places, addresses, lacks_room}
+use Rattle.cache_unit.specs.Causes.{load_cause, store_cause, prefetch_cause}
 use Rattle.cache_unit.specs.Steps.{load_step, store_step, prefetch_step, drain_step, drain_first, unless, loaded, written, fetched, fetches}
 use Rattle.machine_core.proofs.Resting.{spread_evenly, any_false}
 use Rattle.station_journal.specs.Journal.{ample}

@@ -1,5 +1,6 @@
 -- One event of a journal is the machine's event, and then all banks serve what they were sent.
-use Rattle.std.proofs.Common.{◌≡◌, ℕ, zero, suc, ◌-◌, ◌*◌, ◌<◌, ◌≤◌, Bool, true, false, cond, ◌&&◌, ◌==◌, nat_lt, [], slice_get, Option, Some, None, refl, sym, ap, ◌∙◌, subst, arith, length, lt-ltb}
+use Rattle.std.proofs.Common.{◌≡◌, ℕ, zero, suc, ◌-◌, ◌*◌, ◌<◌, ◌≤◌, Bool, true, false, cond, ◌&&◌, ◌==◌, nat_lt, [], slice_get, Option}
+use Rattle.std.proofs.Common.{Some, None, refl, sym, ap, ◌∙◌, subst, arith, length, lt-ltb}
 use Rattle.std.proofs.lemmas.Bool.{ltb-true}
 use Rattle.std.proofs.lemmas.Option.{slice_get_within}
 use Rattle.flat_model.specs.declared.Cause.{Cause}
@@ -13,14 +14,16 @@ use Rattle.memory_banks.specs.Banks.{Bank, bank_at, answers_to, room_in}
 use Rattle.cache_unit.specs.declared.Sizes.{Sizes}
 use Rattle.cache_unit.specs.State.{Cache, block_of}
 use Rattle.cache_unit.specs.Causes.{arrive_cause}
-use Rattle.cache_unit.specs.Steps.{Stepped, unless, moved as unit_moved, arrived, arrive_step, load_step, store_step, prefetch_step, evict_step, drain_step, process_step, take_step}
+use Rattle.cache_unit.specs.Steps.{Stepped, unless, moved as unit_moved, arrived, arrive_step, load_step, store_step, prefetch_step}
+use Rattle.cache_unit.specs.Steps.{evict_step, drain_step, process_step, take_step}
 use Rattle.machine_core.specs.Law.{IsLawful}
 use Rattle.machine_core.specs.Machine.{Machine, joined_with, take_in, arrive_from, flat_of}
 use Rattle.station_journal.specs.Journal.{Stand, ample, brought, true_word, zeros_in, step, moved_on}
 use Rattle.station_journal.specs.Law.{TakesABlock}
 use Rattle.station_journal.proofs.FlatFrom.{FlatFrom, flat_event, flat_from_next}
-use Rattle.station_journal.proofs.Rooms.{Suffices, ample-suffices, idle-suffices, load_step-alike, store_step-alike, prefetch_step-alike, drain_step-alike}
-use Rattle.station_journal.proofs.Standing.{Stands, Next, stood, sent_ok, first_dropped, taken_stands}
+use Rattle.station_journal.proofs.Rooms.{Suffices, ample-suffices, idle-suffices, load_step-alike, store_step-alike, prefetch_step-alike}
+use Rattle.station_journal.proofs.Rooms.{drain_step-alike}
+use Rattle.station_journal.proofs.Standing.{Stands, Next, sent_ok, first_dropped, taken_stands}
 
 pub eqb_true : (a b : ℕ) → (a == b) ≡ true → a ≡ b
 eqb_true a b e = grind arith

@@ -1,6 +1,7 @@
 -- What a cache side's journal says stays true with each step, and where the banks are at hand it is
 -- true of them.
-use Rattle.std.proofs.Common.{◌≡◌, ◌≢◌, ℕ, zero, suc, ◌+◌, ◌<◌, ◌≤◌, cond, ◌==◌, List, [], ◌∷◌, ◌++◌, length, slice_get, Option, Some, None, refl, sym, ap, ap₂, ◌∙◌, subst, arith, append-nil, length-append, eq-eqb, lt-ltb, ◌⊎◌, inl, inr}
+use Rattle.std.proofs.Common.{◌≡◌, ◌≢◌, ℕ, zero, suc, ◌+◌, ◌<◌, ◌≤◌, cond, ◌==◌, List, [], ◌∷◌, ◌++◌, length, slice_get, Option, Some, None}
+use Rattle.std.proofs.Common.{refl, sym, ap, ap₂, ◌∙◌, subst, arith, append-nil, length-append, eq-eqb, lt-ltb, ◌⊎◌, inl, inr}
 use Rattle.std.specs.List.{count_by}
 use Rattle.std.proofs.lemmas.Bool.{cases_eq, ne_eqb}
 use Rattle.flat_model.specs.declared.Event.{Event}
@@ -20,7 +21,8 @@ use Rattle.station_journal.specs.declared.journal.Entry.{Entry}
 use Rattle.station_journal.specs.declared.journal.Entry.TheVariants.{Step, Ended}
 use Rattle.station_journal.specs.declared.journal.SideFault.{SideFault}
 use Rattle.station_journal.specs.declared.journal.SideFault.TheVariants.{Uncalled, Stray}
-use Rattle.station_journal.specs.Journal.{Stand, opening_stand, come_word, true_word, zeros_in, is_full, after_entry, Walks, IsBankTrue, true_stand}
+use Rattle.station_journal.specs.Journal.{Stand, opening_stand, come_word, true_word, zeros_in, is_full, after_entry, Walks, IsBankTrue}
+use Rattle.station_journal.specs.Journal.{true_stand}
 use Rattle.station_journal.specs.Law.{TakesABlock, SideIsTrue}
 use Rattle.station_journal.specs.Side.{SideTells, Popped, ComesOf}
 use Rattle.station_journal.proofs.Knowing.{walks-append, walks_same, come-more, come-true, answers_to-length}

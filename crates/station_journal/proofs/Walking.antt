@@ -1,5 +1,6 @@
 -- A journal that is true of the banks is a run of flat memory.
-use Rattle.std.proofs.Common.{◌≡◌, ℕ, zero, suc, ◌/◌, ◌%◌, ◌<◌, Bool, true, false, cond, ◌&&◌, List, [], ◌∷◌, length, get_or, Some, None, option_map, refl, sym, ap, ap₂, ◌∙◌, subst, IsTrue, arith, mod-lt, lt-ltb}
+use Rattle.std.proofs.Common.{◌≡◌, ℕ, zero, suc, ◌/◌, ◌%◌, ◌<◌, Bool, true, false, cond, ◌&&◌, List, [], ◌∷◌, length, get_or, Some, None}
+use Rattle.std.proofs.Common.{option_map, refl, sym, ap, ap₂, ◌∙◌, subst, IsTrue, arith, mod-lt, lt-ltb}
 use Rattle.std.specs.Option.{option_and_then}
 use Rattle.std.proofs.Props.{props}
 use Rattle.std.specs.List.{list_all}
@@ -25,7 +26,8 @@ use Rattle.machine_core.specs.Law.{IsLawful}
 use Rattle.machine_core.specs.Machine.{Machine, opening, flat_of, settled}
 use Rattle.station_journal.specs.declared.journal.Entry.{Entry}
 use Rattle.station_journal.specs.declared.journal.Entry.TheVariants.{Step, Ended}
-use Rattle.station_journal.specs.Journal.{Stand, Brings, stand_after, AllFit, true_stand, opening_stand, zeros, true_word, next_word, brought, step, moved_on, is_full, Fits, after_entry, Walks, events_of, answers_of}
+use Rattle.station_journal.specs.Journal.{Stand, Brings, stand_after, AllFit, true_stand, opening_stand, zeros, true_word, next_word}
+use Rattle.station_journal.specs.Journal.{brought, step, moved_on, is_full, Fits, after_entry, Walks, events_of, answers_of}
 use Rattle.station_journal.specs.Law.{TakesABlock, IsFlatJournal, JournalIsFlat}
 use Rattle.station_journal.proofs.FlatFrom.{FlatFrom, flat_from_opening, opens_flat}
 use Rattle.station_journal.proofs.Standing.{Stands, Next, opening_stands}

@@ -1,5 +1,6 @@
 -- The journal of the cache side: what it says of the unit, and when it is true of the banks.
-use Rattle.std.specs.Prelude.{◌≡◌, ℕ, ◌+◌, Bool, true, false, ◌&&◌, not, if◌then◌else◌, ◌==◌, nat_lt, IsTrue, List, [], ◌∷◌, ◌++◌, replicate, Option, None, Some, is_none, is_some, slice_get}
+use Rattle.std.specs.Prelude.{◌≡◌, ℕ, ◌+◌, Bool, true, false, ◌&&◌, not, if◌then◌else◌, ◌==◌, nat_lt, IsTrue, List, [], ◌∷◌, ◌++◌}
+use Rattle.std.specs.Prelude.{replicate, Option, None, Some, is_none, is_some, slice_get}
 use Rattle.std.specs.List.{count_by}
 use Rattle.flat_model.specs.declared.Word.{Word}
 use Rattle.flat_model.specs.declared.Cause.TheVariants.{BankFull}
@@ -18,7 +19,8 @@ use Rattle.cache_unit.specs.declared.Sizes.{Sizes}
 use Rattle.cache_unit.specs.State.{Cache, opening_cache, is_present, block_of}
 use Rattle.cache_unit.specs.Views.{is_empty}
 use Rattle.cache_unit.specs.Causes.{load_cause, store_cause, prefetch_cause}
-use Rattle.cache_unit.specs.Steps.{Stepped, load_step, store_step, prefetch_step, evict_step, drain_step, arrive_step, process_step, take_step}
+use Rattle.cache_unit.specs.Steps.{Stepped, load_step, store_step, prefetch_step, evict_step, drain_step, arrive_step, process_step}
+use Rattle.cache_unit.specs.Steps.{take_step}
 use Rattle.station_journal.specs.declared.journal.Entry.{Entry}
 use Rattle.station_journal.specs.declared.journal.Entry.TheVariants.{Step, Ended}
 

@@ -1,5 +1,7 @@
 -- Where all parts are at hand, the cache side's journal is true of the banks, and what follows from it.
-use Rattle.std.proofs.Common.{◌≡◌, ℕ, zero, suc, ◌+◌, ◌*◌, ◌-◌, ◌/◌, ◌<◌, Bool, true, false, cond, nat_lt, List, [], ◌∷◌, ◌++◌, map, length, replicate, position, slice_index_or, Option, Some, None, refl, sym, ap, ap₂, ◌∙◌, ◌≢◌, ◌≤◌, ◌%◌, subst, arith, zero-add, lt-ltb, append-nil, mod-lt, div-add-mod', IsTrue}
+use Rattle.std.proofs.Common.{◌≡◌, ℕ, zero, suc, ◌+◌, ◌*◌, ◌-◌, ◌/◌, ◌<◌, Bool, true, false, cond, nat_lt, List, [], ◌∷◌, ◌++◌, map, length}
+use Rattle.std.proofs.Common.{replicate, position, slice_index_or, Option, Some, None, refl, sym, ap, ap₂, ◌∙◌, ◌≢◌, ◌≤◌, ◌%◌, subst, arith}
+use Rattle.std.proofs.Common.{zero-add, lt-ltb, append-nil, mod-lt, div-add-mod', IsTrue}
 use Rattle.std.proofs.Props.{props}
 use Rattle.std.proofs.Math.Logic.{∥∥₁_elim}
 use Rattle.std.specs.List.{range_with_len, position_from}
@@ -42,7 +44,8 @@ use Rattle.station_parts.specs.declared.parts.CacheSide.{CacheSide}
 use Rattle.station_parts.specs.Rings.{pops_from}
 use Rattle.station_parts.specs.Ids.{PortId, BankId, port_id, bank_id}
 use Rattle.station_parts.specs.Rows.{sent_at, popped_at, come_to}
-use Rattle.station_parts.specs.Words.{offered, taken, told_in_all, known_tellings, received_by, sent_by, words_of, known_commands, commanded, journal_of}
+use Rattle.station_parts.specs.Words.{offered, taken, told_in_all, known_tellings, received_by, sent_by, words_of, known_commands}
+use Rattle.station_parts.specs.Words.{commanded, journal_of}
 use Rattle.station_parts.specs.Station.{AreOneStation}
 use Rattle.station_parts.specs.Audited.{IsSeen, holds_item, first_ring, first_left, finding, audit_of}
 use Rattle.station_parts.specs.declared.parts.Ring.{Ring}

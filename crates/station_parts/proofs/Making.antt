@@ -1,5 +1,6 @@
 -- A station's parts as they are made, one port and one bank after another.
-use Rattle.std.proofs.Common.{◌≡◌, ℕ, zero, suc, ◌+◌, ◌-◌, ◌*◌, ◌/◌, ◌<◌, List, [], ◌∷◌, ◌++◌, map, length, replicate, slice_index_or, refl, sym, ap, ap₂, ◌∙◌, arith, subst, length-append, Bool, true, false, not, cond, Option, Some, None, ◌≤◌}
+use Rattle.std.proofs.Common.{◌≡◌, ℕ, zero, suc, ◌+◌, ◌-◌, ◌*◌, ◌/◌, ◌<◌, List, [], ◌∷◌, ◌++◌, map, length, replicate, slice_index_or, refl}
+use Rattle.std.proofs.Common.{sym, ap, ap₂, ◌∙◌, arith, subst, length-append, Bool, true, false, not, cond, Option, Some, None, ◌≤◌}
 use Rattle.std.specs.Option.{option_or}
 use Rattle.std.specs.List.{All, range_with_len}
 use Rattle.std.proofs.lemmas.List.{map-append, length-map, length-replicate}
@@ -40,7 +41,8 @@ use Rattle.station_parts.specs.declared.parts.CacheSide.{CacheSide}
 use Rattle.station_parts.specs.Station.{AreOneStation, words_by_bank}
 use Rattle.station_parts.specs.Rings.{pushes_to, pops_from}
 use Rattle.station_parts.specs.Ids.{PortId, BankId, line_ring, port_id, bank_id}
-use Rattle.station_parts.specs.New.{bad_field, IsNewPort, IsNewBank, IsNewPopper, IsNewPusher, IsNewLine, IsNewCache, IsNewStation, AreNewPorts, AreNewBanks}
+use Rattle.station_parts.specs.New.{bad_field, IsNewPort, IsNewBank, IsNewPopper, IsNewPusher, IsNewLine, IsNewCache, IsNewStation}
+use Rattle.station_parts.specs.New.{AreNewPorts, AreNewBanks}
 use Rattle.station_parts.specs.Segments.{whole_of}
 
 -- the two ends of a ring belong to it
@@ -277,4 +279,9 @@ are_in_range z ports journal e = go (limits.bad_field z) refl (is_between ports 
     go None u false q j r h = cc
     go None u true q false r h = cc
     go None u true q true r h =
-        record { unit = u; range = in_range z u; few_ports = (between ports 1 MAX_PORTS q).1; few_entries = (between journal 1 MAX_ENTRIES r).1 }
+        record {
+          unit = u;
+          range = in_range z u;
+          few_ports = (between ports 1 MAX_PORTS q).1;
+          few_entries = (between journal 1 MAX_ENTRIES r).1;
+        }

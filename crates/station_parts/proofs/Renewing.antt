@@ -1,5 +1,6 @@
 -- A renewal: what was audited stays as it was found, but for the journal and the ports' leave to offer again.
-use Rattle.std.proofs.Common.{◌≡◌, ℕ, ◌+◌, ◌<◌, ◌≤◌, cond, false, List, [], ◌∷◌, ◌++◌, map, length, position, slice_index_or, Option, Some, refl, sym, ap, ap₂, ◌∙◌, subst, append-nil, append_assoc, length-append, arith}
+use Rattle.std.proofs.Common.{◌≡◌, ℕ, ◌+◌, ◌<◌, ◌≤◌, cond, false, List, [], ◌∷◌, ◌++◌, map, length, position, slice_index_or, Option, Some}
+use Rattle.std.proofs.Common.{refl, sym, ap, ap₂, ◌∙◌, subst, append-nil, append_assoc, length-append, arith}
 use Rattle.std.specs.List.{All, position_from}
 use Rattle.std.proofs.lemmas.Iterator.Adapters.{position_from-zero}
 use Rattle.std.specs.Global.{Vec}
@@ -19,7 +20,8 @@ use Rattle.station_parts.specs.declared.parts.Audit.{Audit}
 use Rattle.station_parts.specs.Segments.{whole_of}
 use Rattle.station_parts.specs.Ids.{port_id}
 use Rattle.station_parts.specs.Rows.{received_at, pushed_at, room_at, sent_at, free_at, popped_at}
-use Rattle.station_parts.specs.Words.{offered, offered_before, taken, has_ended, known_tellings, known_commands, known_places, earlier_of, held_of, journal_of}
+use Rattle.station_parts.specs.Words.{offered, offered_before, taken, has_ended, known_tellings, known_commands, known_places, earlier_of}
+use Rattle.station_parts.specs.Words.{held_of, journal_of}
 use Rattle.station_parts.specs.Promises.{AreWhole}
 use Rattle.station_parts.specs.Audited.{AreAtMost, LeavesCache, LeavesPorts, holds_item, first_ring, finding, audit_of}
 use Rattle.station_parts.specs.Renewed.{GoesOn, RenewsCache, ResumesPorts}

@@ -1,5 +1,6 @@
 -- A ready value is taken, and its port is told of it.
-use Rattle.std.proofs.Common.{◌≡◌, ◌≢◌, ℕ, ◌-◌, ◌*◌, ◌/◌, ◌%◌, cond, List, [], ◌∷◌, ◌++◌, slice_get, Option, Some, None, option_map, sym, ap, ◌∙◌, arith, append-nil, eq-eqb, div-add-mod'}
+use Rattle.std.proofs.Common.{◌≡◌, ◌≢◌, ℕ, ◌-◌, ◌*◌, ◌/◌, ◌%◌, cond, List, [], ◌∷◌, ◌++◌, slice_get, Option, Some, None, option_map, sym}
+use Rattle.std.proofs.Common.{ap, ◌∙◌, arith, append-nil, eq-eqb, div-add-mod'}
 use Rattle.std.proofs.lemmas.Bool.{ne_eqb}
 use Rattle.flat_model.specs.declared.Word.{Word}
 use Rattle.flat_model.specs.declared.Event.TheVariants.{Take}

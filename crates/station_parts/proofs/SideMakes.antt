@@ -79,7 +79,8 @@ module _ (source : Source) (s t : SideState) (looked : Known) (looks : KnowsMore
       }
 
 -- nothing but looks
-pub makes_nothing : (s t : SideState) → t.earlier ≡ s.earlier → t.held ≡ s.held → t.cache ≡ s.cache → t.fault ≡ s.fault → ((p : ℕ) → t.asked p ≡ s.asked p)
+pub makes_nothing : (s t : SideState) → t.earlier ≡ s.earlier → t.held ≡ s.held → t.cache ≡ s.cache → t.fault ≡ s.fault
+    → ((p : ℕ) → t.asked p ≡ s.asked p)
     → ((p : ℕ) → t.told p ≡ s.told p) → ((b : ℕ) → t.commands b ≡ s.commands b) → ((b : ℕ) → t.words b ≡ s.words b)
     → Makes (nothing s) s t.known t
 makes_nothing s t earlier held cache fault asked told commands words =
@@ -186,7 +187,8 @@ answered_so entries entries' source event answer answer' is same =
 -- a step of the unit of which no port hears, and for which no word is popped
 pub makes_unit : (s t : SideState) (source : Source) (event : Event) (d : unit.Stepped) (answer : Answer) (places : ℕ → ℕ)
     → ((p : ℕ) → asked_by p source event ≡ []) → ((p : ℕ) → told_by p source d.answer ≡ [])
-    → t.earlier ≡ s.earlier → t.held ≡ s.held ++ Step source event answer ∷ [] → answer ≡ d.answer → t.cache ≡ d.cache → t.fault ≡ s.fault → t.asked ≡ s.asked
+    → t.earlier ≡ s.earlier → t.held ≡ s.held ++ Step source event answer ∷ [] → answer ≡ d.answer → t.cache ≡ d.cache → t.fault ≡ s.fault
+    → t.asked ≡ s.asked
     → t.told ≡ s.told → t.words ≡ s.words → ((b : ℕ) → t.commands b ≡ s.commands b ++ commands_for b d.sent)
     → ((b : ℕ) → places b ≡ t.known.command_places b + length (commands_for b d.sent))
     → Makes (noted s source event d no_words) s (record t.known { command_places = places }) t

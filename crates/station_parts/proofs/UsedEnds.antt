@@ -1,5 +1,6 @@
 -- Rows of rings' ends, of which one was used.
-use Rattle.std.proofs.Common.{◌≡◌, ◌≢◌, ℕ, ◌+◌, ◌<◌, ◌≤◌, List, [], ◌++◌, length, slice_index_or, slice_set, Option, Some, None, IfNone, refl, sym, ap, ap₂, ◌∙◌, subst, append-nil, arith}
+use Rattle.std.proofs.Common.{◌≡◌, ◌≢◌, ℕ, ◌+◌, ◌<◌, ◌≤◌, List, [], ◌++◌, length, slice_index_or, slice_set, Option, Some, None, IfNone}
+use Rattle.std.proofs.Common.{refl, sym, ap, ap₂, ◌∙◌, subst, append-nil, arith}
 use Rattle.std.proofs.Math.Seq.{map-set_same}
 use mathlib.Core.List.{IsPrefix}
 use Rattle.std.specs.declared.alloc.Global.{Global}

@@ -12,7 +12,9 @@ use Rattle.station_parts.specs.declared.parts.Ring.TheVariants.{Asks, Told, Comm
 use Rattle.station_parts.specs.declared.parts.Audit.{Audit}
 use Rattle.station_parts.specs.declared.parts.Audit.TheVariants.{Faulted, Left, Owed, Clean}
 use Rattle.station_parts.specs.Rows.{come_to, sent_over}
-use Rattle.station_parts.specs.Words.{told_in_all, commanded, offered, offered_before, taken, known_tellings, received_by, sent_by, words_of, known_commands, known_places, answer_places, earlier_of, held_of, journal_of, fault_in, cache_in, asked_at, told_at, commands_at, words_at, telling_places, command_places}
+use Rattle.station_parts.specs.Words.{told_in_all, commanded, offered, offered_before, taken, known_tellings, received_by, sent_by}
+use Rattle.station_parts.specs.Words.{words_of, known_commands, known_places, answer_places, earlier_of, held_of, journal_of, fault_in}
+use Rattle.station_parts.specs.Words.{cache_in, asked_at, told_at, commands_at, words_at, telling_places, command_places}
 
 -- ---- at each ring, what was received and then what is known is what was sent
 

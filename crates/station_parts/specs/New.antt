@@ -28,7 +28,9 @@ use Rattle.station_parts.specs.declared.parts.CacheSide.{CacheSide}
 use Rattle.station_parts.specs.Rings.{pushes_to, pops_from}
 use Rattle.station_parts.specs.Ids.{PortId, BankId, line_ring, port_id, bank_id}
 use Rattle.station_parts.specs.Station.{AreOneStation}
-use Rattle.station_parts.specs.Words.{offered, offered_before, taken, known_places, known_tellings, received_by, sent_by, words_of, known_commands, answer_places, journal_of, journal_limit, fault_in, sizes_in, cache_in, ports_in, asked_at, told_at, known_asks, telling_places, commands_at, words_at, known_words, command_places}
+use Rattle.station_parts.specs.Words.{offered, offered_before, taken, known_places, known_tellings, received_by, sent_by, words_of}
+use Rattle.station_parts.specs.Words.{known_commands, answer_places, journal_of, journal_limit, fault_in, sizes_in, cache_in, ports_in}
+use Rattle.station_parts.specs.Words.{asked_at, told_at, known_asks, telling_places, commands_at, words_at, known_words, command_places}
 
 -- the first number that is out of its range: those of the unit, then the ports, then the journal
 abbrev pub bad_field : Sizes → ℕ → ℕ → Option ShapeField

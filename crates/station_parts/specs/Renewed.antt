@@ -9,7 +9,9 @@ use Rattle.station_parts.specs.declared.parts.CacheSide.{CacheSide}
 use Rattle.station_parts.specs.declared.parts.Audit.TheVariants.{Clean}
 use Rattle.station_parts.specs.declared.renewal.RenewFault.{RenewFault}
 use Rattle.station_parts.specs.declared.renewal.RenewFault.TheVariants.{WornOut, OutOfMemory, NotClean}
-use Rattle.station_parts.specs.Words.{offered, offered_before, taken, has_ended, known_places, earlier_of, held_of, journal_of, journal_limit, fault_in, cache_in, asked_at, told_at, commands_at, words_at, telling_places, command_places}
+use Rattle.station_parts.specs.Words.{offered, offered_before, taken, has_ended, known_places, earlier_of, held_of, journal_of}
+use Rattle.station_parts.specs.Words.{journal_limit, fault_in, cache_in, asked_at, told_at, commands_at, words_at, telling_places}
+use Rattle.station_parts.specs.Words.{command_places}
 use Rattle.station_parts.specs.Audited.{AreAtMost, LeavesCache, LeavesPorts, LeavesBanks, audit_of}
 
 -- how many entries the side has noted in all once one journal more is full

@@ -1,5 +1,6 @@
 -- Rows of ends of rings, one for each port or bank.
-use Rattle.std.specs.Prelude.{◌≡◌, ◌≢◌, ℕ, ◌+◌, ◌≤◌, ◌==◌, if◌then◌else◌, List, [], ◌∷◌, ◌++◌, length, map, slice_index_or, Option, Some, None, refl}
+use Rattle.std.specs.Prelude.{◌≡◌, ◌≢◌, ℕ, ◌+◌, ◌≤◌, ◌==◌, if◌then◌else◌, List, [], ◌∷◌, ◌++◌, length, map, slice_index_or, Option, Some}
+use Rattle.std.specs.Prelude.{None, refl}
 use Rattle.std.proofs.Common.{◌∙◌}
 use mathlib.Core.List.{IsPrefix}
 use Rattle.std.specs.declared.alloc.Global.{Global}

@@ -10,7 +10,8 @@ use Rattle.station_journal.specs.declared.asks.Told.{Told}
 use Rattle.station_journal.specs.declared.journal.Entry.{Entry}
 use Rattle.station_journal.specs.declared.journal.SideFault.{SideFault}
 use Rattle.station_parts.specs.declared.parts.CacheSide.{CacheSide}
-use Rattle.station_parts.specs.Words.{earlier_of, held_of, journal_limit, fault_in, sizes_in, cache_in, asked_at, told_at, known_asks, telling_places, commands_at, words_at, command_places, known_words}
+use Rattle.station_parts.specs.Words.{earlier_of, held_of, journal_limit, fault_in, sizes_in, cache_in, asked_at, told_at, known_asks}
+use Rattle.station_parts.specs.Words.{telling_places, commands_at, words_at, command_places, known_words}
 
 -- the asks and words that can be popped, by port and by bank, and for how many tellings and commands there are free
 -- places. Of a port or a bank that isn't there nothing is known

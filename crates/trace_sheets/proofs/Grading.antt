@@ -1,5 +1,6 @@
 -- The lines of a sheet, graded one after another.
-use Rattle.std.proofs.Common.{◌≡◌, ℕ, ◌+◌, ◌≤◌, Option, Some, None, Result, Ok, Err, List, [], ◌∷◌, ◌++◌, map, length, length-append, append-nil, append_assoc, refl, sym, ◌∙◌, ap, arith}
+use Rattle.std.proofs.Common.{◌≡◌, ℕ, ◌+◌, ◌≤◌, Option, Some, None, Result, Ok, Err, List, [], ◌∷◌, ◌++◌, map, length, length-append}
+use Rattle.std.proofs.Common.{append-nil, append_assoc, refl, sym, ◌∙◌, ap, arith}
 use Rattle.std.specs.List.{flat_map}
 use Rattle.std.proofs.lemmas.Grind.{flat_map-append}
 use Rattle.machine_core.specs.Machine.{MachineState}
@@ -10,7 +11,8 @@ use Rattle.trace_text.specs.declared.lines.Line.TheVariants as line
 use Rattle.trace_text.specs.declared.lines.LineFault.{LineFault}
 use Rattle.named_fields.specs.declared.format.Format.{Format}
 use Rattle.trace_sheets.specs.Sheets.{sheet_line}
-use Rattle.trace_sheets.specs.Grades.{Asked, Graded, GradesOne, came_of, why_of, why_behind, mark, mark_of, told_if, correction, after_said, after_texts, asked, asked_of, asked_in, asked_from, no_score, with_mark, score_of}
+use Rattle.trace_sheets.specs.Grades.{Asked, Graded, GradesOne, came_of, why_of, why_behind, mark, mark_of, told_if, correction, after_said}
+use Rattle.trace_sheets.specs.Grades.{after_texts, asked, asked_of, asked_in, asked_from, no_score, with_mark, score_of}
 use Rattle.trace_sheets.specs.Forms.{full_text, told, total}
 use Rattle.trace_sheets.specs.declared.came.Came.{Came}
 use Rattle.trace_sheets.specs.declared.score.Mark.{Mark}
@@ -48,7 +50,8 @@ why_told m line.Settled = refl
 -- what is told of a line is told of its prediction
 pub told_behind : (format : Format) (n : ℕ) (m s : MachineState) (text : List ℕ) (l : Line) (said : List ℕ) (came : Came)
     → came ≡ came_of m l → s ≡ after_line m l
-    → told_if (mark_of came said) (told format n text said (full_text came) (why_behind s came)) ≡ correction format (asked_of n m text l said)
+    → told_if (mark_of came said) (told format n text said (full_text came) (why_behind s came))
+    ≡ correction format (asked_of n m text l said)
 told_behind format n m s text l said came is stands =
     let tells : Came → Option (List ℕ) → List ℕ = λ x why. told_if (mark_of x said) (told format n text said (full_text x) why) in
     ap (λ x. tells x (why_behind s x)) is
@@ -111,12 +114,14 @@ few_marks {m = m} {texts = texts} g =
     omega (arith, ap total g.marks, counted, asked_few 1 m texts)
 
 -- no line yet
-pub graded_none : (format : Format) (m : MachineState) {report : List ℕ} {score : Score} → report ≡ [] → score ≡ no_score → Graded format m [] m report score
+pub graded_none : (format : Format) (m : MachineState) {report : List ℕ} {score : Score} → report ≡ [] → score ≡ no_score
+    → Graded format m [] m report score
 graded_none format m none zero = record { state = refl; told = none; marks = zero }
 
 -- ---- a sheet with one line more
 
-module _ {format : Format} {m m' : MachineState} {texts : List (List ℕ)} {report : List ℕ} {score : Score} (g : Graded format m texts m' report score) (text : List ℕ) where
+module _ {format : Format} {m m' : MachineState} {texts : List (List ℕ)} {report : List ℕ} {score : Score}
+    (g : Graded format m texts m' report score) (text : List ℕ) where
   -- what is asked in it
   abbrev last : Result (Line × Option (List ℕ)) LineFault → List Asked
   last said = asked_in (1 + length texts) m' text said

@@ -114,13 +114,15 @@ score_of [] = no_score
 score_of (mark ∷ marks) = with_mark (score_of marks) mark
 
 -- what is told of the wrong predictions, and how many are right, wrong and open
-pub record Graded (format : Format) (m : MachineState) (texts : List (List ℕ)) (m' : MachineState) (report : List ℕ) (score : Score) : Type 0 where
+pub record Graded (format : Format) (m : MachineState) (texts : List (List ℕ)) (m' : MachineState) (report : List ℕ)
+    (score : Score) : Type 0 where
   pub state : m' ≡ after_texts m texts
   pub told : report ≡ flat_map (correction format) (asked m texts)
   pub marks : score ≡ score_of (map mark (asked m texts))
 
 -- what becomes of a sheet: it is read to its end and graded, or it has a fault
-abbrev pub SheetEnds : {R : Type 0} (gave : R → List ℕ → R → Type 0) (failed : R → R → Type 0) (format : Format) (r r' : R) (m m' : MachineState) → Result Grade TraceFault → Type 0
+abbrev pub SheetEnds : {R : Type 0} (gave : R → List ℕ → R → Type 0) (failed : R → R → Type 0) (format : Format) (r r' : R)
+    (m m' : MachineState) → Result Grade TraceFault → Type 0
 SheetEnds gave failed format r r' m m' (Ok grade) =
     (texts : List (List ℕ)) × ReadWhole gave sheet_fault MAX_PAIR r r' texts × Graded format m texts m' grade.report.items grade.score
 SheetEnds gave failed format r r' m m' (Err fault) = ReadFails gave failed sheet_fault MAX_PAIR r r' fault

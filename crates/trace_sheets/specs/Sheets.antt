@@ -1,5 +1,6 @@
 -- What the lines of a sheet say: a line of a trace, and what is predicted of it.
-use Rattle.std.specs.Prelude.{ℕ, ◌+◌, Bool, ◌||◌, if◌then◌else◌, nat_lt, Option, Some, None, Result, Ok, Err, List, length, take, drop, codes}
+use Rattle.std.specs.Prelude.{ℕ, ◌+◌, Bool, ◌||◌, if◌then◌else◌, nat_lt, Option, Some, None, Result, Ok, Err, List, length, take, drop}
+use Rattle.std.specs.Prelude.{codes}
 use Rattle.std.specs.List.{list_all}
 use Rattle.std.specs.Option.{is_some}
 use Rattle.cache_unit.specs.declared.Lookup.{Lookup}

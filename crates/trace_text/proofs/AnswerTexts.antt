@@ -1,11 +1,13 @@
 -- An answer is the text that it has, and no other text.
-use Rattle.std.proofs.Common.{◌≡◌, ℕ, ◌≤◌, Bool, true, false, Option, Some, None, List, ◌∷◌, ◌++◌, refl, sym, ◌∙◌, ap, subst, arith, decimal}
+use Rattle.std.proofs.Common.{◌≡◌, ℕ, ◌≤◌, Bool, true, false, Option, Some, None, List, ◌∷◌, ◌++◌, refl, sym, ◌∙◌, ap, subst, arith}
+use Rattle.std.proofs.Common.{decimal}
 use Rattle.std.specs.Prelude.{cond, codes, ◌==◌}
 use Rattle.std.specs.Option.{option_and_then}
 use Rattle.std.proofs.lemmas.Bool.{eqb-true}
 use Rattle.flat_model.specs.declared.Word.{Word}
 use Rattle.flat_model.specs.declared.Cause.{Cause}
-use Rattle.flat_model.specs.declared.Cause.TheVariants.{OutOfRange, NoLanes, TagInUse, RepliesFull, TargetsFull, BlockQueued, NoRegister, SetPending, QueueFull, BankFull, NotPresent, StackFull, StrayWord}
+use Rattle.flat_model.specs.declared.Cause.TheVariants.{OutOfRange, NoLanes, TagInUse, RepliesFull, TargetsFull, BlockQueued, NoRegister}
+use Rattle.flat_model.specs.declared.Cause.TheVariants.{SetPending, QueueFull, BankFull, NotPresent, StackFull, StrayWord}
 use Rattle.flat_model.specs.declared.Answer.{Answer}
 use Rattle.flat_model.specs.declared.Answer.TheVariants.{Accepted, Moved, Value, Nothing, Refused}
 use Rattle.flat_model.specs.Flat.{number, cause_of}
@@ -72,11 +74,13 @@ number_fits NotPresent = omega arith
 number_fits StackFull = omega arith
 number_fits StrayWord = omega arith
 
-bare_is : (said : Answer) (kind : List ℕ) (fields : Option (List ℕ)) (a : Answer) → IsAnswered kind None said → bare_answer said fields ≡ Some a → IsAnswered kind fields a
+bare_is : (said : Answer) (kind : List ℕ) (fields : Option (List ℕ)) (a : Answer) → IsAnswered kind None said
+    → bare_answer said fields ≡ Some a → IsAnswered kind fields a
 bare_is said kind None a shape e = let is : said ≡ a = cc in subst (IsAnswered kind None) is shape
 bare_is said kind (Some f) a shape e = cc
 
-value_join : (t w : List ℕ) (o : Option ℕ) (p : Option Word) (a : Answer) → number_of MAX_TAG t ≡ o → word_of w ≡ p → value_answer o p ≡ Some a → IsAnswered (codes "value") (Some (t ++ 32 ∷ w)) a
+value_join : (t w : List ℕ) (o : Option ℕ) (p : Option Word) (a : Answer) → number_of MAX_TAG t ≡ o → word_of w ≡ p
+    → value_answer o p ≡ Some a → IsAnswered (codes "value") (Some (t ++ 32 ∷ w)) a
 unfolding answer_text
 value_join t w (Some tag) (Some word) a eo ep e =
     let first = tag_is tag t eo in
@@ -88,15 +92,18 @@ value_join t w (Some tag) (Some word) a eo ep e =
 value_join t w (Some tag) None a eo ep e = cc
 value_join t w None p a eo ep e = cc
 
-value_cut : (f : List ℕ) (p : List ℕ × Option (List ℕ)) (a : Answer) → f ≡ whole p.0 p.1 → value_from p ≡ Some a → IsAnswered (codes "value") (Some f) a
+value_cut : (f : List ℕ) (p : List ℕ × Option (List ℕ)) (a : Answer) → f ≡ whole p.0 p.1 → value_from p ≡ Some a
+    → IsAnswered (codes "value") (Some f) a
 value_cut f (t, None) a is e = cc
-value_cut f (t, Some w) a is e = subst (λ x. IsAnswered (codes "value") (Some x) a) (sym is) (value_join t w (number_of MAX_TAG t) (word_of w) a refl refl e)
+value_cut f (t, Some w) a is e = subst (λ x. IsAnswered (codes "value") (Some x) a) (sym is)
+    (value_join t w (number_of MAX_TAG t) (word_of w) a refl refl e)
 
 value_is : (fields : Option (List ℕ)) (a : Answer) → value_of fields ≡ Some a → IsAnswered (codes "value") fields a
 value_is None a e = cc
 value_is (Some f) a e = value_cut f (cut_of f) a (cut_is f) e
 
-refusal_join : (f : List ℕ) (n : ℕ) (o : Option Cause) (a : Answer) → number_in f ≡ Some n → cause_of n ≡ o → refusal o ≡ Some a → IsAnswered (codes "refused") (Some f) a
+refusal_join : (f : List ℕ) (n : ℕ) (o : Option Cause) (a : Answer) → number_in f ≡ Some n → cause_of n ≡ o → refusal o ≡ Some a
+    → IsAnswered (codes "refused") (Some f) a
 unfolding answer_text
 refusal_join f n (Some c) a en eo e =
     let field = number_is n f en in
@@ -106,7 +113,8 @@ refusal_join f n (Some c) a en eo e =
     subst (IsAnswered (codes "refused") (Some f)) is (tt, text)
 refusal_join f n None a en eo e = cc
 
-refusal_number : (f : List ℕ) (o : Option ℕ) (a : Answer) → number_in f ≡ o → refusal (option_and_then cause_of o) ≡ Some a → IsAnswered (codes "refused") (Some f) a
+refusal_number : (f : List ℕ) (o : Option ℕ) (a : Answer) → number_in f ≡ o → refusal (option_and_then cause_of o) ≡ Some a
+    → IsAnswered (codes "refused") (Some f) a
 refusal_number f (Some n) a eo e = refusal_join f n (cause_of n) a eo refl e
 refusal_number f None a eo e = cc
 
@@ -114,7 +122,8 @@ refusal_is : (fields : Option (List ℕ)) (a : Answer) → refusal_of fields ≡
 refusal_is None a e = cc
 refusal_is (Some f) a e = refusal_number f (number_in f) a refl e
 
-either : (P : Type 0) (b : Bool) (o p : Option Answer) (a : Answer) → (b ≡ true → o ≡ Some a → P) → (p ≡ Some a → P) → cond b o p ≡ Some a → P
+either : (P : Type 0) (b : Bool) (o p : Option Answer) (a : Answer) → (b ≡ true → o ≡ Some a → P) → (p ≡ Some a → P) → cond b o p ≡ Some a
+    → P
 either P true o p a here further e = here refl e
 either P false o p a here further e = further e
 
@@ -122,11 +131,15 @@ answer_parts : (kind : List ℕ) (fields : Option (List ℕ)) (a : Answer) → a
 unfolding answer_from answer_text
 answer_parts kind fields a e =
     let P : Type 0 = IsAnswered kind fields a in
-    let at : (name : List ℕ) → same kind name ≡ true → IsAnswered name fields a → P = λ name t h. subst (λ k. IsAnswered k fields a) (sym (same_is kind name t)) h in
-    either P (same kind (codes "accepted")) (bare_answer Accepted fields) _ a (λ t h. at (codes "accepted") t (bare_is Accepted (codes "accepted") fields a (tt, refl) h))
-    (either P (same kind (codes "moved")) (bare_answer Moved fields) _ a (λ t h. at (codes "moved") t (bare_is Moved (codes "moved") fields a (tt, refl) h))
+    let at : (name : List ℕ) → same kind name ≡ true → IsAnswered name fields a
+    → P = λ name t h. subst (λ k. IsAnswered k fields a) (sym (same_is kind name t)) h in
+    either P (same kind (codes "accepted")) (bare_answer Accepted fields) _ a
+    (λ t h. at (codes "accepted") t (bare_is Accepted (codes "accepted") fields a (tt, refl) h))
+    (either P (same kind (codes "moved")) (bare_answer Moved fields) _ a
+    (λ t h. at (codes "moved") t (bare_is Moved (codes "moved") fields a (tt, refl) h))
     (either P (same kind (codes "value")) (value_of fields) _ a (λ t h. at (codes "value") t (value_is fields a h))
-    (either P (same kind (codes "nothing")) (bare_answer Nothing fields) _ a (λ t h. at (codes "nothing") t (bare_is Nothing (codes "nothing") fields a (tt, refl) h))
+    (either P (same kind (codes "nothing")) (bare_answer Nothing fields) _ a
+    (λ t h. at (codes "nothing") t (bare_is Nothing (codes "nothing") fields a (tt, refl) h))
     (either P (same kind (codes "refused")) (refusal_of fields) None a (λ t h. at (codes "refused") t (refusal_is fields a h))
     (λ none. cc))))) e
 

@@ -1,5 +1,6 @@
 -- Where an arrow stands, and what is read back of an answer.
-use Rattle.std.proofs.Common.{◌≡◌, ◌≢◌, ℕ, zero, suc, ◌+◌, ◌<◌, ◌≤◌, Bool, true, false, List, [], ◌∷◌, length, take, drop, drop-cons, add-one, get_or, decimal, ◌++◌, Option, Some, None, Ok, refl, sym, ◌∙◌, ap, subst, arith}
+use Rattle.std.proofs.Common.{◌≡◌, ◌≢◌, ℕ, zero, suc, ◌+◌, ◌<◌, ◌≤◌, Bool, true, false, List, [], ◌∷◌, length, take, drop, drop-cons}
+use Rattle.std.proofs.Common.{add-one, get_or, decimal, ◌++◌, Option, Some, None, Ok, refl, sym, ◌∙◌, ap, subst, arith}
 use Rattle.std.specs.Prelude.{cond, nat_eq, codes, ◌==◌, ◌&&◌}
 use Rattle.std.specs.Option.{option_map}
 use Rattle.std.specs.List.{starts_with, AllByRecursion}
@@ -20,7 +21,8 @@ use Rattle.trace_text.specs.declared.lines.Line.TheVariants as line
 use Rattle.trace_text.proofs.Written.{High, number_high, word_high, mask_high, line_is}
 use Rattle.trace_text.proofs.AnswerTexts.{answer_back}
 
-arrow_behind : (bytes : List ℕ) (b : ℕ) (bs : List ℕ) → bytes ≡ b ∷ bs → starts_with nat_eq bytes (codes " -> ") ≡ false → arrow_in bytes ≡ option_map (λ k. suc k) (arrow_in bs)
+arrow_behind : (bytes : List ℕ) (b : ℕ) (bs : List ℕ) → bytes ≡ b ∷ bs → starts_with nat_eq bytes (codes " -> ") ≡ false
+    → arrow_in bytes ≡ option_map (λ k. suc k) (arrow_in bs)
 arrow_behind bytes b bs whole e =
     let test : starts_with nat_eq (b ∷ bs) (codes " -> ") ≡ false = subst (λ l. starts_with nat_eq l (codes " -> ") ≡ false) whole e in
     ap arrow_in whole ∙ ap (λ t. cond t (Some 0) (option_map (λ k. suc k) (arrow_in bs))) test
@@ -35,7 +37,8 @@ pub arrow_on : (text : List ℕ) (at : ℕ) → at < length text → starts_with
     → arrow_in text ≡ option_map (λ k. (at + 1) + k) (arrow_in (drop (at + 1) text))
 arrow_on text at lt none so_far =
     let here : drop at text ≡ get_or text at 0 ∷ drop (at + 1) text = rw (add-one, drop-cons text at 0) refl in
-    so_far ∙ ap (option_map (λ k. at + k)) (arrow_behind (drop at text) (get_or text at 0) (drop (at + 1) text) here none) ∙ shifted (arrow_in (drop (at + 1) text)) at
+    so_far ∙ ap (option_map (λ k. at + k)) (arrow_behind (drop at text) (get_or text at 0) (drop (at + 1) text) here none)
+    ∙ shifted (arrow_in (drop (at + 1) text)) at
 
 none_with : (b c : Bool) → b ≡ false → (b && c) ≡ false
 none_with true c e = cc
@@ -48,7 +51,8 @@ first_is x rest ne =
     none_with (nat_eq 32 x) _ test
 
 -- no arrow begins at a byte that is no space
-pub no_arrow_at : (text : List ℕ) (at : ℕ) → at < length text → get_or text at 0 ≢ 32 → starts_with nat_eq (drop at text) (codes " -> ") ≡ false
+pub no_arrow_at : (text : List ℕ) (at : ℕ) → at < length text → get_or text at 0 ≢ 32 → starts_with nat_eq (drop at text) (codes " -> ")
+    ≡ false
 no_arrow_at text at lt ne =
     let here : drop at text ≡ get_or text at 0 ∷ drop (at + 1) text = rw (add-one, drop-cons text at 0) refl in
     ap (λ l. starts_with nat_eq l (codes " -> ")) here ∙ first_is (get_or text at 0) (drop (at + 1) text) ne
@@ -97,7 +101,8 @@ arrow_from (x ∷ []) (suc zero) le none = alone x
 arrow_from (x ∷ []) (suc (suc n)) le none = absurd (omega (arith, le))
 arrow_from (x ∷ y ∷ text) (suc n) le none =
     arrow_behind (x ∷ y ∷ text) x (y ∷ text) refl (second_is x y text (none 1 (omega arith) (omega arith)))
-    ∙ ap (option_map (λ k. suc k)) (arrow_from (y ∷ text) n (omega (arith, le)) (λ k above upto. none (suc k) (omega arith) (omega (arith, upto))))
+    ∙ ap (option_map (λ k. suc k)) (arrow_from (y ∷ text) n (omega (arith, le)) (λ k above upto. none (suc k) (omega arith)
+    (omega (arith, upto))))
     ∙ moved_on (arrow_in (drop n (y ∷ text))) n
 
 -- ---- the arrow behind a line
@@ -134,35 +139,48 @@ number_dashless n le = high_dashless (decimal n) (number_high n le)
 pub dashless_line : (l : Line) → IsFit l → NoDash (line_text l)
 dashless_line (line.Event (Load tag at)) fit =
     dashless_then (codes "load ") (decimal tag ++ 32 ∷ decimal at) (no_dash_in (codes "load ") refl)
-    (dashless_then (decimal tag) (32 ∷ decimal at) (number_dashless tag (omega (arith, fit.0))) (λ is. omega (arith, is), number_dashless at fit.1))
+    (dashless_then (decimal tag) (32 ∷ decimal at) (number_dashless tag (omega (arith, fit.0)))
+    (λ is. omega (arith, is), number_dashless at fit.1))
 dashless_line (line.Event (Store at word lanes)) fit =
     dashless_then (codes "store ") (decimal at ++ (32 ∷ (lanes_text lanes ++ (32 ∷ word_text word)))) (no_dash_in (codes "store ") refl)
-    (dashless_then (decimal at) (32 ∷ (lanes_text lanes ++ (32 ∷ word_text word))) (number_dashless at fit.0)
-    (λ is. omega (arith, is), dashless_then (lanes_text lanes) (32 ∷ word_text word) (high_dashless (lanes_text lanes) (mask_high lanes)) (λ is. omega (arith, is), high_dashless (word_text word) (word_high word))))
-dashless_line (line.Event (Prefetch at)) fit = dashless_then (codes "prefetch ") (decimal at) (no_dash_in (codes "prefetch ") refl) (number_dashless at fit)
-dashless_line (line.Event (Evict block)) fit = dashless_then (codes "evict ") (decimal block) (no_dash_in (codes "evict ") refl) (number_dashless block fit)
+    (dashless_then (decimal at) (32 ∷ (lanes_text lanes ++ (32 ∷ word_text word))) (number_dashless at fit.0) (
+      λ is. omega (arith, is),
+      dashless_then (lanes_text lanes) (32 ∷ word_text word) (high_dashless (lanes_text lanes) (mask_high lanes))
+          (λ is. omega (arith, is), high_dashless (word_text word) (word_high word)),
+    ))
+dashless_line (line.Event (Prefetch at)) fit = dashless_then (codes "prefetch ") (decimal at) (no_dash_in (codes "prefetch ") refl)
+    (number_dashless at fit)
+dashless_line (line.Event (Evict block)) fit = dashless_then (codes "evict ") (decimal block) (no_dash_in (codes "evict ") refl)
+    (number_dashless block fit)
 dashless_line (line.Event Drain) fit = no_dash_in (codes "drain") refl
-dashless_line (line.Event (Serve bank)) fit = dashless_then (codes "serve ") (decimal bank) (no_dash_in (codes "serve ") refl) (number_dashless bank fit)
+dashless_line (line.Event (Serve bank)) fit = dashless_then (codes "serve ") (decimal bank) (no_dash_in (codes "serve ") refl)
+    (number_dashless bank fit)
 dashless_line (line.Event (Arrive bank place)) fit =
     dashless_then (codes "arrive ") (decimal bank ++ 32 ∷ decimal place) (no_dash_in (codes "arrive ") refl)
     (dashless_then (decimal bank) (32 ∷ decimal place) (number_dashless bank fit.0) (λ is. omega (arith, is), number_dashless place fit.1))
-dashless_line (line.Event (Process place)) fit = dashless_then (codes "process ") (decimal place) (no_dash_in (codes "process ") refl) (number_dashless place fit)
-dashless_line (line.Event (Take place)) fit = dashless_then (codes "take ") (decimal place) (no_dash_in (codes "take ") refl) (number_dashless place fit)
-dashless_line (line.Register slot) fit = dashless_then (codes "reg ") (decimal slot) (no_dash_in (codes "reg ") refl) (number_dashless slot fit)
+dashless_line (line.Event (Process place)) fit = dashless_then (codes "process ") (decimal place) (no_dash_in (codes "process ") refl)
+    (number_dashless place fit)
+dashless_line (line.Event (Take place)) fit = dashless_then (codes "take ") (decimal place) (no_dash_in (codes "take ") refl)
+    (number_dashless place fit)
+dashless_line (line.Register slot) fit = dashless_then (codes "reg ") (decimal slot) (no_dash_in (codes "reg ") refl)
+    (number_dashless slot fit)
 dashless_line (line.Bank at) fit = dashless_then (codes "bank ") (decimal at) (no_dash_in (codes "bank ") refl) (number_dashless at fit)
 dashless_line line.Settled fit = no_dash_in (codes "settled") refl
 
 pub arrow_behind_line : (text reply : List ℕ) → NoDash text → arrow_in (text ++ (codes " -> " ++ reply)) ≡ Some (length text)
 arrow_behind_line [] reply none = refl
 arrow_behind_line (x ∷ []) reply none =
-    let test : starts_with nat_eq (x ∷ (codes " -> " ++ reply)) (codes " -> ") ≡ false = second_is x 32 (45 ∷ 62 ∷ 32 ∷ reply) (λ is. omega (arith, is)) in
-    arrow_behind (x ∷ (codes " -> " ++ reply)) x (codes " -> " ++ reply) refl test ∙ ap (option_map (λ k. suc k)) (arrow_behind_line [] reply none.1)
+    let test : starts_with nat_eq (x ∷ (codes " -> " ++ reply)) (codes " -> ") ≡ false =
+    second_is x 32 (45 ∷ 62 ∷ 32 ∷ reply) (λ is. omega (arith, is)) in
+    arrow_behind (x ∷ (codes " -> " ++ reply)) x (codes " -> " ++ reply) refl test
+    ∙ ap (option_map (λ k. suc k)) (arrow_behind_line [] reply none.1)
 arrow_behind_line (x ∷ y ∷ text) reply none =
     let behind = (y ∷ text) ++ (codes " -> " ++ reply) in
     let test : starts_with nat_eq (x ∷ behind) (codes " -> ") ≡ false = second_is x y (text ++ (codes " -> " ++ reply)) none.1.0 in
     arrow_behind (x ∷ behind) x behind refl test ∙ ap (option_map (λ k. suc k)) (arrow_behind_line (y ∷ text) reply none.1)
 
-answered_back : (m : MachineState) (l : Line) → IsFitReply (answer_to m l) → pair_with l (reply_text m l) ≡ Ok (record { line = l; answer = answer_to m l })
+answered_back : (m : MachineState) (l : Line) → IsFitReply (answer_to m l)
+    → pair_with l (reply_text m l) ≡ Ok (record { line = l; answer = answer_to m l })
 unfolding reply_text
 answered_back m (line.Event event) fit = ap (answered_pair (line.Event event)) (answer_back (answered m event) fit)
 answered_back m (line.Register slot) fit = refl

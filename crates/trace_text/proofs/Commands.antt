@@ -1,5 +1,6 @@
 -- The command that a text begins with is the one that stands up to its first space.
-use Rattle.std.proofs.Common.{◌≡◌, ◌≢◌, ℕ, Bool, true, false, Option, Some, None, List, [], ◌∷◌, ◌++◌, refl, sym, ◌∙◌, ap, subst, append_assoc, append-nil, length, drop, get_or, ◌<◌, arith}
+use Rattle.std.proofs.Common.{◌≡◌, ◌≢◌, ℕ, Bool, true, false, Option, Some, None, List, [], ◌∷◌, ◌++◌, refl, sym, ◌∙◌, ap, subst}
+use Rattle.std.proofs.Common.{append_assoc, append-nil, length, drop, get_or, ◌<◌, arith}
 use Rattle.std.specs.Prelude.{◌==◌, IfNone}
 use Rattle.std.proofs.lemmas.Bool.{eqb-true}
 use Rattle.std.proofs.lemmas.Bool.Decides.{nat_tests}
@@ -87,7 +88,12 @@ one_more b bs front (Some rest) is = ap (λ l. b ∷ l) is
 
 parted_on : (b : ℕ) (bs : List ℕ) (t : Bool) → (b == 32) ≡ t → Parted bs → Parted (b ∷ bs)
 parted_on b bs true e p = ([], Some bs, tt, ap (λ x. x ∷ bs) (eqb-true b 32 e))
-parted_on b bs false e p = (b ∷ p.0, p.1, (λ is. let same : (b == 32) ≡ true = grind (arith, nat_tests) in cc, p.2), one_more b bs p.0 p.1 p.3)
+parted_on b bs false e p = (
+  b ∷ p.0,
+  p.1,
+  (λ is. let same : (b == 32) ≡ true = grind (arith, nat_tests) in cc, p.2),
+  one_more b bs p.0 p.1 p.3,
+)
 
 parted : (text : List ℕ) → Parted text
 parted [] = ([], None, tt, refl)
@@ -120,14 +126,16 @@ bare_command c = cut_none (name_of c) (name_spaceless c)
 pub command_before : (c : Command) (fields : List ℕ) → cut_of (name_of c ++ 32 ∷ fields) ≡ (name_of c, Some fields)
 command_before c fields = cut_front (name_of c) fields (name_spaceless c)
 
-pub command_is : (c : Command) (text : List ℕ) (rest : Option (List ℕ)) → cut_of text ≡ (name_of c, rest) → Some c ≡ command_named (cut_of text).0
+pub command_is : (c : Command) (text : List ℕ) (rest : Option (List ℕ)) → cut_of text ≡ (name_of c, rest)
+    → Some c ≡ command_named (cut_of text).0
 command_is c text rest cut = sym (ap (λ p. command_named p.0) cut ∙ own_command c)
 
 pub longer_name : (c : Command) (b : ℕ) (bs : List ℕ) → b ≢ 32 → command_named (cut_of (name_of c ++ b ∷ bs)).0 ≡ None
 longer_name c b bs ne =
     let p = parted bs in
     let name = name_of c ++ b ∷ p.0 in
-    let text : name_of c ++ b ∷ bs ≡ whole name p.1 = ap (λ l. name_of c ++ l) (one_more b bs p.0 p.1 p.3) ∙ behind (name_of c) (b ∷ p.0) p.1 in
+    let text : name_of c ++ b ∷ bs ≡ whole name p.1 = ap (λ l. name_of c ++ l) (one_more b bs p.0 p.1 p.3)
+    ∙ behind (name_of c) (b ∷ p.0) p.1 in
     let none : NoSpace name = both_spaceless (name_of c) (b ∷ p.0) (name_spaceless c) (ne, p.2) in
     ap (λ l. command_named (cut_of l).0) text ∙ ap (λ q. command_named q.0) (cut_whole name p.1 none) ∙ goes_on c b p.0
 
@@ -142,13 +150,15 @@ no_command text none = no_command_in text (command_named (cut_of text).0) none r
 
 -- ---- what tells that no command begins
 
-pub told_another : (text : List ℕ) (o : Option Command) → command_told (get_or text 0 0) (get_or text 2 0) ≡ o → (c : Command) (rest : List ℕ) → text ≡ name_of c ++ rest → o ≡ Some c
+pub told_another : (text : List ℕ) (o : Option Command) → command_told (get_or text 0 0) (get_or text 2 0) ≡ o
+    → (c : Command) (rest : List ℕ) → text ≡ name_of c ++ rest → o ≡ Some c
 told_another text o is c rest e = sym is ∙ ap (λ l. command_told (get_or l 0 0) (get_or l 2 0)) e ∙ (told c rest).1
 
 pub told_none : (text : List ℕ) → command_told (get_or text 0 0) (get_or text 2 0) ≡ None → BeginsNoCommand text
 told_none text is c rest e = let other : None ≡ Some c = told_another text None is c rest e in cc
 
-pub only_told : (text : List ℕ) (d : Command) → command_told (get_or text 0 0) (get_or text 2 0) ≡ Some d → ((rest : List ℕ) → text ≢ name_of d ++ rest) → BeginsNoCommand text
+pub only_told : (text : List ℕ) (d : Command) → command_told (get_or text 0 0) (get_or text 2 0) ≡ Some d
+    → ((rest : List ℕ) → text ≢ name_of d ++ rest) → BeginsNoCommand text
 only_told text d is none c rest e =
     let other : Some d ≡ Some c = told_another text (Some d) is c rest e in
     let same : c ≡ d = cc in
@@ -164,10 +174,12 @@ pub bare_said : (c : Command) (text rest : List ℕ) → text ≡ name_of c ++ r
 bare_said c text [] is lt = ap cut_of (is ∙ append-nil (name_of c)) ∙ bare_command c
 bare_said c text (b ∷ bs) is lt = absurd (omega arith)
 
-pub fields_said : (c : Command) (text rest : List ℕ) → text ≡ name_of c ++ rest → 0 < length rest → get_or rest 0 0 ≡ 32 → cut_of text ≡ (name_of c, Some (drop 1 rest))
+pub fields_said : (c : Command) (text rest : List ℕ) → text ≡ name_of c ++ rest → 0 < length rest → get_or rest 0 0 ≡ 32
+    → cut_of text ≡ (name_of c, Some (drop 1 rest))
 fields_said c text [] is lt first = absurd (omega arith)
 fields_said c text (b ∷ bs) is lt first = ap cut_of (is ∙ ap (λ x. name_of c ++ x ∷ bs) first) ∙ command_before c bs
 
-pub longer_said : (c : Command) (text rest : List ℕ) → text ≡ name_of c ++ rest → 0 < length rest → get_or rest 0 0 ≢ 32 → command_named (cut_of text).0 ≡ None
+pub longer_said : (c : Command) (text rest : List ℕ) → text ≡ name_of c ++ rest → 0 < length rest → get_or rest 0 0 ≢ 32
+    → command_named (cut_of text).0 ≡ None
 longer_said c text [] is lt ne = absurd (omega arith)
 longer_said c text (b ∷ bs) is lt ne = ap (λ l. command_named (cut_of l).0) is ∙ longer_name c b bs ne

@@ -1,5 +1,7 @@
 -- A text is cut at its first space.
-use Rattle.std.proofs.Common.{◌≡◌, ◌≢◌, ℕ, zero, suc, ◌+◌, ◌<◌, Bool, true, false, Option, Some, None, List, [], ◌∷◌, ◌++◌, length, take, drop, get_or, take-append-drop, drop-cons, add-one, length-append, append-nil, refl, sym, ◌∙◌, ap, subst, arith}
+use Rattle.std.proofs.Common.{◌≡◌, ◌≢◌, ℕ, zero, suc, ◌+◌, ◌<◌, Bool, true, false, Option, Some, None, List, [], ◌∷◌, ◌++◌, length, take}
+use Rattle.std.proofs.Common.{drop, get_or, take-append-drop, drop-cons, add-one, length-append, append-nil, refl, sym, ◌∙◌, ap, subst}
+use Rattle.std.proofs.Common.{arith}
 use Rattle.std.specs.Prelude.{cond, nat_lt, ◌==◌}
 use Rattle.std.proofs.lemmas.Bool.Decides.{nat_tests}
 use Rattle.std.proofs.lemmas.Bool.{eqb-true}
@@ -28,7 +30,8 @@ cut_front xs ys none =
     let text = xs ++ 32 ∷ ys in
     let lt : length xs < length text = omega (arith, length-append xs (32 ∷ ys)) in
     let place : position_or_len (λ b. b == 32) text ≡ length xs =
-    position_or_len_is (λ b. b == 32) text (length xs) 0 (omega (arith, lt)) (λ k below. in_front xs (32 ∷ ys) k none below) (λ _. ap (λ b. b == 32) (get_or-append_seam xs 32 ys 0)) in
+    position_or_len_is (λ b. b == 32) text (length xs) 0 (omega (arith, lt)) (λ k below. in_front xs (32 ∷ ys) k none below)
+    (λ _. ap (λ b. b == 32) (get_or-append_seam xs 32 ys 0)) in
     let test : nat_lt (length xs) (length text) ≡ true = grind (arith, nat_tests) in
     ap (λ i. cut_at text (cond (nat_lt i (length text)) (Some i) None)) place
     ∙ ap (λ b. cut_at text (cond b (Some (length xs)) None)) test
@@ -38,7 +41,8 @@ cut_front xs ys none =
 pub cut_none : (xs : List ℕ) → NoSpace xs → cut_of xs ≡ (xs, None)
 cut_none xs none =
     let place : position_or_len (λ b. b == 32) xs ≡ length xs =
-    position_or_len_is (λ b. b == 32) xs (length xs) 0 (omega arith) (λ k below. subst (λ l. (get_or l k 0 == 32) ≡ false) (append-nil xs) (in_front xs [] k none below)) (λ h. absurd (omega (arith, h))) in
+    position_or_len_is (λ b. b == 32) xs (length xs) 0 (omega arith)
+    (λ k below. subst (λ l. (get_or l k 0 == 32) ≡ false) (append-nil xs) (in_front xs [] k none below)) (λ h. absurd (omega (arith, h))) in
     let test : nat_lt (length xs) (length xs) ≡ false = grind (arith, nat_tests) in
     ap (λ i. cut_at xs (cond (nat_lt i (length xs)) (Some i) None)) place ∙ ap (λ b. cut_at xs (cond b (Some (length xs)) None)) test
 

@@ -1,5 +1,6 @@
 -- What is held of the lines so far.
-use Rattle.std.proofs.Common.{◌≡◌, ℕ, suc, ◌+◌, ◌≤◌, Bool, true, false, Option, Some, None, Result, Ok, Err, OnOk, List, [], ◌∷◌, ◌++◌, length, get_or, length-append, append-nil, append_assoc, refl, sym, ◌∙◌, ap, subst, arith}
+use Rattle.std.proofs.Common.{◌≡◌, ℕ, suc, ◌+◌, ◌≤◌, Bool, true, false, Option, Some, None, Result, Ok, Err, OnOk, List, [], ◌∷◌, ◌++◌}
+use Rattle.std.proofs.Common.{length, get_or, length-append, append-nil, append_assoc, refl, sym, ◌∙◌, ap, subst, arith}
 use Rattle.std.specs.Prelude.{cond, slice_get}
 use Rattle.std.specs.Option.{option_map, option_to_list, option_and_then}
 use Rattle.std.specs.List.{AllByRecursion}
@@ -13,7 +14,8 @@ use Rattle.flat_model.specs.Flat.{Flat, may_answer, flat_after, flat_step, flat_
 use Rattle.trace_text.specs.Lines.{line_of}
 use Rattle.trace_text.specs.Pairs.{pair_of}
 use Rattle.trace_text.specs.Requests.{IsRequest, request_event, request_in, request_of, requests_of}
-use Rattle.trace_text.specs.Checks.{step_of, event_of, answer_of, number_of, events_in, answers_in, numbers_from, step_with, zeros, IsJudged, IsJudgedFrom, JudgedFrom, Judges}
+use Rattle.trace_text.specs.Checks.{step_of, event_of, answer_of, number_of, events_in, answers_in, numbers_from, step_with, zeros}
+use Rattle.trace_text.specs.Checks.{IsJudged, IsJudgedFrom, JudgedFrom, Judges}
 use Rattle.trace_text.specs.declared.check.CheckEnd.{CheckEnd}
 use Rattle.trace_text.specs.declared.check.CheckEnd.TheVariants.{Flat as FlatRun, Mismatch}
 use Rattle.trace_text.specs.declared.check.Step.{Step}
@@ -29,7 +31,8 @@ on_ok (Err e) f p = tt
 
 -- ---- requests
 
-requests_more : (texts : List (List ℕ)) (text : List ℕ) → requests_of (texts ++ text ∷ []) ≡ requests_of texts ++ option_to_list (request_of (line_of text))
+requests_more : (texts : List (List ℕ)) (text : List ℕ) → requests_of (texts ++ text ∷ []) ≡ requests_of texts
+    ++ option_to_list (request_of (line_of text))
 requests_more [] text = append-nil (option_to_list (request_of (line_of text)))
 requests_more (t ∷ ts) text =
     ap (λ l. option_to_list (request_of (line_of t)) ++ l) (requests_more ts text)
@@ -39,7 +42,8 @@ pub requests_kept : (old new : List Event) (event : Option Event) (said : Line) 
     → event ≡ request_in said → Ok said ≡ line_of text → new ≡ old ++ option_to_list event
     → (texts : List (List ℕ)) → old ≡ requests_of texts → new ≡ requests_of (texts ++ text ∷ [])
 requests_kept old new event said text is read e texts held =
-    e ∙ ap (λ o. old ++ option_to_list o) (is ∙ ap request_of read) ∙ ap (λ l. l ++ option_to_list (request_of (line_of text))) held ∙ sym (requests_more texts text)
+    e ∙ ap (λ o. old ++ option_to_list o) (is ∙ ap request_of read) ∙ ap (λ l. l ++ option_to_list (request_of (line_of text))) held
+    ∙ sym (requests_more texts text)
 
 event_is : (event : Event) → AllByRecursion IsRequest (option_to_list (request_event event))
 event_is (Load tag at) = (tt, tt)
@@ -61,7 +65,8 @@ request_is (Err fault) = tt
 
 pub requests_are : (texts : List (List ℕ)) → AllByRecursion IsRequest (requests_of texts)
 requests_are [] = tt
-requests_are (t ∷ ts) = all_then IsRequest (option_to_list (request_of (line_of t))) (requests_of ts) (request_is (line_of t)) (requests_are ts)
+requests_are (t ∷ ts) = all_then IsRequest (option_to_list (request_of (line_of t))) (requests_of ts) (request_is (line_of t))
+    (requests_are ts)
 
 one_at_most : {X : Type 0} (o : Option X) → length (option_to_list o) ≤ 1
 one_at_most None = omega arith
@@ -70,21 +75,32 @@ one_at_most (Some x) = omega arith
 pub requests_few : (texts : List (List ℕ)) → length (requests_of texts) ≤ length texts
 requests_few [] = omega arith
 requests_few (t ∷ ts) =
-    omega (arith, requests_few ts, one_at_most (request_of (line_of t)), length-append (option_to_list (request_of (line_of t))) (requests_of ts))
+    omega (
+      arith,
+      requests_few ts,
+      one_at_most (request_of (line_of t)),
+      length-append (option_to_list (request_of (line_of t)))
+          (requests_of ts),
+    )
 
 -- ---- steps
 
-events_more : (texts : List (List ℕ)) (text : List ℕ) → events_in (texts ++ text ∷ []) ≡ events_in texts ++ event_of (step_of (pair_of text))
+events_more : (texts : List (List ℕ)) (text : List ℕ) → events_in (texts ++ text ∷ []) ≡ events_in texts
+    ++ event_of (step_of (pair_of text))
 events_more [] text = append-nil (event_of (step_of (pair_of text)))
 events_more (t ∷ ts) text =
-    ap (λ l. event_of (step_of (pair_of t)) ++ l) (events_more ts text) ∙ sym (append_assoc (event_of (step_of (pair_of t))) (events_in ts) (event_of (step_of (pair_of text))))
+    ap (λ l. event_of (step_of (pair_of t)) ++ l) (events_more ts text)
+    ∙ sym (append_assoc (event_of (step_of (pair_of t))) (events_in ts) (event_of (step_of (pair_of text))))
 
-answers_more : (texts : List (List ℕ)) (text : List ℕ) → answers_in (texts ++ text ∷ []) ≡ answers_in texts ++ answer_of (step_of (pair_of text))
+answers_more : (texts : List (List ℕ)) (text : List ℕ) → answers_in (texts ++ text ∷ []) ≡ answers_in texts
+    ++ answer_of (step_of (pair_of text))
 answers_more [] text = append-nil (answer_of (step_of (pair_of text)))
 answers_more (t ∷ ts) text =
-    ap (λ l. answer_of (step_of (pair_of t)) ++ l) (answers_more ts text) ∙ sym (append_assoc (answer_of (step_of (pair_of t))) (answers_in ts) (answer_of (step_of (pair_of text))))
+    ap (λ l. answer_of (step_of (pair_of t)) ++ l) (answers_more ts text)
+    ∙ sym (append_assoc (answer_of (step_of (pair_of t))) (answers_in ts) (answer_of (step_of (pair_of text))))
 
-numbers_more : (n : ℕ) (texts : List (List ℕ)) (text : List ℕ) → numbers_from n (texts ++ text ∷ []) ≡ numbers_from n texts ++ number_of (n + length texts) (step_of (pair_of text))
+numbers_more : (n : ℕ) (texts : List (List ℕ)) (text : List ℕ) → numbers_from n (texts ++ text ∷ []) ≡ numbers_from n texts
+    ++ number_of (n + length texts) (step_of (pair_of text))
 numbers_more n [] text =
     let same : n ≡ n + 0 = omega arith in
     append-nil (number_of n (step_of (pair_of text))) ∙ ap (λ k. number_of k (step_of (pair_of text))) same
@@ -92,7 +108,8 @@ numbers_more n (t ∷ ts) text =
     let same : (n + 1) + length ts ≡ n + length (t ∷ ts) = omega arith in
     ap (λ l. number_of n (step_of (pair_of t)) ++ l) (numbers_more (n + 1) ts text)
     ∙ ap (λ k. number_of n (step_of (pair_of t)) ++ (numbers_from (n + 1) ts ++ number_of k (step_of (pair_of text)))) same
-    ∙ sym (append_assoc (number_of n (step_of (pair_of t))) (numbers_from (n + 1) ts) (number_of (n + length (t ∷ ts)) (step_of (pair_of text))))
+    ∙ sym (append_assoc (number_of n (step_of (pair_of t))) (numbers_from (n + 1) ts)
+    (number_of (n + length (t ∷ ts)) (step_of (pair_of text))))
 
 -- as many numbers as events
 same_number : (n : ℕ) (o : Option Step) → length (number_of n o) ≡ length (event_of o)
@@ -103,25 +120,35 @@ pub numbers_length : (n : ℕ) (texts : List (List ℕ)) → length (numbers_fro
 numbers_length n [] = refl
 numbers_length n (t ∷ ts) =
     let o = step_of (pair_of t) in
-    omega (arith, numbers_length (n + 1) ts, same_number n o, length-append (number_of n o) (numbers_from (n + 1) ts), length-append (event_of o) (events_in ts))
+    omega (
+      arith,
+      numbers_length (n + 1) ts,
+      same_number n o,
+      length-append (number_of n o) (numbers_from (n + 1) ts),
+      length-append (event_of o) (events_in ts),
+    )
 
 -- ---- a run that is judged as it goes
 
-step_in : (b : Bool) (o p : Option ℕ) (place : ℕ) → ((k : ℕ) → o ≡ Some k → p ≡ Some k) → cond b (option_map (λ k. suc k) o) (Some 0) ≡ Some place → cond b (option_map (λ k. suc k) p) (Some 0) ≡ Some place
+step_in : (b : Bool) (o p : Option ℕ) (place : ℕ) → ((k : ℕ) → o ≡ Some k → p ≡ Some k)
+    → cond b (option_map (λ k. suc k) o) (Some 0) ≡ Some place → cond b (option_map (λ k. suc k) p) (Some 0) ≡ Some place
 step_in false o p place more e = e
 step_in true None p place more e = cc
 step_in true (Some k) p place more e = ap (option_map (λ n. suc n)) (more k refl) ∙ e
 
 -- the first fault stands, whatever follows
-fault_then : (xs ys : List Event) (xa ya : List Answer) (s : Flat) (place : ℕ) → first_fault s xs xa ≡ Some place → first_fault s (xs ++ ys) (xa ++ ya) ≡ Some place
+fault_then : (xs ys : List Event) (xa ya : List Answer) (s : Flat) (place : ℕ) → first_fault s xs xa ≡ Some place
+    → first_fault s (xs ++ ys) (xa ++ ya) ≡ Some place
 fault_then [] ys [] ya s place e = cc
 fault_then [] ys (a ∷ xa) ya s place e = cc
 fault_then (x ∷ xs) ys [] ya s place e = cc
 fault_then (x ∷ xs) ys (a ∷ xa) ya s place e =
     let after = flat_after s x a in
-    step_in (may_answer s x a) (first_fault after xs xa) (first_fault after (xs ++ ys) (xa ++ ya)) place (λ k here. fault_then xs ys xa ya after k here) e
+    step_in (may_answer s x a) (first_fault after xs xa) (first_fault after (xs ++ ys) (xa ++ ya)) place
+    (λ k here. fault_then xs ys xa ya after k here) e
 
-no_run_in : (b : Bool) (o : Option ℕ) (place : ℕ) (s : Flat) (f : Flat → Option Flat) → ((k : ℕ) → o ≡ Some k → f s ≡ None) → cond b (option_map (λ k. suc k) o) (Some 0) ≡ Some place → option_and_then f (cond b (Some s) None) ≡ None
+no_run_in : (b : Bool) (o : Option ℕ) (place : ℕ) (s : Flat) (f : Flat → Option Flat) → ((k : ℕ) → o ≡ Some k → f s ≡ None)
+    → cond b (option_map (λ k. suc k) o) (Some 0) ≡ Some place → option_and_then f (cond b (Some s) None) ≡ None
 no_run_in false o place s f more e = refl
 no_run_in true None place s f more e = cc
 no_run_in true (Some k) place s f more e = more k refl
@@ -139,12 +166,14 @@ no_step : (b : Bool) (t : Flat) → cond b (Some t) None ≡ None → b ≡ fals
 no_step false t e = refl
 no_step true t e = cc
 
-end_in : (b : Bool) (s t : Flat) (o : Option ℕ) (f : Flat → Option Flat) (place : ℕ) → option_and_then f (cond b (Some s) None) ≡ Some t → (f s ≡ Some t → o ≡ Some place) → cond b (option_map (λ k. suc k) o) (Some 0) ≡ Some (suc place)
+end_in : (b : Bool) (s t : Flat) (o : Option ℕ) (f : Flat → Option Flat) (place : ℕ) → option_and_then f (cond b (Some s) None) ≡ Some t
+    → (f s ≡ Some t → o ≡ Some place) → cond b (option_map (λ k. suc k) o) (Some 0) ≡ Some (suc place)
 end_in false s t o f place e here = cc
 end_in true s t o f place e here = ap (option_map (λ n. suc n)) (here e)
 
 -- a step behind a run that is none is the first fault
-fault_at_end : (xs : List Event) (xa : List Answer) (x : Event) (a : Answer) (s t : Flat) → flat_run s xs xa ≡ Some t → flat_step t x a ≡ None → first_fault s (xs ++ x ∷ []) (xa ++ a ∷ []) ≡ Some (length xs)
+fault_at_end : (xs : List Event) (xa : List Answer) (x : Event) (a : Answer) (s t : Flat) → flat_run s xs xa ≡ Some t
+    → flat_step t x a ≡ None → first_fault s (xs ++ x ∷ []) (xa ++ a ∷ []) ≡ Some (length xs)
 fault_at_end [] [] x a s t run none =
     let here : s ≡ t = cc in
     let may : may_answer s x a ≡ false = ap (λ m. may_answer m x a) here ∙ no_step (may_answer t x a) (flat_after t x a) none in
@@ -154,33 +183,41 @@ fault_at_end (y ∷ xs) [] x a s t run none = cc
 fault_at_end (y ∷ xs) (b ∷ xa) x a s t run none =
     let after = flat_after s y b in
     let n : suc (length xs) ≡ length (y ∷ xs) = omega arith in
-    end_in (may_answer s y b) after t (first_fault after (xs ++ x ∷ []) (xa ++ a ∷ [])) (λ m. flat_run m xs xa) (length xs) run (λ here. fault_at_end xs xa x a after t here none) ∙ ap Some n
+    end_in (may_answer s y b) after t (first_fault after (xs ++ x ∷ []) (xa ++ a ∷ [])) (λ m. flat_run m xs xa) (length xs) run
+    (λ here. fault_at_end xs xa x a after t here none) ∙ ap Some n
 
 get_more : (ns ms : List ℕ) (place n : ℕ) → slice_get ns place ≡ Some n → slice_get (ns ++ ms) place ≡ Some n
 get_more ns ms place n e =
     let lt = slice_get_within ns place n e in
-    slice_get-get_or (ns ++ ms) place 0 (omega (arith, lt, length-append ns ms)) ∙ ap Some (get_or_append_left ns ms 0 place lt ∙ get_or_from_slice_get ns place n 0 e)
+    slice_get-get_or (ns ++ ms) place 0 (omega (arith, lt, length-append ns ms))
+    ∙ ap Some (get_or_append_left ns ms 0 place lt ∙ get_or_from_slice_get ns place n 0 e)
 
 get_last : (ns : List ℕ) (place n : ℕ) → place ≡ length ns → slice_get (ns ++ n ∷ []) place ≡ Some n
 get_last ns place n e =
-    slice_get-get_or (ns ++ n ∷ []) place 0 (omega (arith, e, length-append ns (n ∷ []))) ∙ ap Some (ap (λ k. get_or (ns ++ n ∷ []) k 0) e ∙ get_or-append_seam ns n [] 0)
+    slice_get-get_or (ns ++ n ∷ []) place 0 (omega (arith, e, length-append ns (n ∷ [])))
+    ∙ ap Some (ap (λ k. get_or (ns ++ n ∷ []) k 0) e ∙ get_or-append_seam ns n [] 0)
 
 -- what a judgement says, over the lists that it speaks of
 abbrev Judged : Flat → List Event → List Answer → List ℕ → ℕ → Option ℕ → Flat → Type 0
 Judged start events answers numbers steps None now = (steps ≡ length events) × (flat_run start events answers ≡ Some now)
-Judged start events answers numbers steps (Some n) now = (steps ≤ length events) × ((place : ℕ) × (first_fault start events answers ≡ Some place) × (slice_get numbers place ≡ Some n))
+Judged start events answers numbers steps (Some n) now = (steps ≤ length events) ×
+    ((place : ℕ) × (first_fault start events answers ≡ Some place) × (slice_get numbers place ≡ Some n))
 
-spread : (start now : Flat) (texts : List (List ℕ)) (steps : ℕ) (o : Option ℕ) → JudgedFrom start texts steps o now → Judged start (events_in texts) (answers_in texts) (numbers_from 1 texts) steps o now
+spread : (start now : Flat) (texts : List (List ℕ)) (steps : ℕ) (o : Option ℕ) → JudgedFrom start texts steps o now
+    → Judged start (events_in texts) (answers_in texts) (numbers_from 1 texts) steps o now
 spread start now texts steps None judged = judged
 spread start now texts steps (Some n) judged = judged
 
-gathered : (start now : Flat) (texts : List (List ℕ)) (steps : ℕ) (o : Option ℕ) → Judged start (events_in texts) (answers_in texts) (numbers_from 1 texts) steps o now → JudgedFrom start texts steps o now
+gathered : (start now : Flat) (texts : List (List ℕ)) (steps : ℕ) (o : Option ℕ)
+    → Judged start (events_in texts) (answers_in texts) (numbers_from 1 texts) steps o now → JudgedFrom start texts steps o now
 gathered start now texts steps None judged = judged
 gathered start now texts steps (Some n) judged = judged
 
 -- the lists are these
-judged_of : (start now : Flat) (texts : List (List ℕ)) (steps : ℕ) (o : Option ℕ) (events : List Event) (answers : List Answer) (numbers : List ℕ)
-    → events_in texts ≡ events → answers_in texts ≡ answers → numbers_from 1 texts ≡ numbers → Judged start events answers numbers steps o now → JudgedFrom start texts steps o now
+judged_of : (start now : Flat) (texts : List (List ℕ)) (steps : ℕ) (o : Option ℕ) (events : List Event) (answers : List Answer)
+    (numbers : List ℕ)
+    → events_in texts ≡ events → answers_in texts ≡ answers → numbers_from 1 texts ≡ numbers
+    → Judged start events answers numbers steps o now → JudgedFrom start texts steps o now
 judged_of start now texts steps o events answers numbers e a n judged =
     gathered start now texts steps o
     (subst (λ l. Judged start l (answers_in texts) (numbers_from 1 texts) steps o now) (sym e)
@@ -188,14 +225,24 @@ judged_of start now texts steps o events answers numbers e a n judged =
     (subst (λ l. Judged start events answers l steps o now) (sym n) judged)))
 
 -- one more step
-judges_then : (start now next : Flat) (events : List Event) (answers : List Answer) (numbers : List ℕ) (event : Event) (answer : Answer) (number steps steps' : ℕ) (o o' : Option ℕ)
-    → length numbers ≡ length events → Judged start events answers numbers steps o now → Judges number event answer now steps o next steps' o'
+judges_then : (start now next : Flat) (events : List Event) (answers : List Answer) (numbers : List ℕ) (event : Event) (answer : Answer)
+    (number steps steps' : ℕ) (o o' : Option ℕ)
+    → length numbers ≡ length events → Judged start events answers numbers steps o now
+    → Judges number event answer now steps o next steps' o'
     → Judged start (events ++ event ∷ []) (answers ++ answer ∷ []) (numbers ++ number ∷ []) steps' o' next
 judges_then start now next events answers numbers event answer number steps steps' (Some m) o' even judged step =
-    subst (λ x. Judged start (events ++ event ∷ []) (answers ++ answer ∷ []) (numbers ++ number ∷ []) steps' x next) (sym step.1)
-    (omega (arith, step.0, judged.0, length-append events (event ∷ [])), (judged.1.0, fault_then events (event ∷ []) answers (answer ∷ []) start judged.1.0 judged.1.1, get_more numbers (number ∷ []) judged.1.0 m judged.1.2))
-judges_then start now next events answers numbers event answer number steps steps' None None even judged step =
-    (omega (arith, step.1, judged.0, length-append events (event ∷ [])), runs_then events (event ∷ []) answers (answer ∷ []) start now next judged.1 (ap (option_and_then (λ t. flat_run t [] [])) step.0))
+    subst (λ x. Judged start (events ++ event ∷ []) (answers ++ answer ∷ []) (numbers ++ number ∷ []) steps' x next) (sym step.1) (
+      omega (arith, step.0, judged.0, length-append events (event ∷ [])),
+      (
+        judged.1.0,
+        fault_then events (event ∷ []) answers (answer ∷ []) start judged.1.0 judged.1.1,
+        get_more numbers (number ∷ []) judged.1.0 m judged.1.2,
+      ),
+    )
+judges_then start now next events answers numbers event answer number steps steps' None None even judged step = (
+  omega (arith, step.1, judged.0, length-append events (event ∷ [])),
+  runs_then events (event ∷ []) answers (answer ∷ []) start now next judged.1 (ap (option_and_then (λ t. flat_run t [] [])) step.0),
+)
 judges_then start now next events answers numbers event answer number steps steps' None (Some n) even judged step = (
   omega (arith, step.1, judged.0, length-append events (event ∷ [])),
   (
@@ -207,27 +254,38 @@ judges_then start now next events answers numbers event answer number steps step
 
 -- a line that is no step
 pub judged_still : (start now : Flat) (texts : List (List ℕ)) (text : List ℕ) (pair : Pair) (steps : ℕ) (o : Option ℕ)
-    → Ok pair ≡ pair_of text → None ≡ step_with pair.line pair.answer → JudgedFrom start texts steps o now → JudgedFrom start (texts ++ text ∷ []) steps o now
+    → Ok pair ≡ pair_of text → None ≡ step_with pair.line pair.answer → JudgedFrom start texts steps o now
+    → JudgedFrom start (texts ++ text ∷ []) steps o now
 judged_still start now texts text pair steps o read none judged =
     let no : step_of (pair_of text) ≡ None = ap step_of (sym read) ∙ sym none in
-    let events : events_in (texts ++ text ∷ []) ≡ events_in texts = events_more texts text ∙ ap (λ s. events_in texts ++ event_of s) no ∙ append-nil (events_in texts) in
-    let answers : answers_in (texts ++ text ∷ []) ≡ answers_in texts = answers_more texts text ∙ ap (λ s. answers_in texts ++ answer_of s) no ∙ append-nil (answers_in texts) in
-    let numbers : numbers_from 1 (texts ++ text ∷ []) ≡ numbers_from 1 texts = numbers_more 1 texts text ∙ ap (λ s. numbers_from 1 texts ++ number_of (1 + length texts) s) no ∙ append-nil (numbers_from 1 texts) in
-    judged_of start now (texts ++ text ∷ []) steps o (events_in texts) (answers_in texts) (numbers_from 1 texts) events answers numbers (spread start now texts steps o judged)
+    let events : events_in (texts ++ text ∷ []) ≡ events_in texts = events_more texts text ∙ ap (λ s. events_in texts ++ event_of s) no
+    ∙ append-nil (events_in texts) in
+    let answers : answers_in (texts ++ text ∷ []) ≡ answers_in texts = answers_more texts text
+    ∙ ap (λ s. answers_in texts ++ answer_of s) no ∙ append-nil (answers_in texts) in
+    let numbers : numbers_from 1 (texts ++ text ∷ []) ≡ numbers_from 1 texts = numbers_more 1 texts text
+    ∙ ap (λ s. numbers_from 1 texts ++ number_of (1 + length texts) s) no ∙ append-nil (numbers_from 1 texts) in
+    judged_of start now (texts ++ text ∷ []) steps o (events_in texts) (answers_in texts) (numbers_from 1 texts) events answers numbers
+    (spread start now texts steps o judged)
 
 -- a line that is a step
-pub judged_more : (start now : Flat) (texts : List (List ℕ)) (text : List ℕ) (pair : Pair) (step : Step) (number steps : ℕ) (o : Option ℕ) (next : Flat) (steps' : ℕ) (o' : Option ℕ)
+pub judged_more : (start now : Flat) (texts : List (List ℕ)) (text : List ℕ) (pair : Pair) (step : Step) (number steps : ℕ) (o : Option ℕ)
+    (next : Flat) (steps' : ℕ) (o' : Option ℕ)
     → Ok pair ≡ pair_of text → Some step ≡ step_with pair.line pair.answer → number ≡ length texts + 1
     → JudgedFrom start texts steps o now → Judges number step.event step.answer now steps o next steps' o'
     → JudgedFrom start (texts ++ text ∷ []) steps' o' next
 judged_more start now texts text pair step number steps o next steps' o' read some at judged step_is =
     let is : step_of (pair_of text) ≡ Some step = ap step_of (sym read) ∙ sym some in
     let place : 1 + length texts ≡ number = omega (arith, at) in
-    let events : events_in (texts ++ text ∷ []) ≡ events_in texts ++ step.event ∷ [] = events_more texts text ∙ ap (λ s. events_in texts ++ event_of s) is in
-    let answers : answers_in (texts ++ text ∷ []) ≡ answers_in texts ++ step.answer ∷ [] = answers_more texts text ∙ ap (λ s. answers_in texts ++ answer_of s) is in
-    let numbers : numbers_from 1 (texts ++ text ∷ []) ≡ numbers_from 1 texts ++ number ∷ [] = numbers_more 1 texts text ∙ ap (λ s. numbers_from 1 texts ++ number_of (1 + length texts) s) is ∙ ap (λ k. numbers_from 1 texts ++ k ∷ []) place in
-    judged_of start next (texts ++ text ∷ []) steps' o' (events_in texts ++ step.event ∷ []) (answers_in texts ++ step.answer ∷ []) (numbers_from 1 texts ++ number ∷ []) events answers numbers
-    (judges_then start now next (events_in texts) (answers_in texts) (numbers_from 1 texts) step.event step.answer number steps steps' o o' (numbers_length 1 texts) (spread start now texts steps o judged) step_is)
+    let events : events_in (texts ++ text ∷ []) ≡ events_in texts ++ step.event ∷ [] = events_more texts text
+    ∙ ap (λ s. events_in texts ++ event_of s) is in
+    let answers : answers_in (texts ++ text ∷ []) ≡ answers_in texts ++ step.answer ∷ [] = answers_more texts text
+    ∙ ap (λ s. answers_in texts ++ answer_of s) is in
+    let numbers : numbers_from 1 (texts ++ text ∷ []) ≡ numbers_from 1 texts ++ number ∷ [] = numbers_more 1 texts text
+    ∙ ap (λ s. numbers_from 1 texts ++ number_of (1 + length texts) s) is ∙ ap (λ k. numbers_from 1 texts ++ k ∷ []) place in
+    judged_of start next (texts ++ text ∷ []) steps' o' (events_in texts ++ step.event ∷ []) (answers_in texts ++ step.answer ∷ [])
+    (numbers_from 1 texts ++ number ∷ []) events answers numbers
+    (judges_then start now next (events_in texts) (answers_in texts) (numbers_from 1 texts) step.event step.answer number steps steps' o o'
+    (numbers_length 1 texts) (spread start now texts steps o judged) step_is)
 
 one_event : (o : Option Step) → length (event_of o) ≤ 1
 one_event None = omega arith
@@ -240,7 +298,8 @@ events_few (t ∷ ts) =
     omega (arith, events_few ts, one_event o, length-append (event_of o) (events_in ts))
 
 -- fewer steps than lines
-pub few_steps : (start now : Flat) (texts : List (List ℕ)) (steps : ℕ) (o : Option ℕ) → JudgedFrom start texts steps o now → steps ≤ length texts
+pub few_steps : (start now : Flat) (texts : List (List ℕ)) (steps : ℕ) (o : Option ℕ) → JudgedFrom start texts steps o now
+    → steps ≤ length texts
 few_steps start now texts steps None judged = omega (arith, judged.0, events_few texts)
 few_steps start now texts steps (Some n) judged = omega (arith, judged.0, events_few texts)
 

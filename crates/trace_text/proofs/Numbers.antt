@@ -1,10 +1,12 @@
 -- The number that digits stand for is the one that has them.
-use Rattle.std.proofs.Common.{◌≡◌, ◌≢◌, ℕ, zero, suc, ◌&&◌, ◌+◌, ◌-◌, ◌*◌, ◌^◌, ◌<◌, ◌≤◌, Bool, true, false, List, [], ◌∷◌, length, None, Some, Option, get_or, refl, sym, ◌∙◌, ap, arith, decimal}
+use Rattle.std.proofs.Common.{◌≡◌, ◌≢◌, ℕ, zero, suc, ◌&&◌, ◌+◌, ◌-◌, ◌*◌, ◌^◌, ◌<◌, ◌≤◌, Bool, true, false, List, [], ◌∷◌, length, None}
+use Rattle.std.proofs.Common.{Some, Option, get_or, refl, sym, ◌∙◌, ap, arith, decimal}
 use Rattle.std.specs.Prelude.{nat_le, cond}
 use Rattle.std.proofs.Common.{rules}
 use Rattle.std.proofs.lemmas.Bool.Decides.{nat_tests}
 use Rattle.std.proofs.lemmas.Str.Parse.{IsNumeralModel, numerals_by_fold}
-use Rattle.std.proofs.lemmas.Fmt.{decimal-digits_value, digits_decimal, digits_value-decimal, decimal_nonempty, first_decimal, decimal_digit}
+use Rattle.std.proofs.lemmas.Fmt.{decimal-digits_value, digits_decimal, digits_value-decimal, decimal_nonempty, first_decimal}
+use Rattle.std.proofs.lemmas.Fmt.{decimal_digit}
 use Rattle.std.proofs.lemmas.Bool.{and_parts, leb-true}
 use Rattle.trace_text.specs.Fields.{is_digit, number_after, begins_badly, number_of}
 
@@ -26,7 +28,8 @@ taken false x m e = cc
 of_le : (a b : ℕ) → a ≤ b → nat_le a b ≡ true
 of_le a b e = grind (arith, nat_tests)
 
-after_reads : (most n m : ℕ) (bs : List ℕ) → n ≤ most → number_after most n bs ≡ Some m → (all_digits bs ≡ true) × (read_on n bs ≡ m) × (m ≤ most)
+after_reads : (most n m : ℕ) (bs : List ℕ) → n ≤ most → number_after most n bs ≡ Some m → (all_digits bs ≡ true) × (read_on n bs ≡ m) ×
+    (m ≤ most)
 after_reads most n m [] le e = let same : n ≡ m = cc in (refl, same, omega arith)
 after_reads most n m (b ∷ bs) le e =
     let t = taken (is_digit b && nat_le (n * 10 + (b - 48)) most) (number_after most (n * 10 + (b - 48)) bs) m e in

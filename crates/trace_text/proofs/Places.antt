@@ -1,5 +1,6 @@
 -- The first of the places that a search gives.
-use Rattle.std.proofs.Common.{◌≡◌, ◌≢◌, ℕ, zero, suc, ◌+◌, ◌-◌, ◌<◌, ◌⊎◌, inl, inr, Bool, true, false, List, [], ◌∷◌, Option, Some, None, length, arith, refl, sym, ◌∙◌, ap}
+use Rattle.std.proofs.Common.{◌≡◌, ◌≢◌, ℕ, zero, suc, ◌+◌, ◌-◌, ◌<◌, ◌⊎◌, inl, inr, Bool, true, false, List, [], ◌∷◌, Option, Some, None}
+use Rattle.std.proofs.Common.{length, arith, refl, sym, ◌∙◌, ap}
 use Rattle.std.specs.Prelude.{slice_index, if◌then◌else◌, IfSome, IfNone, ◌==◌}
 use Rattle.std.proofs.lemmas.Bool.{eqb-true}
 use Rattle.std.proofs.lemmas.Bool.Decides.{nat_tests}
@@ -13,7 +14,8 @@ passed_by : (b : Bool) (x : ℕ) (xs : List ℕ) → (if b then x ∷ xs else xs
 passed_by true x xs e = cc
 passed_by false x xs e = (refl, e)
 
-here_or_later : (b : Bool) (y : ℕ) (ys : List ℕ) (x : ℕ) (rest : List ℕ) → (if b then y ∷ ys else ys) ≡ x ∷ rest → ((b ≡ true) × (y ≡ x)) ⊎ ((b ≡ false) × (ys ≡ x ∷ rest))
+here_or_later : (b : Bool) (y : ℕ) (ys : List ℕ) (x : ℕ) (rest : List ℕ) → (if b then y ∷ ys else ys) ≡ x ∷ rest → ((b ≡ true) × (y ≡ x)) ⊎
+    ((b ≡ false) × (ys ≡ x ∷ rest))
 here_or_later true y ys x rest e = inl (refl, cc)
 here_or_later false y ys x rest e = inr (refl, e)
 
@@ -28,7 +30,8 @@ unfolding places_from
 none_from test hay zero i j e lt = absurd (omega arith)
 none_from test hay (suc n) i zero e lt = stays test hay i ∙ (passed_by (Passes test hay i) i (places_from test hay (i + 1) n) e).0
 none_from test hay (suc n) i (suc j) e lt =
-    moved_on test hay i j ∙ none_from test hay n (i + 1) j (passed_by (Passes test hay i) i (places_from test hay (i + 1) n) e).1 (omega arith)
+    moved_on test hay i j ∙ none_from test hay n (i + 1) j (passed_by (Passes test hay i) i (places_from test hay (i + 1) n) e).1
+    (omega arith)
 
 -- so many places before it don't pass, and it does
 record IsFirst (test : ℕ → Bool) (hay : List ℕ) (n i x : ℕ) : Type 0 where
@@ -38,7 +41,8 @@ record IsFirst (test : ℕ → Bool) (hay : List ℕ) (n i x : ℕ) : Type 0 whe
   passes : Passes test hay x ≡ true
   before : (j : ℕ) → j < off → Passes test hay (i + j) ≡ false
 
-before_too : (test : ℕ → Bool) (hay : List ℕ) (i off : ℕ) → Passes test hay i ≡ false → ((j : ℕ) → j < off → Passes test hay (i + 1 + j) ≡ false)
+before_too : (test : ℕ → Bool) (hay : List ℕ) (i off : ℕ) → Passes test hay i ≡ false
+    → ((j : ℕ) → j < off → Passes test hay (i + 1 + j) ≡ false)
     → (j : ℕ) → j < suc off → Passes test hay (i + j) ≡ false
 before_too test hay i off first later zero lt = stays test hay i ∙ first
 before_too test hay i off first later (suc j) lt = moved_on test hay i j ∙ later j (omega arith)
@@ -82,5 +86,6 @@ first_end bytes s t (Some at) e h =
     )
 
 pub no_end : (bytes s t : List ℕ) (r : Option ℕ) → s ≡ places (is_byte 10) bytes → TakesFirst s r t → IfNone r (HasNoEnd bytes)
-no_end bytes s t None e h = λ k lt. from_start bytes k (none_from (is_byte 10) bytes (length bytes - 0) 0 k (sym e ∙ h.0) (omega (arith, lt)))
+no_end bytes s t None e h = λ k lt. from_start bytes k
+    (none_from (is_byte 10) bytes (length bytes - 0) 0 k (sym e ∙ h.0) (omega (arith, lt)))
 no_end bytes s t (Some at) e h = tt

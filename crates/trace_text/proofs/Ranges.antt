@@ -15,6 +15,7 @@ range_more n =
     sym (map_same (range_with_len 0 (n + 1))) ∙ more ∙ ap (λ l. l ++ n ∷ []) (map_same (range_with_len 0 n))
 
 -- what one number more adds
-pub flat_map_next : {A : Type 0} (f : ℕ → List A) (front : List A) (n : ℕ) → (front ++ flat_map f (range_with_len 0 n)) ++ f n ≡ front ++ flat_map f (range_with_len 0 (n + 1))
+pub flat_map_next : {A : Type 0} (f : ℕ → List A) (front : List A) (n : ℕ) → (front ++ flat_map f (range_with_len 0 n)) ++ f n ≡ front
+    ++ flat_map f (range_with_len 0 (n + 1))
 flat_map_next f front n =
     flat_map_more f front (range_with_len 0 n) n ∙ ap (λ l. front ++ flat_map f l) (sym (range_more n))

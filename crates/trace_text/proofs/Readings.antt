@@ -1,5 +1,7 @@
 -- How a reading goes on and ends.
-use Rattle.std.proofs.Common.{◌≡◌, ◌≢◌, ℕ, ◌+◌, ◌-◌, ◌<◌, ◌≤◌, ◌⊎◌, Option, Some, None, List, [], ◌∷◌, ◌++◌, length, take, drop, get_or, get_or-take, drop-cons, add-one, take-append-drop, length-take, length-drop, length-append, append_assoc, refl, sym, ◌∙◌, ap, subst, arith, inl, inr, Err}
+use Rattle.std.proofs.Common.{◌≡◌, ◌≢◌, ℕ, ◌+◌, ◌-◌, ◌<◌, ◌≤◌, ◌⊎◌, Option, Some, None, List, [], ◌∷◌, ◌++◌, length, take, drop, get_or}
+use Rattle.std.proofs.Common.{get_or-take, drop-cons, add-one, take-append-drop, length-take, length-drop, length-append, append_assoc}
+use Rattle.std.proofs.Common.{refl, sym, ◌∙◌, ap, subst, arith, inl, inr, Err}
 use Rattle.std.proofs.Math.Seq.{take-append-add}
 use Rattle.std.proofs.lemmas.List.{take-append-le}
 use Rattle.trace_text.specs.Lines.{IsSaid}
@@ -36,11 +38,13 @@ front_has_none : (rest : List ℕ) (at : ℕ) → IsEnd rest at → HasNoEnd (ta
 front_has_none rest at h = none_in_front rest at at h (omega arith)
 
 -- the line before the first LF
-good_front : (f : List ℕ → Option LineFault) (most : ℕ) (rest text : List ℕ) (at : ℕ) → IsEnd rest at → at ≤ most → text ≡ take at rest → f text ≡ None → IsGood f most text
+good_front : (f : List ℕ → Option LineFault) (most : ℕ) (rest text : List ℕ) (at : ℕ) → IsEnd rest at → at ≤ most → text ≡ take at rest
+    → f text ≡ None → IsGood f most text
 good_front f most rest text at h short same none =
     (omega (arith, ap length same, length-take at rest), subst HasNoEnd (sym same) (front_has_none rest at h), none)
 
-whole_line : (rest text rest' : List ℕ) (at : ℕ) → IsEnd rest at → text ≡ take at rest → rest' ≡ drop (at + 1) rest → rest ≡ text ++ (10 ∷ rest')
+whole_line : (rest text rest' : List ℕ) (at : ℕ) → IsEnd rest at → text ≡ take at rest → rest' ≡ drop (at + 1) rest
+    → rest ≡ text ++ (10 ∷ rest')
 whole_line rest text rest' at h same behind =
     line_split rest at h ∙ ap (λ l. take at rest ++ (10 ∷ l)) (sym behind) ∙ ap (λ l. l ++ (10 ∷ rest')) (sym same)
 
@@ -54,7 +58,8 @@ good_then : {f : List ℕ → Option LineFault} {most : ℕ} {bytes ys rest : Li
     → Good f most bytes xs ys → Good f most ys zs rest → Good f most bytes (xs ++ zs) rest
 good_then {f = f} {most = most} {rest = rest} {xs = xs} {zs = zs} p q = record {
   each = all_then (IsGood f most) xs zs p.each q.each;
-  split = p.split ∙ ap (λ l. joined_texts xs ++ l) q.split ∙ sym (append_assoc (joined_texts xs) (joined_texts zs) rest) ∙ ap (λ l. l ++ rest) (sym (joined_then xs zs));
+  split = p.split ∙ ap (λ l. joined_texts xs ++ l) q.split ∙ sym (append_assoc (joined_texts xs) (joined_texts zs) rest)
+      ∙ ap (λ l. l ++ rest) (sym (joined_then xs zs));
 }
 
 good_more : {f : List ℕ → Option LineFault} {most : ℕ} {bytes rest : List ℕ} {xs : List (List ℕ)} (more : List ℕ)
@@ -70,7 +75,8 @@ good_one text rest bytes good e = record { each = (good, tt); split = e ∙ sym 
 
 -- ---- lines that were taken
 
-collected_then : {C : Type 0} {f : List ℕ → Option LineFault} {went : C → List (List ℕ) → C → Type 0} {most limit : ℕ} {c d e : C} {n m k : ℕ} {xs ys zs : List ℕ}
+collected_then : {C : Type 0} {f : List ℕ → Option LineFault} {went : C → List (List ℕ) → C
+    → Type 0} {most limit : ℕ} {c d e : C} {n m k : ℕ} {xs ys zs : List ℕ}
     → Collected f went most limit c n xs ys d m → Collected f went most limit d m ys zs e k → Collected f went most limit c n xs zs e k
 collected_then {went = went} {e = e} {m = m} p q = record {
   texts = p.texts ++ q.texts;
@@ -82,7 +88,8 @@ collected_then {went = went} {e = e} {m = m} p q = record {
       subst (λ l. went start l e) (append_assoc front p.texts q.texts) (q.kept start (front ++ p.texts) len (p.kept start front at h));
 }
 
-pub collected_line : {C : Type 0} {f : List ℕ → Option LineFault} {went : C → List (List ℕ) → C → Type 0} {most limit : ℕ} {c d e : C} {n m : ℕ} {bytes rest text : List ℕ} (at : ℕ) (rest' : List ℕ)
+pub collected_line : {C : Type 0} {f : List ℕ → Option LineFault} {went : C → List (List ℕ) → C
+    → Type 0} {most limit : ℕ} {c d e : C} {n m : ℕ} {bytes rest text : List ℕ} (at : ℕ) (rest' : List ℕ)
     → Collected f went most limit c n bytes rest d m → IsEnd rest at → at ≤ most → text ≡ take at rest → f text ≡ None
     → ((start : C) (texts : List (List ℕ)) → m + 1 ≡ length texts + 1 → went start texts d → went start (texts ++ text ∷ []) e)
     → m < limit → rest' ≡ drop (at + 1) rest → Collected f went most limit c n bytes rest' e (m + 1)
@@ -98,23 +105,49 @@ collected_line {f = f} {most = most} {m = m} {rest = rest} {text = text} at rest
 
 -- ---- a line at which the reading stops
 
-begins_said : (f : List ℕ → Option LineFault) (most : ℕ) (rest : List ℕ) (at : ℕ) (e : LineFault) → IsEnd rest at → at ≤ most → f (take at rest) ≡ Some e → IsSaid e → BeginsFaulty f most rest e
-begins_said f most rest at Unknown h short said is = (take at rest, drop (at + 1) rest, line_split rest at h, omega (arith, length-take at rest), front_has_none rest at h, said)
-begins_said f most rest at Field h short said is = (take at rest, drop (at + 1) rest, line_split rest at h, omega (arith, length-take at rest), front_has_none rest at h, said)
+begins_said : (f : List ℕ → Option LineFault) (most : ℕ) (rest : List ℕ) (at : ℕ) (e : LineFault) → IsEnd rest at → at ≤ most
+    → f (take at rest) ≡ Some e → IsSaid e → BeginsFaulty f most rest e
+begins_said f most rest at Unknown h short said is =
+    (take at rest, drop (at + 1) rest, line_split rest at h, omega (arith, length-take at rest), front_has_none rest at h, said)
+begins_said f most rest at Field h short said is =
+    (take at rest, drop (at + 1) rest, line_split rest at h, omega (arith, length-take at rest), front_has_none rest at h, said)
 begins_said f most rest at TooLong h short said is = absurd is
 begins_said f most rest at NotEnded h short said is = absurd is
 
-pub misread_said : {C : Type 0} {f : List ℕ → Option LineFault} {went : C → List (List ℕ) → C → Type 0} (stopped : C → List ℕ → C → Type 0) {most limit : ℕ} {c d d' : C} {n m : ℕ} {bytes rest text : List ℕ} (at : ℕ) (e : LineFault)
-    → Collected f went most limit c n bytes rest d m → IsEnd rest at → at ≤ most → text ≡ take at rest → Misses stopped (f text) d text d' (miss.Fault e) → m < limit
+pub misread_said : {C : Type 0} {f : List ℕ → Option LineFault} {went : C → List (List ℕ) → C → Type 0}
+    (stopped : C → List ℕ → C → Type 0) {most limit : ℕ} {c d d' : C} {n m : ℕ} {bytes rest text : List ℕ} (at : ℕ) (e : LineFault)
+    → Collected f went most limit c n bytes rest d m → IsEnd rest at → at ≤ most → text ≡ take at rest
+    → Misses stopped (f text) d text d' (miss.Fault e) → m < limit
     → Misread f went stopped most limit c n bytes d' (Fault (fault.Line (m + 1) e))
-misread_said {f = f} {went = went} stopped {most = most} {limit = limit} {c = c} {n = n} {m = m} {bytes = bytes} {rest = rest} at e p h short same missed room =
-    (rest, m, subst (λ x. Collected f went most limit c n bytes rest x m) (sym missed.2) p, refl, room, begins_said f most rest at e h short (ap f (sym same) ∙ missed.0) missed.1)
+misread_said {f = f} {went = went} stopped {most = most} {limit = limit} {c = c} {n = n} {m = m} {bytes = bytes} {rest = rest} at e p h
+    short same missed room = (
+      rest,
+      m,
+      subst (λ x. Collected f went most limit c n bytes rest x m) (sym missed.2) p,
+      refl,
+      room,
+      begins_said f most rest at e h short (ap f (sym same) ∙ missed.0) missed.1,
+    )
 
-pub misread_halted : {C : Type 0} {f : List ℕ → Option LineFault} {went : C → List (List ℕ) → C → Type 0} (stopped : C → List ℕ → C → Type 0) {most limit : ℕ} {c d d' : C} {n m : ℕ} {bytes rest text : List ℕ} (at : ℕ)
-    → Collected f went most limit c n bytes rest d m → IsEnd rest at → at ≤ most → text ≡ take at rest → Misses stopped (f text) d text d' miss.Halted → m < limit
+pub misread_halted : {C : Type 0} {f : List ℕ → Option LineFault} {went : C → List (List ℕ) → C → Type 0}
+    (stopped : C → List ℕ → C → Type 0) {most limit : ℕ} {c d d' : C} {n m : ℕ} {bytes rest text : List ℕ} (at : ℕ)
+    → Collected f went most limit c n bytes rest d m → IsEnd rest at → at ≤ most → text ≡ take at rest
+    → Misses stopped (f text) d text d' miss.Halted → m < limit
     → Misread f went stopped most limit c n bytes d' Halted
-misread_halted {f = f} stopped {most = most} {d = d} {m = m} {rest = rest} {text = text} at p h short same missed room =
-    (rest, m, d, p, room, (text, drop (at + 1) rest, whole_line rest text (drop (at + 1) rest) at h same refl, good_front f most rest text at h short same missed.0, missed.1))
+misread_halted {f = f} stopped {most = most} {d = d} {m = m} {rest = rest} {text = text} at p h short same missed room = (
+  rest,
+  m,
+  d,
+  p,
+  room,
+  (
+    text,
+    drop (at + 1) rest,
+    whole_line rest text (drop (at + 1) rest) at h same refl,
+    good_front f most rest text at h short same missed.0,
+    missed.1,
+  ),
+)
 
 -- ---- pieces
 
@@ -133,7 +166,8 @@ filled_by old buf post filled given gives lt le len =
           ∙ ap (λ l. take filled old ++ l) (take-append-le given buf post le);
     }
 
-pub reading_start : {R C : Type 0} {gave : R → List ℕ → R → Type 0} {f : List ℕ → Option LineFault} {went : C → List (List ℕ) → C → Type 0} {most limit : ℕ} (r : R) (c : C)
+pub reading_start : {R C : Type 0} {gave : R → List ℕ → R → Type 0} {f : List ℕ → Option LineFault} {went : C → List (List ℕ) → C
+    → Type 0} {most limit : ℕ} (r : R) (c : C)
     → went c [] c → Reading gave f went most limit r c [] r c 0
 reading_start r c none = record {
   texts = [];
@@ -151,19 +185,22 @@ reading_start r c none = record {
 }
 
 -- a pause
-pub reading_still : {R C : Type 0} {gave : R → List ℕ → R → Type 0} {f : List ℕ → Option LineFault} {went : C → List (List ℕ) → C → Type 0} {most limit : ℕ} {r r' : R} {c d e : C} {n : ℕ} {pending : List ℕ}
+pub reading_still : {R C : Type 0} {gave : R → List ℕ → R → Type 0} {f : List ℕ → Option LineFault} {went : C → List (List ℕ) → C
+    → Type 0} {most limit : ℕ} {r r' : R} {c d e : C} {n : ℕ} {pending : List ℕ}
     → Reading gave f went most limit r c pending r' d n → ((start : C) (texts : List (List ℕ)) → went start texts d → went start texts e)
     → Reading gave f went most limit r c pending r' e n
 reading_still {c = c} p kept = record { texts = p.texts; so_far = p.so_far; took = kept c p.texts p.took; number = p.number }
 
 -- the next piece came, and of its lines the first were taken
-pub record ReadOn {R C : Type 0} (gave : R → List ℕ → R → Type 0) (f : List ℕ → Option LineFault) (went : C → List (List ℕ) → C → Type 0) (most limit : ℕ) (r : R) (c : C) (r' : R) (rest : List ℕ) (e : C) (count : ℕ) : Type 0 where
+pub record ReadOn {R C : Type 0} (gave : R → List ℕ → R → Type 0) (f : List ℕ → Option LineFault) (went : C → List (List ℕ) → C → Type 0)
+    (most limit : ℕ) (r : R) (c : C) (r' : R) (rest : List ℕ) (e : C) (count : ℕ) : Type 0 where
   pub texts : List (List ℕ)
   pub into : ReadIntoWithin gave f most limit r r' texts rest
   pub took : went c texts e
   pub number : count ≡ length texts
 
-pub read_on : {R C : Type 0} {gave : R → List ℕ → R → Type 0} {f : List ℕ → Option LineFault} {went : C → List (List ℕ) → C → Type 0} {most limit : ℕ} {r r' r'' : R} {c d e : C} {n m : ℕ} {pending rest : List ℕ} (more whole : List ℕ)
+pub read_on : {R C : Type 0} {gave : R → List ℕ → R → Type 0} {f : List ℕ → Option LineFault} {went : C → List (List ℕ) → C
+    → Type 0} {most limit : ℕ} {r r' r'' : R} {c d e : C} {n m : ℕ} {pending rest : List ℕ} (more whole : List ℕ)
     → Reading gave f went most limit r c pending r' d n → Came gave r' more r'' → whole ≡ pending ++ more
     → Collected f went most limit d n whole rest e m → ReadOn gave f went most limit r c r'' rest e m
 read_on {f = f} {most = most} {r' = r'} {c = c} {m = m} {pending = pending} {rest = rest} more whole p gives same q =
@@ -184,12 +221,16 @@ read_on {f = f} {most = most} {r' = r'} {c = c} {m = m} {pending = pending} {res
       number = number;
     }
 
-pub reading_on : {R C : Type 0} {gave : R → List ℕ → R → Type 0} {f : List ℕ → Option LineFault} {went : C → List (List ℕ) → C → Type 0} {most limit : ℕ} {r r' r'' : R} {c d e : C} {n m left : ℕ} {pending : List ℕ} (more whole rest : List ℕ)
+pub reading_on : {R C : Type 0} {gave : R → List ℕ → R → Type 0} {f : List ℕ → Option LineFault} {went : C → List (List ℕ) → C
+    → Type 0} {most limit : ℕ} {r r' r'' : R} {c d e : C} {n m left : ℕ} {pending : List ℕ} (more whole rest : List ℕ)
     → Reading gave f went most limit r c pending r' d n → Came gave r' more r'' → whole ≡ pending ++ more
-    → AllCollected f went most limit d n whole left e m → rest ≡ drop (length whole - left) whole → length rest ≤ most → (0 < length rest → m < limit)
+    → AllCollected f went most limit d n whole left e m → rest ≡ drop (length whole - left) whole → length rest ≤ most
+    → (0 < length rest → m < limit)
     → Reading gave f went most limit r c rest r'' e m
-reading_on {f = f} {went = went} {most = most} {limit = limit} {c = c} {d = d} {e = e} {n = n} {m = m} more whole rest p gives same all at_end short room =
-    let q : Collected f went most limit d n whole rest e m = subst (λ l. Collected f went most limit d n whole l e m) (sym at_end) all.collected in
+reading_on {f = f} {went = went} {most = most} {limit = limit} {c = c} {d = d} {e = e} {n = n} {m = m} more whole rest p gives same all
+    at_end short room =
+    let q : Collected f went most limit d n whole rest e m = subst (λ l. Collected f went most limit d n whole l e m)
+    (sym at_end) all.collected in
     let number : m ≡ length (p.texts ++ q.texts) = omega (arith, p.number, q.number, length-append p.texts q.texts) in
     record {
       texts = p.texts ++ q.texts;
@@ -206,12 +247,14 @@ reading_on {f = f} {went = went} {most = most} {limit = limit} {c = c} {d = d} {
       number = number;
     }
 
-progress : (texts : List (List ℕ)) (bytes rest : List ℕ) → bytes ≡ joined_texts texts ++ rest → (0 < length texts) ⊎ (length bytes ≡ length rest)
+progress : (texts : List (List ℕ)) (bytes rest : List ℕ) → bytes ≡ joined_texts texts ++ rest → (0 < length texts) ⊎
+    (length bytes ≡ length rest)
 progress [] bytes rest e = inr (ap length e)
 progress (t ∷ ts) bytes rest e = inl (omega arith)
 
 -- more lines have been taken, or no whole line was there
-pub all_progress : {C : Type 0} {f : List ℕ → Option LineFault} {went : C → List (List ℕ) → C → Type 0} {most limit : ℕ} {c d : C} {n m left : ℕ} {bytes : List ℕ}
+pub all_progress : {C : Type 0} {f : List ℕ → Option LineFault} {went : C → List (List ℕ) → C
+    → Type 0} {most limit : ℕ} {c d : C} {n m left : ℕ} {bytes : List ℕ}
     → AllCollected f went most limit c n bytes left d m → (n < m) ⊎ (left ≡ length bytes)
 all_progress {left = left} {bytes = bytes} p =
     elim (progress p.collected.texts bytes _ p.collected.good.split) [
@@ -222,7 +265,8 @@ all_progress {left = left} {bytes = bytes} p =
 -- ---- ends
 
 -- the fault of a line that began, whatever comes behind it
-pub misread_begun : {C : Type 0} {f : List ℕ → Option LineFault} {went : C → List (List ℕ) → C → Type 0} (stopped : C → List ℕ → C → Type 0) {most limit : ℕ} {c d : C} {n m : ℕ} {bytes rest : List ℕ} (left : ℕ) (e : TraceFault)
+pub misread_begun : {C : Type 0} {f : List ℕ → Option LineFault} {went : C → List (List ℕ) → C → Type 0}
+    (stopped : C → List ℕ → C → Type 0) {most limit : ℕ} {c d : C} {n m : ℕ} {bytes rest : List ℕ} (left : ℕ) (e : TraceFault)
     → Collected f went most limit c n bytes rest d m → HasNoEnd rest → left ≡ length rest → BegunFault m left most limit e
     → Misread f went stopped most limit c n bytes d (Fault e)
 misread_begun stopped {m = m} {rest = rest} left fault.TooManyLines p none same h = (rest, m, p, h.0, omega (arith, same, h.1))
@@ -247,22 +291,35 @@ misread_begun stopped left fault.Write p none same h = absurd h
 misread_begun stopped left fault.OutOfMemory p none same h = absurd h
 
 -- a fault of what was read, told after a pause
-told_after : {R C : Type 0} {gave : R → List ℕ → R → Type 0} {f : List ℕ → Option LineFault} {went : C → List (List ℕ) → C → Type 0} (failed : R → R → Type 0) (stopped : C → List ℕ → C → Type 0) (paused unpaused : C → C → Type 0) {most limit : ℕ} {r r' : R} {c x : C} (c' : C) {rest : List ℕ} {k : ℕ} (e : TraceFault) (stop : Stop)
-    → (on : ReadOn gave f went most limit r c r' rest x k) → ReadStopsWithin gave failed f most limit r r' on.texts e → AfterPause paused unpaused x c' e stop
+told_after : {R C : Type 0} {gave : R → List ℕ → R → Type 0} {f : List ℕ → Option LineFault} {went : C → List (List ℕ) → C → Type 0}
+    (failed : R → R → Type 0) (stopped : C → List ℕ → C → Type 0) (paused unpaused : C → C → Type 0) {most limit : ℕ} {r r' : R} {c x : C}
+    (c' : C) {rest : List ℕ} {k : ℕ} (e : TraceFault) (stop : Stop)
+    → (on : ReadOn gave f went most limit r c r' rest x k) → ReadStopsWithin gave failed f most limit r r' on.texts e
+    → AfterPause paused unpaused x c' e stop
     → ReadsWithin gave failed f went stopped paused unpaused most limit r r' c c' (Err stop)
-told_after {gave = gave} {f = f} failed stopped paused unpaused {most = most} {limit = limit} {r = r} {r' = r'} {x = x} c' e (Fault g) on stops after =
+told_after {gave = gave} {f = f} failed stopped paused unpaused {most = most} {limit = limit} {r = r} {r' = r'} {x = x} c' e
+    (Fault g) on stops after =
     (on.texts, x, subst (ReadStopsWithin gave failed f most limit r r' on.texts) (sym after.0) stops, on.took, after.1)
-told_after failed stopped paused unpaused {x = x} c' {rest = rest} e Halted on stops after = (on.texts, rest, x, on.took, inr (on.into, inl after))
+told_after failed stopped paused unpaused {x = x} c' {rest = rest} e Halted on stops after =
+    (on.texts, rest, x, on.took, inr (on.into, inl after))
 
-line_stops : {R C : Type 0} {gave : R → List ℕ → R → Type 0} (failed : R → R → Type 0) {f : List ℕ → Option LineFault} {went : C → List (List ℕ) → C → Type 0} {most limit : ℕ} {r r' : R} {c x : C} {rest : List ℕ} {k : ℕ} (n : ℕ) (e : LineFault)
-    → (on : ReadOn gave f went most limit r c r' rest x k) → n ≡ k + 1 → k < limit → BeginsFaulty f most rest e → ReadStopsWithin gave failed f most limit r r' on.texts (fault.Line n e)
-line_stops failed {rest = rest} n Unknown on is lt begins = (rest, on.into, omega (arith, is, on.number), omega (arith, lt, on.number), begins)
-line_stops failed {rest = rest} n Field on is lt begins = (rest, on.into, omega (arith, is, on.number), omega (arith, lt, on.number), begins)
-line_stops failed {rest = rest} n TooLong on is lt begins = (rest, on.into, omega (arith, is, on.number), omega (arith, lt, on.number), begins)
+line_stops : {R C : Type 0} {gave : R → List ℕ → R → Type 0} (failed : R → R → Type 0) {f : List ℕ → Option LineFault} {went : C
+    → List (List ℕ) → C → Type 0} {most limit : ℕ} {r r' : R} {c x : C} {rest : List ℕ} {k : ℕ} (n : ℕ) (e : LineFault)
+    → (on : ReadOn gave f went most limit r c r' rest x k) → n ≡ k + 1 → k < limit → BeginsFaulty f most rest e
+    → ReadStopsWithin gave failed f most limit r r' on.texts (fault.Line n e)
+line_stops failed {rest = rest} n Unknown on is lt begins =
+    (rest, on.into, omega (arith, is, on.number), omega (arith, lt, on.number), begins)
+line_stops failed {rest = rest} n Field on is lt begins =
+    (rest, on.into, omega (arith, is, on.number), omega (arith, lt, on.number), begins)
+line_stops failed {rest = rest} n TooLong on is lt begins =
+    (rest, on.into, omega (arith, is, on.number), omega (arith, lt, on.number), begins)
 line_stops failed n NotEnded on is lt begins = absurd begins
 
 -- a fault in the piece that came last, told after a pause
-pub reads_fault : {R C : Type 0} {gave : R → List ℕ → R → Type 0} {f : List ℕ → Option LineFault} {went : C → List (List ℕ) → C → Type 0} (failed : R → R → Type 0) (stopped : C → List ℕ → C → Type 0) (paused unpaused : C → C → Type 0) {most limit : ℕ} {r r' r'' : R} {c d : C} (x c' : C) {n : ℕ} {pending : List ℕ} (more whole : List ℕ) (e : TraceFault) (stop : Stop)
+pub reads_fault : {R C : Type 0} {gave : R → List ℕ → R → Type 0} {f : List ℕ → Option LineFault} {went : C → List (List ℕ) → C → Type 0}
+    (failed : R → R → Type 0) (stopped : C → List ℕ → C → Type 0)
+    (paused unpaused : C → C → Type 0) {most limit : ℕ} {r r' r'' : R} {c d : C} (x c' : C) {n : ℕ} {pending : List ℕ} (more whole : List ℕ)
+    (e : TraceFault) (stop : Stop)
     → Reading gave f went most limit r c pending r' d n → Came gave r' more r'' → whole ≡ pending ++ more
     → Misread f went stopped most limit d n whole x (Fault e) → AfterPause paused unpaused x c' e stop
     → ReadsWithin gave failed f went stopped paused unpaused most limit r r'' c c' (Err stop)
@@ -277,14 +334,19 @@ reads_fault failed stopped paused unpaused x c' more whole fault.Write stop p gi
 reads_fault failed stopped paused unpaused x c' more whole fault.OutOfMemory stop p gives same q after = absurd q
 
 -- the collector stopped at a line
-pub reads_halted : {R C : Type 0} {gave : R → List ℕ → R → Type 0} {f : List ℕ → Option LineFault} {went : C → List (List ℕ) → C → Type 0} (failed : R → R → Type 0) (stopped : C → List ℕ → C → Type 0) (paused unpaused : C → C → Type 0) {most limit : ℕ} {r r' r'' : R} {c d : C} (x : C) {n : ℕ} {pending : List ℕ} (more whole : List ℕ)
+pub reads_halted : {R C : Type 0} {gave : R → List ℕ → R → Type 0} {f : List ℕ → Option LineFault} {went : C → List (List ℕ) → C → Type 0}
+    (failed : R → R → Type 0) (stopped : C → List ℕ → C → Type 0)
+    (paused unpaused : C → C → Type 0) {most limit : ℕ} {r r' r'' : R} {c d : C} (x : C) {n : ℕ} {pending : List ℕ} (more whole : List ℕ)
     → Reading gave f went most limit r c pending r' d n → Came gave r' more r'' → whole ≡ pending ++ more
-    → Misread f went stopped most limit d n whole x Halted → ReadsWithin gave failed f went stopped paused unpaused most limit r r'' c x (Err Halted)
+    → Misread f went stopped most limit d n whole x Halted → ReadsWithin gave failed f went stopped paused unpaused most limit r r'' c x
+    (Err Halted)
 reads_halted {gave = gave} failed stopped paused unpaused {r = r} x more whole p gives same q =
     let on = read_on {gave = gave} {r = r} more whole p gives same q.3 in
     (on.texts, q.0, q.2, on.took, inr (on.into, inr (omega (arith, q.4, on.number), q.5)))
 
-pub reads_unpaused : {R C : Type 0} {gave : R → List ℕ → R → Type 0} {f : List ℕ → Option LineFault} {went : C → List (List ℕ) → C → Type 0} (failed : R → R → Type 0) (stopped : C → List ℕ → C → Type 0) (paused unpaused : C → C → Type 0) {most limit : ℕ} {r r' : R} {c d : C} (c' : C) {n : ℕ} {pending : List ℕ}
+pub reads_unpaused : {R C : Type 0} {gave : R → List ℕ → R → Type 0} {f : List ℕ → Option LineFault} {went : C → List (List ℕ) → C → Type 0}
+    (failed : R → R → Type 0) (stopped : C → List ℕ → C → Type 0) (paused unpaused : C → C → Type 0) {most limit : ℕ} {r r' : R} {c d : C}
+    (c' : C) {n : ℕ} {pending : List ℕ}
     → Reading gave f went most limit r c pending r' d n → unpaused d c'
     → ReadsWithin gave failed f went stopped paused unpaused most limit r r' c c' (Err Halted)
 reads_unpaused failed stopped paused unpaused {d = d} c' {pending = pending} p stop = (p.texts, pending, d, p.took, inl (p.so_far, stop))

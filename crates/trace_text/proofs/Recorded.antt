@@ -79,7 +79,8 @@ recorded_back pair fit =
     let text = line_text pair.line in
     let reply = told_text pair.answer in
     let whole = text ++ (codes " -> " ++ reply) in
-    let front : line_of (take (length text) whole) ≡ Ok pair.line = ap line_of (take-append_seam text (codes " -> " ++ reply)) ∙ line_back pair.line fit.0 in
+    let front : line_of (take (length text) whole) ≡ Ok pair.line = ap line_of (take-append_seam text (codes " -> " ++ reply))
+    ∙ line_back pair.line fit.0 in
     let back : drop (length text + 4) whole ≡ reply = drop-append-add text (codes " -> " ++ reply) 4 in
     ap (pair_cut whole) (arrow_behind_line text reply (dashless_line pair.line fit.0))
     ∙ ap (λ o. pair_from o (drop (length text + 4) whole)) front

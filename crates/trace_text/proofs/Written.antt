@@ -1,5 +1,6 @@
 -- A line is the text that it has, and no other text.
-use Rattle.std.proofs.Common.{◌≡◌, ℕ, zero, suc, ◌&&◌, ◌+◌, ◌-◌, ◌*◌, ◌/◌, ◌%◌, ◌<◌, ◌≤◌, Bool, true, false, Option, Some, None, Ok, List, [], ◌∷◌, ◌++◌, refl, sym, ◌∙◌, ap, subst, arith, decimal, lit<}
+use Rattle.std.proofs.Common.{◌≡◌, ℕ, zero, suc, ◌&&◌, ◌+◌, ◌-◌, ◌*◌, ◌/◌, ◌%◌, ◌<◌, ◌≤◌, Bool, true, false, Option, Some, None, Ok, List}
+use Rattle.std.proofs.Common.{[], ◌∷◌, ◌++◌, refl, sym, ◌∙◌, ap, subst, arith, decimal, lit<}
 use Rattle.std.specs.Prelude.{cond, codes, nat_le, nat_lt, ◌==◌}
 use Rattle.std.specs.Option.{option_map}
 use Rattle.std.specs.List.{AllByRecursion}
@@ -10,8 +11,11 @@ use Rattle.flat_model.specs.declared.Word.{Word}
 use Rattle.flat_model.specs.declared.Lanes.{Lanes}
 use Rattle.flat_model.specs.declared.Event.TheVariants.{Load, Store, Prefetch, Evict, Drain, Serve, Arrive, Process, Take}
 use Rattle.flat_model.specs.Words.{has, Lane0, Lane1, Lane2, Lane3}
-use Rattle.trace_text.specs.Fields.{is_digit, number_of, bit_of, bit_text, lanes_from, lanes_of, lanes_text, nibble_of, hex_digit, byte_from, byte_of, byte_text, word_from, word_of, word_text}
-use Rattle.trace_text.specs.Lines.{cut_of, same, name_of, command_named, number_in, one_number, bare, load_line, load_from, load_of, store_line, store_behind, store_from, store_of, arrive_line, arrive_from, arrive_of, line_from, or_field, said_by, line_of}
+use Rattle.trace_text.specs.Fields.{is_digit, number_of, bit_of, bit_text, lanes_from, lanes_of, lanes_text, nibble_of, hex_digit}
+use Rattle.trace_text.specs.Fields.{byte_from, byte_of, byte_text, word_from, word_of, word_text}
+use Rattle.trace_text.specs.Lines.{cut_of, same, name_of, command_named, number_in, one_number, bare, load_line, load_from, load_of}
+use Rattle.trace_text.specs.Lines.{store_line, store_behind, store_from, store_of, arrive_line, arrive_from, arrive_of, line_from, or_field}
+use Rattle.trace_text.specs.Lines.{said_by, line_of}
 use Rattle.trace_text.specs.Written.{line_text, IsNumber, IsTag, IsWord, IsFit}
 use Rattle.trace_text.specs.declared.fields.TheConstants.{MAX_NUMBER, MAX_TAG}
 use Rattle.trace_text.specs.declared.lines.Command.{Command}
@@ -30,7 +34,8 @@ low_digit n lt = let test : nat_lt n 10 ≡ true = grind (arith, nat_tests) in a
 high_digit : (n : ℕ) → 10 ≤ n → hex_digit n ≡ 87 + n
 high_digit n le = let test : nat_lt n 10 ≡ false = grind (arith, nat_tests) in ap (λ t. cond t (48 + n) (87 + n)) test
 
-nibble_cases : (b n : ℕ) (t u : Bool) → is_digit b ≡ t → (nat_le 97 b && nat_lt b 103) ≡ u → cond t (Some (b - 48)) (cond u (Some (b - 87)) None) ≡ Some n → (b ≡ hex_digit n) × (n < 16)
+nibble_cases : (b n : ℕ) (t u : Bool) → is_digit b ≡ t → (nat_le 97 b && nat_lt b 103) ≡ u
+    → cond t (Some (b - 48)) (cond u (Some (b - 87)) None) ≡ Some n → (b ≡ hex_digit n) × (n < 16)
 nibble_cases b n true u et eu e =
     let range = and_parts (nat_le 48 b) (nat_lt b 58) et in
     let low = leb-true 48 b range.0 in
@@ -52,21 +57,25 @@ nibble_cases b n false false et eu e = cc
 nibble_is : (b n : ℕ) → nibble_of b ≡ Some n → (b ≡ hex_digit n) × (n < 16)
 nibble_is b n e = nibble_cases b n (is_digit b) (nat_le 97 b && nat_lt b 103) refl refl e
 
-byte_join : (high low n : ℕ) (o p : Option ℕ) → nibble_of high ≡ o → nibble_of low ≡ p → byte_from o p ≡ Some n → (high ∷ low ∷ [] ≡ byte_text n) × (n < 256)
+byte_join : (high low n : ℕ) (o p : Option ℕ) → nibble_of high ≡ o → nibble_of low ≡ p → byte_from o p ≡ Some n
+    → (high ∷ low ∷ [] ≡ byte_text n) × (n < 256)
 byte_join high low n (Some h) (Some l) eh el e =
     let first = nibble_is high h eh in
     let second = nibble_is low l el in
     let sum : h * 16 + l ≡ n = cc in
     let front : h ≡ n / 16 = omega (arith, sum, second.1) in
-    let back : l ≡ n % 16 = omega (arith, sum, second.1) in
-    (ap (λ x. x ∷ low ∷ []) (first.0 ∙ ap hex_digit front) ∙ ap (λ x. hex_digit (n / 16) ∷ x ∷ []) (second.0 ∙ ap hex_digit back), omega (arith, sum, first.1, second.1))
+    let back : l ≡ n % 16 = omega (arith, sum, second.1) in (
+      ap (λ x. x ∷ low ∷ []) (first.0 ∙ ap hex_digit front) ∙ ap (λ x. hex_digit (n / 16) ∷ x ∷ []) (second.0 ∙ ap hex_digit back),
+      omega (arith, sum, first.1, second.1),
+    )
 byte_join high low n (Some h) None eh el e = cc
 byte_join high low n None p eh el e = cc
 
 byte_is : (high low n : ℕ) → byte_of high low ≡ Some n → (high ∷ low ∷ [] ≡ byte_text n) × (n < 256)
 byte_is high low n e = byte_join high low n (nibble_of high) (nibble_of low) refl refl e
 
-word_join : (a b c d e f g h : ℕ) (w : Word) (p q r s : Option ℕ) → byte_of a b ≡ p → byte_of c d ≡ q → byte_of e f ≡ r → byte_of g h ≡ s → word_from p q r s ≡ Some w
+word_join : (a b c d e f g h : ℕ) (w : Word) (p q r s : Option ℕ) → byte_of a b ≡ p → byte_of c d ≡ q → byte_of e f ≡ r → byte_of g h ≡ s
+    → word_from p q r s ≡ Some w
     → (a ∷ b ∷ c ∷ d ∷ e ∷ f ∷ g ∷ h ∷ [] ≡ word_text w) × IsWord w
 word_join a b c d e f g h w (Some p) (Some q) (Some r) (Some s) ep eq er es all =
     let first = byte_is a b p ep in
@@ -87,7 +96,8 @@ word_join a b c d e f g h w (Some p) None r s ep eq er es all = cc
 word_join a b c d e f g h w None q r s ep eq er es all = cc
 
 pub word_is : (text : List ℕ) (w : Word) → word_of text ≡ Some w → (text ≡ word_text w) × IsWord w
-word_is (a ∷ b ∷ c ∷ d ∷ e ∷ f ∷ g ∷ h ∷ []) w all = word_join a b c d e f g h w (byte_of a b) (byte_of c d) (byte_of e f) (byte_of g h) refl refl refl refl all
+word_is (a ∷ b ∷ c ∷ d ∷ e ∷ f ∷ g ∷ h ∷ []) w all = word_join a b c d e f g h w (byte_of a b) (byte_of c d) (byte_of e f)
+    (byte_of g h) refl refl refl refl all
 word_is (a ∷ b ∷ c ∷ d ∷ e ∷ f ∷ g ∷ h ∷ i ∷ rest) w all = cc
 word_is (a ∷ b ∷ c ∷ d ∷ e ∷ f ∷ g ∷ []) w all = cc
 word_is (a ∷ b ∷ c ∷ d ∷ e ∷ f ∷ []) w all = cc
@@ -141,7 +151,8 @@ mask_digits a (suc (suc b)) c d la lb lc ld = absurd (omega (arith, lb))
 mask_digits a b (suc (suc c)) d la lb lc ld = absurd (omega (arith, lc))
 mask_digits a b c (suc (suc d)) la lb lc ld = absurd (omega (arith, ld))
 
-mask_join : (a b c d : ℕ) (m : Lanes) (p q r s : Option ℕ) → bit_of a ≡ p → bit_of b ≡ q → bit_of c ≡ r → bit_of d ≡ s → lanes_from p q r s ≡ Some m
+mask_join : (a b c d : ℕ) (m : Lanes) (p q r s : Option ℕ) → bit_of a ≡ p → bit_of b ≡ q → bit_of c ≡ r → bit_of d ≡ s
+    → lanes_from p q r s ≡ Some m
     → (a ∷ b ∷ c ∷ d ∷ [] ≡ lanes_text m) × (m.0 < 16)
 mask_join a b c d m (Some p) (Some q) (Some r) (Some s) ep eq er es all =
     let first = below_two a p (bit_is a p ep) in
@@ -180,7 +191,8 @@ number_is n text e = number_read MAX_NUMBER n text (lit< tt) e
 pub tag_is : (n : ℕ) (text : List ℕ) → number_of MAX_TAG text ≡ Some n → (text ≡ decimal n) × IsTag n
 tag_is n text e = number_read MAX_TAG n text (lit< tt) e
 
-load_join : (t a : List ℕ) (o p : Option ℕ) (l : Line) → number_of MAX_TAG t ≡ o → number_in a ≡ p → load_line o p ≡ Some l → IsRead (codes "load") (Some (t ++ 32 ∷ a)) l
+load_join : (t a : List ℕ) (o p : Option ℕ) (l : Line) → number_of MAX_TAG t ≡ o → number_in a ≡ p → load_line o p ≡ Some l
+    → IsRead (codes "load") (Some (t ++ 32 ∷ a)) l
 load_join t a (Some tag) (Some at) l eo ep e =
     let first = tag_is tag t eo in
     let second = number_is at a ep in
@@ -191,15 +203,18 @@ load_join t a (Some tag) (Some at) l eo ep e =
 load_join t a (Some tag) None l eo ep e = cc
 load_join t a None p l eo ep e = cc
 
-load_cut : (f : List ℕ) (p : List ℕ × Option (List ℕ)) (l : Line) → f ≡ whole p.0 p.1 → load_from p ≡ Some l → IsRead (codes "load") (Some f) l
+load_cut : (f : List ℕ) (p : List ℕ × Option (List ℕ)) (l : Line) → f ≡ whole p.0 p.1 → load_from p ≡ Some l
+    → IsRead (codes "load") (Some f) l
 load_cut f (t, None) l is e = cc
-load_cut f (t, Some a) l is e = subst (λ x. IsRead (codes "load") (Some x) l) (sym is) (load_join t a (number_of MAX_TAG t) (number_in a) l refl refl e)
+load_cut f (t, Some a) l is e = subst (λ x. IsRead (codes "load") (Some x) l) (sym is)
+    (load_join t a (number_of MAX_TAG t) (number_in a) l refl refl e)
 
 load_is : (fields : Option (List ℕ)) (l : Line) → load_of fields ≡ Some l → IsRead (codes "load") fields l
 load_is None l e = cc
 load_is (Some f) l e = load_cut f (cut_of f) l (cut_is f) e
 
-arrive_join : (t a : List ℕ) (o p : Option ℕ) (l : Line) → number_in t ≡ o → number_in a ≡ p → arrive_line o p ≡ Some l → IsRead (codes "arrive") (Some (t ++ 32 ∷ a)) l
+arrive_join : (t a : List ℕ) (o p : Option ℕ) (l : Line) → number_in t ≡ o → number_in a ≡ p → arrive_line o p ≡ Some l
+    → IsRead (codes "arrive") (Some (t ++ 32 ∷ a)) l
 arrive_join t a (Some bank) (Some place) l eo ep e =
     let first = number_is bank t eo in
     let second = number_is place a ep in
@@ -210,15 +225,18 @@ arrive_join t a (Some bank) (Some place) l eo ep e =
 arrive_join t a (Some bank) None l eo ep e = cc
 arrive_join t a None p l eo ep e = cc
 
-arrive_cut : (f : List ℕ) (p : List ℕ × Option (List ℕ)) (l : Line) → f ≡ whole p.0 p.1 → arrive_from p ≡ Some l → IsRead (codes "arrive") (Some f) l
+arrive_cut : (f : List ℕ) (p : List ℕ × Option (List ℕ)) (l : Line) → f ≡ whole p.0 p.1 → arrive_from p ≡ Some l
+    → IsRead (codes "arrive") (Some f) l
 arrive_cut f (t, None) l is e = cc
-arrive_cut f (t, Some a) l is e = subst (λ x. IsRead (codes "arrive") (Some x) l) (sym is) (arrive_join t a (number_in t) (number_in a) l refl refl e)
+arrive_cut f (t, Some a) l is e = subst (λ x. IsRead (codes "arrive") (Some x) l) (sym is)
+    (arrive_join t a (number_in t) (number_in a) l refl refl e)
 
 arrive_is : (fields : Option (List ℕ)) (l : Line) → arrive_of fields ≡ Some l → IsRead (codes "arrive") fields l
 arrive_is None l e = cc
 arrive_is (Some f) l e = arrive_cut f (cut_of f) l (cut_is f) e
 
-store_join : (t m w : List ℕ) (o : Option ℕ) (p : Option Lanes) (q : Option Word) (l : Line) → number_in t ≡ o → lanes_of m ≡ p → word_of w ≡ q → store_line o p q ≡ Some l
+store_join : (t m w : List ℕ) (o : Option ℕ) (p : Option Lanes) (q : Option Word) (l : Line) → number_in t ≡ o → lanes_of m ≡ p
+    → word_of w ≡ q → store_line o p q ≡ Some l
     → IsRead (codes "store") (Some (t ++ 32 ∷ (m ++ 32 ∷ w))) l
 store_join t m w (Some at) (Some lanes) (Some word) l eo ep eq e =
     let first = number_is at t eo in
@@ -234,11 +252,14 @@ store_join t m w (Some at) (Some lanes) None l eo ep eq e = cc
 store_join t m w (Some at) None q l eo ep eq e = cc
 store_join t m w None p q l eo ep eq e = cc
 
-store_cut_two : (t f : List ℕ) (p : List ℕ × Option (List ℕ)) (l : Line) → f ≡ whole p.0 p.1 → store_behind t p ≡ Some l → IsRead (codes "store") (Some (t ++ 32 ∷ f)) l
+store_cut_two : (t f : List ℕ) (p : List ℕ × Option (List ℕ)) (l : Line) → f ≡ whole p.0 p.1 → store_behind t p ≡ Some l
+    → IsRead (codes "store") (Some (t ++ 32 ∷ f)) l
 store_cut_two t f (m, None) l is e = cc
-store_cut_two t f (m, Some w) l is e = subst (λ x. IsRead (codes "store") (Some (t ++ 32 ∷ x)) l) (sym is) (store_join t m w (number_in t) (lanes_of m) (word_of w) l refl refl refl e)
+store_cut_two t f (m, Some w) l is e = subst (λ x. IsRead (codes "store") (Some (t ++ 32 ∷ x)) l) (sym is)
+    (store_join t m w (number_in t) (lanes_of m) (word_of w) l refl refl refl e)
 
-store_cut : (f : List ℕ) (p : List ℕ × Option (List ℕ)) (l : Line) → f ≡ whole p.0 p.1 → store_from p ≡ Some l → IsRead (codes "store") (Some f) l
+store_cut : (f : List ℕ) (p : List ℕ × Option (List ℕ)) (l : Line) → f ≡ whole p.0 p.1 → store_from p ≡ Some l
+    → IsRead (codes "store") (Some f) l
 store_cut f (t, None) l is e = cc
 store_cut f (t, Some r) l is e = subst (λ x. IsRead (codes "store") (Some x) l) (sym is) (store_cut_two t r (cut_of r) l (cut_is r) e)
 
@@ -247,7 +268,8 @@ store_is None l e = cc
 store_is (Some f) l e = store_cut f (cut_of f) l (cut_is f) e
 
 -- one number
-one_join : (make : ℕ → Line) (f : List ℕ) (o : Option ℕ) (l : Line) → number_in f ≡ o → option_map make o ≡ Some l → (n : ℕ) × (make n ≡ l) × IsNumber n × (f ≡ decimal n)
+one_join : (make : ℕ → Line) (f : List ℕ) (o : Option ℕ) (l : Line) → number_in f ≡ o → option_map make o ≡ Some l → (n : ℕ) ×
+    (make n ≡ l) × IsNumber n × (f ≡ decimal n)
 one_join make f (Some n) l eo e = let is : make n ≡ l = cc in (n, is, (number_is n f eo).1, (number_is n f eo).0)
 one_join make f None l eo e = cc
 
@@ -258,7 +280,8 @@ one_is make name (Some f) l shape e =
     let one = one_join make f (number_in f) l refl e in
     subst (IsRead name (Some f)) one.1 (subst (λ x. IsRead name (Some x) (make one.0)) (sym one.3) (shape one.0 one.2))
 
-bare_is : (said : Line) (name : List ℕ) (fields : Option (List ℕ)) (l : Line) → IsRead name None said → bare said fields ≡ Some l → IsRead name fields l
+bare_is : (said : Line) (name : List ℕ) (fields : Option (List ℕ)) (l : Line) → IsRead name None said → bare said fields ≡ Some l
+    → IsRead name fields l
 bare_is said name None l shape e = let is : said ≡ l = cc in subst (IsRead name None) is shape
 bare_is said name (Some f) l shape e = cc
 
@@ -282,7 +305,8 @@ fields_are command.Settled fields l e = bare_is line.Settled (codes "settled") f
 pub same_is : (xs ys : List ℕ) → same xs ys ≡ true → xs ≡ ys
 same_is xs ys e = (bytes_decides xs ys).0 e
 
-pub chosen : {X : Type 0} (P : X → Type 0) (b : Bool) (x y : X) (o : Option X) → (b ≡ true → P x) → (o ≡ Some y → P y) → cond b (Some x) o ≡ Some y → P y
+pub chosen : {X : Type 0} (P : X → Type 0) (b : Bool) (x y : X) (o : Option X) → (b ≡ true → P x) → (o ≡ Some y → P y)
+    → cond b (Some x) o ≡ Some y → P y
 chosen P true x y o here further e = let is : x ≡ y = cc in subst P is (here refl)
 chosen P false x y o here further e = further e
 
@@ -306,13 +330,15 @@ named name c e =
 
 -- ---- the line
 
-made_from : (name : List ℕ) (fields : Option (List ℕ)) (c : Command) (o : Option Line) (l : Line) → name ≡ name_of c → line_from c fields ≡ o → or_field o ≡ Ok l → IsRead name fields l
+made_from : (name : List ℕ) (fields : Option (List ℕ)) (c : Command) (o : Option Line) (l : Line) → name ≡ name_of c
+    → line_from c fields ≡ o → or_field o ≡ Ok l → IsRead name fields l
 made_from name fields c None l is made e = cc
 made_from name fields c (Some k) l is made e =
     let same_line : k ≡ l = cc in
     subst (λ x. IsRead x fields l) (sym is) (subst (IsRead (name_of c) fields) same_line (fields_are c fields k made))
 
-made_by : (name : List ℕ) (fields : Option (List ℕ)) (o : Option Command) (l : Line) → command_named name ≡ o → said_by o fields ≡ Ok l → IsRead name fields l
+made_by : (name : List ℕ) (fields : Option (List ℕ)) (o : Option Command) (l : Line) → command_named name ≡ o → said_by o fields ≡ Ok l
+    → IsRead name fields l
 made_by name fields None l is e = cc
 made_by name fields (Some c) l is e = made_from name fields c (line_from c fields) l (named name c is) refl e
 
@@ -350,8 +376,22 @@ hex_high n = hex_test n (nat_lt n 10)
 
 pub word_high : (w : Word) → High (word_text w)
 word_high w =
-    let h = λ (n : ℕ). hex_high n in
-    (h (w.b0 / 16), (h (w.b0 % 16), (h (w.b1 / 16), (h (w.b1 % 16), (h (w.b2 / 16), (h (w.b2 % 16), (h (w.b3 / 16), (h (w.b3 % 16), tt))))))))
+    let h = λ (n : ℕ). hex_high n in (
+      h (w.b0 / 16),
+      (
+        h (w.b0 % 16),
+        (
+          h (w.b1 / 16),
+          (
+            h (w.b1 % 16),
+            (
+              h (w.b2 / 16),
+              (h (w.b2 % 16), (h (w.b3 / 16), (h (w.b3 % 16), tt))),
+            ),
+          ),
+        ),
+      ),
+    )
 
 bit_high : (b : Bool) → 48 ≤ bit_text b
 bit_high true = omega arith
@@ -388,13 +428,15 @@ load_back tag at ft fa =
     ∙ ap (λ o. load_line o (number_in (decimal at))) (tag_back tag ft)
     ∙ ap (load_line (Some tag)) (number_back at fa)
 
-arrive_back : (bank place : ℕ) → IsNumber bank → IsNumber place → arrive_of (Some (decimal bank ++ 32 ∷ decimal place)) ≡ Some (line.Event (Arrive bank place))
+arrive_back : (bank place : ℕ) → IsNumber bank → IsNumber place → arrive_of (Some (decimal bank ++ 32 ∷ decimal place))
+    ≡ Some (line.Event (Arrive bank place))
 arrive_back bank place fb fp =
     ap arrive_from (cut_front (decimal bank) (decimal place) (number_spaceless bank fb))
     ∙ ap (λ o. arrive_line o (number_in (decimal place))) (number_back bank fb)
     ∙ ap (arrive_line (Some bank)) (number_back place fp)
 
-store_back : (at : ℕ) (w : Word) (m : Lanes) → IsNumber at → IsWord w → m.0 < 16 → store_of (Some (decimal at ++ 32 ∷ (lanes_text m ++ 32 ∷ word_text w))) ≡ Some (line.Event (Store at w m))
+store_back : (at : ℕ) (w : Word) (m : Lanes) → IsNumber at → IsWord w → m.0 < 16
+    → store_of (Some (decimal at ++ 32 ∷ (lanes_text m ++ 32 ∷ word_text w))) ≡ Some (line.Event (Store at w m))
 store_back at w m fa fw fm =
     ap store_from (cut_front (decimal at) (lanes_text m ++ 32 ∷ word_text w) (number_spaceless at fa))
     ∙ ap (store_behind (decimal at)) (cut_front (lanes_text m) (word_text w) (mask_spaceless m))
@@ -404,15 +446,25 @@ store_back at w m fa fw fm =
 
 pub line_back : (l : Line) → IsFit l → line_of (line_text l) ≡ Ok l
 unfolding command_named line_from
-line_back (line.Event (Load tag at)) fit = step (codes "load") (decimal tag ++ 32 ∷ decimal at) refl ∙ ap or_field (load_back tag at fit.0 fit.1)
-line_back (line.Event (Store at word lanes)) fit = step (codes "store") (decimal at ++ 32 ∷ (lanes_text lanes ++ 32 ∷ word_text word)) refl ∙ ap or_field (store_back at word lanes fit.0 fit.1 fit.2)
-line_back (line.Event (Prefetch at)) fit = step (codes "prefetch") (decimal at) refl ∙ ap (λ o. or_field (option_map (λ n. line.Event (Prefetch n)) o)) (number_back at fit)
-line_back (line.Event (Evict block)) fit = step (codes "evict") (decimal block) refl ∙ ap (λ o. or_field (option_map (λ n. line.Event (Evict n)) o)) (number_back block fit)
+line_back (line.Event (Load tag at)) fit = step (codes "load") (decimal tag ++ 32 ∷ decimal at) refl
+    ∙ ap or_field (load_back tag at fit.0 fit.1)
+line_back (line.Event (Store at word lanes)) fit = step (codes "store") (decimal at ++ 32 ∷ (lanes_text lanes ++ 32 ∷ word_text word)) refl
+    ∙ ap or_field (store_back at word lanes fit.0 fit.1 fit.2)
+line_back (line.Event (Prefetch at)) fit = step (codes "prefetch") (decimal at) refl
+    ∙ ap (λ o. or_field (option_map (λ n. line.Event (Prefetch n)) o)) (number_back at fit)
+line_back (line.Event (Evict block)) fit = step (codes "evict") (decimal block) refl
+    ∙ ap (λ o. or_field (option_map (λ n. line.Event (Evict n)) o)) (number_back block fit)
 line_back (line.Event Drain) fit = bare_step (codes "drain") refl
-line_back (line.Event (Serve bank)) fit = step (codes "serve") (decimal bank) refl ∙ ap (λ o. or_field (option_map (λ n. line.Event (Serve n)) o)) (number_back bank fit)
-line_back (line.Event (Arrive bank place)) fit = step (codes "arrive") (decimal bank ++ 32 ∷ decimal place) refl ∙ ap or_field (arrive_back bank place fit.0 fit.1)
-line_back (line.Event (Process place)) fit = step (codes "process") (decimal place) refl ∙ ap (λ o. or_field (option_map (λ n. line.Event (Process n)) o)) (number_back place fit)
-line_back (line.Event (Take place)) fit = step (codes "take") (decimal place) refl ∙ ap (λ o. or_field (option_map (λ n. line.Event (Take n)) o)) (number_back place fit)
-line_back (line.Register slot) fit = step (codes "reg") (decimal slot) refl ∙ ap (λ o. or_field (option_map (λ n. line.Register n) o)) (number_back slot fit)
-line_back (line.Bank at) fit = step (codes "bank") (decimal at) refl ∙ ap (λ o. or_field (option_map (λ n. line.Bank n) o)) (number_back at fit)
+line_back (line.Event (Serve bank)) fit = step (codes "serve") (decimal bank) refl
+    ∙ ap (λ o. or_field (option_map (λ n. line.Event (Serve n)) o)) (number_back bank fit)
+line_back (line.Event (Arrive bank place)) fit = step (codes "arrive") (decimal bank ++ 32 ∷ decimal place) refl
+    ∙ ap or_field (arrive_back bank place fit.0 fit.1)
+line_back (line.Event (Process place)) fit = step (codes "process") (decimal place) refl
+    ∙ ap (λ o. or_field (option_map (λ n. line.Event (Process n)) o)) (number_back place fit)
+line_back (line.Event (Take place)) fit = step (codes "take") (decimal place) refl
+    ∙ ap (λ o. or_field (option_map (λ n. line.Event (Take n)) o)) (number_back place fit)
+line_back (line.Register slot) fit = step (codes "reg") (decimal slot) refl ∙ ap (λ o. or_field (option_map (λ n. line.Register n) o))
+    (number_back slot fit)
+line_back (line.Bank at) fit = step (codes "bank") (decimal at) refl ∙ ap (λ o. or_field (option_map (λ n. line.Bank n) o))
+    (number_back at fit)
 line_back line.Settled fit = bare_step (codes "settled") refl

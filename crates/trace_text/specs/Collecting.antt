@@ -20,10 +20,16 @@ Misses stopped found c text c' miss.Halted = (found ≡ None) × stopped c text 
 
 -- How a reading by a collector ends: it took the lines that were read, and then made a pause; or it stopped, at a pause
 -- or at a line.
-abbrev pub ReadsWithin : {R C : Type 0} (gave : R → List ℕ → R → Type 0) (failed : R → R → Type 0) (fault_in : List ℕ → Option LineFault) (went : C → List (List ℕ) → C → Type 0) (stopped : C → List ℕ → C → Type 0) (paused unpaused : C → C → Type 0) (most limit : ℕ) (r r' : R) (c c' : C) → Result (Unit {0}) Stop → Type 0
-ReadsWithin {R} {C} gave failed fault_in went stopped paused unpaused most limit r r' c c' (Ok done) = (texts : List (List ℕ)) × (v : C) × ReadWholeWithin gave fault_in most limit r r' texts × went c texts v × paused v c'
-ReadsWithin {R} {C} gave failed fault_in went stopped paused unpaused most limit r r' c c' (Err (Fault e)) = (texts : List (List ℕ)) × (v : C) × ReadStopsWithin gave failed fault_in most limit r r' texts e × went c texts v × paused v c'
-ReadsWithin {R} {C} gave failed fault_in went stopped paused unpaused most limit r r' c c' (Err Halted) = (texts : List (List ℕ)) × (rest : List ℕ) × (v : C) × went c texts v × ((ReadSoFarWithin gave fault_in most limit r r' texts rest × unpaused v c') ⊎ (ReadIntoWithin gave fault_in most limit r r' texts rest × (unpaused v c' ⊎ ((length texts < limit) × FirstLine fault_in most (λ text. stopped v text c') rest))))
+abbrev pub ReadsWithin : {R C : Type 0} (gave : R → List ℕ → R → Type 0) (failed : R → R → Type 0) (fault_in : List ℕ → Option LineFault)
+    (went : C → List (List ℕ) → C → Type 0) (stopped : C → List ℕ → C → Type 0) (paused unpaused : C → C → Type 0) (most limit : ℕ)
+    (r r' : R) (c c' : C) → Result (Unit {0}) Stop → Type 0
+ReadsWithin {R} {C} gave failed fault_in went stopped paused unpaused most limit r r' c c' (Ok done) = (texts : List (List ℕ)) × (v : C) ×
+    ReadWholeWithin gave fault_in most limit r r' texts × went c texts v × paused v c'
+ReadsWithin {R} {C} gave failed fault_in went stopped paused unpaused most limit r r' c c' (Err (Fault e)) = (texts : List (List ℕ)) ×
+    (v : C) × ReadStopsWithin gave failed fault_in most limit r r' texts e × went c texts v × paused v c'
+ReadsWithin {R} {C} gave failed fault_in went stopped paused unpaused most limit r r' c c' (Err Halted) = (texts : List (List ℕ)) ×
+    (rest : List ℕ) × (v : C) × went c texts v ×
+    ((ReadSoFarWithin gave fault_in most limit r r' texts rest × unpaused v c') ⊎ (ReadIntoWithin gave fault_in most limit r r' texts rest × (unpaused v c' ⊎ ((length texts < limit) × FirstLine fault_in most (λ text. stopped v text c') rest))))
 
 -- the same of a text with as many lines as a trace may have
 abbrev pub Reads : {R C : Type 0} (gave : R → List ℕ → R → Type 0) (failed : R → R → Type 0) (fault_in : List ℕ → Option LineFault)
@@ -35,7 +41,8 @@ Reads gave failed fault_in went stopped paused unpaused most r r' c c' end =
 -- ---- in the middle of a reading
 
 -- Of these bytes the first lines were taken, and the rest is to come. `before` lines went before these bytes.
-pub record Collected {C : Type 0} (fault_in : List ℕ → Option LineFault) (went : C → List (List ℕ) → C → Type 0) (most limit : ℕ) (c : C) (before : ℕ) (bytes rest : List ℕ) (c' : C) (count : ℕ) : Type 0 where
+pub record Collected {C : Type 0} (fault_in : List ℕ → Option LineFault) (went : C → List (List ℕ) → C → Type 0) (most limit : ℕ) (c : C)
+    (before : ℕ) (bytes rest : List ℕ) (c' : C) (count : ℕ) : Type 0 where
   pub texts : List (List ℕ)
   pub good : Good fault_in most bytes texts rest
   pub number : count ≡ before + length texts
@@ -43,22 +50,29 @@ pub record Collected {C : Type 0} (fault_in : List ℕ → Option LineFault) (we
   pub kept : (start : C) (front : List (List ℕ)) → length front ≡ before → went start front c → went start (front ++ texts) c'
 
 -- All whole lines of these bytes were taken, and `left` bytes are the start of another.
-pub record AllCollected {C : Type 0} (fault_in : List ℕ → Option LineFault) (went : C → List (List ℕ) → C → Type 0) (most limit : ℕ) (c : C) (before : ℕ) (bytes : List ℕ) (left : ℕ) (c' : C) (count : ℕ) : Type 0 where
+pub record AllCollected {C : Type 0} (fault_in : List ℕ → Option LineFault) (went : C → List (List ℕ) → C → Type 0) (most limit : ℕ) (c : C)
+    (before : ℕ) (bytes : List ℕ) (left : ℕ) (c' : C) (count : ℕ) : Type 0 where
   pub enough : left ≤ length bytes
   pub collected : Collected fault_in went most limit c before bytes (drop (length bytes - left) bytes) c' count
   pub unfinished : HasNoEnd (drop (length bytes - left) bytes)
 
 -- Of these bytes some lines were taken, and at the next one the reading stops.
-abbrev pub Misread : {C : Type 0} (fault_in : List ℕ → Option LineFault) (went : C → List (List ℕ) → C → Type 0) (stopped : C → List ℕ → C → Type 0) (most limit : ℕ) (c : C) (before : ℕ) (bytes : List ℕ) (c' : C) → Stop → Type 0
-Misread fault_in went stopped most limit c before bytes c' (Fault (fault.Line n f)) = (rest : List ℕ) × (count : ℕ) × Collected fault_in went most limit c before bytes rest c' count × (n ≡ count + 1) × (count < limit) × BeginsFaulty fault_in most rest f
-Misread fault_in went stopped most limit c before bytes c' (Fault fault.TooManyLines) = (rest : List ℕ) × (count : ℕ) × Collected fault_in went most limit c before bytes rest c' count × (count ≡ limit) × (0 < length rest)
+abbrev pub Misread : {C : Type 0} (fault_in : List ℕ → Option LineFault) (went : C → List (List ℕ) → C → Type 0)
+    (stopped : C → List ℕ → C → Type 0) (most limit : ℕ) (c : C) (before : ℕ) (bytes : List ℕ) (c' : C) → Stop → Type 0
+Misread fault_in went stopped most limit c before bytes c' (Fault (fault.Line n f)) = (rest : List ℕ) × (count : ℕ) ×
+    Collected fault_in went most limit c before bytes rest c' count × (n ≡ count + 1) × (count < limit) × BeginsFaulty fault_in most rest f
+Misread fault_in went stopped most limit c before bytes c' (Fault fault.TooManyLines) = (rest : List ℕ) × (count : ℕ) ×
+    Collected fault_in went most limit c before bytes rest c' count × (count ≡ limit) × (0 < length rest)
 Misread fault_in went stopped most limit c before bytes c' (Fault fault.Read) = ⊥
 Misread fault_in went stopped most limit c before bytes c' (Fault fault.Write) = ⊥
 Misread fault_in went stopped most limit c before bytes c' (Fault fault.OutOfMemory) = ⊥
-Misread {C} fault_in went stopped most limit c before bytes c' Halted = (rest : List ℕ) × (count : ℕ) × (v : C) × Collected fault_in went most limit c before bytes rest v count × (count < limit) × FirstLine fault_in most (λ text. stopped v text c') rest
+Misread {C} fault_in went stopped most limit c before bytes c' Halted = (rest : List ℕ) × (count : ℕ) × (v : C) ×
+    Collected fault_in went most limit c before bytes rest v count × (count < limit) ×
+    FirstLine fault_in most (λ text. stopped v text c') rest
 
 -- What was read, and that all of it was taken but the start of a line.
-pub record Reading {R C : Type 0} (gave : R → List ℕ → R → Type 0) (fault_in : List ℕ → Option LineFault) (went : C → List (List ℕ) → C → Type 0) (most limit : ℕ) (r : R) (c : C) (pending : List ℕ) (r' : R) (c' : C) (count : ℕ) : Type 0 where
+pub record Reading {R C : Type 0} (gave : R → List ℕ → R → Type 0) (fault_in : List ℕ → Option LineFault)
+    (went : C → List (List ℕ) → C → Type 0) (most limit : ℕ) (r : R) (c : C) (pending : List ℕ) (r' : R) (c' : C) (count : ℕ) : Type 0 where
   pub texts : List (List ℕ)
   pub so_far : ReadSoFarWithin gave fault_in most limit r r' texts pending
   pub took : went c texts c'

@@ -1,5 +1,6 @@
 -- The lines of a trace.
-use Rattle.std.specs.Prelude.{◌≢◌, ◌++◌, ℕ, ◌+◌, ◌-◌, ◌==◌, Bool, ◌&&◌, if◌then◌else◌, Option, None, Some, Result, Ok, Err, List, length, take, drop, position, nat_eq, nat_lt, codes, slice_index}
+use Rattle.std.specs.Prelude.{◌≢◌, ◌++◌, ℕ, ◌+◌, ◌-◌, ◌==◌, Bool, ◌&&◌, if◌then◌else◌, Option, None, Some, Result, Ok, Err, List, length}
+use Rattle.std.specs.Prelude.{take, drop, position, nat_eq, nat_lt, codes, slice_index}
 use Rattle.trace_text.specs.declared.fault.TheConstants.{MAX_LINE}
 use Rattle.trace_text.specs.declared.fields.TheConstants.{MAX_NUMBER, MAX_TAG}
 use Rattle.std.specs.Option.{option_map}

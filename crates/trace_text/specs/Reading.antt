@@ -33,7 +33,8 @@ pub record Good (fault_in : List ℕ → Option LineFault) (most : ℕ) (bytes :
 abbrev pub BeginsFaulty : (List ℕ → Option LineFault) → ℕ → List ℕ → LineFault → Type 0
 BeginsFaulty fault_in most bytes TooLong = (most < length bytes) × HasNoEnd (take (most + 1) bytes)
 BeginsFaulty fault_in most bytes NotEnded = ⊥
-BeginsFaulty fault_in most bytes f = (text : List ℕ) × (more : List ℕ) × (bytes ≡ text ++ (line_feed ∷ more)) × (length text ≤ most) × HasNoEnd text × (fault_in text ≡ Some f)
+BeginsFaulty fault_in most bytes f = (text : List ℕ) × (more : List ℕ) × (bytes ≡ text ++ (line_feed ∷ more)) × (length text ≤ most) ×
+    HasNoEnd text × (fault_in text ≡ Some f)
 
 -- these bytes don't begin with a good line, whatever follows them
 abbrev pub IsStuck : (List ℕ → Option LineFault) → ℕ → List ℕ → Type 0
@@ -41,12 +42,14 @@ IsStuck fault_in most bytes = (text more after : List ℕ) → IsGood fault_in m
 
 -- the first line of these bytes is good, and this holds of it
 abbrev pub FirstLine : (List ℕ → Option LineFault) → ℕ → (List ℕ → Type 0) → List ℕ → Type 0
-FirstLine fault_in most P bytes = (text : List ℕ) × (more : List ℕ) × (bytes ≡ text ++ (line_feed ∷ more)) × IsGood fault_in most text × P text
+FirstLine fault_in most P bytes = (text : List ℕ) × (more : List ℕ) × (bytes ≡ text ++ (line_feed ∷ more)) × IsGood fault_in most text ×
+    P text
 
 -- ---- what was read
 
 -- Up to here, before a read or at the end, these good lines came, and the start of another that may still become one.
-pub record ReadSoFarWithin {R : Type 0} (gave : R → List ℕ → R → Type 0) (fault_in : List ℕ → Option LineFault) (most limit : ℕ) (r r' : R) (texts : List (List ℕ)) (pending : List ℕ) : Type 0 where
+pub record ReadSoFarWithin {R : Type 0} (gave : R → List ℕ → R → Type 0) (fault_in : List ℕ → Option LineFault) (most limit : ℕ) (r r' : R)
+    (texts : List (List ℕ)) (pending : List ℕ) : Type 0 where
   pub bytes : List ℕ
   pub read : Moves (Came gave) r bytes r'
   pub good : Good fault_in most bytes texts pending
@@ -56,7 +59,8 @@ pub record ReadSoFarWithin {R : Type 0} (gave : R → List ℕ → R → Type 0)
   pub room : 0 < length pending → length texts < limit
 
 -- Up to here one piece more came, and these good lines are the first of all that came.
-pub record ReadIntoWithin {R : Type 0} (gave : R → List ℕ → R → Type 0) (fault_in : List ℕ → Option LineFault) (most limit : ℕ) (r r' : R) (texts : List (List ℕ)) (rest : List ℕ) : Type 0 where
+pub record ReadIntoWithin {R : Type 0} (gave : R → List ℕ → R → Type 0) (fault_in : List ℕ → Option LineFault) (most limit : ℕ) (r r' : R)
+    (texts : List (List ℕ)) (rest : List ℕ) : Type 0 where
   pub before : List (List ℕ)
   pub pending : List ℕ
   pub last : R
@@ -67,23 +71,33 @@ pub record ReadIntoWithin {R : Type 0} (gave : R → List ℕ → R → Type 0) 
   pub within : length texts ≤ limit
 
 -- All was read, up to the first end: these good lines.
-abbrev pub ReadWholeWithin : {R : Type 0} (gave : R → List ℕ → R → Type 0) (fault_in : List ℕ → Option LineFault) (most limit : ℕ) (r r' : R) (texts : List (List ℕ)) → Type 0
-ReadWholeWithin {R} gave fault_in most limit r r' texts = (last : R) × ReadSoFarWithin gave fault_in most limit r last texts [] × gave last [] r'
+abbrev pub ReadWholeWithin : {R : Type 0} (gave : R → List ℕ → R → Type 0) (fault_in : List ℕ → Option LineFault) (most limit : ℕ)
+    (r r' : R) (texts : List (List ℕ)) → Type 0
+ReadWholeWithin {R} gave fault_in most limit r r' texts = (last : R) × ReadSoFarWithin gave fault_in most limit r last texts [] ×
+    gave last [] r'
 
 -- What was read where a reading has a fault, the first one in the order of the lines, and the good lines before it. An
 -- error of the reader stands behind every line that ended or was too long before it.
-abbrev pub ReadStopsWithin : {R : Type 0} (gave : R → List ℕ → R → Type 0) (failed : R → R → Type 0) (fault_in : List ℕ → Option LineFault) (most limit : ℕ) (r r' : R) (texts : List (List ℕ)) → TraceFault → Type 0
-ReadStopsWithin {R} gave failed fault_in most limit r r' texts fault.Read = (last : R) × (rest : List ℕ) × ReadSoFarWithin gave fault_in most limit r last texts rest × failed last r'
+abbrev pub ReadStopsWithin : {R : Type 0} (gave : R → List ℕ → R → Type 0) (failed : R → R → Type 0) (fault_in : List ℕ → Option LineFault)
+    (most limit : ℕ) (r r' : R) (texts : List (List ℕ)) → TraceFault → Type 0
+ReadStopsWithin {R} gave failed fault_in most limit r r' texts fault.Read = (last : R) × (rest : List ℕ) ×
+    ReadSoFarWithin gave fault_in most limit r last texts rest × failed last r'
 -- the input ended within a line
-ReadStopsWithin {R} gave failed fault_in most limit r r' texts (fault.Line n NotEnded) = (last : R) × (rest : List ℕ) × ReadSoFarWithin gave fault_in most limit r last texts rest × gave last [] r' × (0 < length rest) × (n ≡ length texts + 1)
-ReadStopsWithin gave failed fault_in most limit r r' texts (fault.Line n f) = (rest : List ℕ) × ReadIntoWithin gave fault_in most limit r r' texts rest × (n ≡ length texts + 1) × (length texts < limit) × BeginsFaulty fault_in most rest f
-ReadStopsWithin gave failed fault_in most limit r r' texts fault.TooManyLines = (rest : List ℕ) × ReadIntoWithin gave fault_in most limit r r' texts rest × (length texts ≡ limit) × (0 < length rest)
+ReadStopsWithin {R} gave failed fault_in most limit r r' texts (fault.Line n NotEnded) = (last : R) × (rest : List ℕ) ×
+    ReadSoFarWithin gave fault_in most limit r last texts rest × gave last [] r' × (0 < length rest) × (n ≡ length texts + 1)
+ReadStopsWithin gave failed fault_in most limit r r' texts (fault.Line n f) = (rest : List ℕ) ×
+    ReadIntoWithin gave fault_in most limit r r' texts rest × (n ≡ length texts + 1) × (length texts < limit) ×
+    BeginsFaulty fault_in most rest f
+ReadStopsWithin gave failed fault_in most limit r r' texts fault.TooManyLines = (rest : List ℕ) ×
+    ReadIntoWithin gave fault_in most limit r r' texts rest × (length texts ≡ limit) × (0 < length rest)
 ReadStopsWithin gave failed fault_in most limit r r' texts fault.OutOfMemory = ⊥
 ReadStopsWithin gave failed fault_in most limit r r' texts fault.Write = ⊥
 
 -- Why a text that is kept or judged wasn't read to its end: memory may be missing anywhere.
-abbrev pub ReadFailsWithin : {R : Type 0} (gave : R → List ℕ → R → Type 0) (failed : R → R → Type 0) (fault_in : List ℕ → Option LineFault) (most limit : ℕ) (r r' : R) → TraceFault → Type 0
-ReadFailsWithin gave failed fault_in most limit r r' e = (e ≡ fault.OutOfMemory) ⊎ ((texts : List (List ℕ)) × ReadStopsWithin gave failed fault_in most limit r r' texts e)
+abbrev pub ReadFailsWithin : {R : Type 0} (gave : R → List ℕ → R → Type 0) (failed : R → R → Type 0) (fault_in : List ℕ → Option LineFault)
+    (most limit : ℕ) (r r' : R) → TraceFault → Type 0
+ReadFailsWithin gave failed fault_in most limit r r' e = (e ≡ fault.OutOfMemory) ⊎
+    ((texts : List (List ℕ)) × ReadStopsWithin gave failed fault_in most limit r r' texts e)
 
 -- ---- the same of a text with as many lines as a trace may have
 

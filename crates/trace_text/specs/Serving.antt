@@ -114,7 +114,8 @@ pub record IsWithin (c : Counts) : Type 0 where
 -- ---- lines that were served
 
 -- one line was applied, counted and written
-pub record LineServed {W : Type 0} (took : W → List ℕ → W → Type 0) (old : W) (m : MachineState) (c : Counts) (text : List ℕ) (new : W) (m' : MachineState) (c' : Counts) : Type 0 where
+pub record LineServed {W : Type 0} (took : W → List ℕ → W → Type 0) (old : W) (m : MachineState) (c : Counts) (text : List ℕ) (new : W)
+    (m' : MachineState) (c' : Counts) : Type 0 where
   pub line : Line
   pub said : line_of text ≡ Ok line
   pub written : Moves took old (told m (text, line)) new
@@ -125,7 +126,8 @@ pub record LineServed {W : Type 0} (took : W → List ℕ → W → Type 0) (old
   pub runs : flat_run (flat m) (option_to_list (event_in line)) (option_to_list (answer_to m line)) ≡ Some (flat m')
 
 -- These lines were applied and counted, and their texts were written. The answers are a run of flat memory.
-pub record Applied {W : Type 0} (took : W → List ℕ → W → Type 0) (old : W) (m : MachineState) (texts : List (List ℕ)) (new : W) (m' : MachineState) (c : Counts) : Type 0 where
+pub record Applied {W : Type 0} (took : W → List ℕ → W → Type 0) (old : W) (m : MachineState) (texts : List (List ℕ)) (new : W)
+    (m' : MachineState) (c : Counts) : Type 0 where
   pub lines : List (List ℕ × Line)
   pub read : AllByRecursion IsRead lines
   pub whole : texts ≡ texts_of lines
@@ -137,17 +139,24 @@ pub record Applied {W : Type 0} (took : W → List ℕ → W → Type 0) (old : 
   pub runs : flat_run (flat m) (events_of lines) (answers_of m lines) ≡ Some (flat m')
 
 -- This line was applied, and writing its text stopped at a refusal.
-abbrev pub Broken : {W : Type 0} (took : W → List ℕ → W → Type 0) (refused : W → W → Type 0) (old : W) (m : MachineState) (text : List ℕ) (new : W) (m' : MachineState) → Type 0
-Broken took refused old m text new m' = (line : Line) × (line_of text ≡ Ok line) × Stopped took refused old (told m (text, line)) new × (m' ≡ after_line m line)
+abbrev pub Broken : {W : Type 0} (took : W → List ℕ → W → Type 0) (refused : W → W → Type 0) (old : W) (m : MachineState) (text : List ℕ)
+    (new : W) (m' : MachineState) → Type 0
+Broken took refused old m text new m' = (line : Line) × (line_of text ≡ Ok line) × Stopped took refused old (told m (text, line)) new ×
+    (m' ≡ after_line m line)
 
 -- How a whole run ends: what was read, applied and written, by its answer. Where nothing was refused, a flush stands
 -- behind all that was written.
-abbrev pub Ends : {R W : Type 0} (gave : R → List ℕ → R → Type 0) (failed : R → R → Type 0) (took : W → List ℕ → W → Type 0) (refused unflushed : W → W → Type 0) (r r' : R) (w w' : W) (m m' : MachineState) → Result Counts TraceFault → Type 0
+abbrev pub Ends : {R W : Type 0} (gave : R → List ℕ → R → Type 0) (failed : R → R → Type 0) (took : W → List ℕ → W → Type 0)
+    (refused unflushed : W → W → Type 0) (r r' : R) (w w' : W) (m m' : MachineState) → Result Counts TraceFault → Type 0
 -- all was read, up to the end, and served
-Ends {R} {W} gave failed took refused unflushed r r' w w' m m' (Ok counts) = (texts : List (List ℕ)) × (v : W) × ReadWhole gave trace_fault MAX_LINE r r' texts × Applied took w m texts v m' counts × took v [] w'
+Ends {R} {W} gave failed took refused unflushed r r' w w' m m' (Ok counts) = (texts : List (List ℕ)) × (v : W) ×
+    ReadWhole gave trace_fault MAX_LINE r r' texts × Applied took w m texts v m' counts × took v [] w'
 -- nothing happened
 Ends gave failed took refused unflushed r r' w w' m m' (Err fault.OutOfMemory) = (r' ≡ r) × (w' ≡ w) × (m' ≡ m)
 -- a flush before a read or before a fault was refused, or the text of a line that was applied
-Ends {R} {W} gave failed took refused unflushed r r' w w' m m' (Err fault.Write) = (texts : List (List ℕ)) × (rest : List ℕ) × (v : W) × (s : MachineState) × (c : Counts) × Applied took w m texts v s c × ((ReadSoFar gave trace_fault MAX_LINE r r' texts rest × unflushed v w' × (m' ≡ s)) ⊎ (ReadInto gave trace_fault MAX_LINE r r' texts rest × ((unflushed v w' × (m' ≡ s)) ⊎ ((length texts < most_lines) × FirstLine trace_fault MAX_LINE (λ text. Broken took refused v s text w' m') rest))))
+Ends {R} {W} gave failed took refused unflushed r r' w w' m m' (Err fault.Write) = (texts : List (List ℕ)) × (rest : List ℕ) × (v : W) ×
+    (s : MachineState) × (c : Counts) × Applied took w m texts v s c ×
+    ((ReadSoFar gave trace_fault MAX_LINE r r' texts rest × unflushed v w' × (m' ≡ s)) ⊎ (ReadInto gave trace_fault MAX_LINE r r' texts rest × ((unflushed v w' × (m' ≡ s)) ⊎ ((length texts < most_lines) × FirstLine trace_fault MAX_LINE (λ text. Broken took refused v s text w' m') rest))))
 -- the lines before the fault were served
-Ends {R} {W} gave failed took refused unflushed r r' w w' m m' (Err e) = (texts : List (List ℕ)) × (v : W) × (c : Counts) × ReadStops gave failed trace_fault MAX_LINE r r' texts e × Applied took w m texts v m' c × took v [] w'
+Ends {R} {W} gave failed took refused unflushed r r' w w' m m' (Err e) = (texts : List (List ℕ)) × (v : W) × (c : Counts) ×
+    ReadStops gave failed trace_fault MAX_LINE r r' texts e × Applied took w m texts v m' c × took v [] w'

@@ -18,7 +18,8 @@ pub record Moves {S : Type 0} (step : S → List ℕ → S → Type 0) (old : S)
   pub whole : concat pieces ≡ bytes
 
 -- A front of the bytes moved, and then a write was refused.
-pub record Stopped {S : Type 0} (step : S → List ℕ → S → Type 0) (refused : S → S → Type 0) (old : S) (bytes : List ℕ) (new : S) : Type 0 where
+pub record Stopped {S : Type 0} (step : S → List ℕ → S → Type 0) (refused : S → S → Type 0) (old : S) (bytes : List ℕ)
+    (new : S) : Type 0 where
   pub front : List ℕ
   pub back : List ℕ
   pub whole : bytes ≡ front ++ back

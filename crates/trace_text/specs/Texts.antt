@@ -56,7 +56,8 @@ field_text_at s slot i = shown_or_nothing (field_shown s slot i)
 -- the part of a register before its words
 unfoldable pub head_text : RegisterView → List ℕ
 head_text r =
-    mark_text r.valid letter_V ∷ mark_text r.obsolete letter_O ∷ space ∷ padded 7 r.block ++ space ∷ padded 4 r.frame ++ space ∷ padded 2 r.processed
+    mark_text r.valid letter_V ∷ mark_text r.obsolete letter_O ∷ space ∷ padded 7 r.block ++ space ∷ padded 4 r.frame
+    ++ space ∷ padded 2 r.processed
 
 abbrev pub register_text_from : MachineState → ℕ → Option RegisterView → List ℕ
 register_text_from s slot None = codes "none"

@@ -15,14 +15,16 @@ word_is : (v w : Word) → same_word v w ≡ true → w ≡ v
 word_is v w e = grind (arith, nat_tests)
 
 -- the value that is taken is the word that was owed
-pub value_is : (image : List Word) (at : ℕ) (e : Event) (tag : ℕ) (word : Word) (t : Flat) → flat_step (owing image at) e (Value tag word) ≡ Some t → word ≡ word_at image at
+pub value_is : (image : List Word) (at : ℕ) (e : Event) (tag : ℕ) (word : Word) (t : Flat)
+    → flat_step (owing image at) e (Value tag word) ≡ Some t → word ≡ word_at image at
 value_is image at e tag word t q = go e q
   where
     owed : (b : Bool) → is_owed (if b then Some (word_at image at) else None) word ≡ true → word ≡ word_at image at
     owed true k = word_is (word_at image at) word k
     owed false k = cc
 
-    taken : (b : Bool) → is_owed (if tag == 1 then Some (word_at image at) else None) word ≡ b → (if b then Some (flat_after (owing image at) (Take 0) (Value tag word)) else None) ≡ Some t → word ≡ word_at image at
+    taken : (b : Bool) → is_owed (if tag == 1 then Some (word_at image at) else None) word ≡ b
+        → (if b then Some (flat_after (owing image at) (Take 0) (Value tag word)) else None) ≡ Some t → word ≡ word_at image at
     taken true k p = owed (tag == 1) k
     taken false k p = cc
 

@@ -3,7 +3,8 @@ use Rattle.std.proofs.Common.{◌≡◌, ℕ, List, Option, Some, None, refl, ap
 use Rattle.std.specs.Prelude.{codes}
 use Rattle.named_fields.specs.Formats.{bytes, written}
 use Rattle.history_text.specs.declared.answers.RefusalCause.{RefusalCause}
-use Rattle.history_text.specs.declared.answers.RefusalCause.TheVariants.{OutOfRange, NoByteEnabled, NumberInUse, NotOpen, WrongLength, WrongByte, NoMoment}
+use Rattle.history_text.specs.declared.answers.RefusalCause.TheVariants.{OutOfRange, NoByteEnabled, NumberInUse, NotOpen, WrongLength}
+use Rattle.history_text.specs.declared.answers.RefusalCause.TheVariants.{WrongByte, NoMoment}
 use Rattle.verdict_formats.specs.Histories.{allowed_in, may_named, sources_in, sources_named, is_wrong_byte, may_told, sources_told}
 
 pub may_is : (cause : Option RefusalCause) (allowed : List ℕ) → allowed ≡ allowed_in cause

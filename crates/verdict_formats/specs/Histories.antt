@@ -9,7 +9,8 @@ use Rattle.history_text.specs.Choice.{name_of}
 use Rattle.history_text.specs.declared.answers.Refusal.{Refusal}
 use Rattle.history_text.specs.declared.answers.OverwrittenByte.{OverwrittenByte}
 use Rattle.history_text.specs.declared.answers.RefusalCause.{RefusalCause}
-use Rattle.history_text.specs.declared.answers.RefusalCause.TheVariants.{OutOfRange, NoByteEnabled, NumberInUse, NotOpen, WrongLength, WrongByte, NoMoment}
+use Rattle.history_text.specs.declared.answers.RefusalCause.TheVariants.{OutOfRange, NoByteEnabled, NumberInUse, NotOpen, WrongLength}
+use Rattle.history_text.specs.declared.answers.RefusalCause.TheVariants.{WrongByte, NoMoment}
 use Rattle.history_text.specs.declared.answers.HistoryEnd.{HistoryEnd}
 use Rattle.history_text.specs.declared.answers.HistoryEnd.TheVariants.{OfLaw, Refused, Undecided}
 use Rattle.history_text.specs.declared.laws.HistoryLaw.{HistoryLaw}

@@ -1,5 +1,6 @@
 -- Going once through a queue: the bytes and lanes found so far, and those in the entries that are left.
-use Rattle.std.proofs.Common.{◌==◌, true, false, List, [], ◌∷◌, subst, ◌≡◌, ℕ, zero, suc, ◌+◌, ◌*◌, ◌/◌, ◌%◌, ◌≤◌, max, bit_or, refl, sym, ap, ap₂, ◌∙◌, arith}
+use Rattle.std.proofs.Common.{◌==◌, true, false, List, [], ◌∷◌, subst, ◌≡◌, ℕ, zero, suc, ◌+◌, ◌*◌, ◌/◌, ◌%◌, ◌≤◌, max, bit_or, refl, sym}
+use Rattle.std.proofs.Common.{ap, ap₂, ◌∙◌, arith}
 use Rattle.std.proofs.lemmas.Nat.{or_shr}
 use lib.Bits.{or_step, or_zero_r}
 use Rattle.flat_model.specs.declared.Lanes.{Lanes}
@@ -32,11 +33,13 @@ pub record Found (so_far : Word) (held : Lanes) (left entries : List Queued) (at
   pub word : overlaid so_far left at ≡ overlaid zero_word entries at
   pub lanes : joined held (queued_lanes left at) ≡ queued_lanes entries at
 
-pub found-start : (word : Word) (lanes : Lanes) (left entries : List Queued) (at : ℕ) → word ≡ zero_word → lanes ≡ no_lanes → left ≡ entries → Found word lanes left entries at
+pub found-start : (word : Word) (lanes : Lanes) (left entries : List Queued) (at : ℕ) → word ≡ zero_word → lanes ≡ no_lanes → left ≡ entries
+    → Found word lanes left entries at
 found-start word lanes left entries at none empty all =
     rw (none, empty, all) (record { word = refl; lanes = joined-none (queued_lanes entries at) })
 
-pub found-other : (word : Word) (lanes : Lanes) (q : Queued) (rest left entries : List Queued) (at : ℕ) → Found word lanes left entries at → left ≡ q ∷ rest → (q.at == at) ≡ false → Found word lanes rest entries at
+pub found-other : (word : Word) (lanes : Lanes) (q : Queued) (rest left entries : List Queued) (at : ℕ) → Found word lanes left entries at
+    → left ≡ q ∷ rest → (q.at == at) ≡ false → Found word lanes rest entries at
 found-other word lanes q rest left entries at found step other =
     let now : Found word lanes (q ∷ rest) entries at = subst (λ l. Found word lanes l entries at) step found in
     record {
@@ -44,7 +47,8 @@ found-other word lanes q rest left entries at found step other =
       lanes = rw other at now.lanes;
     }
 
-pub found-more : (word : Word) (lanes : Lanes) (q : Queued) (rest left entries : List Queued) (at : ℕ) → Found word lanes left entries at → left ≡ q ∷ rest → (q.at == at) ≡ true → Found (merged word q.word q.lanes) (joined lanes q.lanes) rest entries at
+pub found-more : (word : Word) (lanes : Lanes) (q : Queued) (rest left entries : List Queued) (at : ℕ) → Found word lanes left entries at
+    → left ≡ q ∷ rest → (q.at == at) ≡ true → Found (merged word q.word q.lanes) (joined lanes q.lanes) rest entries at
 found-more word lanes q rest left entries at found step same =
     let now : Found word lanes (q ∷ rest) entries at = subst (λ l. Found word lanes l entries at) step found in
     record {
@@ -52,7 +56,8 @@ found-more word lanes q rest left entries at found step same =
       lanes = joined-assoc lanes q.lanes (queued_lanes rest at) ∙ (rw same at now.lanes);
     }
 
-pub found-all : (word : Word) (lanes : Lanes) (left entries : List Queued) (at : ℕ) → Found word lanes left entries at → left ≡ [] → record { word = word; lanes = lanes } ≡ newest entries at
+pub found-all : (word : Word) (lanes : Lanes) (left entries : List Queued) (at : ℕ) → Found word lanes left entries at → left ≡ []
+    → record { word = word; lanes = lanes } ≡ newest entries at
 found-all word lanes left entries at found step =
     let now : Found word lanes [] entries at = subst (λ l. Found word lanes l entries at) step found in
     λ i. record { word = now.word i; lanes = (sym (joined-none_right lanes) ∙ now.lanes) i }

@@ -4,5 +4,6 @@ use Rattle.access_logs.proofs.reading.push_loads.Goals as goal
 
 pub loop-i-preserved : goal.loop-i-preserved
 loop-i-preserved c =
-    pushed_next (load_of c.args.pages.now c.args.tag c.args.access) c.loop-i.i c.load.result c.args.requests.now.items c.loop-i.requests.items c.push.new.requests.items
+    pushed_next (load_of c.args.pages.now c.args.tag c.args.access) c.loop-i.i c.load.result c.args.requests.now.items
+    c.loop-i.requests.items c.push.new.requests.items
     c.loop-i.invariant c.in_ok-push.ensures.ok c.load.ensures

@@ -1,4 +1,4 @@
-use Rattle.std.proofs.Common.{take, sym, ◌∙◌, arith, [], true, false}
+use Rattle.std.proofs.Common.{take, sym, ◌∙◌, arith, []}
 use Rattle.atomic_histories.specs.declared.stretches.Before.TheVariants.{Nothing}
 use Rattle.atomic_histories.specs.declared.stretches.Stretch.{Stretch}
 use Rattle.atomic_histories.specs.declared.stretches.Stretch.TheVariants.{Overwritten}

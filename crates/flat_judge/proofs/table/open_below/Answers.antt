@@ -19,10 +19,12 @@ loop-number-preserved c =
     elim c.if-is_some.branch [
       | then-is_some w ↦ elim w.if-open-n.branch [
         | then-open-n v ↦
-            let next = counts_last due c.args.n c.args.nth.now k c.loop-number.open c.loop-number.nth before (tells ∙ w.if-is_some.true) v.if-open-n.true in
+            let next = counts_last due c.args.n c.args.nth.now k c.loop-number.open c.loop-number.nth before (tells ∙ w.if-is_some.true)
+            v.if-open-n.true in
             counts_same due c.args.n c.args.nth.now (k + 1) _ _ _ _ w.open-is (w.nth-is ∙ v.nth-is) next
         | else-open-n v ↦
-            let next = counts_other due c.args.n c.args.nth.now k c.loop-number.open c.loop-number.nth before (tells ∙ w.if-is_some.true) v.if-open-n.false in
+            let next = counts_other due c.args.n c.args.nth.now k c.loop-number.open c.loop-number.nth before (tells ∙ w.if-is_some.true)
+            v.if-open-n.false in
             counts_same due c.args.n c.args.nth.now (k + 1) _ _ _ _ w.open-is (w.nth-is ∙ v.nth-is) next
       ]
       | else-is_some w ↦

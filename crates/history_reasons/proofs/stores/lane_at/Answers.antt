@@ -3,7 +3,8 @@ use Rattle.history_reasons.specs.Stores.{all_lanes, lanes_in, first_in}
 use Rattle.memory_histories.proofs.Lanes.{lane_before}
 use Rattle.history_reasons.proofs.StoreLemmas.{lane_behind}
 use Rattle.history_reasons.proofs.stores.lane_at.Goals as goal
-use Rattle.history_reasons.proofs.stores.lane_at.Goals.{else-store-address-via-then-store-address+else-store-address-2, else-store-address-via-else-store-address}
+use Rattle.history_reasons.proofs.stores.lane_at.Goals.{else-store-address-via-then-store-address+else-store-address-2}
+use Rattle.history_reasons.proofs.stores.lane_at.Goals.{else-store-address-via-else-store-address}
 
 pub returns-then-store-address-2 : goal.returns-then-store-address-2
 returns-then-store-address-2 c =

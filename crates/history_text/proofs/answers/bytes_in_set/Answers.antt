@@ -12,10 +12,16 @@ loop-byte-preserved c =
     elim c.if-contains.branch [
       | then-contains w ↦
           let pushed = ap (λ v. v.items) w.bytes-is ∙ w.push.ensures.items in
-          record { smaller = with_byte c.args.set bytes _ n smaller (sym c.contains.ensures ∙ w.if-contains.true) pushed; few = omega (arith, ap length pushed, length-append bytes (n ∷ []), few) }
+          record {
+            smaller = with_byte c.args.set bytes _ n smaller (sym c.contains.ensures ∙ w.if-contains.true) pushed;
+            few = omega (arith, ap length pushed, length-append bytes (n ∷ []), few);
+          }
       | else-contains w ↦
           let same = ap (λ v. v.items) w.bytes-is in
-          record { smaller = without_byte c.args.set bytes _ n smaller (sym c.contains.ensures ∙ w.if-contains.false) same; few = omega (arith, ap length same, few) }
+          record {
+            smaller = without_byte c.args.set bytes _ n smaller (sym c.contains.ensures ∙ w.if-contains.false) same;
+            few = omega (arith, ap length same, few);
+          }
     ]
 
 pub returns : goal.returns

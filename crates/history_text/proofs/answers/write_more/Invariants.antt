@@ -6,4 +6,5 @@ use Rattle.history_text.proofs.answers.write_more.Given as goal
 
 abbrev pub invariant-loop-byte : goal.invariant-loop-byte
 invariant-loop-byte g l =
-    IsPlainFormatter l.initial.f → HasWritten g.W.Write.write_str_gives l.initial.f (flat_map (λ c. l.between ++ byte_text c) (take l.byte-index l.bytes)) l.f
+    IsPlainFormatter l.initial.f → HasWritten g.W.Write.write_str_gives l.initial.f
+    (flat_map (λ c. l.between ++ byte_text c) (take l.byte-index l.bytes)) l.f

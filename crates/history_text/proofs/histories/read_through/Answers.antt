@@ -23,7 +23,8 @@ returns-in-Err g c start h =
 pub returns-then-given-eq0 : goal.returns-then-given-eq0
 returns-then-given-eq0 g c start h =
     let inv = c.pieces.invariant start h in
-    let gives = subst (λ l. g.R.Source.gave c.pieces.reader l c.read_some.new.self) (ap (λ n. take n c.read_some.new.buf) c.if-given-eq0.true) c.in-Ok.ensures.gave in
+    let gives = subst (λ l. g.R.Source.gave c.pieces.reader l c.read_some.new.self)
+    (ap (λ n. take n c.read_some.new.buf) c.if-given-eq0.true) c.in-Ok.ensures.gave in
     told_end g.R.Source.gave g.R.Source.failed c.end.result inv.2 inv.3 gives c.end.ensures
 
 pub returns-in-Err-read : goal.returns-in-Err-read
@@ -31,7 +32,8 @@ returns-in-Err-read g c start h =
     let inv = c.pieces.invariant start h in
     let piece = take c.in-Ok.given c.read_some.new.buf in
     let some : 0 < length piece = omega (arith, length-take c.in-Ok.given c.read_some.new.buf, c.in-Ok.ensures.bound) in
-    told_in g.R.Source.gave g.R.Source.failed piece c.in-Err-read.stop c.ended.result inv.2 inv.3 (c.in-Ok.ensures.gave, some) (c.in-Err-read.ensures.stop start inv.0 inv.1 inv.3) c.ended.ensures
+    told_in g.R.Source.gave g.R.Source.failed piece c.in-Err-read.stop c.ended.result inv.2 inv.3 (c.in-Ok.ensures.gave, some)
+    (c.in-Err-read.ensures.stop start inv.0 inv.1 inv.3) c.ended.ensures
 
 pub pieces-preserved : goal.pieces-preserved
 pieces-preserved g c start h =

@@ -1,4 +1,4 @@
-use Rattle.std.proofs.Common.{true, false}
+use Rattle.std.proofs.Common.{false}
 use Rattle.atomic_histories.specs.Judge.{bytes_of}
 use Rattle.history_text.specs.Histories.{Judges}
 use Rattle.history_text.specs.Notes.{Telling, telling_of}
@@ -22,4 +22,5 @@ returns g c =
     by_image
     (λ law. Judges g.R.Source.gave g.R.Source.failed (told_by law t) c.args.reader.now c.judge_history.new.reader
     c.judge_history.result)
-    c.in_ok-memory.memory c.args.image.now c.args.rest (bytes_of c.args.unit) c.args.limit e.held e.limit (c.judge_history.ensures t c.in_ok-notes.ensures)
+    c.in_ok-memory.memory c.args.image.now c.args.rest (bytes_of c.args.unit) c.args.limit e.held e.limit
+    (c.judge_history.ensures t c.in_ok-notes.ensures)

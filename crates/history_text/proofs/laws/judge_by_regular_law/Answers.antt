@@ -1,4 +1,4 @@
-use Rattle.std.proofs.Common.{true, false}
+use Rattle.std.proofs.Common.{false}
 use Rattle.history_text.specs.Histories.{Judges}
 use Rattle.history_text.specs.Notes.{Telling, telling_of}
 use Rattle.history_text.specs.Told.{told_by}

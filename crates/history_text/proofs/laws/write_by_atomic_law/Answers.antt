@@ -1,4 +1,4 @@
-use Rattle.std.proofs.Common.{true, false}
+use Rattle.std.proofs.Common.{false}
 use Rattle.atomic_histories.specs.Judge.{bytes_of}
 use Rattle.history_text.specs.Values.{Writes}
 use Rattle.history_text.specs.Notes.{Telling, telling_of}
@@ -22,4 +22,5 @@ returns g c =
     by_image
     (λ law. Writes g.R.Source.gave g.R.Source.failed g.W.Sink.took g.W.Sink.refused (told_by law t) c.args.reader.now
     c.write_values.new.reader c.args.writer.now c.write_values.new.writer c.write_values.result)
-    c.in_ok-memory.memory c.args.image.now c.args.rest (bytes_of c.args.size.0) c.args.size.1 e.held e.limit (c.write_values.ensures t c.in_ok-notes.ensures)
+    c.in_ok-memory.memory c.args.image.now c.args.rest (bytes_of c.args.size.0) c.args.size.1 e.held e.limit
+    (c.write_values.ensures t c.in_ok-notes.ensures)

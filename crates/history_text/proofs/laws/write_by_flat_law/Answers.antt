@@ -1,4 +1,4 @@
-use Rattle.std.proofs.Common.{true, false}
+use Rattle.std.proofs.Common.{true}
 use Rattle.history_text.specs.Values.{Writes}
 use Rattle.history_text.specs.Notes.{Telling, telling_of}
 use Rattle.history_text.specs.Told.{told_by}

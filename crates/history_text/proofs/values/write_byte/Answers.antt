@@ -22,7 +22,8 @@ returns-in_err-write_line-clause-stop g c =
     → ByteStops s.took s.refused (law_begun j.law start) first texts (pending ++ c.args.byte ∷ []) c.write_line.new.writer stop)
     c.from_residual.ensures.1
     (λ start before texts first h told. (let law = law_begun j.law start in
-    let stops = subst (λ t. TellStops s.took s.refused law (events_of texts) t c.args.writer.now c.write_line.new.writer why) c.as_slice-then-byte-eq10.ensures.value
+    let stops = subst (λ t. TellStops s.took s.refused law (events_of texts) t c.args.writer.now c.write_line.new.writer why)
+    c.as_slice-then-byte-eq10.ensures.value
     (c.in_err-write_line.ensures.stop start (events_of texts) (windows_of start.telling texts) h.stands) in
     subst (λ b. ByteStops s.took s.refused law first texts (pending ++ b ∷ []) c.write_line.new.writer why) (sym c.if-byte-eq10.true)
     (tell_stops s.took s.refused law first c.args.writer.now c.write_line.new.writer texts pending why told stops)))
@@ -44,7 +45,8 @@ returns-then-byte-eq10-clause-told g c =
 pub returns-then-byte-eq10-clause-ok : goal.returns-then-byte-eq10-clause-ok
 returns-then-byte-eq10-clause-ok g c =
     on_ok c.end_line.result _ _
-    (λ ok start before texts h. at_line_end before texts c.args.byte c.args.lines.now.pending.items c.if-byte-eq10.true (ok start before texts h))
+    (λ ok start before texts h. at_line_end before texts c.args.byte c.args.lines.now.pending.items c.if-byte-eq10.true
+    (ok start before texts h))
     c.end_line.ensures.ok
 
 pub returns-then-byte-eq10-clause-stop : goal.returns-then-byte-eq10-clause-stop
@@ -63,7 +65,8 @@ returns-then-byte-eq10-clause-stop g c =
     let more : Told s.took law first (texts ++ pending ∷ []) c.write_line.new.writer =
     one_more texts pending wrote.0 c.args.writer.now c.write_line.new.writer told is_told wrote.2 in
     subst (λ b. ByteStops s.took s.refused law first texts (pending ++ b ∷ []) c.write_line.new.writer why) (sym c.if-byte-eq10.true)
-    (line_stops s.took s.refused first c.write_line.new.writer number (seen_by c.in-Ok.event) why h said refl fits (stops start before texts h) more)))
+    (line_stops s.took s.refused first c.write_line.new.writer number (seen_by c.in-Ok.event) why h said refl fits
+    (stops start before texts h) more)))
     c.end_line.ensures.stop
 
 pub returns-clause-stop : goal.returns-clause-stop
@@ -73,7 +76,8 @@ returns-clause-stop g c =
     let lines = c.args.lines.now in
     let pending = lines.pending.items in
     if_err c.push.result _ _
-    (λ why is start before texts first h told. subst (ByteStops s.took s.refused (law_begun j.law start) first texts (pending ++ c.args.byte ∷ []) c.args.writer.now) (sym is.0)
+    (λ why is start before texts first h told. subst
+    (ByteStops s.took s.refused (law_begun j.law start) first texts (pending ++ c.args.byte ∷ []) c.args.writer.now) (sym is.0)
     (ends_long c.args.byte (lines.count + 1) h c.if-byte-eq10.false is.1 refl, told))
     c.push.ensures.stop
 

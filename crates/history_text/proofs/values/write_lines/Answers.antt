@@ -43,8 +43,12 @@ loop-byte-preserved g c =
     record {
       read = λ start before texts h. (let so_far = c.loop-byte.invariant.read start before texts h in
           let here = before ++ take i bytes in
-          let more = c.in_ok-write_byte.ensures.ok start here so_far.0 so_far.1 in
-          (_, read_on before bytes i _ lt refl more, λ first told. c.in_ok-write_byte.ensures.told start here so_far.0 first so_far.1 (so_far.2 first told)));
+          let more = c.in_ok-write_byte.ensures.ok start here so_far.0 so_far.1 in (
+            _,
+            read_on before bytes i _ lt refl more,
+            λ first told. c.in_ok-write_byte.ensures.told start here so_far.0 first so_far.1
+                (so_far.2 first told),
+          ));
       progress = omega (arith, c.in_ok-write_byte.ensures.progress, c.loop-byte.invariant.progress);
     }
 

@@ -28,7 +28,8 @@ returns-then-given-eq0 g c start h =
     let inv = c.pieces.invariant start h in
     let r = g.R.Source in
     let s = g.W.Sink in
-    let gives = subst (λ l. r.gave c.pieces.reader l c.read_some.new.self) (ap (λ n. take n c.read_some.new.buf) c.if-given-eq0.true) c.in-Ok.ensures.gave in
+    let gives = subst (λ l. r.gave c.pieces.reader l c.read_some.new.self) (ap (λ n. take n c.read_some.new.buf) c.if-given-eq0.true)
+    c.in-Ok.ensures.gave in
     wrote_end r.gave r.failed s.took s.refused _ _ _ c.end.result inv.2 inv.3 inv.4 gives c.end.ensures
 
 pub returns-in-Err-write_lines : goal.returns-in-Err-write_lines

@@ -1,5 +1,5 @@
 use Rattle.std.proofs.Common.{sym, subst}
-use Rattle.history_text.specs.Notes.{Telling, AreNotesOf, opening_windows}
+use Rattle.history_text.specs.Notes.{AreNotesOf, opening_windows}
 use Rattle.history_text.specs.Told.{Begin}
 use Rattle.history_text.proofs.LinesRead.{begins}
 use Rattle.history_text.proofs.values.write_values.Goals as goal
@@ -17,4 +17,5 @@ returns g c t are =
     let e = c.new-lines.ensures in
     let start : Begin g.row.J.Denot = record { judge = c.args.judge; telling = t } in
     let notes = subst (λ n. AreNotesOf n t (opening_windows t)) (sym e.notes) are in
-    c.write_through.ensures start (begins {start = start} c.requires.begun c.requires.passes notes e.judge e.counts e.loads e.pending e.count)
+    c.write_through.ensures start (begins {start = start} c.requires.begun c.requires.passes notes e.judge e.counts e.loads e.pending
+    e.count)

@@ -17,7 +17,8 @@ returns-in_err-rows-clause-fault g c =
 pub returns-clause-rows : goal.returns-clause-rows
 returns-clause-rows g c =
     let read = c.in_ok-requests.ensures.read in
-    let all = ap (list_all is_request) c.as_slice.ensures.value ∙ all_requests c.in_ok-requests.requests.items c.in_ok-requests.ensures.requests in
+    let all = ap (list_all is_request) c.as_slice.ensures.value
+    ∙ all_requests c.in_ok-requests.requests.items c.in_ok-requests.ensures.requests in
     let made = c.as_slice-2.ensures.value ∙ c.in_ok-machines.ensures in
     let rows = c.in_ok-rows in
     let counted = rows_counted c.args.timing c.as_slice.result.now _ c.as_slice-2.result.now (swept c.args.sizes.now c.args.registers.now)

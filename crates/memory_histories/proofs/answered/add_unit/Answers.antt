@@ -17,10 +17,12 @@ returns-clause-ok c =
     let before = answered_in (get nat_eq c.args.units.now) in
     let after = answered_in (get nat_eq c.put_unit.new.units) in
     let same : get nat_eq c.reserve.new.self ≡ get nat_eq c.args.units.now = fun_ext c.in_ok-reserve.ensures.entries.2 in
-    let one : items ≡ answered_part m p ∷ [] = rw (c.push_reserved.ensures.items, c.in_ok-parts.ensures.items, c.answered_part.ensures) refl in
+    let one : items ≡ answered_part m p ∷ [] = rw (c.push_reserved.ensures.items, c.in_ok-parts.ensures.items, c.answered_part.ensures)
+    refl in
     let at : (u : ℕ) → after u ≡ (if p.unit == u then parts_bytes items else before u) =
     λ u. c.put_unit.ensures.at u ∙ ap (λ units. if p.unit == u then parts_bytes items else answered_in units u) same in
     let none : before p.unit ≡ [] = ap (λ o. parts_bytes (parts_or o)) c.requires in
     let here : after p.unit ≡ answered_after m (part_bytes p) p.unit (before p.unit) =
-    at p.unit ∙ (rw (eq-eqb p.unit p.unit refl) (ap parts_bytes one) ∙ (after_part m p [] ∙ ap (answered_after m (part_bytes p) p.unit) (sym none))) in
+    at p.unit ∙ (rw (eq-eqb p.unit p.unit refl) (ap parts_bytes one)
+    ∙ (after_part m p [] ∙ ap (answered_after m (part_bytes p) p.unit) (sym none))) in
     one_part m p before after here (λ u e. at u ∙ rw e refl)

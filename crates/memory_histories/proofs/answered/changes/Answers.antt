@@ -29,7 +29,8 @@ loop-part-preserved c =
           record {
             after = rw (w.changes-is, w.in_ok-push.ensures.items) (All-append p cs (change ∷ []) c.loop-part.invariant.after
                 (All-cons p change []
-                (w.in_ok-after.ensures ∙ ap (λ ps. answered_after c.args.moment (parts_bytes ending) unit (parts_bytes ps)) w.parts_in-answered.ensures) (All-nil p)));
+                (w.in_ok-after.ensures ∙ ap (λ ps. answered_after c.args.moment (parts_bytes ending) unit (parts_bytes ps))
+                w.parts_in-answered.ensures) (All-nil p)));
             whole = rw (w.changes-is, w.in_ok-push.ensures.items)
                 (All-more (HasUnit (cs ++ change ∷ [])) ending i nothing c.loop-part-test.true
                 (still_whole cs change (take i ending) c.loop-part.invariant.whole)

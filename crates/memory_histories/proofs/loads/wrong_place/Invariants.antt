@@ -9,7 +9,8 @@ use Rattle.memory_histories.proofs.loads.wrong_place.Given as goal
 -- what is left says what the whole does
 abbrev pub invariant-loop-load : goal.invariant-loop-load
 invariant-loop-load l = record {
-  place : position_from is_bad (length l.bytes - length l.rest) (zip (filter (is_open_of l.number) (loads_open (drop l.load-index l.loads))) l.rest)
+  place : position_from is_bad (length l.bytes - length l.rest)
+      (zip (filter (is_open_of l.number) (loads_open (drop l.load-index l.loads))) l.rest)
       ≡ wrong_place may_have (filter (is_open_of l.number) (loads_open l.loads)) l.bytes;
   within : length l.rest ≤ length l.bytes;
 }

@@ -2,7 +2,8 @@ use Rattle.std.proofs.Common.{◌≡◌, ◌+◌, ◌-◌, sym, ap, ◌∙◌, a
 use Rattle.memory_histories.specs.Parts.{lane_at, lanes_of}
 use Rattle.memory_histories.proofs.Lanes.{lane_before, lane_past, lane_stored, length-lanes_of}
 use Rattle.memory_histories.proofs.parts.stored_lane.Goals as goal
-use Rattle.memory_histories.proofs.parts.stored_lane.Goals.{else-from-address-via-then-from-address+else-address-from, else-from-address-via-else-from-address}
+use Rattle.memory_histories.proofs.parts.stored_lane.Goals.{else-from-address-via-then-from-address+else-address-from}
+use Rattle.memory_histories.proofs.parts.stored_lane.Goals.{else-from-address-via-else-from-address}
 
 pub returns-then-address-from : goal.returns-then-address-from
 returns-then-address-from c =

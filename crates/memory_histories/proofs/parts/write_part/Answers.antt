@@ -1,4 +1,5 @@
-use Rattle.std.proofs.Common.{◌≡◌, ℕ, zero, suc, ◌+◌, ◌*◌, ◌∷◌, ◌==◌, if◌then◌else◌, ◌∙◌, List, Option, None, map, slice_get, get_or, set, refl, sym, ap, ap₂, arith}
+use Rattle.std.proofs.Common.{◌≡◌, ℕ, zero, suc, ◌+◌, ◌*◌, ◌∷◌, ◌==◌, if◌then◌else◌, ◌∙◌, List, Option, None, map, slice_get, get_or, set}
+use Rattle.std.proofs.Common.{refl, sym, ap, ap₂, arith}
 use Rattle.std.specs.Int.{bit_at}
 use Rattle.std.specs.List.{range_with_len}
 use Rattle.memory_histories.specs.Parts.{lane_at, lanes_of, nothing, with_lanes}

@@ -1,4 +1,5 @@
-use Rattle.std.proofs.Common.{Some, get_or, ◌≡◌, ◌∙◌, ◌++◌, ◌∷◌, [], ◌==◌, ℕ, Option, if◌then◌else◌, map, length-set, slice_get, None, sym, ap, arith}
+use Rattle.std.proofs.Common.{Some, get_or, ◌≡◌, ◌∙◌, ◌++◌, ◌∷◌, [], ◌==◌, ℕ, Option, if◌then◌else◌, map, length-set, slice_get, None, sym}
+use Rattle.std.proofs.Common.{ap, arith}
 use Rattle.std.specs.Int.{bit_at}
 use Rattle.std.specs.List.{range_with_len}
 use Rattle.std.proofs.lemmas.List.{take_more_set, take_all}

@@ -8,5 +8,6 @@ pub returns-then-is_refused_room-clause-lacks : goal.returns-then-is_refused_roo
 unfolding answered after_event
 returns-then-is_refused_room-clause-lacks c = λ _.
     let refused = sym c.is_refused_room.ensures ∙ c.if-is_refused_room.true in
-    let lacks = asked_lacks c.args.machine.now c.args.row.now c.args.event c.apply-answer.result (sym c.apply-answer.ensures.answer) refused in
+    let lacks = asked_lacks c.args.machine.now c.args.row.now c.args.event c.apply-answer.result (sym c.apply-answer.ensures.answer)
+    refused in
     subst (λ s. lacks_room s c.args.event ≡ true) (sym c.apply-answer.ensures.machine) lacks

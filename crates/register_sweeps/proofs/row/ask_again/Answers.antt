@@ -8,7 +8,8 @@ returns-then-is_ended-clause-course c =
     let here = course c.loop-turn.machine c.loop-turn.row in
     let turn : c.loop-turn._turn < c.most_turns-turn-end.result = c.loop-turn-test.true in
     let ends = sym c.turn-asked.ensures.ends ∙ sym c.is_ended.ensures ∙ c.if-is_ended.true in
-    let ended = turn_ends c.most_turns-turn-end.result c.loop-turn._turn c.args.event here (pump_and_wait here) _ refl c.turn-asked.ensures.course turn ends in
+    let ended = turn_ends c.most_turns-turn-end.result c.loop-turn._turn c.args.event here (pump_and_wait here) _ refl
+    c.turn-asked.ensures.course turn ends in
     let same = c.most_turns-turn-end.ensures.same (course c.args.machine.now c.args.row.now) refl in
     sym ended ∙ sym c.loop-turn.invariant.course ∙ same
 
@@ -17,7 +18,8 @@ loop-turn-preserved c =
     let here = course c.loop-turn.machine c.loop-turn.row in
     let turn : c.loop-turn._turn < c.most_turns-turn-end.result = c.loop-turn-test.true in
     let goes = sym c.turn-asked.ensures.ends ∙ sym c.is_ended.ensures ∙ c.if-is_ended.false in
-    let goes_on = turn_goes_on c.most_turns-turn-end.result c.loop-turn._turn c.args.event here (pump_and_wait here) _ refl c.turn-asked.ensures.course turn goes in
+    let goes_on = turn_goes_on c.most_turns-turn-end.result c.loop-turn._turn c.args.event here (pump_and_wait here) _ refl
+    c.turn-asked.ensures.course turn goes in
     let before = c.loop-turn.invariant.total in
     let made = c.turn-asked.ensures.total in
     record {

@@ -7,7 +7,8 @@ use Rattle.register_sweeps.proofs.row.ask_again.Given as goal
 abbrev pub invariant-loop-turn : goal.invariant-loop-turn
 invariant-loop-turn l =
     record {
-      course : ask_again l._turn-end l.event (course l.initial.machine l.initial.row) ≡ ask_again (l._turn-end - l._turn) l.event (course l.machine l.row);
+      course : ask_again l._turn-end l.event (course l.initial.machine l.initial.row) ≡ ask_again (l._turn-end - l._turn) l.event
+          (course l.machine l.row);
       total : total l.row ≤ total l.initial.row + 4 * l._turn;
       lacks : has_no_room l.asked ≡ true → lacks_room l.machine l.event ≡ true;
     }

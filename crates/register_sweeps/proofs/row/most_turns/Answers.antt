@@ -14,5 +14,6 @@ returns-then-is_request-clause-same c = λ d here.
     let whole = subst IsWholeState (sym here) c.requires.whole in
     let waits = ap (λ (s : MachineState). is_end (answered s c.args.event)) here ∙ c.requires.waits request in
     let enough : most_weight c.args.machine.now.sizes ≤ 4294967295 = omega (arith, few) in
-    let enough_here : most_weight d.state.sizes ≤ 4294967295 = subst (λ (s : MachineState). most_weight s.sizes ≤ 4294967295) (sym here) enough in
+    let enough_here : most_weight d.state.sizes ≤ 4294967295 = subst (λ (s : MachineState). most_weight s.sizes ≤ 4294967295)
+    (sym here) enough in
     enough_turns 4294967295 c.args.event d request whole waits enough_here

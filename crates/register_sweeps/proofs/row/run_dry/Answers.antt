@@ -18,4 +18,5 @@ unfolding weight_of
 returns c =
     let here = course c.loop-turn.machine c.loop-turn.row in
     let over : c.weight-turn-end.result ≤ c.loop-turn._turn = omega (arith, c.loop-turn-test.false) in
-    sym (no_pump_left c.weight-turn-end.result c.loop-turn._turn here over) ∙ sym c.loop-turn.invariant.0 ∙ ap (λ n. pump_times n (course c.args.machine.now c.args.row.now)) c.weight-turn-end.ensures.value
+    sym (no_pump_left c.weight-turn-end.result c.loop-turn._turn here over) ∙ sym c.loop-turn.invariant.0
+    ∙ ap (λ n. pump_times n (course c.args.machine.now c.args.row.now)) c.weight-turn-end.ensures.value

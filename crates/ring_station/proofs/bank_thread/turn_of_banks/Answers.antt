@@ -17,7 +17,8 @@ loop-k-preserved g c =
           c.loop-k.invariant.turns;
       over = λ none.
           let both = c.turn_of_both-all.ensures none in
-          one_more (λ r. goes_on r.end.fault ≡ false) k now _ less (c.loop-k.invariant.over both.0) (c.turn_of_bank-made.ensures.over both.1);
+          one_more (λ r. goes_on r.end.fault ≡ false) k now _ less (c.loop-k.invariant.over both.0)
+          (c.turn_of_bank-made.ensures.over both.1);
     }
 
 pub returns-clause-on : goal.returns-clause-on

@@ -23,7 +23,8 @@ returns-then-is_at_rest g c =
           (ended_still _ _ _ _ c.seek.ensures.held c.loop-turn.invariant.ended)),
     )
     (c.take_turn-stepped.ensures.same ∙ c.seek.ensures.same ∙ c.loop-turn.invariant.same)
-    (notes.earlier ∙ c.seek.ensures.earlier ∙ c.loop-turn.invariant.earlier) (noted_more _ _ _ _ notes (noted_still _ _ _ _ c.seek.ensures.held c.loop-turn.invariant.noted))
+    (notes.earlier ∙ c.seek.ensures.earlier ∙ c.loop-turn.invariant.earlier)
+    (noted_more _ _ _ _ notes (noted_still _ _ _ _ c.seek.ensures.held c.loop-turn.invariant.noted))
 
 pub returns-then-eq : goal.returns-then-eq
 returns-then-eq g c =
@@ -31,7 +32,8 @@ returns-then-eq g c =
     cache_ran _ _ _ _ _ _ _ c.stopped.ensures (search rules)
     (full_turn _ _ _ _ _ c.take_turn-stepped.ensures.turn (search rules))
     (c.take_turn-stepped.ensures.same ∙ c.seek.ensures.same ∙ c.loop-turn.invariant.same)
-    (notes.earlier ∙ c.seek.ensures.earlier ∙ c.loop-turn.invariant.earlier) (noted_more _ _ _ _ notes (noted_still _ _ _ _ c.seek.ensures.held c.loop-turn.invariant.noted))
+    (notes.earlier ∙ c.seek.ensures.earlier ∙ c.loop-turn.invariant.earlier)
+    (noted_more _ _ _ _ notes (noted_still _ _ _ _ c.seek.ensures.held c.loop-turn.invariant.noted))
 
 pub entries-entries-requires : goal.entries-entries-requires
 entries-entries-requires g c = lit< tt

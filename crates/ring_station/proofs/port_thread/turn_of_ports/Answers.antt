@@ -1,8 +1,7 @@
-use Rattle.std.proofs.Common.{◌≡◌, ◌<◌, ◌+◌, false, length, slice_index_or, rules, arith, sym, ◌∙◌, ap, subst}
+use Rattle.std.proofs.Common.{◌≡◌, ◌<◌, ◌+◌, false, length, slice_index_or, rules, arith, ◌∙◌, ap}
 use Rattle.std.specs.Global.{Vec}
-use Rattle.std.proofs.lemmas.List.{get_or_default}
 use Rattle.station_journal.specs.declared.asks.Ask.{Ask}
-use Rattle.ring_station.specs.Crew.{IsReady, GoesOn}
+use Rattle.ring_station.specs.Crew.{GoesOn}
 use Rattle.ring_station.specs.Ends.{goes_on}
 use Rattle.ring_station.proofs.Sharing.{no_turns, one_turn, one_more}
 use Rattle.ring_station.proofs.CrewRunning.{ready_now, goes_on_at}
@@ -23,14 +22,16 @@ loop-k-preserved g c =
     let now = c.loop-k.runs in
     let less : k < length now = search rules in
     record {
-      turns = one_turn (λ j old new. (s : Vec Ask) → GoesOn (slice_index_or c.args.scripts.now (c.args.start + j) s).items c.args.turn old new) k
+      turns = one_turn (λ j old new. (s : Vec Ask)
+          → GoesOn (slice_index_or c.args.scripts.now (c.args.start + j) s).items c.args.turn old new) k
           c.args.runs.now now _ _ less
           (goes_on_at c.args.scripts.now (c.args.start + k) c.args.turn c.index-scripts-p.result _ _ _
           (c.as_slice.ensures.value ∙ ap (λ (v : Vec Ask). v.items) c.index-scripts-p.is) (search rules) c.turn_of_port-made.ensures.on)
           c.loop-k.invariant.turns;
       over = λ none.
           let both = c.turn_of_both-all.ensures none in
-          one_more (λ r. goes_on r.end.fault ≡ false) k now _ less (c.loop-k.invariant.over both.0) (c.turn_of_port-made.ensures.over both.1);
+          one_more (λ r. goes_on r.end.fault ≡ false) k now _ less (c.loop-k.invariant.over both.0)
+          (c.turn_of_port-made.ensures.over both.1);
     }
 
 pub returns-clause-on : goal.returns-clause-on

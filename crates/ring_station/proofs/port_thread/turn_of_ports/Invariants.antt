@@ -10,6 +10,7 @@ use Rattle.ring_station.proofs.port_thread.turn_of_ports.Given as goal
 
 abbrev pub invariant-loop-k : goal.invariant-loop-k
 invariant-loop-k g l = record {
-  turns : HadTurns (λ j old now. (s : Vec Ask) → GoesOn (slice_index_or l.scripts (l.start + j) s).items l.turn old now) l.k l.fn.runs l.runs;
+  turns : HadTurns (λ j old now. (s : Vec Ask) → GoesOn (slice_index_or l.scripts (l.start + j) s).items l.turn old now) l.k l.fn.runs
+      l.runs;
   over : l.all ≡ None → (j : ℕ) (d : PortRun) → j < l.k → goes_on (slice_index_or l.runs j d).end.fault ≡ false;
 }

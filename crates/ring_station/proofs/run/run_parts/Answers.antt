@@ -1,4 +1,4 @@
-use Rattle.std.proofs.Common.{rules, arith, ◌≡◌, ◌≤◌, length, map, vec_len, ap, sym, ◌∙◌, lit<}
+use Rattle.std.proofs.Common.{arith, ◌≡◌, ◌≤◌, length, map, vec_len, ap, sym, ◌∙◌, lit<}
 use Rattle.station_parts.specs.Ids.{port_id, bank_id}
 use Rattle.std.specs.Global.{Vec}
 use Rattle.station_parts.specs.declared.port.Port.{Port}
@@ -7,7 +7,9 @@ use Rattle.flat_model.specs.declared.limits.TheConstants.{MAX_BANKS}
 use Rattle.station_parts.specs.declared.make.TheConstants.{MAX_PORTS}
 use Rattle.ring_station.specs.declared.crew.PortRun.{PortRun}
 use Rattle.ring_station.specs.declared.crew.BankRun.{BankRun}
-use Rattle.ring_station.proofs.StationRunning.{ports_back, banks_back, ports_unmoved, banks_unmoved, same_shown, same_id, on_err, cache_counted, port_ids, bank_ids, one_station_kept, few_ports_of, few_banks_of, enlisted_count}
+use Rattle.ring_station.proofs.StationRunning.{ports_back, banks_back, ports_unmoved, banks_unmoved, same_shown, same_id, on_err}
+use Rattle.ring_station.proofs.StationRunning.{cache_counted, port_ids, bank_ids, one_station_kept, few_ports_of, few_banks_of}
+use Rattle.ring_station.proofs.StationRunning.{enlisted_count}
 use Rattle.ring_station.proofs.run.run_parts.Goals as goal
 
 pub run_crew-end-requires-after_bounds : goal.run_crew-end-requires-after_bounds

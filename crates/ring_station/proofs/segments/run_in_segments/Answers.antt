@@ -2,7 +2,8 @@ use Rattle.std.proofs.Common.{◌+◌, ◌<◌, ◌≤◌, refl, sym, ◌∙◌,
 use Rattle.std.specs.Prelude.{max}
 use Rattle.std.proofs.lemmas.Result.{err_from_is_err_and}
 use Rattle.ring_station.proofs.Ending.{long_alike}
-use Rattle.ring_station.proofs.RunningOn.{come_nowhere, come_further, runs_to_the_end, stops_there, turns_to_the_end, turns_there, keeps_in_all}
+use Rattle.ring_station.proofs.RunningOn.{come_nowhere, come_further, runs_to_the_end, stops_there, turns_to_the_end, turns_there}
+use Rattle.ring_station.proofs.RunningOn.{keeps_in_all}
 use Rattle.station_parts.specs.Ids.{port_id}
 use Rattle.ring_station.proofs.segments.run_in_segments.Goals as goal
 
@@ -25,11 +26,13 @@ returns-in_err-run_pieces-clause-stops g c =
     let inv = c.loop-begin.invariant in
     let stop = c.in_err-run_pieces.ensures in
     rw told.1
-    (stops_there c.max-asks.result c.args.turns c.args.scripts.now c.loop-begin.begin c.args.station.now c.loop-begin.station c.run_pieces.new.station
+    (stops_there c.max-asks.result c.args.turns c.args.scripts.now c.loop-begin.begin c.args.station.now c.loop-begin.station
+    c.run_pieces.new.station
     (λ xs. g.K.Keeper.kept c.args.keeper.now xs c.loop-begin.keeper)
     (λ xs. g.K.Keeper.kept c.loop-begin.keeper xs c.run_pieces.new.keeper)
     (λ xs. g.K.Keeper.kept c.args.keeper.now xs c.run_pieces.new.keeper)
-    (g.met.K.Keeper.kept_more c.args.keeper.now c.loop-begin.keeper c.run_pieces.new.keeper) inv.same_ports inv.so_far (max c.args.asks 1) c.in_err-run_pieces.field-0.0 told.0 c.max-asks.ensures told.2 stop.same_ports stop.stops)
+    (g.met.K.Keeper.kept_more c.args.keeper.now c.loop-begin.keeper c.run_pieces.new.keeper) inv.same_ports inv.so_far
+    (max c.args.asks 1) c.in_err-run_pieces.field-0.0 told.0 c.max-asks.ensures told.2 stop.same_ports stop.stops)
 
 pub returns-then-longest-begin-clause-runs : goal.returns-then-longest-begin-clause-runs
 returns-then-longest-begin-clause-runs g c =

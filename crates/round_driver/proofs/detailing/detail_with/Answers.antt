@@ -5,7 +5,7 @@ use Rattle.round_driver.specs.Tables.{counting, nothing, counted_all, with_round
 use Rattle.round_driver.specs.Details.{counted_all as told_all, told_of, ends_of, outcomes_in, told_total, told_rounds, ends_total}
 use Rattle.round_driver.proofs.Runs.{no_more, run_begins, counts_begin, over_here, run_next, told_next as notes_next, counts_next}
 use Rattle.round_driver.proofs.Ends.{requests_end}
-use Rattle.round_driver.specs.Outcomes.{nothing_recorded, with_notes}
+use Rattle.round_driver.specs.Outcomes.{with_notes}
 use Rattle.round_driver.proofs.Recorded.{all_recorded, recording_begins, recorded_next}
 use Rattle.round_driver.proofs.Counted.{nothing_is_told, nothing_has_ended, told_begins, ends_begin, told_next, ends_next, details_alike}
 use Rattle.round_driver.proofs.detailing.detail_with.Goals as goal
@@ -48,11 +48,16 @@ returns-then-is_over-clause-details c =
     let here = c.loop-turn.invariant.run in
     let over = sym c.is_over.ensures ∙ c.if-is_over.true in
     let le : c.loop-turn._turn ≤ c.most_rounds-turn-end.result = omega (arith, c.loop-turn-test.true) in
-    let whole = over_here c.loop-turn._turn start c.loop-turn.machine c.loop-turn.schedule c.loop-turn.left.now here c.most_rounds-turn-end.result le over ∙ ap (λ n. rounds_until_over n start) c.most_rounds-turn-end.ensures.value in
-    let table : c.table_after-table.result ≡ table_of c.args.timing s c.args.requests.now = c.table_after-table.ensures ∙ ap (λ x. with_rounds x (c.loop-turn.schedule.round + 1)) c.loop-turn.invariant.counts ∙ ap (λ r. with_rounds (counted_all nothing r.told) (r.schedule.round + 1)) whole in
-    let told = c.loop-turn.invariant.told ∙ ap (told_of c.numbers_of-numbers.result) whole ∙ ap (λ z. told_of z (whole_run c.args.timing s c.args.requests.now)) c.numbers_of-numbers.ensures in
+    let whole = over_here c.loop-turn._turn start c.loop-turn.machine c.loop-turn.schedule c.loop-turn.left.now here
+    c.most_rounds-turn-end.result le over ∙ ap (λ n. rounds_until_over n start) c.most_rounds-turn-end.ensures.value in
+    let table : c.table_after-table.result ≡ table_of c.args.timing s c.args.requests.now = c.table_after-table.ensures
+    ∙ ap (λ x. with_rounds x (c.loop-turn.schedule.round + 1)) c.loop-turn.invariant.counts
+    ∙ ap (λ r. with_rounds (counted_all nothing r.told) (r.schedule.round + 1)) whole in
+    let told = c.loop-turn.invariant.told ∙ ap (told_of c.numbers_of-numbers.result) whole
+    ∙ ap (λ z. told_of z (whole_run c.args.timing s c.args.requests.now)) c.numbers_of-numbers.ensures in
     let time = sym c.loop-turn.invariant.time ∙ ap (λ r. r.schedule.round) whole in
-    let ends = c.loop-turn.invariant.ends ∙ ap (λ k. ends_of k c.numbers_of-numbers.result start) time ∙ ap (λ z. ends_of (whole_run c.args.timing s c.args.requests.now).schedule.round z start) c.numbers_of-numbers.ensures in
+    let ends = c.loop-turn.invariant.ends ∙ ap (λ k. ends_of k c.numbers_of-numbers.result start) time
+    ∙ ap (λ z. ends_of (whole_run c.args.timing s c.args.requests.now).schedule.round z start) c.numbers_of-numbers.ensures in
     let in_use = c.used_registers.ensures ∙ ap (λ r. used_registers r.state) whole in
     let outcomes = c.finish.ensures ∙ c.loop-turn.invariant.recorded ∙ ap (outcomes_in (length c.args.requests.now)) whole in
     c.details_from.ensures ∙ details_alike _ _ _ _ _ _ _ _ _ _ table told ends in_use outcomes
@@ -63,7 +68,8 @@ returns-then-is_over-clause-machine c =
     let here = c.loop-turn.invariant.run in
     let over = sym c.is_over.ensures ∙ c.if-is_over.true in
     let le : c.loop-turn._turn ≤ c.most_rounds-turn-end.result = omega (arith, c.loop-turn-test.true) in
-    let whole = over_here c.loop-turn._turn start c.loop-turn.machine c.loop-turn.schedule c.loop-turn.left.now here c.most_rounds-turn-end.result le over ∙ ap (λ n. rounds_until_over n start) c.most_rounds-turn-end.ensures.value in
+    let whole = over_here c.loop-turn._turn start c.loop-turn.machine c.loop-turn.schedule c.loop-turn.left.now here
+    c.most_rounds-turn-end.result le over ∙ ap (λ n. rounds_until_over n start) c.most_rounds-turn-end.ensures.value in
     ap (λ r. r.state) whole
 
 pub returns-then-is_over-clause-early : goal.returns-then-is_over-clause-early
@@ -72,7 +78,8 @@ returns-then-is_over-clause-early c =
     let here = c.loop-turn.invariant.run in
     let over = sym c.is_over.ensures ∙ c.if-is_over.true in
     let le : c.loop-turn._turn ≤ c.most_rounds-turn-end.result = omega (arith, c.loop-turn-test.true) in
-    let whole = over_here c.loop-turn._turn start c.loop-turn.machine c.loop-turn.schedule c.loop-turn.left.now here c.most_rounds-turn-end.result le over ∙ ap (λ n. rounds_until_over n start) c.most_rounds-turn-end.ensures.value in
+    let whole = over_here c.loop-turn._turn start c.loop-turn.machine c.loop-turn.schedule c.loop-turn.left.now here
+    c.most_rounds-turn-end.result le over ∙ ap (λ n. rounds_until_over n start) c.most_rounds-turn-end.ensures.value in
     λ h. sym (ap is_over whole) ∙ over
 
 pub returns-clause-machine : goal.returns-clause-machine
@@ -92,7 +99,8 @@ returns-clause-early c =
     let round : c.loop-turn.schedule.round ≡ turns = c.loop-turn.invariant.time in
     let all : turns ≡ c.most_rounds-turn-end.result = omega (arith, c.loop-turn-test.false, c.loop-turn.auto._turn-end) in
     let whole = here ∙ ap (λ n. rounds_until_over n start) (all ∙ c.most_rounds-turn-end.ensures.value) in
-    let last : c.loop-turn.schedule.round ≡ (whole_run c.args.timing c.args.machine.now c.args.requests.now).schedule.round = ap (λ r. r.schedule.round) whole in
+    let last : c.loop-turn.schedule.round ≡ (whole_run c.args.timing c.args.machine.now c.args.requests.now).schedule.round =
+    ap (λ r. r.schedule.round) whole in
     λ h. absurd (no_more c.most_rounds-turn-end.result _ _ (sym last ∙ round ∙ all) c.most_rounds-turn-end.ensures.value h)
 
 pub loop-turn-preserved : goal.loop-turn-preserved
@@ -107,14 +115,20 @@ loop-turn-preserved c =
     let more = c.count_all.ensures.total in
     let waited = c.loop-turn.invariant.waited in
     let longer = c.count_all.ensures.waited in
-    let run = run_next c.loop-turn._turn start c.loop-turn.machine c.loop-turn.schedule c.loop-turn.left.now here c.round-left.new.machine c.round-left.new.schedule c.round-left.result.now c.round-left.new.notes.items made going in
-    let notes = notes_next c.loop-turn._turn start c.loop-turn.machine c.loop-turn.schedule c.loop-turn.left.now here c.round-left.new.machine c.round-left.new.schedule c.round-left.result.now c.round-left.new.notes.items made going in
-    let told = told_next c.numbers_of-numbers.result (rounds_until_over c.loop-turn._turn start).told c.round-left.new.notes.items (rounds_until_over (c.loop-turn._turn + 1) start).told c.loop-turn.told c.count_all-in-loop-turn.new.self notes c.loop-turn.invariant.told (c.count_all-in-loop-turn.ensures.counts ∙ ap (λ ns. told_all c.numbers_of-numbers.result c.loop-turn.told ns) c.as_slice-in-loop-turn.ensures.value) in
+    let run = run_next c.loop-turn._turn start c.loop-turn.machine c.loop-turn.schedule c.loop-turn.left.now here c.round-left.new.machine
+    c.round-left.new.schedule c.round-left.result.now c.round-left.new.notes.items made going in
+    let notes = notes_next c.loop-turn._turn start c.loop-turn.machine c.loop-turn.schedule c.loop-turn.left.now here
+    c.round-left.new.machine c.round-left.new.schedule c.round-left.result.now c.round-left.new.notes.items made going in
+    let told = told_next c.numbers_of-numbers.result (rounds_until_over c.loop-turn._turn start).told c.round-left.new.notes.items
+    (rounds_until_over (c.loop-turn._turn + 1) start).told c.loop-turn.told c.count_all-in-loop-turn.new.self notes
+    c.loop-turn.invariant.told (c.count_all-in-loop-turn.ensures.counts ∙ ap (λ ns. told_all c.numbers_of-numbers.result
+    c.loop-turn.told ns) c.as_slice-in-loop-turn.ensures.value) in
     let room = length c.args.requests.now in
     let before_it = rounds_until_over c.loop-turn._turn start in
     let behind_it = rounds_until_over (c.loop-turn._turn + 1) start in
     let recorded = c.record_all.ensures ∙ ap (with_notes c.loop-turn.outcomes) c.as_slice-in-loop-turn-2.ensures.value in
-    let outcomes = recorded_next room before_it.told c.round-left.new.notes.items behind_it.told c.loop-turn.outcomes c.record_all.new.self notes c.loop-turn.invariant.outcomes recorded in
+    let outcomes = recorded_next room before_it.told c.round-left.new.notes.items behind_it.told c.loop-turn.outcomes c.record_all.new.self
+    notes c.loop-turn.invariant.outcomes recorded in
     let few_told = c.loop-turn.invariant.few_told in
     let more_told = c.count_all-in-loop-turn.ensures.total in
     let few_rounds = c.loop-turn.invariant.few_rounds in
@@ -123,9 +137,14 @@ loop-turn-preserved c =
     let more_ends = c.count.ensures.total in
     record {
       run = run;
-      counts = counts_next c.loop-turn._turn start c.loop-turn.machine c.loop-turn.schedule c.loop-turn.left.now here c.round-left.new.machine c.round-left.new.schedule c.round-left.result.now c.round-left.new.notes.items made going (counting c.loop-turn.counter) (counting c.count_all.new.self) c.loop-turn.invariant.counts (c.count_all.ensures.counts ∙ ap (counted_all (counting c.loop-turn.counter)) c.as_slice.ensures.value);
+      counts = counts_next c.loop-turn._turn start c.loop-turn.machine c.loop-turn.schedule c.loop-turn.left.now here
+          c.round-left.new.machine c.round-left.new.schedule c.round-left.result.now c.round-left.new.notes.items made going
+          (counting c.loop-turn.counter) (counting c.count_all.new.self) c.loop-turn.invariant.counts
+          (c.count_all.ensures.counts ∙ ap (counted_all (counting c.loop-turn.counter)) c.as_slice.ensures.value);
       told = told;
-      ends = ends_next c.loop-turn._turn c.numbers_of-numbers.result start c.loop-turn.ends c.count.new.self c.count_all-in-loop-turn.new.self c.used_registers-in-loop-turn.result c.loop-turn.invariant.ends c.count.ensures.value (c.used_registers-in-loop-turn.ensures ∙ ap (λ r. used_registers r.state) run) told;
+      ends = ends_next c.loop-turn._turn c.numbers_of-numbers.result start c.loop-turn.ends c.count.new.self
+          c.count_all-in-loop-turn.new.self c.used_registers-in-loop-turn.result c.loop-turn.invariant.ends c.count.ensures.value
+          (c.used_registers-in-loop-turn.ensures ∙ ap (λ r. used_registers r.state) run) told;
       outcomes = outcomes;
       recorded = ap (λ x. x.ended) outcomes ∙ all_recorded room behind_it.told;
       sizes = c.round-left.ensures.sizes ∙ c.loop-turn.invariant.sizes;

@@ -26,7 +26,8 @@ returns-then-is_over-clause-ok g c =
     let here = c.loop-turn.invariant.run in
     let over = sym c.is_over.ensures ∙ c.if-is_over.true in
     let le : c.loop-turn._turn ≤ c.most_rounds-turn-end.result = omega (arith, c.loop-turn-test.true) in
-    let whole = over_here c.loop-turn._turn start c.loop-turn.machine c.loop-turn.schedule c.loop-turn.left.now here c.most_rounds-turn-end.result le over ∙ ap (λ n. rounds_until_over n start) c.most_rounds-turn-end.ensures.value in
+    let whole = over_here c.loop-turn._turn start c.loop-turn.machine c.loop-turn.schedule c.loop-turn.left.now here
+    c.most_rounds-turn-end.result le over ∙ ap (λ n. rounds_until_over n start) c.most_rounds-turn-end.ensures.value in
     ap (λ r. r.schedule.round + 1) whole
 
 pub returns-then-is_over-clause-machine : goal.returns-then-is_over-clause-machine
@@ -35,7 +36,8 @@ returns-then-is_over-clause-machine g c =
     let here = c.loop-turn.invariant.run in
     let over = sym c.is_over.ensures ∙ c.if-is_over.true in
     let le : c.loop-turn._turn ≤ c.most_rounds-turn-end.result = omega (arith, c.loop-turn-test.true) in
-    let whole = over_here c.loop-turn._turn start c.loop-turn.machine c.loop-turn.schedule c.loop-turn.left.now here c.most_rounds-turn-end.result le over ∙ ap (λ n. rounds_until_over n start) c.most_rounds-turn-end.ensures.value in
+    let whole = over_here c.loop-turn._turn start c.loop-turn.machine c.loop-turn.schedule c.loop-turn.left.now here
+    c.most_rounds-turn-end.result le over ∙ ap (λ n. rounds_until_over n start) c.most_rounds-turn-end.ensures.value in
     ap (λ r. r.state) whole
 
 pub returns-then-is_over-clause-written : goal.returns-then-is_over-clause-written
@@ -44,7 +46,8 @@ returns-then-is_over-clause-written g c =
     let here = c.loop-turn.invariant.run in
     let over = sym c.is_over.ensures ∙ c.if-is_over.true in
     let le : c.loop-turn._turn ≤ c.most_rounds-turn-end.result = omega (arith, c.loop-turn-test.true) in
-    let whole = over_here c.loop-turn._turn start c.loop-turn.machine c.loop-turn.schedule c.loop-turn.left.now here c.most_rounds-turn-end.result le over ∙ ap (λ n. rounds_until_over n start) c.most_rounds-turn-end.ensures.value in
+    let whole = over_here c.loop-turn._turn start c.loop-turn.machine c.loop-turn.schedule c.loop-turn.left.now here
+    c.most_rounds-turn-end.result le over ∙ ap (λ n. rounds_until_over n start) c.most_rounds-turn-end.ensures.value in
     subst (λ t. Moves g.W.Sink.took c.args.writer.now t c.loop-turn.writer) (ap (λ r. run_text r.told) whole) c.loop-turn.invariant.written
 
 pub returns-in-Err-clause-fault : goal.returns-in-Err-clause-fault
@@ -53,9 +56,15 @@ returns-in-Err-clause-fault g c =
     let here = c.loop-turn.invariant.run in
     let going = sym c.is_over.ensures ∙ c.if-is_over.false in
     let made = c.round-left.ensures.run in
-    let bytes : c.as_bytes.result.now ≡ run_text c.round-left.new.notes.items = c.as_bytes.ensures.value ∙ c.in_ok-text.ensures ∙ ap run_text c.as_slice.ensures.value in
-    let stops = subst (λ t. Stopped g.W.Sink.took g.W.Sink.refused c.loop-turn.writer t c.write_whole.new.writer) bytes c.in-Err.ensures.err in
-    (c.loop-turn._turn + 1, text_breaks c.loop-turn._turn start c.loop-turn.machine c.loop-turn.schedule c.loop-turn.left.now here c.round-left.new.machine c.round-left.new.schedule c.round-left.result.now c.round-left.new.notes.items made going g.W.Sink.took g.W.Sink.refused c.args.writer.now c.loop-turn.writer c.write_whole.new.writer Write c.loop-turn.invariant.written stops)
+    let bytes : c.as_bytes.result.now ≡ run_text c.round-left.new.notes.items = c.as_bytes.ensures.value ∙ c.in_ok-text.ensures
+    ∙ ap run_text c.as_slice.ensures.value in
+    let stops = subst (λ t. Stopped g.W.Sink.took g.W.Sink.refused c.loop-turn.writer t c.write_whole.new.writer) bytes
+    c.in-Err.ensures.err in (
+      c.loop-turn._turn + 1,
+      text_breaks c.loop-turn._turn start c.loop-turn.machine c.loop-turn.schedule c.loop-turn.left.now here
+          c.round-left.new.machine c.round-left.new.schedule c.round-left.result.now c.round-left.new.notes.items made going g.W.Sink.took
+          g.W.Sink.refused c.args.writer.now c.loop-turn.writer c.write_whole.new.writer Write c.loop-turn.invariant.written stops,
+    )
 
 pub returns-then-is_over-clause-early : goal.returns-then-is_over-clause-early
 returns-then-is_over-clause-early g c =
@@ -63,7 +72,8 @@ returns-then-is_over-clause-early g c =
     let here = c.loop-turn.invariant.run in
     let over = sym c.is_over.ensures ∙ c.if-is_over.true in
     let le : c.loop-turn._turn ≤ c.most_rounds-turn-end.result = omega (arith, c.loop-turn-test.true) in
-    let whole = over_here c.loop-turn._turn start c.loop-turn.machine c.loop-turn.schedule c.loop-turn.left.now here c.most_rounds-turn-end.result le over ∙ ap (λ n. rounds_until_over n start) c.most_rounds-turn-end.ensures.value in
+    let whole = over_here c.loop-turn._turn start c.loop-turn.machine c.loop-turn.schedule c.loop-turn.left.now here
+    c.most_rounds-turn-end.result le over ∙ ap (λ n. rounds_until_over n start) c.most_rounds-turn-end.ensures.value in
     λ h. sym (ap is_over whole) ∙ over
 
 pub returns-clause-early : goal.returns-clause-early
@@ -74,7 +84,8 @@ returns-clause-early g c =
     let round : c.loop-turn.schedule.round ≡ turns = c.loop-turn.invariant.time in
     let all : turns ≡ c.most_rounds-turn-end.result = omega (arith, c.loop-turn-test.false, c.loop-turn.auto._turn-end) in
     let whole = here ∙ ap (λ n. rounds_until_over n start) (all ∙ c.most_rounds-turn-end.ensures.value) in
-    let last : c.loop-turn.schedule.round ≡ (whole_run c.args.timing c.args.machine.now c.args.requests.now).schedule.round = ap (λ r. r.schedule.round) whole in
+    let last : c.loop-turn.schedule.round ≡ (whole_run c.args.timing c.args.machine.now c.args.requests.now).schedule.round =
+    ap (λ r. r.schedule.round) whole in
     λ h. absurd (no_more c.most_rounds-turn-end.result _ _ (sym last ∙ round ∙ all) c.most_rounds-turn-end.ensures.value h)
 
 pub loop-turn-preserved : goal.loop-turn-preserved
@@ -85,11 +96,15 @@ loop-turn-preserved g c =
     let made = c.round-left.ensures.run in
     let time = c.round-left.ensures.time in
     let before = c.loop-turn.invariant.time in
-    let bytes : c.as_bytes.result.now ≡ run_text c.round-left.new.notes.items = c.as_bytes.ensures.value ∙ c.in_ok-text.ensures ∙ ap run_text c.as_slice.ensures.value in
+    let bytes : c.as_bytes.result.now ≡ run_text c.round-left.new.notes.items = c.as_bytes.ensures.value ∙ c.in_ok-text.ensures
+    ∙ ap run_text c.as_slice.ensures.value in
     let text = subst (λ t. Moves g.W.Sink.took c.loop-turn.writer t c.write_whole.new.writer) bytes c.in-Ok.ensures.ok in
     record {
-      run = run_next c.loop-turn._turn start c.loop-turn.machine c.loop-turn.schedule c.loop-turn.left.now here c.round-left.new.machine c.round-left.new.schedule c.round-left.result.now c.round-left.new.notes.items made going;
-      written = text_next c.loop-turn._turn start c.loop-turn.machine c.loop-turn.schedule c.loop-turn.left.now here c.round-left.new.machine c.round-left.new.schedule c.round-left.result.now c.round-left.new.notes.items made going g.W.Sink.took c.args.writer.now c.loop-turn.writer c.write_whole.new.writer c.loop-turn.invariant.written text;
+      run = run_next c.loop-turn._turn start c.loop-turn.machine c.loop-turn.schedule c.loop-turn.left.now here c.round-left.new.machine
+          c.round-left.new.schedule c.round-left.result.now c.round-left.new.notes.items made going;
+      written = text_next c.loop-turn._turn start c.loop-turn.machine c.loop-turn.schedule c.loop-turn.left.now here
+          c.round-left.new.machine c.round-left.new.schedule c.round-left.result.now c.round-left.new.notes.items made going g.W.Sink.took
+          c.args.writer.now c.loop-turn.writer c.write_whole.new.writer c.loop-turn.invariant.written text;
       sizes = c.round-left.ensures.sizes ∙ c.loop-turn.invariant.sizes;
       time = omega (arith, time, before);
       next = c.round-left.ensures.next;

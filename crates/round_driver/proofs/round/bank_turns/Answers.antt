@@ -10,7 +10,8 @@ loop-bank-preserved c =
     let before = c.loop-bank.invariant.len in
     let told = c.serve_due.ensures.len in
     record {
-      same = c.loop-bank.invariant.same ∙ bank_more c.sizes.result.now.banks c.loop-bank.bank here _ _ c.begin.ensures.course c.serve_due.ensures.course turn;
+      same = c.loop-bank.invariant.same ∙ bank_more c.sizes.result.now.banks c.loop-bank.bank here _ _ c.begin.ensures.course
+          c.serve_due.ensures.course turn;
       sizes = c.serve_due.ensures.sizes ∙ c.loop-bank.invariant.sizes;
       len = omega (arith, before, told);
       time = c.serve_due.ensures.time ∙ c.begin.ensures.time ∙ c.loop-bank.invariant.time;
@@ -21,4 +22,5 @@ pub returns-clause-course : goal.returns-clause-course
 returns-clause-course c =
     let here = course c.loop-bank.machine c.loop-bank.schedule c.loop-bank.notes.items in
     let over : c.sizes.result.now.banks ≤ c.loop-bank.bank = omega (arith, c.loop-bank-test.false) in
-    sym (no_bank_left c.sizes.result.now.banks c.loop-bank.bank here over) ∙ sym c.loop-bank.invariant.same ∙ ap (λ z. bank_turns z.banks 0 (course c.args.machine.now c.args.schedule.now c.args.notes.now.items)) c.sizes.ensures
+    sym (no_bank_left c.sizes.result.now.banks c.loop-bank.bank here over) ∙ sym c.loop-bank.invariant.same
+    ∙ ap (λ z. bank_turns z.banks 0 (course c.args.machine.now c.args.schedule.now c.args.notes.now.items)) c.sizes.ensures

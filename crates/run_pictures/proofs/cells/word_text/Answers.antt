@@ -10,4 +10,5 @@ pub returns-then-has_any : goal.returns-then-has_any
 returns-then-has_any c =
     let word = c.args.word in
     let dirty = c.args.dirty in
-    text_at_same (λ b. if b then digits word ++ (codes ", dirty " ++ mask dirty) else digits word) c.format.result string_bytes (has_any dirty) true (sym c.has_any.ensures ∙ c.if-has_any.true) c.format.ensures.ok
+    text_at_same (λ b. if b then digits word ++ (codes ", dirty " ++ mask dirty) else digits word) c.format.result string_bytes
+    (has_any dirty) true (sym c.has_any.ensures ∙ c.if-has_any.true) c.format.ensures.ok

@@ -20,4 +20,5 @@ returns-clause-step c =
     ap (λ o. record { event = asked.event; answer = answer; other = o }) c.other_answer.ensures
     ∙ ap (λ a. record { event = asked.event; answer = a; other = other_answer a asked.recorded }) applied.answer in
     on_success c.draw.result c.draw.ensures
-    (draws_event c.args.count c.args.number s t asked c.new-before.result made c.in_ok-step.step c.args.drawing.now c.draw.new.self c.new-before.ensures applied.machine is step.number (step.whole ∙ c.is_whole.ensures) step.made step.words)
+    (draws_event c.args.count c.args.number s t asked c.new-before.result made c.in_ok-step.step c.args.drawing.now c.draw.new.self
+    c.new-before.ensures applied.machine is step.number (step.whole ∙ c.is_whole.ensures) step.made step.words)

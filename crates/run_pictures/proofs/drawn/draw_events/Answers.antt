@@ -10,4 +10,5 @@ loop-k-preserved c last rest =
     let all = c.args.all.now in
     let next = c.draw_event.new.drawing in
     let behind = subst (λ t. Follows (length all) (k + 1 + 1) t (drop (k + 1) all) next last) c.draw_event.ensures.state rest in
-    c.loop-k.invariant last (subst (λ es. Follows (length all) (k + 1) s es c.loop-k.drawing last) (sym (drop_more all k _ c.loop-k-test.true)) (next, c.in_ok-draw_event.ensures.step, behind))
+    c.loop-k.invariant last (subst (λ es. Follows (length all) (k + 1) s es c.loop-k.drawing last)
+    (sym (drop_more all k _ c.loop-k-test.true)) (next, c.in_ok-draw_event.ensures.step, behind))

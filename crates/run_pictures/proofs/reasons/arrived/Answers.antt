@@ -6,4 +6,5 @@ use Rattle.run_pictures.proofs.reasons.arrived.Goals as goal
 
 pub returns-in-Some : goal.returns-in-Some
 returns-in-Some c =
-    text_at_same (words.arrived_words c.args.bank) c.format.result string_bytes c.args.answer (Some c.in-Some.answer) c.in-Some.is c.format.ensures.ok
+    text_at_same (words.arrived_words c.args.bank) c.format.result string_bytes c.args.answer (Some c.in-Some.answer) c.in-Some.is
+    c.format.ensures.ok

@@ -10,5 +10,6 @@ returns g c =
     let all = all_asked read.0 in
     let kept = subst (KeepsFew all) c.in-Some.is read.2 in
     let text = c.in_ok-draw_run.field-0 in
-    let drawn = subst (λ asked. IsDrawn c.args.form c.args.image.now c.args.machine.now asked (string_bytes text)) (c.as_slice.ensures.value ∙ kept.1) c.in_ok-draw_run.ensures in
+    let drawn = subst (λ asked. IsDrawn c.args.form c.args.image.now c.args.machine.now asked (string_bytes text))
+    (c.as_slice.ensures.value ∙ kept.1) c.in_ok-draw_run.ensures in
     (read.0, read.1, kept.0, drawn)

@@ -24,7 +24,8 @@ returns-in-Err g c words h =
 pub returns-then-given-eq0 : goal.returns-then-given-eq0
 returns-then-given-eq0 g c words h =
     let inv = c.pieces.invariant words h in
-    let gives = subst (λ l. g.R.Source.gave c.pieces.reader l c.read_some.new.self) (ap (λ n. take n c.read_some.new.buf) c.if-given-eq0.true) c.in-Ok.ensures.gave in
+    let gives = subst (λ l. g.R.Source.gave c.pieces.reader l c.read_some.new.self)
+    (ap (λ n. take n c.read_some.new.buf) c.if-given-eq0.true) c.in-Ok.ensures.gave in
     told_end g.R.Source.gave g.R.Source.failed c.pieces.lines c.end.result inv.1 inv.2 gives c.end.ensures
 
 pub returns-in-Err-read : goal.returns-in-Err-read
@@ -32,7 +33,8 @@ returns-in-Err-read g c words h =
     let inv = c.pieces.invariant words h in
     let piece = take c.in-Ok.given c.read_some.new.buf in
     let some : 0 < length piece = omega (arith, length-take c.in-Ok.given c.read_some.new.buf, c.in-Ok.ensures.bound) in
-    told_in g.R.Source.gave g.R.Source.failed c.pieces.lines piece c.in-Err-read.stop c.explained.result inv.1 inv.2 (c.in-Ok.ensures.gave, some) (c.in-Err-read.ensures.stop words inv.0 inv.2) c.explained.ensures
+    told_in g.R.Source.gave g.R.Source.failed c.pieces.lines piece c.in-Err-read.stop c.explained.result inv.1 inv.2
+    (c.in-Ok.ensures.gave, some) (c.in-Err-read.ensures.stop words inv.0 inv.2) c.explained.ensures
 
 pub pieces-preserved : goal.pieces-preserved
 pieces-preserved g c words h =

@@ -5,7 +5,8 @@ use Rattle.shape_files.proofs.Members.{first_other, first_other-keys}
 use Rattle.shape_files.proofs.machine_file.other_key.Goals as goal
 
 pub loop-key-init : goal.loop-key-init
-loop-key-init c = first_other-keys c.args.table.now.entries ∙ ap first_other (sym (c.into_iter-key-iterator.ensures.into_iter_gives ∙ c.keys-key-items.ensures.rest))
+loop-key-init c = first_other-keys c.args.table.now.entries
+    ∙ ap first_other (sym (c.into_iter-key-iterator.ensures.into_iter_gives ∙ c.keys-key-items.ensures.rest))
 
 pub returns-then-not-is_machine_key : goal.returns-then-not-is_machine_key
 returns-then-not-is_machine_key c =

@@ -4,7 +4,8 @@ use Rattle.shape_files.proofs.Members.{others, others-keys}
 use Rattle.shape_files.proofs.shape_file.has_other_key.Goals as goal
 
 pub loop-key-init : goal.loop-key-init
-loop-key-init c = others-keys c.args.table.now.entries ∙ ap others (sym (c.into_iter-key-iterator.ensures.into_iter_gives ∙ c.keys-key-items.ensures.rest))
+loop-key-init c = others-keys c.args.table.now.entries
+    ∙ ap others (sym (c.into_iter-key-iterator.ensures.into_iter_gives ∙ c.keys-key-items.ensures.rest))
 
 pub returns-then-not-is_key : goal.returns-then-not-is_key
 returns-then-not-is_key c =

@@ -1,4 +1,4 @@
-use Rattle.std.proofs.Common.{◌≡◌, ◌∙◌, ◌<◌, true, false, sym, below_more}
+use Rattle.std.proofs.Common.{◌≡◌, ◌∙◌, sym, below_more}
 use Rattle.station_journal.specs.Parts.{told_of}
 use Rattle.station_parts.specs.Runs.{list_in}
 use Rattle.station_checks.proofs.Comparing.{differ, list_at}

@@ -1,4 +1,4 @@
-use Rattle.std.proofs.Common.{◌≡◌, ◌∙◌, append-nil, ap, sym}
+use Rattle.std.proofs.Common.{◌∙◌, append-nil, ap, sym}
 use Rattle.station_checks.proofs.Reading.{events_more, answers_more}
 use Rattle.station_checks.proofs.checks.pairs_in.Goals as goal
 use Rattle.station_checks.proofs.checks.pairs_in.Goals.{in-Step+in_ok-push+in_ok-push-2, in_default}
@@ -10,8 +10,10 @@ loop-entry-preserved c =
     elim c.match-entry.branch [
       | in-Step+in_ok-push+in_ok-push-2 w ↦
           record {
-            events = events_more xs i _ _ within w.in-Step.is _ _ before.events (ap (λ v. v.items) w.events-is ∙ w.in_ok-push.ensures.items);
-            answers = answers_more xs i _ _ within w.in-Step.is _ _ before.answers (ap (λ v. v.items) w.answers-is ∙ w.in_ok-push-2.ensures.items);
+            events = events_more xs i _ _ within w.in-Step.is _ _ before.events
+                (ap (λ v. v.items) w.events-is ∙ w.in_ok-push.ensures.items);
+            answers = answers_more xs i _ _ within w.in-Step.is _ _ before.answers
+                (ap (λ v. v.items) w.answers-is ∙ w.in_ok-push-2.ensures.items);
           }
       | in_default w ↦
           record {

@@ -1,4 +1,4 @@
-use Rattle.std.proofs.Common.{◌≡◌, ◌∙◌, ap, sym, take, Some, None, arith}
+use Rattle.std.proofs.Common.{◌∙◌, ap, sym, arith}
 use Rattle.station_parts.specs.Words.{held_of}
 use Rattle.station_checks.proofs.Reading.{read_more, read_none}
 use Rattle.station_checks.proofs.checks.read_journal.Goals as goal

@@ -1,4 +1,4 @@
-use Rattle.std.proofs.Common.{◌≡◌, ◌∷◌, [], ◌++◌, Some, None, append-nil, ap, sym, ◌∙◌}
+use Rattle.std.proofs.Common.{◌≡◌, ◌++◌, append-nil, ap, sym, ◌∙◌}
 use Rattle.station_checks.specs.Checks.{told_list}
 use Rattle.station_checks.proofs.Reading.{told_more}
 use Rattle.station_checks.proofs.checks.told_in.Goals as goal
@@ -11,7 +11,8 @@ loop-entry-preserved c =
     c.match-telling_of.told.items c.loop-entry-test.true c.telling_of.ensures c.loop-entry.invariant new in
     elim c.match-telling_of.branch [
       | in-Some+in_ok-push w ↦
-          more (ap (λ v. v.items) w.told-is ∙ w.in_ok-push.ensures.items ∙ ap (λ t. c.loop-entry.told.items ++ told_list t) (sym w.in-Some.is))
+          more (ap (λ v. v.items) w.told-is ∙ w.in_ok-push.ensures.items ∙ ap (λ t. c.loop-entry.told.items ++ told_list t)
+          (sym w.in-Some.is))
       | in_default w ↦
           more (ap (λ v. v.items) w.told-is ∙ sym (append-nil c.loop-entry.told.items)
           ∙ ap (λ t. c.loop-entry.told.items ++ told_list t) (sym w.in_default.is))

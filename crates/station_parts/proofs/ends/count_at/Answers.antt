@@ -10,7 +10,8 @@ returns-clause-looks g c =
     let xs = c.args.ends.now.items in
     let end = c.index_mut-end.result.now in
     let there : c.args.place < length xs = omega arith in
-    pops_at xs c.args.place end c.slots.new.self there c.index_mut-end.ensures.value _ (pops_looked end c.slots.new.self c.slots.ensures.looked)
+    pops_at xs c.args.place end c.slots.new.self there c.index_mut-end.ensures.value _
+    (pops_looked end c.slots.new.self c.slots.ensures.looked)
 
 pub returns-clause-number : goal.returns-clause-number
 returns-clause-number g c =

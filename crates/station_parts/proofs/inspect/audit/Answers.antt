@@ -5,7 +5,8 @@ use Rattle.station_parts.specs.Runs.{AreAnswered}
 use Rattle.station_parts.specs.declared.parts.Audit.{Audit}
 use Rattle.station_parts.specs.declared.parts.Audit.TheVariants.{Faulted}
 use Rattle.station_parts.proofs.Moves.{still_one}
-use Rattle.station_parts.proofs.Auditing.{few_of, ask_number, bank_number, prefixes_here, bank_true_here, run_here, sources_here, judged_here, never_here, answered_here, conversed_still, whole_here, paid_here, held_here}
+use Rattle.station_parts.proofs.Auditing.{few_of, ask_number, bank_number, prefixes_here, bank_true_here, run_here, sources_here}
+use Rattle.station_parts.proofs.Auditing.{judged_here, never_here, answered_here, conversed_still, whole_here, paid_here, held_here}
 use Rattle.station_parts.specs.Words.{journal_of}
 use Rattle.station_parts.proofs.inspect.audit.Goals as goal
 

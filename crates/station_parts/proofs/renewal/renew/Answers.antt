@@ -1,4 +1,4 @@
-use Rattle.std.proofs.Common.{◌≡◌, sym, ap, ◌∙◌, subst, subst₂, IsTrue}
+use Rattle.std.proofs.Common.{sym, ap, ◌∙◌, subst, subst₂, IsTrue}
 use Rattle.cache_unit.specs.State.{UnitState}
 use Rattle.cache_unit.specs.Views.{is_clean}
 use Rattle.station_parts.specs.Words.{journal_of}

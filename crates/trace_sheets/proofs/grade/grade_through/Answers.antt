@@ -29,5 +29,6 @@ pub returns-in-Err-clause-ends : goal.returns-in-Err-clause-ends
 returns-in-Err-clause-ends g c =
     read_fails g.R.Source.gave g.R.Source.failed sheet_fault
     (λ s texts t. (t.format ≡ s.format) × Graded s.format s.machine.now texts t.machine.now t.report.now.items t.score)
-    (λ s text t. Unit {0}) (λ s t. t ≡ s) (λ s t. ⊥) 768 c.args.reader.now c.read_lines.new.reader c.args.grading.now c.read_lines.new.collector
+    (λ s text t. Unit {0}) (λ s t. t ≡ s) (λ s t. ⊥) 768 c.args.reader.now c.read_lines.new.reader c.args.grading.now
+    c.read_lines.new.collector
     c.in-Err.stop c.fault_or.result c.in-Err.ensures.reads c.fault_or.ensures.fault c.fault_or.ensures.halted

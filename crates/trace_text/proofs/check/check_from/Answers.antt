@@ -12,4 +12,5 @@ returns-in-Err-clause-fault g c =
     λ s texts t. JudgedFrom (shown s.memory) texts t.steps t.mismatch (shown t.memory) in
     let start : Checking = record { memory = c.args.memory; steps = 0; mismatch = None } in
     read_fails g.R.Source.gave g.R.Source.failed pair_fault went (λ s text t. Unit {0}) (λ s t. t ≡ s) (λ s t. ⊥) MAX_PAIR
-    c.args.reader.now c.read_lines.new.reader start c.read_lines.new.collector c.in-Err.stop c.fault_or.result c.in-Err.ensures.reads c.fault_or.ensures.fault c.fault_or.ensures.halted
+    c.args.reader.now c.read_lines.new.reader start c.read_lines.new.collector c.in-Err.stop c.fault_or.result c.in-Err.ensures.reads
+    c.fault_or.ensures.fault c.fault_or.ensures.halted

@@ -13,7 +13,9 @@ if_none N P None m = m
 if_none N P (Some x) m = tt
 
 pub returns-clause-some : goal.returns-clause-some
-returns-clause-some c = if_some _ _ c.strip_prefix.result (strip_prefix_is Decides-eqb c.args.text.now c.args.name.now c.strip_prefix.result c.strip_prefix.ensures.cases)
+returns-clause-some c = if_some _ _ c.strip_prefix.result
+    (strip_prefix_is Decides-eqb c.args.text.now c.args.name.now c.strip_prefix.result c.strip_prefix.ensures.cases)
 
 pub returns-clause-none : goal.returns-clause-none
-returns-clause-none c = if_none _ _ c.strip_prefix.result (strip_prefix_is Decides-eqb c.args.text.now c.args.name.now c.strip_prefix.result c.strip_prefix.ensures.cases)
+returns-clause-none c = if_none _ _ c.strip_prefix.result
+    (strip_prefix_is Decides-eqb c.args.text.now c.args.name.now c.strip_prefix.result c.strip_prefix.ensures.cases)

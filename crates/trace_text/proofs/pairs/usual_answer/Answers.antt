@@ -17,13 +17,15 @@ accepted = refl
 pub returns-in-Some : goal.returns-in-Some
 returns-in-Some c = record {
   reply = codes "moved";
-  whole = strip_suffix_is Decides-eqb c.args.text.now c.as_slice.result.now (Some c.in-Some.line) c.in-Some.ensures.cases ∙ ap (λ p. c.in-Some.line.now ++ p) c.as_slice.ensures;
+  whole = strip_suffix_is Decides-eqb c.args.text.now c.as_slice.result.now (Some c.in-Some.line) c.in-Some.ensures.cases
+      ∙ ap (λ p. c.in-Some.line.now ++ p) c.as_slice.ensures;
   said = moved;
 }
 
 pub returns-in-Some-strip_suffix : goal.returns-in-Some-strip_suffix
 returns-in-Some-strip_suffix c = record {
   reply = codes "accepted";
-  whole = strip_suffix_is Decides-eqb c.args.text.now c.as_slice-2.result.now (Some c.in-Some-strip_suffix.line) c.in-Some-strip_suffix.ensures.cases ∙ ap (λ p. c.in-Some-strip_suffix.line.now ++ p) c.as_slice-2.ensures;
+  whole = strip_suffix_is Decides-eqb c.args.text.now c.as_slice-2.result.now (Some c.in-Some-strip_suffix.line)
+      c.in-Some-strip_suffix.ensures.cases ∙ ap (λ p. c.in-Some-strip_suffix.line.now ++ p) c.as_slice-2.ensures;
   said = accepted;
 }

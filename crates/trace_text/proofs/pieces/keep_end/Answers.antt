@@ -1,4 +1,5 @@
-use Rattle.std.proofs.Common.{arith, ◌≡◌, ◌<◌, ◌+◌, ◌-◌, length, take, length-take, length-drop, get_or, get_or-take, get_or-drop, ap, sym, ◌∙◌}
+use Rattle.std.proofs.Common.{arith, ◌≡◌, ◌<◌, ◌+◌, ◌-◌, length, take, length-take, length-drop, get_or, get_or-take, get_or-drop, ap, sym}
+use Rattle.std.proofs.Common.{◌∙◌}
 use Rattle.std.proofs.lemmas.List.{ext_get_or}
 use Rattle.trace_text.proofs.pieces.keep_end.Goals as goal
 

@@ -21,4 +21,6 @@ pub returns-in-Err-clause-fault : goal.returns-in-Err-clause-fault
 returns-in-Err-clause-fault g c =
     let went : Requests → List (List ℕ) → Requests → Type 0 = λ s texts t. t.events.items ≡ requests_of texts in
     let start : Requests = record { events = c.new.result } in
-    read_fails g.R.Source.gave g.R.Source.failed trace_fault went (λ s text t. Unit {0}) (λ s t. t.events.items ≡ s.events.items) (λ s t. ⊥) 64 c.args.reader.now c.read_lines.new.reader start c.read_lines.new.collector c.in-Err.stop c.fault_or.result c.in-Err.ensures.reads c.fault_or.ensures.fault c.fault_or.ensures.halted
+    read_fails g.R.Source.gave g.R.Source.failed trace_fault went (λ s text t. Unit {0}) (λ s t. t.events.items ≡ s.events.items)
+    (λ s t. ⊥) 64 c.args.reader.now c.read_lines.new.reader start c.read_lines.new.collector c.in-Err.stop c.fault_or.result
+    c.in-Err.ensures.reads c.fault_or.ensures.fault c.fault_or.ensures.halted

@@ -4,4 +4,5 @@ use Rattle.uses.specs.Lookups.{total}
 use Rattle.uses.proofs.own_order.count_lookups.Given as goal
 
 abbrev pub invariant-loop-k : goal.invariant-loop-k
-invariant-loop-k l = (total l.lookups ≡ count_by (λ at. nat_lt at l.initial.machine.sizes.words) (take l.k l.addresses)) × (l.machine.sizes ≡ l.initial.machine.sizes)
+invariant-loop-k l = (total l.lookups ≡ count_by (λ at. nat_lt at l.initial.machine.sizes.words) (take l.k l.addresses)) ×
+    (l.machine.sizes ≡ l.initial.machine.sizes)

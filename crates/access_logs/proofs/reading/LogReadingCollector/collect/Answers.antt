@@ -1,4 +1,4 @@
-use Rattle.std.proofs.Common.{◌≡◌, ◌+◌, ◌∷◌, ◌++◌, [], None, Some, Ok, ◌∙◌, sym, ap, subst, arith}
+use Rattle.std.proofs.Common.{◌≡◌, ◌+◌, ◌∷◌, ◌++◌, [], None, Ok, ◌∙◌, sym, ap, subst, arith}
 use Rattle.access_logs.specs.Logs.{state_with, state_after}
 use Rattle.access_logs.specs.Reads.{Kept, KeptMore}
 use Rattle.access_logs.proofs.Kept.{kept_passed, kept_line}
@@ -21,7 +21,8 @@ returns-in_ok-keep-in-Some-clause-kept g c start texts number went =
     let access_in = g.F.LogFormat.access_in in
     let s = state_with self.pages self.tag self.lines in
     let s' = state_with new.pages new.tag c.args.number in
-    let same : state_with new.pages new.tag (new.lines + 1) ≡ s' = ap (state_with new.pages new.tag) (omega (arith, number, went.0.number, ok.lines)) in
+    let same : state_with new.pages new.tag (new.lines + 1) ≡ s' =
+    ap (state_with new.pages new.tag) (omega (arith, number, went.0.number, ok.lines)) in
     let more : KeptMore self.room s self.requests.items self.groups.items access s' new.requests.items new.groups.items =
     subst (λ x. KeptMore self.room s self.requests.items self.groups.items access x new.requests.items new.groups.items) same ok.ok in
     let line : Kept access_in self.room (texts ++ c.args.text.now ∷ []) s' new.requests.items new.groups.items =

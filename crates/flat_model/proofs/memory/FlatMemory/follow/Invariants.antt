@@ -6,4 +6,5 @@ use Rattle.flat_model.proofs.Replays.{Follows}
 use Rattle.flat_model.proofs.memory.FlatMemory.follow.Given as goal
 
 abbrev pub invariant-loop-place : goal.invariant-loop-place
-invariant-loop-place l = Follows (shown l.initial.self) (shown l.self) l.events l.answers l.place × (count_by is_load (drop l.place l.events) ≤ spare l.self.due)
+invariant-loop-place l = Follows (shown l.initial.self) (shown l.self) l.events l.answers l.place ×
+    (count_by is_load (drop l.place l.events) ≤ spare l.self.due)

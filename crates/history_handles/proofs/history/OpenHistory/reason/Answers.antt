@@ -9,7 +9,8 @@ pub returns-in_err-load : goal.returns-in_err-load
 returns-in_err-load c s k few =
     let none : load_under s.loads c.args.number ≡ None = sym (c.load_under.ensures s k) ∙ c.in_err-load.was in
     c.from_residual.ensures
-    ∙ sym (ap (λ (o : Option Operation). option_and_then (λ x. unit_reason s.seen (unit_bytes s.law) c.args.number x.address c.args.bytes.now
+    ∙ sym (ap (λ (o : Option Operation). option_and_then (λ x. unit_reason s.seen (unit_bytes s.law) c.args.number x.address
+    c.args.bytes.now
     c.args.place) o) none)
 
 pub returns : goal.returns
@@ -18,5 +19,6 @@ returns c s k few =
     let size = c.unit_bytes.ensures.bytes ∙ ap unit_bytes k.law in
     c.unit_reason.ensures s.seen (k.log few)
     ∙ ap (λ n. unit_reason s.seen n c.args.number c.in_ok-load.load.address c.args.bytes.now c.args.place) size
-    ∙ sym (ap (λ (o : Option Operation). option_and_then (λ x. unit_reason s.seen (unit_bytes s.law) c.args.number x.address c.args.bytes.now
+    ∙ sym (ap (λ (o : Option Operation). option_and_then (λ x. unit_reason s.seen (unit_bytes s.law) c.args.number x.address
+    c.args.bytes.now
     c.args.place) o) some)

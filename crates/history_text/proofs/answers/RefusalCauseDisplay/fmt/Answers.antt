@@ -13,12 +13,14 @@ returns-in-OutOfRange-clause-writes g c =
 
 pub returns-in-WrongLength-clause-writes : goal.returns-in-WrongLength-clause-writes
 returns-in-WrongLength-clause-writes g c =
-    let P : List ℕ → Type 0 = λ bs. HasWritten {W = g.row.W.Denot} g.W.Write.write_str_gives c.args.f.now bs c.write-in-WrongLength.new.self in
+    let P : List ℕ → Type 0 = λ bs. HasWritten {W = g.row.W.Denot} g.W.Write.write_str_gives c.args.f.now bs
+    c.write-in-WrongLength.new.self in
     λ plain ok. subst P (ap cause_text (sym c.in-WrongLength.is)) (c.write-in-WrongLength.ensures.writes plain ok)
 
 pub returns-in-WrongByte-clause-writes : goal.returns-in-WrongByte-clause-writes
 returns-in-WrongByte-clause-writes g c =
-    let P : List ℕ → Type 0 = λ bs. HasWritten {W = g.row.W.Denot} g.W.Write.write_str_gives c.args.f.now bs c.write-in-WrongByte.new.self in
+    let P : List ℕ → Type 0 = λ bs. HasWritten {W = g.row.W.Denot} g.W.Write.write_str_gives c.args.f.now bs
+    c.write-in-WrongByte.new.self in
     let w = c.in-WrongByte in
     let Text : List AllowedByte → List ℕ = λ xs. codes "returned " ++ (byte_text w.returned ++ (codes " at " ++ (address_text w.address
     ++ (codes ", which may be " ++ (alternatives_text xs ++ overwritten_text w.overwritten))))) in

@@ -1,4 +1,4 @@
-use Rattle.std.proofs.Common.{◌≡◌, ◌∙◌, Some, None, ap, refl, sym, subst}
+use Rattle.std.proofs.Common.{◌∙◌, ap, refl, sym, subst}
 use Rattle.history_text.specs.declared.answers.RefusalCause.TheVariants.{NotOpen}
 use Rattle.history_text.specs.Operations.{load_in}
 use Rattle.history_text.specs.Refusals.{IsResponseCause}
@@ -16,6 +16,7 @@ returns-in-Some g c =
     let j = g.J.HistoryJudge in
     if_ok c.answer_cause.result _ _
     (λ cause is start events w s.
-    (let some = ap (λ ls. load_in ls c.args.number) (sym (c.as_slice.ensures.value ∙ s.loads_open)) ∙ sym c.load_in.ensures ∙ c.in-Some.is in
+    (let some = ap (λ ls. load_in ls c.args.number) (sym (c.as_slice.ensures.value ∙ s.loads_open)) ∙ sym c.load_in.ensures
+    ∙ c.in-Some.is in
     subst (λ o. IsResponseCause (law_begun j.law start) events w o c.args.bytes.now c.args.fault cause) (sym some) (is start events w s)))
     c.answer_cause.ensures

@@ -11,7 +11,8 @@ use Rattle.history_text.proofs.reading.Lines.end_line.Goals as goal
 pub take-requires : goal.take-requires
 take-requires g c =
     let r = c.requires.read in
-    let few : length (events_of r.2) + 1 < 18446744073709551616 = omega (arith, events_few r.2, r.3.number, c.requires.number, c.ranges.number.fits) in
+    let few : length (events_of r.2) + 1 < 18446744073709551616 =
+    omega (arith, events_few r.2, r.3.number, c.requires.number, c.ranges.number.fits) in
     (r.0, events_of r.2, windows_of r.0.telling r.2, r.3.stands, few)
 
 pub returns-in_err-take-in-Some-clause-stop : goal.returns-in_err-take-in-Some-clause-stop
@@ -25,7 +26,8 @@ returns-in_err-take-in-Some-clause-stop g c =
     → HasRead j.took j.law start before texts self.judged self.pending.items self.count
     → LineStops (law_begun j.law start) (events_of texts) (windows_of start.telling texts) c.args.number (seen_by c.args.event.now) s)
     c.from_residual.ensures.1
-    (λ start before texts h. subst (λ e. LineStops (law_begun j.law start) (events_of texts) (windows_of start.telling texts) c.args.number e why) (sym event)
+    (λ start before texts h. subst (λ e. LineStops (law_begun j.law start) (events_of texts)
+    (windows_of start.telling texts) c.args.number e why) (sym event)
     (c.in_err-take-in-Some.ensures.stop start (events_of texts) (windows_of start.telling texts) h.stands))
 
 pub returns-in-None-clause-ok : goal.returns-in-None-clause-ok

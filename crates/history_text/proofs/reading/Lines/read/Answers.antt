@@ -20,11 +20,14 @@ returns-in_err-read_byte-clause-stop g c =
     let lt : i < length bytes = omega arith in
     let why = c.in_err-read_byte.field-0.0 in
     passed_on c.from_residual.result why
-    (λ s. (start : Begin g.row.J.Denot) (before : List ℕ) (texts : List (List ℕ)) → HasRead j.took j.law start before texts self.judged self.pending.items self.count → EndsIn (law_begun j.law start) (before ++ bytes) s)
+    (λ s. (start : Begin g.row.J.Denot) (before : List ℕ) (texts : List (List ℕ))
+    → HasRead j.took j.law start before texts self.judged self.pending.items self.count
+    → EndsIn (law_begun j.law start) (before ++ bytes) s)
     c.from_residual.ensures.1
     (λ start before texts h. (let so_far = c.loop-byte.invariant.read start before texts h in
     let here = c.in_err-read_byte.ensures.stop start (before ++ take i bytes) so_far.0 so_far.1 in
-    subst (λ l. EndsIn (law_begun j.law start) l why) (rest_behind before bytes i _ lt refl) (ends_more why (drop (i + 1) bytes) (ends_in _ why so_far.1 here))))
+    subst (λ l. EndsIn (law_begun j.law start) l why) (rest_behind before bytes i _ lt refl)
+    (ends_more why (drop (i + 1) bytes) (ends_in _ why so_far.1 here))))
 
 pub loop-byte-preserved : goal.loop-byte-preserved
 loop-byte-preserved g c =

@@ -7,7 +7,8 @@ use Rattle.history_text.proofs.reading.Lines.read_byte.Goals as goal
 
 pub returns-then-byte-eq10-clause-ok : goal.returns-then-byte-eq10-clause-ok
 returns-then-byte-eq10-clause-ok g c =
-    on_ok c.end_line.result _ _ (λ ok start before texts h. at_line_end before texts c.args.byte c.args.self.now.pending.items c.if-byte-eq10.true (ok start before texts h)) c.end_line.ensures.ok
+    on_ok c.end_line.result _ _ (λ ok start before texts h. at_line_end before texts c.args.byte c.args.self.now.pending.items
+    c.if-byte-eq10.true (ok start before texts h)) c.end_line.ensures.ok
 
 pub returns-then-byte-eq10-clause-stop : goal.returns-then-byte-eq10-clause-stop
 returns-then-byte-eq10-clause-stop g c =

@@ -21,7 +21,8 @@ use borrow.Fn.World.{World}
 use contract.BorrowLft.{◌⊑◌, ⊑_static}
 use contract.Monad.{fact, fact_i}
 use contract.Running.{Running, tables, tables_of}
-use types.Kit.{‵, raw, ◌⊛◌, some, later, ◌$◌, ◌∵◌, !, qed, move, keep, drop, use0, use1, split, join, fsplit3, fjoin, fpack, feq_i, feq_l, pick, await, rewrite, suffices, frame, group, done}
+use types.Kit.{‵, raw, ◌⊛◌, some, later, ◌$◌, ◌∵◌, !, qed, move, keep, drop, use0, use1, split, join, fsplit3, fjoin, fpack, feq_i, feq_l}
+use types.Kit.{pick, await, rewrite, suffices, frame, group, done}
 use types.Part.{whole, sub, store_in}
 use types.Run.{enter, of_opd, lit, unit_lit, stop, fld, no_more, and_then, assigns, returns}
 use types.ByLocal.{alloc_all, pass_all, free_all, look_at, get, through, sets, lands_as}
@@ -87,7 +88,8 @@ abbrev item_drop : Dict
 item_drop = impl ("machine_handles::machine_handles++kept++Kept+Destruct::drop" ∷ []) tnil dnil
 
 -- that it does: the function's own theorem, in the words in which a callee asks for it
-item_glue : {M : Type 1} (𝓤 : Ura M) (𝓛 : Logic 𝓤) (𝓜 : Model 𝓤 𝓛.H) (𝓡 : Running 𝓤 𝓛.H 𝓜) → Wired 𝓡.env drop_symbol.code → Met 𝓛 𝓜 𝓡 𝓡.env X item_drop
+item_glue : {M : Type 1} (𝓤 : Ura M) (𝓛 : Logic 𝓤) (𝓜 : Model 𝓤 𝓛.H) (𝓡 : Running 𝓤 𝓛.H 𝓜) → Wired 𝓡.env drop_symbol.code
+    → Met 𝓛 𝓜 𝓡 𝓡.env X item_drop
 item_glue {M} 𝓤 𝓛 𝓜 𝓡 wired =
     let world : World = record { M = M; 𝓤 = 𝓤; 𝓛 = 𝓛; 𝓜 = 𝓜; 𝓡 = 𝓡 } in
     let ended = ended_of 0 drop_kinds.ps drop_kinds.r in
@@ -102,7 +104,8 @@ item_glue {M} 𝓤 𝓛 𝓜 𝓡 wired =
     (λ κs a x ws. Fit ended (stays drop_kinds.ps) tt a ws × drop_reads.Learnt tt a x (at_exit ended tt a ws))
     (λ κs a. AllWithin 1 (κs.0, tt) (X.lives, tt) × Unit {0}) called 0 tt
     (λ κs. tt) (λ κs a. drop_reads.Asked tt a) (λ κs a p. (tt, tt))
-    (λ κs bd within a vss qs. method_Known 0 drop_kinds.ps drop_kinds.r drop_reads.requires drop_reads.ensures drop_reads.Asked drop_reads.Learnt drop_reads.known
+    (λ κs bd within a vss qs. method_Known 0 drop_kinds.ps drop_kinds.r drop_reads.requires drop_reads.ensures drop_reads.Asked
+    drop_reads.Learnt drop_reads.known
     world drop_symbol.name called (drop_symbol.as_method 𝓡.env wired called refl) met ((tt, qs, tt, a, vss), tt)))
 
 abbrev stayed : Stays f.ended.signature.params f.ended.kept
@@ -118,40 +121,51 @@ pub keep_spec : {M : Type 1} → statement M
 unfolding tables_of dropped.code
 keep_spec {M} 𝓤 𝓛 𝓜 𝓡 wired =
     let c = f.clauses 𝓛 𝓜.mem 𝓡.returns in let W = walk_of 𝓛 f.ended stayed c in let 𝓣 = tables 𝓤 𝓛.H 𝓜 𝓡 𝓡.env in
-    let Z = arg (bare (layout heap.the_row)) no heap.the_row in let LZ = arg_laws (bare (layout heap.the_row)) no heap.the_row heap_laws.the_row_laws refl in
+    let Z = arg (bare (layout heap.the_row)) no heap.the_row in
+    let LZ = arg_laws (bare (layout heap.the_row)) no heap.the_row heap_laws.the_row_laws refl in
     let no_drop = impl ("machine_handles::Destruct++none::drop" ∷ []) (tcons (layout Z) tnil) dnil in
     proved_at 𝓛 f.ended stayed c 𝓜 𝓡 (Goes-ref 𝓛 1 0 tt (plain (λ _. R)), (Goes-blank 𝓛 1 (plain (λ _. Boxed)) yes (λ κs x w. tt), tt))
     f.Key.name code.function (code.unfolded 𝓤 𝓛.H 𝓜 𝓡 wired) (λ y are.
     let κs = y.0.0 in let qs = y.0.1 in let r = y.0.3.0 in let item = y.0.3.1.0 in
     let b = r.ref_ptr.0 in let o = r.ref_ptr.1 in let h = r.now in let vs = mut_vals r in
-    let found = one_of (layout Boxed) y.0.4.1.0 (((boxed_laws.the_field_loose inner.the_row heap.the_row heap_impl.ghosts inner_laws.the_row_laws heap_laws.the_row_laws).lawful 𝓛).typed item y.0.4.1.0 are.1.0) in
+    let found = one_of (layout Boxed) y.0.4.1.0 (((boxed_laws.the_field_loose inner.the_row heap.the_row heap_impl.ghosts
+    inner_laws.the_row_laws heap_laws.the_row_laws).lawful 𝓛).typed item y.0.4.1.0 are.1.0) in
     let v = found.0 in let e₀ : y.0.4.0 ≡ vs = mut_Tells (named 0) κs.0 R r y.0.4.0 are.0 in let e₁ : y.0.4.1.0 ≡ v ∷ [] = found.1.0 in
     let Run : List Val → SProp 𝓤 = λ us. WpFn 𝓤 𝓛.H 𝓣.C 𝓣.Λ code.function us (W.post y) in
-    qed 𝓛 (((‵ (flft κs.0 qs.0) ⊛ ‵ ftrue) ⊛ (‵ ((MutRef (named 0) κs.0 R).own_val r y.0.4.0) ⊛ ‵ (Boxed.own_val item y.0.4.1.0) ⊛ ‵ ftrue)) ∷ raw (fact 𝓤 (standing r.now ≡ None)) ∷ []) ∵
-    suffices ! (Run (vs ++ (v ∷ []))) (subst (λ (us : List Val). ent 𝓤 (Run (vs ++ (v ∷ []))) (Run us)) (sym (λ i. e₀ i ++ (e₁ i ++ []))) (id⊢ 𝓤 (Run (vs ++ (v ∷ []))))) $
+    qed 𝓛 (((‵ (flft κs.0 qs.0) ⊛ ‵ ftrue) ⊛ (‵ ((MutRef (named 0) κs.0 R).own_val r y.0.4.0) ⊛ ‵
+    (Boxed.own_val item y.0.4.1.0) ⊛ ‵ ftrue)) ∷ raw (fact 𝓤 (standing r.now ≡ None)) ∷ []) ∵
+    suffices ! (Run (vs ++ (v ∷ []))) (subst (λ (us : List Val). ent 𝓤 (Run (vs ++ (v ∷ []))) (Run us)) (sym (λ i. e₀ i ++ (e₁ i ++ [])))
+    (id⊢ 𝓤 (Run (vs ++ (v ∷ []))))) $
     split ! $ split ! $ move ! (2 ∷ []) $ split ! $ move ! (1 ∷ []) $ split ! $ keep ! (2 ∷ 0 ∷ 3 ∷ []) $
-    rewrite ! 0 (λ (us : List Val). ‵ ((MutRef (named 0) κs.0 R).own_val r us)) e₀ refl $ rewrite ! 1 (λ (us : List Val). ‵ (Boxed.own_val item us)) e₁ refl $
+    rewrite ! 0 (λ (us : List Val). ‵ ((MutRef (named 0) κs.0 R).own_val r us)) e₀ refl $ rewrite ! 1
+    (λ (us : List Val). ‵ (Boxed.own_val item us)) e₁ refl $
     -- [self; the box; the token]
     enter ! _ _ _ _ _ $ alloc_all ! (λ l. pass_all ! refl ((tt, tt), (found.1.1, tt)) $
     sets ! (of_opd ! (get ! refl)) refl found.1.1 $
     -- the call's right side
-    let G = triple_of 𝓛 (g.signature X Z heap_impl.ghosts heap_impl.dict no_drop item_drop) (g.spec X Z heap_impl.ghosts heap_impl.dict no_drop item_drop 𝓛 𝓜.mem 𝓡.returns) in
+    let G = triple_of 𝓛 (g.signature X Z heap_impl.ghosts heap_impl.dict no_drop item_drop)
+    (g.spec X Z heap_impl.ghosts heap_impl.dict no_drop item_drop 𝓛 𝓜.mem 𝓡.returns) in
     let S = g.ended X Z heap_impl.ghosts heap_impl.dict no_drop item_drop in
-    let passed = heap_met.passed 𝓡.env (code.calls-std_heap::GlobalAllocator::allocate 𝓡.env wired) (code.calls-std_heap::GlobalAllocator::deallocate 𝓡.env wired)
+    let passed = heap_met.passed 𝓡.env (code.calls-std_heap::GlobalAllocator::allocate 𝓡.env wired)
+    (code.calls-std_heap::GlobalAllocator::deallocate 𝓡.env wired)
     (code.calls-std_heap::GlobalAllocator::grow 𝓡.env wired) (code.calls-std_heap::GlobalAllocator::shrink 𝓡.env wired) M 𝓤 𝓛 𝓜 𝓡 in
-    let glue = NoDrop.glues "machine_handles::Destruct++none::drop" 𝓡.env (code.calls-machine_handles::Destruct++none::drop 𝓡.env wired) Z LZ M 𝓤 𝓛 𝓜 𝓡 in
-    let known = made.met 𝓤 𝓛 𝓜 𝓡 (code.calls-std_alloc::boxed::Box::into_raw 𝓡.env wired) X Z L LZ heap_impl.ghosts heap_impl.dict no_drop item_drop passed glue
+    let glue = NoDrop.glues "machine_handles::Destruct++none::drop" 𝓡.env (code.calls-machine_handles::Destruct++none::drop 𝓡.env wired) Z
+    LZ M 𝓤 𝓛 𝓜 𝓡 in
+    let known = made.met 𝓤 𝓛 𝓜 𝓡 (code.calls-std_alloc::boxed::Box::into_raw 𝓡.env wired) X Z L LZ heap_impl.ghosts heap_impl.dict no_drop
+    item_drop passed glue
     (item_glue 𝓤 𝓛 𝓜 𝓡 (code.calls-machine_handles::machine_handles++kept++Kept+Destruct::drop 𝓡.env wired)) in
     let x : G.Ghost = ((([], ([], tt)), (full_share, (full_share, tt)), tt, (item, tt), (v ∷ [], tt)), tt) in
     nothing ! $ use0 𝓛 (raw (fact 𝓤 ([] ⊑ Z.lives))) (fact_i 𝓤 _ (emp 𝓤) (⊑_static [])) $ join ! $
     use0 𝓛 (raw (fact 𝓤 ([] ⊑ X.lives))) (fact_i 𝓤 _ (emp 𝓤) (⊑_static [])) $ join ! $
     nothing ! $ move ! (3 ∷ 0 ∷ []) $ fjoin ! $
-    nothing ! $ use0 𝓛 (‵ (flft [] full_share)) (𝓛.lfts.lft-nil full_share) $ join ! $ use0 𝓛 (‵ (flft [] full_share)) (𝓛.lfts.lft-nil full_share) $ join ! $
+    nothing ! $ use0 𝓛 (‵ (flft [] full_share)) (𝓛.lfts.lft-nil full_share) $ join ! $ use0 𝓛 (‵ (flft [] full_share))
+    (𝓛.lfts.lft-nil full_share) $ join ! $
     join ! $ join ! $ use1 𝓛 (raw (G.pre x)) (id⊢ 𝓤 _) $
     calls_at ! (framed 𝓤 𝓛.H 𝓜 𝓣) G known x (and_then ! (get ! refl) (no_more !)) (λ u.
     use1 𝓛 (later (some (λ (p : Ptr). ((‵ (flft [] full_share) ⊛ ‵ (flft [] full_share) ⊛ ‵ ftrue) ⊛ ‵ (RawPtr.own_val p (u ∷ [])))
     ⊛ some (λ (ws : Lasts S x.0.0 x.0.3). ‵ (lasts S x.0.0 x.0.3 ws) ⊛ ‵ (box_owns block_token inner.the_row p item.value))))) (id⊢ 𝓤 _) $
-    await ! tt $ pick ! (λ p. split ! $ move ! (1 ∷ []) $ pick ! (λ _. split ! $ drop ! $ move ! (1 ∷ []) $ split ! $ drop ! $ feq_l ! (λ is_pointer.
+    await ! tt $ pick ! (λ p. split ! $ move ! (1 ∷ []) $ pick !
+    (λ _. split ! $ drop ! $ move ! (1 ∷ []) $ split ! $ drop ! $ feq_l ! (λ is_pointer.
     let pointer = ((rawptr_Lawful 𝓛).typed p _ refl).0 in
     lands_as ! (ap only is_pointer) refl pointer $ sets ! (of_opd ! (get ! refl)) refl pointer $
     -- [the box's memory; self; the token]
@@ -161,7 +175,8 @@ keep_spec {M} 𝓤 𝓛 𝓜 𝓡 wired =
     rewrite ! 0 Cell (lowers.val_is h us is) refl $
     -- [the struct's cell; the open borrow, in three entries; the first part of self; the box's memory]
     assigns ! (of_opd ! (get ! refl)) (through ! refl (fld ! refl (stop !))) (store_in ! 0 (sub ! 1 refl (whole !)) pointer) $
-    assigns ! (of_opd ! (lit ! tt)) (through ! refl (fld ! refl (stop !))) (store_in ! 0 (sub ! 0 refl (whole !)) (tt, record { fits = lit< tt })) $
+    assigns ! (of_opd ! (lit ! tt)) (through ! refl (fld ! refl (stop !)))
+    (store_in ! 0 (sub ! 0 refl (whole !)) (tt, record { fits = lit< tt })) $
     sets ! (of_opd ! (unit_lit !)) refl (tt, tt) $
     let now = record h { «open» = 1; at = p; kept = item.value } in let ws = lowers.lowered now ∷ [] in
     nothing ! $ feq_i ! (List Val) (ptr_val p ∷ []) (ptr_val p ∷ []) refl $ fjoin ! $
@@ -170,5 +185,6 @@ keep_spec {M} 𝓤 𝓛 𝓜 𝓡 wired =
     move ! (0 ∷ 6 ∷ []) $ fjoin ! $ move ! (1 ∷ 0 ∷ []) $ closes ! tt R now ws b o $
     returns ! (look_at ! 0 refl) $ free_all ! refl $ move ! (3 ∷ []) $ rewrite ! 0 (λ (us : List Val). ‵ (mut_at r us)) (sym e₀) refl $
     suffices ! _ (ends_at 𝓛 f.ended stayed c y vunit tt (now, (tt, tt)) (tt, (tt, tt))) $ says ! refl $
-    group ! 3 $ nothing ! $ nothing ! $ join ! $ move ! (1 ∷ 0 ∷ []) $ join ! $ nothing ! $ move ! (2 ∷ 0 ∷ []) $ join ! $ frame ! $ frame ! $
+    group ! 3 $ nothing ! $ nothing ! $ join ! $ move ! (1 ∷ 0 ∷ []) $ join ! $ nothing ! $ move !
+    (2 ∷ 0 ∷ []) $ join ! $ frame ! $ frame ! $
     feq_i ! _ (vunit ∷ []) _ refl $ done !))))))))

@@ -10,4 +10,5 @@ gather-requires c =
 
 pub returns-clause-kept : goal.returns-clause-kept
 returns-clause-kept c =
-    on_ok c.gather.result (λ one start texts number held. gathered_more c.args.self.now c.gather.new.self c.asked_in.result c.in_ok-pair.pair texts c.args.text.now c.asked_in.ensures c.in_ok-pair.ensures.pair one held) c.gather.ensures.ok
+    on_ok c.gather.result (λ one start texts number held. gathered_more c.args.self.now c.gather.new.self c.asked_in.result
+    c.in_ok-pair.pair texts c.args.text.now c.asked_in.ensures c.in_ok-pair.ensures.pair one held) c.gather.ensures.ok

@@ -21,7 +21,8 @@ returns c =
     let mk : Flat → List Stores → (ℕ → TagUse) → (ℕ → List Word) → PastOf → Origins =
     λ f s t w p. record { flat = f; stores = s; tags = t; since = w; past = p } in
     let flat : memory.shown c.in_ok-flat.flat ≡ opening words = c.in_ok-flat.ensures.shown in
-    let stores : c.in_ok-stores.stores.items ≡ replicate (length words) no_stores = c.in_ok-stores.ensures.items ∙ ap (λ n. replicate n no_stores) long in
+    let stores : c.in_ok-stores.stores.items ≡ replicate (length words) no_stores = c.in_ok-stores.ensures.items
+    ∙ ap (λ n. replicate n no_stores) long in
     let tags = c.in_ok-tags.tags in
     let uses : uses_in tags.slots.items ≡ (λ tag. Never) = c.in_ok-tags.ensures.uses in
     let since : since_in tags.left.items tags.slots.items ≡ (λ tag. []) = c.in_ok-tags.ensures.since in

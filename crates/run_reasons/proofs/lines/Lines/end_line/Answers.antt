@@ -13,25 +13,35 @@ pub returns-in-Err-clause-stop : goal.returns-in-Err-clause-stop
 returns-in-Err-clause-stop c words before h =
     let text = c.args.self.now.pending.items in
     let said : pair_of text ≡ Err c.in-Err.fault =
-    sym (ended_pair text h.text.short) ∙ ap ended_pair_of (sym (c.as_slice.ensures.value ∙ c.push.ensures.items)) ∙ sym c.read_pair.ensures ∙ c.in-Err.is in
+    sym (ended_pair text h.text.short) ∙ ap ended_pair_of (sym (c.as_slice.ensures.value ∙ c.push.ensures.items)) ∙ sym c.read_pair.ensures
+    ∙ c.in-Err.is in
     ends_faulty c.args.self.now c.args.number c.in-Err.fault h c.requires.number said
 
 pub step-requires : goal.step-requires
 step-requires c =
     let w = c.requires.read.0 in
     let h = c.requires.read.2 in
-    omega (arith, few_steps (opening w) (origins_of w h.texts).flat h.texts c.args.self.now.steps None h.text.flat, h.number, c.requires.number, c.ranges.number.fits)
+    omega (
+      arith,
+      few_steps (opening w) (origins_of w h.texts).flat h.texts c.args.self.now.steps None h.text.flat,
+      h.number,
+      c.requires.number,
+      c.ranges.number.fits,
+    )
 
 pub returns-in-None-clause-ok : goal.returns-in-None-clause-ok
 returns-in-None-clause-ok c words before h =
     let text = c.args.self.now.pending.items in
     let said : pair_of text ≡ Ok c.in-Ok.pair =
-    sym (ended_pair text h.text.short) ∙ ap ended_pair_of (sym (c.as_slice.ensures.value ∙ c.push.ensures.items)) ∙ sym c.read_pair.ensures ∙ c.in-Ok.is in
-    read_still c.args.self.now c.close.new.self c.in-Ok.pair h said c.in-None.ensures.none c.close.ensures.pending (c.close.ensures.count ∙ c.requires.number) c.close.ensures.steps (ap shown c.close.ensures.explainer)
+    sym (ended_pair text h.text.short) ∙ ap ended_pair_of (sym (c.as_slice.ensures.value ∙ c.push.ensures.items)) ∙ sym c.read_pair.ensures
+    ∙ c.in-Ok.is in
+    read_still c.args.self.now c.close.new.self c.in-Ok.pair h said c.in-None.ensures.none c.close.ensures.pending
+    (c.close.ensures.count ∙ c.requires.number) c.close.ensures.steps (ap shown c.close.ensures.explainer)
 
 pub returns-in-None-clause-progress : goal.returns-in-None-clause-progress
 returns-in-None-clause-progress c =
-    left_less c.args.self.now c.close.new.self c.args.number c.requires.read.2 c.ranges.number.fits c.requires.number c.close.ensures.count c.close.ensures.pending
+    left_less c.args.self.now c.close.new.self c.args.number c.requires.read.2 c.ranges.number.fits c.requires.number c.close.ensures.count
+    c.close.ensures.pending
 
 pub returns-in-Some-clause-ok : goal.returns-in-Some-clause-ok
 returns-in-Some-clause-ok c =
@@ -39,14 +49,17 @@ returns-in-Some-clause-ok c =
     on_ok5 c.step.result
     (λ flat origins steps count pending words before h.
     let said : pair_of text ≡ Ok c.in-Ok.pair =
-    sym (ended_pair text h.text.short) ∙ ap ended_pair_of (sym (c.as_slice.ensures.value ∙ c.push.ensures.items)) ∙ sym c.read_pair.ensures ∙ c.in-Ok.is in
-    read_step c.args.self.now c.step.new.self c.in-Ok.pair c.in-Some.event c.in-Some.answer c.args.number h said c.in-Some.ensures.some c.requires.number flat origins pending (count ∙ c.requires.number) steps)
+    sym (ended_pair text h.text.short) ∙ ap ended_pair_of (sym (c.as_slice.ensures.value ∙ c.push.ensures.items)) ∙ sym c.read_pair.ensures
+    ∙ c.in-Ok.is in
+    read_step c.args.self.now c.step.new.self c.in-Ok.pair c.in-Some.event c.in-Some.answer c.args.number h said c.in-Some.ensures.some
+    c.requires.number flat origins pending (count ∙ c.requires.number) steps)
     c.step.ensures.ok c.step.ensures.origins c.step.ensures.steps c.step.ensures.count c.step.ensures.pending
 
 pub returns-in-Some-clause-progress : goal.returns-in-Some-clause-progress
 returns-in-Some-clause-progress c =
     on_ok5 c.step.result
-    (λ flat origins steps count pending. left_less c.args.self.now c.step.new.self c.args.number c.requires.read.2 c.ranges.number.fits c.requires.number count pending)
+    (λ flat origins steps count pending. left_less c.args.self.now c.step.new.self c.args.number c.requires.read.2 c.ranges.number.fits
+    c.requires.number count pending)
     c.step.ensures.ok c.step.ensures.origins c.step.ensures.steps c.step.ensures.count c.step.ensures.pending
 
 pub returns-in-Some-clause-stop : goal.returns-in-Some-clause-stop
@@ -55,6 +68,8 @@ returns-in-Some-clause-stop c =
     if_err c.step.result
     (λ why ends words before h.
     let said : pair_of text ≡ Ok c.in-Ok.pair =
-    sym (ended_pair text h.text.short) ∙ ap ended_pair_of (sym (c.as_slice.ensures.value ∙ c.push.ensures.items)) ∙ sym c.read_pair.ensures ∙ c.in-Ok.is in
-    ends_step c.args.self.now c.in-Ok.pair c.in-Some.event c.in-Some.answer c.args.number why h said c.in-Some.ensures.some c.requires.number ends)
+    sym (ended_pair text h.text.short) ∙ ap ended_pair_of (sym (c.as_slice.ensures.value ∙ c.push.ensures.items)) ∙ sym c.read_pair.ensures
+    ∙ c.in-Ok.is in
+    ends_step c.args.self.now c.in-Ok.pair c.in-Some.event c.in-Some.answer c.args.number why h said c.in-Some.ensures.some
+    c.requires.number ends)
     c.step.ensures.err

@@ -22,6 +22,8 @@ returns-in_err-read_byte-clause-stop c =
     let i = c.loop-byte.byte-index in
     let lt : i < length bytes = omega arith in
     let stop = c.in_err-read_byte.field-0.0 in
-    passed_on c.from_residual.result stop (λ s. (words : List Word) (before : List ℕ) → HasRead words before c.args.self.now → EndsIn words (before ++ bytes) s) c.from_residual.ensures.1
+    passed_on c.from_residual.result stop (λ s. (words : List Word) (before : List ℕ) → HasRead words before c.args.self.now
+    → EndsIn words (before ++ bytes) s) c.from_residual.ensures.1
     (λ words before h. subst (λ l. EndsIn words l stop) (rest_behind before bytes i _ lt refl)
-    (ends_more stop (drop (i + 1) bytes) (c.in_err-read_byte.ensures.stop words (before ++ take i bytes) (c.loop-byte.invariant.read words before h))))
+    (ends_more stop (drop (i + 1) bytes) (c.in_err-read_byte.ensures.stop words (before ++ take i bytes)
+    (c.loop-byte.invariant.read words before h))))

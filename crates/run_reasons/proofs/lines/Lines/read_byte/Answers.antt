@@ -4,4 +4,5 @@ use Rattle.run_reasons.proofs.lines.Lines.read_byte.Goals as goal
 
 pub returns-then-len-eq-MAX_PAIR-clause-stop : goal.returns-then-len-eq-MAX_PAIR-clause-stop
 returns-then-len-eq-MAX_PAIR-clause-stop c words before h =
-    ends_long c.args.self.now c.args.byte (c.args.self.now.count + 1) h c.if-byte-eq10.false (sym c.len.ensures.value ∙ c.if-len-eq-MAX_PAIR.true) refl
+    ends_long c.args.self.now c.args.byte (c.args.self.now.count + 1) h c.if-byte-eq10.false
+    (sym c.len.ensures.value ∙ c.if-len-eq-MAX_PAIR.true) refl

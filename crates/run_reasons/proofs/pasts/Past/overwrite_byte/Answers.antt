@@ -19,5 +19,6 @@ byte_noted n lanes at word stores lane past next key value put among is_value is
 
 pub returns-then-is_in-clause-past : goal.returns-then-is_in-clause-past
 returns-then-is_in-clause-past c =
-    byte_noted c.args.line c.args.lanes c.args.at c.args.word c.args.stores (lane_of c.args.byte) (kept c.args.self.now) _ c.value_key-key.result c.of.result c.line-put.result
+    byte_noted c.args.line c.args.lanes c.args.at c.args.word c.args.stores (lane_of c.args.byte)
+    (kept c.args.self.now) _ c.value_key-key.result c.of.result c.line-put.result
     (sym c.is_in.ensures ∙ c.if-is_in.true) c.of.ensures c.value_key-key.ensures c.line-put.ensures c.note.ensures.past

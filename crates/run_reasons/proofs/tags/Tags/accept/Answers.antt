@@ -1,4 +1,4 @@
-use Rattle.std.proofs.Common.{◌≡◌, ap, ◌∙◌}
+use Rattle.std.proofs.Common.{ap, ◌∙◌}
 use Rattle.run_reasons.specs.Origins.{with_use, without_since}
 use Rattle.run_reasons.specs.TagSlots.{uses_in, since_in, is_open}
 use Rattle.run_reasons.specs.declared.origins.TagUse.TheVariants.{Never, Loaded}

@@ -1,7 +1,6 @@
-use Rattle.std.proofs.Common.{◌≡◌, List, [], replicate, ap, ◌∙◌, refl, sym, subst}
+use Rattle.std.proofs.Common.{List, replicate, ap, ◌∙◌, sym, subst}
 use Rattle.run_reasons.specs.declared.tags.TheConstants.{TAGS}
 use Rattle.run_reasons.specs.declared.tags.LeftWord.{LeftWord}
-use Rattle.run_reasons.specs.declared.tags.TagSlot.{TagSlot}
 use Rattle.run_reasons.specs.TagSlots.{no_slot, uses_in, since_in, IsCounted}
 use Rattle.run_reasons.proofs.TagSlots.{first_uses, first_since, first_counted}
 use Rattle.run_reasons.proofs.tags.Tags.new.Goals as goal

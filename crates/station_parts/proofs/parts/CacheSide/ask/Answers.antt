@@ -62,7 +62,8 @@ invariant_of-self-in_default g c =
       lasts = s.lasts;
       tells = s.tells;
       counted = s.counted;
-      few_ports = subst (λ n. n ≤ MAX_PORTS) (sym (same_length pops_from s.asks.items c.pop_at.new.ends.items c.in_default.ensures.pops.rings))
+      few_ports = subst (λ n. n ≤ MAX_PORTS) (sym (same_length pops_from s.asks.items c.pop_at.new.ends.items
+          c.in_default.ensures.pops.rings))
           s.few_ports;
       ports = ports_looked s.asks.items c.pop_at.new.ends.items s.tellings.items c.look_at.new.ends.items (journal_of s)
           c.in_default.ensures.pops.rings c.look_at.ensures.looks.rings s.ports

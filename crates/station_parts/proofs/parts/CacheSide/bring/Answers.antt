@@ -26,7 +26,8 @@ use Rattle.station_parts.specs.SideState.{state_of}
 use Rattle.station_parts.specs.SideSteps.{noted, brought, arrives, answer_of, Makes, EventForms}
 use Rattle.station_parts.proofs.Rows.{same_length, only-here}
 use Rattle.station_parts.proofs.WordFaults.{arrive_silent, counts_called, counts_uncalled, fault-uncalled, fault-stray, fault-none}
-use Rattle.station_parts.proofs.SideMakes.{knows_same, knows_words, idles, acts, makes_nothing, makes_lost, answered_so, popped_none, popped_one, popped_others, known_more, first_is, there_popped}
+use Rattle.station_parts.proofs.SideMakes.{knows_same, knows_words, idles, acts, makes_nothing, makes_lost, answered_so, popped_none}
+use Rattle.station_parts.proofs.SideMakes.{popped_one, popped_others, known_more, first_is, there_popped}
 use Rattle.station_parts.proofs.Porting.{ports_silent, behind, within_all}
 use Rattle.station_parts.specs.Words.{earlier_of, journal_of}
 use Rattle.station_parts.proofs.parts.CacheSide.bring.Goals as goal

@@ -1,38 +1,33 @@
-use mathlib.Core.Path.{refl, sym, subst}
-use Prim.Native.Nat.{ℕ}
-use mathlib.Core.List.{List, [], ◌∷◌, ◌++◌}
+use mathlib.Core.Path.{refl}
+use mathlib.Core.List.{[], ◌∷◌}
 use seplogic.Ra.Ura.{Ura}
 use mir.Syntax.{Fn, a_type}
-use mir.Val.{Val, vptr, vstruct, vcons, vnil}
+use mir.Val.{Val, vstruct, vcons, vnil}
 use mir.MapTy.{inst_fn}
-use base.Logic.{SProp, ent, via, fst∗, snd∗}
+use base.Logic.{SProp, ent}
 use base.Fml.{Fml}
 use prog.Memory.{Memory}
 use prog.Routine.{Routine}
 use prog.Wp.{Calls, Loops, WpFn, Tables}
-use types.Logic.{Logic, sem}
-use contract.Monad.{Fun, fact_use}
+use types.Logic.{Logic}
+use contract.Monad.{Fun}
 use contract.Running.{tables, tables_of}
 use sound.WpLaws.{WpFn-mono}
-use types.Kit.{‵, raw, ◌⊛◌, ◌$◌, ◌∵◌, !, qed, move, keep, split, join, fjoin, use0, suffices, done}
+use types.Kit.{‵, raw, ◌⊛◌, ◌$◌, ◌∵◌, !, qed, move, keep, split, join, use0, suffices, done}
 use types.Run.{no_more, and_then, returns, enter}
 use types.Part.{agg}
-use types.ByLocal.{alloc_all, pass_all, free_all, look_at, get, sets, env}
+use types.ByLocal.{alloc_all, pass_all, free_all, look_at, get, sets}
 use denote.RattleType.{RattleType, owns}
-use denote.Memory.{mem}
-use denote.Exit.{yes}
-use denote.Laws.{Are, Ises, owns_show, showss}
-use denote.Param.{param, layouts}
+use denote.Param.{layouts}
 use denote.Param.Laws.{Laws}
 use denote.Shadow.{makes_shadow}
-use denote.Builtin.{RefOf}
-use denote.Signature.{types_at, type_at, plain}
+use denote.Signature.{types_at, type_at}
 use denote.Steps.{nothing}
 use denote.Triple.Clauses.{Clauses, closing}
-use denote.Triple.Entry.{on_entry, alive}
+use denote.Triple.Entry.{alive}
 use denote.Triple.Spec.{Meets, triple_of}
 use denote.Triple.Table.{entered}
-use denote.Triple.Walked.{says, Stays, stay_dropped, walk_of, ends_at, Goes-dropped, walk_Meets}
+use denote.Triple.Walked.{says, Stays, walk_of, ends_at, walk_Meets}
 use Rattle.station_parts.specs.contracts.past.Past.none.{ended, clauses}
 use Rattle.station_parts.specs.contracts.past.Past.none.Key.{name as #self}
 use Rattle.station_parts.proofs.past.Past.none.Statement as stated

@@ -11,7 +11,8 @@ returns c start texts judged =
     let now = shown self.memory in
     elim c.match-self.branch [
       | in-None w ↦
-          subst (λ end. IsJudgedFrom start texts end now) (sym w.end-is) (judged_flat start now texts self.steps self.mismatch judged w.in-None.is)
+          subst (λ end. IsJudgedFrom start texts end now) (sym w.end-is)
+          (judged_flat start now texts self.steps self.mismatch judged w.in-None.is)
       | in-Some w ↦
           subst (λ end. IsJudgedFrom start texts end now) (sym w.end-is)
           (judged_mismatch start now texts self.steps w.in-Some.line self.mismatch judged w.in-Some.is)
