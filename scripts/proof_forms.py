@@ -1,0 +1,208 @@
+"""The shorter forms in which a proof may be tried: edits of the text of an item, each a beginning, an end and a new text."""
+
+import re
+
+from proof_text import ITEM, is_data, signature
+
+# What stands before an argument and is no function of it.
+WORDS = {"λ", "let", "in", "=", "as", "elim", "omega", "grind", "cc", "search", "rw", "simp", "∙", "record", "→", "if", "then", "else", "at"}
+# What begins a proof: it isn't found by the checker.
+PROOF = re.compile(r"(?:sym|ap|ap₂|subst|omega|cc|grind|search|rw|simp|elim|absurd|refl|λ|inl|inr|tt|record|let|if)\b")
+SIGNS = re.compile(r"[∙≡→]| = |;|λ|let |record| : |,")
+# A tactic has to be shorter than what it stands for by so many characters.
+GAIN = 12
+
+
+def with_edits(text, edits):
+    for begin, end, new in sorted(edits, reverse=True):
+        text = text[:begin] + new + text[end:]
+    return text
+
+
+def outermost(edits):
+    """Those of the edits that lie in no other one."""
+    found, last = [], -1
+    for edit in sorted(edits, key=lambda it: (it[0], -it[1])):
+        if edit[0] >= last:
+            found.append(edit)
+            last = edit[1]
+    return found
+
+
+def close_of(text, at):
+    """Where the bracket that opens at this place is closed."""
+    depth = 0
+    for place in range(at, len(text)):
+        depth += (text[place] in "([{") - (text[place] in ")]}")
+        if depth == 0:
+            return place
+    return None
+
+
+def equals_in(line):
+    """Behind which column the case that a line begins has its text; None if it begins none."""
+    depth = 0
+    for at, char in enumerate(line):
+        depth += (char in "([{") - (char in ")]}")
+        if char == "=" and depth == 0 and line[at - 1 : at] == " " and line[at + 1 : at + 2] in ("", " "):
+            before = line[:at]
+            return None if ":" in before or re.search(r"\b(?:let|in|λ)\b", before) else at + 1
+    return None
+
+
+def cases(item, nested):
+    """The texts of the item's own cases, or of those of what stands behind a `where`."""
+    lines, starts, at = item.lines(), [], 0
+    for line in lines:
+        indent = len(line) - len(line.lstrip(" "))
+        column = equals_in(line) if line.strip() and not line.rstrip().endswith(";") else None
+        name = line.split()[0] if line.strip() else None
+        starts.append((at, indent if line.strip() else None, column, name))
+        at += len(line) + 1
+    for number, (begin, indent, column, name) in enumerate(starts):
+        if column is None or (indent > item.indent) != nested or (not nested and name != item.name):
+            continue
+        head = next((k for k, line in enumerate(lines) if (it := ITEM.match(line)) and it[2] == name), None)
+        if head is None or (nested and is_data(signature(lines, head))):
+            continue
+        end = next((it[0] - 1 for it in starts[number + 1 :] if it[1] is not None and it[1] <= indent), len(item.text))
+        while item.text[end - 1] in " \n":
+            end -= 1
+        yield begin + column, end
+
+
+def in_cases(item, begin):
+    """Whether a place lies in a case, and not in a signature or a comment."""
+    line = item.text.rfind("\n", 0, begin) + 1
+    text = item.text[line:].partition("\n")[0]
+    return not ITEM.match(text) and not text.lstrip().startswith(("--", "→")) and any(a <= begin < b for a, b in cases(item, False))
+
+
+def arguments(item):
+    text = item.text
+    for found in re.finditer(r"(?<=[ \n])(?:\(|(?:[mcdz]\d?(?:\.[a-z_]+)+)(?=[ )\n,;]))", text):
+        begin = found.start()
+        end = close_of(text, begin) if text[begin] == "(" else found.end() - 1
+        before = re.search(r"(\S+)\s+$", text[:begin])
+        inner = text[begin + 1 : end] if text[begin] == "(" else text[begin:end]
+        if not end or not before or before[1] in WORDS or not re.search(r"[\w)₂]$", before[1]) or len(inner) < 5:
+            continue
+        if not SIGNS.search(inner) and not PROOF.match(inner) and in_cases(item, begin):
+            yield begin, end + 1, "_"
+
+
+def types_of_lets(item):
+    for found in re.finditer(r"let [^\s:=]+( : (?:(?! = |let ).|\n)*?) =[ \n]", item.text):
+        if in_cases(item, found.start()):
+            yield found.start(1), found.end(1), ""
+
+
+def types_of_binders(item):
+    for found in re.finditer(r"λ \(([\w' ]+) : [^()]*(?:\([^()]*\)[^()]*)*\)(?=\.)", item.text):
+        if in_cases(item, found.start()):
+            yield found.start(), found.end(), f"λ {found[1]}"
+
+
+def whole(item):
+    yield from shorter(item, cases(item, False), lambda text: "grind arith")
+
+
+def behind_where(item):
+    yield from shorter(item, cases(item, True), lambda text: "grind arith")
+
+
+def fields(item):
+    for found in re.finditer(r"[{;]\s+[a-z_0-9]+ =[ \n]", item.text):
+        if in_cases(item, found.start()):
+            end = field_end(item.text, found.end())
+            if end - found.end() > len("grind arith") + GAIN:
+                yield found.end(), end, "grind arith"
+
+
+def field_end(text, at):
+    depth = 0
+    while at < len(text) and not (depth == 0 and text[at] in ";)]}"):
+        depth += (text[at] in "([{") - (text[at] in ")]}")
+        at += 1
+    return len(text[:at].rstrip())
+
+
+def by_facts(item):
+    yield from shorter(item, cases(item, False), lambda text: facts_in(item, text))
+
+
+def by_facts_behind_where(item):
+    yield from shorter(item, cases(item, True), lambda text: facts_in(item, text))
+
+
+def facts_in(item, text):
+    """A call of `grind` with the lemmas and the laws of hypotheses that a text cites; None for none, or too many."""
+    named = set(re.findall(r"[a-z][\w']*", " ".join(line[: equals_in(line) or 0] for line in item.lines())))
+    local = {it[2] for line in item.lines()[1:] if (it := ITEM.match(line))}
+    found = []
+    for word, path in re.findall(r"(?<![\w.≡₂\-])([^\s(){}\[\];,.λ]+)((?:\.[\w\-]+)*)", re.sub(r"--.*", "", text)):
+        # (a field by its number is data)
+        is_law = path and not path[-1].isdigit() and word in named and re.search(re.escape(word + path) + r" [\w(]", text)
+        is_lemma = not path and word != item.name and (word in item.lemmas or word in local)
+        if (is_law or is_lemma) and word + path not in found:
+            found.append(word + path)
+    return f"grind (arith, {', '.join(found)})" if 0 < len(found) < 8 else None
+
+
+def shorter(item, places, form):
+    for begin, end in places:
+        new = form(item.text[begin:end])
+        if new and end - begin > len(new) + GAIN:
+            yield begin, end, f" {new}"
+
+
+def rewrites(item):
+    """`rw` in place of `subst`, which has the whole family."""
+    for found in re.finditer(r"\(subst (?=\()", item.text):
+        end = close_of(item.text, found.start())
+        parts = words_of(item.text[found.end() : end]) if end and in_cases(item, found.start()) else []
+        if len(parts) == 3:
+            yield found.start(), end + 1, f"(rw {parts[1]} at {parts[2]})"
+
+
+def chains(item):
+    """`cc` with the facts of a chain of equations, in brackets or as a whole case."""
+    inner = [(it.end(), close_of(item.text, it.start())) for it in re.finditer(r"\(", item.text)]
+    for begin, end in [*((a, b) for a, b in inner if b and in_cases(item, a)), *cases(item, False)]:
+        parts = parted(item.text[begin:end], "∙")
+        facts = [fact for part in parts if (fact := bare(part.strip())) != "refl"]
+        new = f"cc ({', '.join(facts)})"
+        if len(parts) > 1 and facts and "λ" in item.text[begin:end] and end - begin > len(new) + GAIN:
+            yield begin, end, new if item.text[begin - 1] == "(" else f" {new}"
+
+
+def bare(fact):
+    """An equation without `sym` and what it is applied under."""
+    for _ in range(3):
+        parts = words_of(fact)
+        if len(parts) == (3 if parts[:1] == ["ap"] else 2) and parts[0] in ("ap", "sym"):
+            fact = parts[-1][1:-1] if parts[-1].startswith("(") else parts[-1]
+    return fact
+
+
+def words_of(text):
+    """The words of an application; what stands in brackets is one."""
+    return [it for it in parted(re.sub(r"\s+", " ", text), " ") if it]
+
+
+def parted(text, sign):
+    depth, found, last = 0, [], 0
+    for at, char in enumerate(text):
+        depth += (char in "([{") - (char in ")]}")
+        if char == sign and depth == 0:
+            found.append(text[last:at])
+            last = at + 1
+    return [*found, text[last:]]
+
+
+FORMS = {
+    "terms": [arguments, types_of_lets, types_of_binders],
+    "tactics": [whole, fields, behind_where],
+    "facts": [by_facts, by_facts_behind_where],
+    "chains": [chains, rewrites],
+}
