@@ -9,5 +9,6 @@ pub mod Ending
 pub mod Within
 pub mod Crossing
 pub mod Segmenting
+pub mod Serving
 pub mod Piecing
 pub mod RunningOn

@@ -1,8 +1,9 @@
 //! The thread of a bank, or of several.
-ghost use Rattle.std.specs.Prelude.{◌≡◌, ◌+◌, ◌<◌, ◌≤◌, false, length, None};
+ghost use Rattle.std.specs.Prelude.{◌≡◌, ◌+◌, ◌<◌, ◌≤◌, List, false, length, None};
 ghost use Rattle.std.specs.List.{All};
 ghost use Rattle.flat_model.specs.declared.limits.TheConstants.{MAX_BANKS};
 ghost use Rattle.station_parts.specs.Ids.{bank_id};
+ghost use Rattle.ring_station.specs.declared.crew.BankRun.{BankRun};
 ghost use Rattle.ring_station.specs.Turns.{IsTurn, BankSteps};
 ghost use Rattle.ring_station.specs.Ends.{goes_on, not_begun};
 ghost use Rattle.ring_station.specs.Crew.{EachServed, ServesOn, EachServesOn};
@@ -30,8 +31,25 @@ pub(crate) fn run_bank_thread<R: Clock, G: Gate>(
     requires begun { All (λ r. r.end ≡ not_begun) runs.old }
     ensures { EachServed turns runs.old runs.new }
 {
+    serve_on(rt, gate, start, 0, turns, done, runs);
+}
+
+/// Goes on so with the banks of a thread, each of which has had so many turns.
+pub(crate) fn serve_on<R: Clock, G: Gate>(
+    rt: &R,
+    gate: &G,
+    start: usize,
+    had: u64,
+    turns: u64,
+    done: &AtomicBool,
+    runs: &mut [BankRun],
+)
+    requires few { start + length runs.old ≤ MAX_BANKS }
+    requires within { had ≤ turns }
+    ensures { (first : List BankRun) → EachServed had first runs.old → EachServed turns first runs.new }
+{
     let mut idling = Idling::of_side();
-    for turn in 0..turns {
+    for turn in had..turns {
         // The flag is read before the steps, since a command that is sent before it is set is seen
         // by a step after that.
         let is_done = done.load(Ordering::SeqCst);
@@ -39,6 +57,41 @@ pub(crate) fn run_bank_thread<R: Clock, G: Gate>(
             return;
         };
         idling.end_turn(rt, made);
+    }
+}
+
+/// How many turns each of the banks has had that the cache side's thread serves, and what the last one
+/// came to, if there was one.
+#[derive(Clone, Copy)]
+pub(crate) struct Served {
+    pub(crate) turns: u64,
+    pub(crate) made: Option<Turn>,
+}
+
+/// Gives a turn, if one is due, to each of the banks that the cache side's thread serves, which come first.
+/// The cache side hasn't set its flag yet.
+pub(crate) fn serve_beside<G: Gate>(
+    gate: &G,
+    is_due: bool,
+    had: u64,
+    runs: &mut [BankRun],
+) -> Served
+    requires few { length runs.old ≤ MAX_BANKS }
+    requires turn { had < u64.MAX }
+    ensures on { (first : List BankRun) → EachServed had first runs.old
+        → EachServed result.turns first runs.new }
+    ensures within { result.turns ≤ had + 1 }
+{
+    if !is_due {
+        return Served {
+            turns: had,
+            made: None,
+        };
+    }
+    let made = turn_of_banks(gate, 0, false, had, runs);
+    Served {
+        turns: had + 1,
+        made,
     }
 }
 

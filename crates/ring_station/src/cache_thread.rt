@@ -1,21 +1,25 @@
 //! The cache side's thread.
-ghost use Rattle.std.specs.Prelude.{◌≡◌, ◌-◌, if◌then◌else◌};
+ghost use Rattle.std.specs.Prelude.{◌≡◌, ◌-◌, ◌≤◌, length, if◌then◌else◌};
+ghost use Rattle.std.specs.List.{All};
+ghost use Rattle.flat_model.specs.declared.limits.TheConstants.{MAX_BANKS};
 ghost use Rattle.station_parts.specs.Ids.{cache_id};
 ghost use Rattle.ring_station.specs.Turns.{IsTurn, SideSteps};
 ghost use Rattle.station_parts.specs.Words.{held_of};
 ghost use Rattle.ring_station.specs.PartRuns.{CacheRan, ends_at};
+ghost use Rattle.ring_station.specs.Crew.{EachServed};
+ghost use Rattle.ring_station.specs.Ends.{not_begun};
 
+use crate::bank_thread::{serve_beside, serve_on};
+use crate::crew::BankRun;
 use crate::gate::{Actor, Gate};
-use crate::idle::{Idling, turn_of};
+use crate::idle::{Idling, turn_beside, turn_of};
 use crate::round::Round;
 use crate::thread_end::{ThreadEnd, ThreadFault};
 use station_parts::{CacheSide, Entry, Source, Stepped};
 use std::rt::Clock;
 use std::sync::atomic::{AtomicBool, Ordering};
 
-/// Goes round the sources that have an item, a step a turn, until every port is done and the unit is at rest; then it
-/// sets the flag. It must not set it in another case: banks end by it. A journal that has no room
-/// has none in a later turn either, so a step that finds it full is the last.
+/// Runs the cache side, and beside it those banks that its thread serves, to the end of each.
 pub(crate) fn run_cache<
     R: Clock,
     G: Gate,
@@ -31,29 +35,72 @@ pub(crate) fn run_cache<
     turns: u64,
     done: &AtomicBool,
     cache: &mut CacheSide<WAYS, WORDS, REGS, DEPTH>,
+    own: &mut [BankRun],
 ) -> ThreadEnd
-    ensures { CacheRan ports turns cache.old cache.new result }
+    requires few { length own.old ≤ MAX_BANKS }
+    requires begun { All (λ r. r.end ≡ not_begun) own.old }
+    ensures cache { CacheRan ports turns cache.old cache.new result }
+    ensures banks { EachServed turns own.old own.new }
+{
+    let (end, had) = go_round(rt, gate, ports, banks, turns, done, cache, own);
+    serve_on(rt, gate, 0, had, turns, done, own);
+    end
+}
+
+// Goes round the sources that have an item, a step a turn, until every port is done and the unit is at rest; then it
+// sets the flag. It must not set it in another case: banks end by it. A journal that has no room
+// has none in a later turn either, so a step that finds it full is the last.
+//
+// The banks of this thread have a turn whenever the round comes to them, and behind each turn in which the cache side
+// made no step. The result says how many they have had, too.
+fn go_round<
+    R: Clock,
+    G: Gate,
+    const WAYS: usize,
+    const WORDS: usize,
+    const REGS: usize,
+    const DEPTH: usize,
+>(
+    rt: &R,
+    gate: &G,
+    ports: u32,
+    banks: u32,
+    turns: u64,
+    done: &AtomicBool,
+    cache: &mut CacheSide<WAYS, WORDS, REGS, DEPTH>,
+    own: &mut [BankRun],
+) -> (ThreadEnd, u64)
+    requires few { length own.old ≤ MAX_BANKS }
+    requires begun { All (λ r. r.end ≡ not_begun) own.old }
+    ensures cache { CacheRan ports turns cache.old cache.new result.0 }
+    ensures banks { EachServed result.1 own.old own.new }
+    ensures within { result.1 ≤ turns }
 {
     let mut round = Round::new(ports, banks);
     let mut open_ports = ports;
+    let mut had = 0;
+    let mut stepped = None;
     let mut idling = Idling::of_cache();
     for turn in 0..turns {
+        let is_due = round.is_at_banks() || stepped != Some(Stepped::Did);
+        let served = serve_beside(gate, is_due, had, own);
+        had = served.turns;
         let may = gate.may(Actor::Cache);
         round.seek(may, cache);
         let entries = cache.entries();
-        let stepped = take_turn(may, round.source(), cache);
+        stepped = take_turn(may, round.source(), cache);
         open_ports = still_open(open_ports, has_ended_port(cache, entries));
         if open_ports == 0 && cache.is_at_rest() {
             done.store(true, Ordering::SeqCst);
-            return ThreadEnd::over(turn + 1);
+            return (ThreadEnd::over(turn + 1), had);
         }
         if stepped == Some(Stepped::JournalFull) {
-            return ThreadEnd::stopped(turn + 1, ThreadFault::JournalFull);
+            return (ThreadEnd::stopped(turn + 1, ThreadFault::JournalFull), had);
         }
         round.go_on(stepped);
-        idling.end_turn(rt, turn_of(stepped));
+        idling.end_turn(rt, turn_beside(turn_of(stepped), served.made));
     }
-    ThreadEnd::stopped(turns, ThreadFault::TurnLimit)
+    (ThreadEnd::stopped(turns, ThreadFault::TurnLimit), had)
 }
 
 // Makes a step at the source, if the gate allows it: what it answered, and `None` if it doesn't.

@@ -12,12 +12,14 @@ use std::alloc::Global;
 /// How many threads a run has for its ports, and how many for its banks. The cache side has one of its
 /// own. The parts of a thread are next to each other, and as many as in the others, but for the last.
 ///
-/// More threads than ports or banks are one for each; none counts as one.
+/// More threads than ports or banks are one for each. No thread for the ports counts as one. Without a
+/// thread for the banks the cache side's thread serves them all: then what goes between the unit and its
+/// banks doesn't travel from one processor to another.
 #[derive(Clone, Copy, PartialEq, Eq, Debug)]
 pub struct Crew {
     /// Threads that share the ports.
     pub port_threads: usize,
-    /// Threads that share the banks.
+    /// Threads that share the banks; with none, the cache side's own thread serves them.
     pub bank_threads: usize,
 }
 
@@ -31,6 +33,13 @@ impl Crew {
             port_threads: usize::MAX,
             bank_threads: usize::MAX,
         }
+    }
+
+    /// How many of so many banks the cache side's thread serves: all or none.
+    pub(crate) fn beside_cache(self, banks: usize) -> usize
+        ensures { result ≤ banks }
+    {
+        if self.bank_threads == 0 { banks } else { 0 }
     }
 }
 

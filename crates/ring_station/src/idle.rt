@@ -73,6 +73,15 @@ pub(crate) fn turn_of_both(one: Option<Turn>, other: Option<Turn>) -> Option<Tur
     }
 }
 
+/// What a turn came to, with that of the parts beside it that had one, if any had.
+pub(crate) fn turn_beside(one: Turn, other: Option<Turn>) -> Turn {
+    match (one, other) {
+        (Turn::Moved, _) | (_, Some(Turn::Moved)) => Turn::Moved,
+        (Turn::Held, None | Some(Turn::Held)) => Turn::Held,
+        (Turn::Idle, _) | (_, Some(Turn::Idle)) => Turn::Idle,
+    }
+}
+
 /// How many turns in a row went by without a step.
 #[derive(Drop)]
 pub(crate) struct Idling {

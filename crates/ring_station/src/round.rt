@@ -54,6 +54,11 @@ impl Round {
         }
     }
 
+    /// Whether the round stands before the first bank.
+    pub(crate) fn is_at_banks(&self) -> bool {
+        !self.has_word && matches!(self.place, Place::Bank(0))
+    }
+
     /// The source of the next step.
     pub(crate) fn source(&self) -> Source {
         if self.has_word {

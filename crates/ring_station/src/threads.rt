@@ -20,7 +20,8 @@ use std::sync::atomic::AtomicBool;
 use std::thread::{Threads, for_each_chunk_mut, join_mut};
 
 /// Runs the cache side in a thread of its own, and the ports and the banks in those of the crew, and joins
-/// them all. The result is how the run of the cache side ended; the ports and the banks note their own.
+/// them all; the cache side's thread serves the banks if the crew has none for them. The result is how the run of the cache side
+/// ended; the ports and the banks note their own.
 pub(crate) fn run_all<
     R: Clock + Threads + Sync,
     G: Gate,
@@ -50,18 +51,22 @@ pub(crate) fn run_all<
     let done = AtomicBool::new(false);
     let port_count = ports.len() as u32;
     let bank_count = banks.len() as u32;
+    let beside = crew.beside_cache(banks.len());
+    let (own, others) = banks.as_mut_slice().split_at_mut(beside);
     let (cache_end, ()) = join_mut(
         rt,
         &mut || -> ThreadEnd
-            ensures { CacheRan port_count turns cache.entry.now cache.exit.now result }
-        { run_cache(rt, gate, port_count, bank_count, turns, &done, cache) },
+            requires { (length own.now ≤ MAX_BANKS) × All (λ r. r.end ≡ not_begun) own.now }
+            ensures cache { CacheRan port_count turns cache.entry.now cache.exit.now result }
+            ensures banks { EachServed turns own.entry.now own.exit.now }
+        { run_cache(rt, gate, port_count, bank_count, turns, &done, cache, own) },
         &mut ||
             requires { IsSync R.row × (length scripts.now ≡ vec_len ports.now)
-                × (vec_len ports.now ≤ MAX_PORTS) × (vec_len banks.now ≤ MAX_BANKS)
-                × All HasNotBegun ports.now.items × All (λ r. r.end ≡ not_begun) banks.now.items }
+                × (vec_len ports.now ≤ MAX_PORTS) × (length others.now ≤ MAX_BANKS)
+                × All HasNotBegun ports.now.items × All (λ r. r.end ≡ not_begun) others.now }
             ensures ports { EachRanScript scripts.entry.now turns ports.entry.now.items ports.exit.now.items }
-            ensures banks { EachServed turns banks.entry.now.items banks.exit.now.items }
-        { run_sides(rt, gate, scripts, turns, crew, &done, ports, banks) },
+            ensures banks { EachServed turns others.entry.now others.exit.now }
+        { run_sides(rt, gate, scripts, turns, crew, &done, ports, others) },
     );
     cache_end
 }
@@ -75,22 +80,22 @@ fn run_sides<R: Clock + Threads + Sync, G: Gate>(
     crew: Crew,
     done: &AtomicBool,
     ports: &mut Vec<PortRun>,
-    banks: &mut Vec<BankRun>,
+    banks: &mut [BankRun],
 )
     requires scripts { length scripts.now ≡ vec_len ports.old }
     requires few_ports { vec_len ports.old ≤ MAX_PORTS }
-    requires few_banks { vec_len banks.old ≤ MAX_BANKS }
+    requires few_banks { length banks.old ≤ MAX_BANKS }
     requires ports { All HasNotBegun ports.old.items }
-    requires banks { All (λ r. r.end ≡ not_begun) banks.old.items }
+    requires banks { All (λ r. r.end ≡ not_begun) banks.old }
     ensures ports { EachRanScript scripts.now turns ports.old.items ports.new.items }
-    ensures banks { EachServed turns banks.old.items banks.new.items }
+    ensures banks { EachServed turns banks.old banks.new }
 {
     join_mut(
         rt,
         &mut ||
-            requires { IsSync R.row × (vec_len banks.now ≤ MAX_BANKS)
-                × All (λ r. r.end ≡ not_begun) banks.now.items }
-            ensures { EachServed turns banks.entry.now.items banks.exit.now.items }
+            requires { IsSync R.row × (length banks.now ≤ MAX_BANKS)
+                × All (λ r. r.end ≡ not_begun) banks.now }
+            ensures { EachServed turns banks.entry.now banks.exit.now }
         { run_banks(rt, gate, turns, crew.bank_threads, done, banks) },
         &mut ||
             requires { IsSync R.row × (length scripts.now ≡ vec_len ports.now)

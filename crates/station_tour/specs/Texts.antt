@@ -4,7 +4,7 @@ use Rattle.station_parts.specs.Texts.{renew_fault_text}
 use Rattle.station_tour.specs.declared.fault.StationFault.{StationFault}
 use Rattle.station_tour.specs.declared.fault.StationFault.TheVariants.{CommandLine, Shape, TurnLimit, Renewal, Journal, Io, OutOfMemory}
 use Rattle.station_tour.specs.declared.rates.Server.{Server}
-use Rattle.station_tour.specs.declared.rates.Server.TheVariants.{Core, Mutex, Hand, Threads, Shared}
+use Rattle.station_tour.specs.declared.rates.Server.TheVariants.{Core, Mutex, Hand, Threads, Shared, Beside}
 
 -- why the program ends; the words for the command line are those of its reader, and for a stream those of the system
 abbrev pub station_fault_text : StationFault → Option (List ℕ)
@@ -25,3 +25,5 @@ server_text (Threads ports) =
     if ports == 1 then codes "station on threads, 1 port" else codes "station on threads, " ++ decimal ports ++ codes " ports"
 server_text (Shared ports threads) =
     codes "station on threads, " ++ (decimal ports ++ (codes " ports on " ++ (decimal threads ++ codes ", all banks on 1")))
+server_text (Beside ports threads) =
+    codes "station on threads, " ++ (decimal ports ++ (codes " ports on " ++ (decimal threads ++ codes ", all banks beside the cache")))

@@ -143,7 +143,7 @@ fn threads<'a>(alloc: Global) -> Arg<'a> {
         .value_parser(clap::value_parser!(u32).range(
             i64::from(FEWEST_THREADS)..=i64::from(MOST_THREADS),
         ))
-        .help("How many threads there are, 3 to 21 [default: as many as processors]")
+        .help("How many threads there are, 2 to 21 [default: as many as processors]")
 }
 
 fn journal<'a>(alloc: Global) -> Arg<'a> {

@@ -4,15 +4,17 @@ ghost use Rattle.std.specs.Prelude.{◌≡◌, ◌+◌, ◌-◌, ◌<◌, ◌≤
 use ring_station::Crew;
 use std::thread::{Threads, available_parallelism};
 
-/// The fewest threads of a run: one for the cache side, one for all ports and one for all banks.
-pub(crate) const FEWEST_THREADS: u32 = 3;
+/// The fewest threads of a run: one for the cache side, which serves the banks too, and one for all ports.
+pub(crate) const FEWEST_THREADS: u32 = 2;
 
 /// The crew of a run that is to have so many threads, that of the cache side among them: one for each part
-/// if there are enough, and else one for all banks and the others, at least one, for the ports.
+/// if there are enough; and else the cache side's serves the banks, and the others, at least one, are for the
+/// ports. A thread of their own would serve the banks no faster: what they are sent and what they answer would travel
+/// from one processor to another.
 pub(crate) fn crew_of(threads: u32, ports: u32, banks: u32) -> Crew
     ensures each { ports + banks < threads → (result.port_threads ≡ ports) × (result.bank_threads ≡ banks) }
     ensures shared { threads ≤ ports + banks
-        → (result.port_threads ≡ max 1 (threads - 2)) × (result.bank_threads ≡ 1) }
+        → (result.port_threads ≡ max 1 (threads - 1)) × (result.bank_threads ≡ 0) }
 {
     if u64::from(ports) + u64::from(banks) < u64::from(threads) {
         Crew {
@@ -21,8 +23,8 @@ pub(crate) fn crew_of(threads: u32, ports: u32, banks: u32) -> Crew
         }
     } else {
         Crew {
-            port_threads: threads.saturating_sub(2).max(1) as usize,
-            bank_threads: 1,
+            port_threads: threads.saturating_sub(1).max(1) as usize,
+            bank_threads: 0,
         }
     }
 }

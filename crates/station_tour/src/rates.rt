@@ -31,7 +31,7 @@ const RUNS: u32 = 9;
 
 // Each is run once before any of them is run again, so that a machine that is slow for a while is slow
 // for all.
-const SERVERS: [Server; 11] = [
+const SERVERS: [Server; 12] = [
     Server::Core,
     Server::Mutex { threads: 2 },
     Server::Mutex { threads: 4 },
@@ -45,6 +45,10 @@ const SERVERS: [Server; 11] = [
     Server::Shared {
         ports: 8,
         threads: 2,
+    },
+    Server::Beside {
+        ports: 8,
+        threads: 3,
     },
 ];
 
@@ -67,6 +71,8 @@ pub(crate) enum Server {
     Threads { ports: u32 },
     /// The same, with so many threads that share the ports, and one for all banks.
     Shared { ports: u32, threads: u32 },
+    /// The same, with so many threads that share the ports, and none for the banks: the cache side's serves them.
+    Beside { ports: u32, threads: u32 },
 }
 
 impl Display for Server {
@@ -86,6 +92,12 @@ impl Display for Server {
                 write!(
                     f,
                     "station on threads, {ports} ports on {threads}, all banks on 1"
+                )
+            }
+            Server::Beside { ports, threads } => {
+                write!(
+                    f,
+                    "station on threads, {ports} ports on {threads}, all banks beside the cache"
                 )
             }
         }
@@ -204,6 +216,13 @@ fn serve<R: AllocGlobal + Clock + Threads + Wait + Sync>(
             let crew = Crew {
                 port_threads: threads as usize,
                 bank_threads: 1,
+            };
+            ask_crew(rt, ports, crew, requests)
+        }
+        Server::Beside { ports, threads } => {
+            let crew = Crew {
+                port_threads: threads as usize,
+                bank_threads: 0,
             };
             ask_crew(rt, ports, crew, requests)
         }

@@ -49,6 +49,11 @@ const SHARED: Crew = Crew {
     bank_threads: 1,
 };
 
+const BESIDE: Crew = Crew {
+    port_threads: 2,
+    bank_threads: 0,
+};
+
 // Each row begins with these: no part comes to its end.
 const ENDING: Ending = Ending {
     name: "",
@@ -71,7 +76,7 @@ const LEFT_ASKS: Option<Audit> = Some(Audit::Left {
     ring: Ring::Asks(0),
 });
 
-static ENDINGS: [Ending; 11] = [
+static ENDINGS: [Ending; 15] = [
     Ending {
         name: "all come to their ends",
         turns: TURNS,
@@ -163,7 +168,56 @@ static ENDINGS: [Ending; 11] = [
         audit: Some(Audit::Clean),
         ..ENDING
     },
-    // None counts as one.
+    Ending {
+        name: "banks beside the cache side",
+        crew: BESIDE,
+        turns: TURNS,
+        scripts: [&[LOAD_5], &[LOAD_5]],
+        lists: [&[Told::Accepted, VALUE], &[Told::Accepted, VALUE]],
+        cache: None,
+        ports: [None, None],
+        banks: [None, None],
+        audit: Some(Audit::Clean),
+        bank_turns: 2,
+        ..ENDING
+    },
+    Ending {
+        name: "a held bank beside the cache side",
+        crew: BESIDE,
+        rule: Rule::Holds(Actor::Bank(0)),
+        scripts: [&[LOAD_5], &[]],
+        lists: [&[Told::Accepted, VALUE], &[]],
+        ports: [None, None],
+        audit: Some(Audit::Left {
+            ring: Ring::Commands(0),
+        }),
+        ..ENDING
+    },
+    Ending {
+        name: "banks beside a held cache side",
+        crew: BESIDE,
+        rule: Rule::Holds(Actor::Cache),
+        turns: 1_000,
+        scripts: [&[LOAD_5], &[]],
+        ports: [LIMIT, None],
+        audit: LEFT_ASKS,
+        bank_turns: 1_000,
+        ..ENDING
+    },
+    Ending {
+        name: "a full journal, with the banks beside the cache side",
+        crew: BESIDE,
+        journal: 1,
+        rule: Rule::Holds(Actor::Port(1)),
+        scripts: [&[PREFETCH], &[]],
+        lists: [&[Told::Accepted], &[]],
+        cache: Some(ThreadFault::JournalFull),
+        ports: [None, LIMIT],
+        audit: LEFT_ASKS,
+        bank_turns: SOME_TURNS,
+        ..ENDING
+    },
+    // No thread for the ports counts as one.
     Ending {
         name: "ports that share a thread, without turns",
         crew: Crew {

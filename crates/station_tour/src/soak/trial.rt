@@ -127,7 +127,7 @@ impl Trial {
         }
         Some(Crew {
             port_threads: draws.between(1, self.ports.max(1)) as usize,
-            bank_threads: draws.between(1, self.shape.banks.max(1)) as usize,
+            bank_threads: draws.between(0, self.shape.banks) as usize,
         })
     }
 

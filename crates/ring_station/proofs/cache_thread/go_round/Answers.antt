@@ -1,6 +1,6 @@
-use Rattle.std.proofs.Common.{rules, ◌∙◌, lit<}
+use Rattle.std.proofs.Common.{rules, arith, ◌∙◌, lit<}
 use Rattle.ring_station.proofs.Turning.{turn_notes, noted_more, noted_still, ended_more, ended_still, cache_ran, is_served, full_turn}
-use Rattle.ring_station.proofs.cache_thread.run_cache.Goals as goal
+use Rattle.ring_station.proofs.cache_thread.go_round.Goals as goal
 
 pub loop-turn-preserved : goal.loop-turn-preserved
 loop-turn-preserved g c =
@@ -9,12 +9,14 @@ loop-turn-preserved g c =
       same = c.take_turn-stepped.ensures.same ∙ c.seek.ensures.same ∙ c.loop-turn.invariant.same;
       earlier = notes.earlier ∙ c.seek.ensures.earlier ∙ c.loop-turn.invariant.earlier;
       noted = noted_more _ _ _ _ notes (noted_still _ _ _ _ c.seek.ensures.held c.loop-turn.invariant.noted);
+      banks = c.serve_beside-served.ensures.on _ c.loop-turn.invariant.banks;
+      within = let more = c.serve_beside-served.ensures.within in let before = c.loop-turn.invariant.within in omega arith;
       ended = ended_more _ _ _ _ _ _ _ notes c.entries-entries.ensures c.has_ended_port.ensures c.still_open-open_ports.ensures
           (ended_still _ _ _ _ c.seek.ensures.held c.loop-turn.invariant.ended);
     }
 
-pub returns-then-is_at_rest : goal.returns-then-is_at_rest
-returns-then-is_at_rest g c =
+pub returns-then-is_at_rest-clause-cache : goal.returns-then-is_at_rest-clause-cache
+returns-then-is_at_rest-clause-cache g c =
     let notes = turn_notes _ _ _ _ _ c.take_turn-stepped.ensures.turn in
     cache_ran _ _ _ _ _ _ _ c.over.ensures (search rules) (
       search rules,
@@ -26,14 +28,28 @@ returns-then-is_at_rest g c =
     (notes.earlier ∙ c.seek.ensures.earlier ∙ c.loop-turn.invariant.earlier)
     (noted_more _ _ _ _ notes (noted_still _ _ _ _ c.seek.ensures.held c.loop-turn.invariant.noted))
 
-pub returns-then-eq : goal.returns-then-eq
-returns-then-eq g c =
+pub returns-then-eq-clause-cache : goal.returns-then-eq-clause-cache
+returns-then-eq-clause-cache g c =
     let notes = turn_notes _ _ _ _ _ c.take_turn-stepped.ensures.turn in
     cache_ran _ _ _ _ _ _ _ c.stopped.ensures (search rules)
     (full_turn _ _ _ _ _ c.take_turn-stepped.ensures.turn (search rules))
     (c.take_turn-stepped.ensures.same ∙ c.seek.ensures.same ∙ c.loop-turn.invariant.same)
     (notes.earlier ∙ c.seek.ensures.earlier ∙ c.loop-turn.invariant.earlier)
     (noted_more _ _ _ _ notes (noted_still _ _ _ _ c.seek.ensures.held c.loop-turn.invariant.noted))
+
+pub returns-then-is_at_rest-clause-banks : goal.returns-then-is_at_rest-clause-banks
+returns-then-is_at_rest-clause-banks g c = c.serve_beside-served.ensures.on _ c.loop-turn.invariant.banks
+
+pub returns-then-is_at_rest-clause-within : goal.returns-then-is_at_rest-clause-within
+returns-then-is_at_rest-clause-within g c =
+    let more = c.serve_beside-served.ensures.within in let before = c.loop-turn.invariant.within in omega arith
+
+pub returns-then-eq-clause-banks : goal.returns-then-eq-clause-banks
+returns-then-eq-clause-banks g c = c.serve_beside-served.ensures.on _ c.loop-turn.invariant.banks
+
+pub returns-then-eq-clause-within : goal.returns-then-eq-clause-within
+returns-then-eq-clause-within g c =
+    let more = c.serve_beside-served.ensures.within in let before = c.loop-turn.invariant.within in omega arith
 
 pub entries-entries-requires : goal.entries-entries-requires
 entries-entries-requires g c = lit< tt
