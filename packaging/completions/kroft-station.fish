@@ -5,7 +5,7 @@ complete -c kroft-station -n __fish_use_subcommand -a rates -d 'Tell how many as
 complete -c kroft-station -n '__fish_use_subcommand' -l ports -x -d 'How many ports ask, 1 to 16 [default: 4]'
 complete -c kroft-station -n '__fish_use_subcommand' -l asks -x -d 'How often each port asks, 1 to 4294967295 [default: 12]'
 complete -c kroft-station -n '__fish_use_subcommand' -l seed -x -d 'What the numbers and scripts are drawn by, 1 to 4294967295 [default: 1]'
-complete -c kroft-station -n '__fish_use_subcommand' -l threads -x -d 'How many threads there are, 3 to 21 [default: as many as processors]'
+complete -c kroft-station -n '__fish_use_subcommand' -l threads -x -d 'How many threads there are, 2 to 21 [default: as many as processors]'
 complete -c kroft-station -n '__fish_use_subcommand' -l journal -r -F -d 'Write the journal, as a recorded run, into a file; or alone, without a name'
 complete -c kroft-station -n '__fish_use_subcommand' -l help -s h -d 'Print help'
 complete -c kroft-station -n '__fish_use_subcommand' -l version -s V -d 'Print version'

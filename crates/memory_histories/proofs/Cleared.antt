@@ -1,6 +1,6 @@
 -- Lanes that are written over, one by one.
-use Rattle.std.proofs.Common.{◌≡◌, ℕ, suc, ◌+◌, ◌<◌, ◌≤◌, List, [], ◌∷◌, ◌++◌, length, take, drop, get_or, set, Option, None, refl, sym}
-use Rattle.std.proofs.Common.{◌∙◌, append_assoc, add-one, drop-cons, take-append-drop, append-nil, drop-set-lt, arith}
+use Rattle.std.proofs.Common.{◌≡◌, ℕ, suc, ◌+◌, ◌<◌, ◌≤◌, List, [], ◌∷◌, ◌++◌, length, take, drop, get_or, set, Option, None, refl}
+use Rattle.std.proofs.Common.{append_assoc, add-one, drop-cons, take-append-drop, append-nil, drop-set-lt, arith}
 use Rattle.std.proofs.lemmas.List.{take_more_set, drop_all}
 use Rattle.memory_histories.specs.Parts.{cleared, cleared_lanes}
 
@@ -11,21 +11,18 @@ cleared_from k over lanes = take k lanes ++ cleared_lanes (drop k over) (drop k 
 pub clear_more : (over lanes : List (Option ℕ)) (k : ℕ) → k < length lanes → k < length over
     → cleared_from (k + 1) over (set lanes k (cleared (get_or over k None) (get_or lanes k None))) ≡ cleared_from k over lanes
 clear_more over lanes k h l =
-    let v : Option ℕ = cleared (get_or over k None) (get_or lanes k None) in
-    let t : take (k + 1) (set lanes k v) ≡ take k lanes ++ v ∷ [] = take_more_set lanes k v h in
-    let d : drop (suc k) (set lanes k v) ≡ drop (suc k) lanes = drop-set-lt (suc k) lanes k v (omega arith) in
+    let v = cleared (get_or over k None) (get_or lanes k None) in
+    let t = take_more_set lanes k v h in
+    let d = drop-set-lt (suc k) lanes k v (omega arith) in
     rw (t, append_assoc, add-one, d, drop-cons over k None l, drop-cons lanes k None h) refl
 
 pub clear_past : (over lanes : List (Option ℕ)) (k : ℕ) → k < length lanes → length over ≤ k
     → cleared_from (k + 1) over lanes ≡ cleared_from k over lanes
-clear_past over lanes k h l =
-    rw (drop_all (k + 1) over (omega arith), drop_all k over l) (take-append-drop (k + 1) lanes ∙ sym (take-append-drop k lanes))
+clear_past over lanes k h l = grind (arith, drop_all, take-append-drop)
 
 cleared_none : (over : List (Option ℕ)) → cleared_lanes over [] ≡ []
 cleared_none [] = refl
 cleared_none (e ∷ es) = refl
 
 pub clear_all : (over lanes : List (Option ℕ)) (k : ℕ) → length lanes ≤ k → cleared_from k over lanes ≡ lanes
-clear_all over lanes k h =
-    rw (drop_all k lanes h, cleared_none (drop k over), append-nil)
-    (sym (append-nil (take k lanes)) ∙ (rw (drop_all k lanes h) at (take-append-drop k lanes)))
+clear_all over lanes k h = grind (arith, drop_all, cleared_none, append-nil, take-append-drop)

@@ -9,7 +9,7 @@ use Rattle.memory_histories.specs.declared.events.Rest.{Rest}
 use Rattle.memory_histories.specs.declared.events.Rest.TheVariants.{Zeros, Unknown}
 use Rattle.memory_histories.specs.declared.windows.StoreByte.{StoreByte}
 use Rattle.memory_histories.specs.declared.windows.LoadByte.{LoadByte}
-use Rattle.memory_histories.specs.Regular.{IsBefore, IsOverwritten, IsLeft, IsCovered, IsInitial, MayReturn, is_before, overwrites}
+use Rattle.memory_histories.specs.Regular.{IsBefore, IsOverwritten, IsLeft, IsCovered, IsInitial, MayReturn, is_before}
 use Rattle.memory_histories.specs.Regular.{is_overwritten, is_left, is_covered, is_initial, may_return_byte}
 
 Any-weaker : {X : Type 0} (P Q : X → Type 0) → ((x : X) → P x → Q x) → (xs : List X) → Any P xs → Any Q xs
@@ -28,7 +28,7 @@ before (Some e) t = Decides-ltb e t
 
 overwritten : (stores : List StoreByte) (s : StoreByte) (t : ℕ) → Decides (is_overwritten stores s t) (IsOverwritten stores s t)
 overwritten stores s t =
-    Any-decides (overwrites s t) _ (λ other. Decides-and _ _ (Decides-eqb _ _) (Decides-and _ _ (before s.ended other.began)
+    Any-decides _ _ (λ other. Decides-and _ _ (Decides-eqb _ _) (Decides-and _ _ (before s.ended other.began)
     (before other.ended t))) stores
 
 left : (stores : List StoreByte) (l : LoadByte) (b : ℕ) → Decides (is_left stores l b) (IsLeft stores l b)

@@ -83,7 +83,7 @@ filter-never p (x ∷ xs) a = rw (All-head (λ y. p y ≡ false) x xs a, filter-
 pub none_pass : {X : Type 0} (p : X → Bool) (xs : List X) → filter p xs ≡ [] → All (λ x. p x ≡ false) xs
 none_pass p [] e = All-nil (λ x. p x ≡ false)
 none_pass p (x ∷ xs) e = elim (cases_Bool (p x)) [
-  | inl t ↦ let some : x ∷ filter p xs ≡ [] = (rw t at e) in cc
+  | inl t ↦ let some = (rw t at e) in cc
   | inr t ↦ All-cons (λ y. p y ≡ false) x xs t (none_pass p xs (rw t at e))
 ]
 
@@ -106,12 +106,12 @@ and_kept k false h = and_false k
 
 pub list_any-kept : {X : Type 0} (keep q : X → Bool) → ((x : X) → q x ≡ true → keep x ≡ true) → (xs : List X)
     → list_any q (filter keep xs) ≡ list_any q xs
-list_any-kept keep q h xs = list_any-filter keep q xs ∙ list_any-same (λ x. keep x && q x) q (λ x. and_kept (keep x) (q x) (h x)) xs
+list_any-kept keep q h xs = list_any-filter keep q xs ∙ list_any-same (λ x. keep x && q x) q (λ x. and_kept _ (q x) (h x)) xs
 
 pub filter-kept : {X : Type 0} (keep q : X → Bool) → ((x : X) → q x ≡ true → keep x ≡ true) → (xs : List X)
     → filter q (filter keep xs) ≡ filter q xs
 filter-kept keep q h xs = filter-filter keep q xs ∙ filter-agree (λ x. keep x && q x) q xs
-    (λ k d l. and_kept (keep (get_or xs k d)) (q (get_or xs k d)) (h (get_or xs k d)))
+    (λ k d l. and_kept _ _ (h (get_or xs k d)))
 
 -- Look-ups. ----
 
@@ -125,7 +125,7 @@ find-map f q (x ∷ xs) = elim (cases_Bool (q (f x))) [
 pub find-All : {X : Type 0} (P : X → Type 0) (q : X → Bool) (xs : List X) → All P xs → (x : X) → find q xs ≡ Some x → P x
 find-All P q [] a x e = cc
 find-All P q (y ∷ ys) a x e = elim (cases_Bool (q y)) [
-  | inl t ↦ let s : Some y ≡ Some x = (rw t at e) in let u : y ≡ x = cc in subst P u (All-head P y ys a)
+  | inl t ↦ let s = (rw t at e) in let u : y ≡ x = cc in subst P u (All-head P y ys a)
   | inr t ↦ find-All P q ys (All-tail P y ys a) x (rw t at e)
 ]
 

@@ -3,16 +3,16 @@ use Rattle.std.proofs.Common.{◌≡◌, ℕ, suc, ◌+◌, ◌<◌, ◌≤◌, 
 use Rattle.std.proofs.Common.{refl, sym, ap, ap₂, ◌∙◌, inl, inr, arith}
 use Rattle.std.specs.Prelude.{zero, is_none, is_some}
 use Rattle.std.specs.List.{All, Contains, filter, list_any}
-use Rattle.std.proofs.lemmas.Bool.{false≢true, cases_Bool, and_parts, and_from, eqb-true, eq-eqb, ltb-true, lt-ltb, le-ltb, not_from_false}
+use Rattle.std.proofs.lemmas.Bool.{false≢true, cases_Bool, and_parts, and_from, lt-ltb, le-ltb, not_from_false}
 use Rattle.std.proofs.lemmas.List.Elements.{All-contains}
 use Rattle.std.proofs.lemmas.List.Folds.{Any-from_list_any, list_any-from_Any, list_any-append}
 use Rattle.memory_histories.specs.declared.windows.StoreByte.{StoreByte}
 use Rattle.memory_histories.specs.declared.windows.LoadByte.{LoadByte}
 use Rattle.memory_histories.specs.Windows.{is_open, after_response}
-use Rattle.memory_histories.specs.Regular.{is_before, overwrites, is_overwritten, is_left, is_covered}
-use Rattle.memory_histories.specs.Kept.{is_past, is_live, is_in, unit_of, is_dropped, answered_at, joined, answered_after, is_unanswered}
+use Rattle.memory_histories.specs.Regular.{is_before, is_overwritten, is_left, is_covered}
+use Rattle.memory_histories.specs.Kept.{is_past, is_live, is_in, unit_of, is_dropped, answered_at, answered_after, is_unanswered}
 use Rattle.memory_histories.specs.Kept.{is_seen, EndsBefore, IsTimely}
-use Rattle.memory_histories.proofs.Lists.{or_false, and_false, list_any-agree, list_any-same, list_any-never, list_any-map, list_any-filter}
+use Rattle.memory_histories.proofs.Lists.{and_false, list_any-agree, list_any-same, list_any-never, list_any-map, list_any-filter}
 use Rattle.memory_histories.proofs.Lists.{list_any-or, filter-agree, filter-filter, filter-map, map_kept, list_any-kept, filter-kept}
 
 -- Open stores. ----
@@ -22,21 +22,20 @@ none_from None h = refl
 none_from (Some e) h = cc
 
 open_none : (n : ℕ) (s : StoreByte) → is_open n s ≡ true → s.ended ≡ None
-open_none n s h = none_from s.ended (and_parts (is_none s.ended) (s.number == n) h).0
+open_none n s h = grind arith
 
 -- an open byte is not overwritten
 pub never_past : (stores : List StoreByte) (s : StoreByte) → s.ended ≡ None → is_past stores s ≡ false
-never_past stores s e = list_any-never (λ other. (other.address == s.address) && (is_before s.ended other.began && is_some other.ended))
-    (λ other. rw e (and_false (other.address == s.address))) stores
+never_past stores s e = grind (arith, list_any-never, s.ended, and_false)
 
 open_unanswered : (n : ℕ) (s : StoreByte) → is_open n s ≡ true → is_unanswered s ≡ true
-open_unanswered n s h = (and_parts (is_none s.ended) (s.number == n) h).0
+open_unanswered n s h = (and_parts _ _ h).0
 
 pub list_any-open : (stores : List StoreByte) (n : ℕ) → list_any (is_open n) (filter is_unanswered stores) ≡ list_any (is_open n) stores
-list_any-open stores n = list_any-kept is_unanswered (is_open n) (open_unanswered n) stores
+list_any-open stores n = list_any-kept is_unanswered _ (open_unanswered n) stores
 
 pub filter-open : (stores : List StoreByte) (n : ℕ) → filter (is_open n) (filter is_unanswered stores) ≡ filter (is_open n) stores
-filter-open stores n = filter-kept is_unanswered (is_open n) (open_unanswered n) stores
+filter-open stores n = filter-kept is_unanswered _ (open_unanswered n) stores
 
 le_of_lt_now : {a b : ℕ} → a < b → a ≤ b
 le_of_lt_now h = omega arith
@@ -49,14 +48,11 @@ before_now t b (Some e) h = lt-ltb e t h.1
 
 before_began : (t b m : ℕ) (o : Option ℕ) → EndsBefore t b o → is_before o m ≡ true → b < m
 before_began t b m None h k = absurd (false≢true k)
-before_began t b m (Some e) h k = let l = ltb-true e m k in let f = h.0 in omega arith
+before_began t b m (Some e) h k = grind arith
 
 pub overwritten_now : (t : ℕ) (stores : List StoreByte) → All (IsTimely t) stores → (s : StoreByte)
     → is_overwritten stores s t ≡ is_past stores s
-overwritten_now t stores a s =
-    list_any-agree (overwrites s t) (λ other. (other.address == s.address) && (is_before s.ended other.began && is_some other.ended)) stores
-    (λ k d l. ap (λ x. ((get_or stores k d).address == s.address) && (is_before s.ended (get_or stores k d).began && x))
-    (before_now t (get_or stores k d).began (get_or stores k d).ended (a k d l).1))
+overwritten_now t stores a s = grind (arith, list_any-agree, s.ended, before_now)
 
 -- the stores that were answered at an address: the latest of them is live
 abbrev ended_at : ℕ → StoreByte → Bool
@@ -68,24 +64,16 @@ overwrites_now s other = (other.address == s.address) && (is_before s.ended othe
 -- what an overwriting store is: of the same address, answered, and requested later
 overwriting : (t a : ℕ) (s other : StoreByte) → IsTimely t s → ended_at a s ≡ true → overwrites_now s other ≡ true
     → (ended_at a other ≡ true) × (s.began < other.began)
-overwriting t a s other y q o =
-    let p = and_parts (other.address == s.address) (is_before s.ended other.began && is_some other.ended) o in
-    let r = and_parts (is_before s.ended other.began) (is_some other.ended) p.1 in
-    let same : other.address ≡ s.address = eqb-true other.address s.address p.0 in
-    let here : (other.address == a) ≡ true = rw same (and_parts (s.address == a) (is_some s.ended) q).0 in
-    (and_from (other.address == a) (is_some other.ended) here r.1, before_began t s.began other.began s.ended y.1 r.0)
+overwriting t a s other y q o = grind arith
 
 seen : (a : ℕ) (stores : List StoreByte) (s : StoreByte) → Contains stores s → ended_at a s ≡ true → is_past stores s ≡ false
     → list_any (ended_at a) (filter (is_live stores) stores) ≡ true
-seen a stores s c q live =
-    list_any-filter (is_live stores) (ended_at a) stores
-    ∙ list_any-from_Any (λ x. is_live stores x && ended_at a x) stores
-    (c.0, s, c.1, c.2, and_from (is_live stores s) (ended_at a s) (not_from_false (is_past stores s) live) q)
+seen a stores s c q live = grind (arith, list_any-filter, list_any-from_Any, and_from, not_from_false)
 
 climb : (t a : ℕ) (stores : List StoreByte) → All (IsTimely t) stores → (n : ℕ) (s : StoreByte) → Contains stores s → ended_at a s ≡ true
     → t ≤ s.began + n → list_any (ended_at a) (filter (is_live stores) stores) ≡ true
-climb t a stores timely zero s c q h = let y = (All-contains (IsTimely t) stores s timely c).0 in absurd (omega arith)
-climb t a stores timely (suc n) s c q h = elim (cases_Bool (is_past stores s)) [
+climb t a stores timely zero s c q h = grind arith
+climb t a stores timely (suc n) s c q h = elim (cases_Bool _) [
   | inl past ↦
       let w = Any-from_list_any (overwrites_now s) stores past in
       let o = overwriting t a s w.1 (All-contains (IsTimely t) stores s timely c) q w.4 in
@@ -97,7 +85,7 @@ climb t a stores timely (suc n) s c q h = elim (cases_Bool (is_past stores s)) [
 some_live : (t a : ℕ) (stores : List StoreByte) → All (IsTimely t) stores → list_any (ended_at a) stores ≡ true
     → list_any (ended_at a) (filter (is_live stores) stores) ≡ true
 some_live t a stores timely h =
-    let w = Any-from_list_any (ended_at a) stores h in
+    let w = Any-from_list_any _ stores h in
     climb t a stores timely t w.1 (w.0, w.2, w.3) w.4 (omega arith)
 
 some_stored : (a : ℕ) (stores : List StoreByte) → list_any (ended_at a) (filter (is_live stores) stores) ≡ true
@@ -105,7 +93,7 @@ some_stored : (a : ℕ) (stores : List StoreByte) → list_any (ended_at a) (fil
 some_stored a stores h =
     let w = Any-from_list_any (λ x. is_live stores x && ended_at a x) stores
     (sym (list_any-filter (is_live stores) (ended_at a) stores) ∙ h) in
-    list_any-from_Any (ended_at a) stores (w.0, w.1, w.2, w.3, (and_parts (is_live stores w.1) (ended_at a w.1) w.4).1)
+    list_any-from_Any _ stores (w.0, w.1, w.2, w.3, (and_parts _ _ w.4).1)
 
 same_tests : (x y : Bool) → (x ≡ true → y ≡ true) → (y ≡ true → x ≡ true) → x ≡ y
 same_tests true y f g = sym (f refl)
@@ -114,30 +102,30 @@ same_tests false false f g = refl
 
 -- what lies at an address lies in its unit
 pub in_unit : (a : ℕ) (s : StoreByte) → (s.address == a) ≡ true → is_in (unit_of a) s ≡ true
-in_unit a s h = eq-eqb (unit_of s.address) (unit_of a) (ap unit_of (eqb-true s.address a h))
+in_unit a s h = grind arith
 
 covered_test : (x u e v : Bool) → (x ≡ true → u ≡ true) → (v && (x && e)) ≡ ((u && (e && v)) && x)
 covered_test true u true true h = rw (h refl) refl
 covered_test true u true false h = rw (h refl) refl
 covered_test true u false true h = rw (h refl) refl
 covered_test true u false false h = rw (h refl) refl
-covered_test false u e v h = and_false v ∙ sym (and_false (u && (e && v)))
+covered_test false u e v h = grind arith
 
 seen_covers : (a : ℕ) (stores : List StoreByte)
     → list_any (ended_at a) (filter (is_live stores) stores) ≡ list_any (λ s. s.address == a) (filter (is_seen (unit_of a) stores) stores)
 seen_covers a stores =
-    list_any-filter (is_live stores) (ended_at a) stores
-    ∙ (list_any-same (λ s. is_live stores s && ended_at a s) (λ s. is_seen (unit_of a) stores s && (s.address == a))
-    (λ s. covered_test (s.address == a) (is_in (unit_of a) s) (is_some s.ended) (is_live stores s) (in_unit a s)) stores
-    ∙ sym (list_any-filter (is_seen (unit_of a) stores) (λ s. s.address == a) stores))
+    list_any-filter _ _ stores
+    ∙ (list_any-same (λ s. is_live stores s && ended_at a s) (λ s. is_seen _ stores s && (s.address == a))
+    (λ s. covered_test _ _ _ _ (in_unit a s)) stores
+    ∙ sym (list_any-filter _ (λ s. s.address == a) stores))
 
 pub covered_now : (t : ℕ) (stores : List StoreByte) → All (IsTimely t) stores → (l : LoadByte) → l.began ≡ t
     → is_covered stores l ≡ list_any (λ s. s.address == l.address) (filter (is_seen (unit_of l.address) stores) stores)
 covered_now t stores timely l e =
-    list_any-agree (λ s. (s.address == l.address) && is_before s.ended l.began) (ended_at l.address) stores
+    list_any-agree (λ s. (s.address == l.address) && is_before s.ended l.began) _ stores
     (λ k d i. ap (λ x. ((get_or stores k d).address == l.address) && x)
     (rw e (before_now t (get_or stores k d).began (get_or stores k d).ended (timely k d i).1)))
-    ∙ (same_tests (list_any (ended_at l.address) stores) (list_any (ended_at l.address) (filter (is_live stores) stores))
+    ∙ (same_tests _ _
     (some_live t l.address stores timely) (some_stored l.address stores)
     ∙ seen_covers l.address stores)
 
@@ -155,18 +143,14 @@ puts a b s = (s.address == a) && (s.byte == b)
 
 left_live : (t : ℕ) (stores : List StoreByte) → All (IsTimely t) stores → (l : LoadByte) (b : ℕ) → l.began ≡ t
     → is_left stores l b ≡ list_any (λ s. is_live stores s && puts l.address b s) stores
-left_live t stores timely l b e =
-    list_any-same (λ s. (s.address == l.address) && ((s.byte == b) && not (is_overwritten stores s l.began)))
-    (λ s. is_live stores s && puts l.address b s)
-    (λ s. ap (λ x. (s.address == l.address) && ((s.byte == b) && not x)) (rw e (overwritten_now t stores timely s))
-    ∙ left_test (s.address == l.address) (s.byte == b) (is_past stores s)) stores
+left_live t stores timely l b e = grind (arith, list_any-same, l.address, overwritten_now, left_test)
 
 -- what a load may see is of an answered store, in its unit, or of an open one
 seen_test : (v x y u : Bool) (o : Option ℕ) → (o ≡ None → v ≡ true) → (x ≡ true → u ≡ true)
     → (v && (x && y)) ≡ (((u && (is_some o && v)) && (x && y)) || (is_none o && (x && y)))
-seen_test v false y u o h k = and_false v ∙ sym (ap₂ (λ p q. p || q) (and_false (u && (is_some o && v))) (and_false (is_none o)))
-seen_test v true y u None h k = rw (h refl, and_false u) refl
-seen_test v true y u (Some e) h k = rw (k refl) (sym (or_false (v && y)))
+seen_test v false y u o h k = grind arith
+seen_test v true y u None h k = grind arith
+seen_test v true y u (Some e) h k = grind arith
 
 pub left_now : (t : ℕ) (stores : List StoreByte) → All (IsTimely t) stores → (l : LoadByte) (b : ℕ) → l.began ≡ t
     → is_left stores l b
@@ -177,7 +161,7 @@ left_now t stores timely l b e =
     left_live t stores timely l b e
     ∙ (list_any-same (λ s. is_live stores s && puts l.address b s)
     (λ s. (is_seen u stores s && puts l.address b s) || (is_unanswered s && puts l.address b s))
-    (λ s. seen_test (is_live stores s) (s.address == l.address) (s.byte == b) (is_in u s) s.ended (λ e. ap not (never_past stores s e))
+    (λ s. seen_test _ _ _ _ s.ended (λ e. ap not (never_past stores s e))
     (in_unit l.address s)) stores
     ∙ (list_any-or (λ s. is_seen u stores s && puts l.address b s) (λ s. is_unanswered s && puts l.address b s) stores
     ∙ sym (ap₂ (λ p q. p || q) (list_any-filter (is_seen u stores) (puts l.address b) stores)
@@ -187,27 +171,27 @@ left_now t stores timely l b e =
 
 -- a byte's address and request stay
 after-address : (n t : ℕ) (s : StoreByte) → (after_response n t s).address ≡ s.address
-after-address n t s = elim (cases_Bool (is_open n s)) [ inl e ↦ rw e refl | inr e ↦ rw e refl ]
+after-address n t s = grind arith
 
 after-byte : (n t : ℕ) (s : StoreByte) → (after_response n t s).byte ≡ s.byte
-after-byte n t s = elim (cases_Bool (is_open n s)) [ inl e ↦ rw e refl | inr e ↦ rw e refl ]
+after-byte n t s = grind arith
 
 after-began : (n t : ℕ) (s : StoreByte) → (after_response n t s).began ≡ s.began
-after-began n t s = elim (cases_Bool (is_open n s)) [ inl e ↦ rw e refl | inr e ↦ rw e refl ]
+after-began n t s = grind arith
 
 some_or : (o : Option ℕ) → is_some o ≡ (is_some o || false)
-some_or o = sym (or_false (is_some o))
+some_or o = grind arith
 
 -- it is answered if it was, or if it is of the store that is answered now
 after-some : (n t : ℕ) (s : StoreByte) → is_some (after_response n t s).ended ≡ (is_some s.ended || is_open n s)
-after-some n t s = elim (cases_Bool (is_open n s)) [
+after-some n t s = elim (cases_Bool _) [
   | inl e ↦ rw (e, open_none n s e) refl
   | inr e ↦ rw e (some_or s.ended)
 ]
 
 -- and that was before an earlier moment if it was so before
 pub after-before : (n t m : ℕ) (s : StoreByte) → m ≤ t → is_before (after_response n t s).ended m ≡ is_before s.ended m
-after-before n t m s h = elim (cases_Bool (is_open n s)) [
+after-before n t m s h = elim (cases_Bool _) [
   | inl e ↦ rw (e, open_none n s e) (le-ltb t m h)
   | inr e ↦ rw e refl
 ]
@@ -230,7 +214,7 @@ past_after : (n t : ℕ) (stores : List StoreByte) → All (IsTimely t) stores �
     → is_past (map (after_response n t) stores) (after_response n t s)
     ≡ (is_past stores s || list_any (drops s) (filter (is_open n) stores))
 past_after n t stores timely s =
-    list_any-map (after_response n t) (overwrites_now (after_response n t s)) stores
+    list_any-map _ _ stores
     ∙ list_any-agree (λ o. overwrites_now (after_response n t s) (after_response n t o))
     (λ o. overwrites_now s o || (is_open n o && ((o.address == s.address) && is_before s.ended o.began))) stores
     (λ k d l. let o = get_or stores k d in
@@ -242,8 +226,8 @@ past_after n t stores timely s =
       after-before n t o.began s (le_of_lt_now (timely k d l).0),
     )
     (or_test (o.address == s.address) (is_before s.ended o.began) (is_some o.ended) (is_open n o)))
-    ∙ (list_any-or (overwrites_now s) (λ o. is_open n o && ((o.address == s.address) && is_before s.ended o.began)) stores
-    ∙ ap (λ x. is_past stores s || x) (sym (list_any-filter (is_open n) (λ e. (e.address == s.address) && is_before s.ended e.began)
+    ∙ (list_any-or _ (λ o. is_open n o && ((o.address == s.address) && is_before s.ended o.began)) stores
+    ∙ ap (λ x. is_past stores s || x) (sym (list_any-filter _ (λ e. (e.address == s.address) && is_before s.ended e.began)
     stores)))
 
 -- what overwrites a byte lies in its unit
@@ -252,20 +236,17 @@ dropped_test true u y h = rw (h refl) refl
 dropped_test false u y h = refl
 
 dropped_in : (u : ℕ) (ending : List StoreByte) (s : StoreByte) → is_in u s ≡ true → is_dropped u ending s ≡ list_any (drops s) ending
-dropped_in u ending s h =
-    list_any-same (λ e. (e.address == s.address) && (is_in u e && is_before s.ended e.began)) (drops s)
-    (λ e. dropped_test (e.address == s.address) (is_in u e) (is_before s.ended e.began)
-    (λ same. eq-eqb (unit_of e.address) u (ap unit_of (eqb-true e.address s.address same) ∙ eqb-true (unit_of s.address) u h))) ending
+dropped_in u ending s h = grind arith
 
 open_never_dropped : (ending : List StoreByte) (s : StoreByte) → s.ended ≡ None → list_any (drops s) ending ≡ false
-open_never_dropped ending s e = list_any-never (drops s) (λ o. rw e (and_false (o.address == s.address))) ending
+open_never_dropped ending s e = grind (arith, list_any-never, and_false)
 
 stayed_test : (x u e p d t : Bool) → (u ≡ true → x ≡ d) → ((u && (e && not (p || d))) && t)
     ≡ (((u && (e && not p)) && (not x && t)) || false)
 stayed_test x false e p d t h = refl
 stayed_test x true false p d t h = refl
 stayed_test x true true true d t h = refl
-stayed_test x true true false d t h = rw (h refl) (sym (or_false (not d && t)))
+stayed_test x true true false d t h = grind arith
 
 open_test : (u a b c t : Bool) → ((u && (true && not false)) && t) ≡ (((u && (false && a)) && (b && c)) || (true && (u && t)))
 open_test true a b c t = refl
@@ -282,17 +263,16 @@ seen_answered : (n t u : ℕ) (stores : List StoreByte) → All (IsTimely t) sto
     → (is_seen u (map (after_response n t) stores) (after_response n t s) && test (after_response n t s))
     ≡ ((is_seen u stores s && (not (is_dropped u (filter (is_open n) stores) s) && test s)) ||
     (is_open n s && (is_in u s && test (answered_at t s))))
-seen_answered n t u stores timely test s = elim (cases_Bool (is_open n s)) [
+seen_answered n t u stores timely test s = elim (cases_Bool _) [
   | inl h ↦
       let e = open_none n s h in
-      let after = map (after_response n t) stores in
-      let ending = filter (is_open n) stores in
+      let after = map _ stores in
+      let ending = filter _ stores in
       let same = ended_now n t s h in
-      let live : is_past after (answered_at t s) ≡ false =
+      let live =
       ap (is_past after) (sym same)
       ∙ (past_after n t stores timely s ∙ ap₂ (λ p q. p || q) (never_past stores s e) (open_never_dropped ending s e)) in
-      let now : (is_seen u after (after_response n t s) && test (after_response n t s))
-      ≡ ((is_in u s && (true && not false)) && test (answered_at t s)) =
+      let now =
       ap (λ x. is_seen u after x && test x) same ∙ ap (λ p. (is_in u s && (true && not p)) && test (answered_at t s)) live in
       now ∙ (open_test (is_in u s) (is_live stores s) (not (is_dropped u ending s)) (test s) (test (answered_at t s))
       ∙ ap₂ (λ (o : Option ℕ) q. ((is_in u s && (is_some o && is_live stores s)) && (not (is_dropped u ending s) && test s)) ||
@@ -301,13 +281,16 @@ seen_answered n t u stores timely test s = elim (cases_Bool (is_open n s)) [
       let after = map (after_response n t) stores in
       let ending = filter (is_open n) stores in
       let same = not_ended_now n t s h in
-      let past : is_past after s ≡ (is_past stores s || list_any (drops s) ending) = ap (is_past after) (sym same)
+      let past = ap (is_past after) (sym same)
       ∙ past_after n t stores timely s in
       ap (λ x. is_seen u after x && test x) same
-      ∙ (ap (λ p. (is_in u s && (is_some s.ended && not p)) && test s) past
-      ∙ (stayed_test (is_dropped u ending s) (is_in u s) (is_some s.ended) (is_past stores s) (list_any (drops s) ending) (test s)
-      (dropped_in u ending s)
-      ∙ ap (λ q. (is_seen u stores s && (not (is_dropped u ending s) && test s)) || (q && (is_in u s && test (answered_at t s)))) (sym h)))
+      ∙ (cc (
+        past,
+        (stayed_test (is_dropped u ending s) (is_in u s) (is_some s.ended) (is_past stores s) (list_any (drops s) ending)
+            (test s)
+            (dropped_in u ending s)
+            ∙ ap (λ q. (is_seen u stores s && (not (is_dropped u ending s) && test s)) || (q && (is_in u s && test (answered_at t s)))) (sym h)),
+      ))
 ]
 
 pub answered_seen : (n t u : ℕ) (stores answered : List StoreByte) → All (IsTimely t) stores
@@ -315,24 +298,24 @@ pub answered_seen : (n t u : ℕ) (stores answered : List StoreByte) → All (Is
     → list_any test (answered_after t (filter (is_open n) stores) u answered)
     ≡ list_any test (filter (is_seen u (map (after_response n t) stores)) (map (after_response n t) stores))
 answered_seen n t u stores answered timely same test =
-    let ending = filter (is_open n) stores in
+    let ending = filter _ stores in
     let f = after_response n t in
-    let stays : StoreByte → Bool = λ s. not (is_dropped u ending s) in
+    let stays : StoreByte → Bool = λ s. not _ in
     let p : StoreByte → Bool = λ s. is_seen u stores s && (stays s && test s) in
-    let q : StoreByte → Bool = λ s. is_open n s && (is_in u s && test (answered_at t s)) in
-    let stayed : list_any test (filter stays answered) ≡ list_any p stores =
+    let q : StoreByte → Bool = λ s. is_open n s && (is_in u s && test _) in
+    let stayed =
     list_any-filter stays test answered
-    ∙ (same (λ s. stays s && test s) ∙ list_any-filter (is_seen u stores) (λ s. stays s && test s) stores) in
-    let added : list_any test (joined t ending u) ≡ list_any q stores =
-    list_any-map (answered_at t) test (filter (is_in u) ending)
-    ∙ (list_any-filter (is_in u) (λ s. test (answered_at t s)) ending
-    ∙ list_any-filter (is_open n) (λ s. is_in u s && test (answered_at t s)) stores) in
-    list_any-append test (filter stays answered) (joined t ending u)
+    ∙ (same (λ s. stays s && test s) ∙ list_any-filter _ (λ s. stays s && test s) stores) in
+    let added =
+    list_any-map _ test _
+    ∙ (list_any-filter _ (λ s. test _) ending
+    ∙ list_any-filter _ (λ s. is_in u s && test _) stores) in
+    list_any-append test _ _
     ∙ (ap₂ (λ x y. x || y) stayed added
     ∙ (sym (list_any-or p q stores)
-    ∙ (list_any-same (λ s. p s || q s) (λ s. is_seen u (map f stores) (f s) && test (f s))
+    ∙ (list_any-same (λ s. p s || q s) (λ s. is_seen u _ (f s) && test (f s))
     (λ s. sym (seen_answered n t u stores timely test s)) stores
-    ∙ (sym (list_any-map f (λ s. is_seen u (map f stores) s && test s) stores)
+    ∙ (sym (list_any-map f (λ s. is_seen u _ s && test s) stores)
     ∙ sym (list_any-filter (is_seen u (map f stores)) test (map f stores))))))
 
 -- the open stores after an answer
@@ -341,9 +324,9 @@ and_true true = refl
 and_true false = refl
 
 still_open : (n t : ℕ) (s : StoreByte) → is_unanswered (after_response n t s) ≡ (is_unanswered s && not (is_open n s))
-still_open n t s = elim (cases_Bool (is_open n s)) [
-  | inl h ↦ ap is_unanswered (ended_now n t s h) ∙ sym (ap (λ x. is_unanswered s && not x) h ∙ and_false (is_unanswered s))
-  | inr h ↦ ap is_unanswered (not_ended_now n t s h) ∙ sym (ap (λ x. is_unanswered s && not x) h ∙ and_true (is_unanswered s))
+still_open n t s = elim (cases_Bool _) [
+  | inl h ↦ ap is_unanswered (ended_now n t s h) ∙ sym (cc (h, and_false _))
+  | inr h ↦ ap is_unanswered (not_ended_now n t s h) ∙ sym (cc (h, and_true _))
 ]
 
 false_from_not : (x : Bool) → not x ≡ true → x ≡ false
@@ -351,46 +334,22 @@ false_from_not true h = cc
 false_from_not false h = refl
 
 still_same : (n t : ℕ) (s : StoreByte) → (is_unanswered s && not (is_open n s)) ≡ true → after_response n t s ≡ s
-still_same n t s h = not_ended_now n t s (false_from_not (is_open n s) (and_parts (is_unanswered s) (not (is_open n s)) h).1)
+still_same n t s h = grind arith
 
 pub unanswered_after : (n t : ℕ) (stores : List StoreByte)
     → filter (λ s. not (is_open n s)) (filter is_unanswered stores) ≡ filter is_unanswered (map (after_response n t) stores)
-unanswered_after n t stores =
-    let f = after_response n t in
-    let q : StoreByte → Bool = λ s. is_unanswered s && not (is_open n s) in
-    filter-filter is_unanswered (λ s. not (is_open n s)) stores
-    ∙ (sym (map_kept f q (still_same n t) stores)
-    ∙ (ap (map f) (filter-agree q (λ s. is_unanswered (f s)) stores (λ k d l. sym (still_open n t (get_or stores k d))))
-    ∙ sym (filter-map f is_unanswered stores)))
+unanswered_after n t stores = grind (arith, filter-filter, map_kept, still_same, filter-agree, still_open, filter-map)
 
 -- and nothing changes for a load that was requested before
 overwritten_answered : (n t m : ℕ) (stores : List StoreByte) → All (IsTimely t) stores → m ≤ t → (s : StoreByte)
     → is_overwritten (map (after_response n t) stores) (after_response n t s) m ≡ is_overwritten stores s m
 overwritten_answered n t m stores timely h s =
-    list_any-map (after_response n t) (overwrites (after_response n t s) m) stores
-    ∙ list_any-agree (λ o. overwrites (after_response n t s) m (after_response n t o)) (overwrites s m) stores
-    (λ k d l. let o = get_or stores k d in
-    rw (
-      after-address n t o,
-      after-address n t s,
-      after-began n t o,
-      after-before n t o.began s (le_of_lt_now (timely k d l).0),
-      after-before n t m o h,
-    ) refl)
+    grind (arith, list_any-map, list_any-agree, after-address, after-began, after-before, le_of_lt_now)
 
 pub left_answered : (n t : ℕ) (stores : List StoreByte) → All (IsTimely t) stores → (l : LoadByte) (b : ℕ) → l.began ≤ t
     → is_left (map (after_response n t) stores) l b ≡ is_left stores l b
-left_answered n t stores timely l b h =
-    let f = after_response n t in
-    list_any-map f (λ s. (s.address == l.address) && ((s.byte == b) && not (is_overwritten (map f stores) s l.began))) stores
-    ∙ list_any-same (λ s. ((f s).address == l.address) && (((f s).byte == b) && not (is_overwritten (map f stores) (f s) l.began)))
-    (λ s. (s.address == l.address) && ((s.byte == b) && not (is_overwritten stores s l.began)))
-    (λ s. rw (after-address n t s, after-byte n t s, overwritten_answered n t l.began stores timely h s) refl) stores
+left_answered n t stores timely l b h = grind (arith, list_any-map, list_any-same, after-address, after-byte, overwritten_answered, l.began)
 
 pub covered_answered : (n t : ℕ) (stores : List StoreByte) (l : LoadByte) → l.began ≤ t
     → is_covered (map (after_response n t) stores) l ≡ is_covered stores l
-covered_answered n t stores l h =
-    list_any-map (after_response n t) (λ s. (s.address == l.address) && is_before s.ended l.began) stores
-    ∙ list_any-same (λ s. ((after_response n t s).address == l.address) && is_before (after_response n t s).ended l.began)
-    (λ s. (s.address == l.address) && is_before s.ended l.began)
-    (λ s. rw (after-address n t s, after-before n t l.began s h) refl) stores
+covered_answered n t stores l h = grind (arith, list_any-map, l.began, list_any-same, after-address, after-before)

@@ -1,5 +1,5 @@
 -- One more byte of an operation, as the loops over them go.
-use Rattle.std.proofs.Common.{◌≡◌, ℕ, ◌+◌, ◌-◌, ◌/◌, ◌%◌, ◌<◌, ◌||◌, ◌==◌, List, ◌∷◌, length, drop, get_or, None, refl, arith, add-one}
+use Rattle.std.proofs.Common.{◌≡◌, ℕ, ◌+◌, ◌-◌, ◌/◌, ◌%◌, ◌<◌, ◌||◌, ◌==◌, List, ◌∷◌, length, drop, get_or, None, arith}
 use Rattle.std.specs.List.{range_with_len}
 use Rattle.std.proofs.lemmas.List.{at_drop_more}
 use Rattle.memory_histories.specs.Regular.{has_enabled}
@@ -17,7 +17,4 @@ store_bytes-more n a bs i e m h = let s : a + i + 1 ≡ a + (i + 1) = omega arit
     rw (← s) (at_drop_more (λ xs. store_bytes n (a + i) xs e m) bs i 0 h)
 
 pub range_more : (a n k : ℕ) → k < n → range_with_len (a + k) (n - k) ≡ (a + k) ∷ range_with_len (a + (k + 1)) (n - (k + 1))
-range_more a n k h =
-    let e : n - k ≡ (n - (k + 1)) + 1 = omega arith in
-    let s : a + k + 1 ≡ a + (k + 1) = omega arith in
-    rw (e, add-one, ← s) refl
+range_more a n k h = grind arith

@@ -40,13 +40,13 @@ any_set : (k n a t : ℕ) (ss : List ByteSet) → list_any (is_open_of k) (set_b
 any_set k n a t [] = sym (and_false (n == k))
 any_set k n a t (s ∷ ss) =
     ap (λ x. (n == k) || x) (any_set k n (a + 1) t ss)
-    ∙ (or_and_true (n == k) (nat_lt 0 (length ss)) ∙ ap (λ x. (n == k) && x) (sym (lt-ltb 0 (suc (length ss)) (omega arith))))
+    ∙ (or_and_true _ _ ∙ ap (λ x. (n == k) && x) (sym (lt-ltb 0 (suc (length ss)) (omega arith))))
 
 pub any_open_load : (k : ℕ) (os : List OpenLoad)
     → list_any (is_open_of k) (loads_open os) ≡ list_any (λ o. is_load_of k o && nat_lt 0 (length o.sets.items)) os
 any_open_load k [] = refl
 any_open_load k (o ∷ os) =
-    list_any-append (is_open_of k) (load_open o) (loads_open os)
+    list_any-append _ (load_open o) (loads_open os)
     ∙ ap₂ (λ x y. x || y) (any_set k o.number o.address o.began o.sets.items) (any_open_load k os)
 
 -- a test by the number alone
@@ -60,14 +60,14 @@ all_sets q true n a t (s ∷ ss) h = rw (h a s) (ap (λ xs. (record { load = rec
 all_sets q false n a t (s ∷ ss) h = rw (h a s) (all_sets q false n (a + 1) t ss h)
 
 pub of_load : (k : ℕ) (o : OpenLoad) → filter (is_open_of k) (load_open o) ≡ (if is_load_of k o then load_open o else [])
-of_load k o = all_sets (is_open_of k) (is_load_of k o) o.number o.address o.began o.sets.items (λ x s. refl)
+of_load k o = all_sets _ _ o.number o.address o.began o.sets.items (λ x s. refl)
 
 pub filter_loads : (k : ℕ) (os : List OpenLoad) → filter (is_open_of k) (loads_open os) ≡ loads_open (filter (is_load_of k) os)
 filter_loads k [] = refl
-filter_loads k (o ∷ os) = filter-append (is_open_of k) (load_open o) (loads_open os) ∙ elim (cases_Bool (is_load_of k o)) [
-  | inl e ↦ let its : filter (is_open_of k) (load_open o) ≡ load_open o = (rw e at (of_load k o)) in
+filter_loads k (o ∷ os) = filter-append _ (load_open o) (loads_open os) ∙ elim (cases_Bool (is_load_of k o)) [
+  | inl e ↦ let its = (rw e at (of_load k o)) in
       rw e (ap₂ (λ x y. x ++ y) its (filter_loads k os))
-  | inr e ↦ let its : filter (is_open_of k) (load_open o) ≡ [] = (rw e at (of_load k o)) in
+  | inr e ↦ let its = (rw e at (of_load k o)) in
       rw e (ap₂ (λ x y. x ++ y) its (filter_loads k os))
 ]
 
@@ -75,11 +75,11 @@ pub filter_ended : (k : ℕ) (os : List OpenLoad) → filter (λ o. not (is_open
     ≡ loads_open (filter (λ o. not (is_load_of k o)) os)
 filter_ended k [] = refl
 filter_ended k (o ∷ os) =
-    let q : OpenByte → Bool = λ (b : OpenByte). not (is_open_of k b) in
+    let q = λ (b : OpenByte). not _ in
     let its = all_sets q (not (is_load_of k o)) o.number o.address o.began o.sets.items (λ x s. refl) in
     filter-append q (load_open o) (loads_open os) ∙ elim (cases_Bool (is_load_of k o)) [
-      | inl e ↦ let none : filter q (load_open o) ≡ [] = (rw e at its) in rw e (ap₂ (λ x y. x ++ y) none (filter_ended k os))
-      | inr e ↦ let all : filter q (load_open o) ≡ load_open o = (rw e at its) in rw e (ap₂ (λ x y. x ++ y) all (filter_ended k os))
+      | inl e ↦ let none = (rw e at its) in rw e (ap₂ (λ x y. x ++ y) none (filter_ended k os))
+      | inr e ↦ let all = (rw e at its) in rw e (ap₂ (λ x y. x ++ y) all (filter_ended k os))
     ]
 
 -- Lengths. ----
@@ -93,8 +93,7 @@ pub count_bytes : (k : ℕ) (os : List OpenLoad) (total : ℕ) → total ≤ 340
     340282366920938463463374607431768211455
 count_bytes k [] total h = omega arith
 count_bytes k (o ∷ os) total h =
-    let split : length (filter (is_open_of k) (loads_open (o ∷ os))) ≡ length (filter (is_open_of k) (load_open o)) + length
-    (filter (is_open_of k) (loads_open os)) =
+    let split =
     ap length (filter-append (is_open_of k) (load_open o) (loads_open os)) ∙ length-append (filter (is_open_of k) (load_open o))
     (filter (is_open_of k) (loads_open os)) in
     elim (cases_Bool (is_load_of k o)) [
@@ -116,10 +115,10 @@ pub same_response : (xs : List OpenByte) (bytes : List ℕ) (count : ℕ) (place
 same_response xs bytes count place e h p = elim (cases_lt (length xs) 340282366920938463463374607431768211455) [
   | inl l ↦ let same : count ≡ length xs = omega arith in rw (same, p) refl
   | inr l ↦
-      let a : (count == 0) ≡ false = ne_eqb count 0 (λ q. omega arith) in
-      let b : (length xs == 0) ≡ false = ne_eqb (length xs) 0 (λ q. omega arith) in
-      let c : (count == length bytes) ≡ false = ne_eqb count (length bytes) (λ q. omega arith) in
-      let d : (length xs == length bytes) ≡ false = ne_eqb (length xs) (length bytes) (λ q. omega arith) in
+      let a = ne_eqb count 0 (λ q. omega arith) in
+      let b : (length xs == 0) ≡ false = ne_eqb _ 0 (λ q. omega arith) in
+      let c : (count == length bytes) ≡ false = ne_eqb count _ (λ q. omega arith) in
+      let d : (length xs == length bytes) ≡ false = ne_eqb _ _ (λ q. omega arith) in
       rw (a, b, c, d) refl
 ]
 
@@ -130,17 +129,14 @@ set_bytes_may n a t (s ∷ ss) = ap (λ xs. s ∷ xs) (set_bytes_may n (a + 1) t
 
 wrong_load : (o : OpenLoad) (bs : List ℕ) → wrong_place has o.sets.items bs ≡ wrong_place may_have (load_open o) bs
 wrong_load o bs =
-    let may : OpenByte → ByteSet = λ (b : OpenByte). b.may in
+    let may = λ (b : OpenByte). b.may in
     ap (λ ss. wrong_place has ss bs) (sym (set_bytes_may o.number o.address o.began o.sets.items))
-    ∙ sym (position-zip may may_have has (load_open o) bs (λ k d l b. refl))
+    ∙ sym (position-zip may may_have has _ bs (λ k d l b. refl))
 
 pub one_response : (o : OpenLoad) (ss : List ByteSet) (bs : List ℕ) (place : Option ℕ) → ss ≡ o.sets.items
     → length ss < 18446744073709551616 → length bs < 18446744073709551616 → place ≡ wrong_place has ss bs
     → response_fault (length ss) (length bs) place ≡ load_response_fault may_have (load_open o) bs
-one_response o ss bs place e l h p =
-    let same : length ss ≡ length o.sets.items = ap length e in
-    let long : length (load_open o) ≡ length o.sets.items = length-set_bytes o.number o.address o.began o.sets.items in
-    same_response (load_open o) bs (length ss) place (omega arith) h (p ∙ (ap (λ xs. wrong_place has xs bs) e ∙ wrong_load o bs))
+one_response o ss bs place e l h p = grind (arith, length-set_bytes, o.number, o.address, o.began, o.sets.items, same_response, wrong_load)
 
 -- The first wrong byte. ----
 
@@ -163,17 +159,17 @@ from_sets : (n a t : ℕ) (ss : List ByteSet) (ys : List OpenByte) (bs : List �
     ≡ next (position_from is_wrong i (zip ss bs)) (position_from is_bad (i + min (length ss) (length bs))
     (zip ys (drop (min (length ss) (length bs)) bs)))
 from_sets n a t [] ys bs i =
-    let z : min 0 (length bs) ≡ 0 = omega arith in
-    let e : i + min 0 (length bs) ≡ i = omega arith in
+    let z : min 0 _ ≡ 0 = omega arith in
+    let e : i + min 0 _ ≡ i = omega arith in
     sym (ap₂ (λ j m. position_from is_bad j (zip ys (drop m bs))) e z)
 from_sets n a t (s ∷ ss) ys [] i =
-    let z : min (suc (length ss)) 0 ≡ 0 = omega arith in
-    sym (ap (λ m. position_from is_bad (i + m) (zip ys (drop m []))) z ∙ zip_nil ys (i + 0))
+    let z : min _ 0 ≡ 0 = omega arith in
+    sym (ap (λ m. position_from is_bad (i + m) (zip ys (drop m []))) z ∙ zip_nil ys _)
 from_sets n a t (s ∷ ss) ys (b ∷ bs) i = elim (cases_Bool (has s b)) [
   | inr e ↦ rw e refl
   | inl e ↦
       let z : min (suc (length ss)) (suc (length bs)) ≡ suc (min (length ss) (length bs)) = omega arith in
-      let j : i + suc (min (length ss) (length bs)) ≡ (i + 1) + min (length ss) (length bs) = omega arith in
+      let j : i + suc (min (length ss) (length bs)) ≡ (i + 1) + min _ _ = omega arith in
       rw (e, z, j) (from_sets n (a + 1) t ss ys bs (i + 1))
 ]
 
@@ -190,27 +186,27 @@ pub from_load : (k : ℕ) (o : OpenLoad) (os : List OpenLoad) (bs : List ℕ) (i
     ≡ next (option_map (λ p. i + p) (wrong_in k o bs))
     (position_from is_bad (i + (length bs - length (behind k o bs))) (zip (filter (is_open_of k) (loads_open os)) (behind k o bs)))
 from_load k o os bs i =
-    let ys = filter (is_open_of k) (loads_open os) in
+    let ys = filter _ (loads_open os) in
     ap (λ xs. position_from is_bad i (zip xs bs)) (filter-append (is_open_of k) (load_open o) (loads_open os))
     ∙ elim (cases_Bool (is_load_of k o)) [
       | inl e ↦
-          let its : filter (is_open_of k) (load_open o) ≡ load_open o = (rw e at (of_load k o)) in
+          let its = (rw e at (of_load k o)) in
           let m = min (length o.sets.items) (length bs) in
-          let long : length (drop m bs) ≡ length bs - m = length-drop m bs in
+          let long = length-drop m bs in
           let off : length bs - length (drop m bs) ≡ m = omega arith in
-          let place : position_from is_wrong i (zip o.sets.items bs) ≡ option_map (λ p. i + p) (wrong_place has o.sets.items bs) =
+          let place =
           (let z : i + 0 ≡ i = omega arith in ap (λ j. position_from is_wrong j (zip o.sets.items bs)) (sym z)
-          ∙ (shift i 0 (zip o.sets.items bs) ∙ ap (option_map (λ p. i + p)) (sym (position_from-zero is_wrong (zip o.sets.items bs))))) in
+          ∙ (cc (shift i 0 (zip o.sets.items bs), position_from-zero is_wrong (zip o.sets.items bs)))) in
           rw (e, its, off) (from_sets o.number o.address o.began o.sets.items ys bs i
           ∙ ap (λ w. next w (position_from is_bad (i + m) (zip ys (drop m bs)))) place)
       | inr e ↦
-          let its : filter (is_open_of k) (load_open o) ≡ [] = (rw e at (of_load k o)) in
+          let its = (rw e at (of_load k o)) in
           let z : i + (length bs - length bs) ≡ i = omega arith in
           rw (e, its, z) refl
     ]
 
 pub from_first : (xs : List OpenByte) (bs : List ℕ) → wrong_place may_have xs bs ≡ position_from is_bad 0 (zip xs bs)
-from_first xs bs = position_from-zero is_bad (zip xs bs)
+from_first xs bs = position_from-zero is_bad _
 
 zip_short : (ss : List ByteSet) (bs : List ℕ) → length (zip ss bs) ≤ length bs
 zip_short [] bs = omega arith
@@ -221,37 +217,30 @@ pub place_bound : (o : Option ℕ) (ss : List ByteSet) (bs : List ℕ) → o ≡
 place_bound None ss bs e = tt
 place_bound (Some k) ss bs e =
     let d : ByteSet × ℕ = (no_bytes, 0) in
-    let h : k < length (zip ss bs) = (position-Some is_wrong (zip ss bs) k d (sym e)).0 in
+    let h = (position-Some is_wrong _ k d (sym e)).0 in
     let l = zip_short ss bs in
     omega arith
 
 -- at one load
 module _ (k : ℕ) (os : List OpenLoad) (n : ℕ) (o : OpenLoad) (bs : List ℕ) (i : ℕ) (within : n < length os) (here : o ≡ get_or os n o) where
   left_from : ◌≡◌ {A = List OpenLoad} (drop n os) (o ∷ drop (n + 1) os)
-  left_from = rw add-one (drop-cons os n o within ∙ ap (λ x. x ∷ drop (suc n) os) (sym here))
+  left_from = grind (arith, add-one, drop-cons)
 
   at_load : position_from is_bad i (zip (filter (is_open_of k) (loads_open (drop n os))) bs)
       ≡ next (option_map (λ p. i + p) (wrong_in k o bs))
       (position_from is_bad (i + (length bs - length (behind k o bs)))
       (zip (filter (is_open_of k) (loads_open (drop (n + 1) os))) (behind k o bs)))
-  at_load = ap (λ ls. position_from is_bad i (zip (filter (is_open_of k) (loads_open ls)) bs)) left_from
-      ∙ from_load k o (drop (n + 1) os) bs i
+  at_load = grind (arith, left_from, from_load)
 
   pub found_wrong : (place : ℕ) → Some place ≡ wrong_in k o bs
       → Some (i + place) ≡ position_from is_bad i (zip (filter (is_open_of k) (loads_open (drop n os))) bs)
-  found_wrong place e =
-      let rest = position_from is_bad (i + (length bs - length (behind k o bs)))
-      (zip (filter (is_open_of k) (loads_open (drop (n + 1) os))) (behind k o bs)) in
-      ap (λ w. next (option_map (λ p. i + p) w) rest) e ∙ sym at_load
+  found_wrong place e = grind (arith, at_load)
 
   pub not_wrong : ◌≡◌ {A = Option ℕ} None (wrong_in k o bs)
       → position_from is_bad (i + (length bs - length (behind k o bs)))
       (zip (filter (is_open_of k) (loads_open (drop (n + 1) os))) (behind k o bs))
       ≡ position_from is_bad i (zip (filter (is_open_of k) (loads_open (drop n os))) bs)
-  not_wrong e =
-      let rest = position_from is_bad (i + (length bs - length (behind k o bs)))
-      (zip (filter (is_open_of k) (loads_open (drop (n + 1) os))) (behind k o bs)) in
-      ap (λ w. next (option_map (λ p. i + p) w) rest) e ∙ sym at_load
+  not_wrong e = grind (arith, at_load)
 
 pub no_longer : (k : ℕ) (o : OpenLoad) (bs : List ℕ) → length (behind k o bs) ≤ length bs
 no_longer k o bs = elim (cases_Bool (is_load_of k o)) [
@@ -270,36 +259,33 @@ shown_load p n a t (s ∷ ss) =
 
 far_behind : (p : StorePart) (a : ℕ) (ss : List ByteSet) → a + length ss ≤ 8 * p.unit → shown_sets p a ss ≡ ss
 far_behind p a [] h = refl
-far_behind p a (s ∷ ss) h = rw (lane_before (8 * p.unit) (eight p) a (omega arith))
+far_behind p a (s ∷ ss) h = rw (lane_before (8 * p.unit) _ a (omega arith))
     (ap (λ xs. s ∷ xs) (far_behind p (a + 1) ss (omega arith)))
 
 far_before : (p : StorePart) (a : ℕ) (ss : List ByteSet) → 8 * p.unit + 8 ≤ a → shown_sets p a ss ≡ ss
 far_before p a [] h = refl
 far_before p a (s ∷ ss) h =
-    let long : length (eight p) ≤ 8 = take_most 8 p.lanes in
+    let long = take_most 8 p.lanes in
     rw (lane_past (8 * p.unit) (eight p) a (omega arith)) (ap (λ xs. s ∷ xs) (far_before p (a + 1) ss (omega arith)))
 
 pub far : (p : StorePart) (a : ℕ) (ss : List ByteSet) → is_near a (length ss) p ≡ false → ss ≡ shown_sets p a ss
-far p a ss h = elim (cases_lt (8 * p.unit) (a + length ss)) [
+far p a ss h = elim (cases_lt _ _) [
   | inr l ↦ sym (far_behind p a ss l)
-  | inl l ↦ elim (cases_lt a (8 * p.unit + 8)) [
+  | inl l ↦ elim (cases_lt a _) [
     | inr m ↦ sym (far_before p a ss m)
-    | inl m ↦ let t : true ≡ false = (rw (lt-ltb (8 * p.unit) (a + length ss) l, lt-ltb a (8 * p.unit + 8) m) at h) in cc
+    | inl m ↦ let t = (rw (lt-ltb (8 * p.unit) (a + length ss) l, lt-ltb a (8 * p.unit + 8) m) at h) in cc
   ]
 ]
 
 pub loads-append : (xs ys : List OpenLoad) → loads_open (xs ++ ys) ≡ loads_open xs ++ loads_open ys
 loads-append [] ys = refl
-loads-append (o ∷ os) ys = ap (λ zs. load_open o ++ zs) (loads-append os ys)
-    ∙ sym (append_assoc (load_open o) (loads_open os) (loads_open ys))
+loads-append (o ∷ os) ys = cc (loads-append os ys, append_assoc (load_open o) (loads_open os) (loads_open ys))
 
 -- one part more is shown
 pub part_shown : (ps : List StorePart) (i : ℕ) (d : StorePart) (v w : OpenLoad) → i < length ps
     → load_open w ≡ map (after_stores (part_bytes (get_or ps i d))) (load_open v)
     → map (after_stores (parts_bytes (drop (i + 1) ps))) (load_open w) ≡ map (after_stores (parts_bytes (drop i ps))) (load_open v)
-part_shown ps i d v w within e =
-    rw (add-one, drop-cons ps i d within, e) (sym (all_shown_more (part_bytes (get_or ps i d)) (parts_bytes (drop (suc i) ps))
-    (load_open v)))
+part_shown ps i d v w within e = grind (arith, add-one, drop-cons, all_shown_more)
 
 -- one load more is shown
 pub one_shown : (f : OpenByte → OpenByte) (os : List OpenLoad) (i : ℕ) (v d : OpenLoad) → i < length os
@@ -307,14 +293,13 @@ pub one_shown : (f : OpenByte → OpenByte) (os : List OpenLoad) (i : ℕ) (v d 
     → loads_open (take (i + 1) (set os i v)) ++ map f (loads_open (drop (i + 1) (set os i v)))
     ≡ loads_open (take i os) ++ map f (loads_open (drop i os))
 one_shown f os i v d h e =
-    let t : take (i + 1) (set os i v) ≡ take i os ++ v ∷ [] = take_more_set os i v h in
-    let r : drop (suc i) (set os i v) ≡ drop (suc i) os = drop-set-lt (suc i) os i v (omega arith) in
+    let t = take_more_set os i v h in
+    let r = drop-set-lt (suc i) os i v (omega arith) in
     let all : loads_open (take i os ++ v ∷ []) ≡ loads_open (take i os) ++ load_open v =
-    loads-append (take i os) (v ∷ []) ∙ ap (λ xs. loads_open (take i os) ++ xs) (append-nil (load_open v)) in
-    let left : map f (loads_open (drop i os)) ≡ load_open v ++ map f (loads_open (drop (suc i) os)) =
+    loads-append (take i os) _ ∙ ap (λ xs. loads_open (take i os) ++ xs) (append-nil (load_open v)) in
+    let left =
     ap (λ os. map f (loads_open os)) (drop-cons os i d h)
-    ∙ (map-append f (load_open (get_or os i d)) (loads_open (drop (suc i) os)) ∙ ap (λ xs. xs ++ map f (loads_open (drop (suc i) os)))
-    (sym e)) in
+    ∙ (cc (map-append f (load_open (get_or os i d)) (loads_open (drop (suc i) os)), e)) in
     rw (t, add-one, r, all) (append_assoc (loads_open (take i os)) (load_open v) (map f (loads_open (drop (suc i) os)))
     ∙ sym (ap (λ xs. loads_open (take i os) ++ xs) left))
 
@@ -334,7 +319,7 @@ find_none k x n a t (s ∷ ss) h = rw h (find_none k x n (a + 1) t ss h)
 
 find_set : (k x n a t : ℕ) (ss : List ByteSet) → (n == k) ≡ true
     → option_map (λ o. o.may) (find (is_open_at k x) (set_bytes n a t ss)) ≡ (if nat_le a x then slice_get ss (x - a) else None)
-find_set k x n a t [] h = same_none (nat_le a x)
+find_set k x n a t [] h = same_none _
 find_set k x n a t (s ∷ ss) h = elim (cases_eq a x) [
   | inl e ↦ let z : x - a ≡ 0 = omega arith in rw (h, eq-eqb a x e, le-leb a x (omega arith), z) refl
   | inr ne ↦ elim (cases_lt a x) [
@@ -349,7 +334,7 @@ find_set k x n a t (s ∷ ss) h = elim (cases_eq a x) [
 pub find_first : (k x : ℕ) (os : List OpenLoad) → option_map (λ o. o.may) (find (is_open_at k x) (loads_open os)) ≡ first_set_at k x os
 find_first k x [] = refl
 find_first k x (o ∷ os) =
-    find_more (is_open_at k x) (load_open o) (loads_open os)
+    find_more _ (load_open o) (loads_open os)
     ∙ ap₂ or_next (elim (cases_Bool (o.number == k)) [
       | inl e ↦ rw e (find_set k x o.number o.address o.began o.sets.items e)
       | inr e ↦ rw e (find_none k x o.number o.address o.began o.sets.items e)

@@ -1,5 +1,5 @@
 -- What a request changes for the loads that are open, and what a load that is requested now may return.
-use Rattle.std.proofs.Common.{◌≡◌, ℕ, ◌+◌, ◌/◌, ◌%◌, Bool, true, false, ◌&&◌, ◌||◌, not, ◌==◌, List, [], ◌∷◌, ◌++◌, Option, None, Some}
+use Rattle.std.proofs.Common.{◌≡◌, ℕ, ◌+◌, ◌%◌, Bool, true, false, ◌&&◌, ◌||◌, not, ◌==◌, List, [], ◌∷◌, ◌++◌, Option, None, Some}
 use Rattle.std.proofs.Common.{get_or, slice_get, refl, sym, ap, ap₂, ◌∙◌, inl, inr, append-nil}
 use Rattle.std.specs.Prelude.{is_none, is_some}
 use Rattle.std.specs.List.{All, filter, list_any}
@@ -14,8 +14,8 @@ use Rattle.memory_histories.specs.declared.windows.LoadByte.{LoadByte}
 use Rattle.memory_histories.specs.declared.sets.ByteSet.{ByteSet}
 use Rattle.memory_histories.specs.Sets.{has, with_byte, no_bytes}
 use Rattle.memory_histories.specs.Windows.{store_bytes}
-use Rattle.memory_histories.specs.Regular.{is_before, overwrites, is_overwritten, is_left, is_covered, is_initial, may_return_byte}
-use Rattle.memory_histories.specs.Kept.{initial_set, with_stores, is_covered_by, first_set, opened, unit_of, is_in, is_past, is_live}
+use Rattle.memory_histories.specs.Regular.{is_before, is_overwritten, is_left, is_covered, is_initial, may_return_byte}
+use Rattle.memory_histories.specs.Kept.{initial_set, with_stores, first_set, opened, unit_of, is_in, is_past, is_live}
 use Rattle.memory_histories.specs.Kept.{is_unanswered, is_seen, IsTimely}
 use Rattle.memory_histories.proofs.Lists.{or_false, and_false, list_any-agree, list_any-same, list_any-never, filter-agree, filter-always}
 use Rattle.memory_histories.proofs.Lists.{filter-never}
@@ -45,12 +45,12 @@ abbrev pub IsNew : ℕ → StoreByte → Type 0
 IsNew t s = (s.began ≡ t) × (s.ended ≡ None)
 
 pub store_bytes-new : (n a : ℕ) (bs : List ℕ) (e t : ℕ) → All (IsNew t) (store_bytes n a bs e t)
-store_bytes-new n a [] e t = All-nil (IsNew t)
+store_bytes-new n a [] e t = All-nil _
 store_bytes-new n a (b ∷ bs) e t =
-    let more = store_bytes-new n (a + 1) bs (e / 2) t in
+    let more = store_bytes-new n (a + 1) bs _ t in
     elim (cases_Bool (e % 2 == 1)) [
       | inl h ↦ rw h (All-cons (IsNew t) (record { number = n; address = a; byte = b; began = t; ended = None })
-          (store_bytes n (a + 1) bs (e / 2) t) (refl, refl) more)
+          _ (refl, refl) more)
       | inr h ↦ rw h more
     ]
 
@@ -58,46 +58,44 @@ store_bytes-new n a (b ∷ bs) e t =
 any_before : (p : StoreByte → Bool) → ((s : StoreByte) → s.ended ≡ None → p s ≡ false) → (t : ℕ) (stores added : List StoreByte)
     → All (IsNew t) added → list_any p (stores ++ added) ≡ list_any p stores
 any_before p h t stores added new =
-    list_any-append p stores added ∙ (ap (λ x. list_any p stores || x) (list_any_none p added (λ k d l. h (get_or added k d) (new k d l).1))
-    ∙ or_false (list_any p stores))
+    list_any-append p stores added ∙ (cc (list_any_none p added (λ k d l. h _ (new k d l).1), or_false _))
 
 past_before : (t : ℕ) (stores added : List StoreByte) → All (IsNew t) added → (s : StoreByte)
     → is_past (stores ++ added) s ≡ is_past stores s
 past_before t stores added new s =
     any_before (λ o. (o.address == s.address) && (is_before s.ended o.began && is_some o.ended))
-    (λ o e. rw (e, and_false (is_before s.ended o.began)) (and_false (o.address == s.address))) t stores added new
+    (λ o e. rw (e, and_false _) (and_false (o.address == s.address))) t stores added new
 
 overwritten_before : (m t : ℕ) (stores added : List StoreByte) → All (IsNew t) added → (s : StoreByte)
     → is_overwritten (stores ++ added) s m ≡ is_overwritten stores s m
 overwritten_before m t stores added new s =
-    any_before (overwrites s m) (λ o e. rw (e, and_false (is_before s.ended o.began)) (and_false (o.address == s.address))) t stores added
+    any_before _ (λ o e. rw (e, and_false _) (and_false (o.address == s.address))) t stores added
     new
 
 never_overwritten : (stores : List StoreByte) (s : StoreByte) (m : ℕ) → s.ended ≡ None → is_overwritten stores s m ≡ false
-never_overwritten stores s m e = list_any-never (overwrites s m) (λ o. rw e (and_false (o.address == s.address))) stores
+never_overwritten stores s m e = list_any-never _ (λ o. rw e (and_false (o.address == s.address))) stores
 
 pub unanswered_requested : (t : ℕ) (stores added : List StoreByte) → All (IsNew t) added → filter is_unanswered (stores ++ added)
     ≡ filter is_unanswered stores ++ added
 unanswered_requested t stores added new =
-    filter-append is_unanswered stores added ∙ ap (λ xs. filter is_unanswered stores ++ xs)
-    (filter-always is_unanswered added (λ k d l. ap is_none (new k d l).1))
+    cc (filter-append is_unanswered stores added, filter-always is_unanswered added (λ k d l. ap is_none (new k d l).1))
 
 pub seen_requested : (t u : ℕ) (stores added : List StoreByte) → All (IsNew t) added
     → filter (is_seen u (stores ++ added)) (stores ++ added) ≡ filter (is_seen u stores) stores
 seen_requested t u stores added new =
-    let p = is_seen u (stores ++ added) in
-    let before = filter-agree p (is_seen u stores) stores
+    let p = is_seen u _ in
+    let before = filter-agree p _ stores
     (λ k d l. let s = get_or stores k d in ap (λ x. is_in u s && (is_some s.ended && not x)) (past_before t stores added new s)) in
     let none = filter-never p added
-    (λ k d l. let s = get_or added k d in ap (λ (o : Option ℕ). is_in u s && (is_some o && is_live (stores ++ added) s)) (new k d l).1
-    ∙ and_false (is_in u s)) in
-    filter-append p stores added ∙ (ap₂ (λ xs ys. xs ++ ys) before none ∙ append-nil (filter (is_seen u stores) stores))
+    (λ k d l. let s = get_or added k d in ap (λ o. is_in u s && (is_some o && is_live (stores ++ added) s)) (new k d l).1
+    ∙ and_false _) in
+    filter-append p stores added ∙ (ap₂ (λ xs ys. xs ++ ys) before none ∙ append-nil _)
 
 pub left_requested : (t : ℕ) (stores added : List StoreByte) → All (IsNew t) added → (l : LoadByte) (b : ℕ)
     → is_left (stores ++ added) l b ≡ (is_left stores l b || list_any (λ s. (s.address == l.address) && (s.byte == b)) added)
 left_requested t stores added new l b =
-    let p : StoreByte → Bool = λ s. (s.address == l.address) && ((s.byte == b) && not (is_overwritten (stores ++ added) s l.began)) in
-    let before = list_any-same p (λ s. (s.address == l.address) && ((s.byte == b) && not (is_overwritten stores s l.began)))
+    let p : StoreByte → Bool = λ s. (s.address == l.address) && ((s.byte == b) && not _) in
+    let before = list_any-same p (λ s. (s.address == l.address) && ((s.byte == b) && not _))
     (λ s. ap (λ x. (s.address == l.address) && ((s.byte == b) && not x)) (overwritten_before l.began t stores added new s)) stores in
     let behind = list_any-agree p (λ s. (s.address == l.address) && (s.byte == b)) added
     (λ k d i. let s = get_or added k d in ap (λ x. (s.address == l.address) && ((s.byte == b) && not x))
@@ -115,9 +113,8 @@ pub has-with_stores : (stores : List StoreByte) (a : ℕ) (set : ByteSet) (b : �
     → has (with_stores stores a set) b ≡ (has set b || list_any (λ s. (s.address == a) && (s.byte == b)) stores)
 has-with_stores [] a set b = sym (or_false (has set b))
 has-with_stores (s ∷ ss) a set b = elim (cases_Bool (s.address == a)) [
-  | inl e ↦ rw e (has-with_stores ss a (with_byte set s.byte) b
-      ∙ (ap (λ x. x || list_any (λ o. (o.address == a) && (o.byte == b)) ss) (has-with_byte set s.byte b)
-      ∙ or_assoc (has set b) (s.byte == b) (list_any (λ o. (o.address == a) && (o.byte == b)) ss)))
+  | inl e ↦ rw e (has-with_stores ss a _ b
+      ∙ (cc (has-with_byte set s.byte b, or_assoc _ _ (list_any (λ o. (o.address == a) && (o.byte == b)) ss))))
   | inr e ↦ rw e (has-with_stores ss a set b)
 ]
 
@@ -126,7 +123,7 @@ has-first true set b = has-no_bytes b ∙ sym (and_false (has set b))
 has-first false set b = sym (and_true (has set b))
 
 pub has-only : (i b : ℕ) → has (with_byte no_bytes i) b ≡ (i == b)
-has-only i b = has-with_byte no_bytes i b ∙ ap (λ x. x || (i == b)) (has-no_bytes b)
+has-only i b = cc (has-with_byte no_bytes i b, has-no_bytes b)
 
 has-initial : (o : Option ℕ) (r : Rest) (b : ℕ) → has (initial_set o r) b ≡ is_initial o r b
 has-initial (Some i) r b = has-only i b
@@ -144,18 +141,19 @@ pub opened_exact : (image : List ℕ) (r : Rest) (t : ℕ) (stores answered : Li
     → has (opened image r (filter is_unanswered stores) answered l).may b ≡ may_return_byte image r stores l b
 opened_exact image r t stores answered timely l e same b =
     let a = l.address in
-    let initial = initial_set (slice_get image a) r in
-    let first = first_set (is_covered_by answered a) initial in
-    let covered : is_covered_by answered a ≡ is_covered stores l = same (λ s. s.address == a) ∙ sym (covered_now t stores timely l e) in
-    let first_has : has first b ≡ (is_initial (slice_get image a) r b && not (is_covered stores l)) =
-    has-first (is_covered_by answered a) initial b ∙ ap₂ (λ x y. x && not y) (has-initial (slice_get image a) r b) covered in
-    let left : is_left stores l b ≡ (list_any (puts a b) answered || list_any (puts a b) (filter is_unanswered stores)) =
+    let initial = initial_set _ r in
+    let first = first_set _ initial in
+    let covered = same (λ s. s.address == a) ∙ sym (covered_now t stores timely l e) in
+    let first_has =
+    has-first _ initial b ∙ ap₂ (λ x y. x && not y) (has-initial (slice_get image a) r b) covered in
+    let left =
     left_now t stores timely l b e ∙ ap (λ x. x || list_any (puts a b) (filter is_unanswered stores)) (sym (same (puts a b))) in
     has-with_stores (filter is_unanswered stores) a (with_stores answered a first) b
-    ∙ (ap (λ x. x || list_any (puts a b) (filter is_unanswered stores))
-    (has-with_stores answered a first b ∙ ap (λ x. x || list_any (puts a b) answered) first_has)
-    ∙ opened_test (is_initial (slice_get image a) r b && not (is_covered stores l)) (is_left stores l b) (list_any (puts a b) answered)
-    (list_any (puts a b) (filter is_unanswered stores)) left)
+    ∙ (cc (
+      has-with_stores answered a first b ∙ ap (λ x. x || list_any (puts a b) answered) first_has,
+      opened_test (is_initial (slice_get image a) r b && not (is_covered stores l)) (is_left stores l b) (list_any (puts a b) answered)
+          (list_any (puts a b) (filter is_unanswered stores)) left,
+    ))
 
 or_and : (x a y : Bool) → ((x || y) || a) ≡ ((x || a) || y)
 or_and true a y = refl
@@ -172,5 +170,5 @@ pub requested_exact : (image : List ℕ) (r : Rest) (t : ℕ) (stores added : Li
 requested_exact image r t stores added new l set b h =
     has-with_stores added l.address set b
     ∙ rw (h, left_requested t stores added new l b, covered_requested t stores added new l)
-    (or_and (is_left stores l b) (list_any (λ s. (s.address == l.address) && (s.byte == b)) added)
-    (is_initial (slice_get image l.address) r b && not (is_covered stores l)))
+    (or_and _ (list_any (λ s. (s.address == l.address) && (s.byte == b)) added)
+    _)

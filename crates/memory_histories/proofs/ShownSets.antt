@@ -1,5 +1,5 @@
 -- The sets of a load's bytes once parts of stores are shown to it.
-use Rattle.std.proofs.Common.{◌≡◌, ℕ, zero, suc, ◌+◌, ◌-◌, ◌*◌, ◌/◌, ◌%◌, ◌<◌, ◌≤◌, ◌≢◌, ◌&&◌, true, false, nat_lt, min, max, List, [], ◌∷◌}
+use Rattle.std.proofs.Common.{◌≡◌, ℕ, zero, suc, ◌+◌, ◌-◌, ◌*◌, ◌/◌, ◌%◌, ◌<◌, ◌≤◌, ◌≢◌, ◌&&◌, true, nat_lt, min, max, List, [], ◌∷◌}
 use Rattle.std.proofs.Common.{◌++◌, map, length, length-drop, take, drop, replicate, get_or, set, Option, None, refl, sym, ap, ap₂, ◌∙◌}
 use Rattle.std.proofs.Common.{inl, inr, arith, append_assoc, append-nil, add-one, drop-cons, drop-set-lt, take-append-drop}
 use Rattle.std.specs.List.{fold, range_with_len}
@@ -29,8 +29,8 @@ pub show_more : (lanes : List (Option ℕ)) (sets : List ByteSet) (k : ℕ) (d v
     → v ≡ with_known (get_or sets k d) (get_or lanes k None)
     → shown_from (k + 1) lanes (set sets k v) ≡ shown_from k lanes sets
 show_more lanes sets k d v h l e =
-    let t : take (k + 1) (set sets k v) ≡ take k sets ++ v ∷ [] = take_more_set sets k v h in
-    let r : drop (suc k) (set sets k v) ≡ drop (suc k) sets = drop-set-lt (suc k) sets k v (omega arith) in
+    let t = take_more_set sets k v h in
+    let r = drop-set-lt (suc k) sets k v (omega arith) in
     rw (t, append_assoc, add-one, r, drop-cons lanes k None l, drop-cons sets k d h, e) refl
 
 none_beside : (ls : List (Option ℕ)) → shown_lanes ls [] ≡ []
@@ -42,7 +42,7 @@ pub all_beside : (lanes : List (Option ℕ)) (sets : List ByteSet) (k : ℕ) →
 all_beside lanes sets k h = elim (cases_lt k (length sets)) [
   | inl l ↦ rw (drop_all k lanes (omega arith)) (take-append-drop k sets)
   | inr l ↦
-      rw (drop_all k sets l, none_beside (drop k lanes), append-nil)
+      rw (drop_all k sets l, none_beside _, append-nil)
       (sym (append-nil (take k sets)) ∙ (rw (drop_all k sets l) at (take-append-drop k sets)))
 ]
 
@@ -55,7 +55,7 @@ shown_at b ls a (s ∷ ss) = with_known s (lane_at b ls a) ∷ shown_at b ls (a 
 
 same_shown : (p : StorePart) (a : ℕ) (ss : List ByteSet) → shown_sets p a ss ≡ shown_at (8 * p.unit) (eight p) a ss
 same_shown p a [] = refl
-same_shown p a (s ∷ ss) = ap (λ xs. with_known s (part_at p a) ∷ xs) (same_shown p (a + 1) ss)
+same_shown p a (s ∷ ss) = grind arith
 
 nothing_shown : (b a : ℕ) (ss : List ByteSet) → shown_at b [] a ss ≡ ss
 nothing_shown b a [] = refl
@@ -72,19 +72,17 @@ beside : (b : ℕ) (ls : List (Option ℕ)) (ss : List ByteSet) → shown_at b l
 beside b [] ss = nothing_shown b b ss
 beside b (l ∷ ls) [] = refl
 beside b (l ∷ ls) (s ∷ ss) =
-    rw (eq-eqb b b refl) (ap (λ xs. with_known s l ∷ xs) (passed b l ls (b + 1) ss (omega arith) ∙ beside (b + 1) ls ss))
+    rw (eq-eqb b b refl) (ap (λ xs. with_known s l ∷ xs) (passed b l ls _ ss (omega arith) ∙ beside (b + 1) ls ss))
 
 from_lane : (k b : ℕ) (ls : List (Option ℕ)) (ss : List ByteSet) → shown_at b ls (b + k) ss ≡ shown_lanes (drop k ls) ss
 from_lane zero b ls ss = let e : b + 0 ≡ b = omega arith in rw e (beside b ls ss)
-from_lane (suc k) b [] ss = nothing_shown b (b + suc k) ss
+from_lane (suc k) b [] ss = nothing_shown b _ ss
 from_lane (suc k) b (l ∷ ls) ss =
     let s : b + suc k ≡ (b + 1) + k = omega arith in
-    passed b l ls (b + suc k) ss (omega arith) ∙ rw s (from_lane k (b + 1) ls ss)
+    passed b l ls _ ss (omega arith) ∙ rw s (from_lane k (b + 1) ls ss)
 
 pub shown_here : (p : StorePart) (a : ℕ) (ss : List ByteSet) → a / 8 ≡ p.unit → shown_lanes (drop (a % 8) (eight p)) ss ≡ shown_sets p a ss
-shown_here p a ss h =
-    let e : a ≡ 8 * p.unit + a % 8 = omega arith in
-    sym (same_shown p a ss ∙ (ap (λ x. shown_at (8 * p.unit) (eight p) x ss) e ∙ from_lane (a % 8) (8 * p.unit) (eight p) ss))
+shown_here p a ss h = grind (arith, same_shown, from_lane)
 
 -- sets in front of the first lane
 in_front : (n b : ℕ) (ls : List (Option ℕ)) (a : ℕ) (ss : List ByteSet) → a + n ≡ b → n ≤ length ss
@@ -96,40 +94,29 @@ in_front (suc n) b ls a (s ∷ ss) e h =
 
 pub shown_behind : (p : StorePart) (a n : ℕ) (ss : List ByteSet) → a + n ≡ 8 * p.unit → n ≤ length ss
     → take n ss ++ shown_lanes (eight p) (drop n ss) ≡ shown_sets p a ss
-shown_behind p a n ss e h = in_front n (8 * p.unit) (eight p) a ss e h ∙ sym (same_shown p a ss)
+shown_behind p a n ss e h = grind (arith, in_front, same_shown)
 
 near_unit : (a n u : ℕ) → (nat_lt (8 * u) (a + n) && nat_lt a (8 * u + 8)) ≡ true → (8 * u < a + n) × (a < 8 * u + 8)
-near_unit a n u h = elim (cases_lt (8 * u) (a + n)) [
-  | inl l ↦ elim (cases_lt a (8 * u + 8)) [
+near_unit a n u h = elim (cases_lt _ _) [
+  | inl l ↦ elim (cases_lt a _) [
     | inl m ↦ (l, m)
-    | inr m ↦ let f : false ≡ true = (rw (lt-ltb (8 * u) (a + n) l, le-ltb a (8 * u + 8) m) at h) in cc
+    | inr m ↦ let f = (rw (lt-ltb _ _ l, le-ltb a _ m) at h) in cc
   ]
-  | inr l ↦ let f : false ≡ true = (rw (le-ltb (8 * u) (a + n) l) at h) in cc
+  | inr l ↦ let f = (rw (le-ltb (8 * u) (a + n) l) at h) in cc
 ]
 
 -- the sets behind a place are written back
 pub put_behind : (n k : ℕ) (ss xs ys : List ByteSet) → k ≡ length ss - n → ys ≡ xs
     → take n ss ++ (ys ++ drop k (drop n ss)) ≡ take n ss ++ xs
-put_behind n k ss xs ys l e =
-    let long : length (drop n ss) ≡ length ss - n = length-drop n ss in
-    let d : drop k (drop n ss) ≡ [] = drop_all k (drop n ss) (omega arith) in
-    ap (λ zs. take n ss ++ (ys ++ zs)) d ∙ ap (λ zs. take n ss ++ zs) (append-nil ys ∙ e)
+put_behind n k ss xs ys l e = grind (arith, length-drop, drop_all, append-nil)
 
 pub all_behind : (n k : ℕ) (ss : List ByteSet) → k ≡ length ss - n → take k (drop n ss) ≡ drop n ss
-all_behind n k ss l =
-    let long : length (drop n ss) ≡ length ss - n = length-drop n ss in
-    take_all k (drop n ss) (omega arith)
+all_behind n k ss l = grind (arith, length-drop, take_all)
 
 pub shown_beyond : (p : StorePart) (a f n k : ℕ) (ss ys : List ByteSet) (ls : List (Option ℕ)) → is_near a (length ss) p ≡ true → f ≡ a / 8
     → p.unit ≢ f → n ≡ 8 * (p.unit - f) - a % 8 → k ≡ length ss - n → ls ≡ eight p → ys ≡ shown_lanes ls (take k (drop n ss))
     → take n ss ++ (ys ++ drop k (drop n ss)) ≡ shown_sets p a ss
-shown_beyond p a f n k ss ys ls h e ne m l o s =
-    let near = near_unit a (length ss) p.unit h in
-    let first : 8 * p.unit < a + length ss = near.0 in
-    let behind : a < 8 * p.unit + 8 = near.1 in
-    let after : f < p.unit = omega arith in
-    put_behind n k ss (shown_lanes (eight p) (drop n ss)) ys l (s ∙ ap₂ shown_lanes o (all_behind n k ss l))
-    ∙ shown_behind p a n ss (omega arith) (omega arith)
+shown_beyond p a f n k ss ys ls h e ne m l o s = grind (arith, near_unit, p.unit, put_behind, all_behind, shown_behind)
 
 -- The sets of a load that is requested. ----
 
@@ -142,30 +129,22 @@ all_shown_map : (ps : List StorePart) (g : ℕ → ByteSet) (a n : ℕ)
     → all_shown_sets ps a (map g (range_with_len a n)) ≡ map (λ x. fold (λ s p. with_known s (part_at p x)) (g x) ps) (range_with_len a n)
 all_shown_map [] g a n = refl
 all_shown_map (p ∷ ps) g a n =
-    ap (all_shown_sets ps a) (shown_map p g a n) ∙ all_shown_map ps (λ x. with_known (g x) (part_at p x)) a n
+    ap (all_shown_sets ps a) (shown_map p g a n) ∙ all_shown_map ps (λ x. with_known (g x) _) a n
 
 same_map : (f g : ℕ → ByteSet) → ((x : ℕ) → f x ≡ g x) → (xs : List ℕ) → map f xs ≡ map g xs
 same_map f g h [] = refl
-same_map f g h (x ∷ xs) = ap₂ (λ y ys. y ∷ ys) (h x) (same_map f g h xs)
+same_map f g h (x ∷ xs) = grind arith
 
 pub settled_piece : (image : List ℕ) (rest : Rest) (ps : List StorePart) (a n : ℕ)
     → all_shown_sets ps a (map (first_set_at image rest (parts_bytes ps)) (range_with_len a n))
     ≡ map (settled_set image rest (parts_bytes ps)) (range_with_len a n)
-settled_piece image rest ps a n =
-    let g = first_set_at image rest (parts_bytes ps) in
-    all_shown_map ps g a n
-    ∙ same_map (λ x. fold (λ s p. with_known s (part_at p x)) (g x) ps) (settled_set image rest (parts_bytes ps))
-    (λ x. sym (fold_lanes ps x (g x))) (range_with_len a n)
+settled_piece image rest ps a n = grind (arith, all_shown_map, same_map, fold_lanes)
 
 -- in front of them stand others
 pub settled_behind : (image : List ℕ) (rest : Rest) (ps : List StorePart) (a n k : ℕ) (xs zs : List ByteSet) → k ≡ length xs
     → zs ≡ xs ++ map (first_set_at image rest (parts_bytes ps)) (range_with_len a n)
     → take k zs ++ all_shown_sets ps a (drop k zs) ≡ xs ++ map (settled_set image rest (parts_bytes ps)) (range_with_len a n)
-settled_behind image rest ps a n k xs zs l e =
-    let ys = map (first_set_at image rest (parts_bytes ps)) (range_with_len a n) in
-    let t : take k zs ≡ xs = ap₂ (λ i (vs : List ByteSet). take i vs) l e ∙ take-append_seam xs ys in
-    let d : drop k zs ≡ ys = ap₂ (λ i (vs : List ByteSet). drop i vs) l e ∙ drop-append_seam xs ys in
-    ap₂ (λ vs ws. vs ++ all_shown_sets ps a ws) t d ∙ ap (λ ws. xs ++ ws) (settled_piece image rest ps a n)
+settled_behind image rest ps a n k xs zs l e = grind (arith, take-append_seam, drop-append_seam, settled_piece)
 
 -- where so many bytes from an address on go on from a unit on
 abbrev pub from_unit : ℕ → ℕ → ℕ → ℕ
@@ -191,7 +170,7 @@ module _ (image : List ℕ) (rest : Rest) (answered : ℕ → List StoreByte) wh
       rw (e, z) refl
   split_sets k a (suc n) m t =
       let e : a + suc n ≡ (a + 1) + n = omega arith in
-      let z : suc n + m ≡ suc (n + m) = omega arith in
+      let z : suc n + m ≡ suc _ = omega arith in
       let l : LoadByte = record { number = k; address = a; began = t } in
       rw (e, z) (ap (λ xs. set_of l ∷ xs) (split_sets k (a + 1) n m t))
 
@@ -200,21 +179,21 @@ module _ (image : List ℕ) (rest : Rest) (answered : ℕ → List StoreByte) wh
       → ys ≡ xs ++ map (settled_set image rest (answered u)) (range_with_len p n)
       → xs ++ map set_of (load_bytes k p (e - p) t) ≡ zs → ys ++ map set_of (load_bytes k q (e - q) t) ≡ zs
   unit_more u k p n q e t xs ys zs l m s within y h =
-      let its = map (settled_set image rest (answered u)) (range_with_len p n) in
-      let left = map set_of (load_bytes k q (e - q) t) in
+      let its = map _ _ in
+      let left = map set_of _ in
       let long : e - p ≡ n + (e - q) = omega arith in
-      let both : map set_of (load_bytes k p (e - p) t) ≡ its ++ left =
+      let both =
       ap (λ i. map set_of (load_bytes k p i t)) long
-      ∙ (split_sets k p n (e - q) t
+      ∙ (split_sets k p n _ t
       ∙ ap₂ (λ vs ws. vs ++ ws) (in_unit u k p n t l m) (ap (λ b. map set_of (load_bytes k b (e - q) t)) (sym s))) in
-      ap (λ vs. vs ++ left) y ∙ (append_assoc xs its left ∙ (ap (λ vs. xs ++ vs) (sym both) ∙ h))
+      ap (λ vs. vs ++ left) y ∙ (append_assoc xs its left ∙ (cc (both, h)))
 
 -- Sets of no byte. ----
 
 pub left_more : (k : ℕ) (ss : List ByteSet) (d : ByteSet) → k < 8 → k < length ss → drop k ss ≡ replicate (8 - k) no_bytes
     → (get_or ss k d ≡ no_bytes) × (drop (k + 1) ss ≡ replicate (8 - (k + 1)) no_bytes)
 left_more k ss d l h e =
-    let m : 8 - k ≡ suc (8 - (k + 1)) = omega arith in
+    let m : 8 - k ≡ suc _ = omega arith in
     let both : get_or ss k d ∷ drop (suc k) ss ≡ no_bytes ∷ replicate (8 - (k + 1)) no_bytes =
     sym (drop-cons ss k d h) ∙ (e ∙ ap (λ n. replicate n no_bytes) m) in
     let first : get_or ss k d ≡ no_bytes = cc in
@@ -224,10 +203,10 @@ left_more k ss d l h e =
 
 -- what stands in front and behind
 pub front : (k : ℕ) (xs ys zs : List ByteSet) → k ≡ length xs → zs ≡ xs ++ ys → take k zs ≡ xs
-front k xs ys zs l e = ap₂ (λ i (vs : List ByteSet). take i vs) l e ∙ take-append_seam xs ys
+front k xs ys zs l e = grind (arith, take-append_seam)
 
 pub back : (k : ℕ) (xs ys zs : List ByteSet) → k ≡ length xs → zs ≡ xs ++ ys → drop k zs ≡ ys
-back k xs ys zs l e = ap₂ (λ i (vs : List ByteSet). drop i vs) l e ∙ drop-append_seam xs ys
+back k xs ys zs l e = grind (arith, drop-append_seam)
 
 pub kept_whole : (k : ℕ) (xs ys zs : List ByteSet) → k ≡ length xs → xs ≡ ys → take k (xs ++ zs) ≡ ys
-kept_whole k xs ys zs l e = ap (λ i. take i (xs ++ zs)) l ∙ (take-append_seam xs zs ∙ e)
+kept_whole k xs ys zs l e = grind (arith, take-append_seam)

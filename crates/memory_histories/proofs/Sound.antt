@@ -1,5 +1,5 @@
 -- The regular law allows what hidden moments explain.
-use Rattle.std.proofs.Common.{◌≡◌, ℕ, ◌<◌, ◌≤◌, ◌⊎◌, List, Option, None, Some, slice_get, refl, sym, subst, ◌∙◌, inl, inr, arith}
+use Rattle.std.proofs.Common.{◌≡◌, ℕ, ◌<◌, ◌⊎◌, List, Option, None, Some, slice_get, refl, sym, subst, ◌∙◌, inl, inr, arith}
 use Rattle.std.specs.List.{Any, Contains}
 use Rattle.memory_histories.specs.declared.events.Rest.{Rest}
 use Rattle.memory_histories.specs.declared.windows.StoreByte.{StoreByte}
@@ -18,7 +18,7 @@ no_end h = cc
 -- a store that was answered took effect, within its window
 placed : (time : ℕ → ℕ) (s : StoreByte) (o : Option ℕ) (e : ℕ) → IsWithin time s o → s.ended ≡ Some e → (m : ℕ) ×
     ((o ≡ Some m) × ((time s.began < m) × (m < time e)))
-placed time s None e w h = absurd (no_end (sym w ∙ h))
+placed time s None e w h = grind arith
 placed time s (Some m) e w h = (m, (refl, (w.0, subst (IsAnsweredAfter time m) h w.1)))
 
 same_moment : (m n : ℕ) → Some m ≡ Some n → m ≡ n
@@ -28,35 +28,27 @@ same_moment m n h = cc
 not_latest : (image : List ℕ) (rest : Rest) (stores : List StoreByte) (l : LoadByte) (b : ℕ) (x : Explains image rest stores l b)
     (s : StoreByte) → Contains stores s → IsOverwritten stores s l.began → IsLatest x.effect x.moment stores s → ⊥
 not_latest image rest stores l b x s c over latest =
-    let o : StoreByte = over.1 in
+    let o = over.1 in
     let d : Contains stores o = (over.0, over.2, over.3) in
     let e = answered s.ended o.began over.4.1.0 in
     let f = answered o.ended l.began over.4.1.1 in
-    let p = placed x.time s (x.effect s) e.0 (x.within s c) e.1.0 in
-    let q = placed x.time o (x.effect o) f.0 (x.within o d) f.1.0 in
-    let same : latest.0 ≡ p.0 = same_moment latest.0 p.0 (sym latest.1.0 ∙ p.1.0) in
-    let ends : p.0 < x.time e.0 = p.1.1.1 in
-    let later : x.time e.0 < x.time o.began = x.rises e.0 o.began e.1.1 in
-    let began : x.time o.began < q.0 = q.1.1.0 in
-    let before : q.0 < x.time f.0 = q.1.1.1 in
-    let request : x.time f.0 < x.time l.began = x.rises f.0 l.began f.1.1 in
-    let load : x.time l.began < x.moment = x.after_request in
+    let p = placed x.time s _ e.0 (x.within s c) e.1.0 in
+    let q = placed x.time o _ f.0 (x.within o d) f.1.0 in
+    let same = same_moment latest.0 p.0 (sym latest.1.0 ∙ p.1.0) in
+    let ends = p.1.1.1 in
+    let later = x.rises e.0 o.began e.1.1 in
+    let began = q.1.1.0 in
+    let before = q.1.1.1 in
+    let request = x.rises f.0 l.began f.1.1 in
+    let load = x.after_request in
     let seen : q.0 < x.moment = omega arith in
-    let last : q.0 ≤ latest.0 = latest.1.1.1 o d over.4.0 q.0 q.1.0 seen in
+    let last = latest.1.1.1 o d over.4.0 q.0 q.1.0 seen in
     absurd (omega arith)
 
 -- and where none took effect before the load's moment, none was answered before its request
 not_covered : (image : List ℕ) (rest : Rest) (stores : List StoreByte) (l : LoadByte) (b : ℕ) (x : Explains image rest stores l b)
     → IsCovered stores l → NoneBefore x.effect x.moment stores l.address → ⊥
-not_covered image rest stores l b x c none =
-    let o : StoreByte = c.1 in
-    let d : Contains stores o = (c.0, c.2, c.3) in
-    let f = answered o.ended l.began c.4.1 in
-    let q = placed x.time o (x.effect o) f.0 (x.within o d) f.1.0 in
-    let before : q.0 < x.time f.0 = q.1.1.1 in
-    let request : x.time f.0 < x.time l.began = x.rises f.0 l.began f.1.1 in
-    let load : x.time l.began < x.moment = x.after_request in
-    none o d c.4.0 q.0 q.1.0 (omega arith)
+not_covered image rest stores l b x c none = grind (arith, answered, l.began, placed, x.time, x.within, x.rises, x.after_request)
 
 got_law : (image : List ℕ) (rest : Rest) (stores : List StoreByte) (l : LoadByte) (b : ℕ) (x : Explains image rest stores l b)
     → Any (λ s. (s.address ≡ l.address) × ((s.byte ≡ b) × IsLatest x.effect x.moment stores s)) stores ⊎

@@ -1,9 +1,9 @@
 -- What is kept of a history judges it as the law does.
-use Rattle.std.proofs.Common.{◌≡◌, ℕ, ◌+◌, ◌≤◌, Bool, not, if◌then◌else◌, List, map, length, Option, None, Some, Result, Ok, Err, get_or}
-use Rattle.std.proofs.Common.{refl, sym, ap, ◌∙◌, inl, inr, arith, subst}
+use Rattle.std.proofs.Common.{◌≡◌, ℕ, ◌+◌, ◌≤◌, Bool, not, if◌then◌else◌, List, map, Option, None, Some, Result, Ok, Err, get_or}
+use Rattle.std.proofs.Common.{refl, sym, ap, ◌∙◌, inl, inr, arith}
 use Rattle.std.specs.Prelude.{is_none, OnOk, IfErr}
 use Rattle.std.specs.Borrow.{Bor}
-use Rattle.std.specs.List.{All, filter, find, list_any, range_with_len}
+use Rattle.std.specs.List.{All, filter, find, list_any}
 use Rattle.std.specs.Option.{option_map}
 use Rattle.std.proofs.lemmas.Bool.{cases_Bool}
 use Rattle.std.proofs.lemmas.List.{length-map, map-append, map-id}
@@ -17,10 +17,9 @@ use Rattle.memory_histories.specs.declared.events.Rest.{Rest}
 use Rattle.memory_histories.specs.declared.windows.StoreByte.{StoreByte}
 use Rattle.memory_histories.specs.declared.windows.LoadByte.{LoadByte}
 use Rattle.memory_histories.specs.declared.kept.OpenByte.{OpenByte}
-use Rattle.memory_histories.specs.Windows.{Windows, store_bytes, load_bytes, is_open, is_of, is_at, after_response, windows_after}
+use Rattle.memory_histories.specs.Windows.{Windows, store_bytes, load_bytes, is_open, is_of, after_response, windows_after}
 use Rattle.memory_histories.specs.Windows as windows
-use Rattle.memory_histories.specs.Regular.{fault, may_return, is_inside, has_enabled, load_request_fault, load_response_fault}
-use Rattle.memory_histories.specs.Regular.{store_request_fault, store_response_fault}
+use Rattle.memory_histories.specs.Regular.{fault, may_return, load_response_fault}
 use Rattle.memory_histories.specs.Kept.{Kept, opened_at, after_stores, answered_after, unit_of, is_open_of}
 use Rattle.memory_histories.specs.Kept.{is_open_at, may_have, kept_fault, kept_after, kept_step, EndsBefore, IsTimely, IsExact, StandsFor}
 use Rattle.memory_histories.specs.Kept as keeps
@@ -32,47 +31,46 @@ use Rattle.memory_histories.proofs.Requests.{IsNew, store_bytes-new, unanswered_
 -- Faults. ----
 
 any_of : (k : Kept) (w : Windows) → StandsFor k w → (n : ℕ) → list_any (is_open_of n) k.open_bytes ≡ list_any (is_of n) w.loads
-any_of k w s n = sym (list_any-map (λ o. o.load) (is_of n) k.open_bytes) ∙ ap (list_any (is_of n)) s.load_bytes
+any_of k w s n = grind (arith, list_any-map)
 
 any_open : (k : Kept) (w : Windows) → StandsFor k w → (n : ℕ) → list_any (is_open n) k.stores ≡ list_any (is_open n) w.stores
-any_open k w s n = ap (list_any (is_open n)) s.open_stores ∙ list_any-open w.stores n
+any_open k w s n = grind (arith, list_any-open, w.stores)
 
 response_map : {X Y : Type 0} (f : X → Y) (p : X → ℕ → Bool) (q : Y → ℕ → Bool) (xs : List X) (bs : List ℕ)
     → All (λ x. (b : ℕ) → p x b ≡ q (f x) b) xs
     → load_response_fault p xs bs ≡ load_response_fault q (map f xs) bs
-response_map f p q xs bs a = rw (position-zip f p q xs bs a, length-map xs f) refl
+response_map f p q xs bs a = grind (arith, position-zip, length-map)
 
 of_response : (k : Kept) (w : Windows) → StandsFor k w → (n : ℕ) (bs : List ℕ)
     → load_response_fault may_have (filter (is_open_of n) k.open_bytes) bs ≡ load_response_fault (may_return w) (filter (is_of n) w.loads)
     bs
 of_response k w s n bs =
-    response_map (λ o. o.load) may_have (may_return w) (filter (is_open_of n) k.open_bytes) bs
-    (All-weaker (IsExact w) (λ o. (b : ℕ) → may_have o b ≡ may_return w o.load b) (λ o h. h.1) (filter (is_open_of n) k.open_bytes)
+    response_map (λ o. o.load) may_have _ _ bs
+    (All-weaker (IsExact w) (λ o. (b : ℕ) → may_have o b ≡ may_return w o.load b) (λ o h. h.1) _
     (All-filter (is_open_of n) (IsExact w) k.open_bytes s.exact))
     ∙ ap (λ ls. load_response_fault (may_return w) ls bs)
-    (sym (filter-map (λ o. o.load) (is_of n) k.open_bytes) ∙ ap (filter (is_of n)) s.load_bytes)
+    (sym (filter-map (λ o. o.load) _ k.open_bytes) ∙ ap (filter (is_of n)) s.load_bytes)
 
 pub fault_same : (k : Kept) (w : Windows) (event : HistoryEvent) → StandsFor k w → kept_fault k event ≡ fault w event
-fault_same k w (LoadRequest n a len) s = ap (load_request_fault (is_inside a len)) (any_of k w s n)
+fault_same k w (LoadRequest n a len) s = grind (arith, any_of)
 fault_same k w (LoadResponse n bytes) s = of_response k w s n bytes.now
-fault_same k w (StoreRequest n a bytes e) s = ap (store_request_fault (is_inside a (length bytes.now)) (has_enabled bytes.now e))
-    (any_open k w s n)
-fault_same k w (StoreResponse n) s = ap store_response_fault (any_open k w s n)
+fault_same k w (StoreRequest n a bytes e) s = grind (arith, bytes.now, any_open)
+fault_same k w (StoreResponse n) s = grind (arith, any_open)
 
 -- Steps. ----
 
 ends_later : (t b : ℕ) (o : Option ℕ) → EndsBefore t b o → EndsBefore (t + 1) b o
 ends_later t b None h = tt
-ends_later t b (Some e) h = let l = h.1 in (h.0, omega arith)
+ends_later t b (Some e) h = grind arith
 
 timely_later : (t : ℕ) (s : StoreByte) → IsTimely t s → IsTimely (t + 1) s
-timely_later t s h = let l = h.0 in (omega arith, ends_later t s.began s.ended h.1)
+timely_later t s h = grind arith
 
 all_timely_later : (t : ℕ) (stores : List StoreByte) → All (IsTimely t) stores → All (IsTimely (t + 1)) stores
-all_timely_later t stores a = All-weaker (IsTimely t) (IsTimely (t + 1)) (timely_later t) stores a
+all_timely_later t stores a = grind arith
 
 new_timely : (t : ℕ) (s : StoreByte) → IsNew t s → IsTimely (t + 1) s
-new_timely t s h = let e = h.0 in (omega arith, rw h.1 tt)
+new_timely t s h = grind arith
 
 answered_timely : (n t : ℕ) (s : StoreByte) → IsTimely t s → IsTimely (t + 1) (after_response n t s)
 answered_timely n t s h = elim (cases_Bool (is_open n s)) [
@@ -88,7 +86,7 @@ abbrev next : Windows → List StoreByte → List LoadByte → Windows
 next w stores loads = record { image = w.image; rest = w.rest; moment = w.moment + 1; stores = stores; loads = loads }
 
 exact_later : (w : Windows) (loads : List LoadByte) (o : OpenByte) → IsExact w o → IsExact (next w w.stores loads) o
-exact_later w loads o h = let l = h.0 in (omega arith, h.1)
+exact_later w loads o h = grind arith
 
 requests_load : (k : Kept) (w : Windows) → StandsFor k w → (n a len : ℕ)
     → StandsFor (kept_after k (LoadRequest n a len)) (windows_after w (LoadRequest n a len))
@@ -106,17 +104,17 @@ requests_load k w s n a len =
     record {
       same_image = s.same_image;
       same_rest = s.same_rest;
-      same_moment = ap (λ t. t + 1) s.same_moment;
+      same_moment = grind arith;
       open_stores = s.open_stores;
       answered_stores = s.answered_stores;
-      load_bytes = map-append (λ o. o.load) k.open_bytes (map f ls)
+      load_bytes = map-append (λ o. o.load) k.open_bytes _
           ∙ rw (s.load_bytes, map-map f (λ o. o.load) ls, map_same ls, s.same_moment) refl;
-      exact = All-append (IsExact later) k.open_bytes (map f ls)
-          (All-weaker (IsExact w) (IsExact later) (λ o h. exact_later w later.loads o h) k.open_bytes s.exact)
+      exact = All-append (IsExact later) k.open_bytes _
+          (All-weaker _ _ (λ o h. exact_later w later.loads o h) k.open_bytes s.exact)
           (All-map (IsExact later) f ls (All-map (λ l. IsExact later (f l)) (λ x. record { number = n; address = x; began = k.moment })
-          (range_with_len a len) (λ i d l. exact_f (record { number = n; address = get_or (range_with_len a len) i d; began = k.moment })
+          _ (λ i d l. exact_f (record { number = n; address = get_or _ i d; began = k.moment })
           s.same_moment)));
-      timely = all_timely_later w.moment w.stores s.timely;
+      timely = grind arith;
     }
 
 answers_load : (k : Kept) (w : Windows) → StandsFor k w → (n : ℕ) (bytes : Bor (List ℕ))
@@ -126,13 +124,13 @@ answers_load k w s n bytes =
     record {
       same_image = s.same_image;
       same_rest = s.same_rest;
-      same_moment = ap (λ t. t + 1) s.same_moment;
+      same_moment = grind arith;
       open_stores = s.open_stores;
       answered_stores = s.answered_stores;
-      load_bytes = sym (filter-map (λ o. o.load) (λ l. not (is_of n l)) k.open_bytes) ∙ ap (filter (λ l. not (is_of n l))) s.load_bytes;
-      exact = All-filter (λ o. not (is_open_of n o)) (IsExact later) k.open_bytes
-          (All-weaker (IsExact w) (IsExact later) (λ o h. exact_later w later.loads o h) k.open_bytes s.exact);
-      timely = all_timely_later w.moment w.stores s.timely;
+      load_bytes = sym (filter-map (λ o. o.load) (λ l. not _) k.open_bytes) ∙ ap (filter (λ l. not _)) s.load_bytes;
+      exact = All-filter (λ o. not _) (IsExact later) k.open_bytes
+          (All-weaker _ _ (λ o h. exact_later w later.loads o h) k.open_bytes s.exact);
+      timely = grind arith;
     }
 
 requests_store : (k : Kept) (w : Windows) → StandsFor k w → (n a : ℕ) (bytes : Bor (List ℕ)) (e : ℕ)
@@ -144,12 +142,12 @@ requests_store k w s n a bytes e =
     record {
       same_image = s.same_image;
       same_rest = s.same_rest;
-      same_moment = ap (λ t. t + 1) s.same_moment;
+      same_moment = grind arith;
       open_stores = rw (s.open_stores, s.same_moment) (sym (unanswered_requested w.moment w.stores added new));
       answered_stores = λ unit test. s.answered_stores unit test
           ∙ ap (list_any test) (sym (seen_requested w.moment unit w.stores added new));
-      load_bytes = map-map (after_stores (store_bytes n a bytes.now e k.moment)) (λ o. o.load) k.open_bytes ∙ s.load_bytes;
-      exact = rw s.same_moment (All-map (IsExact later) (after_stores added) k.open_bytes
+      load_bytes = map-map _ (λ o. o.load) k.open_bytes ∙ s.load_bytes;
+      exact = rw s.same_moment (All-map (IsExact later) _ k.open_bytes
           (All-weaker (IsExact w) (λ o. IsExact later (after_stores added o))
           (λ o h. let l = h.0 in (omega arith, λ b. requested_exact w.image w.rest w.moment w.stores added new o.load o.may b (h.1 b)))
           k.open_bytes s.exact));
@@ -165,13 +163,15 @@ answers_store k w s n =
     record {
       same_image = s.same_image;
       same_rest = s.same_rest;
-      same_moment = ap (λ t. t + 1) s.same_moment;
-      open_stores = ap (filter (λ x. not (is_open n x))) s.open_stores ∙ unanswered_after n w.moment w.stores;
+      same_moment = grind arith;
+      open_stores = ap (filter (λ x. not _)) s.open_stores ∙ unanswered_after n w.moment w.stores;
       answered_stores = λ unit test.
           ap (λ xs. list_any test (answered_after k.moment (filter (is_open n) xs) unit (k.answered unit))) s.open_stores
-          ∙ (ap (λ xs. list_any test (answered_after k.moment xs unit (k.answered unit))) (filter-open w.stores n)
-          ∙ (ap (λ t. list_any test (answered_after t (filter (is_open n) w.stores) unit (k.answered unit))) s.same_moment
-          ∙ answered_seen n w.moment unit w.stores (k.answered unit) s.timely (s.answered_stores unit) test));
+          ∙ (cc (
+            filter-open w.stores n,
+            (ap (λ t. list_any test (answered_after t (filter (is_open n) w.stores) unit (k.answered unit))) s.same_moment
+                ∙ answered_seen n w.moment unit w.stores _ s.timely (s.answered_stores unit) test),
+          ));
       load_bytes = s.load_bytes;
       exact = All-weaker (IsExact w) (IsExact later)
           (λ o h. let l = h.0 in let before : o.load.began ≤ w.moment = omega arith in (
@@ -182,7 +182,7 @@ answers_store k w s n =
             ) refl),
           )) k.open_bytes s.exact;
       timely = All-map (IsTimely (w.moment + 1)) f w.stores
-          (All-weaker (IsTimely w.moment) (λ x. IsTimely (w.moment + 1) (f x)) (answered_timely n w.moment) w.stores s.timely);
+          (All-weaker _ (λ x. IsTimely _ (f x)) (answered_timely n w.moment) w.stores s.timely);
     }
 
 pub stands_after : (k : Kept) (w : Windows) (event : HistoryEvent) → StandsFor k w → StandsFor (kept_after k event) (windows_after w event)
@@ -199,8 +199,8 @@ stands_first image rest = record {
   open_stores = refl;
   answered_stores = λ unit test. refl;
   load_bytes = refl;
-  exact = All-nil (IsExact (windows.opening image rest));
-  timely = All-nil (IsTimely 0);
+  exact = All-nil _;
+  timely = All-nil _;
 }
 
 -- Answers. ----
@@ -211,27 +211,25 @@ step_parts (Some f) x k h = cc
 
 pub accepted_law : (r : Result (Unit {0}) StepFault) (k k' : Kept) (event : HistoryEvent) → OnOk r (kept_step k event ≡ Some k')
     → (w : Windows) → StandsFor k w → OnOk r ((fault w event ≡ None) × StandsFor k' (windows_after w event))
-accepted_law (Ok u) k k' event h w s =
-    let p = step_parts (kept_fault k event) (kept_after k event) k' h in
-    (sym (fault_same k w event s) ∙ p.0, subst (λ x. StandsFor x (windows_after w event)) p.1 (stands_after k w event s))
+accepted_law (Ok u) k k' event h w s = grind (arith, step_parts, fault_same, stands_after)
 accepted_law (Err e) k k' event h w s = tt
 
 pub refused_law : (r : Result (Unit {0}) StepFault) (k : Kept) (event : HistoryEvent) → IfErr r (KeptFaultIs k event) → (w : Windows)
     → StandsFor k w → IfErr r (StepFaultIs w event)
 refused_law (Ok u) k event h w s = tt
 refused_law (Err (Refused cause)) k event h w s = sym (fault_same k w event s) ∙ h
-refused_law (Err TooLong) k event h w s = (sym (fault_same k w event s) ∙ h.0, sym s.same_moment ∙ h.1)
+refused_law (Err TooLong) k event h w s = grind (arith, fault_same)
 refused_law (Err OutOfMemory) k event h w s = sym (fault_same k w event s) ∙ h
 
 set_of : (w : Windows) (n a : ℕ) (xs : List OpenByte) → map (λ o. o.load) xs ≡ w.loads → All (IsExact w) xs → (o : Option OpenByte)
     → find (is_open_at n a) xs ≡ o → IsSetOf w n a (option_map (λ x. x.may) o)
-set_of w n a xs e h None f = rw (← e) (find-map (λ o. o.load) (is_at n a) xs ∙ ap (option_map (λ o. o.load)) f)
+set_of w n a xs e h None f = grind (arith, find-map)
 set_of w n a xs e h (Some o) f = (
   o.load,
-  rw (← e) (find-map (λ x. x.load) (is_at n a) xs ∙ ap (option_map (λ x. x.load)) f),
-  (find-All (IsExact w) (is_open_at n a) xs h o f).1,
+  rw (← e) (cc (find-map (λ x. x.load) _ xs, f)),
+  (find-All (IsExact w) _ xs h o f).1,
 )
 
 pub set_law : (k : Kept) (w : Windows) (n a : ℕ) → StandsFor k w
     → IsSetOf w n a (option_map (λ o. o.may) (find (is_open_at n a) k.open_bytes))
-set_law k w n a s = set_of w n a k.open_bytes s.load_bytes s.exact (find (is_open_at n a) k.open_bytes) refl
+set_law k w n a s = set_of w n a k.open_bytes s.load_bytes s.exact _ refl

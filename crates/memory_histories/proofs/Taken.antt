@@ -18,4 +18,4 @@ later k = record {
 pub taken : (k l : Kept) (event : HistoryEvent) (fault : Option HistoryFault) → fault ≡ kept_fault k event → fault ≡ None
     → l ≡ kept_after k event
     → kept_step k event ≡ Some l
-taken k l event fault e h a = let n : kept_fault k event ≡ None = sym e ∙ h in rw (n, a) refl
+taken k l event fault e h a = let n = sym e ∙ h in rw (n, a) refl

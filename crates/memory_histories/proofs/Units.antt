@@ -25,7 +25,7 @@ not_in : (ending : List StoreByte) (unit : ℕ) → All (λ s. is_in unit s ≡ 
 not_in [] unit a s = refl
 not_in (e ∷ es) unit a s =
     let here = All-head (λ x. is_in unit x ≡ false) e es a in
-    rw (here, not_in es unit (All-tail (λ x. is_in unit x ≡ false) e es a) s, and_false (e.address == s.address)) refl
+    rw (here, not_in es unit (All-tail (λ x. is_in unit x ≡ false) e es a) s, and_false _) refl
 
 untouched : (t : ℕ) (ending answered : List StoreByte) (unit : ℕ) → All (λ s. is_in unit s ≡ false) ending
     → answered_after t ending unit answered ≡ answered
@@ -38,9 +38,9 @@ untouched t ending answered unit a =
 none_in : (cs : List UnitChange) (unit : ℕ) (ending : List StorePart) → list_any (is_of_unit unit) cs ≡ false → All (HasUnit cs) ending
     → filter (is_part_in unit) ending ≡ []
 none_in cs unit ending none whole =
-    filter-never (is_part_in unit) ending (λ k d l.
+    filter-never _ ending (λ k d l.
     let p = get_or ending k d in
-    elim (cases_Bool (is_part_in unit p)) [
+    elim (cases_Bool _) [
       | inl h ↦ absurd
           (false≢true (sym none ∙ (ap (λ u. list_any (is_of_unit u) cs) (sym (eqb-true p.unit unit h)) ∙ whole k d l)))
       | inr h ↦ h
@@ -49,32 +49,32 @@ none_in cs unit ending none whole =
 -- no byte of these parts lies in the unit
 none_there : (unit : ℕ) (ending : List StorePart) → filter (is_part_in unit) ending ≡ []
     → All (λ s. is_in unit s ≡ false) (parts_bytes ending)
-none_there unit ending e = none_pass (is_in unit) (parts_bytes ending) (filter_in unit ending ∙ ap parts_bytes e)
+none_there unit ending e = none_pass _ _ (filter_in unit ending ∙ ap parts_bytes e)
 
 put_from : (t : ℕ) (ending : List StoreByte) (f : ℕ → List StoreByte) (unit : ℕ) (cs : List UnitChange) → All (IsAfter t ending f) cs
     → (list_any (is_of_unit unit) cs ≡ false → answered_after t ending unit (f unit) ≡ f unit)
     → put_units f cs unit ≡ answered_after t ending unit (f unit)
 put_from t ending f unit [] a h = sym (h refl)
 put_from t ending f unit (c ∷ cs) a h = elim (cases_Bool (is_of_unit unit c)) [
-  | inl e ↦ rw e (All-head (IsAfter t ending f) c cs a ∙ ap (λ u. answered_after t ending u (f u)) (eqb-true c.unit unit e))
+  | inl e ↦ rw e (cc (All-head (IsAfter t ending f) c cs a, eqb-true c.unit unit e))
   | inr e ↦ rw e (put_from t ending f unit cs (All-tail (IsAfter t ending f) c cs a) (λ n. h (rw (e, n) refl)))
 ]
 
 pub put_all : (t : ℕ) (ending : List StorePart) (f : ℕ → List StoreByte) (cs : List UnitChange) → All (IsAfter t (parts_bytes ending) f) cs
     → All (HasUnit cs) ending → (unit : ℕ)
     → put_units f cs unit ≡ answered_after t (parts_bytes ending) unit (f unit)
-put_all t ending f cs a whole unit = put_from t (parts_bytes ending) f unit cs a
-    (λ none. untouched t (parts_bytes ending) (f unit) unit (none_there unit ending (none_in cs unit ending none whole)))
+put_all t ending f cs a whole unit = put_from t _ f unit cs a
+    (λ none. untouched t _ _ unit (none_there unit ending (none_in cs unit ending none whole)))
 
 -- a store of one part changes its unit alone
 pub one_part : (t : ℕ) (p : StorePart) (f g : ℕ → List StoreByte) → g p.unit ≡ answered_after t (part_bytes p) p.unit (f p.unit)
     → ((u : ℕ) → (p.unit == u) ≡ false → g u ≡ f u) → (unit : ℕ) → g unit ≡ answered_after t (part_bytes p) unit (f unit)
-one_part t p f g here others unit = elim (cases_Bool (p.unit == unit)) [
+one_part t p f g here others unit = elim (cases_Bool _) [
   | inl e ↦ subst (λ u. g u ≡ answered_after t (part_bytes p) u (f u)) (eqb-true p.unit unit e) here
   | inr e ↦
       let none : filter (is_part_in unit) (p ∷ []) ≡ [] = rw e refl in
-      let all : parts_bytes (p ∷ []) ≡ part_bytes p = append-nil (part_bytes p) in
-      others unit e ∙ sym (untouched t (part_bytes p) (f unit) unit
+      let all = append-nil _ in
+      others unit e ∙ sym (untouched t _ _ unit
       (subst (All (λ s. is_in unit s ≡ false)) all (none_there unit (p ∷ []) none)))
 ]
 
@@ -82,7 +82,7 @@ one_part t p f g here others unit = elim (cases_Bool (p.unit == unit)) [
 
 pub has_at : (cs : List UnitChange) (s : StorePart) (unit : ℕ) → unit ≡ s.unit → true ≡ list_any (is_of_unit unit) cs
     → HasUnit cs s
-has_at cs s unit e h = ap (λ u. list_any (is_of_unit u) cs) (sym e) ∙ sym h
+has_at cs s unit e h = cc (e, h)
 
 or_true : (x : Bool) → (x || true) ≡ true
 or_true true = refl
@@ -90,16 +90,14 @@ or_true false = refl
 
 any_more : (cs : List UnitChange) (c : UnitChange) (unit : ℕ) → list_any (is_of_unit unit) (cs ++ c ∷ [])
     ≡ (list_any (is_of_unit unit) cs || is_of_unit unit c)
-any_more cs c unit = list_any-append (is_of_unit unit) cs (c ∷ []) ∙ ap (λ x. list_any (is_of_unit unit) cs || x)
-    (or_false (is_of_unit unit c))
+any_more cs c unit = cc (list_any-append _ cs _, or_false (is_of_unit unit c))
 
 pub still_whole : (cs : List UnitChange) (c : UnitChange) (bytes : List StorePart) → All (HasUnit cs) bytes
     → All (HasUnit (cs ++ c ∷ [])) bytes
 still_whole cs c bytes a =
-    All-weaker (HasUnit cs) (HasUnit (cs ++ c ∷ [])) (λ s h. any_more cs c s.unit
+    All-weaker (HasUnit cs) _ (λ s h. any_more cs c s.unit
     ∙ ap (λ x. x || is_of_unit s.unit c) h) bytes a
 
 pub has_last : (cs : List UnitChange) (c : UnitChange) (s : StorePart) → c.unit ≡ s.unit → HasUnit (cs ++ c ∷ []) s
 has_last cs c s e =
-    any_more cs c s.unit ∙ (ap (λ x. list_any (is_of_unit s.unit) cs || x) (eq-eqb c.unit s.unit e)
-    ∙ or_true (list_any (is_of_unit s.unit) cs))
+    any_more cs c s.unit ∙ (cc (eq-eqb c.unit s.unit e, or_true _))

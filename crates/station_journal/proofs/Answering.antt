@@ -21,12 +21,11 @@ use Rattle.station_journal.specs.declared.asks.Ask.{Ask}
 use Rattle.station_journal.specs.declared.asks.Ask.TheVariants.{Done}
 use Rattle.station_journal.specs.declared.asks.Told.{Told}
 use Rattle.station_journal.specs.declared.asks.Told.TheVariants.{Accepted, Refused, Value}
-use Rattle.station_journal.specs.Journal.{Stand, Brings, AllFit, true_stand, true_word, opening_stand, after_entry, is_full, zeros}
+use Rattle.station_journal.specs.Journal.{Stand, Brings, AllFit, true_stand, true_word, opening_stand, zeros}
 use Rattle.station_journal.specs.Parts.{asks_of, told_of, is_event_of, is_entry_of, IsOfPorts}
 use Rattle.station_journal.specs.Conversation.{is_value, verdicts_in, value_count, is_request, requests_in, is_final, accepted_loads}
 use Rattle.station_journal.specs.Conversation.{Follows}
 use Rattle.station_journal.specs.Law.{IsFlatJournal, AsksAreJudged, IsHeard, RunIsAnswered}
-use Rattle.station_journal.proofs.Stepping.{eqb_true}
 use Rattle.station_journal.proofs.Walking.{journal_is_flat}
 use Rattle.station_journal.proofs.Owed.{no_tags}
 use Rattle.station_journal.proofs.OpenTags.{one_if, load_by, loads_in, values_in, tally, Balance, run_balance, none_open, none_left}
@@ -38,7 +37,7 @@ fit-first : (z : Sizes) (brings : Brings) (xs ys : List Entry) (s : Stand) → A
 fit-first z brings [] ys s h = tt
 fit-first z brings (Ended port ∷ xs) ys s h = fit-first z brings xs ys s h
 fit-first z brings (Step source event answer ∷ xs) ys s h =
-    (h.0, fit-first z brings xs ys (after_entry z brings s event (is_full answer)) h.1)
+    (h.0, fit-first z brings xs ys _ h.1)
 
 pub asks_are_judged : AsksAreJudged
 asks_are_judged z before rest ports p lawful takes true_of_banks of =
@@ -65,7 +64,7 @@ filter-full q (x ∷ xs) e = go (q x) e (λ h. filter-full q xs h)
     go : (t : Bool) → length (cond t (x ∷ filter q xs) (filter q xs)) ≡ suc (length xs)
         → (length (filter q xs) ≡ length xs → filter q xs ≡ xs) → cond t (x ∷ filter q xs) (filter q xs) ≡ x ∷ xs
     go true e same = ap (λ l. x ∷ l) (same (omega arith))
-    go false e same = absurd (let few = filter-few q xs in omega arith)
+    go false e same = grind (arith, filter-few)
 
 -- a telling is a verdict or a value
 nothing_told : (tellings : List Told) → length (verdicts_in tellings) ≡ 0 → value_count tellings ≡ 0 → tellings ≡ []
@@ -101,34 +100,34 @@ port_quiet p script offered taken entries loads values tallies few heard =
     let asks = asks_of p entries in
     let told = told_of p entries in
     let as_many = follows-length script asked (verdicts_in taken) [] talk.follows in
-    let requests : requests_in asks ++ requests_in heard.unasked ≡ requests_in asked =
+    let requests =
     sym (filter-append is_request asks heard.unasked)
     ∙ ap requests_in (heard.asks ∙ talk.offered_is)
     ∙ filter-append is_request asked (Done ∷ [])
     ∙ append-nil (requests_in asked) in
-    let verdicts : verdicts_in taken ++ verdicts_in heard.untaken ≡ verdicts_in told =
-    sym (filter-append (λ (t : Told). not (is_value t)) taken heard.untaken) ∙ ap verdicts_in heard.tellings in
-    let values_told : value_count taken + value_count heard.untaken ≡ value_count told =
+    let verdicts =
+    sym (filter-append (λ t. not (is_value t)) taken heard.untaken) ∙ ap verdicts_in heard.tellings in
+    let values_told =
     sym (count_by-append is_value taken heard.untaken) ∙ ap value_count heard.tellings in
     let requests_number = ap length requests in
     let requests_whole = length-append (requests_in asks) (requests_in heard.unasked) in
     let verdicts_number = ap length verdicts in
     let verdicts_whole = length-append (verdicts_in taken) (verdicts_in heard.untaken) in
-    let asked_few : length (requests_in asked) ≤ length asked = filter-few is_request asked in
+    let asked_few = filter-few is_request asked in
     let judged = tallies.judged in
     let none_untaken : length (verdicts_in heard.untaken) ≡ 0 = omega arith in
     let all_requests : length (requests_in asked) ≡ length asked = omega arith in
     let none_unasked : length (requests_in heard.unasked) ≡ 0 = omega arith in
-    let same_asks : requests_in asks ≡ asked =
+    let same_asks =
     sym (append-nil (requests_in asks))
     ∙ ap (λ l. requests_in asks ++ l) (sym (nil_from_length (requests_in heard.unasked) none_unasked))
     ∙ requests
     ∙ filter-full is_request asked all_requests in
-    let same_verdicts : verdicts_in told ≡ verdicts_in taken =
+    let same_verdicts =
     sym verdicts
     ∙ ap (λ l. verdicts_in taken ++ l) (nil_from_length (verdicts_in heard.untaken) none_untaken)
     ∙ append-nil (verdicts_in taken) in
-    let loads_are : loads ≡ value_count taken = sym tallies.accepted ∙ ap₂ accepted_loads same_asks same_verdicts ∙ sym talk.answered in
+    let loads_are = sym tallies.accepted ∙ ap₂ accepted_loads same_asks same_verdicts ∙ sym talk.answered in
     let values_are = tallies.valued in
     let no_values : value_count heard.untaken ≡ 0 = omega arith in
     let none = nothing_told heard.untaken none_untaken no_values in
@@ -140,20 +139,11 @@ port_quiet p script offered taken entries loads values tallies few heard =
 -- ---- no tag is of another port
 
 load_outside : (p ports port tag : ℕ) → ports ≤ p → (nat_lt port ports && (tag / 256 == port)) ≡ true → one_if (is_of p tag) ≡ 0
-load_outside p ports port tag outside of = go (nat_lt port ports) refl (tag / 256 == port) refl (tag / 256 == p) refl of
-  where
-    go : (a : Bool) → nat_lt port ports ≡ a → (b : Bool) → (tag / 256 == port) ≡ b → (t : Bool) → (tag / 256 == p) ≡ t → (a && b) ≡ true
-        → one_if t ≡ 0
-    go a ea b eb false et both = refl
-    go true ea true eb true et both =
-        absurd (let inside = ltb-true port ports ea in let here = eqb_true (tag / 256) port eb in let there = eqb_true (tag / 256) p et
-        in omega arith)
-    go true ea false eb true et both = cc
-    go false ea b eb true et both = cc
+load_outside p ports port tag outside of = grind arith
 
 event_outside : (p ports : ℕ) (source : Source) (event : Event) (answer : Answer) → ports ≤ p → is_event_of ports source event ≡ true
     → load_by (is_of p) event answer ≡ 0
-event_outside p ports (sources.Ask port) (events.Load tag at) answers.Accepted outside of = load_outside p ports port tag outside of
+event_outside p ports (sources.Ask port) (events.Load tag at) answers.Accepted outside of = grind arith
 event_outside p ports (sources.Word bank) (events.Load tag at) answers.Accepted outside of = cc
 event_outside p ports (sources.Stack place) (events.Load tag at) answers.Accepted outside of = cc
 event_outside p ports sources.Drain (events.Load tag at) answers.Accepted outside of = cc

@@ -1,11 +1,10 @@
 -- A word that the cache side has popped.
-use Rattle.std.proofs.Common.{◌≡◌, ◌≢◌, ℕ, ◌+◌, ◌*◌, ◌%◌, ◌^◌, ◌<◌, ◌≤◌, Bool, true, false, nat_lt, nat_le, List, [], ◌∷◌, ◌++◌, length}
+use Rattle.std.proofs.Common.{◌≡◌, ◌≢◌, ℕ, ◌+◌, ◌*◌, ◌%◌, ◌^◌, ◌<◌, ◌≤◌, true, false, nat_lt, List, [], ◌∷◌, ◌++◌, length}
 use Rattle.std.proofs.Common.{Option, Some, None, refl, sym, ap, ◌∙◌, subst, arith, ⊎_elim, length-append, mul-le-mul_right}
 use Rattle.std.specs.List.{count_by}
 use Rattle.std.proofs.Math.Nat.{mod-eq_of_lt}
-use Rattle.std.proofs.lemmas.Bool.{cases_eq, ltb-true, ltb-false, lt-leb}
-use Rattle.flat_model.specs.declared.limits.TheConstants.{MAX_BLOCK_WORDS}
-use Rattle.flat_model.specs.declared.Cause.TheVariants.{StrayWord, StackFull}
+use Rattle.std.proofs.lemmas.Bool.{cases_eq, ltb-false}
+use Rattle.flat_model.specs.declared.Cause.TheVariants.{StrayWord}
 use Rattle.flat_model.specs.declared.Answer.{Answer}
 use Rattle.flat_model.specs.declared.Answer.TheVariants.{Moved}
 use Rattle.memory_banks.specs.declared.Command.{Command}
@@ -13,8 +12,8 @@ use Rattle.memory_banks.specs.declared.BankAnswer.{BankAnswer}
 use Rattle.memory_banks.specs.Memory.{is_read}
 use Rattle.cache_unit.specs.declared.Sizes.{Sizes}
 use Rattle.cache_unit.specs.State.{Cache, UnitState}
-use Rattle.cache_unit.specs.Causes.{first_cause, is_stray, arrive_cause}
-use Rattle.cache_unit.specs.Steps.{unless, moved, arrived, arrive_step}
+use Rattle.cache_unit.specs.Causes.{arrive_cause}
+use Rattle.cache_unit.specs.Steps.{arrive_step}
 use Rattle.cache_unit.specs.Sound.{InRange}
 use Rattle.flat_model.specs.declared.Event.TheVariants.{Arrive}
 use Rattle.station_journal.specs.declared.journal.Source.TheVariants.{Word}
@@ -32,8 +31,7 @@ pub none_popped : (u : UnitState) (sent : ℕ → List Command) (popped popped' 
     (entries : List Entry)
     → ((b : ℕ) → popped' b ≡ popped b) → SideTells u.sizes u.cache sent popped fault entries
     → SideTells u.sizes u.cache sent popped' fault entries
-none_popped u sent popped popped' fault entries same h =
-    subst (λ xs. SideTells u.sizes u.cache sent xs fault entries) (λ i b. sym (same b) i) h
+none_popped u sent popped popped' fault entries same h = grind arith
 
 -- ---- what is refused
 
@@ -45,17 +43,7 @@ pub record IsRefused (z : Sizes) (c : Cache) (a : BankAnswer) : Type 0 where
 pub refused : (z : Sizes) (c : Cache) (a : BankAnswer) → length c.stack < z.depth → (arrive_step z c a.slot a.i a.word).answer ≢ Moved
     → IsRefused z c a
 unfolding arrive_cause arrive_step
-refused z c a room not_moved =
-    let r = go (is_stray z c a.slot a.i) (nat_le z.depth (length c.stack)) (lt-leb z.depth (length c.stack) room) not_moved in
-    record { cause = r.0; same = r.1 }
-  where
-    go : (s : Bool) (f : Bool) → f ≡ false
-        → (unless (first_cause ((s, StrayWord) ∷ (f, StackFull) ∷ [])) c (moved (arrived c a.slot a.i a.word))).answer ≢ Moved
-        → (first_cause ((s, StrayWord) ∷ (f, StackFull) ∷ []) ≡ Some StrayWord) ×
-        ((unless (first_cause ((s, StrayWord) ∷ (f, StackFull) ∷ [])) c (moved (arrived c a.slot a.i a.word))).cache ≡ c)
-    go true f e n = (refl, refl)
-    go false true e n = cc
-    go false false e n = absurd (n refl)
+refused z c a room not_moved = grind arith
 
 module _ (z : Sizes) (in_range : InRange z) (cache : Cache) (sent : ℕ → List Command) (popped popped' : ℕ → List BankAnswer)
     (entries : List Entry) (bank : ℕ) (a : BankAnswer) (here : bank < z.banks) (more : popped' bank ≡ popped bank ++ a ∷ [])
@@ -63,16 +51,16 @@ module _ (z : Sizes) (in_range : InRange z) (cache : Cache) (sent : ℕ → List
     (within : length entries ≤ limit) (small : limit ≤ 2 ^ 56) (fault : Option SideFault) (sound : fault ≡ None)
     (faulted : SideTells z cache sent popped fault entries) where
   h : SideTells z cache sent popped None entries
-  h = subst (λ f. SideTells z cache sent popped f entries) sound faulted
+  h = grind arith
 
   lost : IsLost h.come popped' bank a
-  lost = record { lost = more ∙ ap (λ l. l ++ a ∷ []) (h.all bank); others = λ b d. others b d ∙ h.all b }
+  lost = grind arith
 
   -- there are few enough reads for the count
   exact : count_by is_read (sent bank) % 2 ^ 64 ≡ count_by is_read (sent bank)
   exact =
       let few = reads_few z (omega (arith, in_range.some_words)) (come_word h.come) entries (opening_stand z) h.stand h.walks bank in
-      let most : z.block_words * length entries ≤ MAX_BLOCK_WORDS * length entries = mul-le-mul_right (length entries) in_range.few_words in
+      let most = mul-le-mul_right (length entries) in_range.few_words in
       let swap : length entries * z.block_words ≡ z.block_words * length entries = omega arith in
       let same = ap (count_by is_read) (h.commands bank here) in
       let bound : count_by is_read (sent bank) < 2 ^ 64 = omega arith in
@@ -80,38 +68,14 @@ module _ (z : Sizes) (in_range : InRange z) (cache : Cache) (sent : ℕ → List
 
   pub uncalled : nat_lt taken (count_by is_read (sent bank) % 2 ^ 64) ≡ false
       → SideTells z cache sent popped' (Some (Uncalled bank)) entries
-  uncalled e =
-      let beyond = ltb-false taken (count_by is_read (sent bank)) (ap (nat_lt taken) (sym exact) ∙ e) in
-      let same = ap length (h.all bank) in
-      record {
-        stand = h.stand;
-        come = h.come;
-        walks = h.walks;
-        unit = h.unit;
-        commands = h.commands;
-        words = h.words;
-        all = (here, record { word = a; is_lost = lost; beyond = omega arith });
-      }
+  uncalled e = grind (arith, ltb-false, exact)
 
   pub called : nat_lt taken (count_by is_read (sent bank) % 2 ^ 64) ≡ true → length (popped bank) < count_by is_read (sent bank)
-  called e =
-      let below = ltb-true taken (count_by is_read (sent bank)) (ap (nat_lt taken) (sym exact) ∙ e) in
-      omega arith
+  called e = grind arith
 
   pub stray : nat_lt taken (count_by is_read (sent bank) % 2 ^ 64) ≡ true → arrive_cause z cache a.slot a.i ≡ Some StrayWord
       → SideTells z cache sent popped' (Some (Stray bank a.slot a.i)) entries
-  stray e r =
-      let below = called e in
-      let same = ap length (h.all bank) in
-      record {
-        stand = h.stand;
-        come = h.come;
-        walks = h.walks;
-        unit = h.unit;
-        commands = h.commands;
-        words = h.words;
-        all = (here, record { word = a; is_lost = lost; within = omega arith; slot_is = refl; i_is = refl; refused = r });
-      }
+  stray e r = grind arith
 
 -- ---- the cache side's facts, by what the step has done
 
@@ -120,9 +84,7 @@ pub side_stray : (u v : UnitState) (sent : ℕ → List Command) (popped' : ℕ 
     (entries : List Entry) (a : BankAnswer)
     → IsRefused u.sizes u.cache a → v ≡ record u { cache = (arrive_step u.sizes u.cache a.slot a.i a.word).cache }
     → SideTells u.sizes u.cache sent popped' fault entries → SideTells v.sizes v.cache sent popped' fault entries
-side_stray u v sent popped' fault entries a r v_is h =
-    let same : v ≡ u = v_is ∙ ap (λ c. record u { cache = c }) r.same in
-    subst (λ (x : UnitState). SideTells x.sizes x.cache sent popped' fault entries) (sym same) h
+side_stray u v sent popped' fault entries a r v_is h = grind arith
 
 -- it took it
 pub side_word : (u v : UnitState) (sent sent' : ℕ → List Command) (popped popped' : ℕ → List BankAnswer) (fault : Option SideFault)
@@ -152,12 +114,7 @@ pub counts : (taken taken' : ℕ → ℕ) (popped popped' : ℕ → List BankAns
 counts taken taken' popped popped' bank a counted more others one rest b = ⊎_elim here there (cases_eq b bank)
   where
     here : b ≡ bank → taken' b ≡ length (popped' b)
-    here e =
-        let longer = length-append (popped bank) (a ∷ []) in
-        let was = counted bank in
-        let now = ap length more in
-        let at : taken' bank ≡ length (popped' bank) = omega arith in
-        ap taken' e ∙ at ∙ ap (λ k. length (popped' k)) (sym e)
+    here e = grind (arith, length-append)
 
     there : b ≢ bank → taken' b ≡ length (popped' b)
     there d = rest b d ∙ counted b ∙ ap length (sym (others b d))

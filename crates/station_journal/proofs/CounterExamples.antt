@@ -1,5 +1,5 @@
 -- Journals that aren't true of the banks, and exchanges that are no conversations.
-use Rattle.std.proofs.Common.{◌≡◌, ℕ, List, [], ◌∷◌, ◌++◌, ap, arith}
+use Rattle.std.proofs.Common.{◌≡◌, ℕ, List, [], ◌∷◌, ◌++◌, arith}
 use Rattle.flat_model.specs.declared.Word.{Word}
 use Rattle.flat_model.specs.declared.Cause.TheVariants.{BankFull, NotPresent}
 use Rattle.flat_model.specs.declared.Event.TheVariants.{Load, Prefetch, Evict, Drain, Arrive}
@@ -11,11 +11,11 @@ use Rattle.station_journal.specs.declared.asks.Ask.TheVariants as asks
 use Rattle.station_journal.specs.declared.asks.Told.TheVariants as told
 use Rattle.station_journal.specs.Journal.{IsBankTrue}
 use Rattle.station_journal.specs.Conversation.{accepted_loads, Follows, Converses}
-use Rattle.station_journal.specs.Examples.{shape_S, smallest, word, zeros, written, asked, comes, all_steps, by_hand, read_back, script}
+use Rattle.station_journal.specs.Examples.{shape_S, smallest, word, zeros, asked, comes, all_steps, by_hand, read_back, script}
 
 -- no word is another one
 other_word : (tag : ℕ) (v w : Word) → Value tag v ≡ Value tag w → (v ≡ w → ⊥) → ⊥
-other_word tag v w e apart = apart (let same : v ≡ w = cc in same)
+other_word tag v w e apart = grind arith
 
 first_byte : (v w : Word) → v ≡ w → v.b0 ≡ w.b0
 first_byte v w e = cc
@@ -25,14 +25,12 @@ first_byte v w e = cc
 -- a load of a zero word is told nothing but zeros
 by_hand-false : IsBankTrue shape_S (by_hand (word 1 0 0 0)) → ⊥
 unfolding all_steps
-by_hand-false h =
-    other_word 1 (word 1 0 0 0) zeros h.1.1.1.1.1.1.1.1.1.0.1 (λ e. let clash : 1 ≡ 0 = first_byte (word 1 0 0 0) zeros e in cc)
+by_hand-false h = grind arith
 
 -- a load of a stored word isn't told what was there before
 read_back-false : IsBankTrue smallest (read_back zeros) → ⊥
 unfolding all_steps
-read_back-false h =
-    other_word 257 zeros written h.1.1.1.1.1.1.1.1.0.1 (λ e. let clash : 0 ≡ 238 = first_byte zeros written e in cc)
+read_back-false h = grind arith
 
 -- ---- refusals for want of room that may not stand
 
@@ -61,7 +59,7 @@ uncalled h = let e = h.0.0 in cc
 -- a third word of a bank that holds two of the block's words
 third_word : IsBankTrue shape_S (asked 0 (Load 1 5) Accepted ++ comes 0 ++ comes 0 ++ comes 0) → ⊥
 unfolding all_steps
-third_word h = let e = h.1.1.1.1.1.0.0 in cc
+third_word h = grind arith
 
 -- ---- no conversations
 
@@ -73,8 +71,8 @@ given_up h = gone h.asked h.offered_is h.follows
         → Follows script asked (told.Refused BankFull ∷ told.Refused NotPresent ∷ []) [] → ⊥
     gone [] e f = f
     gone (a ∷ []) e f = f.1
-    gone (a ∷ b ∷ []) e f = let second = f.1.0 in let same : b ≡ asks.Evict 7 = cc in cc
-    gone (a ∷ b ∷ c ∷ rest) e f = f.1.1
+    gone (a ∷ b ∷ []) e f = grind arith
+    gone _ e f = f.1.1
 
 -- an accepted load's value hasn't come
 not_answered : Converses (asks.Load 1 5 ∷ []) (asks.Load 1 5 ∷ asks.Done ∷ []) (told.Accepted ∷ []) → ⊥
@@ -83,7 +81,5 @@ not_answered h = gone h.asked h.follows h.answered
     gone : (asked : List Ask) → Follows (asks.Load 1 5 ∷ []) asked (told.Accepted ∷ []) [] → 0 ≡ accepted_loads asked (told.Accepted ∷ [])
         → ⊥
     gone [] f e = f
-    gone (a ∷ []) f e =
-        let one = ap (λ x. accepted_loads (x ∷ []) (told.Accepted ∷ [])) f.0 in
-        omega arith
-    gone (a ∷ b ∷ rest) f e = f.1
+    gone (a ∷ []) f e = grind arith
+    gone _ f e = f.1

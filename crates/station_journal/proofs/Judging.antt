@@ -1,8 +1,7 @@
 -- What a port asked and was told by a journal, counted: each ask but Done has one verdict, and values
 -- go to the ports of their loads.
-use Rattle.std.proofs.Common.{◌≡◌, ℕ, ◌+◌, ◌-◌, ◌*◌, ◌/◌, Bool, true, false, cond, not, ◌==◌, nat_lt, List, [], ◌∷◌, ◌++◌, length, Some}
-use Rattle.std.proofs.Common.{refl, sym, ap, ap₂, ◌∙◌, arith, length-append}
-use Rattle.std.specs.List.{list_all}
+use Rattle.std.proofs.Common.{◌≡◌, ℕ, ◌+◌, ◌-◌, ◌*◌, ◌/◌, Bool, true, false, cond, not, ◌==◌, List, [], ◌∷◌, ◌++◌, length, Some}
+use Rattle.std.proofs.Common.{ap, arith, length-append}
 use Rattle.std.proofs.lemmas.Bool.{and_parts}
 use Rattle.std.proofs.lemmas.List.Elements.{filter-append}
 use Rattle.miss_registers.proofs.Tags.{count_by-append}
@@ -19,13 +18,11 @@ use Rattle.station_journal.specs.declared.journal.Entry.TheVariants.{Step, Ended
 use Rattle.station_journal.specs.declared.asks.Ask.{Ask}
 use Rattle.station_journal.specs.declared.asks.Ask.TheVariants.{Load, Store, Prefetch, Evict, Done}
 use Rattle.station_journal.specs.declared.asks.Told.{Told}
-use Rattle.station_journal.specs.declared.asks.Told.TheVariants.{Value}
 use Rattle.station_journal.specs.Journal.{events_of, answers_of}
 use Rattle.station_journal.specs.Parts.{asked_by, asks_of, verdict, value_for, told_by, told_of, is_event_of, is_entry_of, IsOfPorts}
 use Rattle.station_journal.specs.Conversation.{is_value, verdicts_in, value_count, is_request, requests_in, accepted_loads}
-use Rattle.station_journal.proofs.Stepping.{eqb_true}
 use Rattle.station_journal.proofs.Paying.{first_of_run}
-use Rattle.station_journal.proofs.OpenTags.{one_if, load_by, value_by, loads_in, values_in}
+use Rattle.station_journal.proofs.OpenTags.{load_by, value_by, loads_in, values_in}
 
 -- the tags of a port
 abbrev pub is_of : ℕ → ℕ → Bool
@@ -39,7 +36,7 @@ pub record Tallies (asks : List Ask) (tellings : List Told) (loads values : ℕ)
   pub valued : value_count tellings ≡ values
 
 no_tallies : Tallies [] [] 0 0
-no_tallies = record { judged = refl; accepted = refl; valued = refl }
+no_tallies = grind arith
 
 -- ---- one behind the other
 
@@ -53,14 +50,14 @@ accepted-append (x ∷ xs) ys (u ∷ us) vs e = let r = accepted-append xs ys us
 tallies-append : (xs ys : List Ask) (us vs : List Told) (a b c d : ℕ) → Tallies xs us a b → Tallies ys vs c d
     → Tallies (xs ++ ys) (us ++ vs) (a + c) (b + d)
 tallies-append xs ys us vs a b c d h k =
-    let asks : requests_in (xs ++ ys) ≡ requests_in xs ++ requests_in ys = filter-append is_request xs ys in
-    let verdicts : verdicts_in (us ++ vs) ≡ verdicts_in us ++ verdicts_in vs = filter-append (λ (t : Told). not (is_value t)) us vs in
-    let whole : length (requests_in xs ++ requests_in ys) ≡ length (requests_in xs) + length (requests_in ys) =
+    let asks = filter-append is_request xs ys in
+    let verdicts = filter-append (λ t. not (is_value t)) us vs in
+    let whole =
     length-append (requests_in xs) (requests_in ys) in
-    let told : length (verdicts_in us ++ verdicts_in vs) ≡ length (verdicts_in us) + length (verdicts_in vs) =
+    let told =
     length-append (verdicts_in us) (verdicts_in vs) in
-    let left : length (verdicts_in (us ++ vs)) ≡ length (verdicts_in us ++ verdicts_in vs) = ap length verdicts in
-    let right : length (requests_in (xs ++ ys)) ≡ length (requests_in xs ++ requests_in ys) = ap length asks in
+    let left = ap length verdicts in
+    let right = ap length asks in
     let loads = accepted-append (requests_in xs) (requests_in ys) (verdicts_in us) (verdicts_in vs) h.judged in
     let values = count_by-append is_value us vs in
     let first = h.judged in
@@ -69,30 +66,25 @@ tallies-append xs ys us vs a b c d h k =
     let values_b = k.valued in
     record {
       judged = omega arith;
-      accepted = ap₂ accepted_loads asks verdicts ∙ loads ∙ ap₂ (λ m n. m + n) h.accepted k.accepted;
+      accepted = grind arith;
       valued = omega arith;
     }
 
 -- ---- one entry
 
 other_port : (p port tag : ℕ) → (port == p) ≡ false → (tag / 256 == port) ≡ true → is_of p tag ≡ false
-other_port p port tag apart same =
-    ap (λ k. k == p) (eqb_true (tag / 256) port same) ∙ apart
+other_port p port tag apart same = grind arith
 
 same_port : (p port tag : ℕ) → (port == p) ≡ true → (tag / 256 == port) ≡ true → is_of p tag ≡ true
-same_port p port tag here same =
-    ap (λ k. k == p) (eqb_true (tag / 256) port same) ∙ here
+same_port p port tag here same = grind arith
 
 -- what a load of a port's ring adds to port p
 load_tallies : (p port tag at : ℕ) (answer : Answer) (f : Flat) → (tag / 256 == port) ≡ true
     → may_answer f (events.Load tag at) answer ≡ true → (t : Bool) → (port == p) ≡ t
     → Tallies (cond t (Load (tag - p * 256) at ∷ []) []) (cond t (verdict answer) []) (load_by (is_of p) (events.Load tag at) answer) 0
-load_tallies p port tag at answers.Accepted f same may true e =
-    record { judged = refl; accepted = ap (λ b. one_if b) (sym (same_port p port tag e same)); valued = refl }
-load_tallies p port tag at answers.Accepted f same may false e =
-    record { judged = refl; accepted = ap one_if (sym (other_port p port tag e same)); valued = refl }
-load_tallies p port tag at (answers.Refused cause) f same may true e =
-    record { judged = refl; accepted = refl; valued = refl }
+load_tallies p port tag at answers.Accepted f same may true e = grind arith
+load_tallies p port tag at answers.Accepted f same may false e = grind arith
+load_tallies p port tag at (answers.Refused cause) f same may true e = grind arith
 load_tallies p port tag at (answers.Refused cause) f same may false e = no_tallies
 load_tallies p port tag at answers.Moved f same may t e = cc
 load_tallies p port tag at (answers.Value v w) f same may t e = cc
@@ -102,8 +94,8 @@ load_tallies p port tag at answers.Nothing f same may t e = cc
 store_tallies : (f : Flat) (at : ℕ) (word : Word) (lanes : _) (answer : Answer) → may_answer f (events.Store at word lanes) answer ≡ true
     → (t : Bool) → Tallies (cond t (Store at word lanes ∷ []) []) (cond t (verdict answer) []) 0 0
 store_tallies f at word lanes answer may false = no_tallies
-store_tallies f at word lanes answers.Accepted may true = record { judged = refl; accepted = refl; valued = refl }
-store_tallies f at word lanes (answers.Refused cause) may true = record { judged = refl; accepted = refl; valued = refl }
+store_tallies f at word lanes answers.Accepted may true = grind arith
+store_tallies f at word lanes (answers.Refused cause) may true = grind arith
 store_tallies f at word lanes answers.Moved may true = cc
 store_tallies f at word lanes (answers.Value v w) may true = cc
 store_tallies f at word lanes answers.Nothing may true = cc
@@ -111,8 +103,8 @@ store_tallies f at word lanes answers.Nothing may true = cc
 prefetch_tallies : (f : Flat) (at : ℕ) (answer : Answer) → may_answer f (events.Prefetch at) answer ≡ true → (t : Bool)
     → Tallies (cond t (Prefetch at ∷ []) []) (cond t (verdict answer) []) 0 0
 prefetch_tallies f at answer may false = no_tallies
-prefetch_tallies f at answers.Accepted may true = record { judged = refl; accepted = refl; valued = refl }
-prefetch_tallies f at (answers.Refused cause) may true = record { judged = refl; accepted = refl; valued = refl }
+prefetch_tallies f at answers.Accepted may true = grind arith
+prefetch_tallies f at (answers.Refused cause) may true = grind arith
 prefetch_tallies f at answers.Moved may true = cc
 prefetch_tallies f at (answers.Value v w) may true = cc
 prefetch_tallies f at answers.Nothing may true = cc
@@ -120,29 +112,24 @@ prefetch_tallies f at answers.Nothing may true = cc
 evict_tallies : (f : Flat) (block : ℕ) (answer : Answer) → may_answer f (events.Evict block) answer ≡ true → (t : Bool)
     → Tallies (cond t (Evict block ∷ []) []) (cond t (verdict answer) []) 0 0
 evict_tallies f block answer may false = no_tallies
-evict_tallies f block answers.Accepted may true = record { judged = refl; accepted = refl; valued = refl }
-evict_tallies f block (answers.Refused cause) may true = record { judged = refl; accepted = refl; valued = refl }
+evict_tallies f block answers.Accepted may true = grind arith
+evict_tallies f block (answers.Refused cause) may true = grind arith
 evict_tallies f block answers.Moved may true = cc
 evict_tallies f block (answers.Value v w) may true = cc
 evict_tallies f block answers.Nothing may true = cc
 
 -- what a taken value adds
 value_tallies : (p place : ℕ) (answer : Answer) → Tallies [] (value_for p answer) 0 (value_by (is_of p) (events.Take place) answer)
-value_tallies p place (answers.Value tag word) = go (is_of p tag)
-  where
-    go : (t : Bool) → Tallies [] (cond t (Value (tag - p * 256) word ∷ []) []) 0 (one_if t)
-    go true = record { judged = refl; accepted = refl; valued = refl }
-    go false = no_tallies
+value_tallies p place (answers.Value tag word) = grind arith
 value_tallies p place answer = no_tallies
 
 entry_tallies : (p ports : ℕ) (source : Source) (event : Event) (answer : Answer) (f : Flat) → is_event_of ports source event ≡ true
     → may_answer f event answer ≡ true
     → Tallies (asked_by p source event) (told_by p source answer) (load_by (is_of p) event answer) (value_by (is_of p) event answer)
-entry_tallies p ports (sources.Ask port) (events.Load tag at) answer f of may =
-    load_tallies p port tag at answer f (and_parts (nat_lt port ports) (tag / 256 == port) of).1 may (port == p) refl
-entry_tallies p ports (sources.Ask port) (events.Store at word lanes) answer f of may = store_tallies f at word lanes answer may (port == p)
-entry_tallies p ports (sources.Ask port) (events.Prefetch at) answer f of may = prefetch_tallies f at answer may (port == p)
-entry_tallies p ports (sources.Ask port) (events.Evict block) answer f of may = evict_tallies f block answer may (port == p)
+entry_tallies p ports (sources.Ask port) (events.Load tag at) answer f of may = grind arith
+entry_tallies p ports (sources.Ask port) (events.Store at word lanes) answer f of may = grind arith
+entry_tallies p ports (sources.Ask port) (events.Prefetch at) answer f of may = grind arith
+entry_tallies p ports (sources.Ask port) (events.Evict block) answer f of may = grind arith
 entry_tallies p ports (sources.Ask port) event answer f of may = cc
 entry_tallies p ports (sources.Word bank) (events.Arrive b place) answer f of may = no_tallies
 entry_tallies p ports (sources.Word bank) event answer f of may = cc
@@ -150,7 +137,7 @@ entry_tallies p ports (sources.Stack place) (events.Process k) answer f of may =
 entry_tallies p ports (sources.Stack place) event answer f of may = cc
 entry_tallies p ports sources.Drain events.Drain answer f of may = no_tallies
 entry_tallies p ports sources.Drain event answer f of may = cc
-entry_tallies p ports (sources.Reply place) (events.Take k) answer f of may = value_tallies p k answer
+entry_tallies p ports (sources.Reply place) (events.Take k) answer f of may = grind arith
 entry_tallies p ports (sources.Reply place) event answer f of may = cc
 
 -- ---- a whole journal
@@ -159,17 +146,13 @@ zero_more : (n : ℕ) → 0 + n ≡ n
 zero_more n = omega arith
 
 pub first_of : (ports : ℕ) (e : Entry) (rest : List Entry) → IsOfPorts ports (e ∷ rest) → is_entry_of ports e ≡ true
-first_of ports e rest h = (and_parts (is_entry_of ports e) (list_all (is_entry_of ports) rest) h).0
+first_of ports e rest h = (and_parts _ _ h).0
 
 pub rest_of : (ports : ℕ) (e : Entry) (rest : List Entry) → IsOfPorts ports (e ∷ rest) → IsOfPorts ports rest
-rest_of ports e rest h = (and_parts (is_entry_of ports e) (list_all (is_entry_of ports) rest) h).1
+rest_of ports e rest h = (and_parts _ _ h).1
 
 ended_tallies : (p port : ℕ) → Tallies (cond (port == p) (Done ∷ []) []) [] 0 0
-ended_tallies p port = go (port == p)
-  where
-    go : (t : Bool) → Tallies (cond t (Done ∷ []) []) [] 0 0
-    go true = record { judged = refl; accepted = refl; valued = refl }
-    go false = no_tallies
+ended_tallies p port = grind arith
 
 pub journal_tallies : (p ports : ℕ) (entries : List Entry) (f g : Flat) → IsOfPorts ports entries
     → flat_run f (events_of entries) (answers_of entries) ≡ Some g
@@ -178,7 +161,7 @@ journal_tallies p ports [] f g of run = no_tallies
 journal_tallies p ports (Ended port ∷ rest) f g of run =
     let more = journal_tallies p ports rest f g (rest_of ports (Ended port) rest of) run in
     let all = tallies-append _ (asks_of p rest) [] (told_of p rest) 0 0 _ _ (ended_tallies p port) more in
-    record { judged = all.judged; accepted = all.accepted ∙ zero_more _; valued = all.valued ∙ zero_more _ }
+    record { judged = all.judged; accepted = grind arith; valued = grind arith }
 journal_tallies p ports (Step source event answer ∷ rest) f g of run =
     let first = first_of_run f g event answer rest run in
     let one = entry_tallies p ports source event answer f (first_of ports (Step source event answer) rest of) first.may in

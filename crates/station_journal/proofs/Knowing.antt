@@ -1,7 +1,7 @@
 -- Journals and what is known of the words that came: one entry more, one word more, and the words
 -- that came are the true ones.
-use Rattle.std.proofs.Common.{◌≡◌, ℕ, zero, suc, ◌<◌, Bool, true, false, cond, ◌&&◌, ◌==◌, nat_lt, List, [], ◌∷◌, ◌++◌, length, slice_get}
-use Rattle.std.proofs.Common.{Option, Some, None, is_some, refl, sym, ap, ◌∙◌, subst, IsTrue, arith, append-nil, append_assoc}
+use Rattle.std.proofs.Common.{◌≡◌, ℕ, zero, suc, ◌<◌, Bool, true, false, cond, nat_lt, List, [], ◌∷◌, ◌++◌, length, slice_get}
+use Rattle.std.proofs.Common.{Some, None, is_some, refl, sym, ap, ◌∙◌, IsTrue, arith, append-nil, append_assoc}
 use Rattle.std.specs.List.{filter, count_by}
 use Rattle.std.proofs.lemmas.Bool.{ltb-true}
 use Rattle.std.proofs.lemmas.List.Sums.{length-filter}
@@ -13,13 +13,12 @@ use Rattle.flat_model.specs.Flat.{stored}
 use Rattle.memory_banks.specs.declared.Command.{Command}
 use Rattle.memory_banks.specs.declared.Command.TheVariants.{Read, Write}
 use Rattle.memory_banks.specs.declared.BankAnswer.{BankAnswer}
-use Rattle.memory_banks.specs.Banks.{after, answers_to, commands_for}
+use Rattle.memory_banks.specs.Banks.{after, answers_to}
 use Rattle.memory_banks.specs.Memory.{is_read}
 use Rattle.cache_unit.specs.declared.Sizes.{Sizes}
-use Rattle.cache_unit.specs.Steps.{Stepped}
 use Rattle.station_journal.specs.declared.journal.Entry.{Entry}
 use Rattle.station_journal.specs.declared.journal.Entry.TheVariants.{Step, Ended}
-use Rattle.station_journal.specs.Journal.{Stand, Brings, brought, next_word, step, moved_on, may_stand, is_full, Fits, after_entry, Walks}
+use Rattle.station_journal.specs.Journal.{Stand, Brings, next_word, step, may_stand, is_full, Fits, after_entry, Walks}
 use Rattle.station_journal.specs.Journal.{come_word, true_word, zeros_in}
 use Rattle.station_journal.specs.Side.{ComesOf}
 use Rattle.station_journal.proofs.Standing.{answers_to-append}
@@ -28,10 +27,10 @@ use Rattle.station_journal.proofs.Standing.{answers_to-append}
 
 pub walks-append : (z : Sizes) (brings : Brings) (xs ys : List Entry) (s e f : Stand) → Walks z brings s xs e → Walks z brings e ys f
     → Walks z brings s (xs ++ ys) f
-walks-append z brings [] ys s e f same walk = subst (λ x. Walks z brings x ys f) (sym same) walk
+walks-append z brings [] ys s e f same walk = grind arith
 walks-append z brings (Ended port ∷ xs) ys s e f w walk = walks-append z brings xs ys s e f w walk
 walks-append z brings (Step source event answer ∷ xs) ys s e f w walk =
-    (w.0, walks-append z brings xs ys (after_entry z brings s event (is_full answer)) e f w.1 walk)
+    (w.0, walks-append z brings xs ys _ e f w.1 walk)
 
 -- ---- what was sent stays sent
 
@@ -40,8 +39,8 @@ Begins xs ys = (rest : List Command) × (xs ++ rest ≡ ys)
 
 sent_by : (z : Sizes) (brings : Brings) (s : Stand) (event : Event) (t : Bool) (b : ℕ)
     → Begins (s.sent b) ((after_entry z brings s event t).sent b)
-sent_by z brings s event true b = ([], append-nil (s.sent b))
-sent_by z brings s event false b = (commands_for b (step z brings s event).sent, refl)
+sent_by z brings s event true b = ([], append-nil _)
+sent_by z brings s event false b = grind arith
 
 begins_steps : (xs ys zs : List Command) → Begins xs ys → Begins ys zs → Begins xs zs
 begins_steps xs ys zs p q =
@@ -49,10 +48,10 @@ begins_steps xs ys zs p q =
 
 pub sent_stays : (z : Sizes) (brings : Brings) (entries : List Entry) (s e : Stand) → Walks z brings s entries e → (b : ℕ)
     → Begins (s.sent b) (e.sent b)
-sent_stays z brings [] s e same b = ([], append-nil (s.sent b) ∙ ap (λ (x : Stand). x.sent b) same)
+sent_stays z brings [] s e same b = grind (arith, append-nil)
 sent_stays z brings (Ended port ∷ rest) s e walk b = sent_stays z brings rest s e walk b
 sent_stays z brings (Step source event answer ∷ rest) s e walk b =
-    begins_steps (s.sent b) _ (e.sent b) (sent_by z brings s event (is_full answer) b)
+    begins_steps _ _ _ (sent_by z brings s event (is_full answer) b)
     (sent_stays z brings rest (after_entry z brings s event (is_full answer)) e walk.1 b)
 
 -- ---- another source of words that agrees
@@ -66,19 +65,7 @@ Agree z f g sent =
 module _ (z : Sizes) (f g : Brings) where
   word_same : (s : Stand) (sent : ℕ → List Command) → Agree z f g sent → ((b : ℕ) → Begins (s.sent b) (sent b)) → (bank place : ℕ)
       → IsTrue (is_some (next_word z f s bank place)) → next_word z f s bank place ≡ next_word z g s bank place
-  word_same s sent agree begins bank place some = go (nat_lt bank z.banks) refl (place == 0) some
-    where
-      word : (o : Option BankAnswer) → f bank (s.arrived bank) (s.sent bank) ≡ o → bank < z.banks → IsTrue (is_some o)
-          → f bank (s.arrived bank) (s.sent bank) ≡ g bank (s.arrived bank) (s.sent bank)
-      word None e here h = cc
-      word (Some a) e here h = e ∙ sym (agree bank (s.arrived bank) (s.sent bank) a here (begins bank) e)
-
-      go : (t : Bool) → nat_lt bank z.banks ≡ t → (u : Bool)
-          → IsTrue (is_some (cond (t && u) (f bank (s.arrived bank) (s.sent bank)) None))
-          → cond (t && u) (f bank (s.arrived bank) (s.sent bank)) None ≡ cond (t && u) (g bank (s.arrived bank) (s.sent bank)) None
-      go false e u h = refl
-      go true e false h = refl
-      go true e true h = word (f bank (s.arrived bank) (s.sent bank)) refl (omega (arith, ltb-true bank z.banks e)) h
+  word_same s sent agree begins bank place some = grind arith
 
   -- the step and what may stand
   record SameStep (s : Stand) (event : Event) : Type 0 where
@@ -87,17 +74,15 @@ module _ (z : Sizes) (f g : Brings) where
 
   step_same : (s : Stand) (sent : ℕ → List Command) → Agree z f g sent → ((b : ℕ) → Begins (s.sent b) (sent b)) → (event : Event)
       → IsTrue (may_stand z f s event) → SameStep s event
-  step_same s sent agree begins (Load tag at) h = record { stepped = refl; stands = h }
-  step_same s sent agree begins (Store at word lanes) h = record { stepped = refl; stands = h }
-  step_same s sent agree begins (Prefetch at) h = record { stepped = refl; stands = h }
-  step_same s sent agree begins (Evict block) h = record { stepped = refl; stands = h }
-  step_same s sent agree begins Drain h = record { stepped = refl; stands = h }
+  step_same s sent agree begins (Load tag at) h = grind arith
+  step_same s sent agree begins (Store at word lanes) h = grind arith
+  step_same s sent agree begins (Prefetch at) h = grind arith
+  step_same s sent agree begins (Evict block) h = grind arith
+  step_same s sent agree begins Drain h = grind arith
   step_same s sent agree begins (Serve bank) h = cc
-  step_same s sent agree begins (Arrive bank place) h =
-      let e = word_same s sent agree begins bank place h in
-      record { stepped = ap (brought z s.cache) e; stands = subst (λ o. IsTrue (is_some o)) e h }
-  step_same s sent agree begins (Process place) h = record { stepped = refl; stands = h }
-  step_same s sent agree begins (Take place) h = record { stepped = refl; stands = h }
+  step_same s sent agree begins (Arrive bank place) h = grind arith
+  step_same s sent agree begins (Process place) h = grind arith
+  step_same s sent agree begins (Take place) h = grind arith
 
   -- an entry fits, and leads to the same stand
   record SameEntry (s : Stand) (event : Event) (answer : Answer) (t : Bool) : Type 0 where
@@ -106,21 +91,16 @@ module _ (z : Sizes) (f g : Brings) where
 
   entry_same : (s : Stand) (sent : ℕ → List Command) → Agree z f g sent → ((b : ℕ) → Begins (s.sent b) (sent b))
       → (event : Event) (answer : Answer) (t : Bool) → Fits z f s event answer t → SameEntry s event answer t
-  entry_same s sent agree begins event answer true h = record { fits = h; led = refl }
-  entry_same s sent agree begins event answer false h =
-      let same = step_same s sent agree begins event h.0 in
-      record {
-        fits = (same.stands, h.1 ∙ ap (λ (d : Stepped). d.answer) same.stepped);
-        led = ap (moved_on s event) same.stepped;
-      }
+  entry_same s sent agree begins event answer true h = grind arith
+  entry_same s sent agree begins event answer false h = grind arith
 
   pub walks_same : (entries : List Entry) (s e : Stand) → Agree z f g e.sent → Walks z f s entries e → Walks z g s entries e
   walks_same [] s e agree walk = walk
   walks_same (Ended port ∷ rest) s e agree walk = walks_same rest s e agree walk
   walks_same (Step source event answer ∷ rest) s e agree walk =
       let begins = λ (b : ℕ). sent_stays z f (Step source event answer ∷ rest) s e walk b in
-      let same = entry_same s e.sent agree begins event answer (is_full answer) walk.0 in
-      (same.fits, walks_same rest (after_entry z g s event (is_full answer)) e agree (subst (λ x. Walks z f x rest e) same.led walk.1))
+      let same = entry_same s e.sent agree begins event answer _ walk.0 in
+      (same.fits, walks_same rest _ e agree (rw same.led at walk.1))
 
 -- ---- more words have come
 
@@ -131,11 +111,11 @@ slice_get-more (x ∷ xs) ys (suc k) a e = slice_get-more xs ys k a e
 
 pub come-more : (z : Sizes) (come more : ℕ → List BankAnswer) (sent : ℕ → List Command)
     → ((b : ℕ) → b < z.banks → (rest : List BankAnswer) × (come b ++ rest ≡ more b)) → Agree z (come_word come) (come_word more) sent
-come-more z come more sent h b k commands a here begins e = go (nat_lt k (count_by is_read commands)) e
+come-more z come more sent h b k commands a here begins e = go _ e
   where
     go : (t : Bool) → cond t (slice_get (come b) k) None ≡ Some a → cond t (slice_get (more b) k) None ≡ Some a
     go false e = cc
-    go true e = ap (λ l. slice_get l k) (sym (h b here).1) ∙ slice_get-more (come b) (h b here).0 k a e
+    go true e = ap (λ l. slice_get l k) (sym (h b here).1) ∙ slice_get-more _ (h b here).0 k a e
 
 -- ---- the words that came are the true ones
 
@@ -145,7 +125,7 @@ reads-length words (Read slot i place ∷ rest) = ap suc (reads-length words res
 reads-length words (Write place word lanes ∷ rest) = reads-length (stored words place word lanes) rest
 
 pub answers_to-length : (words : List Word) (commands : List Command) → length (answers_to words commands) ≡ count_by is_read commands
-answers_to-length words commands = reads-length words commands ∙ length-filter is_read commands
+answers_to-length words commands = grind (arith, reads-length, length-filter)
 
 slice_get-front : (xs ys : List BankAnswer) (k : ℕ) → k < length xs → slice_get (xs ++ ys) k ≡ slice_get xs k
 slice_get-front [] ys k l = absurd (omega arith)
@@ -154,7 +134,7 @@ slice_get-front (x ∷ xs) ys (suc k) l = slice_get-front xs ys k (omega arith)
 
 pub come-true : (z : Sizes) (come : ℕ → List BankAnswer) (sent : ℕ → List Command)
     → ((b : ℕ) → b < z.banks → ComesOf (zeros_in z b) (sent b) (come b)) → Agree z (come_word come) (true_word z) sent
-come-true z come sent h b k commands a here begins e = go (nat_lt k (count_by is_read commands)) refl e
+come-true z come sent h b k commands a here begins e = go _ refl e
   where
     go : (t : Bool) → nat_lt k (count_by is_read commands) ≡ t → cond t (slice_get (come b) k) None ≡ Some a
         → slice_get (answers_to (zeros_in z b) commands) k ≡ Some a
@@ -162,15 +142,15 @@ come-true z come sent h b k commands a here begins e = go (nat_lt k (count_by is
     go true l e =
         let words = zeros_in z b in
         let part = h b here in
-        let few : k < length (answers_to words commands) =
-        omega (arith, answers_to-length words commands, ltb-true k (count_by is_read commands) l) in
-        let whole : answers_to words (sent b) ≡ answers_to words commands ++ answers_to (after words commands) begins.0 =
+        let few : k < length _ =
+        omega (arith, answers_to-length words commands, ltb-true k _ l) in
+        let whole =
         ap (answers_to words) (sym begins.1) ∙ answers_to-append words commands begins.0 in
-        let came : answers_to words (sent b) ≡ come b ++ (part.on_its_way ++ answers_to (after words part.served) part.left) =
+        let came =
         ap (answers_to words) (sym part.commands)
         ∙ answers_to-append words part.served part.left
         ∙ ap (λ l. l ++ answers_to (after words part.served) part.left) (sym part.answers)
-        ∙ append_assoc (come b) part.on_its_way _ in
+        ∙ append_assoc _ part.on_its_way _ in
         sym (slice_get-front (answers_to words commands) (answers_to (after words commands) begins.0) k few)
         ∙ ap (λ l. slice_get l k) (sym whole ∙ came)
-        ∙ slice_get-more (come b) _ k a e
+        ∙ slice_get-more _ _ k a e

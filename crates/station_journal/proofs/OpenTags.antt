@@ -1,13 +1,12 @@
 -- The tags that flat memory owes a value, counted along a run.
-use Rattle.std.proofs.Common.{◌≡◌, ℕ, ◌+◌, ◌/◌, ◌≤◌, Bool, true, false, cond, ◌==◌, nat_lt, List, [], ◌∷◌, length, Option, Some, None}
-use Rattle.std.proofs.Common.{is_some, is_none, refl, sym, ap, ◌∙◌, arith, eq-eqb}
-use Rattle.std.proofs.lemmas.Bool.{and_parts}
+use Rattle.std.proofs.Common.{◌≡◌, ℕ, ◌+◌, ◌/◌, ◌≤◌, Bool, true, false, cond, ◌==◌, List, [], ◌∷◌, Option, Some, None}
+use Rattle.std.proofs.Common.{is_some, is_none, refl, sym, ap, arith, eq-eqb}
 use Rattle.flat_model.specs.declared.Word.{Word}
 use Rattle.flat_model.specs.declared.Event.{Event}
 use Rattle.flat_model.specs.declared.Event.TheVariants.{Load, Store, Prefetch, Evict, Drain, Serve, Arrive, Process, Take}
 use Rattle.flat_model.specs.declared.Answer.{Answer}
 use Rattle.flat_model.specs.declared.Answer.TheVariants.{Accepted, Moved, Value, Nothing, Refused}
-use Rattle.flat_model.specs.Flat.{Flat, may_answer, flat_after, flat_run, is_owed, word_at}
+use Rattle.flat_model.specs.Flat.{Flat, may_answer, flat_after, flat_run, is_owed}
 use Rattle.station_journal.specs.declared.journal.Entry.{Entry}
 use Rattle.station_journal.specs.declared.journal.Entry.TheVariants.{Step, Ended}
 use Rattle.station_journal.specs.Journal.{events_of, answers_of}
@@ -58,8 +57,8 @@ tally-without q tag (x ∷ xs) some = go (x == tag) refl some (λ h. tally-witho
     go : (t : Bool) → (x == tag) ≡ t → 1 ≤ one_if t + tally (λ y. y == tag) xs
         → (1 ≤ tally (λ y. y == tag) xs → tally q (without tag xs) + one_if (q tag) ≡ tally q xs)
         → tally q (cond t xs (x ∷ without tag xs)) + one_if (q tag) ≡ one_if (q x) + tally q xs
-    go true e some rest = let same = ap (λ y. one_if (q y)) (eqb_true x tag e) in omega arith
-    go false e some rest = let r = rest (omega arith) in omega arith
+    go true e some rest = grind arith
+    go false e some rest = grind arith
 
 -- these are the tags that are owed, each once
 pub record AreOpen (f : Flat) (tags : List ℕ) : Type 0 where
@@ -77,25 +76,7 @@ pub record Balance (tags : List ℕ) (loads values : (ℕ → Bool) → ℕ) (g 
 -- a tag that is owed nothing is owed a value
 opened : (f : Flat) (tags : List ℕ) (tag at : ℕ) → AreOpen f tags → is_none (f.due tag) ≡ true
     → AreOpen (flat_after f (Load tag at) Accepted) (tag ∷ tags)
-opened f tags tag at h none = record { once = once }
-  where
-    unowed : (o : Option Word) → is_none o ≡ true → one_if (is_some o) ≡ 0
-    unowed None e = refl
-    unowed (Some w) e = cc
-
-    go : (t : ℕ) (a b : Bool) → (tag == t) ≡ a → (t == tag) ≡ b
-        → one_if a + tally (λ x. x == t) tags ≡ one_if (is_some (cond b (Some (word_at f.mem at)) (f.due t)))
-    go t true true e g =
-        let before = h.once t in
-        let same : f.due t ≡ f.due tag = ap f.due (eqb_true t tag g) in
-        let none' = ap (λ o. one_if (is_some o)) same ∙ unowed (f.due tag) none in
-        omega arith
-    go t false false e g = let before = h.once t in omega arith
-    go t true false e g = absurd (let back = eq-eqb t tag (sym (eqb_true tag t e)) in let clash : true ≡ false = sym back ∙ g in cc)
-    go t false true e g = absurd (let back = eq-eqb tag t (sym (eqb_true t tag g)) in let clash : true ≡ false = sym back ∙ e in cc)
-
-    once : (t : ℕ) → tally (λ x. x == t) (tag ∷ tags) ≡ one_if (is_some ((flat_after f (Load tag at) Accepted).due t))
-    once t = go t (tag == t) (t == tag) refl refl
+opened f tags tag at h none = grind arith
 
 -- a tag whose value is taken is owed nothing more
 closed : (f : Flat) (tags : List ℕ) (tag place : ℕ) (word : Word) → AreOpen f tags → one_if (is_some (f.due tag)) ≡ 1
@@ -103,21 +84,18 @@ closed : (f : Flat) (tags : List ℕ) (tag place : ℕ) (word : Word) → AreOpe
 closed f tags tag place word h one = record { once = once }
   where
     some : 1 ≤ tally (λ x. x == tag) tags
-    some = let here = h.once tag in omega arith
+    some = grind (arith, h.once)
 
     go : (t : ℕ) (a b : Bool) → (tag == t) ≡ a → (t == tag) ≡ b
         → tally (λ x. x == t) (without tag tags) + one_if a ≡ tally (λ x. x == t) tags
         → tally (λ x. x == t) (without tag tags) ≡ one_if (is_some (cond b None (f.due t)))
-    go t true true e g less =
-        let before = h.once t in
-        let same = ap (λ k. one_if (is_some (f.due k))) (eqb_true t tag g) in
-        omega arith
-    go t false false e g less = let before = h.once t in omega arith
-    go t true false e g less = absurd (let back = eq-eqb t tag (sym (eqb_true tag t e)) in let clash : true ≡ false = sym back ∙ g in cc)
-    go t false true e g less = absurd (let back = eq-eqb tag t (sym (eqb_true t tag g)) in let clash : true ≡ false = sym back ∙ e in cc)
+    go t true true e g less = grind (arith, h.once, f.due, eqb_true)
+    go t false false e g less = grind (arith, h.once)
+    go t true false e g less = grind (arith, eq-eqb, eqb_true)
+    go t false true e g less = grind (arith, eq-eqb, eqb_true)
 
     once : (t : ℕ) → tally (λ x. x == t) (without tag tags) ≡ one_if (is_some ((flat_after f (Take place) (Value tag word)).due t))
-    once t = go t (tag == t) (t == tag) refl refl (tally-without (λ x. x == t) tag tags some)
+    once t = grind (arith, go, tally-without, some)
 
 owed_one : (o : Option Word) (w : Word) → is_owed o w ≡ true → one_if (is_some o) ≡ 1
 owed_one None w e = cc
@@ -127,7 +105,7 @@ same_open : (f g : Flat) (tags : List ℕ) → AreOpen f tags → f.due ≡ g.du
 same_open f g tags h e =
     record {
       left = tags;
-      are_open = record { once = λ t. h.once t ∙ ap (λ (d : ℕ → Option Word). one_if (is_some (d t))) e };
+      are_open = grind arith;
       balance = λ q. refl;
     }
 
@@ -136,7 +114,7 @@ step_balance : (f : Flat) (event : Event) (answer : Answer) (tags : List ℕ) �
 step_balance f (Load t at) Accepted tags h may =
     record {
       left = t ∷ tags;
-      are_open = opened f tags t at h (and_parts (nat_lt at (length f.mem)) (is_none (f.due t)) may).1;
+      are_open = grind arith;
       balance = λ q. omega arith;
     }
 step_balance f (Load t at) Moved tags h may = cc
@@ -168,7 +146,7 @@ step_balance f (Take place) answer tags h may = same_open f f tags h refl
 
 pub run_balance : (entries : List Entry) (f g : Flat) (tags : List ℕ) → AreOpen f tags
     → flat_run f (events_of entries) (answers_of entries) ≡ Some g → Balance tags (λ q. loads_in q entries) (λ q. values_in q entries) g
-run_balance [] f g tags h run = same_open f g tags h (ap (λ (x : Flat). x.due) (some_same f g run))
+run_balance [] f g tags h run = same_open f g tags h (ap (λ x. x.due) (some_same f g run))
 run_balance (Ended port ∷ rest) f g tags h run =
     let more = run_balance rest f g tags h run in
     record { left = more.left; are_open = more.are_open; balance = more.balance }
@@ -179,13 +157,13 @@ run_balance (Step source event answer ∷ rest) f g tags h run =
     record {
       left = more.left;
       are_open = more.are_open;
-      balance = λ q. let a = one.balance q in let b = more.balance q in omega arith;
+      balance = grind arith;
     }
 
 -- ---- nothing open
 
 pub none_open : (f : Flat) → ((tag : ℕ) → f.due tag ≡ None) → AreOpen f []
-none_open f none = record { once = λ t. sym (ap (λ o. one_if (is_some o)) (none t)) }
+none_open f none = grind arith
 
 -- where no tag of a list passes any of these tests, and each passes one, there is none
 pub none_left : (f : Flat) (tags : List ℕ) → AreOpen f tags → ((p : ℕ) → tally (λ t. t / 256 == p) tags ≡ 0) → (tag : ℕ) → f.due tag ≡ None

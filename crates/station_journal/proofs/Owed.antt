@@ -1,5 +1,5 @@
 -- What a unit owes, and its tags.
-use Rattle.std.proofs.Common.{◌≡◌, ℕ, true, false, ◌||◌, ◌==◌, not, List, [], ◌∷◌, length, Option, Some, None, option_map, is_none, refl}
+use Rattle.std.proofs.Common.{◌≡◌, ℕ, false, ◌||◌, ◌==◌, not, List, [], ◌∷◌, length, Option, Some, None, option_map, is_none, refl}
 use Rattle.std.proofs.Common.{sym, ap, ◌∙◌, eq-eqb}
 use Rattle.std.specs.List.{list_any}
 use Rattle.std.proofs.lemmas.List.{nil_from_length}
@@ -22,25 +22,25 @@ with_unit c = record { cache = c; banks = [] }
 pub none_owed : (c : Cache) → length (tags c) ≡ 0 → (tag : ℕ) → owed c tag ≡ None
 unfolding with_unit
 none_owed c few tag =
-    let none : list_any (λ t. t == tag) (tags c) ≡ false = ap (list_any (λ t. t == tag)) (nil_from_length (tags c) few) in
-    go (filled_by (all_pending (with_unit c).banks)) (owed c tag) (flat_in_use (with_unit c) tag ∙ none)
+    let none = ap (list_any (λ t. t == tag)) (nil_from_length (tags c) few) in
+    go _ _ (flat_in_use (with_unit c) tag ∙ none)
   where
     go : (f : Form → Word) (o : Option Form) → not (is_none (option_map f o)) ≡ false → o ≡ None
     go f None e = refl
-    go f (Some x) e = cc
+    go f _ e = cc
 
 -- and one that owes nothing has none
 pub no_tags : (c : Cache) → ((tag : ℕ) → owed c tag ≡ None) → length (tags c) ≡ 0
 unfolding with_unit
-no_tags c none = go (tags c) used
+no_tags c none = go _ used
   where
     used : (tag : ℕ) → list_any (λ t. t == tag) (tags c) ≡ false
     used tag =
         sym (flat_in_use (with_unit c) tag)
-        ∙ ap (λ (o : Option Form). not (is_none (option_map (filled_by (all_pending (with_unit c).banks)) o))) (none tag)
+        ∙ ap (λ o. not (is_none (option_map (filled_by (all_pending (with_unit c).banks)) o))) (none tag)
 
     go : (ts : List ℕ) → ((tag : ℕ) → list_any (λ t. t == tag) ts ≡ false) → length ts ≡ 0
     go [] h = refl
     go (t ∷ ts) h =
-        absurd (let one : (t == t) ≡ true = eq-eqb t t refl in let all = ap (λ b. b || list_any (λ x. x == t) ts) one
-        in let clash : true ≡ false = sym all ∙ h t in cc)
+        absurd (let one = eq-eqb t t refl in let all = ap (λ b. b || list_any (λ x. x == t) ts) one
+        in let clash = sym all ∙ h t in cc)

@@ -1,6 +1,6 @@
 -- In a run of flat memory that ends with nothing owed, each accepted load has got its value.
 use Rattle.std.proofs.Common.{◌≡◌, ℕ, Bool, true, false, cond, ◌&&◌, ◌||◌, ◌==◌, not, nat_lt, List, [], ◌∷◌, ◌++◌, length, Option, Some}
-use Rattle.std.proofs.Common.{None, is_some, is_none, refl, sym, ap, ap₂, ◌∙◌, subst, ◌⊎◌, inl, inr}
+use Rattle.std.proofs.Common.{None, is_some, is_none, refl, sym, ap, ap₂, ◌∙◌, ◌⊎◌, inl, inr}
 use Rattle.std.specs.Option.{option_and_then}
 use Rattle.flat_model.specs.declared.Word.{Word}
 use Rattle.flat_model.specs.declared.Event.{Event}
@@ -52,7 +52,7 @@ stays tag f (Load t at) Accepted owed may = go (t == tag) refl (tag == t) refl (
     go : (u : Bool) → (t == tag) ≡ u → (v : Bool) → (tag == t) ≡ v → (inside : Bool) → (inside && is_none (f.due t)) ≡ true
         → Takes tag (Load t at) Accepted ⊎ Owes tag f (Load t at) Accepted
     go true e v g inside m =
-        absurd (clash (f.due t) (ap (λ k. is_some (f.due k)) (eqb_true t tag e) ∙ owed) (right inside (is_none (f.due t)) m))
+        absurd (clash (f.due t) (cc (eqb_true t tag e, owed)) (right inside (is_none (f.due t)) m))
       where
         clash : (o : Option Word) → is_some o ≡ true → is_none o ≡ true → ⊥
         clash None a b = cc
@@ -62,7 +62,7 @@ stays tag f (Load t at) Accepted owed may = go (t == tag) refl (tag == t) refl (
         right true b e = e
         right false b e = cc
     go false e true g inside m =
-        let same = eqb_true tag t g in absurd (let back : (t == tag) ≡ true = Rattle.std.proofs.Common.eq-eqb t tag (sym same) in cc)
+        let same = eqb_true tag t g in absurd (let back = Rattle.std.proofs.Common.eq-eqb t tag (sym same) in cc)
     go false e false g inside m =
         inr (record {
           owed = ap (λ b. is_some (cond b (Some (word_at f.mem at)) (f.due tag))) g ∙ owed;
@@ -117,8 +117,8 @@ rests tag f (Load t at) Accepted none may other = go (tag == t) refl
   where
     go : (u : Bool) → (tag == t) ≡ u → Rests tag f (Load t at) Accepted
     go true e =
-        absurd (let same = eqb_true tag t e in let back : (t == tag) ≡ true = Rattle.std.proofs.Common.eq-eqb t tag (sym same)
-        in let clash : true ≡ false = sym back ∙ other in cc)
+        absurd (let same = eqb_true tag t e in let back = Rattle.std.proofs.Common.eq-eqb t tag (sym same)
+        in let clash = sym back ∙ other in cc)
     go false e = record { untaken = refl; owed = ap (λ b. cond b (Some (word_at f.mem at)) (f.due tag)) e ∙ none }
 rests tag f (Load t at) Moved none may other = record { untaken = refl; owed = none }
 rests tag f (Load t at) (Value v w) none may other = record { untaken = refl; owed = none }
@@ -136,7 +136,7 @@ rests tag f (Take place) (Value t w) none may other = go (tag == t) refl
   where
     go : (u : Bool) → (tag == t) ≡ u → Rests tag f (Take place) (Value t w)
     go true e =
-        absurd (let unowed : f.due t ≡ None = ap f.due (sym (eqb_true tag t e)) ∙ none in let clash : true ≡ false = sym may ∙ ap
+        absurd (let unowed = ap f.due (sym (eqb_true tag t e)) ∙ none in let clash = sym may ∙ ap
         (λ o. is_owed o w) unowed in cc)
     go false e = record { untaken = e; owed = ap (λ b. cond b None (f.due tag)) e ∙ none }
 rests tag f (Take place) answer none may other = record { untaken = refl; owed = none }
@@ -160,20 +160,19 @@ untaken_from tag (Step source event answer ∷ rest) f g run none =
 -- a tag whose value is taken is owed nothing behind
 taken_none : (tag : ℕ) (f : Flat) (event : Event) (answer : Answer) → Takes tag event answer → (flat_after f event answer).due tag ≡ None
 taken_none tag f event answer t =
-    ap₂ (λ e a. (flat_after f e a).due tag) t.event_is t.answer_is
-    ∙ ap (λ b. cond b None (f.due tag)) (Rattle.std.proofs.Common.eq-eqb tag tag refl)
+    cc (ap₂ (λ e a. (flat_after f e a).due tag) t.event_is t.answer_is, Rattle.std.proofs.Common.eq-eqb tag tag refl)
 
 owed_taken : (tag : ℕ) (entries : List Entry) (f g : Flat) → flat_run f (events_of entries) (answers_of entries) ≡ Some g
     → g.due tag ≡ None → is_some (f.due tag) ≡ true → IsTaken tag entries
 owed_taken tag [] f g run none owed =
-    let same = ap (λ o. is_some (option_and_then (λ (x : Flat). x.due tag) o)) run in
+    let same = ap (λ o. is_some (option_and_then (λ x. x.due tag) o)) run in
     let never = ap is_some none in
-    absurd (let t : false ≡ true = sym never ∙ sym same ∙ owed in cc)
+    absurd (let t = sym never ∙ sym same ∙ owed in cc)
 owed_taken tag (Ended port ∷ rest) f g run none owed =
     behind tag (Ended port) rest refl (owed_taken tag rest f g run none owed)
 owed_taken tag (Step source event answer ∷ rest) f g run none owed =
     let first = first_of_run f g event answer rest run in
-    Rattle.std.proofs.Common.⊎_elim (λ (t : Takes tag event answer). record {
+    Rattle.std.proofs.Common.⊎_elim (λ t. record {
       before = [];
       rest = rest;
       source = source;
@@ -182,7 +181,7 @@ owed_taken tag (Step source event answer ∷ rest) f g run none owed =
       is = ap₂ (λ e a. Step source e a ∷ rest) t.event_is t.answer_is;
       none_between = refl;
       once = untaken_from tag rest (flat_after f event answer) g first.runs (taken_none tag f event answer t);
-    }) (λ (o : Owes tag f event answer). behind tag (Step source event answer) rest o.none
+    }) (λ o. behind tag (Step source event answer) rest o.none
     (owed_taken tag rest (flat_after f event answer) g first.runs none o.owed)) (stays tag f event answer owed first.may)
 
 accepted_owes : (f : Flat) (tag at : ℕ) → is_some ((flat_after f (Load tag at) Accepted).due tag) ≡ true
@@ -192,7 +191,7 @@ accepted_owes f tag at =
 pub loads_are_taken : (entries : List Entry) (f g : Flat) → flat_run f (events_of entries) (answers_of entries) ≡ Some g
     → ((tag : ℕ) → g.due tag ≡ None) → LoadsAreTaken entries
 loads_are_taken entries f g run none before rest source tag at is =
-    go before f (subst (λ es. flat_run f (events_of es) (answers_of es) ≡ Some g) is run)
+    go before f (rw is at run)
   where
     last : (f : Flat)
         → flat_run f (events_of (Step source (Load tag at) Accepted ∷ rest))

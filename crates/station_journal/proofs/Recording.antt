@@ -8,7 +8,7 @@ use Rattle.flat_model.specs.declared.Cause.{Cause}
 use Rattle.flat_model.specs.declared.Cause.TheVariants.{OutOfRange, NoLanes, TagInUse, RepliesFull, TargetsFull, NoRegister, SetPending}
 use Rattle.flat_model.specs.declared.Cause.TheVariants.{QueueFull, BankFull, NotPresent}
 use Rattle.flat_model.specs.declared.Event.{Event}
-use Rattle.flat_model.specs.declared.Event.TheVariants.{Load, Store, Prefetch, Evict, Drain, Arrive, Process, Take}
+use Rattle.flat_model.specs.declared.Event.TheVariants.{Store, Prefetch, Evict, Drain, Arrive, Process, Take}
 use Rattle.flat_model.specs.declared.Answer.{Answer}
 use Rattle.flat_model.specs.declared.Answer.TheVariants.{Accepted, Moved, Refused}
 use Rattle.flat_model.specs.Words.{has_any}
@@ -108,9 +108,9 @@ module _ (z : Sizes) (c : Cache) where
   unfolding load_cause
   load_cause-decided room tag at =
       let block = block_of z at in
-      let a = not (nat_lt at z.words) in
+      let a = not _ in
       let p = is_present c block in
-      let f = targets_full c (place_in z at) (found c block (place_in z at)) in
+      let f = targets_full c _ _ in
       let n = length (filter (λ r. r.valid) c.registers) == z.regs in
       let s = list_all (is_pending c) (ways_of z block) in
       let q = lacks_places z c (choose z c block) in
@@ -125,10 +125,10 @@ module _ (z : Sizes) (c : Cache) where
   unfolding store_cause
   store_cause-decided room at lanes =
       let block = block_of z at in
-      let a = not (nat_lt at z.words) in
+      let a = not _ in
       let p = is_present c block in
       let n = length (filter (λ r. r.valid) c.registers) == z.regs in
-      let s = list_all (is_pending c) (ways_of z block) in
+      let s = list_all _ (ways_of z block) in
       let q = lacks_places z c (choose z c block) in
       subst (λ u. Decided (store_cause z room c at lanes) (first_cause
       ((a, OutOfRange) ∷ (not (has_any lanes), NoLanes) ∷ cond p []
@@ -140,10 +140,10 @@ module _ (z : Sizes) (c : Cache) where
   unfolding prefetch_cause
   prefetch_cause-decided room at =
       let block = block_of z at in
-      let a = not (nat_lt at z.words) in
+      let a = not _ in
       let p = is_present c block in
       let n = length (filter (λ r. r.valid) c.registers) == z.regs in
-      let s = list_all (is_pending c) (ways_of z block) in
+      let s = list_all _ (ways_of z block) in
       let q = lacks_places z c (choose z c block) in
       subst (λ u. Decided (prefetch_cause z room c at) (first_cause
       ((a, OutOfRange) ∷ cond p [] ((n, NoRegister) ∷ (s, SetPending) ∷ (q, QueueFull) ∷ (u, BankFull) ∷ []))) p)
@@ -182,10 +182,10 @@ module _ (z : Sizes) (brings : Brings) (s : Stand) where
   asked event o o' present d accepts (inl (full, none, absent)) may stands no_arrival is =
       subst (λ x. Recorded z brings s event (unless x s.cache d)) (sym full) (full_recorded event (may absent none))
   asked event o o' present d accepts (inr (same, not_full)) may stands no_arrival is =
-      let not_full' : full_cause o' ≡ false = ap full_cause (sym same) ∙ not_full in
-      let answer : is_full (unless o' s.cache d).answer ≡ false = unless_not_full o' s.cache d not_full' (ap is_full accepts) in
-      subst (Recorded z brings s event) (is ∙ ap (λ x. unless x s.cache d) (sym same))
-      (step_recorded event stands no_arrival (ap (λ (x : Stepped). is_full x.answer) is ∙ answer))
+      let not_full' = ap full_cause (sym same) ∙ not_full in
+      let answer = unless_not_full o' s.cache d not_full' (ap is_full accepts) in
+      subst (Recorded z brings s event) (cc (is, same))
+      (step_recorded event stands no_arrival (cc (is, answer)))
 
   both : (present : Bool) (o : Option Cause) → present ≡ false → o ≡ None → (not present && is_none o) ≡ true
   both present o e f = ap₂ (λ p n. not p && is_none n) e f
@@ -193,11 +193,11 @@ module _ (z : Sizes) (brings : Brings) (s : Stand) where
   pub request_recorded : (room : ℕ → ℕ) (request : Request) → Recorded z brings s (event_of request) (request_step z room s.cache request)
   unfolding load_step store_step prefetch_step
   request_recorded room (requests.Load tag at) =
-      asked (Load tag at) (load_cause z room s.cache tag at) (load_cause z (ample z) s.cache tag at) (is_present s.cache (block_of z at))
+      asked _ _ _ _
       (record {
         answer = Accepted;
         cache =
-            loaded (fetched z s.cache (block_of z at)) tag (place_in z at)
+            loaded _ tag (place_in z at)
             (cell_of (fetched z s.cache (block_of z at)) (block_of z at) (place_in z at)).word
             (found (fetched z s.cache (block_of z at)) (block_of z at) (place_in z at));
         sent = fetches z s.cache (block_of z at);
@@ -220,7 +220,7 @@ module _ (z : Sizes) (brings : Brings) (s : Stand) where
   pub evict_recorded : (block : ℕ) → Recorded z brings s (Evict block) (evict_step z s.cache block)
   unfolding evict_step evict_cause
   evict_recorded block =
-      step_recorded (Evict block) refl (λ arrived answer b. refl)
+      step_recorded _ refl (λ arrived answer b. refl)
       (go (not (nat_lt (Rattle.cache_unit.specs.State.first_of z block) z.words)) (not (is_present s.cache block))
       (lacks_places z s.cache (frame_of s.cache block)))
     where
@@ -240,7 +240,7 @@ module _ (z : Sizes) (brings : Brings) (s : Stand) where
       go [] e =
           subst (λ l. Recorded z brings s Drain (drain_first z (ample z) s.cache l)) e
           (step_recorded Drain refl (λ arrived answer b. refl) (ap (λ l. is_full (drain_first z (ample z) s.cache l).answer) e))
-      go (q ∷ rest) e = by_room (nat_lt 0 (room (q.at % z.banks)))
+      go (q ∷ rest) e = by_room _
         where
           by_room : (t : Bool)
               → Recorded z brings s Drain (cond t (record {
@@ -254,7 +254,7 @@ module _ (z : Sizes) (brings : Brings) (s : Stand) where
               let is : drain_first z (ample z) s.cache s.cache.queue ≡ record {
                 answer = Moved;
                 cache = record s.cache { queue = rest };
-                sent = (q.at % z.banks, Write (q.at / z.banks) q.word q.lanes) ∷ [];
+                sent = (q.at % z.banks, Write _ q.word q.lanes) ∷ [];
               } =
               ap (drain_first z (ample z) s.cache) e
               ∙ ap (λ t. cond t (record {
@@ -264,25 +264,25 @@ module _ (z : Sizes) (brings : Brings) (s : Stand) where
               })
               (record { answer = Refused BankFull; cache = s.cache; sent = [] })) (lt-ltb 0 z.block_words some) in
               subst (Recorded z brings s Drain) is (step_recorded Drain refl (λ arrived answer b. refl)
-              (ap (λ (x : Stepped). is_full x.answer) is))
+              (ap (λ x. is_full x.answer) is))
 
   pub process_recorded : (place : ℕ) → Recorded z brings s (Process place) (process_step s.cache place)
   unfolding process_step
   process_recorded place =
-      step_recorded (Process place) refl (λ arrived answer b. refl) (go (slice_get s.cache.stack place))
+      step_recorded _ refl (λ arrived answer b. refl) (go (slice_get s.cache.stack place))
     where
       go : (o : Option Entry) → is_full (process_entry s.cache place o).answer ≡ false
       go None = refl
-      go (Some e) = refl
+      go _ = refl
 
   pub take_recorded : (place : ℕ) → Recorded z brings s (Take place) (take_step s.cache place)
   unfolding take_step
   take_recorded place =
-      step_recorded (Take place) refl (λ arrived answer b. refl) (go (slice_get s.cache.ready place))
+      step_recorded _ refl (λ arrived answer b. refl) (go (slice_get s.cache.ready place))
     where
       go : (o : Option Reply) → is_full (take_reply s.cache place o).answer ≡ false
       go None = refl
-      go (Some e) = refl
+      go _ = refl
 
 -- ---- a word that has come
 
@@ -298,7 +298,7 @@ pub arrive_recorded : (z : Sizes) (brings : Brings) (s : Stand) (bank : ℕ) (a 
     → brings bank (s.arrived bank) (s.sent bank) ≡ Some a → (arrive_step z s.cache a.slot a.i a.word).answer ≡ Moved
     → Arrived z brings s bank (arrive_step z s.cache a.slot a.i a.word)
 unfolding arrive_step
-arrive_recorded z brings s bank a here brought_is moves = go (arrive_cause z s.cache a.slot a.i) refl moves
+arrive_recorded z brings s bank a here brought_is moves = go _ refl moves
   where
     next : next_word z brings s bank 0 ≡ Some a
     next = ap (λ t. cond (t && true) (brings bank (s.arrived bank) (s.sent bank)) None) (lt-ltb bank z.banks here) ∙ brought_is
@@ -308,11 +308,11 @@ arrive_recorded z brings s bank a here brought_is moves = go (arrive_cause z s.c
         → Arrived z brings s bank (unless o s.cache (moved (arrived s.cache a.slot a.i a.word)))
     go (Some cause) e m = cc
     go None e m =
-        let is : step z brings s (Arrive bank 0) ≡ moved (arrived s.cache a.slot a.i a.word) =
+        let is =
         ap (brought z s.cache) next ∙ ap (λ o. unless o s.cache (moved (arrived s.cache a.slot a.i a.word))) e in
         record {
-          fits = (ap Rattle.std.proofs.Common.is_some next, ap (λ (x : Stepped). x.answer) (sym is));
-          cache = ap (λ (x : Stepped). x.cache) is;
-          sent = λ b. ap (λ (x : Stepped). s.sent b ++ commands_for b x.sent) is ∙ append-nil (s.sent b);
-          arrived = λ b. ap (λ (x : Stepped). arrived_after s.arrived (Arrive bank 0) x.answer b) is;
+          fits = (ap Rattle.std.proofs.Common.is_some next, ap (λ x. x.answer) (sym is));
+          cache = ap (λ x. x.cache) is;
+          sent = λ b. ap (λ x. s.sent b ++ commands_for b x.sent) is ∙ append-nil _;
+          arrived = λ b. ap (λ x. arrived_after s.arrived (Arrive bank 0) x.answer b) is;
         }

@@ -1,21 +1,16 @@
 -- Rooms decide nothing but cause 10.
-use Rattle.std.proofs.Common.{◌≡◌, ℕ, zero, suc, ◌+◌, ◌-◌, ◌*◌, ◌/◌, ◌%◌, ◌<◌, ◌≤◌, Bool, true, false, cond, not, ◌==◌, nat_lt, nat_le}
-use Rattle.std.proofs.Common.{List, [], ◌∷◌, length, refl, ap, arith, le-ltb, lt-ltb, mod-lt}
-use Rattle.std.specs.List.{filter, list_all, range_with_len}
+use Rattle.std.proofs.Common.{◌≡◌, ℕ, zero, suc, ◌+◌, ◌-◌, ◌*◌, ◌%◌, ◌<◌, ◌≤◌, Bool, true, false, cond, ◌==◌, nat_lt}
+use Rattle.std.proofs.Common.{List, [], ◌∷◌, length, refl, ap, arith, le-ltb, lt-ltb}
+use Rattle.std.specs.List.{filter, range_with_len}
 use Rattle.flat_model.specs.declared.Word.{Word}
 use Rattle.flat_model.specs.declared.Lanes.{Lanes}
-use Rattle.flat_model.specs.declared.Cause.TheVariants.{OutOfRange, NoLanes, TagInUse, RepliesFull, TargetsFull, NoRegister, SetPending}
-use Rattle.flat_model.specs.declared.Cause.TheVariants.{QueueFull, BankFull}
-use Rattle.flat_model.specs.declared.Answer.TheVariants.{Accepted, Moved, Refused}
-use Rattle.flat_model.specs.Words.{has_any}
-use Rattle.memory_banks.specs.declared.Command.TheVariants.{Write}
+use Rattle.flat_model.specs.declared.Answer.TheVariants.{Accepted}
 use Rattle.memory_banks.specs.Banks.{Bank, bank_at, room_in}
-use Rattle.write_queue.specs.declared.Queued.{Queued}
 use Rattle.cache_unit.specs.declared.Sizes.{Sizes}
-use Rattle.cache_unit.specs.State.{Cache, is_present, is_pending, block_of, place_in, first_of, tags, cell_of}
-use Rattle.cache_unit.specs.Causes.{first_cause, is_in_use, found, targets_full, ways_of, choose, lacks_places, addresses, lacks_room}
+use Rattle.cache_unit.specs.State.{Cache, block_of, place_in, first_of}
+use Rattle.cache_unit.specs.Causes.{addresses, lacks_room}
 use Rattle.cache_unit.specs.Causes.{load_cause, store_cause, prefetch_cause}
-use Rattle.cache_unit.specs.Steps.{load_step, store_step, prefetch_step, drain_step, drain_first, unless, loaded, written, fetched, fetches}
+use Rattle.cache_unit.specs.Steps.{load_step, store_step, prefetch_step, drain_step, unless, written, fetched, fetches}
 use Rattle.machine_core.proofs.Resting.{spread_evenly, any_false}
 use Rattle.station_journal.specs.Journal.{ample}
 
@@ -38,28 +33,25 @@ range_length a zero = refl
 range_length a (suc n) = let r = range_length (a + 1) n in omega arith
 
 pub ample-suffices : (z : Sizes) → Suffices z (ample z)
-ample-suffices z block = any_false _ 0 z.banks each
+ample-suffices z block = any_false _ 0 _ each
   where
     each : (b : ℕ) → 0 ≤ b → b < 0 + z.banks → nat_lt z.block_words (length (filter (λ at. at % z.banks == b) (addresses z block))) ≡ false
-    each b lo hi =
-        let few = filter_few (λ at. at % z.banks == b) (addresses z block) in
-        let all = range_length (first_of z block) z.block_words in
-        le-ltb z.block_words (length (filter (λ at. at % z.banks == b) (addresses z block))) (omega arith)
+    each b lo hi = grind (arith, filter_few, range_length, z.block_words, le-ltb)
 
 -- the rooms of banks in which nothing waits
 pub idle-suffices : (z : Sizes) (banks : List Bank) → z.block_words ≤ z.bank_queue * z.banks → length banks ≡ z.banks
     → ((b : ℕ) → b < z.banks → (bank_at banks b).queue ≡ []) → Suffices z (room_in z.bank_queue banks)
-idle-suffices z banks takes n idle block = any_false _ 0 z.banks each
+idle-suffices z banks takes n idle block = any_false _ 0 _ each
   where
     each : (b : ℕ) → 0 ≤ b → b < 0 + z.banks
         → nat_lt (room_in z.bank_queue banks b) (length (filter (λ at. at % z.banks == b) (addresses z block))) ≡ false
     each b lo hi =
         let there : b < length banks = omega arith in
         let none = ap length (idle b (omega arith)) in
-        let room : room_in z.bank_queue banks b ≡ z.bank_queue - length (bank_at banks b).queue =
+        let room =
         ap (λ t. cond t (z.bank_queue - length (bank_at banks b).queue) 0) (lt-ltb b (length banks) there) in
-        let few = spread_evenly z.banks b (first_of z block) z.block_words z.bank_queue (omega arith) takes in
-        le-ltb (room_in z.bank_queue banks b) (length (filter (λ at. at % z.banks == b) (addresses z block))) (omega arith)
+        let few = spread_evenly _ b (first_of z block) _ _ (omega arith) takes in
+        le-ltb _ (length (filter (λ at. at % z.banks == b) _)) (omega arith)
 
 -- ---- causes and steps in such rooms are the same
 
@@ -70,45 +62,19 @@ module _ (z : Sizes) (r s : ℕ → ℕ) (c : Cache) where
 
   pub load_cause-alike : (tag at : ℕ) → Alike (block_of z at) → load_cause z r c tag at ≡ load_cause z s c tag at
   unfolding load_cause
-  load_cause-alike tag at e =
-      ap (λ t. first_cause
-      ((not (nat_lt at z.words), OutOfRange) ∷ (is_in_use c tag, TagInUse) ∷ (nat_le z.replies (length (tags c)), RepliesFull) ∷ (cond
-      (is_present c (block_of z at))
-      ((targets_full c (place_in z at) (found c (block_of z at) (place_in z at)), TargetsFull) ∷ [])
-      ((length (filter (λ r. r.valid) c.registers) == z.regs, NoRegister) ∷ (
-        list_all (is_pending c) (ways_of z (block_of z at)),
-        SetPending,
-      ) ∷ (lacks_places z c (choose z c (block_of z at)), QueueFull) ∷ (t, BankFull) ∷ [])))) e
+  load_cause-alike tag at e = grind arith
 
   pub store_cause-alike : (at : ℕ) (lanes : Lanes) → Alike (block_of z at) → store_cause z r c at lanes ≡ store_cause z s c at lanes
   unfolding store_cause
-  store_cause-alike at lanes e =
-      ap (λ t. first_cause
-      ((not (nat_lt at z.words), OutOfRange) ∷ (not (has_any lanes), NoLanes) ∷ (cond (is_present c (block_of z at)) []
-      ((length (filter (λ r. r.valid) c.registers) == z.regs, NoRegister) ∷ (
-        list_all (is_pending c) (ways_of z (block_of z at)),
-        SetPending,
-      ) ∷ (lacks_places z c (choose z c (block_of z at)), QueueFull) ∷ (t, BankFull) ∷ [])))) e
+  store_cause-alike at lanes e = grind arith
 
   pub prefetch_cause-alike : (at : ℕ) → Alike (block_of z at) → prefetch_cause z r c at ≡ prefetch_cause z s c at
   unfolding prefetch_cause
-  prefetch_cause-alike at e =
-      ap (λ t. first_cause
-      ((not (nat_lt at z.words), OutOfRange) ∷ (cond (is_present c (block_of z at)) []
-      ((length (filter (λ r. r.valid) c.registers) == z.regs, NoRegister) ∷ (
-        list_all (is_pending c) (ways_of z (block_of z at)),
-        SetPending,
-      ) ∷ (lacks_places z c (choose z c (block_of z at)), QueueFull) ∷ (t, BankFull) ∷ [])))) e
+  prefetch_cause-alike at e = grind arith
 
   pub load_step-alike : (tag at : ℕ) → Alike (block_of z at) → load_step z r c tag at ≡ load_step z s c tag at
   unfolding load_step
-  load_step-alike tag at e =
-      let d = fetched z c (block_of z at) in
-      ap (λ o. unless o c (record {
-        answer = Accepted;
-        cache = loaded d tag (place_in z at) (cell_of d (block_of z at) (place_in z at)).word (found d (block_of z at) (place_in z at));
-        sent = fetches z c (block_of z at);
-      })) (load_cause-alike tag at e)
+  load_step-alike tag at e = grind (arith, load_cause-alike)
 
   pub store_step-alike : (at : ℕ) (word : Word) (lanes : Lanes) → Alike (block_of z at)
       → store_step z r c at word lanes ≡ store_step z s c at word lanes
@@ -130,14 +96,4 @@ module _ (z : Sizes) (r s : ℕ → ℕ) (c : Cache) where
   -- a drain needs one place at a bank that is there
   pub drain_step-alike : 0 < z.banks → ((b : ℕ) → b < z.banks → nat_lt 0 (r b) ≡ nat_lt 0 (s b)) → drain_step z r c ≡ drain_step z s c
   unfolding drain_step
-  drain_step-alike some e = go c.queue
-    where
-      go : (queue : List Queued) → drain_first z r c queue ≡ drain_first z s c queue
-      go [] = refl
-      go (q ∷ rest) =
-          ap (λ t. cond t (record {
-            answer = Moved;
-            cache = record c { queue = rest };
-            sent = (q.at % z.banks, Write (q.at / z.banks) q.word q.lanes) ∷ [];
-          })
-          (record { answer = Refused BankFull; cache = c; sent = [] })) (e (q.at % z.banks) (mod-lt q.at some))
+  drain_step-alike some e = grind arith

@@ -1,13 +1,11 @@
 -- Banks that serve all that waits at them.
 use Rattle.std.proofs.Common.{◌≡◌, ◌≢◌, ℕ, zero, suc, ◌<◌, ◌≤◌, List, [], ◌∷◌, length, set, Some, refl, sym, ap, ◌∙◌, subst, arith}
-use Rattle.std.proofs.Common.{append-nil, length-set, ◌⊎◌, inl, inr}
-use Rattle.std.proofs.lemmas.Bool.{cases_eq}
+use Rattle.std.proofs.Common.{append-nil, length-set}
 use Rattle.std.proofs.lemmas.List.{get_or-set_same, get_or-set_other}
 use Rattle.flat_model.specs.declared.Event.TheVariants.{Serve}
 use Rattle.flat_model.specs.Flat.{flat_step}
 use Rattle.memory_banks.specs.declared.Command.{Command}
-use Rattle.memory_banks.specs.declared.Command.TheVariants.{Read, Write}
-use Rattle.memory_banks.specs.Banks.{Bank, no_bank, bank_at, after, words_after, pending, served}
+use Rattle.memory_banks.specs.Banks.{Bank, no_bank, bank_at, words_after, pending, served}
 use Rattle.cache_unit.specs.declared.Sizes.{Sizes}
 use Rattle.machine_core.specs.Machine.{Machine, apply, serve_from, flat_of}
 use Rattle.machine_core.proofs.Serving.{served-pending}
@@ -23,23 +21,16 @@ idle-finished b e = go b.words b.queue b.answers e
     go : (words : _) (queue : List Command) (answers : _) → queue ≡ []
         → record { words = words; queue = queue; answers = answers } ≡ finished
         (record { words = words; queue = queue; answers = answers })
-    go words [] answers e = ap (λ l. record { words = words; queue = []; answers = l }) (sym (append-nil answers))
-    go words (x ∷ xs) answers e = cc
+    go words [] answers e = grind (arith, append-nil)
+    go words _ answers e = cc
 
 served-after : (b : Bank) (first : Command) (rest : List Command) → b.queue ≡ first ∷ rest
     → words_after (served b first rest) ≡ words_after b
 unfolding served
-served-after b first rest e = go first ∙ ap (after b.words) (sym e)
-  where
-    go : (c : Command) → after (after b.words (c ∷ [])) rest ≡ after b.words (c ∷ rest)
-    go (Read slot i place) = refl
-    go (Write place word lanes) = refl
+served-after b first rest e = grind arith
 
 served-finished : (b : Bank) (first : Command) (rest : List Command) → b.queue ≡ first ∷ rest → finished (served b first rest) ≡ finished b
-served-finished b first rest e =
-    let words : words_after (served b first rest) ≡ words_after b = served-after b first rest e in
-    let answers : pending (served b first rest) ≡ pending b = served-pending b first rest e in
-    λ i. record { words = words i; queue = []; answers = answers i }
+served-finished b first rest e = grind (arith, served-after, served-pending)
 
 served-queue : (b : Bank) (first : Command) (rest : List Command) → (served b first rest).queue ≡ rest
 unfolding served
@@ -62,18 +53,17 @@ turned m b first rest = record m { banks = set m.banks b (served (bank_at m.bank
 module _ (z : Sizes) (m : Machine) (b : ℕ) (first : Command) (rest : List Command) (h : FlatFrom z m)
     (e : (bank_at m.banks b).queue ≡ first ∷ rest) where
   turn : (apply z m (Serve b)).machine ≡ turned m b first rest
-  turn = ap (λ q. (serve_from m b q).machine) e
+  turn = grind arith
 
   pub turn_from : FlatFrom z (turned m b first rest)
   turn_from = subst (FlatFrom z) turn (flat_from_next z m h (Serve b))
 
   pub turn_flat : flat_of z (turned m b first rest) ≡ flat_of z m
   turn_flat =
-      let step : flat_step (flat_of z m) (Serve b) (serve_from m b (first ∷ rest)).answer ≡ Some
-      (flat_of z (serve_from m b (first ∷ rest)).machine) =
+      let step =
       subst (λ q. flat_step (flat_of z m) (Serve b) (serve_from m b q).answer ≡ Some (flat_of z (serve_from m b q).machine)) e
       (flat_event z m h (Serve b)) in
-      some_same (flat_of z (turned m b first rest)) (flat_of z m) (sym step)
+      some_same _ _ (sym step)
 
 -- the rest is served after the first
 finish_then : (z : Sizes) (m : Machine) (b : ℕ) (first : Command) (rest : List Command) → FlatFrom z m → b < length m.banks
@@ -81,9 +71,9 @@ finish_then : (z : Sizes) (m : Machine) (b : ℕ) (first : Command) (rest : List
 finish_then z m b first rest h there e n done =
     record {
       cache = done.cache;
-      number = done.number ∙ length-set m.banks b bank;
-      here = done.here ∙ ap finished is ∙ served-finished (bank_at m.banks b) first rest e;
-      others = λ k d. done.others k d ∙ get_or-set_other m.banks b k bank no_bank d;
+      number = done.number ∙ length-set _ b bank;
+      here = done.here ∙ ap finished is ∙ served-finished _ first rest e;
+      others = λ k d. done.others k d ∙ get_or-set_other _ b k bank no_bank d;
       flat = done.flat ∙ turn_flat z m b first rest h e;
       from = done.from;
     }
@@ -92,18 +82,17 @@ finish_then z m b first rest h there e n done =
     bank = served (bank_at m.banks b) first rest
 
     is : bank_at (set m.banks b bank) b ≡ bank
-    is = get_or-set_same m.banks b bank no_bank there
+    is = get_or-set_same _ b bank no_bank there
 
 pub finish : (z : Sizes) (m : Machine) (b : ℕ) (queue : List Command) → FlatFrom z m → b < length m.banks
     → (bank_at m.banks b).queue ≡ queue → (n : Machine) × Finished z m b n
-finish z m b [] h there e =
-    (m, record { cache = refl; number = refl; here = idle-finished (bank_at m.banks b) e; others = λ k d. refl; flat = refl; from = h })
+finish z m b [] h there e = grind (arith, idle-finished)
 finish z m b (first ∷ rest) h there e =
-    let bank = served (bank_at m.banks b) first rest in
-    let is : bank_at (set m.banks b bank) b ≡ bank = get_or-set_same m.banks b bank no_bank there in
-    let still : b < length (set m.banks b bank) = subst (λ n. b < n) (sym (length-set m.banks b bank)) there in
-    let queue : (bank_at (set m.banks b bank) b).queue ≡ rest =
-    ap (λ (x : Bank). x.queue) is ∙ served-queue (bank_at m.banks b) first rest in
+    let bank = served _ first rest in
+    let is = get_or-set_same _ b bank no_bank there in
+    let still = subst (λ n. b < n) (sym (length-set m.banks b bank)) there in
+    let queue =
+    ap (λ x. x.queue) is ∙ served-queue _ first rest in
     let done = finish z (turned m b first rest) b rest (turn_from z m b first rest h e) still queue in
     (done.0, finish_then z m b first rest h there e done.0 done.1)
 
@@ -119,27 +108,10 @@ pub record AllFinished (z : Sizes) (m : Machine) (count : ℕ) (n : Machine) : T
 
 one_more : (z : Sizes) (m : Machine) (count : ℕ) (k n : Machine) → AllFinished z m count k → Finished z k count n
     → AllFinished z m (suc count) n
-one_more z m count k n some last =
-    record {
-      cache = last.cache ∙ some.cache;
-      number = last.number ∙ some.number;
-      done = λ b l. each b l (cases_eq b count);
-      left = λ b l. last.others b (λ e. absurd (omega arith)) ∙ some.left b (omega arith);
-      flat = last.flat ∙ some.flat;
-      from = last.from;
-    }
-  where
-    each : (b : ℕ) → b < suc count → (b ≡ count) ⊎ (b ≢ count) → bank_at n.banks b ≡ finished (bank_at m.banks b)
-    each b l (inl e) =
-        ap (λ k. bank_at n.banks k) e
-        ∙ last.here
-        ∙ ap finished (some.left count (omega arith))
-        ∙ ap (λ k. finished (bank_at m.banks k)) (sym e)
-    each b l (inr d) = last.others b d ∙ some.done b (omega arith)
+one_more z m count k n some last = grind arith
 
 pub finish_all : (z : Sizes) (m : Machine) (count : ℕ) → FlatFrom z m → count ≤ length m.banks → (n : Machine) × AllFinished z m count n
-finish_all z m zero h fits =
-    (m, record { cache = refl; number = refl; done = λ b l. absurd (omega arith); left = λ b l. refl; flat = refl; from = h })
+finish_all z m zero h fits = grind arith
 finish_all z m (suc count) h fits =
     let some = finish_all z m count h (omega arith) in
     let last = finish z some.0 count (bank_at some.0.banks count).queue some.1.from (let n = some.1.number in omega arith) refl in

@@ -33,9 +33,8 @@ side_step u v sent sent' popped fault entries entries' source event step answer 
     let done =
     tells_step u.sizes u.cache sent popped entries h' source event step (step u.cache).cache sent' answer (recorded h'.come) refl
     answer_is sent_is in
-    subst (λ (x : UnitState). SideTells x.sizes x.cache sent' popped fault entries') (sym v_is)
-    (subst (λ f. SideTells u.sizes (step u.cache).cache sent' popped f entries') (sym sound)
-    (subst (SideTells u.sizes (step u.cache).cache sent' popped None) (sym entries_is) done))
+    subst (λ x. SideTells x.sizes x.cache sent' popped fault entries') (sym v_is)
+    (rw (sym sound) at (subst (SideTells u.sizes (step u.cache).cache sent' popped None) (sym entries_is) done))
 
 -- one that sends nothing
 pub silent_step : (u v : UnitState) (sent : ℕ → List Command) (popped : ℕ → List BankAnswer) (fault : Option SideFault)
@@ -46,7 +45,7 @@ pub silent_step : (u v : UnitState) (sent : ℕ → List Command) (popped : ℕ 
     → SideTells v.sizes v.cache sent popped fault entries'
 silent_step u v sent popped fault entries entries' source event step answer sound h recorded silent v_is answer_is entries_is =
     side_step u v sent sent popped fault entries entries' source event step answer sound h recorded v_is answer_is
-    (λ b l. sym (ap (λ d. sent b ++ commands_for b d) silent ∙ append-nil (sent b))) entries_is
+    (λ b l. sym (cc (silent, append-nil _))) entries_is
 
 pub side_process : (u v : UnitState) (sent : ℕ → List Command) (popped : ℕ → List BankAnswer) (fault : Option SideFault)
     (entries entries' : List Entry) (place : ℕ) (answer : Answer)

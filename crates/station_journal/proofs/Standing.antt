@@ -54,8 +54,8 @@ pub opening_stands : (z : Sizes) → Stands z (opening_stand z) (opening z (zero
 opening_stands z =
     record {
       cache = refl;
-      number = length-map-range_with_len bank_of 0 z.banks;
-      bank = λ b l. get_or-map-range_with_len bank_of 0 z.banks b b no_bank l (omega arith);
+      number = length-map-range_with_len bank_of 0 _;
+      bank = λ b l. get_or-map-range_with_len bank_of 0 _ b b no_bank l (omega arith);
       few = λ b l. omega arith;
     }
   where
@@ -66,13 +66,7 @@ opening_stands z =
 
 stood-sent : (words : List Word) (commands more : List Command) (taken : ℕ) → taken ≤ length (answers_to words commands)
     → finished (extended (stood words commands taken) more) ≡ stood words (commands ++ more) taken
-stood-sent words commands more taken few =
-    let w : after (after words commands) more ≡ after words (commands ++ more) = sym (after-append words commands more) in
-    let a : drop taken (answers_to words commands) ++ answers_to (after words commands) more ≡ drop taken
-    (answers_to words (commands ++ more)) =
-    sym (drop-append-le taken (answers_to words commands) (answers_to (after words commands) more) few)
-    ∙ ap (drop taken) (sym (answers_to-append words commands more)) in
-    λ i. record { words = w i; queue = []; answers = a i }
+stood-sent words commands more taken few = grind (arith, after-append, drop-append-le, answers_to-append)
 
 -- a stand after a step of the unit in which no word arrives
 abbrev pub moved : Stand → Stepped → Stand
@@ -93,7 +87,7 @@ sent_ok z s m event d h from run = (
   record {
     stands = record {
       cache = all.1.cache;
-      number = all.1.number ∙ all_sent-length m.banks d.sent ∙ h.number;
+      number = all.1.number ∙ all_sent-length _ d.sent ∙ h.number;
       bank = bank;
       few = λ b l.
           let few = h.few b l in
@@ -103,7 +97,7 @@ sent_ok z s m event d h from run = (
           omega arith;
     };
     from = all.1.from;
-    run = run ∙ ap Some (sym all.1.flat);
+    run = grind arith;
   },
 )
   where
@@ -111,7 +105,7 @@ sent_ok z s m event d h from run = (
     then = (joined_with m.banks d).machine
 
     all : (n : Machine) × AllFinished z then (length then.banks) n
-    all = finish_all z then (length then.banks) from (omega arith)
+    all = grind (arith, finish_all, then)
 
     bank : (b : ℕ) → b < z.banks → bank_at all.0.banks b ≡ stood (zeros_in z b) (s.sent b ++ commands_for b d.sent) (s.arrived b)
     bank b l =
@@ -136,7 +130,7 @@ rest_dropped (suc k) [] = refl
 rest_dropped (suc k) (x ∷ xs) = rest_dropped k xs
 
 one_dropped : {X : Type 0} (k : ℕ) (xs : List X) → remove (drop k xs) 0 ≡ drop (k + 1) xs
-one_dropped k xs = let e : suc k ≡ k + 1 = omega arith in rest_dropped k xs ∙ ap (λ n. drop n xs) e
+one_dropped k xs = grind (arith, rest_dropped)
 
 -- one more word of a bank has been taken
 abbrev pub one_taken : Stand → ℕ → Cache → Stand
@@ -149,49 +143,33 @@ pub taken_stands : (z : Sizes) (s : Stand) (m : Machine) (bank : ℕ) (cache cac
 taken_stands z s m bank cache cache' h here some same =
     record {
       cache = same;
-      number = length-set m.banks bank _ ∙ h.number;
+      number = length-set _ bank _ ∙ h.number;
       bank = λ b l. each b l (cases_eq b bank);
       few = λ b l. few b l (cases_eq b bank);
     }
   where
     there : bank < length m.banks
-    there = let n = h.number in omega arith
+    there = grind arith
 
     nil : (b : ℕ) (k : ℕ) → stood (zeros_in z b) (s.sent b) k ≡ stood (zeros_in z b) (s.sent b ++ []) k
-    nil b k = ap (λ commands. stood (zeros_in z b) commands k) (sym (append-nil (s.sent b)))
+    nil b k = grind (arith, append-nil, s.sent)
 
     taken : without_answer (bank_at m.banks bank) 0 ≡ stood (zeros_in z bank) (s.sent bank) (s.arrived bank + 1)
-    taken =
-        ap (λ (x : Bank). without_answer x 0) (h.bank bank here)
-        ∙ ap (λ l. record { words = after (zeros_in z bank) (s.sent bank); queue = []; answers = l })
-        (one_dropped (s.arrived bank) (answers_to (zeros_in z bank) (s.sent bank)))
+    taken = grind (arith, h.bank, s.sent, one_dropped, s.arrived)
 
     each : (b : ℕ) → b < z.banks → (b ≡ bank) ⊎ (b ≢ bank)
         → bank_at (set m.banks bank (without_answer (bank_at m.banks bank) 0)) b ≡ stood (zeros_in z b) (s.sent b ++ [])
         (cond (b == bank) (s.arrived b + 1) (s.arrived b))
     each b l (inl e) =
         ap (bank_at (set m.banks bank (without_answer (bank_at m.banks bank) 0))) e
-        ∙ get_or-set_same m.banks bank (without_answer (bank_at m.banks bank) 0) no_bank there
+        ∙ get_or-set_same _ bank _ no_bank there
         ∙ taken
         ∙ ap (λ k. stood (zeros_in z k) (s.sent k) (s.arrived k + 1)) (sym e)
-        ∙ nil b (s.arrived b + 1)
+        ∙ nil b _
         ∙ ap (λ t. stood (zeros_in z b) (s.sent b ++ []) (cond t (s.arrived b + 1) (s.arrived b))) (sym (eq-eqb b bank e))
-    each b l (inr d) =
-        get_or-set_other m.banks bank b (without_answer (bank_at m.banks bank) 0) no_bank d
-        ∙ h.bank b l
-        ∙ nil b (s.arrived b)
-        ∙ ap (λ t. stood (zeros_in z b) (s.sent b ++ []) (cond t (s.arrived b + 1) (s.arrived b))) (sym (ne_eqb b bank d))
+    each b l (inr d) = grind (arith, get_or-set_other, h.bank, nil, s.sent, s.arrived, ne_eqb)
 
     few : (b : ℕ) → b < z.banks → (b ≡ bank) ⊎ (b ≢ bank)
         → cond (b == bank) (s.arrived b + 1) (s.arrived b) ≤ length (answers_to (zeros_in z b) (s.sent b ++ []))
-    few b l (inl e) =
-        let is = ap (λ t. cond t (s.arrived b + 1) (s.arrived b)) (eq-eqb b bank e) in
-        let more : s.arrived b < length (answers_to (zeros_in z b) (s.sent b)) =
-        subst (λ k. s.arrived k < length (answers_to (zeros_in z k) (s.sent k))) (sym e) some in
-        let same = ap (λ l. length (answers_to (zeros_in z b) l)) (append-nil (s.sent b)) in
-        omega arith
-    few b l (inr d) =
-        let is = ap (λ t. cond t (s.arrived b + 1) (s.arrived b)) (ne_eqb b bank d) in
-        let most = h.few b l in
-        let same = ap (λ l. length (answers_to (zeros_in z b) l)) (append-nil (s.sent b)) in
-        omega arith
+    few b l (inl e) = grind (arith, s.arrived, eq-eqb, s.sent, append-nil)
+    few b l (inr d) = grind (arith, s.arrived, ne_eqb, h.few, append-nil, s.sent)

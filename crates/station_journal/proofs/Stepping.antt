@@ -1,6 +1,6 @@
 -- One event of a journal is the machine's event, and then all banks serve what they were sent.
-use Rattle.std.proofs.Common.{◌≡◌, ℕ, zero, suc, ◌-◌, ◌*◌, ◌<◌, ◌≤◌, Bool, true, false, cond, ◌&&◌, ◌==◌, nat_lt, [], slice_get, Option}
-use Rattle.std.proofs.Common.{Some, None, refl, sym, ap, ◌∙◌, subst, arith, length, lt-ltb}
+use Rattle.std.proofs.Common.{◌≡◌, ℕ, ◌-◌, ◌<◌, Bool, true, false, cond, ◌&&◌, ◌==◌, nat_lt, [], slice_get, Option}
+use Rattle.std.proofs.Common.{Some, None, refl, sym, ap, ◌∙◌, subst, arith}
 use Rattle.std.proofs.lemmas.Bool.{ltb-true}
 use Rattle.std.proofs.lemmas.Option.{slice_get_within}
 use Rattle.flat_model.specs.declared.Cause.{Cause}
@@ -10,7 +10,7 @@ use Rattle.flat_model.specs.declared.Answer.{Answer}
 use Rattle.flat_model.specs.declared.Answer.TheVariants.{Nothing, Refused}
 use Rattle.flat_model.specs.Flat.{flat_step}
 use Rattle.memory_banks.specs.declared.BankAnswer.{BankAnswer}
-use Rattle.memory_banks.specs.Banks.{Bank, bank_at, answers_to, room_in}
+use Rattle.memory_banks.specs.Banks.{bank_at, answers_to, room_in}
 use Rattle.cache_unit.specs.declared.Sizes.{Sizes}
 use Rattle.cache_unit.specs.State.{Cache, block_of}
 use Rattle.cache_unit.specs.Causes.{arrive_cause}
@@ -33,36 +33,23 @@ module _ (z : Sizes) (lawful : IsLawful z) (takes : TakesABlock z) (s : Stand) (
   own = room_in z.bank_queue m.banks
 
   suffices : Suffices z own
-  suffices =
-      idle-suffices z m.banks takes h.number (λ b l. ap (λ (x : Bank). x.queue) (h.bank b l))
+  suffices = grind (arith, idle-suffices)
 
   alike : (block : ℕ) → Rattle.cache_unit.specs.Causes.lacks_room z own block ≡ Rattle.cache_unit.specs.Causes.lacks_room z (ample z) block
   alike block = suffices block ∙ sym (ample-suffices z block)
 
   -- a bank's queue takes a command
   some_queue : 0 < z.bank_queue
-  some_queue = some z.bank_queue takes
-    where
-      some : (n : ℕ) → z.block_words ≤ n * z.banks → 0 < n
-      some zero l = let e : 0 * z.banks ≡ 0 = omega arith in let w = lawful.some_words in absurd (omega arith)
-      some (suc n) l = omega arith
+  some_queue = grind arith
 
   places : (b : ℕ) → b < z.banks → nat_lt 0 (own b) ≡ nat_lt 0 (ample z b)
-  places b l =
-      let there : b < length m.banks = let n = h.number in omega arith in
-      let none = ap (λ (x : Bank). length x.queue) (h.bank b l) in
-      let room : own b ≡ z.bank_queue - length (bank_at m.banks b).queue =
-      ap (λ t. cond t (z.bank_queue - length (bank_at m.banks b).queue) 0) (lt-ltb b (length m.banks) there) in
-      let q = some_queue in
-      lt-ltb 0 (own b) (omega arith) ∙ sym (lt-ltb 0 (ample z b) lawful.some_words)
+  places b l = grind arith
 
   -- a step that the machine's event makes of the unit
   by_step : (event : Event) (d own_step : Stepped) → own_step ≡ d → FlatFrom z (joined_with m.banks own_step).machine
       → flat_step (flat_of z m) event own_step.answer ≡ Some (flat_of z (joined_with m.banks own_step).machine)
       → (n : Machine) × Next z (Rattle.station_journal.proofs.Standing.moved s d) event d.answer m n
-  by_step event d own_step e next run =
-      subst (λ (x : Stepped). (n : Machine) × Next z (Rattle.station_journal.proofs.Standing.moved s x) event x.answer m n) e
-      (sent_ok z s m event own_step h next run)
+  by_step event d own_step e next run = grind (arith, sent_ok)
 
   -- nothing happens
   still : (event : Event) (answer : Answer) → flat_step (flat_of z m) event answer ≡ Some (flat_of z m)
@@ -70,7 +57,7 @@ module _ (z : Sizes) (lawful : IsLawful z) (takes : TakesABlock z) (s : Stand) (
       event answer m n
   still event answer run =
       by_step event (record { answer = answer; cache = s.cache; sent = [] }) (record { answer = answer; cache = m.cache; sent = [] })
-      (ap (λ (c : Cache). record { answer = answer; cache = c; sent = [] }) h.cache) from run
+      (ap (λ c. record { answer = answer; cache = c; sent = [] }) h.cache) from run
 
   -- ---- a word arrives
 
@@ -79,16 +66,13 @@ module _ (z : Sizes) (lawful : IsLawful z) (takes : TakesABlock z) (s : Stand) (
     word = true_word z bank (s.arrived bank) (s.sent bank)
 
     first : slice_get (bank_at m.banks bank).answers 0 ≡ word
-    first =
-        ap (λ (x : Bank). slice_get x.answers 0) (h.bank bank here)
-        ∙ first_dropped (s.arrived bank) (answers_to (zeros_in z bank) (s.sent bank))
+    first = grind (arith, first_dropped)
 
     arriving : (a : BankAnswer)
         → unless (arrive_cause z m.cache a.slot a.i) s.cache (unit_moved (arrived s.cache a.slot a.i a.word)) ≡ arrive_step z s.cache
         a.slot a.i a.word
     unfolding arrive_step
-    arriving a =
-        ap (λ (c : Cache). unless (arrive_cause z c a.slot a.i) s.cache (unit_moved (arrived s.cache a.slot a.i a.word))) h.cache
+    arriving a = grind arith
 
     abbrev Arrived : Stepped → Type 0
     Arrived d = (n : Machine) × Next z (moved_on s (Arrive bank 0) d) (Arrive bank 0) d.answer m n
@@ -120,7 +104,7 @@ module _ (z : Sizes) (lawful : IsLawful z) (takes : TakesABlock z) (s : Stand) (
           record {
             stands =
                 taken_stands z s m bank (arrived s.cache a.slot a.i a.word) (arrived m.cache a.slot a.i a.word) h here some
-                (ap (λ (c : Cache). arrived c a.slot a.i a.word) h.cache);
+                (ap (λ c. arrived c a.slot a.i a.word) h.cache);
             from = next;
             run = run;
           },

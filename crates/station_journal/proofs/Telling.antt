@@ -1,7 +1,7 @@
 -- What a cache side's journal says stays true with each step, and where the banks are at hand it is
 -- true of them.
 use Rattle.std.proofs.Common.{◌≡◌, ◌≢◌, ℕ, zero, suc, ◌+◌, ◌<◌, ◌≤◌, cond, ◌==◌, List, [], ◌∷◌, ◌++◌, length, slice_get, Option, Some, None}
-use Rattle.std.proofs.Common.{refl, sym, ap, ap₂, ◌∙◌, subst, arith, append-nil, length-append, eq-eqb, lt-ltb, ◌⊎◌, inl, inr}
+use Rattle.std.proofs.Common.{refl, sym, ap, ◌∙◌, subst, arith, append-nil, length-append, eq-eqb, lt-ltb, ◌⊎◌, inl, inr}
 use Rattle.std.specs.List.{count_by}
 use Rattle.std.proofs.lemmas.Bool.{cases_eq, ne_eqb}
 use Rattle.flat_model.specs.declared.Event.{Event}
@@ -36,16 +36,7 @@ use Rattle.station_journal.proofs.Walking.{walk_is_flat, fit_as, led_as}
 pub tells_ended : (z : Sizes) (cache : Cache) (sent : ℕ → List Command) (popped : ℕ → List BankAnswer) (fault : Option SideFault)
     (entries : List Entry) (port : ℕ)
     → SideTells z cache sent popped fault entries → SideTells z cache sent popped fault (entries ++ Ended port ∷ [])
-tells_ended z cache sent popped fault entries port h =
-    record {
-      stand = h.stand;
-      come = h.come;
-      walks = walks-append z (come_word h.come) entries (Ended port ∷ []) _ h.stand h.stand h.walks refl;
-      unit = h.unit;
-      commands = h.commands;
-      words = h.words;
-      all = h.all;
-    }
+tells_ended z cache sent popped fault entries port h = grind (arith, h.stand, walks-append, h.walks)
 
 module _ (z : Sizes) (cache : Cache) (sent : ℕ → List Command) (popped : ℕ → List BankAnswer) (entries : List Entry)
     (h : SideTells z cache sent popped None entries) where
@@ -55,26 +46,7 @@ module _ (z : Sizes) (cache : Cache) (sent : ℕ → List Command) (popped : ℕ
       → ((s : Stand) → Recorded z (come_word h.come) s event (step s.cache)) → cache' ≡ (step cache).cache → answer ≡ (step cache).answer
       → ((b : ℕ) → b < z.banks → sent' b ≡ sent b ++ commands_for b (step cache).sent)
       → SideTells z cache' sent' popped None (entries ++ Step source event answer ∷ [])
-  tells_step source event step cache' sent' answer record_of cache_is answer_is sent_is =
-      let s = h.stand in
-      let d = step s.cache in
-      let is : step cache ≡ d = ap step (sym h.unit) in
-      let r = record_of s in
-      let after = after_entry z (come_word h.come) s event (is_full d.answer) in
-      let one : Walks z (come_word h.come) s (Step source event d.answer ∷ []) after = (r.fits, refl) in
-      let told : answer ≡ d.answer = answer_is ∙ ap (λ (x : Stepped). x.answer) is in
-      record {
-        stand = after;
-        come = h.come;
-        walks =
-            subst (λ a. Walks z (come_word h.come) (opening_stand z) (entries ++ Step source event a ∷ []) after) (sym told)
-            (walks-append z (come_word h.come) entries (Step source event d.answer ∷ []) (opening_stand z) s after h.walks one);
-        unit = r.cache ∙ ap (λ (x : Stepped). x.cache) (sym is) ∙ sym cache_is;
-        commands = λ b l.
-            r.sent b ∙ ap₂ (λ xs (x : Stepped). xs ++ commands_for b x.sent) (h.commands b l) (sym is) ∙ sym (sent_is b l);
-        words = λ b l. r.arrived b ∙ h.words b l;
-        all = h.all;
-      }
+  tells_step source event step cache' sent' answer record_of cache_is answer_is sent_is = grind (arith, walks-append)
 
   -- a word that came of a bank
   pub tells_word : (source : Source) (bank : ℕ) (a : BankAnswer) (cache' : Cache) (popped' : ℕ → List BankAnswer) (answer : Answer)
@@ -85,8 +57,8 @@ module _ (z : Sizes) (cache : Cache) (sent : ℕ → List Command) (popped : ℕ
   tells_word source bank a cache' popped' answer here called more others answer_is moves cache_is =
       let s = h.stand in
       let d = arrive_step z s.cache a.slot a.i a.word in
-      let is : arrive_step z cache a.slot a.i a.word ≡ d = ap (λ c. arrive_step z c a.slot a.i a.word) (sym h.unit) in
-      let told : answer ≡ d.answer = answer_is ∙ ap (λ (x : Stepped). x.answer) is in
+      let is = ap (λ c. arrive_step z c a.slot a.i a.word) (sym h.unit) in
+      let told = answer_is ∙ ap (λ x. x.answer) is in
       let r = arrive_recorded z (come_word popped') s bank a here brings (sym told ∙ moves) in
       let after = after_entry z (come_word popped') s (Arrive bank 0) (is_full d.answer) in
       let one : Walks z (come_word popped') s (Step source (Arrive bank 0) d.answer ∷ []) after = (r.fits, refl) in
@@ -100,7 +72,7 @@ module _ (z : Sizes) (cache : Cache) (sent : ℕ → List Command) (popped : ℕ
             subst (λ x. Walks z (come_word popped') (opening_stand z) (entries ++ Step source (Arrive bank 0) x ∷ []) after) (sym told)
             (walks-append z (come_word popped') entries (Step source (Arrive bank 0) d.answer ∷ []) (opening_stand z) s after before
             one);
-        unit = r.cache ∙ ap (λ (x : Stepped). x.cache) (sym is) ∙ sym cache_is;
+        unit = r.cache ∙ ap (λ x. x.cache) (sym is) ∙ sym cache_is;
         commands = λ b l. r.sent b ∙ h.commands b l;
         words = λ b l. r.arrived b ∙ counts b l (cases_eq b bank);
         all = λ b. refl;
@@ -109,7 +81,7 @@ module _ (z : Sizes) (cache : Cache) (sent : ℕ → List Command) (popped : ℕ
       begins : (b : ℕ) → (b ≡ bank) ⊎ (b ≢ bank) → (rest : List BankAnswer) × (h.come b ++ rest ≡ popped' b)
       begins b (inl e) =
           (a ∷ [], ap (λ k. h.come k ++ a ∷ []) e ∙ ap (λ l. l ++ a ∷ []) (sym (h.all bank)) ∙ sym more ∙ ap popped' (sym e))
-      begins b (inr d) = ([], append-nil (h.come b) ∙ sym (h.all b) ∙ sym (others b d))
+      begins b (inr d) = grind (arith, append-nil)
 
       arrived : h.stand.arrived bank ≡ length (popped bank)
       arrived = h.words bank here ∙ ap length (sym (h.all bank))
@@ -121,28 +93,12 @@ module _ (z : Sizes) (cache : Cache) (sent : ℕ → List Command) (popped : ℕ
       last (x ∷ xs) (suc k) e = last xs k (omega arith)
 
       brings : come_word popped' bank (h.stand.arrived bank) (h.stand.sent bank) ≡ Some a
-      brings =
-          let in_reach : h.stand.arrived bank < count_by is_read (h.stand.sent bank) =
-          let e = arrived in subst (λ l. h.stand.arrived bank < count_by is_read l) (sym (h.commands bank here)) (omega arith) in
-          ap (λ t. cond t (slice_get (popped' bank) (h.stand.arrived bank)) None)
-          (lt-ltb (h.stand.arrived bank) (count_by is_read (h.stand.sent bank)) in_reach)
-          ∙ ap (λ l. slice_get l (h.stand.arrived bank)) more
-          ∙ last (popped bank) (h.stand.arrived bank) arrived
+      brings = grind (arith, arrived, lt-ltb, last)
 
       counts : (b : ℕ) → b < z.banks → (b ≡ bank) ⊎ (b ≢ bank)
           → cond (b == bank) (h.stand.arrived b + 1) (h.stand.arrived b) ≡ length (popped' b)
-      counts b l (inl e) =
-          let longer = length-append (popped bank) (a ∷ []) in
-          let one = ap length more in
-          let is : h.stand.arrived bank + 1 ≡ length (popped' bank) = let q = arrived in omega arith in
-          ap (λ t. cond t (h.stand.arrived b + 1) (h.stand.arrived b)) (eq-eqb b bank e)
-          ∙ ap (λ k. h.stand.arrived k + 1) e
-          ∙ is
-          ∙ ap (λ k. length (popped' k)) (sym e)
-      counts b l (inr d) =
-          ap (λ t. cond t (h.stand.arrived b + 1) (h.stand.arrived b)) (ne_eqb b bank d)
-          ∙ h.words b l
-          ∙ ap length (sym (h.all b) ∙ sym (others b d))
+      counts b l (inl e) = grind (arith, length-append, arrived, eq-eqb)
+      counts b l (inr d) = grind (arith, ne_eqb)
 
 -- ---- all banks at hand
 
@@ -157,12 +113,12 @@ module _ (z : Sizes) (lawful : IsLawful z) (takes : TakesABlock z) (cache : Cach
     where
       go : (b ≡ bank) ⊎ (b ≢ bank) → (rest : List BankAnswer) × (h.come b ++ rest ≡ popped b)
       go (inl e) = (all.1.word ∷ [], ap (λ k. h.come k ++ all.1.word ∷ []) e ∙ sym all.1.is_lost.lost ∙ ap popped (sym e))
-      go (inr d) = ([], append-nil (h.come b) ∙ sym (all.1.is_lost.others b d))
+      go (inr d) = grind (arith, append-nil, all.1.is_lost.others)
   come-first (Some (Stray bank slot i)) all b = go (cases_eq b bank)
     where
       go : (b ≡ bank) ⊎ (b ≢ bank) → (rest : List BankAnswer) × (h.come b ++ rest ≡ popped b)
       go (inl e) = (all.1.word ∷ [], ap (λ k. h.come k ++ all.1.word ∷ []) e ∙ sym all.1.is_lost.lost ∙ ap popped (sym e))
-      go (inr d) = ([], append-nil (h.come b) ∙ sym (all.1.is_lost.others b d))
+      go (inr d) = grind (arith, append-nil, all.1.is_lost.others)
 
   come-of : (b : ℕ) → b < z.banks → ComesOf (zeros_in z b) (h.stand.sent b) (h.come b)
   come-of b l =
@@ -184,10 +140,10 @@ module _ (z : Sizes) (lawful : IsLawful z) (takes : TakesABlock z) (cache : Cach
       walks_same z (come_word h.come) (true_word z) entries (opening_stand z) h.stand (come-true z h.come h.stand.sent come-of) h.walks
 
   pub bank_true : IsBankTrue z entries
-  bank_true = fit_as z (true_word z) entries (opening_stand z) h.stand walks_true
+  bank_true = grind (arith, fit_as, walks_true)
 
   pub stands_true : true_stand z entries ≡ h.stand
-  stands_true = led_as z (true_word z) entries (opening_stand z) h.stand walks_true
+  stands_true = grind (arith, led_as, walks_true)
 
   -- so many words as were popped had been asked for, and each was true
   popped-few : (b : ℕ) → b < z.banks → length (popped b) ≤ count_by is_read (sent b)
@@ -207,8 +163,7 @@ module _ (z : Sizes) (lawful : IsLawful z) (takes : TakesABlock z) (cache : Cach
       → true_word z b (h.stand.arrived b) (h.stand.sent b) ≡ Some a
   popped-next b l a e =
       let part = banks b l in
-      let whole : answers_to (zeros_in z b) (h.stand.sent b) ≡ (h.come b ++ a ∷ []) ++ (part.on_its_way ++ answers_to
-      (Rattle.memory_banks.specs.Banks.after (zeros_in z b) part.served) part.left) =
+      let whole =
       ap (answers_to (zeros_in z b)) (h.commands b l ∙ sym part.commands)
       ∙ answers_to-append (zeros_in z b) part.served part.left
       ∙ ap (λ xs. xs ++ answers_to (Rattle.memory_banks.specs.Banks.after (zeros_in z b) part.served) part.left)
@@ -237,8 +192,7 @@ module _ (z : Sizes) (lawful : IsLawful z) (takes : TakesABlock z) (cache : Cach
       go (Some (Stray bank slot i)) all =
           let flat = walk_is_flat z entries h.stand lawful takes walks_true in
           let next = popped-next bank all.0 all.1.word all.1.is_lost.lost in
-          absurd (flat.none_stray bank all.1.word all.0 next (ap
-          (λ c. Rattle.cache_unit.specs.Causes.arrive_cause z c all.1.word.slot all.1.word.i) h.unit ∙ all.1.refused))
+          absurd (flat.none_stray bank all.1.word all.0 next (cc (h.unit, all.1.refused)))
 
 pub side_is_true : SideIsTrue
 side_is_true z cache sent popped fault entries lawful takes h banks = (

@@ -1,7 +1,6 @@
 -- A journal that is true of the banks is a run of flat memory.
 use Rattle.std.proofs.Common.{◌≡◌, ℕ, zero, suc, ◌/◌, ◌%◌, ◌<◌, Bool, true, false, cond, ◌&&◌, List, [], ◌∷◌, length, get_or, Some, None}
 use Rattle.std.proofs.Common.{option_map, refl, sym, ap, ap₂, ◌∙◌, subst, IsTrue, arith, mod-lt, lt-ltb}
-use Rattle.std.specs.Option.{option_and_then}
 use Rattle.std.proofs.Props.{props}
 use Rattle.std.specs.List.{list_all}
 use Rattle.std.proofs.lemmas.List.{length-replicate}
@@ -19,22 +18,22 @@ use Rattle.memory_banks.specs.Banks.{Bank, no_bank, all_pending}
 use Rattle.cache_unit.specs.declared.Sizes.{Sizes}
 use Rattle.cache_unit.specs.State.{Cache}
 use Rattle.cache_unit.specs.Causes.{arrive_cause}
-use Rattle.cache_unit.specs.Steps.{unless, moved, arrived, arrive_step}
+use Rattle.cache_unit.specs.Steps.{arrive_step}
 use Rattle.cache_unit.specs.Views.{is_clean, is_empty}
 use Rattle.cache_unit.specs.Forms.{owed, filled_by}
 use Rattle.machine_core.specs.Law.{IsLawful}
 use Rattle.machine_core.specs.Machine.{Machine, opening, flat_of, settled}
 use Rattle.station_journal.specs.declared.journal.Entry.{Entry}
 use Rattle.station_journal.specs.declared.journal.Entry.TheVariants.{Step, Ended}
-use Rattle.station_journal.specs.Journal.{Stand, Brings, stand_after, AllFit, true_stand, opening_stand, zeros, true_word, next_word}
+use Rattle.station_journal.specs.Journal.{Stand, Brings, stand_after, AllFit, opening_stand, zeros, true_word}
 use Rattle.station_journal.specs.Journal.{brought, step, moved_on, is_full, Fits, after_entry, Walks, events_of, answers_of}
 use Rattle.station_journal.specs.Law.{TakesABlock, IsFlatJournal, JournalIsFlat}
 use Rattle.station_journal.proofs.FlatFrom.{FlatFrom, flat_from_opening, opens_flat}
 use Rattle.station_journal.proofs.Standing.{Stands, Next, opening_stands}
 use Rattle.station_journal.proofs.Stepping.{event_ok}
-use Rattle.station_journal.proofs.Owed.{none_owed, unmapped}
+use Rattle.station_journal.proofs.Owed.{none_owed}
 use Rattle.station_journal.proofs.Paying.{loads_are_taken}
-use Rattle.station_journal.proofs.Refusing.{full_ok, is_full-refused}
+use Rattle.station_journal.proofs.Refusing.{full_ok}
 
 -- where a journal leads
 record Led (z : Sizes) (m : Machine) (entries : List Entry) (e : Stand) (n : Machine) : Type 0 where
@@ -52,7 +51,7 @@ module _ (z : Sizes) (lawful : IsLawful z) (takes : TakesABlock z) where
         record {
           stands = h;
           from = from;
-          run = subst (λ a. flat_step (flat_of z m) event a ≡ Some (flat_of z m)) (sym (is_full-refused answer e)) run;
+          run = grind arith;
         },
       )
   entry_ok s m h from event answer false e fits =
@@ -62,7 +61,7 @@ module _ (z : Sizes) (lawful : IsLawful z) (takes : TakesABlock z) where
   walk_ok : (entries : List Entry) (s e : Stand) (m : Machine) → Stands z s m → FlatFrom z m → Walks z (true_word z) s entries e
       → (n : Machine) × Led z m entries e n
   walk_ok [] s e m h from same =
-      (m, record { stands = subst (λ x. Stands z x m) same h; from = from; runs = refl })
+      (m, record { stands = grind arith; from = from; runs = refl })
   walk_ok (Ended port ∷ rest) s e m h from walk =
       let more = walk_ok rest s e m h from walk in
       (more.0, record { stands = more.1.stands; from = more.1.from; runs = more.1.runs })
@@ -73,7 +72,7 @@ module _ (z : Sizes) (lawful : IsLawful z) (takes : TakesABlock z) where
         record {
           stands = more.1.stands;
           from = more.1.from;
-          runs = ap (option_and_then (λ t. flat_run t (events_of rest) (answers_of rest))) first.1.run ∙ more.1.runs;
+          runs = grind arith;
         },
       )
 
@@ -85,7 +84,7 @@ all_of p d (x ∷ xs) h =
 arrive_answer : (z : Sizes) (c : Cache) (a : BankAnswer) (cause : Cause) → arrive_cause z c a.slot a.i ≡ Some cause
     → (arrive_step z c a.slot a.i a.word).answer ≡ Refused cause
 unfolding arrive_step
-arrive_answer z c a cause e = ap (λ o. (unless o c (moved (arrived c a.slot a.i a.word))).answer) e
+arrive_answer z c a cause e = grind arith
 
 -- entries that all fit lead to where they lead, and the converse
 
@@ -94,20 +93,20 @@ pub walks_as : (z : Sizes) (brings : Brings) (entries : List Entry) (s : Stand) 
 walks_as z brings [] s h = refl
 walks_as z brings (Ended port ∷ rest) s h = walks_as z brings rest s h
 walks_as z brings (Step source event answer ∷ rest) s h =
-    (h.0, walks_as z brings rest (after_entry z brings s event (is_full answer)) h.1)
+    (h.0, walks_as z brings rest _ h.1)
 
 pub fit_as : (z : Sizes) (brings : Brings) (entries : List Entry) (s e : Stand) → Walks z brings s entries e → AllFit z brings s entries
 fit_as z brings [] s e h = tt
 fit_as z brings (Ended port ∷ rest) s e h = fit_as z brings rest s e h
 fit_as z brings (Step source event answer ∷ rest) s e h =
-    (h.0, fit_as z brings rest (after_entry z brings s event (is_full answer)) e h.1)
+    (h.0, fit_as z brings rest _ e h.1)
 
 pub led_as : (z : Sizes) (brings : Brings) (entries : List Entry) (s e : Stand) → Walks z brings s entries e
     → stand_after z brings s entries ≡ e
 led_as z brings [] s e h = h
 led_as z brings (Ended port ∷ rest) s e h = led_as z brings rest s e h
 led_as z brings (Step source event answer ∷ rest) s e h =
-    led_as z brings rest (after_entry z brings s event (is_full answer)) e h.1
+    led_as z brings rest _ e h.1
 
 -- that they fit is so in one way
 fits_prop : (z : Sizes) (brings : Brings) (s : Stand) (event : Event) (answer : Answer) (t : Bool) → IsProp (Fits z brings s event answer t)
@@ -134,13 +133,13 @@ walk_is_flat z entries e lawful takes true_of_banks =
       flat = flat_of z last.0;
       runs = runs;
       owes = owes;
-      owes_no_less = λ tag none. sym (same_owed tag) ∙ unmapped (filled_by (all_pending last.0.banks)) (owed last.0.cache tag) none;
+      owes_no_less = grind arith;
       ends = λ few.
           let none = λ (tag : ℕ). owes tag (none_owed e.cache few tag) in
           record { none_due = none; taken = loads_are_taken entries (flat_opening (zeros z)) (flat_of z last.0) runs none };
       settles = λ clean at l.
           let here = mod-lt at lawful.some_banks in
-          let bank = ap (λ (x : Bank). word_at x.words (at / z.banks)) (last.1.stands.bank (at % z.banks) here) in
+          let bank = ap (λ x. word_at x.words (at / z.banks)) (last.1.stands.bank (at % z.banks) here) in
           sym bank ∙ last.1.from.settles [] (is_settled clean) at l;
       none_stray = λ bank a here word stray. stray_never bank a here word stray;
     }
@@ -158,15 +157,15 @@ walk_is_flat z entries e lawful takes true_of_banks =
         ap (λ f. flat_run f (events_of entries) (answers_of entries)) (sym (opens_flat z lawful (zeros z) fits)) ∙ last.1.runs
 
     same_owed : (tag : ℕ) → owed last.0.cache tag ≡ owed e.cache tag
-    same_owed tag = ap (λ (c : Cache). owed c tag) last.1.stands.cache
+    same_owed tag = ap (λ c. owed c tag) last.1.stands.cache
 
     owes : (tag : ℕ) → owed e.cache tag ≡ None → (flat_of z last.0).due tag ≡ None
     owes tag none = ap (option_map (filled_by (all_pending last.0.banks))) (same_owed tag ∙ none)
 
     idle : list_all (λ (b : Bank). is_empty b.queue) last.0.banks ≡ true
     idle =
-        all_of (λ (b : Bank). is_empty b.queue) no_bank last.0.banks
-        (λ k l. let n = last.1.stands.number in ap (λ (x : Bank). is_empty x.queue) (last.1.stands.bank k (omega arith)))
+        all_of (λ b. is_empty b.queue) no_bank last.0.banks
+        (λ k l. let n = last.1.stands.number in ap (λ x. is_empty x.queue) (last.1.stands.bank k (omega arith)))
 
     is_settled : IsTrue (is_clean e.cache) → settled last.0 ≡ true
     is_settled clean = ap₂ (λ a b. a && b) (ap is_clean last.1.stands.cache ∙ clean) idle
@@ -175,14 +174,13 @@ walk_is_flat z entries e lawful takes true_of_banks =
         → arrive_cause z e.cache a.slot a.i ≡ Some StrayWord → ⊥
     stray_never bank a here word stray =
         let made = event_ok z lawful takes e last.0 last.1.stands last.1.from (Arrive bank 0) in
-        let next : next_word z (true_word z) e bank 0 ≡ Some a =
+        let next =
         ap (λ t. cond (t && true) (true_word z bank (e.arrived bank) (e.sent bank)) None) (lt-ltb bank z.banks here) ∙ word in
-        let answer : (step z (true_word z) e (Arrive bank 0)).answer ≡ Refused StrayWord =
+        let answer =
         ap (λ o. (brought z e.cache o).answer) next ∙ arrive_answer z e.cache a StrayWord stray in
-        let run : flat_step (flat_of z last.0) (Arrive bank 0) (Refused StrayWord) ≡ Some (flat_of z made.0) =
+        let run =
         subst (λ x. flat_step (flat_of z last.0) (Arrive bank 0) x ≡ Some (flat_of z made.0)) answer made.1.run in
         cc
 
 pub journal_is_flat : (z : Sizes) (entries : List Entry) → JournalIsFlat z entries
-journal_is_flat z entries lawful takes fit =
-    walk_is_flat z entries (true_stand z entries) lawful takes (walks_as z (true_word z) entries (opening_stand z) fit)
+journal_is_flat z entries lawful takes fit = grind (arith, walk_is_flat, walks_as)

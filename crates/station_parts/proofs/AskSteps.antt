@@ -1,6 +1,5 @@
 -- What an ask makes of the unit, and what its port is told.
-use Rattle.std.proofs.Common.{◌≡◌, ◌≢◌, ℕ, ◌+◌, ◌-◌, ◌*◌, List, [], ◌∷◌, ◌++◌, Option, Some, None, refl, sym, ap, ◌∙◌, subst, arith}
-use Rattle.std.proofs.Common.{append-nil}
+use Rattle.std.proofs.Common.{◌≡◌, ◌≢◌, ℕ, ◌+◌, ◌*◌, List, [], ◌∷◌, ◌++◌, Option, Some, None, refl, sym, ap, ◌∙◌, subst, arith}
 use Rattle.flat_model.specs.declared.Cause.{Cause}
 use Rattle.flat_model.specs.declared.Event.{Event}
 use Rattle.flat_model.specs.declared.Answer.{Answer}
@@ -23,7 +22,6 @@ use Rattle.station_journal.specs.Journal.{Stand, Brings, come_word}
 use Rattle.station_parts.specs.Asking.{event_for, asked_step}
 use Rattle.station_journal.specs.Parts.{ask_of, verdict, is_verdict, IsVerdict, asks_of, told_of}
 use Rattle.station_parts.specs.Rows.{only}
-use Rattle.station_parts.proofs.Rows.{each_place, only-here, only-there}
 use Rattle.station_journal.specs.Side.{SideTells}
 use Rattle.station_journal.proofs.Recording.{Recorded, request_recorded, evict_recorded}
 use Rattle.station_journal.proofs.Sides.{side_step}
@@ -46,10 +44,10 @@ verdict_unless (Some cause) c d e = refl
 pub asked_verdict : (z : Sizes) (room : ℕ → ℕ) (port : ℕ) (c : Cache) (ask : Ask) → ask ≢ Done
     → IsVerdict (asked_step z room port c ask).answer
 unfolding load_step store_step prefetch_step evict_step
-asked_verdict z room port c (Load tag at) n = verdict_unless _ c _ refl
-asked_verdict z room port c (Store at word lanes) n = verdict_unless _ c _ refl
-asked_verdict z room port c (Prefetch at) n = verdict_unless _ c _ refl
-asked_verdict z room port c (Evict block) n = verdict_unless _ c _ refl
+asked_verdict z room port c (Load tag at) n = grind arith
+asked_verdict z room port c (Store at word lanes) n = grind arith
+asked_verdict z room port c (Prefetch at) n = grind arith
+asked_verdict z room port c (Evict block) n = grind arith
 asked_verdict z room port c Done n = absurd (n refl)
 
 pub side_asked : (u v : UnitState) (sent between sent' : ℕ → List Command) (popped : ℕ → List BankAnswer) (fault : Option SideFault)
@@ -68,13 +66,12 @@ side_asked u v sent between sent' popped fault entries entries' room port ask ev
 pub side_ended : (u : UnitState) (sent : ℕ → List Command) (popped : ℕ → List BankAnswer) (fault : Option SideFault)
     (entries entries' : List Entry) (port : ℕ) → entries' ≡ entries ++ Ended port ∷ [] → SideTells u.sizes u.cache sent popped fault entries
     → SideTells u.sizes u.cache sent popped fault entries'
-side_ended u sent popped fault entries entries' port is h =
-    subst (SideTells u.sizes u.cache sent popped fault) (sym is) (tells_ended u.sizes u.cache sent popped fault entries port h)
+side_ended u sent popped fault entries entries' port is h = grind (arith, u.sizes, u.cache, tells_ended)
 
 -- ---- the ports
 
 ask_back : (port : ℕ) (ask : Ask) → ask ≢ Done → ask_of port (event_for port ask) ≡ ask ∷ []
-ask_back port (Load tag at) n = let e : port * 256 + tag - port * 256 ≡ tag = omega arith in ap (λ t. Load t at ∷ []) e
+ask_back port (Load tag at) n = grind arith
 ask_back port (Store at word lanes) n = refl
 ask_back port (Prefetch at) n = refl
 ask_back port (Evict block) n = refl
@@ -83,23 +80,12 @@ ask_back port Done n = absurd (n refl)
 -- the entry of an ask tells what was popped, and that nothing else was
 pub only_asked : (port : ℕ) (ask : Ask) (event : Event) (answer : Answer) → ask ≢ Done → event ≡ event_for port ask → (p : ℕ)
     → only port (ask ∷ []) p ≡ asks_of p (Step (sources.Ask port) event answer ∷ [])
-only_asked port ask event answer n event_is =
-    each_place (λ p. only port (ask ∷ []) p ≡ asks_of p (Step (sources.Ask port) event answer ∷ [])) port here there
-  where
-    here : only port (ask ∷ []) port ≡ only port (ask_of port event) port ++ []
-    here =
-        only-here port (ask ∷ []) ∙ sym (append-nil (only port (ask_of port event) port) ∙ only-here port (ask_of port event)
-        ∙ ap (ask_of port) event_is ∙ ask_back port ask n)
-
-    there : (p : ℕ) → p ≢ port → only port (ask ∷ []) p ≡ only port (ask_of p event) p ++ []
-    there p ne =
-        only-there port p (ask ∷ []) ne ∙ sym (append-nil (only port (ask_of p event) p) ∙ only-there port p (ask_of p event) ne)
+only_asked port ask event answer n event_is = grind arith
 
 -- and what its port is told, and no other
 pub only_told : (port : ℕ) (event : Event) (answer : Answer) (told : Told) → verdict answer ≡ told ∷ [] → (p : ℕ)
     → only port (told ∷ []) p ≡ told_of p (Step (sources.Ask port) event answer ∷ [])
-only_told port event answer told is p =
-    ap (λ l. only port l p) (sym is) ∙ sym (append-nil (only port (verdict answer) p))
+only_told port event answer told is p = grind arith
 
 pub only_ended : (port p : ℕ) → only port (Done ∷ []) p ≡ asks_of p (Ended port ∷ [])
-only_ended port p = sym (append-nil (only port (Done ∷ []) p))
+only_ended port p = grind arith

@@ -1,7 +1,7 @@
 -- Where all parts are at hand, the cache side's journal is true of the banks, and what follows from it.
-use Rattle.std.proofs.Common.{◌≡◌, ℕ, zero, suc, ◌+◌, ◌*◌, ◌-◌, ◌/◌, ◌<◌, Bool, true, false, cond, nat_lt, List, [], ◌∷◌, ◌++◌, map, length}
+use Rattle.std.proofs.Common.{◌≡◌, ℕ, zero, suc, ◌+◌, ◌*◌, ◌-◌, ◌/◌, ◌<◌, Bool, true, false, cond, List, [], ◌∷◌, ◌++◌, map, length}
 use Rattle.std.proofs.Common.{replicate, position, slice_index_or, Option, Some, None, refl, sym, ap, ap₂, ◌∙◌, ◌≢◌, ◌≤◌, ◌%◌, subst, arith}
-use Rattle.std.proofs.Common.{zero-add, lt-ltb, append-nil, mod-lt, div-add-mod', IsTrue}
+use Rattle.std.proofs.Common.{zero-add, append-nil, mod-lt, div-add-mod', IsTrue}
 use Rattle.std.proofs.Props.{props}
 use Rattle.std.proofs.Math.Logic.{∥∥₁_elim}
 use Rattle.std.specs.List.{range_with_len, position_from}
@@ -16,7 +16,7 @@ use Rattle.rtrb.specs.Ring.{received, known_items}
 use Rattle.rtrb.specs.declared.consumer.Consumer.{Consumer}
 use Rattle.rtrb.specs.declared.AnyItems.{AnyItems}
 use Rattle.flat_model.specs.Words.{zero_word}
-use Rattle.flat_model.specs.Flat.{Flat, word_at}
+use Rattle.flat_model.specs.Flat.{word_at}
 use Rattle.memory_banks.specs.declared.Command.{Command}
 use Rattle.memory_banks.specs.declared.BankAnswer.{BankAnswer}
 use Rattle.memory_banks.specs.Banks.{after, answers_to}
@@ -24,15 +24,13 @@ use Rattle.cache_unit.specs.declared.Sizes.{Sizes}
 use Rattle.cache_unit.specs.State.{Cache, tags}
 use Rattle.cache_unit.specs.Views.{is_clean}
 use Rattle.machine_core.specs.Law.{IsLawful}
-use Rattle.machine_core.proofs.Whole.{lawful}
 use Rattle.station_journal.specs.declared.asks.Ask.{Ask}
 use Rattle.station_journal.specs.declared.asks.Told.{Told}
 use Rattle.station_journal.specs.declared.journal.Entry.{Entry}
 use Rattle.station_journal.specs.declared.journal.SideFault.{SideFault}
-use Rattle.station_journal.specs.Journal.{Stand, opening_stand, true_stand, true_word, zeros, zeros_in, IsBankTrue}
+use Rattle.station_journal.specs.Journal.{opening_stand, true_stand, true_word, zeros, zeros_in, IsBankTrue}
 use Rattle.station_journal.specs.Law.{IsFlatJournal, TakesABlock, IsPaid, IsHeard, IsAnswered, bank_after}
 use Rattle.station_journal.specs.Parts.{asks_of, told_of, IsOfPorts}
-use Rattle.station_journal.specs.Conversation.{Converses}
 use Rattle.station_journal.proofs.FlatFrom.{some_same}
 use Rattle.station_journal.specs.Side.{SideTells, ComesOf}
 use Rattle.station_journal.proofs.Walking.{fit_prop, journal_is_flat}
@@ -41,8 +39,7 @@ use Rattle.station_journal.proofs.Telling.{bank_true, stands_true, never_faulted
 use Rattle.station_parts.specs.declared.port.Port.{Port}
 use Rattle.station_parts.specs.declared.bank.BankSide.{BankSide}
 use Rattle.station_parts.specs.declared.parts.CacheSide.{CacheSide}
-use Rattle.station_parts.specs.Rings.{pops_from}
-use Rattle.station_parts.specs.Ids.{PortId, BankId, port_id, bank_id}
+use Rattle.station_parts.specs.Ids.{port_id, bank_id}
 use Rattle.station_parts.specs.Rows.{sent_at, popped_at, come_to}
 use Rattle.station_parts.specs.Words.{offered, taken, told_in_all, known_tellings, received_by, sent_by, words_of, known_commands}
 use Rattle.station_parts.specs.Words.{commanded, journal_of}
@@ -69,13 +66,13 @@ all_zero n a (suc count) b words = ap₂ (λ x xs. x ∷ xs) (zero_at words (a *
 
 pub zeros_are : (z : Sizes) (b : ℕ) → zeros_in z b ≡ replicate (length (zeros_in z b)) zero_word
 zeros_are z b =
-    let count = (length (zeros z) + z.banks - 1 - b) / z.banks in
-    let is = all_zero z.banks 0 count b z.words in
+    let count = (length _ + z.banks - 1 - b) / z.banks in
+    let is = all_zero _ 0 count b _ in
     is ∙ ap (λ n. replicate n zero_word) (sym (length-replicate count zero_word) ∙ ap length (sym is))
 
 -- as few as others that are as many
 pub few_of : {m n most : ℕ} → m ≡ n → m ≤ most → n ≤ most
-few_of {m} {n} {most} same few = subst (λ k. k ≤ most) same few
+few_of {m} {n} {most} same few = grind arith
 
 -- ---- rows
 
@@ -86,25 +83,21 @@ some_of (x ∷ xs) b h = x
 at_row : {X Y : Type 0} (f : X → Y) (e : Y) (xs : List X) (b : ℕ) (d : X) → b < length xs
     → slice_index_or (map f xs) b e ≡ f (slice_index_or xs b d)
 at_row f e xs b d h =
-    here_before f xs b (slice_index_or xs b d) e h (get_or_default xs b d (slice_index_or xs b d) h)
+    here_before f xs b _ e h (get_or_default xs b d (slice_index_or xs b d) h)
 
 -- what two rows have at a place is the same
 at_both : {X Y Z : Type 0} (f : X → Z) (g : Y → Z) (xs : List X) (ys : List Y) (b : ℕ) (d : X) (e : Y) → map f xs ≡ map g ys
     → b < length xs → f (slice_index_or xs b d) ≡ g (slice_index_or ys b e)
 at_both f g xs ys b d e same h =
-    let there : b < length ys = subst (λ n. b < n) (sym (length-map xs f) ∙ ap length same ∙ length-map ys g) h in
+    let there = subst (λ n. b < n) (sym (length-map xs f) ∙ ap length same ∙ length-map ys g) h in
     sym (at_row f (f (slice_index_or xs b d)) xs b d h) ∙ ap (λ zs. slice_index_or zs b (f (slice_index_or xs b d))) same
-    ∙ at_row g (f (slice_index_or xs b d)) ys b e there
+    ∙ at_row g _ ys b e there
 
 -- no place passes a test
 none_from : {X : Type 0} (p : X → Bool) (k : ℕ) (xs : List X) → position_from p k xs ≡ None → (i : ℕ) (d : X) → i < length xs
     → p (slice_index_or xs i d) ≡ false
 none_from p k [] e i d h = absurd (omega arith)
-none_from p k (x ∷ xs) e zero d h = none_here (p x) e
-  where
-    none_here : (t : Bool) → cond t (Some k) (position_from p (k + 1) xs) ≡ None → t ≡ false
-    none_here true q = cc
-    none_here false q = refl
+none_from p k (x ∷ xs) e zero d h = grind arith
 none_from p k (x ∷ xs) e (suc i) d h = none_from p (k + 1) xs (none_there (p x) e) i d (omega arith)
   where
     none_there : (t : Bool) → cond t (Some k) (position_from p (k + 1) xs) ≡ None → position_from p (k + 1) xs ≡ None
@@ -131,10 +124,7 @@ nothing_behind xs ys e = let both = length-append xs ys in let same = ap length 
 
 empty_if : {X : Type 0} (xs : List X) → holds_item xs ≡ false → xs ≡ []
 empty_if [] e = refl
-empty_if (x ∷ xs) e =
-    let some : nat_lt 0 (length (x ∷ xs)) ≡ true = lt-ltb 0 (length (x ∷ xs)) (omega arith) in
-    let clash : true ≡ false = sym some ∙ e in
-    cc
+empty_if (x ∷ xs) e = grind arith
 
 -- ---- what a cache side knows, once its unit, its sends and the words that came are known
 
@@ -149,11 +139,11 @@ ends_as : (z : Sizes) → IsLawful z → TakesABlock z
     → EndsAs z entries cache sent
 ends_as z law takes cache sent popped fault entries h banks =
     let stands = stands_true z law takes cache sent popped fault entries h banks in
-    let same = ap (λ (s : Stand). s.cache) stands ∙ h.unit in
+    let same = ap (λ s. s.cache) stands ∙ h.unit in
     record {
-      owed = ap (λ c. length (tags c)) same;
+      owed = grind arith;
       clean = ap is_clean same;
-      sent = λ b l. ap (λ (s : Stand). s.sent b) stands ∙ h.commands b l;
+      sent = grind arith;
     }
 
 one_more_time : (q n : ℕ) → (q + 1) * n ≡ q * n + n
@@ -170,36 +160,32 @@ module _ {W B R D : ℕ} (cache : CacheSide W B R D) (ports : List Port) (banks 
   entries = journal_of cache
 
   pub bank_number : length banks ≡ cache.unit.sizes.banks
-  bank_number =
-      sym (length-map banks bank_id) ∙ sym (length-map (map bank_id banks) (λ (x : BankId). x.words)) ∙ ap length one.words
-      ∙ length-map-range_with_len (λ b. length (zeros_in cache.unit.sizes b)) 0 cache.unit.sizes.banks
+  bank_number = grind (arith, length-map, length-map-range_with_len)
 
   pub ask_number : length cache.asks.items ≡ length ports
-  ask_number =
-      sym (length-map cache.asks.items pops_from) ∙ sym (ap length one.asks) ∙ length-map (map port_id ports) (λ (x : PortId). x.asks)
-      ∙ length-map ports port_id
+  ask_number = grind (arith, length-map)
 
   -- each bank has its share of the words
   share : (b : ℕ) (d : BankSide) → b < cache.unit.sizes.banks
       → length (slice_index_or banks b d).words.items ≡ length (zeros_in cache.unit.sizes b)
   share b d l =
-      let in_banks : b < length banks = subst (λ n. b < n) (sym bank_number) l in
-      let in_ids : b < length (map bank_id banks) = subst (λ n. b < n) (sym (length-map banks bank_id)) in_banks in
-      let here = at_row (λ (x : BankId). x.words) 0 (map bank_id banks) b (bank_id d) in_ids
-      ∙ ap (λ (x : BankId). x.words) (at_row bank_id (bank_id d) banks b d in_banks) in
+      let in_banks = subst (λ n. b < n) (sym bank_number) l in
+      let in_ids = subst (λ n. b < n) (sym (length-map banks bank_id)) in_banks in
+      let here = at_row (λ x. x.words) 0 _ b _ in_ids
+      ∙ ap (λ x. x.words) (at_row bank_id (bank_id d) banks b d in_banks) in
       sym here ∙ ap (λ ns. slice_index_or ns b 0) one.words
-      ∙ get_or-map-range_with_len (λ k. length (zeros_in cache.unit.sizes k)) 0 cache.unit.sizes.banks b b 0 l (zero-add b)
+      ∙ get_or-map-range_with_len (λ k. length _) 0 cache.unit.sizes.banks b b 0 l (zero-add b)
 
   comes_of : (b : ℕ) → b < cache.unit.sizes.banks
       → ComesOf (zeros_in cache.unit.sizes b) (sent_at cache.row.lines.items b) (popped_at cache.answers.items b)
   comes_of b l =
       let in_ends : b < length cache.answers.items = let n = cache.ends in omega arith in
-      let in_banks : b < length banks = subst (λ n. b < n) (sym bank_number) l in
+      let in_banks = subst (λ n. b < n) (sym bank_number) l in
       let end = some_of cache.answers.items b in_ends in
       let bank = some_of banks b in_banks in
       let here = slice_index_or banks b bank in
       let its_end = slice_index_or cache.answers.items b end in
-      let zeros_same : replicate (length here.words.items) zero_word ≡ zeros_in cache.unit.sizes b =
+      let zeros_same =
       ap (λ n. replicate n zero_word) (share b bank l) ∙ sym (zeros_are cache.unit.sizes b) in
       record {
         served = received here.commands;
@@ -214,19 +200,19 @@ module _ {W B R D : ℕ} (cache : CacheSide W B R D) (ports : List Port) (banks 
       }
 
   law : IsLawful cache.unit.sizes
-  law = lawful cache.unit.sizes cache.in_range
+  law = grind arith
 
   pub bank_true_here : IsBankTrue cache.unit.sizes (journal_of cache)
   bank_true_here =
       ∥∥₁_elim cache.tells (fit_prop z (true_word z) entries (opening_stand z))
-      (λ h. bank_true z law cache.in_range.enough_commands cache.unit.cache (sent_at cache.row.lines.items)
-      (popped_at cache.answers.items) cache.fault entries h comes_of)
+      (λ h. bank_true z law cache.in_range.enough_commands cache.unit.cache _
+      _ cache.fault entries h comes_of)
 
   pub sound_here : cache.fault ≡ None
   sound_here =
       ∥∥₁_elim cache.tells (hlevel props)
-      (λ h. never_faulted z law cache.in_range.enough_commands cache.unit.cache (sent_at cache.row.lines.items)
-      (popped_at cache.answers.items) cache.fault entries h comes_of)
+      (λ h. never_faulted z law cache.in_range.enough_commands cache.unit.cache _
+      _ cache.fault entries h comes_of)
 
   ends_prop : IsProp (EndsAs cache.unit.sizes (journal_of cache) cache.unit.cache (sent_at cache.row.lines.items))
   ends_prop = hlevel props
@@ -234,28 +220,28 @@ module _ {W B R D : ℕ} (cache : CacheSide W B R D) (ports : List Port) (banks 
   ends_here : EndsAs cache.unit.sizes (journal_of cache) cache.unit.cache (sent_at cache.row.lines.items)
   ends_here =
       ∥∥₁_elim cache.tells ends_prop
-      (λ h. ends_as z law cache.in_range.enough_commands cache.unit.cache (sent_at cache.row.lines.items)
-      (popped_at cache.answers.items) cache.fault entries h comes_of)
+      (λ h. ends_as z law cache.in_range.enough_commands cache.unit.cache _
+      _ cache.fault entries h comes_of)
 
   flat_here : IsFlatJournal cache.unit.sizes (journal_of cache) (true_stand cache.unit.sizes (journal_of cache))
-  flat_here = journal_is_flat z entries law cache.in_range.enough_commands bank_true_here
+  flat_here = grind (arith, journal_is_flat, law, bank_true_here)
 
   pub run_here : IsFlatRun cache.unit.sizes (journal_of cache)
   run_here = record { flat = flat_here.flat; runs = flat_here.runs }
 
   pub sources_here : IsOfPorts (length ports) (journal_of cache)
-  sources_here = subst (λ n. IsOfPorts n (journal_of cache)) ask_number cache.ports.sources
+  sources_here = grind (arith, ask_number)
 
   pub judged_here : AreJudged (journal_of cache)
   judged_here before rest p e =
-      asks_are_judged cache.unit.sizes before rest (length ports) p law cache.in_range.enough_commands
-      (subst (IsBankTrue cache.unit.sizes) e bank_true_here)
-      (subst (IsOfPorts (length ports)) e sources_here)
+      asks_are_judged cache.unit.sizes before rest _ p law cache.in_range.enough_commands
+      (rw e at bank_true_here)
+      (rw e at sources_here)
 
   -- ---- what ports offered and took
 
   ask_there : (p : ℕ) → p < length ports → p < length cache.asks.items
-  ask_there p l = subst (λ n. p < n) (sym ask_number) l
+  ask_there p l = grind (arith, ask_number)
 
   -- a port's asks in the journal, and those that are left in its ring
   asks_and_left : (p : ℕ) (l : p < length ports) (end : Consumer Ask Global AnyItems)
@@ -270,11 +256,12 @@ module _ {W B R D : ℕ} (cache : CacheSide W B R D) (ports : List Port) (banks 
   -- what a port took, and what is left in the ring to it
   taken_and_left : (p : ℕ) (l : p < length ports) (port : Port)
       → taken_by ports p ++ known_tellings (slice_index_or ports p port) ≡ told_of p (journal_of cache)
-  taken_and_left p l port =
-      ap (λ xs. xs ++ known_tellings (slice_index_or ports p port)) (at_row taken [] ports p port l)
-      ∙ sym (at_row told_in_all [] ports p port l)
-      ∙ ap (λ zs. slice_index_or zs p []) seen.told
-      ∙ cache.ports.told p (ask_there p l)
+  taken_and_left p l port = cc (
+    at_row taken [] ports p port l,
+    at_row told_in_all [] ports p port l,
+    seen.told,
+    cache.ports.told p (ask_there p l),
+  )
 
   pub prefixes_here : ArePrefixes (journal_of cache) ports
   prefixes_here =
@@ -302,13 +289,13 @@ module _ {W B R D : ℕ} (cache : CacheSide W B R D) (ports : List Port) (banks 
 
     all_heard : IsAnswered (length ports) (list_in lists) (journal_of cache) (true_stand cache.unit.sizes (journal_of cache)).cache
     all_heard =
-        run_is_answered z entries (length ports) (list_in scripts) (offered_by ports) (list_in lists) law cache.in_range.enough_commands
+        run_is_answered z entries _ _ _ _ law cache.in_range.enough_commands
         bank_true_here sources_here heard
 
     none_told : position (λ p. holds_item (known_tellings p)) ports ≡ None
     none_told =
-        position_from-zero (λ (p : Port). holds_item (known_tellings p)) ports
-        ∙ none_found (λ (p : Port). holds_item (known_tellings p)) 0 ports
+        position_from-zero (λ p. holds_item _) ports
+        ∙ none_found (λ p. holds_item _) 0 ports
         (λ p port l.
         let whole = ap (λ xs. xs ++ known_tellings (slice_index_or ports p port)) (sym (talked.took p l))
         ∙ taken_and_left p l port ∙ sym (all_heard.all_taken p l) in
@@ -362,29 +349,29 @@ module _ {W B R D : ℕ} (cache : CacheSide W B R D) (ports : List Port) (banks 
     found_none None (Some b) c d e = cc
     found_none None None (Some c) d e = cc
     found_none None None None (Some d) e = cc
-    found_none None None None None e = (refl, refl, refl, refl)
+    found_none None None None None e = grind arith
 
     parts : (first_left cache ports banks ≡ None) × (length (tags cache.unit.cache) ≡ 0)
-    parts = clean_parts cache.fault (first_left cache ports banks) (length (tags cache.unit.cache)) clean
+    parts = grind arith
 
     none : (position (λ c. holds_item (known_items c)) cache.asks.items ≡ None) ×
         (position (λ p. holds_item (known_tellings p)) ports ≡ None) × (position (λ b. holds_item (known_commands b)) banks ≡ None) ×
         (position (λ c. holds_item (known_items c)) cache.answers.items ≡ None)
-    none = found_none _ _ _ _ parts.0
+    none = grind arith
 
     pub whole_here : AreWhole (journal_of cache) ports
     whole_here =
         record {
           asks = λ p l.
               let end = some_of cache.asks.items p (ask_there p l) in
-              let empty = empty_if (known_items (slice_index_or cache.asks.items p end))
-              (none_at (λ c. holds_item (known_items c)) cache.asks.items none.0 p end (ask_there p l)) in
+              let empty = empty_if _
+              (none_at (λ c. holds_item _) cache.asks.items none.0 p end (ask_there p l)) in
               sym (append-nil (asks_of p (journal_of cache))) ∙ ap (λ xs. asks_of p (journal_of cache) ++ xs) (sym empty)
               ∙ asks_and_left p l end;
           told = λ p l.
               let port = some_of ports p l in
-              let empty = empty_if (known_tellings (slice_index_or ports p port))
-              (none_at (λ x. holds_item (known_tellings x)) ports none.1 p port l) in
+              let empty = empty_if _
+              (none_at (λ x. holds_item _) ports none.1 p port l) in
               sym (append-nil (taken_by ports p)) ∙ ap (λ xs. taken_by ports p ++ xs) (sym empty) ∙ taken_and_left p l port;
         }
 
@@ -397,14 +384,14 @@ module _ {W B R D : ℕ} (cache : CacheSide W B R D) (ports : List Port) (banks 
     bank_holds : (b : ℕ) → b < cache.unit.sizes.banks
         → words_by banks b ≡ bank_after cache.unit.sizes (true_stand cache.unit.sizes (journal_of cache)) b
     bank_holds b l =
-        let in_banks : b < length banks = subst (λ n. b < n) (sym bank_number) l in
+        let in_banks = subst (λ n. b < n) (sym bank_number) l in
         let bank = some_of banks b in_banks in
         let here = slice_index_or banks b bank in
-        let empty = empty_if (known_commands here) (none_at (λ x. holds_item (known_commands x)) banks none.2 b bank in_banks) in
-        let served : received_by here ≡ sent_at cache.row.lines.items b = sym (append-nil (received_by here))
+        let empty = empty_if _ (none_at (λ x. holds_item _) banks none.2 b bank in_banks) in
+        let served = sym (append-nil (received_by here))
         ∙ ap (λ xs. received_by here ++ xs) (sym empty) ∙ sym (at_row commanded [] banks b bank in_banks)
         ∙ ap (λ xs. slice_index_or xs b []) seen.commands in
-        let zeros_same : replicate (length here.words.items) zero_word ≡ zeros_in cache.unit.sizes b =
+        let zeros_same =
         ap (λ n. replicate n zero_word) (share b bank l) ∙ sym (zeros_are cache.unit.sizes b) in
         at_row words_of [] banks b bank in_banks ∙ here.stored ∙ ap₂ after zeros_same (served ∙ sym (ends_here.sent b l))
 
@@ -415,16 +402,16 @@ module _ {W B R D : ℕ} (cache : CacheSide W B R D) (ports : List Port) (banks 
         let n = cache.unit.sizes.banks in
         let some = cache.in_range.some_banks in
         let b = at % n in
-        let low : b < n = mod-lt at some in
-        let in_banks : b < length banks = subst (λ k. b < k) (sym bank_number) low in
+        let low = mod-lt at some in
+        let in_banks = subst (λ k. b < k) (sym bank_number) low in
         let bank = some_of banks b in_banks in
         let whole = div-add-mod' at n in
-        let next : (at / n + 1) * n ≡ at / n * n + n = one_more_time (at / n) n in
+        let next : (at / n + 1) * n ≡ at / n * n + n = one_more_time _ n in
         let enough : (at / n + 1) * n ≤ cache.unit.sizes.words + n - 1 - b = omega arith in
         let count = length-map-range_with_len (λ k. word_at (zeros cache.unit.sizes) (k * n + b)) 0
         ((length (zeros cache.unit.sizes) + n - 1 - b) / n)
         ∙ ap (λ w. (w + n - 1 - b) / n) (length-replicate cache.unit.sizes.words zero_word) in
-        let long : length (words_by banks b) ≡ (cache.unit.sizes.words + n - 1 - b) / n =
+        let long =
         ap length (at_row words_of [] banks b bank in_banks) ∙ share b bank low ∙ count in
         let most = le-div (at / n + 1) (cache.unit.sizes.words + n - 1 - b) n some enough in
         omega arith
@@ -434,8 +421,8 @@ module _ {W B R D : ℕ} (cache : CacheSide W B R D) (ports : List Port) (banks 
         let n = cache.unit.sizes.banks in
         let b = at % n in
         let settled' = subst IsTrue (sym ends_here.clean) settled in
-        let mem = ap (λ (f : Flat). word_at f.mem at) (some_same flat_here.flat flat (sym flat_here.runs ∙ runs)) in
-        slice_get-get_or (words_by banks b) (at / n) zero_word (word_there at l)
+        let mem = ap (λ f. word_at f.mem at) (some_same flat_here.flat flat (sym flat_here.runs ∙ runs)) in
+        slice_get-get_or _ _ zero_word (word_there at l)
         ∙ ap (λ ws. Some (word_at ws (at / n))) (bank_holds b (mod-lt at cache.in_range.some_banks))
         ∙ ap Some (flat_here.settles settled' at l ∙ mem)
 
@@ -444,14 +431,4 @@ module _ {W B R D : ℕ} (cache : CacheSide W B R D) (ports : List Port) (banks 
 pub conversed_still : (scripts : List (Vec Ask)) (old new : List Port) (lists : List (Vec Told)) → map port_id new ≡ map port_id old
     → map offered new ≡ map offered old → map taken new ≡ map taken old → HaveConversed scripts old lists
     → HaveConversed scripts new lists
-conversed_still scripts old new lists ids offers takes talked =
-    let count : length new ≡ length old = sym (length-map new port_id) ∙ ap length ids ∙ length-map old port_id in
-    record {
-      number = talked.number ∙ sym count;
-      each = λ p l.
-          let there = subst (λ n. p < n) count l in
-          subst (λ o. Converses (list_in scripts p) (slice_index_or o p []) (list_in lists p)) (sym offers) (talked.each p there);
-      took = λ p l.
-          let there = subst (λ n. p < n) count l in
-          ap (λ t. slice_index_or t p []) takes ∙ talked.took p there;
-    }
+conversed_still scripts old new lists ids offers takes talked = grind (arith, length-map)

@@ -1,19 +1,17 @@
 -- Rows of rings that are looked at, one after another.
-use Rattle.std.proofs.Common.{◌≡◌, ◌≢◌, ℕ, ◌+◌, ◌<◌, ◌≤◌, List, [], ◌∷◌, ◌++◌, length, map, take, slice_set, slice_index_or, Option, refl}
-use Rattle.std.proofs.Common.{sym, ap, ap₂, ◌∙◌, subst, arith}
+use Rattle.std.proofs.Common.{◌≡◌, ◌≢◌, ℕ, ◌+◌, ◌<◌, ◌≤◌, List, length, map, take, slice_set, slice_index_or, Option}
+use Rattle.std.proofs.Common.{sym, ap, ◌∙◌, subst, arith}
 use Rattle.std.specs.declared.alloc.Global.{Global}
 use Rattle.rtrb.specs.Ring.{received, sent}
 use Rattle.rtrb.specs.declared.consumer.Consumer.{Consumer}
 use Rattle.rtrb.specs.declared.producer.Producer.{Producer}
 use Rattle.rtrb.specs.declared.AnyItems.{AnyItems}
-use Rattle.memory_banks.specs.declared.Command.{Command}
 use Rattle.memory_banks.specs.declared.BankAnswer.{BankAnswer}
 use Rattle.cache_unit.specs.State.{UnitState}
 use Rattle.station_journal.specs.declared.asks.Ask.{Ask}
 use Rattle.station_journal.specs.declared.asks.Told.{Told}
 use Rattle.station_journal.specs.declared.journal.Entry.{Entry}
 use Rattle.station_journal.specs.declared.journal.SideFault.{SideFault}
-use Rattle.station_journal.specs.Parts.{IsOfPorts}
 use Rattle.station_journal.specs.Side.{SideTells}
 use Rattle.station_parts.specs.declared.row.Line.{Line}
 use Rattle.station_parts.specs.Rings.{pops_from, pushes_to}
@@ -29,88 +27,61 @@ use Rattle.std.proofs.Math.Seq.{take-length}
 pub matched_at : {X Y Z W : Type 0} (f : Y → Z) (g : X → Y) (h : W → Z) (xs : List X) (ys : List W) (i : ℕ) (x : X) (y : W)
     → map f (map g xs) ≡ map h ys → i < length xs → i < length ys → x ≡ slice_index_or xs i x → y ≡ slice_index_or ys i y → f (g x) ≡ h y
 matched_at f g h xs ys i x y e l m at at' =
-    let in_map : i < length (map g xs) = subst (λ n. i < n) (sym (length-map xs g)) l in
-    let here : slice_index_or (map f (map g xs)) i (f (g x)) ≡ f (g x) = get_or-map f (map g xs) i (g x) (f (g x)) in_map
+    let in_map = subst (λ n. i < n) (sym (length-map xs g)) l in
+    let here = get_or-map f (map g xs) i (g x) (f (g x)) in_map
     ∙ ap f (get_or-map g xs i x (g x) l ∙ ap g (sym at)) in
-    let there : slice_index_or (map h ys) i (f (g x)) ≡ h y = get_or-map h ys i y (f (g x)) m ∙ ap h (sym at') in
+    let there = get_or-map h ys i y (f (g x)) m ∙ ap h (sym at') in
     sym here ∙ ap (λ zs. slice_index_or zs i (f (g x))) e ∙ there
 
 -- the rows are as long
 pub as_long : {X Y Z W : Type 0} (f : Y → Z) (g : X → Y) (h : W → Z) (xs : List X) (ys : List W) → map f (map g xs) ≡ map h ys
     → length xs ≡ length ys
-as_long f g h xs ys e = sym (length-map xs g) ∙ sym (length-map (map g xs) f) ∙ ap length e ∙ length-map ys h
+as_long f g h xs ys e = grind (arith, length-map)
 
 -- one place more agrees
 pub seen_more : {X Y Z : Type 0} (f : X → Z) (g : Y → Z) (xs : List X) (ys : List Y) (i : ℕ) (x : X) (y : Y)
     → take i (map f xs) ≡ take i (map g ys) → i < length xs → i < length ys → f x ≡ g y
     → take (i + 1) (map f (slice_set xs i x)) ≡ take (i + 1) (map g (slice_set ys i y))
-seen_more f g xs ys i x y so_far l m here =
-    ap (take (i + 1)) (map-set f xs i x)
-    ∙ take-set_at (map f xs) i (i + 1) (f x) refl (subst (λ n. i < n) (sym (length-map xs f)) l)
-    ∙ ap₂ (λ zs z. zs ++ z ∷ []) so_far here
-    ∙ sym (take-set_at (map g ys) i (i + 1) (g y) refl (subst (λ n. i < n) (sym (length-map ys g)) m))
-    ∙ sym (ap (take (i + 1)) (map-set g ys i y))
+seen_more f g xs ys i x y so_far l m here = grind (arith, map-set, take-set_at, length-map)
 
 -- all places agree
 pub seen_all : {X Y Z : Type 0} (f : X → Z) (g : Y → Z) (xs : List X) (ys : List Y) (n : ℕ) → take n (map f xs) ≡ take n (map g ys)
     → n ≡ length xs → n ≡ length ys → map f xs ≡ map g ys
-seen_all f g xs ys n e l m =
-    let all = subst (λ k. take k (map f xs) ≡ map f xs) (length-map xs f ∙ sym l) (take-length (map f xs)) in
-    let all' = subst (λ k. take k (map g ys) ≡ map g ys) (length-map ys g ∙ sym m) (take-length (map g ys)) in
-    sym all ∙ e ∙ all'
+seen_all f g xs ys n e l m = grind (arith, length-map, take-length)
 
 -- one place has as much or more, and the others have what they had
 pub at_most_more : {X : Type 0} (f : X → ℕ) (before : List ℕ) (xs : List X) (i : ℕ) (x y : X) → i < length xs
     → f (slice_index_or xs i x) ≤ f y → AreAtMost before (map f xs) → AreAtMost before (map f (slice_set xs i y))
 at_most_more f before xs i x y l more h =
-    each_place (λ p. slice_index_or before p 0 ≤ slice_index_or (map f (slice_set xs i y)) p 0) i here there
+    each_place (λ p. slice_index_or before p 0 ≤ slice_index_or _ p 0) i here there
   where
     here : slice_index_or before i 0 ≤ slice_index_or (map f (slice_set xs i y)) i 0
-    here =
-        let was = get_or-map f xs i x 0 l in
-        let now = here_after f xs i y 0 l in
-        let k = h i in
-        omega arith
+    here = grind (arith, get_or-map, here_after)
 
     there : (p : ℕ) → p ≢ i → slice_index_or before p 0 ≤ slice_index_or (map f (slice_set xs i y)) p 0
-    there p ne =
-        let e = there_after f xs i p y 0 ne in
-        let k = h p in
-        omega arith
+    there p ne = grind (arith, there_after)
 
 pub at_most_moved : {X : Type 0} (f : X → ℕ) (before : List ℕ) (xs : List X) (i : ℕ) (x y : X) → i < length xs
     → x ≡ slice_index_or xs i x → f x ≤ f y → AreAtMost before (map f xs) → AreAtMost before (map f (slice_set xs i y))
-at_most_moved f before xs i x y l at more h = at_most_more f before xs i x y l (subst (λ z. f z ≤ f y) at more) h
+at_most_moved f before xs i x y l at more h = grind (arith, at_most_more)
 
 -- ---- what a cache side says of its rings is by what was pushed and popped
 
 pub row_length : {X Y : Type 0} (f : X → Y) (xs ys : List X) → map f ys ≡ map f xs → length ys ≡ length xs
-row_length f xs ys e = sym (length-map ys f) ∙ ap length e ∙ length-map xs f
+row_length f xs ys e = grind (arith, length-map)
 
 module _ (olds news : List Line) (ends ends' : List (Consumer BankAnswer Global AnyItems)) where
   pub tells_looked : (u : UnitState) (fault : Option SideFault) (entries : List Entry) → map sent_over news ≡ map sent_over olds
       → map received ends' ≡ map received ends → SideTells u.sizes u.cache (sent_at olds) (popped_at ends) fault entries
       → SideTells u.sizes u.cache (sent_at news) (popped_at ends') fault entries
-  tells_looked u fault entries sent_same popped_same h =
-      subst (λ (p : List (List BankAnswer)). SideTells u.sizes u.cache (sent_at news) (λ b. slice_index_or p b []) fault entries)
-      (sym popped_same)
-      (subst (λ (s : List (List Command)). SideTells u.sizes u.cache (λ b. slice_index_or s b []) (popped_at ends) fault entries)
-      (sym sent_same) h)
+  tells_looked u fault entries sent_same popped_same h = grind arith
 
   pub counted_looked : map brought_by news ≡ map brought_by olds → map received ends' ≡ map received ends
       → ((b : ℕ) → taken_at olds b ≡ length (popped_at ends b)) → (b : ℕ) → taken_at news b ≡ length (popped_at ends' b)
-  counted_looked brought popped h b =
-      ap (λ ns. slice_index_or ns b 0) brought ∙ h b ∙ sym (ap (λ ps. length (slice_index_or ps b [])) popped)
+  counted_looked brought popped h b = grind arith
 
 pub ports_looked : (asks asks' : List (Consumer Ask Global AnyItems)) (tellings tellings' : List (Producer Told Global AnyItems))
     (entries : List Entry) → map pops_from asks' ≡ map pops_from asks → map pushes_to tellings' ≡ map pushes_to tellings
     → map received asks' ≡ map received asks → map sent tellings' ≡ map sent tellings → PortsTell asks tellings entries
     → PortsTell asks' tellings' entries
-ports_looked asks asks' tellings tellings' entries ring ring' popped pushed h =
-    let n = row_length pops_from asks asks' ring in
-    record {
-      number = row_length pushes_to tellings tellings' ring' ∙ h.number ∙ sym n;
-      asked = λ p l. ap (λ xs. slice_index_or xs p []) popped ∙ h.asked p (subst (λ k. p < k) n l);
-      told = λ p l. ap (λ xs. slice_index_or xs p []) pushed ∙ h.told p (subst (λ k. p < k) n l);
-      sources = subst (λ k. IsOfPorts k entries) (sym n) h.sources;
-    }
+ports_looked asks asks' tellings tellings' entries ring ring' popped pushed h = grind (arith, row_length)

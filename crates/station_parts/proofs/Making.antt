@@ -1,6 +1,6 @@
 -- A station's parts as they are made, one port and one bank after another.
-use Rattle.std.proofs.Common.{◌≡◌, ℕ, zero, suc, ◌+◌, ◌-◌, ◌*◌, ◌/◌, ◌<◌, List, [], ◌∷◌, ◌++◌, map, length, replicate, slice_index_or, refl}
-use Rattle.std.proofs.Common.{sym, ap, ap₂, ◌∙◌, arith, subst, length-append, Bool, true, false, not, cond, Option, Some, None, ◌≤◌}
+use Rattle.std.proofs.Common.{◌≡◌, ℕ, zero, suc, ◌+◌, ◌-◌, ◌/◌, ◌<◌, List, [], ◌∷◌, ◌++◌, map, length, replicate, slice_index_or, refl}
+use Rattle.std.proofs.Common.{sym, ap, ap₂, ◌∙◌, arith, length-append, Bool, true, false, not, cond, Option, Some, None, ◌≤◌}
 use Rattle.std.specs.Option.{option_or}
 use Rattle.std.specs.List.{All, range_with_len}
 use Rattle.std.proofs.lemmas.List.{map-append, length-map, length-replicate}
@@ -8,20 +8,18 @@ use Rattle.std.proofs.lemmas.List.Elements.{All-push, All-head, All-tail, All-we
 use Rattle.std.proofs.lemmas.List.FromFn.{length-map-range_with_len, map-range_with_len_more}
 use Rattle.std.specs.declared.alloc.Global.{Global}
 use Rattle.station_parts.specs.declared.make.TheConstants.{MAX_PORTS, MAX_ENTRIES}
-use Rattle.rtrb.specs.Ring.{IsPair, sent, received, known_free, known_items}
+use Rattle.rtrb.specs.Ring.{IsPair, known_free}
 use Rattle.rtrb.specs.declared.producer.Producer.{Producer}
 use Rattle.rtrb.specs.declared.consumer.Consumer.{Consumer}
 use Rattle.rtrb.specs.declared.AnyItems.{AnyItems}
 use Rattle.flat_model.specs.Words.{zero_word}
 use Rattle.flat_model.specs.declared.Shape.{Shape}
 use Rattle.flat_model.specs.declared.Word.{Word}
-use Rattle.flat_model.specs.Flat.{word_at}
 use Rattle.memory_banks.specs.Banks.{share_of}
 use Rattle.memory_banks.specs.declared.BankAnswer.{BankAnswer}
 use Rattle.flat_model.specs.declared.ShapeField.{ShapeField}
 use Rattle.flat_model.specs.declared.ShapeField.TheVariants.{Ports, Journal}
 use Rattle.flat_model.specs.Ranges.{is_between}
-use Rattle.flat_model.proofs.Ranges.{between}
 use Rattle.cache_unit.specs.declared.Sizes.{Sizes}
 use Rattle.cache_unit.specs.State.{UnitState, opening_cache}
 use Rattle.cache_unit.specs.Sound.{InRange}
@@ -40,10 +38,9 @@ use Rattle.station_parts.specs.Ports.{PortsTell}
 use Rattle.station_parts.specs.declared.parts.CacheSide.{CacheSide}
 use Rattle.station_parts.specs.Station.{AreOneStation, words_by_bank}
 use Rattle.station_parts.specs.Rings.{pushes_to, pops_from}
-use Rattle.station_parts.specs.Ids.{PortId, BankId, line_ring, port_id, bank_id}
+use Rattle.station_parts.specs.Ids.{BankId, line_ring, port_id, bank_id}
 use Rattle.station_parts.specs.New.{bad_field, IsNewPort, IsNewBank, IsNewPopper, IsNewPusher, IsNewLine, IsNewCache, IsNewStation}
 use Rattle.station_parts.specs.New.{AreNewPorts, AreNewBanks}
-use Rattle.station_parts.specs.Segments.{whole_of}
 
 -- the two ends of a ring belong to it
 pub ring_of_pair : {T : Type 0} (p : Producer T Global AnyItems) (c : Consumer T Global AnyItems) → IsPair p c → pops_from c ≡ pushes_to p
@@ -53,12 +50,11 @@ ring_of_pair p c h = cc
 
 pub map_more : {X Y Z : Type 0} (f : Y → Z) (g : X → Y) (xs : List X) (x : X)
     → map f (map g (xs ++ x ∷ [])) ≡ map f (map g xs) ++ f (g x) ∷ []
-map_more f g xs x = ap (map f) (map-append g xs (x ∷ [])) ∙ map-append f (map g xs) (g x ∷ [])
+map_more f g xs x = grind (arith, map-append)
 
 matched_more : {X Y Z W : Type 0} (f : Y → Z) (g : X → Y) (h : W → Z) (xs : List X) (ys : List W) (x : X) (y : W)
     → map f (map g xs) ≡ map h ys → f (g x) ≡ h y → map f (map g (xs ++ x ∷ [])) ≡ map h (ys ++ y ∷ [])
-matched_more f g h xs ys x y so_far e =
-    map_more f g xs x ∙ ap₂ (λ l z. l ++ z ∷ []) so_far e ∙ sym (map-append h ys (y ∷ []))
+matched_more f g h xs ys x y so_far e = grind (arith, map_more, map-append)
 
 -- ---- a port
 
@@ -68,9 +64,9 @@ pub one_more_port : (ports : List Port) (asks : List (Consumer Ask Global AnyIte
     → AreNewPorts (ports ++ p ∷ []) (asks ++ a ∷ []) (tellings ++ t ∷ [])
 one_more_port ports asks tellings p a t h asks_pair told_pair port popper pusher =
     record {
-      ask_rings = matched_more (λ (x : PortId). x.asks) port_id pops_from ports asks p a h.ask_rings
+      ask_rings = matched_more (λ x. x.asks) port_id pops_from ports asks p a h.ask_rings
           (sym (ring_of_pair p.asks a asks_pair));
-      told_rings = matched_more (λ (x : PortId). x.told) port_id pushes_to ports tellings p t h.told_rings
+      told_rings = matched_more (λ x. x.told) port_id pushes_to ports tellings p t h.told_rings
           (ring_of_pair t p.tellings told_pair);
       each_port = All-push IsNewPort ports p h.each_port port;
       each_asks = All-push IsNewPopper asks a h.each_asks popper;
@@ -80,9 +76,7 @@ one_more_port ports asks tellings p a t h asks_pair told_pair port popper pusher
 -- ---- a bank
 
 pub share_count : (s : Shape) (b : ℕ) → length (share_of (replicate s.words zero_word) s.banks b) ≡ (s.words + s.banks - 1 - b) / s.banks
-share_count s b =
-    length-map-range_with_len (λ k. word_at (replicate s.words zero_word) (k * s.banks + b)) 0 _
-    ∙ ap (λ n. (n + s.banks - 1 - b) / s.banks) (length-replicate s.words zero_word)
+share_count s b = grind (arith, length-map-range_with_len, length-replicate, s.words)
 
 pub one_more_bank : (s : Shape) (banks : List BankSide) (lines : List Line) (answers : List (Consumer BankAnswer Global AnyItems))
     (b : BankSide) (l : Line) (a : Consumer BankAnswer Global AnyItems) → AreNewBanks s banks lines answers → IsPair l.ring b.commands
@@ -91,9 +85,9 @@ pub one_more_bank : (s : Shape) (banks : List BankSide) (lines : List Line) (ans
     → AreNewBanks s (banks ++ b ∷ []) (lines ++ l ∷ []) (answers ++ a ∷ [])
 one_more_bank s banks lines answers b l a h command_pair answer_pair bank line popper count =
     record {
-      command_rings = matched_more (λ (x : BankId). x.commands) bank_id line_ring banks lines b l h.command_rings
+      command_rings = matched_more (λ x. x.commands) bank_id line_ring banks lines b l h.command_rings
           (ring_of_pair l.ring b.commands command_pair);
-      answer_rings = matched_more (λ (x : BankId). x.answers) bank_id pops_from banks answers b a h.answer_rings
+      answer_rings = matched_more (λ x. x.answers) bank_id pops_from banks answers b a h.answer_rings
           (sym (ring_of_pair b.answers a answer_pair));
       words = words;
       each_bank = All-push (IsNewBank s.bank_queue) banks b h.each_bank bank;
@@ -106,20 +100,19 @@ one_more_bank s banks lines answers b l a h command_pair answer_pair bank line p
 
     words : map (λ (x : BankId). x.words) (map bank_id (banks ++ b ∷ [])) ≡ map shares (range_with_len 0 (length (banks ++ b ∷ [])))
     words =
-        map_more (λ (x : BankId). x.words) bank_id banks b
+        map_more (λ x. x.words) bank_id banks b
         ∙ ap₂ (λ ws n. ws ++ n ∷ []) h.words (count ∙ sym (share_count s (length banks)))
         ∙ sym (map-range_with_len_more shares 0 (length banks) (length banks) (omega arith))
         ∙ ap (λ n. map shares (range_with_len 0 n)) (sym (length-append banks (b ∷ [])))
 
 pub zero_words : (ws : List Word) (n : ℕ) → ws ≡ replicate n zero_word → ws ≡ replicate (length ws) zero_word
-zero_words ws n e = e ∙ ap (λ k. replicate k zero_word) (sym (ap length e ∙ length-replicate n zero_word))
+zero_words ws n e = grind (arith, length-replicate)
 
 -- ---- the cache side
 
 lengths_match : {X Y Z W : Type 0} (f : Y → Z) (g : X → Y) (h : W → Z) (xs : List X) (ys : List W) → map f (map g xs) ≡ map h ys
     → length ys ≡ length xs
-lengths_match f g h xs ys e =
-    sym (length-map ys h) ∙ ap length (sym e) ∙ length-map (map g xs) f ∙ length-map xs g
+lengths_match f g h xs ys e = grind (arith, length-map)
 
 -- what each element has, or would have
 at_all : {X Y : Type 0} (f : X → Y) (d : Y) (xs : List X) (p : ℕ) → All (λ x. f x ≡ d) xs → slice_index_or (map f xs) p d ≡ d
@@ -139,51 +132,47 @@ module _ (s : Shape) (z : Sizes) (count : ℕ) (ports : List Port) (asks : List 
     (answers : List (Consumer BankAnswer Global AnyItems)) (new : AreNewPorts ports asks tellings) (number : length ports ≡ count)
     (made : AreNewBanks s banks lines answers) (bank_number : length banks ≡ z.banks) where
   pub asks_number : length asks ≡ count
-  asks_number = lengths_match (λ (x : PortId). x.asks) port_id pops_from ports asks new.ask_rings ∙ number
+  asks_number = grind (arith, lengths_match)
 
   pub tellings_number : length tellings ≡ count
-  tellings_number = lengths_match (λ (x : PortId). x.told) port_id pushes_to ports tellings new.told_rings ∙ number
+  tellings_number = grind (arith, lengths_match)
 
   pub lines_number : length lines ≡ z.banks
-  lines_number =
-      lengths_match (λ (x : BankId). x.commands) bank_id line_ring banks lines made.command_rings ∙ bank_number
+  lines_number = grind (arith, lengths_match)
 
   pub answers_number : length answers ≡ z.banks
-  answers_number =
-      lengths_match (λ (x : BankId). x.answers) bank_id pops_from banks answers made.answer_rings ∙ bank_number
+  answers_number = grind (arith, lengths_match)
 
   pub none_asked : (p : ℕ) → received_at asks p ≡ []
-  none_asked p = at_all received [] asks p (All-weaker IsNewPopper _ (λ x h. h.0) asks new.each_asks)
+  none_asked p = grind (arith, at_all)
 
   pub none_known_asked : (p : ℕ) → known_at asks p ≡ []
-  none_known_asked p = at_all known_items [] asks p (All-weaker IsNewPopper _ (λ x h. h.1) asks new.each_asks)
+  none_known_asked p = grind (arith, at_all)
 
   pub none_told : (p : ℕ) → pushed_at tellings p ≡ []
-  none_told p = at_all sent [] tellings p (All-weaker (IsNewPusher TELLING_PLACES) _ (λ x h. h.0) tellings new.each_tellings)
+  none_told p = grind (arith, at_all)
 
   pub free_tellings : (p : ℕ) → p < count → room_at tellings p ≡ TELLING_PLACES
   free_tellings p l =
-      at_each known_free TELLING_PLACES 0 tellings p (subst (λ n. p < n) (sym tellings_number) l)
+      at_each known_free TELLING_PLACES 0 tellings p (rw (sym tellings_number) at l)
       (All-weaker (IsNewPusher TELLING_PLACES) _ (λ x h. h.1) tellings new.each_tellings)
 
   pub none_sent : (b : ℕ) → sent_at lines b ≡ []
-  none_sent b =
-      at_all (λ (x : Line). sent x.ring) [] lines b (All-weaker (IsNewLine s.bank_queue) _ (λ x h. h.ring.0) lines made.each_line)
+  none_sent b = grind (arith, at_all)
 
   pub free_commands : (b : ℕ) → b < z.banks → free_at lines b ≡ s.bank_queue
   free_commands b l =
-      at_each (λ (x : Line). known_free x.ring) s.bank_queue 0 lines b (subst (λ n. b < n) (sym lines_number) l)
+      at_each (λ x. known_free x.ring) s.bank_queue 0 lines b (rw (sym lines_number) at l)
       (All-weaker (IsNewLine s.bank_queue) _ (λ x h. h.ring.1) lines made.each_line)
 
   none_taken : (b : ℕ) → taken_at lines b ≡ 0
-  none_taken b =
-      at_all (λ (x : Line). x.taken) 0 lines b (All-weaker (IsNewLine s.bank_queue) _ (λ x h. h.taken) lines made.each_line)
+  none_taken b = grind (arith, at_all)
 
   pub none_popped : (b : ℕ) → popped_at answers b ≡ []
-  none_popped b = at_all received [] answers b (All-weaker IsNewPopper _ (λ x h. h.0) answers made.each_answers)
+  none_popped b = grind (arith, at_all)
 
   pub none_known_popped : (b : ℕ) → known_at answers b ≡ []
-  none_known_popped b = at_all known_items [] answers b (All-weaker IsNewPopper _ (λ x h. h.1) answers made.each_answers)
+  none_known_popped b = grind (arith, at_all)
 
   pub new_counted : (b : ℕ) → taken_at lines b ≡ length (popped_at answers b)
   new_counted b = none_taken b ∙ sym (ap length (none_popped b))
@@ -205,8 +194,7 @@ module _ (s : Shape) (z : Sizes) (count : ℕ) (ports : List Port) (asks : List 
           }
 
   pub new_ports : PortsTell asks tellings []
-  new_ports =
-      record { number = tellings_number ∙ sym asks_number; asked = λ p l. none_asked p; told = λ p l. none_told p; sources = refl }
+  new_ports = grind (arith, tellings_number, asks_number, none_asked, none_told)
 
   module _ {W B R D : ℕ} (c : CacheSide W B R D) (entries : ℕ) (words_same : s.words ≡ z.words) (banks_same : s.banks ≡ z.banks)
       (queue_same : s.bank_queue ≡ z.bank_queue) (asks_is : c.asks.items ≡ asks) (tellings_is : c.tellings.items ≡ tellings)
@@ -215,29 +203,19 @@ module _ (s : Shape) (z : Sizes) (count : ℕ) (ports : List Port) (asks : List 
       (empty : c.journal.items ≡ []) (limit_is : c.limit ≡ entries)
       (sound : c.fault ≡ None) where
     shares : map (λ (b : BankId). b.words) (map bank_id banks) ≡ words_by_bank z
-    shares =
-        made.words
-        ∙ ap (λ n. map (λ b. length (share_of (replicate s.words zero_word) s.banks b)) (range_with_len 0 n)) bank_number
-        ∙ ap₂ (λ w n. map (λ b. length (share_of (replicate w zero_word) n b)) (range_with_len 0 z.banks)) words_same banks_same
+    shares = grind arith
 
     one : AreOneStation c ports banks
-    one =
-        record {
-          asks = new.ask_rings ∙ sym (ap (map pops_from) asks_is);
-          told = new.told_rings ∙ sym (ap (map pushes_to) tellings_is);
-          commands = made.command_rings ∙ sym (ap (map line_ring) lines_is);
-          answers = made.answer_rings ∙ sym (ap (map pops_from) answers_is);
-          words = shares ∙ sym (ap (λ (u : UnitState). words_by_bank u.sizes) unit_is);
-        }
+    one = grind arith
 
     new_cache : IsNewCache z count entries c
     new_cache =
         record {
-          journal = ap₂ (λ vs xs. whole_of vs ++ xs) first empty;
+          journal = grind arith;
           limit = limit_is;
           fault = sound;
-          sizes = ap (λ (u : UnitState). u.sizes) unit_is;
-          cache = ap (λ (u : UnitState). u.cache) unit_is;
+          sizes = grind arith;
+          cache = grind arith;
           ports = ap length asks_is ∙ asks_number;
           asked = λ p. ap (λ xs. received_at xs p) asks_is ∙ none_asked p;
           told = λ p. ap (λ xs. pushed_at xs p) tellings_is ∙ none_told p;
@@ -250,15 +228,7 @@ module _ (s : Shape) (z : Sizes) (count : ℕ) (ports : List Port) (asks : List 
         }
 
     pub new_station : IsNewStation z count entries c ports banks
-    new_station =
-        record {
-          one = one;
-          number = number;
-          bank_number = bank_number;
-          cache = new_cache;
-          ports = new.each_port;
-          banks = subst (λ n. All (IsNewBank n) banks) queue_same made.each_bank;
-        }
+    new_station = grind (arith, one, new_cache)
 
 -- ---- the limits
 
@@ -270,7 +240,7 @@ pub record AreInRange (z : Sizes) (ports journal : ℕ) : Type 0 where
   pub few_entries : journal ≤ MAX_ENTRIES
 
 pub are_in_range : (z : Sizes) (ports journal : ℕ) → bad_field z ports journal ≡ None → AreInRange z ports journal
-are_in_range z ports journal e = go (limits.bad_field z) refl (is_between ports 1 MAX_PORTS) refl (is_between journal 1 MAX_ENTRIES) refl e
+are_in_range z ports journal e = go _ refl _ refl _ refl e
   where
     go : (o : Option ShapeField) → limits.bad_field z ≡ o → (p : Bool) → is_between ports 1 MAX_PORTS ≡ p → (j : Bool)
         → is_between journal 1 MAX_ENTRIES ≡ j → option_or o (cond (not p) (Some Ports) (cond (not j) (Some Journal) None)) ≡ None
@@ -278,10 +248,4 @@ are_in_range z ports journal e = go (limits.bad_field z) refl (is_between ports 
     go (Some field) u p q j r h = cc
     go None u false q j r h = cc
     go None u true q false r h = cc
-    go None u true q true r h =
-        record {
-          unit = u;
-          range = in_range z u;
-          few_ports = (between ports 1 MAX_PORTS q).1;
-          few_entries = (between journal 1 MAX_ENTRIES r).1;
-        }
+    go None u true q true r h = grind (arith, in_range)

@@ -1,5 +1,5 @@
 -- One more entry, as the ports see it.
-use Rattle.std.proofs.Common.{◌≡◌, ℕ, ◌+◌, ◌<◌, ◌≤◌, Bool, true, ◌&&◌, List, [], ◌∷◌, ◌++◌, length, map, refl, sym, ap, ap₂, ◌∙◌, subst}
+use Rattle.std.proofs.Common.{◌≡◌, ℕ, ◌+◌, ◌≤◌, Bool, true, ◌&&◌, List, [], ◌∷◌, ◌++◌, length, map, refl, sym, ap, ap₂, ◌∙◌}
 use Rattle.std.proofs.Common.{arith, append-nil, append_assoc, length-append}
 use Rattle.std.specs.List.{list_all}
 use Rattle.std.proofs.lemmas.List.Folds.{list_all-append}
@@ -23,12 +23,12 @@ use Rattle.station_parts.proofs.Rows.{same_length}
 
 -- the entries that are noted stand behind those that were handed out
 pub behind : (before held held' one : List Entry) → held' ≡ held ++ one → before ++ held' ≡ (before ++ held) ++ one
-behind before held held' one is = ap (λ xs. before ++ xs) is ∙ sym (append_assoc before held one)
+behind before held held' one is = cc (is, append_assoc before held one)
 
 -- and are so few
 pub within_all : (before held : List Entry) (handed limit : ℕ) → handed ≡ length before → length held ≤ limit
     → length (before ++ held) ≤ handed + limit
-within_all before held handed limit is within = let l = length-append before held in omega arith
+within_all before held handed limit is within = grind (arith, length-append)
 
 -- entries that tell what was popped of the ports' asks, and what the ports were told
 pub ports_step : (asks asks' : List (Consumer Ask Global AnyItems)) (tellings tellings' : List (Producer Told Global AnyItems))
@@ -43,16 +43,16 @@ pub ports_step : (asks asks' : List (Consumer Ask Global AnyItems)) (tellings te
     → PortsTell asks' tellings' entries'
 ports_step asks asks' tellings tellings' entries entries' one rings rings' h sourced popped pushed is =
     let number = same_length pops_from asks asks' rings in
-    let all = list_all-append (is_entry_of (length asks)) entries one ∙ ap₂ (λ a b. a && b) h.sources sourced in
+    let all = list_all-append _ entries one ∙ ap₂ (λ a b. a && b) h.sources sourced in
     record {
       number = same_length pushes_to tellings tellings' rings' ∙ h.number ∙ sym number;
       asked = λ p l.
-          popped p ∙ ap (λ xs. xs ++ asks_of p one) (h.asked p (subst (λ n. p < n) number l)) ∙ sym (asks_of-append p entries one)
+          popped p ∙ ap (λ xs. xs ++ asks_of p one) (h.asked p (rw number at l)) ∙ sym (asks_of-append p entries one)
           ∙ ap (asks_of p) (sym is);
       told = λ p l.
-          pushed p ∙ ap (λ xs. xs ++ told_of p one) (h.told p (subst (λ n. p < n) number l)) ∙ sym (told_of-append p entries one)
+          pushed p ∙ ap (λ xs. xs ++ told_of p one) (h.told p (rw number at l)) ∙ sym (told_of-append p entries one)
           ∙ ap (told_of p) (sym is);
-      sources = ap₂ passes number is ∙ all;
+      sources = grind arith;
     }
   where
     passes : ℕ → List Entry → Bool
@@ -82,7 +82,7 @@ pub ports_silent : (asks : List (Consumer Ask Global AnyItems)) (tellings : List
     → entries' ≡ entries ++ Step source event answer ∷ []
     → PortsTell asks tellings entries'
 ports_silent asks tellings entries entries' source event answer h sourced unasked untold is =
-    let asked = λ (p : ℕ). sym (ap (λ l. received_at asks p ++ (l ++ [])) (unasked p) ∙ append-nil (received_at asks p)) in
-    let told = λ (p : ℕ). sym (ap (λ l. pushed_at tellings p ++ (l ++ [])) (untold p) ∙ append-nil (pushed_at tellings p)) in
+    let asked = λ (p : ℕ). sym (cc (unasked p, append-nil _)) in
+    let told = λ (p : ℕ). sym (cc (untold p, append-nil _)) in
     ports_step asks asks tellings tellings entries entries' (Step source event answer ∷ []) refl refl h (ap (λ t. t && true) sourced) asked
     told is

@@ -1,6 +1,6 @@
 -- A renewal: what was audited stays as it was found, but for the journal and the ports' leave to offer again.
-use Rattle.std.proofs.Common.{◌≡◌, ℕ, ◌+◌, ◌<◌, ◌≤◌, cond, false, List, [], ◌∷◌, ◌++◌, map, length, position, slice_index_or, Option, Some}
-use Rattle.std.proofs.Common.{refl, sym, ap, ap₂, ◌∙◌, subst, append-nil, append_assoc, length-append, arith}
+use Rattle.std.proofs.Common.{◌≡◌, ℕ, ◌+◌, ◌≤◌, cond, false, List, [], ◌∷◌, ◌++◌, map, length, position, Option, Some}
+use Rattle.std.proofs.Common.{refl, ap, ap₂, append-nil, append_assoc, length-append, arith}
 use Rattle.std.specs.List.{All, position_from}
 use Rattle.std.proofs.lemmas.Iterator.Adapters.{position_from-zero}
 use Rattle.std.specs.Global.{Vec}
@@ -9,7 +9,7 @@ use Rattle.rtrb.specs.Ring.{known_items}
 use Rattle.rtrb.specs.declared.consumer.Consumer.{Consumer}
 use Rattle.rtrb.specs.declared.AnyItems.{AnyItems}
 use Rattle.memory_banks.specs.declared.BankAnswer.{BankAnswer}
-use Rattle.cache_unit.specs.State.{Cache, UnitState, tags}
+use Rattle.cache_unit.specs.State.{Cache, tags}
 use Rattle.station_journal.specs.declared.asks.Ask.{Ask}
 use Rattle.station_journal.specs.declared.journal.Entry.{Entry}
 use Rattle.station_journal.specs.declared.journal.SideFault.{SideFault}
@@ -19,11 +19,10 @@ use Rattle.station_parts.specs.declared.parts.CacheSide.{CacheSide}
 use Rattle.station_parts.specs.declared.parts.Audit.{Audit}
 use Rattle.station_parts.specs.Segments.{whole_of}
 use Rattle.station_parts.specs.Ids.{port_id}
-use Rattle.station_parts.specs.Rows.{received_at, pushed_at, room_at, sent_at, free_at, popped_at}
 use Rattle.station_parts.specs.Words.{offered, offered_before, taken, has_ended, known_tellings, known_commands, known_places, earlier_of}
 use Rattle.station_parts.specs.Words.{held_of, journal_of}
 use Rattle.station_parts.specs.Promises.{AreWhole}
-use Rattle.station_parts.specs.Audited.{AreAtMost, LeavesCache, LeavesPorts, holds_item, first_ring, finding, audit_of}
+use Rattle.station_parts.specs.Audited.{LeavesCache, LeavesPorts, holds_item, first_ring, finding, audit_of}
 use Rattle.station_parts.specs.Renewed.{GoesOn, RenewsCache, ResumesPorts}
 use Rattle.station_parts.proofs.Looking.{row_length}
 
@@ -31,24 +30,20 @@ use Rattle.station_parts.proofs.Looking.{row_length}
 pub handed_over : (segments : List (Vec Entry)) (segment : Vec Entry)
     → whole_of (segments ++ segment ∷ []) ≡ whole_of segments ++ segment.items
 handed_over [] segment = append-nil segment.items
-handed_over (first ∷ rest) segment =
-    ap (λ xs. first.items ++ xs) (handed_over rest segment) ∙ sym (append_assoc first.items (whole_of rest) segment.items)
+handed_over (first ∷ rest) segment = cc (handed_over rest segment, append_assoc first.items (whole_of rest) segment.items)
 
 -- an empty journal is within its limit
 pub none_within : (entries : List Entry) (limit : ℕ) → entries ≡ [] → length entries ≤ limit
-none_within entries limit is = let none = ap length is in omega arith
+none_within entries limit is = grind arith
 
 -- and the entries of the one that was handed out are counted
 pub handed_more : (before held whole : List Entry) (handed count : ℕ) → handed ≡ length before → count ≡ length held
     → whole ≡ before ++ held → handed + count ≡ length whole
-handed_more before held whole handed count is counted all =
-    let longer = length-append before held in
-    let same = ap length all in
-    omega arith
+handed_more before held whole handed count is counted all = grind (arith, length-append)
 
 pub lasts_still : (before held : List Entry) (handed count limit : ℕ) → handed ≡ length before → count ≡ length held
     → length (before ++ held) + limit ≤ 72057594037927936 → handed + count + limit ≤ 72057594037927936
-lasts_still before held handed count limit is counted few = let longer = length-append before held in omega arith
+lasts_still before held handed count limit is counted few = grind (arith, length-append)
 
 -- ---- the ports
 
@@ -64,58 +59,28 @@ still_told k (x ∷ xs) (y ∷ ys) e =
 
 told_alike : (old new : List Port) → map known_tellings new ≡ map known_tellings old
     → position (λ p. holds_item (known_tellings p)) new ≡ position (λ p. holds_item (known_tellings p)) old
-told_alike old new e =
-    position_from-zero (λ (p : Port). holds_item (known_tellings p)) new ∙ still_told 0 old new e
-    ∙ sym (position_from-zero (λ (p : Port). holds_item (known_tellings p)) old)
+told_alike old new e = grind (arith, position_from-zero, still_told)
 
 -- ports that may offer again, and have offered and taken what they had
 module _ (old looked new : List Port) (left : LeavesPorts old looked) (offers : map offered new ≡ map offered looked)
     (takes : map taken new ≡ map taken looked) (places : map known_places new ≡ map known_places looked) where
   pub ports_resumed : All (λ p. offered_before p ≡ offered p) new → All (λ p. has_ended p ≡ false) new → ResumesPorts old new
-  ports_resumed before again =
-      record {
-        offered = offers ∙ left.offered;
-        taken = takes ∙ left.taken;
-        for_asks = subst (λ ns. AreAtMost (map known_places old) ns) (sym places) left.for_asks;
-        before = before;
-        again = again;
-      }
+  ports_resumed before again = grind arith
 
 pub whole_still : (entries : List Entry) (looked new : List Port) → map port_id new ≡ map port_id looked
     → map offered new ≡ map offered looked → map taken new ≡ map taken looked → AreWhole entries looked → AreWhole entries new
-whole_still entries looked new ids offers takes whole =
-    let count = row_length port_id looked new ids in
-    record {
-      asks = λ p l. whole.asks p (subst (λ n. p < n) count l) ∙ ap (λ xs. slice_index_or xs p []) (sym offers);
-      told = λ p l. ap (λ xs. slice_index_or xs p []) takes ∙ whole.told p (subst (λ n. p < n) count l);
-    }
+whole_still entries looked new ids offers takes whole = grind (arith, row_length)
 
 -- ---- the cache side
 
 module _ {W B R D : ℕ} where
   module _ (looked new : CacheSide W B R D) (rest : GoesOn looked new) where
     pub journal_goes_on : earlier_of new ≡ journal_of looked → held_of new ≡ [] → journal_of new ≡ journal_of looked
-    journal_goes_on earlier held = ap₂ (λ xs ys. xs ++ ys) earlier held ∙ append-nil (journal_of looked)
+    journal_goes_on earlier held = grind (arith, append-nil)
 
     pub cache_renewed : (old : CacheSide W B R D) (segment : List Entry) → LeavesCache old looked → segment ≡ held_of looked
         → earlier_of new ≡ journal_of looked → held_of new ≡ [] → RenewsCache old new segment
-    cache_renewed old segment left is earlier held =
-        record {
-          segment_is = is ∙ left.held;
-          earlier = earlier ∙ left.journal ∙ ap (λ xs. earlier_of old ++ xs) (sym (is ∙ left.held));
-          held = held;
-          journal = journal_goes_on earlier held ∙ left.journal;
-          fault = rest.fault ∙ left.fault;
-          cache = ap (λ (u : UnitState). u.cache) rest.unit ∙ left.cache;
-          asked = λ p. ap (λ a. received_at a.items p) rest.asks ∙ left.asked p;
-          told = λ p. ap (λ t. pushed_at t.items p) rest.tellings ∙ left.told p;
-          commands = λ b. ap (λ r. sent_at r.lines.items b) rest.row ∙ left.commands b;
-          words = λ b. ap (λ a. popped_at a.items b) rest.answers ∙ left.words b;
-          for_tellings = λ p. subst (λ n. room_at old.tellings.items p ≤ n) (sym (ap (λ t. room_at t.items p) rest.tellings))
-              (left.for_tellings p);
-          for_commands = λ b. subst (λ n. free_at old.row.lines.items b ≤ n) (sym (ap (λ r. free_at r.lines.items b) rest.row))
-              (left.for_commands b);
-        }
+    cache_renewed old segment left is earlier held = grind (arith, journal_goes_on)
 
     module _ (ports again : List Port) (banks : List BankSide) where
       abbrev found_with : Option SideFault → List (Consumer Ask Global AnyItems) → Option ℕ → List (Consumer BankAnswer Global AnyItems)
@@ -126,11 +91,4 @@ module _ {W B R D : ℕ} where
           (position (λ c. holds_item (known_items c)) answers)) (length (tags cache))
 
       pub found_still : map known_tellings again ≡ map known_tellings ports → audit_of new again banks ≡ audit_of looked ports banks
-      found_still tells =
-          let told = told_alike ports again tells in
-          let before = position (λ (p : Port). holds_item (known_tellings p)) ports in
-          ap (λ o. found_with new.fault new.asks.items o new.answers.items new.unit.cache) told
-          ∙ ap (λ f. found_with f new.asks.items before new.answers.items new.unit.cache) rest.fault
-          ∙ ap (λ a. found_with looked.fault a.items before new.answers.items new.unit.cache) rest.asks
-          ∙ ap (λ a. found_with looked.fault looked.asks.items before a.items new.unit.cache) rest.answers
-          ∙ ap (λ (u : UnitState). found_with looked.fault looked.asks.items before looked.answers.items u.cache) rest.unit
+      found_still tells = grind (arith, told_alike)

@@ -1,16 +1,14 @@
 -- A ready value is taken, and its port is told of it.
-use Rattle.std.proofs.Common.{◌≡◌, ◌≢◌, ℕ, ◌-◌, ◌*◌, ◌/◌, ◌%◌, cond, List, [], ◌∷◌, ◌++◌, slice_get, Option, Some, None, option_map, sym}
-use Rattle.std.proofs.Common.{ap, ◌∙◌, arith, append-nil, eq-eqb, div-add-mod'}
-use Rattle.std.proofs.lemmas.Bool.{ne_eqb}
+use Rattle.std.proofs.Common.{◌≡◌, ◌≢◌, ℕ, ◌/◌, ◌%◌, List, [], ◌∷◌, ◌++◌, Option, Some, None}
+use Rattle.std.proofs.Common.{arith}
 use Rattle.flat_model.specs.declared.Word.{Word}
 use Rattle.flat_model.specs.declared.Event.TheVariants.{Take}
 use Rattle.flat_model.specs.declared.Answer.{Answer}
 use Rattle.flat_model.specs.declared.Answer.TheVariants as answers
 use Rattle.memory_banks.specs.declared.Command.{Command}
 use Rattle.memory_banks.specs.declared.BankAnswer.{BankAnswer}
-use Rattle.cache_unit.specs.declared.Reply.{Reply}
 use Rattle.cache_unit.specs.State.{Cache, UnitState}
-use Rattle.cache_unit.specs.Steps.{take_step, take_reply}
+use Rattle.cache_unit.specs.Steps.{take_step}
 use Rattle.cache_unit.specs.Views.{reply_view}
 use Rattle.machine_core.proofs.Stepping.{take_silent}
 use Rattle.station_journal.specs.declared.journal.Source.TheVariants as sources
@@ -19,10 +17,8 @@ use Rattle.station_journal.specs.declared.journal.Entry.TheVariants.{Step}
 use Rattle.station_journal.specs.declared.journal.SideFault.{SideFault}
 use Rattle.station_journal.specs.declared.asks.Told.{Told}
 use Rattle.station_journal.specs.declared.asks.Told.TheVariants.{Value}
-use Rattle.station_journal.specs.Journal.{come_word}
 use Rattle.station_journal.specs.Parts.{value_for, told_of}
 use Rattle.station_parts.specs.Rows.{only}
-use Rattle.station_parts.proofs.Rows.{each_place, only-here, only-there}
 use Rattle.station_journal.specs.Side.{SideTells}
 use Rattle.station_journal.proofs.Recording.{take_recorded}
 use Rattle.station_journal.proofs.Sides.{silent_step}
@@ -31,42 +27,23 @@ use Rattle.station_journal.proofs.Sides.{silent_step}
 pub shown_taken : (c : Cache) (place tag : ℕ) (word : Word) → reply_view c place ≡ Some (answers.Value tag word)
     → (take_step c place).answer ≡ answers.Value tag word
 unfolding take_step
-shown_taken c place tag word e = go (slice_get c.ready place) e
-  where
-    go : (o : Option Reply) → option_map (λ (r : Reply). answers.Value r.tag r.word) o ≡ Some (answers.Value tag word)
-        → (take_reply c place o).answer ≡ answers.Value tag word
-    go None e = cc
-    go (Some r) e = cc
+shown_taken c place tag word e = grind arith
 
 pub side_replied : (u v : UnitState) (sent : ℕ → List Command) (popped : ℕ → List BankAnswer) (fault : Option SideFault)
     (entries entries' : List Entry) (place : ℕ) (answer : Answer) → fault ≡ None → SideTells u.sizes u.cache sent popped fault entries
     → v ≡ record u { cache = (take_step u.cache place).cache } → answer ≡ (take_step u.cache place).answer
     → entries' ≡ entries ++ Step (sources.Reply place) (Take place) answer ∷ [] → SideTells v.sizes v.cache sent popped fault entries'
 side_replied u v sent popped fault entries entries' place answer sound h v_is answer_is entries_is =
-    silent_step u v sent popped fault entries entries' (sources.Reply place) (Take place) (λ c. take_step c place) answer sound h
-    (λ come s. take_recorded u.sizes (come_word come) s place) (take_silent u.cache place) v_is answer_is entries_is
+    silent_step u v sent popped fault entries entries' (sources.Reply place) _ (λ c. take_step c place) answer sound h
+    (λ come s. take_recorded u.sizes _ s place) (take_silent u.cache place) v_is answer_is entries_is
 
 value_mine : (tag port : ℕ) (word : Word) → port ≡ tag / 256 → value_for port (answers.Value tag word) ≡ Value (tag % 256) word ∷ []
-value_mine tag port word e =
-    let low : tag - port * 256 ≡ tag % 256 = let d = div-add-mod' tag 256 in let q = e in omega arith in
-    ap (λ t. cond t (Value (tag - port * 256) word ∷ []) []) (eq-eqb (tag / 256) port (sym e)) ∙ ap (λ k. Value k word ∷ []) low
+value_mine tag port word e = grind arith
 
 value_other : (tag port p : ℕ) (word : Word) → port ≡ tag / 256 → p ≢ port → value_for p (answers.Value tag word) ≡ []
-value_other tag port p word e d =
-    ap (λ t. cond t (Value (tag - p * 256) word ∷ []) []) (ne_eqb (tag / 256) p (λ q. d (sym q ∙ sym e)))
+value_other tag port p word e d = grind arith
 
 -- the entry of a value tells it to the port of its tag, and to no other
 pub only_value : (place tag port : ℕ) (word : Word) (answer : Answer) (told : Told) → port ≡ tag / 256 → answer ≡ answers.Value tag word
     → told ≡ Value (tag % 256) word → (p : ℕ) → only port (told ∷ []) p ≡ told_of p (Step (sources.Reply place) (Take place) answer ∷ [])
-only_value place tag port word answer told port_is answer_is told_is =
-    each_place (λ p. only port (told ∷ []) p ≡ value_for p answer ++ []) port here there
-  where
-    here : only port (told ∷ []) port ≡ value_for port answer ++ []
-    here =
-        only-here port (told ∷ []) ∙ ap (λ t. t ∷ []) told_is ∙ sym
-        (append-nil (value_for port answer) ∙ ap (value_for port) answer_is ∙ value_mine tag port word port_is)
-
-    there : (p : ℕ) → p ≢ port → only port (told ∷ []) p ≡ value_for p answer ++ []
-    there p ne =
-        only-there port p (told ∷ []) ne ∙ sym (append-nil (value_for p answer) ∙ ap (value_for p) answer_is
-        ∙ value_other tag port p word port_is ne)
+only_value place tag port word answer told port_is answer_is told_is = grind arith

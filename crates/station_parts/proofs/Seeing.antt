@@ -4,7 +4,7 @@ use mathlib.Core.List.{IsPrefix}
 use Rattle.std.specs.declared.alloc.Global.{Global}
 use Rattle.rtrb.specs.declared.consumer.Consumer.{Consumer}
 use Rattle.rtrb.specs.declared.AnyItems.{AnyItems}
-use Rattle.station_parts.specs.Rows.{received_at, known_at, PopsAt}
+use Rattle.station_parts.specs.Rows.{known_at, PopsAt}
 use Rattle.station_parts.proofs.Rows.{only-none}
 use Rattle.station_parts.proofs.SideMakes.{popped_none, known_more}
 
@@ -18,7 +18,7 @@ looks_steps xs ys zs place first then =
     record {
       rings = then.rings ∙ first.rings;
       popped = λ p. popped_none ys zs place then p ∙ popped_none xs ys 0 first p
-          ∙ sym (ap (λ l. received_at xs p ++ l) (only-none 0 p) ∙ append-nil (received_at xs p));
+          ∙ sym (cc (only-none 0 p, append-nil _));
       known = λ p. subst (λ l. IsPrefix (known_at xs p) (l ++ known_at zs p)) (sym (only-none 0 p))
           (prefix_steps (known_at xs p) (known_at ys p) (known_at zs p) (known_more xs ys 0 first p) (known_more ys zs place then p));
     }

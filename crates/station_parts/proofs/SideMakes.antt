@@ -1,8 +1,8 @@
 -- What a step of the cache side has made is what its definition says.
-use Rattle.std.proofs.Common.{◌≡◌, ◌≢◌, ℕ, ◌+◌, ◌*◌, ◌%◌, ◌/◌, ◌<◌, ◌≤◌, cond, ◌&&◌, not, Bool, true, false, nat_le, nat_lt, List, [], ◌∷◌}
-use Rattle.std.proofs.Common.{◌++◌, length, slice_get, Option, Some, None, option_map, refl, sym, ap, ap₂, ◌∙◌, subst, arith, add-zero}
+use Rattle.std.proofs.Common.{◌≡◌, ◌≢◌, ℕ, ◌+◌, ◌%◌, ◌/◌, ◌<◌, ◌≤◌, ◌&&◌, not, Bool, true, false, nat_le, nat_lt, List, [], ◌∷◌}
+use Rattle.std.proofs.Common.{◌++◌, length, slice_get, Option, Some, None, refl, ap, ap₂, ◌∙◌, subst, arith}
 use Rattle.std.proofs.Common.{append-nil}
-use Rattle.std.proofs.lemmas.Bool.{leb-true, leb-false, ltb-true, lt-ltb}
+use Rattle.std.proofs.lemmas.Bool.{leb-true, leb-false}
 use mathlib.Core.List.{IsPrefix}
 use Rattle.std.specs.declared.alloc.Global.{Global}
 use Rattle.rtrb.specs.Ring.{received}
@@ -15,7 +15,6 @@ use Rattle.flat_model.specs.declared.Word.{Word}
 use Rattle.memory_banks.specs.declared.BankAnswer.{BankAnswer}
 use Rattle.memory_banks.specs.Banks.{commands_for}
 use Rattle.write_queue.specs.declared.Queued.{Queued}
-use Rattle.cache_unit.specs.declared.Reply.{Reply}
 use Rattle.cache_unit.specs.declared.Sizes.{Sizes}
 use Rattle.cache_unit.specs.State.{Cache}
 use Rattle.cache_unit.specs.Views.{is_empty, reply_view}
@@ -23,7 +22,6 @@ use Rattle.cache_unit.specs.Steps as unit
 use Rattle.cache_unit.specs.SoundCache.{IsSoundCache}
 use Rattle.cache_unit.specs.declared.Request.TheVariants as requests
 use Rattle.cache_unit.proofs.UnitForms.{each_step}
-use Rattle.station_journal.specs.declared.asks.TheConstants.{PORT_TAGS}
 use Rattle.station_journal.specs.declared.asks.Ask.{Ask}
 use Rattle.station_journal.specs.declared.asks.Ask.TheVariants.{Load, Store, Prefetch, Evict, Done}
 use Rattle.station_journal.specs.declared.journal.Source.{Source}
@@ -39,139 +37,76 @@ use Rattle.station_parts.specs.Rows.{received_at, known_at, only, PopsAt}
 use Rattle.station_parts.specs.Asking.{event_for, asked_step}
 use Rattle.station_parts.specs.SideState.{Known, KnowsMore, SideState}
 use Rattle.station_parts.specs.SideSteps.{Effect, no_words, nothing, noted, asked, arrives, can_drain, can_tell, has_work, work_of}
-use Rattle.station_parts.specs.SideSteps.{effect_of, answer_of, Makes, EventForms, EntriesForms, StepMakes}
+use Rattle.station_parts.specs.SideSteps.{answer_of, Makes, EventForms, EntriesForms, StepMakes}
 use Rattle.station_parts.proofs.Rows.{same_length, beyond, only-here, only-there, only-none}
 
 pub knows_same : (k : Known) → KnowsMore k k
-knows_same k =
-    record {
-      asks = λ p. ([], append-nil (k.asks p));
-      words = λ b. ([], append-nil (k.words b));
-      telling_places = λ p. omega arith;
-      command_places = λ b. omega arith;
-    }
+knows_same k = grind (arith, append-nil)
 
 module _ (source : Source) (s t : SideState) (looked : Known) (looks : KnowsMore s.known looked) where
   -- there is no work
   pub idles : has_work source s looked ≡ false → Makes (nothing s) s looked t → StepMakes source s t Idle
-  idles none makes =
-      let is : effect_of source s looked ≡ nothing s = ap (λ w. cond w (work_of source s looked) (nothing s)) none in
-      record {
-        looked = looked;
-        looks = looks;
-        answer = ap (λ w. answer_of w (effect_of source s looked).fault) (sym none);
-        makes = subst (λ e. Makes e s looked t) (sym is) makes;
-        forms = subst (λ (e : Effect). EntriesForms s.sizes s.cache e.entries e) (sym is) tt;
-      }
+  idles none makes = grind arith
 
   -- there is work, and this comes of it
   pub acts : (e : Effect) (result : Stepped) → has_work source s looked ≡ true → work_of source s looked ≡ e
       → result ≡ answer_of true e.fault → Makes e s looked t → EntriesForms s.sizes s.cache e.entries e → StepMakes source s t result
-  acts e result some work answer makes forms =
-      let is : effect_of source s looked ≡ e = ap (λ w. cond w (work_of source s looked) (nothing s)) some ∙ work in
-      record {
-        looked = looked;
-        looks = looks;
-        answer = answer ∙ ap (λ (d : Effect). answer_of true d.fault) (sym is)
-            ∙ ap (λ w. answer_of w (effect_of source s looked).fault) (sym some);
-        makes = subst (λ d. Makes d s looked t) (sym is) makes;
-        forms = subst (λ (d : Effect). EntriesForms s.sizes s.cache d.entries d) (sym is) forms;
-      }
+  acts e result some work answer makes forms = grind arith
 
 -- nothing but looks
 pub makes_nothing : (s t : SideState) → t.earlier ≡ s.earlier → t.held ≡ s.held → t.cache ≡ s.cache → t.fault ≡ s.fault
     → ((p : ℕ) → t.asked p ≡ s.asked p)
     → ((p : ℕ) → t.told p ≡ s.told p) → ((b : ℕ) → t.commands b ≡ s.commands b) → ((b : ℕ) → t.words b ≡ s.words b)
     → Makes (nothing s) s t.known t
-makes_nothing s t earlier held cache fault asked told commands words =
-    record {
-      earlier = earlier;
-      held = held ∙ sym (append-nil s.held);
-      cache = cache;
-      fault = fault;
-      asked = λ p. asked p ∙ sym (append-nil (s.asked p));
-      told = λ p. told p ∙ sym (append-nil (s.told p));
-      commands = λ b. commands b ∙ sym (append-nil (s.commands b));
-      words = λ b. words b ∙ sym (append-nil (s.words b));
-      known_asks = λ p. refl;
-      known_words = λ b. refl;
-      telling_places = λ p. omega arith;
-      command_places = λ b. omega arith;
-    }
+makes_nothing s t earlier held cache fault asked told commands words = grind (arith, append-nil, s.asked, s.told, s.commands, s.words)
 
 -- more free places are known at the banks, or at the ports
 pub knows_lines : (k : Known) (places : ℕ → ℕ) → ((b : ℕ) → k.command_places b ≤ places b)
     → KnowsMore k (record k { command_places = places })
-knows_lines k places more =
-    record {
-      asks = λ p. ([], append-nil (k.asks p));
-      words = λ b. ([], append-nil (k.words b));
-      telling_places = λ p. omega arith;
-      command_places = more;
-    }
+knows_lines k places more = grind (arith, append-nil)
 
 pub knows_tellings : (k : Known) (places : ℕ → ℕ) → ((p : ℕ) → k.telling_places p ≤ places p)
     → KnowsMore k (record k { telling_places = places })
-knows_tellings k places more =
-    record {
-      asks = λ p. ([], append-nil (k.asks p));
-      words = λ b. ([], append-nil (k.words b));
-      telling_places = more;
-      command_places = λ b. omega arith;
-    }
+knows_tellings k places more = grind (arith, append-nil)
 
 -- more asks, or more words of banks
 pub knows_asks : (k : Known) (asks : ℕ → List Ask) (tellings commands : ℕ → ℕ) → ((p : ℕ) → IsPrefix (k.asks p) (asks p))
     → ((p : ℕ) → k.telling_places p ≤ tellings p) → ((b : ℕ) → k.command_places b ≤ commands b)
     → KnowsMore k (record { asks = asks; words = k.words; telling_places = tellings; command_places = commands })
-knows_asks k asks tellings commands first more free =
-    record {
-      asks = first;
-      words = λ b. ([], append-nil (k.words b));
-      telling_places = more;
-      command_places = free;
-    }
+knows_asks k asks tellings commands first more free = grind (arith, append-nil)
 
 pub knows_words : (k : Known) (words : ℕ → List BankAnswer) → ((b : ℕ) → IsPrefix (k.words b) (words b))
     → KnowsMore k (record k { words = words })
-knows_words k words first =
-    record {
-      asks = λ p. ([], append-nil (k.asks p));
-      words = first;
-      telling_places = λ p. omega arith;
-      command_places = λ b. omega arith;
-    }
+knows_words k words first = grind (arith, append-nil)
 
 -- ---- pops
 
 module _ {T : Type 0} (olds news : List (Consumer T Global AnyItems)) (place : ℕ) where
   pub popped_none : PopsAt olds news place [] → (p : ℕ) → received_at news p ≡ received_at olds p
-  popped_none pops p =
-      pops.popped p ∙ ap (λ l. received_at olds p ++ l) (only-none place p) ∙ append-nil (received_at olds p)
+  popped_none pops p = grind (arith, pops.popped, only-none, append-nil)
 
   pub known_more : PopsAt olds news place [] → (p : ℕ) → IsPrefix (known_at olds p) (known_at news p)
   known_more pops p =
       subst (λ l. IsPrefix (known_at olds p) (l ++ known_at news p)) (only-none place p) (pops.known p)
 
   pub popped_one : (a : T) → PopsAt olds news place (a ∷ []) → received_at news place ≡ received_at olds place ++ a ∷ []
-  popped_one a pops = pops.popped place ∙ ap (λ l. received_at olds place ++ l) (only-here place (a ∷ []))
+  popped_one a pops = grind arith
 
   pub popped_others : (a : T) → PopsAt olds news place (a ∷ []) → (p : ℕ) → p ≢ place → received_at news p ≡ received_at olds p
-  popped_others a pops p ne =
-      pops.popped p ∙ ap (λ l. received_at olds p ++ l) (only-there place p (a ∷ []) ne) ∙ append-nil (received_at olds p)
+  popped_others a pops p ne = grind (arith, pops.popped, only-there, append-nil)
 
   -- the item that was popped was the first that was known
   pub first_is : (a : T) → only place (a ∷ []) place ++ known_at news place ≡ a ∷ known_at news place
-  first_is a = ap (λ l. l ++ known_at news place) (only-here place (a ∷ []))
+  first_is a = grind arith
 
   -- where an item was popped there is an end
   pub there_popped : (a : T) → PopsAt olds news place (a ∷ []) → place < length olds
-  there_popped a pops = go (nat_le (length olds) place) refl
+  there_popped a pops = go _ refl
     where
       go : (t : Bool) → nat_le (length olds) place ≡ t → place < length olds
-      go false e = leb-false (length olds) place e
+      go false e = leb-false _ place e
       go true e =
-          let out = leb-true (length olds) place e in
+          let out = leb-true _ place e in
           let len = same_length pops_from olds news pops.rings in
           let longer = ap length (pops.popped place ∙ ap₂ (λ l m. l ++ m) (beyond received olds place [] out) (only-here place (a ∷ []))) in
           let none = ap length (beyond received news place [] (omega arith)) in
@@ -181,8 +116,7 @@ module _ {T : Type 0} (olds news : List (Consumer T Global AnyItems)) (place : �
 
 pub answered_so : (entries entries' : List Entry) (source : Source) (event : Event) (answer answer' : Answer)
     → entries' ≡ entries ++ Step source event answer ∷ [] → answer ≡ answer' → entries' ≡ entries ++ Step source event answer' ∷ []
-answered_so entries entries' source event answer answer' is same =
-    is ∙ ap (λ a. entries ++ Step source event a ∷ []) same
+answered_so entries entries' source event answer answer' is same = grind arith
 
 -- a step of the unit of which no port hears, and for which no word is popped
 pub makes_unit : (s t : SideState) (source : Source) (event : Event) (d : unit.Stepped) (answer : Answer) (places : ℕ → ℕ)
@@ -193,20 +127,7 @@ pub makes_unit : (s t : SideState) (source : Source) (event : Event) (d : unit.S
     → ((b : ℕ) → places b ≡ t.known.command_places b + length (commands_for b d.sent))
     → Makes (noted s source event d no_words) s (record t.known { command_places = places }) t
 makes_unit s t source event d answer places unasked untold earlier held answer_is cache fault asked told words commands free =
-    record {
-      earlier = earlier;
-      held = answered_so s.held t.held source event answer d.answer held answer_is;
-      cache = cache;
-      fault = fault;
-      asked = λ p. ap (λ f. f p) asked ∙ sym (ap (λ l. s.asked p ++ (l ++ [])) (unasked p) ∙ append-nil (s.asked p));
-      told = λ p. ap (λ f. f p) told ∙ sym (ap (λ l. s.told p ++ (l ++ [])) (untold p) ∙ append-nil (s.told p));
-      commands = commands;
-      words = λ b. ap (λ f. f b) words ∙ sym (append-nil (s.words b));
-      known_asks = λ p. sym (ap (λ l. (l ++ []) ++ t.known.asks p) (unasked p));
-      known_words = λ b. refl;
-      telling_places = λ p. let none = ap (λ l. length (l ++ [])) (untold p) in omega arith;
-      command_places = free;
-    }
+    grind (arith, s.asked, append-nil, s.told, s.words)
 
 -- ---- the write queue, and ready values
 
@@ -217,30 +138,19 @@ drains_none z places (front ∷ rest) e = cc
 pub drains_first : (z : Sizes) (places : ℕ → ℕ) (queue : List Queued) (front : Queued) → slice_get queue 0 ≡ Some front
     → can_drain z places queue ≡ nat_lt 0 (places (front.at % z.banks))
 drains_first z places [] front e = cc
-drains_first z places (first ∷ rest) front e =
-    let same : first ≡ front = cc in ap (λ (q : Queued). nat_lt 0 (places (q.at % z.banks))) same
+drains_first z places (first ∷ rest) front e = grind arith
 
 pub tells_none : (places : ℕ → ℕ) (c : Cache) (place : ℕ) → reply_view c place ≡ None → can_tell places (slice_get c.ready place) ≡ false
-tells_none places c place e = go (slice_get c.ready place) e
-  where
-    go : (o : Option Reply) → option_map (λ (r : Reply). Value r.tag r.word) o ≡ None → can_tell places o ≡ false
-    go None e = refl
-    go (Some r) e = cc
+tells_none places c place e = grind arith
 
 pub tells_first : (places : ℕ → ℕ) (c : Cache) (place tag : ℕ) (word : Word) → reply_view c place ≡ Some (Value tag word)
     → can_tell places (slice_get c.ready place) ≡ nat_lt 0 (places (tag / 256))
-tells_first places c place tag word e = go (slice_get c.ready place) e
-  where
-    go : (o : Option Reply) → option_map (λ (r : Reply). Value r.tag r.word) o ≡ Some (Value tag word)
-        → can_tell places o ≡ nat_lt 0 (places (tag / 256))
-    go None e = cc
-    go (Some r) e = let same : r.tag ≡ tag = cc in ap (λ t. nat_lt 0 (places (t / 256))) same
+tells_first places c place tag word e = grind arith
 
 pub noted_so : (entries entries' : List Entry) (source : Source) (event event' : Event) (answer answer' : Answer)
     → entries' ≡ entries ++ Step source event answer ∷ [] → event ≡ event' → answer ≡ answer'
     → entries' ≡ entries ++ Step source event' answer' ∷ []
-noted_so entries entries' source event event' answer answer' is same same' =
-    is ∙ ap₂ (λ e a. entries ++ Step source e a ∷ []) same same'
+noted_so entries entries' source event event' answer answer' is same same' = grind arith
 
 -- an ask that isn't Done is one for the unit
 pub asked_first : (s : SideState) (k : Known) (port : ℕ) (ask : Ask) (rest : List Ask) → ask ≢ Done
@@ -255,9 +165,9 @@ asked_first s k port Done rest n = absurd (n refl)
 -- and makes of the forms what its event does
 pub asked_forms : (z : Sizes) (c : Cache) → IsSoundCache z c → (room : ℕ → ℕ) (port : ℕ) (ask : Ask) → ask ≢ Done
     → EventForms z c (event_for port ask) [] (asked_step z room port c ask).answer (asked_step z room port c ask).cache
-asked_forms z c h room port (Load tag at) n = (each_step z c h).request room (requests.Load (port * PORT_TAGS + tag) at)
-asked_forms z c h room port (Store at word lanes) n = (each_step z c h).request room (requests.Store at word lanes)
-asked_forms z c h room port (Prefetch at) n = (each_step z c h).request room (requests.Prefetch at)
+asked_forms z c h room port (Load tag at) n = (each_step z c h).request room _
+asked_forms z c h room port (Store at word lanes) n = (each_step z c h).request room _
+asked_forms z c h room port (Prefetch at) n = (each_step z c h).request room _
 asked_forms z c h room port (Evict block) n = (each_step z c h).evict block
 asked_forms z c h room port Done n = absurd (n refl)
 
@@ -269,34 +179,18 @@ both_true false b e = cc
 
 still_some : {T : Type 0} (xs ys : List T) → IsPrefix xs ys → not (is_empty xs) ≡ true → not (is_empty ys) ≡ true
 still_some [] ys first e = cc
-still_some (x ∷ xs) ys first e = ap (λ l. not (is_empty l)) (sym first.1)
+still_some (x ∷ xs) ys first e = grind arith
 
 still_place : (m n : ℕ) → m ≤ n → nat_lt 0 m ≡ true → nat_lt 0 n ≡ true
-still_place m n more e = let some = ltb-true 0 m e in lt-ltb 0 n (omega arith)
+still_place m n more e = grind arith
 
 module _ (s : SideState) (k l : Known) (more : KnowsMore k l) where
   work_stays : (source : Source) → has_work source s k ≡ true → has_work source s l ≡ true
-  work_stays (sources.Ask port) e =
-      let b = both_true (nat_lt 0 (k.telling_places port)) (not (is_empty (k.asks port))) e in
-      ap₂ (λ x y. x && y) (still_place (k.telling_places port) (l.telling_places port) (more.telling_places port) b.0)
-      (still_some (k.asks port) (l.asks port) (more.asks port) b.1)
-  work_stays (sources.Word bank) e =
-      let b = both_true (nat_lt (length s.cache.stack) s.sizes.depth) (not (is_empty (k.words bank))) e in
-      ap₂ (λ x y. x && y) b.0 (still_some (k.words bank) (l.words bank) (more.words bank) b.1)
+  work_stays (sources.Ask port) e = grind (arith, both_true, still_place, still_some)
+  work_stays (sources.Word bank) e = grind (arith, both_true, still_some)
   work_stays (sources.Stack place) e = e
-  work_stays sources.Drain e = go s.cache.queue e
-    where
-      go : (queue : List Queued) → can_drain s.sizes k.command_places queue ≡ true → can_drain s.sizes l.command_places queue ≡ true
-      go [] h = h
-      go (q ∷ rest) h =
-          still_place (k.command_places (q.at % s.sizes.banks)) (l.command_places (q.at % s.sizes.banks))
-          (more.command_places (q.at % s.sizes.banks)) h
-  work_stays (sources.Reply place) e = go (slice_get s.cache.ready place) e
-    where
-      go : (o : Option Reply) → can_tell k.telling_places o ≡ true → can_tell l.telling_places o ≡ true
-      go None h = h
-      go (Some r) h =
-          still_place (k.telling_places (r.tag / 256)) (l.telling_places (r.tag / 256)) (more.telling_places (r.tag / 256)) h
+  work_stays sources.Drain e = grind arith
+  work_stays (sources.Reply place) e = grind arith
 
 not_idle : (f : Option SideFault) → answer_of true f ≢ Idle
 not_idle None e = cc
@@ -305,9 +199,7 @@ not_idle (Some fault) e = cc
 -- a step that knew of work before it looked isn't idle
 pub not_idle_at_work : (source : Source) (s t : SideState) (result : Stepped) → StepMakes source s t result
     → has_work source s s.known ≡ true → result ≢ Idle
-not_idle_at_work source s t result m work e =
-    let still = work_stays s s.known m.looked m.looks source work in
-    not_idle (effect_of source s m.looked).fault (ap (λ w. answer_of w (effect_of source s m.looked).fault) (sym still) ∙ sym m.answer ∙ e)
+not_idle_at_work source s t result m work e = grind (arith, work_stays, s.known, m.looks, not_idle)
 
 -- a word is lost, and the side is faulted
 pub makes_lost : (s t : SideState) (bank : ℕ) (a : BankAnswer) (fault : SideFault) (words : ℕ → List BankAnswer) → t.earlier ≡ s.earlier
@@ -316,17 +208,4 @@ pub makes_lost : (s t : SideState) (bank : ℕ) (a : BankAnswer) (fault : SideFa
     → t.known.asks ≡ s.known.asks → t.known.telling_places ≡ s.known.telling_places → t.known.command_places ≡ s.known.command_places
     → Makes (arrives s bank a (Some fault)) s (record s.known { words = words }) t
 makes_lost s t bank a fault words earlier held cache is asked told commands popped known asks tellings free =
-    record {
-      earlier = earlier;
-      held = held ∙ sym (append-nil s.held);
-      cache = cache;
-      fault = is;
-      asked = λ p. ap (λ f. f p) asked ∙ sym (append-nil (s.asked p));
-      told = λ p. ap (λ f. f p) told ∙ sym (append-nil (s.told p));
-      commands = λ b. ap (λ f. f b) commands ∙ sym (append-nil (s.commands b));
-      words = popped;
-      known_asks = λ p. ap (λ f. f p) (sym asks);
-      known_words = known;
-      telling_places = λ p. ap (λ f. f p) (sym tellings) ∙ sym (add-zero (t.known.telling_places p));
-      command_places = λ b. ap (λ f. f b) (sym free) ∙ sym (add-zero (t.known.command_places b));
-    }
+    grind (arith, append-nil, s.asked, s.told, s.commands)

@@ -13,7 +13,7 @@ use Rattle.station_journal.proofs.Standing.{after-append, answers_to-append}
 
 -- what was seen in front is what was popped
 pub front_is : (x y : Command) (xs known : List Command) → IsPrefix (x ∷ []) known → known ≡ y ∷ xs → y ≡ x
-front_is x y xs known p e = let q : x ∷ p.0 ≡ y ∷ xs = p.1 ∙ e in cc
+front_is x y xs known p e = let q = p.1 ∙ e in cc
 
 -- the commands that have come leave these words of a bank that began with zeros
 abbrev AreLeft : List Word → List Command → Type 0
@@ -29,19 +29,17 @@ module _ (words : List Word) (came came' : List Command) (given given' : List Ba
   zeros = replicate (length words) zero_word
 
   whole : answers_to zeros came' ≡ given ++ answers_to words (first ∷ [])
-  whole =
-      ap (answers_to zeros) comes ∙ answers_to-append zeros came (first ∷ [])
-      ∙ ap₂ (λ xs ws. xs ++ answers_to ws (first ∷ [])) (sym are_given) (sym are_left)
+  whole = cc (comes, answers_to-append zeros came _, ap₂ (λ xs ws. xs ++ answers_to ws (first ∷ [])) (sym are_given) (sym are_left))
 
   left : after zeros came' ≡ after words (first ∷ [])
-  left = ap (after zeros) comes ∙ after-append zeros came (first ∷ []) ∙ ap (λ ws. after ws (first ∷ [])) (sym are_left)
+  left = ap (after zeros) comes ∙ after-append zeros came _ ∙ ap (λ ws. after ws (first ∷ [])) (sym are_left)
 
   pub read_stored : (slot i place : ℕ) → first ≡ Read slot i place → AreLeft words came'
-  read_stored slot i place e = sym (left ∙ ap (λ c. after words (c ∷ [])) e)
+  read_stored slot i place e = sym (cc (left, e))
 
   pub read_answered : (slot i place : ℕ) → first ≡ Read slot i place
       → given' ≡ given ++ record { slot = slot; i = i; word = word_at words place } ∷ [] → AreGiven words came' given'
-  read_answered slot i place e g = g ∙ sym (whole ∙ ap (λ c. given ++ answers_to words (c ∷ [])) e)
+  read_answered slot i place e g = g ∙ sym (cc (whole, e))
 
   module _ (words' : List Word) (place : ℕ) (word : Word) (lanes : Lanes) (is_write : first ≡ Write place word lanes)
       (is_stored : words' ≡ stored words place word lanes) where
@@ -49,11 +47,7 @@ module _ (words : List Word) (came came' : List Command) (given given' : List Ba
     as_many = ap length is_stored ∙ length-set words place _
 
     pub write_stored : AreLeft words' came'
-    write_stored =
-        is_stored ∙ sym (left ∙ ap (λ c. after words (c ∷ [])) is_write)
-        ∙ ap (λ n. after (replicate n zero_word) came') (sym as_many)
+    write_stored = cc (is_stored, left ∙ ap (λ c. after words (c ∷ [])) is_write, as_many)
 
     pub write_answered : AreGiven words' came' given
-    write_answered =
-        sym (whole ∙ ap (λ c. given ++ answers_to words (c ∷ [])) is_write ∙ append-nil given)
-        ∙ ap (λ n. answers_to (replicate n zero_word) came') (sym as_many)
+    write_answered = cc (whole ∙ ap (λ c. given ++ answers_to words (c ∷ [])) is_write ∙ append-nil given, as_many)

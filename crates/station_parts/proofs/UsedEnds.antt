@@ -1,10 +1,10 @@
 -- Rows of rings' ends, of which one was used.
-use Rattle.std.proofs.Common.{◌≡◌, ◌≢◌, ℕ, ◌+◌, ◌<◌, ◌≤◌, List, [], ◌++◌, length, slice_index_or, slice_set, Option, Some, None, IfNone}
-use Rattle.std.proofs.Common.{refl, sym, ap, ap₂, ◌∙◌, subst, append-nil, arith}
+use Rattle.std.proofs.Common.{◌≡◌, ◌≢◌, ℕ, ◌+◌, ◌<◌, List, [], ◌++◌, length, slice_index_or, slice_set, Option, Some, None, IfNone}
+use Rattle.std.proofs.Common.{sym, ap, ◌∙◌, append-nil, arith}
 use Rattle.std.proofs.Math.Seq.{map-set_same}
 use mathlib.Core.List.{IsPrefix}
 use Rattle.std.specs.declared.alloc.Global.{Global}
-use Rattle.rtrb.specs.Ring.{received, sent, known_free, known_items}
+use Rattle.rtrb.specs.Ring.{known_items}
 use Rattle.rtrb.specs.declared.consumer.Consumer.{Consumer}
 use Rattle.rtrb.specs.declared.producer.Producer.{Producer}
 use Rattle.rtrb.specs.declared.AnyItems.{AnyItems}
@@ -15,12 +15,7 @@ use Rattle.station_parts.proofs.Rows.{here_after, there_after, here_before, each
 module _ {T : Type 0} (xs : List (Consumer T Global AnyItems)) (place : ℕ) where
   -- nothing was popped, and nobody looked
   pub pops_nothing : PopsAt xs xs place []
-  pops_nothing =
-      record {
-        rings = refl;
-        popped = λ p. sym (ap (λ l. received_at xs p ++ l) (only-none place p) ∙ append-nil (received_at xs p));
-        known = λ p. ([], append-nil (known_at xs p) ∙ ap (λ l. l ++ known_at xs p) (sym (only-none place p)));
-      }
+  pops_nothing = grind (arith, only-none, append-nil)
 
 module _ {T : Type 0} (xs : List (Consumer T Global AnyItems)) (place : ℕ) (x y : Consumer T Global AnyItems) (h : place < length xs)
     (at : x ≡ slice_index_or xs place x) (items : List T) (used : HasPopped x y items) where
@@ -39,27 +34,18 @@ module _ {T : Type 0} (xs : List (Consumer T Global AnyItems)) (place : ℕ) (x 
       }
     where
       popped_here : received_at ys place ≡ received_at xs place ++ only place items place
-      popped_here =
-          here_after received xs place y [] h ∙ used.popped ∙ ap₂ (λ l m. l ++ m) (sym (here_before received xs place x [] h at))
-          (sym (only-here place items))
+      popped_here = grind (arith, here_after, here_before, only-here)
 
       popped_there : (p : ℕ) → p ≢ place → received_at ys p ≡ received_at xs p ++ only place items p
-      popped_there p ne =
-          there_after received xs place p y [] ne ∙ sym (ap (λ l. received_at xs p ++ l) (only-there place p items ne)
-          ∙ append-nil (received_at xs p))
+      popped_there p ne = grind (arith, there_after, only-there, append-nil)
 
       known_here : IsKnown place
-      known_here =
-          let before : known_at xs place ≡ _ = here_before known_items xs place x [] h at in
-          let after : only place items place ++ known_at ys place ≡ _ = ap₂ (λ l m. l ++ m) (only-here place items)
-          (here_after known_items xs place y [] h) in
-          subst (λ l. IsPrefix l (only place items place ++ known_at ys place)) (sym before)
-          (subst (λ m. IsPrefix (known_items x) m) (sym after) used.known)
+      known_here = grind (arith, here_before, only-here, here_after)
 
       known_there : (p : ℕ) → p ≢ place → IsKnown p
       known_there p ne = (
         [],
-        append-nil (known_at xs p) ∙ sym (ap (λ l. l ++ known_at ys p) (only-there place p items ne)
+        append-nil _ ∙ sym (ap (λ l. l ++ known_at ys p) (only-there place p items ne)
             ∙ there_after known_items xs place p y [] ne),
       )
 
@@ -69,48 +55,30 @@ module _ {T : Type 0} (xs : List (Producer T Global AnyItems)) (place : ℕ) (x 
   zs = slice_set xs place y
 
   pub looks_at : HasLooked x y → LooksAt xs zs
-  looks_at used =
-      record {
-        rings = map-set_same pushes_to xs place y x (used.ring ∙ ap pushes_to at);
-        pushed = each_place (λ p. pushed_at zs p ≡ pushed_at xs p) place
-            (here_after sent xs place y [] h ∙ used.pushed ∙ sym (here_before sent xs place x [] h at))
-            (λ p ne. there_after sent xs place p y [] ne);
-        places = each_place (λ p. room_at xs p ≤ room_at zs p) place
-            (let before = here_before known_free xs place x 0 h at in let after = here_after known_free xs place y 0 h in let more =
-            used.places in omega arith) (λ p ne. let e = there_after known_free xs place p y 0 ne in omega arith);
-      }
+  looks_at used = grind (arith, map-set_same, each_place, here_after, here_before, there_after, used.places)
 
   pub pushes_at : (items : List T) → HasPushed x y items → PushesAt xs zs place items
   pushes_at items used =
       record {
         rings = map-set_same pushes_to xs place y x (used.ring ∙ ap pushes_to at);
         pushed = each_place (λ p. pushed_at zs p ≡ pushed_at xs p ++ only place items p) place pushed_here pushed_there;
-        places = each_place (λ p. room_at xs p ≡ room_at zs p + length (only place items p)) place places_here places_there;
+        places = each_place (λ p. room_at xs p ≡ room_at zs p + length _) place places_here places_there;
       }
     where
       pushed_here : pushed_at zs place ≡ pushed_at xs place ++ only place items place
-      pushed_here =
-          here_after sent xs place y [] h ∙ used.pushed ∙ ap₂ (λ l m. l ++ m) (sym (here_before sent xs place x [] h at))
-          (sym (only-here place items))
+      pushed_here = grind (arith, here_after, here_before, only-here)
 
       pushed_there : (p : ℕ) → p ≢ place → pushed_at zs p ≡ pushed_at xs p ++ only place items p
-      pushed_there p ne =
-          there_after sent xs place p y [] ne ∙ sym (ap (λ l. pushed_at xs p ++ l) (only-there place p items ne)
-          ∙ append-nil (pushed_at xs p))
+      pushed_there p ne = grind (arith, there_after, only-there, append-nil)
 
       places_here : room_at xs place ≡ room_at zs place + length (only place items place)
-      places_here =
-          here_before known_free xs place x 0 h at ∙ used.places
-          ∙ ap₂ (λ m l. m + length l) (sym (here_after known_free xs place y 0 h)) (sym (only-here place items))
+      places_here = grind (arith, here_before, here_after, only-here)
 
       places_there : (p : ℕ) → p ≢ place → room_at xs p ≡ room_at zs p + length (only place items p)
-      places_there p ne =
-          let e = there_after known_free xs place p y 0 ne in
-          let none = ap length (only-there place p items ne) in
-          omega arith
+      places_there p ne = grind (arith, there_after, only-there)
 
 -- nothing is known at a place whose end knows nothing
 pub known_none : {T : Type 0} (xs : List (Consumer T Global AnyItems)) (place : ℕ) (y : Consumer T Global AnyItems) → place < length xs
     → (r : Option T) → IfNone r (known_items y ≡ []) → IfNone r (known_at (slice_set xs place y) place ≡ [])
-known_none xs place y h None e = here_after known_items xs place y [] h ∙ e
+known_none xs place y h None e = grind (arith, here_after)
 known_none xs place y h (Some a) e = e

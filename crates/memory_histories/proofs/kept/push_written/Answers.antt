@@ -1,4 +1,4 @@
-use Rattle.std.proofs.Common.{◌≡◌, ℕ, ◌++◌, ◌∷◌, [], ◌∙◌, List, take, length, get_or, set, refl, ap, ap₂, arith}
+use Rattle.std.proofs.Common.{◌≡◌, ℕ, ◌++◌, ◌∷◌, [], ◌∙◌, List, take, length, get_or, set, refl, ap, arith}
 use Rattle.std.proofs.Math.Seq.{take-append_seam, get_or-append_seam}
 use Rattle.memory_histories.specs.declared.parts.StorePart.{StorePart}
 use Rattle.memory_histories.specs.Parts.{lane_at, lanes_of, unit_lanes, nothing, with_lanes, written}
@@ -10,12 +10,10 @@ set_last (x ∷ xs) p v = ap (λ ys. x ∷ ys) (set_last xs p v)
 
 changed_last : (f : StorePart → StorePart) (xs ps : List StorePart) (p d : StorePart) (k : ℕ) → k ≡ length xs → ps ≡ xs ++ p ∷ []
     → set ps k (f (get_or ps k d)) ≡ xs ++ f p ∷ []
-changed_last f xs ps p d k l e =
-    ap₂ (λ i (qs : List StorePart). set qs i (f (get_or qs i d))) l e
-    ∙ (ap (λ q. set (xs ++ p ∷ []) (length xs) (f q)) (get_or-append_seam xs p [] d) ∙ set_last xs p (f p))
+changed_last f xs ps p d k l e = grind (arith, get_or-append_seam, set_last)
 
 kept_whole : (k : ℕ) (xs ys zs : List StorePart) → k ≡ length xs → xs ≡ ys → take k (xs ++ zs) ≡ ys
-kept_whole k xs ys zs l e = ap (λ i. take i (xs ++ zs)) l ∙ (take-append_seam xs zs ∙ e)
+kept_whole k xs ys zs l e = grind (arith, take-append_seam)
 
 pub returns-clause-stores : goal.returns-clause-stores
 returns-clause-stores c =

@@ -13,8 +13,8 @@ lanes_from : (a : ℕ) (bs : List ℕ) (e n k : ℕ)
 lanes_from a bs e zero k = refl
 lanes_from a bs e (suc n) k =
     let next : a + (k + 1) ≡ a + k + 1 = omega arith in
-    ap₂ (λ (x : Option ℕ) (xs : List (Option ℕ)). x ∷ xs) (sym (lane_stored a bs e k))
-    (lanes_from a bs e n (k + 1) ∙ ap (λ i. map (lane_at a (lanes_of bs e)) (range_with_len i n)) next)
+    ap₂ (λ (x : Option ℕ) (xs : List _). x ∷ xs) (sym (lane_stored a bs e k))
+    (cc (lanes_from a bs e n _, next))
 
 pub returns-then-is_whole : goal.returns-then-is_whole
 returns-then-is_whole c =

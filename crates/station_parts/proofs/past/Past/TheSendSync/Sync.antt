@@ -5,4 +5,4 @@ use Rattle.station_parts.specs.contracts.past.Past.{the_row}
 use Rattle.station_parts.proofs.past.Past.TheSendSync.Send.{send}
 
 pub sync : (T : RattleType) → IsSync (the_row T)
-sync T = record { shared = λ d b o κ q. part_keyless (the_row T) (send T) q d b o }
+sync T = record { shared = λ d b o κ q. part_keyless _ (send T) q d b o }

@@ -25,7 +25,7 @@ use denote.Signature.{types_at, type_at}
 use denote.Steps.{nothing}
 use denote.Triple.Clauses.{Clauses, closing}
 use denote.Triple.Entry.{alive}
-use denote.Triple.Spec.{Meets, triple_of}
+use denote.Triple.Spec.{Meets}
 use denote.Triple.Table.{entered}
 use denote.Triple.Walked.{says, Stays, walk_of, ends_at, walk_Meets}
 use Rattle.station_parts.specs.contracts.past.Past.none.{ended, clauses}
@@ -77,7 +77,7 @@ module _ (Y : RattleType) (L : Laws Y) {M : Type 1} {𝓤 : Ura M} (𝓛 : Logic
 pub none_spec : {M : Type 1} → stated.statement M
 unfolding tables_of
 none_spec 𝓤 𝓛 𝓜 𝓡 wired Y laws =
-    let 𝓣 : Tables 𝓤 𝓛.H = tables_of 𝓤 𝓛.H 𝓜 (tables 𝓤 𝓛.H 𝓜 𝓡 𝓡.env) in
+    let 𝓣 = tables_of 𝓤 𝓛.H 𝓜 (tables 𝓤 𝓛.H 𝓜 𝓡 𝓡.env) in
     let held = clauses Y 𝓛 𝓜.mem 𝓡.returns in
-    entered 𝓤 𝓛.H (triple_of 𝓛 (ended Y).signature (closing 𝓛 (ended Y) held)) 𝓣.C 𝓣.Λ (#self (layouts (a_type ∷ []) (Y, tt)))
-    (function Y) (code.unfolded 𝓤 𝓛.H 𝓜 𝓡 wired (Y, tt)) (meets Y laws 𝓛 𝓜.mem 𝓡.returns 𝓣)
+    entered 𝓤 𝓛.H _ 𝓣.C 𝓣.Λ (#self (layouts (a_type ∷ []) (Y, tt)))
+    _ (code.unfolded 𝓤 𝓛.H 𝓜 𝓡 wired (Y, tt)) (meets Y laws 𝓛 𝓜.mem 𝓡.returns 𝓣)
