@@ -20,12 +20,12 @@ Word = List (Option ℕ)
 pub each_none : {X : Type 0} (P : X → Type 0) (p : X → Bool) (xs : List X) → list_any p xs ≡ false → Each (λ x. p x ≡ true → P x) xs
 each_none P p [] h = tt
 each_none P p (x ∷ xs) h =
-    let r = or_parts (p x) (list_any p xs) h in (λ t. let y : true ≡ false = sym t ∙ r.0 in cc, each_none P p xs r.1)
+    let r = or_parts (p x) _ h in (λ t. let y = sym t ∙ r.0 in cc, each_none P p xs r.1)
 
 none_filtered : {X : Type 0} (p q : X → Bool) (xs : List X) → list_any p xs ≡ false → list_any p (filter q xs) ≡ false
 none_filtered p q [] h = refl
 none_filtered p q (x ∷ xs) h =
-    let r = or_parts (p x) (list_any p xs) h in
+    let r = or_parts (p x) _ h in
     elim (cases_Bool (q x)) [
       | inl t ↦ rw t (rw r.0 (none_filtered p q xs r.1))
       | inr f ↦ rw f (none_filtered p q xs r.1)
@@ -71,13 +71,13 @@ pub found_each : {X : Type 0} (p : X → Bool) (xs : List X) (o : X) → IsAlone
 found_each p [] o a e = tt
 found_each p (x ∷ xs) o a e = elim (cases_Bool (p x)) [
   | inl t ↦ (λ u. some_same x o (rw t at e), each_none (λ y. y ≡ o) p xs (a.0 t))
-  | inr f ↦ (λ u. let y : true ≡ false = sym u ∙ f in cc, found_each p xs o a.1 (rw f at e))
+  | inr f ↦ (λ u. let y = sym u ∙ f in cc, found_each p xs o a.1 (rw f at e))
 ]
 
 found_one : (number : ℕ) (os : List Operation) (o : Operation) → find (has_number number) os ≡ Some o
     → One (λ x. (x ≡ o) × (has_number number x ≡ true)) os
 found_one number [] o e = cc
-found_one number (x ∷ xs) o e = elim (cases_Bool (has_number number x)) [
+found_one number (x ∷ xs) o e = elim (cases_Bool _) [
   | inl t ↦ inl (some_same x o (rw t at e), t)
   | inr f ↦ inr (found_one number xs o (rw f at e))
 ]
@@ -92,31 +92,29 @@ module _ (unit : UnitPlace) (number : ℕ) (m : UnitMemory) (opened : Opened) (l
   pub alone : IsAlone (is_load number) m.loads
   unfolding is_numbered
   alone =
-      alone_unmapped load_key is_numbered m.loads
-      (subst (IsAlone is_numbered) (sym link.loads)
-      (alone_mapped key is_numbered (filter (is_of unit) opened.loads)
+      alone_unmapped load_key is_numbered _
+      (rw (sym link.loads) at (alone_mapped key is_numbered (filter (is_of unit) opened.loads)
       (alone_filtered (has_number number) (is_of unit) opened.loads (alone_operation number opened.loads distinct))))
 
   -- each has the address of the operation
   pub has_address : Each (λ l. is_load number l ≡ true → l.address ≡ o.address) m.loads
   unfolding is_numbered
   has_address =
-      each_unmap load_key (λ p. is_numbered p ≡ true → p.1 ≡ o.address) m.loads
+      each_unmap load_key (λ p. is_numbered p ≡ true → p.1 ≡ o.address) _
       (subst (Each (λ p. is_numbered p ≡ true → p.1 ≡ o.address)) (sym link.loads)
-      (each_map key (λ p. is_numbered p ≡ true → p.1 ≡ o.address) (filter (is_of unit) opened.loads)
-      (each_filter (λ x. has_number number x ≡ true → x.address ≡ o.address) (is_of unit) opened.loads
+      (each_map key (λ p. is_numbered p ≡ true → p.1 ≡ o.address) _
+      (each_filter (λ x. has_number number x ≡ true → x.address ≡ o.address) _ opened.loads
       (each_weaker (λ x. has_number number x ≡ true → x ≡ o) (λ x. has_number number x ≡ true → x.address ≡ o.address)
-      (λ x f t. ap (λ (y : Operation). y.address) (f t)) opened.loads
+      (λ x f t. ap (λ y. y.address) (f t)) opened.loads
       (found_each (has_number number) opened.loads o (alone_operation number opened.loads distinct) found)))))
 
   -- there is one if the operation has a byte at the unit
   pub is_there : is_of unit o ≡ true → One (λ l. is_load number l ≡ true) m.loads
   unfolding is_numbered
   is_there t =
-      one_unmap load_key (λ p. is_numbered p ≡ true) m.loads
-      (subst (One (λ p. is_numbered p ≡ true)) (sym link.loads)
-      (one_map key (λ p. is_numbered p ≡ true) (filter (is_of unit) opened.loads)
-      (one_filter (λ x. has_number number x ≡ true) (is_of unit) opened.loads
+      one_unmap load_key (λ p. is_numbered p ≡ true) _
+      (rw (sym link.loads) at (one_map key (λ p. is_numbered p ≡ true) _
+      (one_filter (λ x. has_number number x ≡ true) _ opened.loads
       (one_weaker (λ x. (x ≡ o) × (has_number number x ≡ true)) (λ x. (has_number number x ≡ true) × (is_of unit x ≡ true))
       (λ x p. (p.1, ap (is_of unit) p.0 ∙ t)) opened.loads (found_one number opened.loads o found)))))
 
@@ -128,11 +126,11 @@ HaveGot number w ls = Each (λ l. is_load number l ≡ true → l.got ≡ Some w
 
 none_got : (number k b : ℕ) (ls : List OpenLoad) → list_any (is_load number) ls ≡ false → list_any (got_byte number k b) ls ≡ false
 none_got number k b [] h = refl
-none_got number k b (l ∷ ls) h = let r = or_parts (is_load number l) (list_any (is_load number) ls) h in rw r.0 (none_got number k b ls r.1)
+none_got number k b (l ∷ ls) h = let r = or_parts _ (list_any (is_load number) ls) h in rw r.0 (none_got number k b ls r.1)
 
 or_left : (a b : Bool) → (a || b) ≡ true → b ≡ false → a ≡ true
 or_left true b h f = refl
-or_left false b h f = let y : true ≡ false = sym h ∙ f in cc
+or_left false b h f = let y = sym h ∙ f in cc
 
 word_got : (k b : ℕ) (g : Option Word) → has_got k b g ≡ true → (w : Word) × (g ≡ Some w) × (may_show (lane_of k w) b ≡ true)
 word_got k b None h = cc
@@ -142,16 +140,16 @@ word_got k b (Some w) h = (w, refl, h)
 pub shown_word : (number k b : ℕ) (ls : List OpenLoad) → IsAlone (is_load number) ls → list_any (got_byte number k b) ls ≡ true
     → (w : Word) × (may_show (lane_of k w) b ≡ true) × One (λ l. l.got ≡ Some w) ls × HaveGot number w ls
 shown_word number k b [] a h = cc
-shown_word number k b (l ∷ ls) a h = elim (cases_Bool (is_load number l)) [
+shown_word number k b (l ∷ ls) a h = elim (cases_Bool _) [
   | inl t ↦
-      let none : list_any (is_load number) ls ≡ false = a.0 t in
-      let got : got_byte number k b l ≡ true = or_left (got_byte number k b l) (list_any (got_byte number k b) ls) h (none_got number k b ls
+      let none = a.0 t in
+      let got = or_left _ _ h (none_got number k b ls
       none) in
       let r = word_got k b l.got (and_parts (is_load number l) (has_got k b l.got) got).1 in
-      (r.0, r.2, inl r.1, (λ u. r.1, each_none (λ x. x.got ≡ Some r.0) (is_load number) ls none))
+      (r.0, r.2, inl r.1, (λ u. r.1, each_none (λ x. x.got ≡ Some r.0) _ ls none))
   | inr f ↦
       let r = shown_word number k b ls a.1 (rw f at h) in
-      (r.0, r.1, inr r.2, (λ u. let y : true ≡ false = sym u ∙ f in cc, r.3))
+      (r.0, r.1, inr r.2, (λ u. let y = sym u ∙ f in cc, r.3))
 ]
 
 -- the load under a number, and those before and behind it, or there is none
@@ -160,7 +158,7 @@ pub the_load : (number : ℕ) (ls : List OpenLoad) → IsAlone (is_load number) 
     ⊎ ((before : List OpenLoad) × (l : OpenLoad) × (after : List OpenLoad) × (ls ≡ before ++ l ∷ after)
     × (list_any (is_load number) before ≡ false) × (list_any (is_load number) after ≡ false))
 the_load number [] a = inl refl
-the_load number (l ∷ ls) a = elim (cases_Bool (is_load number l)) [
+the_load number (l ∷ ls) a = elim (cases_Bool _) [
   | inl t ↦ inr ([], l, ls, refl, refl, a.0 t)
   | inr f ↦ elim (the_load number ls a.1) [
     | inl none ↦ inl (rw f none)
@@ -172,6 +170,6 @@ pub got_between : (number : ℕ) (w : Word) (before : List OpenLoad) (l : OpenLo
     → list_any (is_load number) before ≡ false → list_any (is_load number) after ≡ false → l.got ≡ Some w
     → HaveGot number w (before ++ l ∷ after)
 got_between number w before l after b a e =
-    each_append (λ x. is_load number x ≡ true → x.got ≡ Some w) before (l ∷ after)
-    (each_none (λ x. x.got ≡ Some w) (is_load number) before b)
-    (λ t. e, each_none (λ x. x.got ≡ Some w) (is_load number) after a)
+    each_append (λ x. is_load number x ≡ true → x.got ≡ Some w) before _
+    (each_none (λ x. x.got ≡ Some w) _ before b)
+    (λ t. e, each_none (λ x. x.got ≡ Some w) _ after a)

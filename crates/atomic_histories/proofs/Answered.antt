@@ -38,7 +38,7 @@ find_mapped f p (y ∷ ys) x h = elim (cases_Bool (p (f y))) [
 
 pub find_watched : (number : ℕ) (path : List Stood) (ls : List WatchedLoad) (l : WatchedLoad) → find (is_under number) ls ≡ Some l
     → find (is_watched number) (map (watched path) ls) ≡ Some (watched path l)
-find_watched number path ls l h = find_mapped (watched path) (is_watched number) ls l h
+find_watched number path ls l h = find_mapped _ _ ls l h
 
 -- what it may have got of what stood there
 seen_answer : (unit : UnitPlace) (address since : ℕ) (bytes : List ℕ) (path : List Stood)
@@ -57,10 +57,10 @@ all_answer : (unit : UnitPlace) (number : ℕ) (bytes : List ℕ) (b : Branch) (
 all_answer unit number bytes b path l [] a h = refl
 all_answer unit number bytes b path l (x ∷ xs) a h =
     let rest = all_answer unit number bytes b path l xs a.1 h in
-    elim (cases_Bool (is_under number x)) [
+    elim (cases_Bool _) [
       | inl t ↦
-          let have : may_have unit bytes b (watched path x) ≡ true = ap (λ y. may_have unit bytes b (watched path y)) (a.0 t) ∙ h in
-          and_from (not (is_watched number (watched path x)) || may_have unit bytes b (watched path x)) _
+          let have = ap (λ y. may_have unit bytes b (watched path y)) (a.0 t) ∙ h in
+          and_from _ _
           (or_right (not (is_watched number (watched path x))) (may_have unit bytes b (watched path x)) have) rest
       | inr f ↦ rw f rest
     ]
@@ -70,7 +70,7 @@ no_answer : (unit : UnitPlace) (number : ℕ) (bytes : List ℕ) (b : Branch) (p
     → list_all (λ k. not (is_watched number k) || may_have unit bytes b k) (map (watched path) ls) ≡ true
 no_answer unit number bytes b path [] h = refl
 no_answer unit number bytes b path (x ∷ xs) h = elim (cases_Bool (is_under number x)) [
-  | inl t ↦ let y : Some x ≡ None = rw t at h in cc
+  | inl t ↦ let y = rw t at h in cc
   | inr f ↦ rw f (no_answer unit number bytes b path xs (rw f at h))
 ]
 
@@ -97,7 +97,7 @@ module _ (loads : List WatchedLoad) (moment : ℕ) (asked : Each (IsAsked moment
 
   module _ (alone : IsAlone (is_under number) loads) where
     each_one : Each (λ x. is_under number x ≡ true → x ≡ l) loads
-    each_one = found_each (is_under number) loads l alone open_
+    each_one = found_each _ loads l alone open_
 
     -- the word of now is the answer's
     pub word_answers : (e : Pair) → is_word_of unit.first e.word l.address bytes ≡ true → HasAnswers loads unit number bytes e
@@ -108,7 +108,7 @@ module _ (loads : List WatchedLoad) (moment : ℕ) (asked : Each (IsAsked moment
     past_answers : (e : Pair) (path : List Stood) → list_any is path ≡ true → has_answer unit number bytes (way_on loads e path) ≡ true
     past_answers e path h =
         all_answer unit number bytes (way_on loads e path) path l loads each_one
-        (or_right (is_word_of unit.first e.word l.address bytes) _ (sym (seen_answer unit l.address l.since bytes path) ∙ h))
+        (or_right _ _ (sym (seen_answer unit l.address l.since bytes path) ∙ h))
 
     got_on : (S : Branch → Type 0) (e : Pair) (p : Option Past) → ((path : List Stood) → HasAny p path → HasAny (got is e.past) path)
         → IsAnyBy moment p → EachWay loads S e
@@ -130,7 +130,7 @@ module _ (loads : List WatchedLoad) (moment : ℕ) (asked : Each (IsAsked moment
         → Each (Got S) (cons_any (pair_got unit bytes l e) [])
     got_one S e s = elim (cases_Bool (is_word_of unit.first e.word l.address bytes)) [
       | inl t ↦ rw t ((s, word_answers e t), tt)
-      | inr f ↦ rw f (got_on S e (got is e.past) (λ path h. h) (by_got moment is e.past s.1) s.0)
+      | inr f ↦ rw f (got_on S e _ (λ path h. h) (by_got moment is e.past s.1) s.0)
     ]
 
     cons_each : (Q : Pair → Type 0) (o : Option Pair) (es : List Pair) → Each Q (cons_any o []) → Each Q es → Each Q (cons_any o es)
@@ -236,7 +236,7 @@ module _ (loads : List WatchedLoad) (moment : ℕ) (asked : Each (IsAsked moment
 
     one_side : (e : Pair) (es : List Pair) → Leading e → One Leading (gots (e ∷ es)) ⊎ One Later (misses (e ∷ es))
     one_side e es (path, h, r) = elim (cases_Bool (is_word_of unit.first e.word l.address bytes)) [
-      | inl t ↦ let one : One Leading (e ∷ gots es) = inl (path, h, r) in inl (rw t one)
+      | inl t ↦ let one = inl (path, h, r) in inl (rw t one)
       | inr f ↦ elim (cases_Bool (list_any is path)) [
         | inl y ↦ inl (rw f (put_got e path (got is e.past) (got_has is e.past path h y) r (gots es)))
         | inr n ↦ inr (rw f (put_missed e path (missed is e.past) (missed_has is e.past path h n) r (late_path e path n) (misses es)))
@@ -254,7 +254,7 @@ module _ (loads : List WatchedLoad) (moment : ℕ) (asked : Each (IsAsked moment
     pub split_complete : (es : List Pair) → One Leading es → One Leading (gots es) ⊎ One Later (with_hope aim (misses es))
     split_complete es h = elim (sides es h) [
       | inl a ↦ inl a
-      | inr a ↦ inr (one_filter Later aim.hope (misses es) (one_weaker Later (λ e. Later e × (aim.hope e ≡ true)) hopeful (misses es) a))
+      | inr a ↦ inr (one_filter Later aim.hope _ (one_weaker Later (λ e. Later e × (aim.hope e ≡ true)) hopeful _ a))
     ]
       where
         hopeful : (e : Pair) → Later e → Later e × (aim.hope e ≡ true)
@@ -283,28 +283,28 @@ pub path_cut : (left : List WatchedLoad) (since : Option ℕ) → oldest left �
     → (path : List Stood) × Has e.past path × (way_on left (pair_cut since e) more ≡ way_on left e path)
 path_cut left None h e more has =
     let r = some_path e.past in
-    let none : left ≡ [] = oldest_none left h in
+    let none = oldest_none left h in
     (r.0, r.1, subst (λ ls. way_on ls (pair_cut None e) more ≡ way_on ls e r.0) (sym none) refl)
 path_cut left (Some from) h e more has =
     let r = has_cut from e.past more has in
-    let same : map (watched more) left ≡ map (watched r.0) left =
+    let same =
     ap (λ p. map (watched p) left) r.2 ∙ watched_cut from r.0 left (oldest_first left from h) in
     (r.0, r.1, λ i. record { word = e.word; stores = e.stores; loads = same i })
 
 pub cut_on : (left : List WatchedLoad) (since : Option ℕ) → oldest left ≡ since → (e : Pair) (path : List Stood) → Has e.past path
     → (more : List Stood) × Has (cut_for since e.past) more × (way_on left (pair_cut since e) more ≡ way_on left e path)
 cut_on left None h e path has =
-    let none : left ≡ [] = oldest_none left h in
+    let none = oldest_none left h in
     ([], refl, subst (λ ls. way_on ls (pair_cut None e) [] ≡ way_on ls e path) (sym none) refl)
 cut_on left (Some from) h e path has =
-    let same : map (watched (cut_path from path)) left ≡ map (watched path) left = watched_cut from path left (oldest_first left from h) in
+    let same = watched_cut from path left (oldest_first left from h) in
     (cut_path from path, cut_has from e.past path has, λ i. record { word = e.word; stores = e.stores; loads = same i })
 
 pub each_cut : (left : List WatchedLoad) (P : Branch → Type 0) (b : Bool) (es : List Pair) → Each (EachWay left P) es
     → Each (EachWay left P) (if b then map (pair_cut (oldest left)) es else es)
 each_cut left P true es a =
-    each_map (pair_cut (oldest left)) (EachWay left P) es (each_weaker (EachWay left P) (λ e. EachWay left P (pair_cut (oldest left) e))
-    (λ e f more has. let r = path_cut left (oldest left) refl e more has in subst P (sym r.2) (f r.0 r.1)) es a)
+    each_map _ _ es (each_weaker _ (λ e. EachWay left P _)
+    (λ e f more has. let r = path_cut left _ refl e more has in subst P (sym r.2) (f r.0 r.1)) es a)
 each_cut left P false es a = a
 
 pub one_cut : (left : List WatchedLoad) (P : Branch → Type 0) (b : Bool) (es : List Pair) → One (OneWay left P) es
@@ -314,7 +314,7 @@ one_cut left P true es o = put es o
     put : (xs : List Pair) → One (OneWay left P) xs → One (OneWay left P) (map (pair_cut (oldest left)) xs)
     put [] h = absurd h
     put (e ∷ xs) (inl q) =
-        let r = cut_on left (oldest left) refl e q.0 q.1 in
+        let r = cut_on left _ refl e q.0 q.1 in
         inl (r.0, r.1, subst P (sym r.2) q.2)
     put (e ∷ xs) (inr h) = inr (put xs h)
 one_cut left P false es o = o
@@ -341,9 +341,9 @@ by_cut_for n (Some from) p h = by_cut n from p h
 pub moment_by : (b : Bool) (n : ℕ) (left : List WatchedLoad) (es : List Pair) → Each (IsPairBy n) es
     → Each (IsPairBy (if b then moment_with n left else n)) (if b then map (pair_cut (oldest left)) es else es)
 moment_by true n [] es a =
-    each_map (pair_cut None) (IsPairBy 0) es (each_weaker (IsPairBy n) (λ e. IsPairBy 0 (pair_cut None e)) (λ e h. tt) es a)
+    each_map _ _ es (each_weaker _ (λ e. IsPairBy 0 (pair_cut None e)) (λ e h. tt) es a)
 moment_by true n (l ∷ ls) es a =
-    let since : Option ℕ = oldest (l ∷ ls) in
-    each_map (pair_cut since) (IsPairBy n) es
-    (each_weaker (IsPairBy n) (λ e. IsPairBy n (pair_cut since e)) (λ e h. by_cut_for n since e.past h) es a)
+    let since = oldest (l ∷ ls) in
+    each_map _ _ es
+    (each_weaker _ (λ e. IsPairBy n (pair_cut since e)) (λ e h. by_cut_for n since e.past h) es a)
 moment_by false n left es a = a

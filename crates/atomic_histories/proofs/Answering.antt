@@ -1,11 +1,11 @@
 -- A load is answered.
-use Rattle.std.proofs.Common.{◌≡◌, ℕ, Bool, true, false, ◌||◌, not, ◌==◌, List, [], ◌∷◌, ◌++◌, map, filter, Option, Some, None, inl, inr}
+use Rattle.std.proofs.Common.{◌≡◌, ℕ, Bool, true, false, ◌||◌, not, ◌==◌, List, [], ◌∷◌, map, filter, Option, Some, None, inl, inr}
 use Rattle.std.proofs.Common.{refl, sym, ap, ◌∙◌, subst}
 use Rattle.std.specs.List.{list_all, list_any}
 use Rattle.std.proofs.lemmas.Bool.{cases_Bool, and_parts, and_from}
 use Rattle.atomic_histories.specs.declared.unit.UnitPlace.{UnitPlace}
-use Rattle.atomic_histories.specs.Words.{written, is_word_of}
-use Rattle.atomic_histories.specs.Law.{OpenLoad, UnitMemory, done_store, is_load, is_got, may_answer_load, without_load}
+use Rattle.atomic_histories.specs.Words.{is_word_of}
+use Rattle.atomic_histories.specs.Law.{OpenLoad, UnitMemory, is_load, is_got, may_answer_load, without_load}
 use Rattle.atomic_histories.specs.Branches.{Watched, Branch, with_word, is_watched, may_have, has_answer, branch_without_load}
 use Rattle.atomic_histories.specs.Stands.{One, MayHaveGot, AreWatched, IsOn, Leads, now, later}
 
@@ -23,9 +23,9 @@ watched_filter : (number : ℕ) (w : Word) (ls : List Watched) (ms : List OpenLo
 watched_filter number w [] [] h = tt
 watched_filter number w [] (m ∷ ms) h = absurd h
 watched_filter number w (l ∷ ls) [] h = absurd h
-watched_filter number w (l ∷ ls) (m ∷ ms) h = elim (cases_Bool (is_watched number l)) [
-  | inl t ↦ let u : is_load number m ≡ true = ap (λ n. n == number) (sym h.0.0) ∙ t in rw (t, u) (watched_filter number w ls ms h.1)
-  | inr f ↦ let u : is_load number m ≡ false =
+watched_filter number w (l ∷ ls) (m ∷ ms) h = elim (cases_Bool _) [
+  | inl t ↦ let u = ap (λ n. n == number) (sym h.0.0) ∙ t in rw (t, u) (watched_filter number w ls ms h.1)
+  | inr f ↦ let u =
       ap (λ n. n == number) (sym h.0.0) ∙ f in rw (f, u) (h.0, watched_filter number w ls ms h.1)
 ]
 
@@ -41,11 +41,10 @@ left_more number w (l ∷ ls) = elim (cases_Bool (is_watched number l)) [
 pub leads_without_load : (number : ℕ) {e : Branch} {m : UnitMemory} → Leads e m
     → Leads (branch_without_load number e) (without_load number m)
 leads_without_load number {e} {m} (now o) =
-    now (record { word = o.word; stores = o.stores; loads = watched_filter number e.word e.loads m.loads o.loads })
+    now (record { word = o.word; stores = o.stores; loads = watched_filter number e.word e.loads _ o.loads })
 leads_without_load number {e} {m} (later before s after split open_ r) =
     later before s after split open_
-    (subst (λ ls. Leads (record { word = written s.bytes e.word; stores = before ++ done_store s ∷ after; loads = ls })
-    (without_load number m)) (left_more number e.word e.loads) (leads_without_load number r))
+    (rw (left_more number e.word e.loads) at (leads_without_load number r))
 
 -- What the load may have got. ----
 
@@ -58,7 +57,7 @@ any_found p (x ∷ xs) h = elim (cases_Bool (p x)) [
 
 any_true : (p : Word → Bool) (v : Word) (xs : List Word) → p v ≡ true → One (λ y. v ≡ y) xs → list_any p xs ≡ true
 any_true p v [] t h = absurd h
-any_true p v (x ∷ xs) t (inl e) = let u : p x ≡ true = ap p (sym e) ∙ t in rw u refl
+any_true p v (x ∷ xs) t (inl e) = let u = ap p (sym e) ∙ t in rw u refl
 any_true p v (x ∷ xs) t (inr h) = elim (cases_Bool (p x)) [
   | inl u ↦ rw u refl
   | inr u ↦ rw u (any_true p v xs t h)
@@ -75,7 +74,7 @@ or_left_true false b h = cc
 -- a word that a load may have got, with the bytes of its answer
 have_word : (unit : UnitPlace) (bytes : List ℕ) (e : Branch) (l : Watched) → may_have unit bytes e l ≡ true
     → (v : Word) × (is_word_of unit.first v l.address bytes ≡ true) × MayHaveGot e.word l.words (Some v)
-have_word unit bytes e l h = elim (cases_Bool (is_word_of unit.first e.word l.address bytes)) [
+have_word unit bytes e l h = elim (cases_Bool _) [
   | inl t ↦ (e.word, t, inl refl)
   | inr f ↦ let r = any_found (λ w. is_word_of unit.first w l.address bytes) l.words (rw f at h) in (r.0, r.1, inr r.2)
 ]
@@ -84,9 +83,9 @@ got_have : (unit : UnitPlace) (bytes : List ℕ) (e : Branch) (l : Watched) (g :
     → MayHaveGot e.word l.words g → may_have unit bytes e l ≡ true
 got_have unit bytes e l None t h = cc
 got_have unit bytes e l (Some v) t (inl same) =
-    or_left_true (is_word_of unit.first e.word l.address bytes) _ (ap (λ w. is_word_of unit.first w l.address bytes) (sym same) ∙ t)
+    or_left_true _ _ (ap (λ w. is_word_of unit.first w l.address bytes) (sym same) ∙ t)
 got_have unit bytes e l (Some v) t (inr past) =
-    or_right_true (is_word_of unit.first e.word l.address bytes) _
+    or_right_true _ _
     (any_true (λ w. is_word_of unit.first w l.address bytes) v l.words t past)
 
 -- whether one load stands in the way of an answer
@@ -103,22 +102,22 @@ from_law unit number bytes e [] [] h t = refl
 from_law unit number bytes e [] (m ∷ ms) h t = absurd h
 from_law unit number bytes e (l ∷ ls) [] h t = absurd h
 from_law unit number bytes e (l ∷ ls) (m ∷ ms) h t =
-    let p = and_parts (law unit number bytes m) (list_all (law unit number bytes) ms) t in
-    let rest : list_all (judge unit number bytes e) ls ≡ true = from_law unit number bytes e ls ms h.1 p.1 in
+    let p = and_parts _ (list_all (law unit number bytes) ms) t in
+    let rest = from_law unit number bytes e ls ms h.1 p.1 in
     elim (cases_Bool (is_watched number l)) [
       | inr f ↦ rw f rest
       | inl u ↦
-          let v : is_load number m ≡ true = ap (λ n. n == number) (sym h.0.0) ∙ u in
-          let got : is_got unit m.address bytes m.got ≡ true = rw v at p.0 in
-          let have : may_have unit bytes e l ≡ true =
-          got_have unit bytes e l m.got (ap (λ a. is_got unit a bytes m.got) h.0.1 ∙ got) h.0.2 in
+          let v = ap (λ n. n == number) (sym h.0.0) ∙ u in
+          let got = rw v at p.0 in
+          let have =
+          got_have unit bytes e l m.got (cc (h.0.1, got)) h.0.2 in
           and_from (judge unit number bytes e l) (list_all (judge unit number bytes e) ls)
           (or_right_true (not (is_watched number l)) (may_have unit bytes e l) have) rest
     ]
 
 pub answer_on : (unit : UnitPlace) (number : ℕ) (bytes : List ℕ) (m : UnitMemory) → may_answer_load unit number bytes m.loads ≡ true
     → (e : Branch) → IsOn e m → has_answer unit number bytes e ≡ true
-answer_on unit number bytes m t e o = from_law unit number bytes e e.loads m.loads o.loads t
+answer_on unit number bytes m t e o = from_law unit number bytes e e.loads _ o.loads t
 
 filter_drops : (number : ℕ) (m : OpenLoad) (ms ns : List OpenLoad) → is_load number m ≡ true → filter (keeps number) ms ≡ ns
     → filter (keeps number) (m ∷ ms) ≡ ns
@@ -132,10 +131,10 @@ with_answers : (unit : UnitPlace) (number : ℕ) (bytes : List ℕ) (e : Branch)
 with_answers unit number bytes e [] [] t h = ([], tt, refl, refl)
 with_answers unit number bytes e [] (n ∷ ns) t h = absurd h
 with_answers unit number bytes e (l ∷ ls) ns t h =
-    let p = and_parts (judge unit number bytes e l) (list_all (judge unit number bytes e) ls) t in
+    let p = and_parts _ (list_all (judge unit number bytes e) ls) t in
     elim (cases_Bool (is_watched number l)) [
       | inl u ↦
-          let have : may_have unit bytes e l ≡ true = rw u at p.0 in
+          let have = rw u at p.0 in
           let v = have_word unit bytes e l have in
           let r = with_answers unit number bytes e ls ns p.1 (rw u at h) in
           let m : OpenLoad = record { number = l.number; address = l.address; got = Some v.0 } in (
@@ -159,7 +158,7 @@ with_answers unit number bytes e (l ∷ ls) ns t h =
     other unit number bytes e l ls [] f h rest = absurd h
     other unit number bytes e l ls (n ∷ ns) f h rest =
         let r = rest ns h.1 in
-        let g : is_load number n ≡ false = ap (λ k. k == number) (sym h.0.0) ∙ f in
+        let g = ap (λ k. k == number) (sym h.0.0) ∙ f in
         (n ∷ r.0, (h.0, r.1), rw g r.2, rw (g, r.3) refl)
 
 pub sound_without_load : (unit : UnitPlace) (number : ℕ) (bytes : List ℕ) (P Q : UnitMemory → Type 0)
@@ -169,5 +168,5 @@ pub sound_without_load : (unit : UnitPlace) (number : ℕ) (bytes : List ℕ) (P
 sound_without_load unit number bytes P Q seen e g sound n o =
     let r = with_answers unit number bytes e e.loads n.loads g o.loads in
     let m0 : UnitMemory = record { word = n.word; stores = n.stores; loads = r.0 } in
-    let q : Q (without_load number m0) = seen m0 (sound m0 (record { word = o.word; stores = o.stores; loads = r.1 })) r.2 in
+    let q = seen m0 (sound m0 (record { word = o.word; stores = o.stores; loads = r.1 })) r.2 in
     subst (λ ls. Q (record { word = n.word; stores = n.stores; loads = ls })) r.3 q

@@ -1,9 +1,8 @@
 -- Events that a unit takes where it stands: what the search would find, and what is kept of the units.
-use Rattle.std.proofs.Common.{◌≡◌, ◌≢◌, ℕ, zero, suc, ◌+◌, ◌*◌, ◌/◌, ◌<◌, ◌≤◌, Bool, true, false, ◌&&◌, ◌||◌, not, ◌==◌, if◌then◌else◌}
-use Rattle.std.proofs.Common.{List, [], ◌∷◌, filter, max, length, take, get_or, Option, Some, None, Result, Ok, Err, IfOk, OnErr}
+use Rattle.std.proofs.Common.{◌≡◌, ◌≢◌, ℕ, zero, suc, ◌+◌, ◌*◌, ◌/◌, ◌<◌, ◌≤◌, Bool, true, false, ◌&&◌, ◌||◌, not, ◌==◌}
+use Rattle.std.proofs.Common.{List, [], ◌∷◌, length, take, get_or, Option, Some, None, Result, Ok, Err, IfOk, OnErr}
 use Rattle.std.proofs.Common.{inl, inr, refl, sym, ap, ap₂, ◌∙◌, subst, arith}
 use Rattle.std.specs.List.{find, list_all, range_with_len}
-use Rattle.std.proofs.Math.Path.{fun_ext}
 use Rattle.std.proofs.lemmas.List.{length-take-le, take-take, get_or-take}
 use Rattle.std.proofs.lemmas.Bool.{cases_Bool, cases_eq, cases_lt, and_parts, and_from, lt-ltb, le-ltb, lt-leb, le-leb, eq-eqb, ne_eqb}
 use Rattle.std.proofs.lemmas.Bool.{or_left, or_right}
@@ -25,11 +24,11 @@ use Rattle.atomic_histories.specs.Words.{byte_for, written, is_as_it_stood, is_w
 use Rattle.atomic_histories.specs.Law.{unit_at, may_answer_store, done_store}
 use Rattle.atomic_histories.specs.Pasts.{Past, Stood, stood, begins, after, got, missed, oldest, earlier, cut_for, overwritten}
 use Rattle.atomic_histories.specs.Branches.{gives, may_come_in, may_come}
-use Rattle.atomic_histories.specs.Followed.{Pair, Ways, Aim, first_ways, has_way, effect_aim, word_aim, pair_after, cons_effect}
-use Rattle.atomic_histories.specs.Followed.{effects_from, effects, with_pair, with_pairs, out_after, next_after, met, rounds, found}
-use Rattle.atomic_histories.specs.Followed.{is_under, is_first, loads_without, moment_with, pair_got, pair_missed, gathered}
+use Rattle.atomic_histories.specs.Followed.{Pair, Ways, Aim, first_ways, has_way, effect_aim, word_aim, pair_after}
+use Rattle.atomic_histories.specs.Followed.{out_after, met, found}
+use Rattle.atomic_histories.specs.Followed.{is_under, loads_without, moment_with, pair_missed, gathered}
 use Rattle.atomic_histories.specs.Followed.{with_hope, answered_load, answered_store, ways_without_load}
-use Rattle.atomic_histories.specs.Held.{Held, covered, units_of, changed, is_among}
+use Rattle.atomic_histories.specs.Held.{Held, covered, units_of, is_among}
 use Rattle.atomic_histories.specs.Judge.{bytes_of, kept_or, kept_at, words_of, IsTaken}
 use Rattle.atomic_histories.specs.Shown.{past_at, past_of, pasts}
 use Rattle.atomic_histories.proofs.Shares.{stands}
@@ -47,35 +46,19 @@ met_alone loads moment zero aim e = refl
 met_alone loads moment (suc n) aim e = met_alone loads moment n aim e
 
 out_here : (goal : Pair → Bool) (e : Pair) → goal e ≡ true → out_after goal [] (e ∷ []) ≡ e ∷ []
-out_here goal e t = ap (λ b. if b then with_pair [] e else []) t
+out_here goal e t = grind arith
 
 -- a pair that meets what is wanted is the one that is found
 found_here : (loads : List WatchedLoad) (moment : ℕ) (aim : Aim) (e : Pair) → aim.goal e ≡ true
     → found loads moment aim [] (e ∷ []) ≡ e ∷ []
-found_here loads moment aim e t =
-    let n : ℕ = rounds (e ∷ []) in
-    let next : next_after loads moment aim (e ∷ []) ≡ [] =
-    ap (λ b. if b then [] else with_pairs [] (filter aim.hope (effects loads moment e))) t in
-    ap (λ out. met loads moment n aim out (next_after loads moment aim (e ∷ []))) (out_here aim.goal e t)
-    ∙ (ap (met loads moment n aim (e ∷ [])) next ∙ met_alone loads moment n aim e)
+found_here loads moment aim e t = grind (arith, aim.hope, out_here, aim.goal, met_alone)
 
 -- so is what its one store makes of a pair that doesn't
 found_next : (loads : List WatchedLoad) (moment : ℕ) (aim : Aim) (e : Pair) (s : OpenStore) → e.stores ≡ s ∷ [] → s.is_done ≡ false
     → aim.goal e ≡ false → aim.goal (pair_after (overwritten loads moment e.word e.past) e [] s []) ≡ true
     → aim.hope (pair_after (overwritten loads moment e.word e.past) e [] s []) ≡ true
     → found loads moment aim [] (e ∷ []) ≡ pair_after (overwritten loads moment e.word e.past) e [] s [] ∷ []
-found_next loads moment aim e s one open_ f t hope =
-    let past : Past = overwritten loads moment e.word e.past in
-    let on : Pair = pair_after past e [] s [] in
-    let made : effects loads moment e ≡ on ∷ [] = ap (effects_from past e []) one ∙ ap (λ b. cons_effect b on []) open_ in
-    let hopeful : filter aim.hope (effects loads moment e) ≡ on ∷ [] =
-    ap (filter aim.hope) made ∙ ap (λ b. if b then on ∷ [] else []) hope in
-    let out : out_after aim.goal [] (e ∷ []) ≡ [] = ap (λ b. if b then with_pair [] e else []) f in
-    let next : next_after loads moment aim (e ∷ []) ≡ on ∷ [] =
-    ap (λ b. if b then [] else with_pairs [] (filter aim.hope (effects loads moment e))) f ∙ ap (with_pairs []) hopeful in
-    ap (λ stores. met loads moment (suc (max 0 (length stores))) aim [] (e ∷ [])) one
-    ∙ (ap (λ es. met loads moment 1 aim es (next_after loads moment aim (e ∷ []))) out
-    ∙ (ap (λ es. met loads moment 1 aim [] es) next ∙ out_here aim.goal on t))
+found_next loads moment aim e s one open_ f t hope = grind arith
 
 -- Hope for the word that a store makes. ----
 
@@ -96,30 +79,27 @@ none_asked (Some b) = refl
 lane_comes : (bs ws : Word) (k : ℕ) (answer : Option ℕ) → is_as_it_stood (get_or (written bs ws) k None) answer ≡ true
     → (is_as_it_stood (get_or ws k None) answer || gives (get_or bs k None) answer) ≡ true
 unfolding written
-lane_comes [] ws k answer h = or_left (is_as_it_stood (get_or ws k None) answer) _ h
+lane_comes [] ws k answer h = or_left _ _ h
 lane_comes (x ∷ bs) [] k answer h = refl
-lane_comes (None ∷ bs) (w ∷ ws) zero answer h = or_left (is_as_it_stood w answer) _ h
-lane_comes (Some b ∷ bs) (w ∷ ws) zero None h = or_left (is_as_it_stood w None) _ (none_asked w)
-lane_comes (Some b ∷ bs) (w ∷ ws) zero (Some c) h = or_right (is_as_it_stood w (Some c)) (b == c) h
+lane_comes (None ∷ bs) (w ∷ ws) zero answer h = or_left _ _ h
+lane_comes (Some b ∷ bs) (w ∷ ws) zero None h = or_left _ _ (none_asked w)
+lane_comes (Some b ∷ bs) (w ∷ ws) zero (Some c) h = or_right _ _ h
 lane_comes (x ∷ bs) (w ∷ ws) (suc k) answer h = lane_comes bs ws k answer h
 
 all_true : {X : Type 0} (p : X → Bool) → ((x : X) → p x ≡ true) → (xs : List X) → list_all p xs ≡ true
 all_true p f [] = refl
-all_true p f (x ∷ xs) = and_from (p x) (list_all p xs) (f x) (all_true p f xs)
+all_true p f (x ∷ xs) = and_from (p x) _ (f x) (all_true p f xs)
 
 -- a word that is an answer's hopes for it
 pub word_hope : (unit : UnitPlace) (address : ℕ) (bytes : List ℕ) (word : Word) (stores : List OpenStore)
     → is_word_of unit.first word address bytes ≡ true → may_come unit address bytes word stores ≡ true
-word_hope unit address bytes word stores h =
-    all_true (λ k. may_come_in k word stores (byte_for address bytes (unit.first + k)))
-    (λ k. or_left (is_as_it_stood (get_or word k None) (byte_for address bytes (unit.first + k))) _
-    (word_lane unit.first word address bytes k h)) (range_with_len 0 8)
+word_hope unit address bytes word stores h = grind (arith, all_true, or_left, word_lane, unit.first)
 
 -- so does one of which a store makes it
 pub next_hope : (unit : UnitPlace) (address : ℕ) (bytes : List ℕ) (word : Word) (s : OpenStore) → s.is_done ≡ false
     → is_word_of unit.first (written s.bytes word) address bytes ≡ true → may_come unit address bytes word (s ∷ []) ≡ true
 next_hope unit address bytes word s open_ h =
-    all_true (λ k. may_come_in k word (s ∷ []) (byte_for address bytes (unit.first + k))) each (range_with_len 0 8)
+    all_true (λ k. may_come_in k word (s ∷ []) _) each (range_with_len 0 8)
   where
     last : (a b d : Bool) → d ≡ false → (a || b) ≡ true → (a || ((not d && b) || false)) ≡ true
     last true b d e t = refl
@@ -127,45 +107,42 @@ next_hope unit address bytes word s open_ h =
     last false false d e t = cc
 
     each : (k : ℕ) → may_come_in k word (s ∷ []) (byte_for address bytes (unit.first + k)) ≡ true
-    each k =
-        last (is_as_it_stood (get_or word k None) (byte_for address bytes (unit.first + k)))
-        (gives (get_or s.bytes k None) (byte_for address bytes (unit.first + k))) s.is_done open_
-        (lane_comes s.bytes word k (byte_for address bytes (unit.first + k))
-        (word_lane unit.first (written s.bytes word) address bytes k h))
+    each k = grind (arith, last, s.is_done, lane_comes, s.bytes, unit.first, word_lane)
 
 -- Loads. ----
 
 -- it is the word of a stretch, or one before that
 stands_in : (ss : List Stretch) (end i : ℕ) (s : Stretch) → i < end → end ≤ length ss → s ≡ get_or ss i s
     → past_at (pasts (take end ss)) (Behind i) ≡ past_of (pasts (take i ss)) s
-stands_in ss end i s l le e =
-    stands (take end ss) i s (omega (arith, length-take-le end ss le)) (e ∙ sym (get_or-take end ss i s l))
-    ∙ ap (λ xs. past_of (pasts xs) s) (take-take i end ss (omega (arith, l)))
+stands_in ss end i s l le e = cc (
+  stands _ i s (omega (arith, length-take-le end ss le)) (e ∙ sym (get_or-take end ss i s l)),
+  take-take i end ss (omega (arith, l)),
+)
 
 -- the word of a stretch, on the past of those before it
 pub stood_at : (ss : List Stretch) (end i : ℕ) (d : Stretch) (b earlier : Before) (word : Word) (moment : ℕ) → i < end → end ≤ length ss
     → get_or ss i d ≡ Overwritten word moment earlier → b ≡ Behind i
     → past_at (pasts (take end ss)) b ≡ after word moment (past_at (pasts (take i ss)) earlier)
 stood_at ss end i d b earlier word moment l le is at_ =
-    let s : Stretch = Overwritten word moment earlier in
+    let s = Overwritten word moment earlier in
     ap (past_at (pasts (take end ss))) at_
     ∙ stands_in ss end i s l le (sym is ∙ same_at ss i d s (omega (arith, l, le)))
 
 pub got_here : (is : Stood → Bool) (p q : Past) (word : Word) (moment : ℕ) → p ≡ after word moment q → is (stood word moment) ≡ true
     → got is p ≡ Some p
-got_here is p q word moment e t = subst (λ x. got is x ≡ Some x) (sym e) (rw t refl)
+got_here is p q word moment e t = grind arith
 
 pub got_later : (is : Stood → Bool) (p q : Past) (word : Word) (moment : ℕ) → p ≡ after word moment q → is (stood word moment) ≡ false
     → got is q ≡ Some q → got is p ≡ Some p
-got_later is p q word moment e f g = subst (λ x. got is x ≡ Some x) (sym e) (rw (f, g) refl)
+got_later is p q word moment e f g = grind arith
 
 pub missed_here : (is : Stood → Bool) (p q : Past) (word : Word) (moment : ℕ) → p ≡ after word moment q → is (stood word moment) ≡ true
     → missed is p ≡ None
-missed_here is p q word moment e t = subst (λ x. missed is x ≡ None) (sym e) (rw t refl)
+missed_here is p q word moment e t = grind arith
 
 pub missed_later : (is : Stood → Bool) (p q : Past) (word : Word) (moment : ℕ) → p ≡ after word moment q → is (stood word moment) ≡ false
     → missed is q ≡ None → missed is p ≡ None
-missed_later is p q word moment e f m = subst (λ x. missed is x ≡ None) (sym e) (rw (f, m) refl)
+missed_later is p q word moment e f m = grind arith
 
 -- one that may have got the word that the one store makes, where nothing stood before
 load_next : (unit : UnitPlace) (bytes : List ℕ) (l : WatchedLoad) (u : Ways) (e : Pair) (s : OpenStore) → u.pairs ≡ e ∷ []
@@ -173,11 +150,11 @@ load_next : (unit : UnitPlace) (bytes : List ℕ) (l : WatchedLoad) (u : Ways) (
     → is_word_of unit.first (written s.bytes e.word) l.address bytes ≡ true
     → answered_load unit bytes (Some l) u ≡ pair_after (overwritten u.loads u.moment e.word e.past) e [] s [] ∷ []
 load_next unit bytes l u e s one store open_ past f t =
-    let aim : Aim = word_aim unit l.address bytes in
-    let on : Pair = pair_after (overwritten u.loads u.moment e.word e.past) e [] s [] in
-    let hope : may_come unit l.address bytes e.word e.stores ≡ true =
+    let aim = word_aim unit l.address bytes in
+    let on = pair_after (overwritten u.loads u.moment e.word e.past) e [] s [] in
+    let hope =
     subst (λ ss. may_come unit l.address bytes e.word ss ≡ true) (sym store) (next_hope unit l.address bytes e.word s open_ t) in
-    let got_ : gathered (pair_got unit bytes l) u.pairs ≡ [] = rw (one, f, past) refl in
+    let got_ : gathered _ u.pairs ≡ [] = rw (one, f, past) refl in
     let missed_ : with_hope aim (gathered (pair_missed unit bytes l) u.pairs) ≡ e ∷ [] = rw (one, f, past, hope) refl in
     ap₂ (found u.loads u.moment aim) got_ missed_
     ∙ found_next u.loads u.moment aim e s store open_ f t (word_hope unit l.address bytes on.word on.stores t)
@@ -213,7 +190,7 @@ behind : (number moment : ℕ) (ls : List WatchedLoad) (l : WatchedLoad) (es : L
 behind number moment [] l es word new stores is cut_ = cc
 behind number moment (k ∷ ks) l es word new stores is cut_ = elim (cases_Bool (is_under number k)) [
   | inl t ↦
-      let left : List WatchedLoad = loads_without number ks in
+      let left = loads_without number ks in
       rw t (ap (λ past. let w : Ways = record {
         loads = left;
         moment = moment_with moment left;
@@ -238,28 +215,24 @@ pub later_taken : (unit : UnitPlace) (bytes : List ℕ) (number : ℕ) (l : Watc
       } ∷ [];
     } ≡ ways_without_load number u (answered_load unit bytes (Some l) u)
 later_taken unit bytes number l u e s one store open_ past is f t cut_ =
-    behind number u.moment u.loads l u.pairs e.word (written s.bytes e.word) (done_store s ∷ []) is cut_
-    ∙ (ap (λ p. ways_without_load number u
-    (record { word = written s.bytes e.word; stores = done_store s ∷ []; past = overwritten u.loads u.moment e.word p } ∷ []))
-    (sym past)
-    ∙ ap (ways_without_load number u) (sym (load_next unit bytes l u e s one store open_ past f t)))
+    grind (arith, behind, u.moment, u.loads, u.pairs, e.word, s.bytes, load_next)
 
 pub load_left : (number : ℕ) (u : Ways) (e : Pair) → has_way (ways_without_load number u (e ∷ [])) ≡ true
-load_left number u e = elim (cases_Bool (is_first number u.loads)) [ inl t ↦ rw t refl | inr n ↦ rw n refl ]
+load_left number u e = grind arith
 
 -- Stores. ----
 
 pub store_here : (number : ℕ) (u : Ways) (e : Pair) → u.pairs ≡ e ∷ [] → may_answer_store number e.stores ≡ true
     → answered_store number u ≡ e ∷ []
 store_here number u e one t =
-    ap (found u.loads u.moment (effect_aim number) []) one ∙ found_here u.loads u.moment (effect_aim number) e t
+    ap (found u.loads u.moment (effect_aim number) []) one ∙ found_here u.loads u.moment _ e t
 
 -- One pair. ----
 
 pub one_pair : (ps : List FollowedPair) (d : FollowedPair) → length ps ≡ 1 → ps ≡ get_or ps 0 d ∷ []
-one_pair [] d h = absurd (omega (arith, h))
+one_pair [] d h = grind arith
 one_pair (p ∷ []) d h = refl
-one_pair (p ∷ q ∷ ps) d h = absurd (omega (arith, h))
+one_pair (p ∷ q ∷ ps) d h = grind arith
 
 -- Units. ----
 
@@ -288,18 +261,12 @@ one_taken : (h next : Held) (event : HistoryEvent) (number : ℕ) → number ≡
     → ((k : ℕ) → k ≢ number → next.units k ≡ h.units k)
     → next.image ≡ h.image → next.rest ≡ h.rest → next.size ≡ h.size → next.opened ≡ h.opened → AreTaken h event next
 one_taken h next event number here one taken others image rest size opened = record {
-  ways = rw (one, ← here, taken.1) refl;
+  ways = grind arith;
   image = image;
   rest = rest;
   size = size;
   opened = opened;
-  units = λ k. elim (cases_eq number k) [
-    | inl same ↦
-        rw (among_one h.size (covered h.opened event) number k here one, eq-eqb number k same)
-        (ap next.units (sym same) ∙ (taken.0 ∙ ap (changed h event) same))
-    | inr other ↦
-        rw (among_one h.size (covered h.opened event) number k here one, ne_eqb number k other) (others k (λ e. other (sym e)))
-  ];
+  units = grind arith;
 }
 
 -- what is kept, with these units
@@ -311,19 +278,7 @@ kept image rest size opened f =
 same_kept : (image : List ℕ) (rest : Rest) (size : ℕ) (opened : Opened) (f g : ℕ → Option KeptUnit) (number : ℕ)
     → ((first : Ways) → kept_or (g number) first ≡ kept_or (f number) first) → words_of (g number) ≡ words_of (f number)
     → ((k : ℕ) → k ≢ number → g k ≡ f k) → kept image rest size opened g ≡ kept image rest size opened f
-same_kept image rest size opened f g number same words others =
-    let each : (k : ℕ) → kept_at image rest size g k ≡ kept_at image rest size f k = λ k. elim (cases_eq k number) [
-      | inl e ↦
-          subst (λ j. kept_at image rest size g j ≡ kept_at image rest size f j) (sym e)
-          (same (first_ways image rest (unit_at size number)))
-      | inr n ↦ ap (λ x. kept_or x (first_ways image rest (unit_at size k))) (others k n)
-    ] in
-    let each_words : (k : ℕ) → words_of (g k) ≡ words_of (f k) = λ k. elim (cases_eq k number) [
-      | inl e ↦ subst (λ j. words_of (g j) ≡ words_of (f j)) (sym e) words
-      | inr n ↦ ap words_of (others k n)
-    ] in
-    ap₂ (λ u w. let h : Held = record { image = image; rest = rest; size = size; opened = opened; units = u; words = w } in h)
-    (fun_ext each) (fun_ext each_words)
+same_kept image rest size opened f g number same words others = grind arith
 
 pub taken_at : {E : Type 0} (r : Result Bool E) (image : List ℕ) (rest : Rest) (size : ℕ) (opened : Opened) (event : HistoryEvent)
     (f g : ℕ → Option KeptUnit) (number : ℕ)
@@ -338,7 +293,7 @@ taken_at (Err e) image rest size opened event f g number here one taken words ot
 taken_at (Ok false) image rest size opened event f g number here one taken words others =
     same_kept image rest size opened f g number taken (words refl) others
 taken_at (Ok true) image rest size opened event f g number here one taken words others =
-    one_taken (kept image rest size opened f) (kept image rest size opened g) event number here one
+    one_taken _ _ event number here one
     (taken (first_ways image rest (unit_at size number)))
     (λ k n. ap (λ x. kept_or x (first_ways image rest (unit_at size k))) (others k n)) refl refl refl refl
 
@@ -347,8 +302,7 @@ pub untaken_at : {E : Type 0} (r : Result Bool E) (image : List ℕ) (rest : Res
     → OnErr r (words_of (g number) ≡ words_of (f number))
     → ((k : ℕ) → k ≢ number → g k ≡ f k) → OnErr r (kept image rest size opened g ≡ kept image rest size opened f)
 untaken_at (Ok taken) image rest size opened f g number same words others = tt
-untaken_at (Err e) image rest size opened f g number same words others =
-    same_kept image rest size opened f g number same words others
+untaken_at (Err e) image rest size opened f g number same words others = grind arith
 
 -- the operations that are open change behind the units
 pub taken_open : (h room mid next : Held) (event : HistoryEvent) → form_fault h.opened event ≡ None → room ≡ h → AreTaken room event mid
@@ -361,14 +315,4 @@ pub taken_open : (h room mid next : Held) (event : HistoryEvent) → form_fault 
       words = mid.words;
     }
     → IsTaken h event next
-taken_open h room mid next event formed same taken_there e =
-    let taken : AreTaken h event mid = subst (λ x. AreTaken x event mid) same taken_there in
-    record {
-      formed = formed;
-      ways = taken.ways;
-      image = ap (λ (x : Held). x.image) e ∙ taken.image;
-      rest = ap (λ (x : Held). x.rest) e ∙ taken.rest;
-      size = ap (λ (x : Held). x.size) e ∙ taken.size;
-      opened = ap (λ (x : Held). x.opened) e ∙ ap (λ o. opened_after o event) taken.opened;
-      units = λ k. ap (λ (x : Held). x.units k) e ∙ taken.units k;
-    }
+taken_open h room mid next event formed same taken_there e = grind arith

@@ -2,7 +2,6 @@
 use Rattle.std.proofs.Common.{◌≡◌, ℕ, zero, suc, ◌+◌, ◌-◌, ◌^◌, ◌<◌, ◌≤◌, true, ◌&&◌, ◌==◌, List, [], ◌∷◌, ◌++◌, length}
 use Rattle.std.proofs.Common.{take, drop, get_or, set, Option, None, slice_get, nat_le, refl, sym, ap, ap₂, ◌∙◌, append_assoc, add-one}
 use Rattle.std.proofs.Common.{drop-cons, take-append-drop, append-nil, drop-set-lt, arith}
-use Rattle.std.proofs.lemmas.Bool.{le-leb}
 use Rattle.std.proofs.lemmas.Nat.Bits.{bit_at_above}
 use Rattle.std.proofs.lemmas.List.{at_drop_more, take_more_set, drop_all}
 use Rattle.std.specs.Option.{option_eq}
@@ -22,14 +21,14 @@ word_more f ws k a bs h = let s : f + k + 1 ≡ f + (k + 1) =
 -- Bytes that begin with the unit. ----
 
 from_first : (first k : ℕ) → (nat_le first (first + k) ≡ true) × (first + k - first ≡ k)
-from_first first k = (le-leb first (first + k) (omega arith), omega arith)
+from_first first k = grind arith
 
 pub stored_from_first : (first : ℕ) (bytes : List ℕ) (enables k : ℕ)
     → stored_byte first bytes enables (first + k) ≡ enabled_byte bytes enables k
-stored_from_first first bytes enables k = let p = from_first first k in rw (p.0, p.1) refl
+stored_from_first first bytes enables k = grind arith
 
 from_start : (bs : List ℕ) (k : ℕ) → byte_for 0 bs k ≡ slice_get bs k
-from_start bs k = let here : k - 0 ≡ k = omega arith in rw (le-leb 0 k (omega arith), here) refl
+from_start bs k = grind arith
 
 same_from : (f : ℕ) (ws : List (Option ℕ)) (bs : List ℕ) (j : ℕ) → is_word_of (f + j) ws f bs ≡ is_word_of j ws 0 bs
 unfolding is_word_of
@@ -37,8 +36,8 @@ same_from f [] bs j = refl
 same_from f (w ∷ ws) bs j =
     let p = from_first f j in
     let next : f + j + 1 ≡ f + (j + 1) = omega arith in
-    let here : byte_for f bs (f + j) ≡ byte_for 0 bs j = rw (p.0, p.1) (sym (from_start bs j)) in
-    ap₂ (λ c r. is_as_it_stood w c && r) here (ap (λ i. is_word_of i ws f bs) next ∙ same_from f ws bs (j + 1))
+    let here : byte_for f bs _ ≡ byte_for 0 bs j = rw (p.0, p.1) (sym (from_start bs j)) in
+    ap₂ (λ c r. is_as_it_stood w c && r) here (cc (next, same_from f ws bs _))
 
 pub first_same : (f : ℕ) (ws : List (Option ℕ)) (bs : List ℕ) → is_word_of f ws f bs ≡ is_word_of 0 ws 0 bs
 first_same f ws bs = let e : f ≡ f + 0 = omega arith in ap (λ i. is_word_of i ws f bs) e ∙ same_from f ws bs 0
@@ -46,9 +45,7 @@ first_same f ws bs = let e : f ≡ f + 0 = omega arith in ap (λ i. is_word_of i
 pub first_more : (ws : List (Option ℕ)) (k : ℕ) (bs : List ℕ) → k < length ws
     → is_word_of k (drop k ws) 0 bs ≡ (is_as_it_stood (get_or ws k None) (slice_get bs k) && is_word_of (k + 1) (drop (k + 1) ws) 0 bs)
 unfolding is_word_of
-first_more ws k bs h =
-    at_drop_more (λ xs. is_word_of k xs 0 bs) ws k None h
-    ∙ ap (λ c. is_as_it_stood (get_or ws k None) c && is_word_of (k + 1) (drop (k + 1) ws) 0 bs) (from_start bs k)
+first_more ws k bs h = cc (at_drop_more (λ xs. is_word_of k xs 0 bs) ws k None h, from_start bs k)
 
 -- what is written so far, and what is left to write
 abbrev pub written_from : ℕ → List (Option ℕ) → List (Option ℕ) → List (Option ℕ)
@@ -58,16 +55,15 @@ pub write_more : (bytes word : List (Option ℕ)) (k : ℕ) → k < length word 
     → written_from (k + 1) bytes (set word k (written_byte (get_or bytes k None) (get_or word k None))) ≡ written_from k bytes word
 unfolding written
 write_more bytes word k h l =
-    let v : Option ℕ = written_byte (get_or bytes k None) (get_or word k None) in
-    let t : take (k + 1) (set word k v) ≡ take k word ++ v ∷ [] = take_more_set word k v h in
-    let d : drop (suc k) (set word k v) ≡ drop (suc k) word = drop-set-lt (suc k) word k v (omega arith) in
+    let v = written_byte (get_or bytes k None) (get_or word k None) in
+    let t = take_more_set word k v h in
+    let d = drop-set-lt (suc k) word k v (omega arith) in
     rw (t, append_assoc, add-one, d, drop-cons bytes k None l, drop-cons word k None h) refl
 
 pub write_past : (bytes word : List (Option ℕ)) (k : ℕ) → k < length word → length bytes ≤ k
     → written_from (k + 1) bytes word ≡ written_from k bytes word
 unfolding written
-write_past bytes word k h l =
-    rw (drop_all (k + 1) bytes (omega arith), drop_all k bytes l) (take-append-drop (k + 1) word ∙ sym (take-append-drop k word))
+write_past bytes word k h l = grind (arith, drop_all, take-append-drop)
 
 written_none : (bytes : List (Option ℕ)) → written bytes [] ≡ []
 unfolding written
@@ -75,9 +71,7 @@ written_none [] = refl
 written_none (b ∷ bs) = refl
 
 pub write_all : (bytes word : List (Option ℕ)) (k : ℕ) → length word ≤ k → written_from k bytes word ≡ word
-write_all bytes word k h =
-    rw (drop_all k word h, written_none (drop k bytes), append-nil)
-    (sym (append-nil (take k word)) ∙ (rw (drop_all k word h) at (take-append-drop k word)))
+write_all bytes word k h = grind (arith, drop_all, written_none, append-nil, take-append-drop)
 
 pub word_all : (f : ℕ) (ws : List (Option ℕ)) (k a : ℕ) (bs : List ℕ) → length ws ≤ k → is_word_of f (drop k ws) a bs ≡ true
 unfolding is_word_of
@@ -87,13 +81,13 @@ word_all f ws k a bs h = rw (drop_all k ws h) refl
 
 lanes_left : (n k : ℕ) (a b : List (Option ℕ)) → length a ≡ k + n → length b ≡ k + n
     → are_same_lanes k n a b ≡ is_same_word (drop k a) (drop k b)
-lanes_left zero k a b la lb = rw (drop_all k a (omega (arith, la)), drop_all k b (omega (arith, lb))) refl
+lanes_left zero k a b la lb = grind (arith, drop_all)
 lanes_left (suc n) k a b la lb =
     let here : k < length a = omega (arith, la) in
     let there : k < length b = omega (arith, lb) in
     rw (drop-cons a k None here, drop-cons b k None there)
     (ap (λ r. option_eq ◌==◌ (get_or a k None) (get_or b k None) && r)
-    (lanes_left n (suc k) a b (omega (arith, la)) (omega (arith, lb))))
+    (lanes_left n _ a b (omega (arith, la)) (omega (arith, lb))))
 
 pub same_lanes : (a b : List (Option ℕ)) → length a ≡ 8 → length b ≡ 8 → are_same_lanes 0 8 a b ≡ is_same_word a b
 same_lanes a b la lb = lanes_left 8 0 a b la lb

@@ -7,8 +7,7 @@ use Rattle.std.proofs.lemmas.List.{map-append}
 use Rattle.std.proofs.lemmas.List.Elements.{filter-append}
 use Rattle.std.proofs.lemmas.List.Folds.{list_all-append}
 use Rattle.atomic_histories.specs.declared.unit.OpenStore.{OpenStore}
-use Rattle.atomic_histories.specs.Words.{written}
-use Rattle.atomic_histories.specs.Law.{OpenLoad, UnitMemory, HiddenStep, done_store, done_load, is_store, may_answer_store, with_load}
+use Rattle.atomic_histories.specs.Law.{OpenLoad, UnitMemory, HiddenStep, done_store, is_store, may_answer_store, with_load}
 use Rattle.atomic_histories.specs.Law.{with_store, without_store}
 use Rattle.atomic_histories.specs.Branches.{Watched, Branch, with_word, effect_of, has_effect, branch_without_store, branch_with_load}
 use Rattle.atomic_histories.specs.Branches.{branch_with_store}
@@ -35,14 +34,13 @@ leads_watched l {e} {m} (now o) =
     now (record {
       word = o.word;
       stores = o.stores;
-      loads = watched_push e.word e.loads m.loads l (record { number = l.number; address = l.address; got = None }) o.loads
+      loads = watched_push e.word e.loads _ l (record { number = l.number; address = l.address; got = None }) o.loads
           (refl, refl, tt);
     })
 leads_watched l {e} {m} (later before s after split open_ r) =
-    let n : UnitMemory = with_load l.number l.address m in
+    let n = with_load l.number l.address m in
     later before s after split open_
-    (subst (λ ls. Leads (record { word = written s.bytes e.word; stores = before ++ done_store s ∷ after; loads = ls }) n)
-    (sym (map-append (with_word e.word) e.loads (l ∷ []))) (leads_watched (with_word e.word l) r))
+    (rw (sym (map-append (with_word e.word) e.loads (l ∷ []))) at (leads_watched (with_word e.word l) r))
 
 pub leads_with_load : (number address : ℕ) (e : Branch) (m : UnitMemory) → Leads e m
     → Leads (branch_with_load number address e) (with_load number address m)
@@ -78,10 +76,10 @@ sound_with_load number address P Q closed seen e sound n o =
     λ g h. (λ i. record { number = sym r.4.0 i; address = sym r.4.1 i; got = h i }) in
     let whole : (y : OpenLoad) → x ≡ y → Q (record { word = n.word; stores = n.stores; loads = ms ++ y ∷ [] }) → Q n =
     λ y h k. subst (λ ls. Q (record { word = n.word; stores = n.stores; loads = ls })) (sym r.2)
-    (subst (λ z. Q (record { word = n.word; stores = n.stores; loads = ms ++ z ∷ [] })) (sym h) k) in
+    (rw (sym h) at k) in
     elim (got_now e.word x.got r.4.2) [
       | inl none ↦ whole new (is_new None none) q
-      | inr some ↦ whole (done_load n.word new) (is_new (Some n.word) (some ∙ ap Some o.word))
+      | inr some ↦ whole _ (is_new _ (some ∙ ap Some o.word))
           (closed _ _ q (inr (ms, new, [], refl, refl, refl)))
     ]
 
@@ -97,20 +95,19 @@ leads_with_store number bytes {e} {m} (now o) =
           o.loads;
     })
 leads_with_store number bytes {e} {m} (later before s after split open_ r) =
-    let new : List OpenStore = record { number = number; bytes = bytes; is_done = false } ∷ [] in
-    let rest : Leads (branch_with_store number bytes (effect_of e before s after)) (with_store number bytes m) =
+    let new = record { number = number; bytes = bytes; is_done = false } ∷ [] in
+    let rest =
     leads_with_store number bytes r in
-    let d : Branch = effect_of e before s after in
-    later before s (after ++ new) (ap (λ ss. ss ++ new) split ∙ append_assoc before (s ∷ after) new) open_
-    (subst (λ ss. Leads (record { word = d.word; stores = ss; loads = d.loads }) (with_store number bytes m))
-    (append_assoc before (done_store s ∷ after) new) rest)
+    let d = effect_of e before s after in
+    later before s _ (ap (λ ss. ss ++ new) split ∙ append_assoc before _ new) open_
+    (rw (append_assoc before (done_store s ∷ after) new) at rest)
 
 pub sound_with_store : (number : ℕ) (bytes : Word) (P Q : UnitMemory → Type 0) → ((m : UnitMemory) → P m → Q (with_store number bytes m))
     → (e : Branch) → ((m : UnitMemory) → IsOn e m → P m)
     → (n : UnitMemory) → IsOn (branch_with_store number bytes e) n → Q n
 sound_with_store number bytes P Q seen e sound n o =
     let m0 : UnitMemory = record { word = n.word; stores = e.stores; loads = n.loads } in
-    let q : Q (with_store number bytes m0) = seen m0 (sound m0 (record { word = o.word; stores = refl; loads = o.loads })) in
+    let q : Q _ = seen m0 (sound m0 (record { word = o.word; stores = refl; loads = o.loads })) in
     subst (λ ss. Q (record { word = n.word; stores = ss; loads = n.loads })) o.stores q
 
 -- A store is answered. ----
@@ -127,18 +124,18 @@ or_false_left false b e h = refl
 leads_without_store_at : (number : ℕ) {e : Branch} {m : UnitMemory} → may_answer_store number e.stores ≡ true → Leads e m
     → Leads (branch_without_store number e) (without_store number m)
 leads_without_store_at number {e} {m} g (now o) =
-    now (record { word = o.word; stores = ap (filter (λ s. not (is_store number s))) o.stores; loads = o.loads })
+    now (record { word = o.word; stores = ap (filter (λ s. not _)) o.stores; loads = o.loads })
 leads_without_store_at number {e} {m} g (later before s after split open_ r) =
-    let keep : OpenStore → Bool = λ x. not (is_store number x) in
-    let may : OpenStore → Bool = λ x. not (is_store number x) || x.is_done in
+    let keep : OpenStore → Bool = λ x. not _ in
+    let may : OpenStore → Bool = λ x. not _ || x.is_done in
     let d : Branch = effect_of e before s after in
     let all : (list_all may before && (may s && list_all may after)) ≡ true =
     sym (list_all-append may before (s ∷ after)) ∙ (ap (list_all may) (sym split) ∙ g) in
-    let p = and_parts (list_all may before) (may s && list_all may after) all in
-    let q = and_parts (may s) (list_all may after) p.1 in
-    let other : is_store number s ≡ false = or_false_left (is_store number s) s.is_done open_ q.0 in
+    let p = and_parts _ _ all in
+    let q = and_parts _ _ p.1 in
+    let other : is_store number s ≡ false = or_false_left _ s.is_done open_ q.0 in
     let kept : filter keep e.stores ≡ filter keep before ++ s ∷ filter keep after =
-    ap (filter keep) split ∙ (filter-append keep before (s ∷ after) ∙ rw other refl) in
+    ap (filter keep) split ∙ (filter-append keep before _ ∙ rw other refl) in
     let kept_done : filter keep (before ++ done_store s ∷ after) ≡ filter keep before ++ done_store s ∷ filter keep after =
     filter-append keep before (done_store s ∷ after) ∙ rw other refl in
     let again : may_answer_store number (before ++ done_store s ∷ after) ≡ true =
@@ -147,7 +144,7 @@ leads_without_store_at number {e} {m} g (later before s after split open_ r) =
     (and_from (may (done_store s)) (list_all may after) (or_true (not (is_store number s))) q.1) in
     let rest : Leads (branch_without_store number d) (without_store number m) = leads_without_store_at number again r in
     later (filter keep before) s (filter keep after) kept open_
-    (subst (λ ss. Leads (record { word = d.word; stores = ss; loads = d.loads }) (without_store number m)) kept_done rest)
+    (rw kept_done at rest)
 
 pub leads_without_store : (number : ℕ) (e : Branch) (m : UnitMemory) → has_effect number e ≡ true → Leads e m
     → Leads (branch_without_store number e) (without_store number m)
@@ -159,5 +156,5 @@ pub sound_without_store : (number : ℕ) (P Q : UnitMemory → Type 0)
     → ((m : UnitMemory) → IsOn e m → P m) → (n : UnitMemory) → IsOn (branch_without_store number e) n → Q n
 sound_without_store number P Q seen e g sound n o =
     let m0 : UnitMemory = record { word = n.word; stores = e.stores; loads = n.loads } in
-    let q : Q (without_store number m0) = seen m0 (sound m0 (record { word = o.word; stores = refl; loads = o.loads })) g in
+    let q : Q _ = seen m0 (sound m0 (record { word = o.word; stores = refl; loads = o.loads })) g in
     subst (λ ss. Q (record { word = n.word; stores = ss; loads = n.loads })) o.stores q

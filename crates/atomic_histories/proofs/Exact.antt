@@ -1,6 +1,6 @@
 -- The ways that are followed are exact: after each event they lead to what the unit may be, and to nothing else.
 use Rattle.std.proofs.Common.{◌≡◌, ℕ, suc, ◌+◌, ◌≤◌, Bool, true, false, if◌then◌else◌, List, [], ◌∷◌, ◌++◌, map, Option, Some, None}
-use Rattle.std.proofs.Common.{is_some, fold, append_assoc, append-nil, inl, inr, refl, sym, ap, ◌∙◌, subst, arith}
+use Rattle.std.proofs.Common.{is_some, fold, append_assoc, append-nil, inl, inr, refl, sym, subst, arith}
 use Rattle.std.specs.List.{list_any, find}
 use Rattle.std.proofs.lemmas.List.{map-append, same_from_push}
 use Rattle.memory_histories.specs.declared.events.HistoryEvent.{HistoryEvent}
@@ -8,14 +8,14 @@ use Rattle.memory_histories.specs.declared.events.HistoryEvent.TheVariants.{Load
 use Rattle.memory_histories.specs.declared.events.Rest.{Rest}
 use Rattle.atomic_histories.specs.declared.unit.UnitPlace.{UnitPlace}
 use Rattle.atomic_histories.specs.declared.unit.WatchedLoad.{WatchedLoad}
-use Rattle.atomic_histories.specs.Words.{at_unit, stored_byte, is_at}
+use Rattle.atomic_histories.specs.Words.{at_unit, stored_byte}
 use Rattle.atomic_histories.specs.Law.{OpenLoad, UnitMemory, HiddenStep, MayBe, starts, steps, sees, untouched, seen, with_load, with_store}
 use Rattle.atomic_histories.specs.Law.{without_load, without_store, may_answer_load, may_answer_store}
 use Rattle.atomic_histories.specs.Pasts.{Stood}
 use Rattle.atomic_histories.specs.Branches.{Watched, Branch, has_answer, branch_with_load, branch_with_store}
-use Rattle.atomic_histories.specs.Followed.{Pair, Ways, Aim, first_ways, watched, way_on, rounds, effect_aim, word_aim, is_under, is_first}
-use Rattle.atomic_histories.specs.Followed.{pair_got, pair_missed, gathered, with_hope, answered_load, answered_store, pair_without_store}
-use Rattle.atomic_histories.specs.Followed.{pair_with_store, ways_with_load, ways_with_store, ways_without_load, ways_without_store}
+use Rattle.atomic_histories.specs.Followed.{Pair, Ways, Aim, first_ways, way_on, rounds, effect_aim, word_aim, is_under, is_first}
+use Rattle.atomic_histories.specs.Followed.{pair_got, pair_missed, gathered, with_hope, answered_load, answered_store}
+use Rattle.atomic_histories.specs.Followed.{ways_with_load, ways_with_store, ways_without_load, ways_without_store}
 use Rattle.atomic_histories.specs.Followed.{ways_after, loads_without}
 use Rattle.atomic_histories.specs.Stands.{Each, One, EachWay, OneWay, IsAsked, IsPairBy, AreWatched, IsOn, Leads, now, StandsFor}
 use Rattle.atomic_histories.proofs.Lists.{one_weaker, one_map, each_weaker, each_map, each_both, each_append, each_filter, no_snoc}
@@ -63,20 +63,13 @@ new_load number address n = record { number = number; address = address; since =
 way_requested : (number address n : ℕ) (ls : List WatchedLoad) (e : Pair) (path : List Stood) → Each (λ s. s.moment ≤ n) path
     → way_on (ls ++ new_load number address n ∷ []) e path ≡ branch_with_load number address (way_on ls e path)
 unfolding new_load
-way_requested number address n ls e path by =
-    let none : watched path (new_load number address n) ≡ record { number = number; address = address; words = [] } =
-    (λ i. record { number = number; address = address; words = seen_none n path by i }) in
-    let loads : map (watched path) (ls ++ new_load number address n ∷ [])
-    ≡ map (watched path) ls ++ record { number = number; address = address; words = [] } ∷ [] =
-    map-append (watched path) ls (new_load number address n ∷ []) ∙ ap (λ x. map (watched path) ls ++ x ∷ []) none in
-    λ i. record { word = e.word; stores = e.stores; loads = loads i }
+way_requested number address n ls e path by = grind (arith, seen_none, map-append)
 
 asked_more : (n : ℕ) (ls : List WatchedLoad) → Each (IsAsked n) ls → Each (IsAsked (n + 1)) ls
-asked_more n ls a = each_weaker (IsAsked n) (IsAsked (n + 1)) (λ l h. omega (arith, h)) ls a
+asked_more n ls a = grind (arith, each_weaker)
 
 timely_more : (n : ℕ) (es : List Pair) → Each (IsPairBy n) es → Each (IsPairBy (n + 1)) es
-timely_more n es a =
-    let less : n ≤ n + 1 = omega arith in each_weaker (IsPairBy n) (IsPairBy (n + 1)) (λ e h. by_weaker n (n + 1) less e.past h) es a
+timely_more n es a = grind (arith, each_weaker, by_weaker)
 
 requested_load_fits : (number address : ℕ) (P Q : UnitMemory → Type 0) → IsClosed Q → (b : Bool)
     → ((m n : UnitMemory) → P m → Some (if b then with_load number address m else m) ≡ Some n → Q n)
@@ -85,21 +78,21 @@ unfolding new_load
 requested_load_fits number address P Q closed true f u s =
     let same : u.moment + 1 ≤ u.moment + 1 = omega arith in
     record {
-      asked = each_append (IsAsked (u.moment + 1)) u.loads (new_load number address u.moment ∷ []) (asked_more u.moment u.loads s.asked)
+      asked = each_append _ u.loads _ (asked_more u.moment u.loads s.asked)
           (same, tt);
       timely = timely_more u.moment u.pairs s.timely;
       sound = each_weaker (λ e. EachWay u.loads (SoundOn P) e × IsPairBy u.moment e)
-          (EachWay (u.loads ++ new_load number address u.moment ∷ []) (SoundOn Q))
+          _
           (λ e h path has.
           subst (SoundOn Q) (sym (way_requested number address u.moment u.loads e path (path_by u.moment e.past path h.1 has)))
-          (λ m o. sound_with_load number address P Q closed (λ k p. f k (with_load number address k) p refl) (way_on u.loads e path)
+          (λ m o. sound_with_load number address P Q closed (λ k p. f k _ p refl) _
           (h.0 path has) m o)) u.pairs
           (each_both (EachWay u.loads (SoundOn P)) (IsPairBy u.moment) u.pairs s.sound s.timely);
     }
 requested_load_fits number address P Q closed false f u s = record {
   asked = s.asked;
   timely = s.timely;
-  sound = each_weaker (EachWay u.loads (SoundOn P)) (EachWay u.loads (SoundOn Q))
+  sound = each_weaker _ _
       (λ e h path has m o. f m m (h path has m o) refl) u.pairs s.sound;
 }
 
@@ -114,16 +107,15 @@ unfolding new_load
 requested_load_leads number address true m n h u by o =
     let same : with_load number address m ≡ n = cc in
     one_weaker (λ e. OneWay u.loads (λ b. Leads b m) e × IsPairBy u.moment e)
-    (OneWay (u.loads ++ new_load number address u.moment ∷ []) (λ b. Leads b n))
+    (OneWay _ (λ b. Leads b n))
     (λ e p. (
       p.0.0,
       p.0.1,
       subst (λ b. Leads b n) (sym (way_requested number address u.moment u.loads e p.0.0
           (path_by u.moment e.past p.0.0 p.1 p.0.1)))
-          (subst (λ x. Leads (branch_with_load number address (way_on u.loads e p.0.0)) x) same
-          (leads_with_load number address (way_on u.loads e p.0.0) m p.0.2)),
+          (rw same at (leads_with_load number address (way_on u.loads e p.0.0) m p.0.2)),
     )) u.pairs
-    (one_both (OneWay u.loads (λ b. Leads b m)) (IsPairBy u.moment) u.pairs o by)
+    (one_both (OneWay u.loads (λ b. Leads b m)) _ u.pairs o by)
 requested_load_leads number address false m n h u by o = let same : m ≡ n = cc in subst (LeadsTo u) same o
 
 -- A store is requested. ----
@@ -133,16 +125,16 @@ requested_store_fits : (number : ℕ) (bytes : List (Option ℕ)) (P Q : UnitMem
     → (u : Ways) → Fits P u → Fits Q (if b then ways_with_store number bytes u else u)
 requested_store_fits number bytes P Q true f u s = record {
   asked = s.asked;
-  timely = each_map (pair_with_store number bytes) (IsPairBy u.moment) u.pairs s.timely;
-  sound = each_map (pair_with_store number bytes) (EachWay u.loads (SoundOn Q)) u.pairs
-      (each_weaker (EachWay u.loads (SoundOn P)) (λ e. EachWay u.loads (SoundOn Q) (pair_with_store number bytes e))
-      (λ e h path has m o. sound_with_store number bytes P Q (λ k p. f k (with_store number bytes k) p refl) (way_on u.loads e path)
+  timely = each_map _ _ u.pairs s.timely;
+  sound = each_map _ _ u.pairs
+      (each_weaker _ (λ e. EachWay u.loads (SoundOn Q) _)
+      (λ e h path has m o. sound_with_store number bytes P Q (λ k p. f k _ p refl) _
       (h path has) m o) u.pairs s.sound);
 }
 requested_store_fits number bytes P Q false f u s = record {
   asked = s.asked;
   timely = s.timely;
-  sound = each_weaker (EachWay u.loads (SoundOn P)) (EachWay u.loads (SoundOn Q))
+  sound = each_weaker _ _
       (λ e h path has m o. f m m (h path has m o) refl) u.pairs s.sound;
 }
 
@@ -151,8 +143,8 @@ requested_store_leads : (number : ℕ) (bytes : List (Option ℕ)) (b : Bool) (m
     → LeadsTo (if b then ways_with_store number bytes u else u) n
 requested_store_leads number bytes true m n h u o =
     let same : with_store number bytes m ≡ n = cc in
-    one_map (pair_with_store number bytes) (OneWay u.loads (λ b. Leads b n)) u.pairs
-    (one_weaker (OneWay u.loads (λ b. Leads b m)) (λ e. OneWay u.loads (λ b. Leads b n) (pair_with_store number bytes e))
+    one_map _ (OneWay u.loads (λ b. Leads b n)) u.pairs
+    (one_weaker (OneWay u.loads (λ b. Leads b m)) (λ e. OneWay u.loads (λ b. Leads b n) _)
     (λ e p. (
       p.0,
       p.1,
@@ -178,18 +170,18 @@ answered_store_fits number P Q closed f u s =
     let R : Pair → Type 0 = λ e. S e × HasTaken number e in
     let joint : IsJoint S = sound_joint u.loads u.moment s.asked P in
     let both : IsJoint R = λ g e h a b. (joint g e h a.0 b.0, taken_joint number g e h a.1 b.1) in
-    let there : Each R (answered_store number u) =
+    let there : Each R _ =
     met_sound u.loads u.moment s.asked S R joint both (sound_kept u.loads u.moment s.asked P closed) (suc (rounds u.pairs))
-    (effect_aim number) (λ e a t. (a, t)) [] u.pairs tt
+    _ (λ e a t. (a, t)) [] u.pairs tt
     (each_both (EachWay u.loads (SoundOn P)) (IsPairBy u.moment) u.pairs s.sound s.timely) in
     record {
       asked = s.asked;
-      timely = each_map (pair_without_store number) (IsPairBy u.moment) (answered_store number u)
-          (each_weaker R (IsPairBy u.moment) (λ e r. r.0.1) (answered_store number u) there);
-      sound = each_map (pair_without_store number) (EachWay u.loads (SoundOn Q)) (answered_store number u)
-          (each_weaker R (λ e. EachWay u.loads (SoundOn Q) (pair_without_store number e))
-          (λ e r path has m o. sound_without_store number P Q f (way_on u.loads e path) r.1 (r.0.0 path has) m o)
-          (answered_store number u) there);
+      timely = each_map _ _ _
+          (each_weaker R _ (λ e r. r.0.1) _ there);
+      sound = each_map _ _ _
+          (each_weaker R (λ e. EachWay u.loads (SoundOn Q) _)
+          (λ e r path has m o. sound_without_store number P Q f _ r.1 (r.0.0 path has) m o)
+          _ there);
     }
 
 -- it says nothing of a way
@@ -199,8 +191,8 @@ Anything b = Unit {0}
 effect_is_for : (loads : List WatchedLoad) (moment : ℕ) (asked : Each (IsAsked moment) loads) (number : ℕ) (m : UnitMemory)
     → may_answer_store number m.stores ≡ true → IsFor loads moment asked m Anything (effect_aim number)
 effect_is_for loads moment asked number m may = record {
-  here = λ e path late o. ap (may_answer_store number) o.stores ∙ may;
-  stays = λ e path before s after off late. tt;
+  here = grind arith;
+  stays = grind arith;
   hopes = λ e path late r. refl;
 }
 
@@ -211,19 +203,19 @@ answered_store_leads : (number : ℕ) (m : UnitMemory) → may_answer_store numb
     → LeadsTo (ways_without_store number u (answered_store number u)) (without_store number m)
 answered_store_leads number m may u asked o =
     let Any : Pair → Type 0 = λ e. Unit {0} in
-    let all : Each (HasTaken number) (answered_store number u) =
-    met_sound u.loads u.moment asked Any (HasTaken number) (λ f e h a b. tt) (taken_joint number) (λ e before s after a split open_. tt)
-    (suc (rounds u.pairs)) (effect_aim number) (λ e a t. t) [] u.pairs tt (each_any u.pairs) in
+    let all : Each _ _ =
+    met_sound u.loads u.moment asked Any _ (λ f e h a b. tt) (taken_joint number) (λ e before s after a split open_. tt)
+    (suc (rounds u.pairs)) _ (λ e a t. t) [] u.pairs tt (each_any u.pairs) in
     let late : One (OneWay u.loads (λ b. Leads b m × Anything b)) u.pairs =
     one_weaker (OneWay u.loads (λ b. Leads b m)) (OneWay u.loads (λ b. Leads b m × Anything b)) (λ e p. (p.0, p.1, (p.2, tt))) u.pairs o in
-    let there : One (OneWay u.loads (λ b. Leads b m)) (answered_store number u) =
-    found_complete u.loads u.moment asked m Anything (effect_aim number) (effect_is_for u.loads u.moment asked number m may) [] u.pairs
+    let there : One (OneWay u.loads (λ b. Leads b m)) _ =
+    found_complete u.loads u.moment asked m Anything _ (effect_is_for u.loads u.moment asked number m may) [] u.pairs
     (inr late) in
-    one_map (pair_without_store number) (OneWay u.loads (λ b. Leads b (without_store number m))) (answered_store number u)
+    one_map _ (OneWay u.loads (λ b. Leads b (without_store number m))) _
     (one_weaker (λ e. OneWay u.loads (λ b. Leads b m) e × HasTaken number e)
-    (λ e. OneWay u.loads (λ b. Leads b (without_store number m)) (pair_without_store number e))
-    (λ e p. (p.0.0, p.0.1, leads_without_store number (way_on u.loads e p.0.0) m p.1 p.0.2)) (answered_store number u)
-    (one_both (OneWay u.loads (λ b. Leads b m)) (HasTaken number) (answered_store number u) there all))
+    (λ e. OneWay u.loads (λ b. Leads b (without_store number m)) _)
+    (λ e p. (p.0.0, p.0.1, leads_without_store number _ m p.1 p.0.2)) _
+    (one_both (OneWay u.loads (λ b. Leads b m)) _ _ there all))
   where
     each_any : (xs : List Pair) → Each (λ e. Unit {0}) xs
     each_any [] = tt
@@ -239,21 +231,21 @@ answered_load_right : (unit : UnitPlace) (number : ℕ) (bytes : List ℕ) (P : 
     → IsAlone (is_under number) u.loads → (load : Option WatchedLoad) → find (is_under number) u.loads ≡ load
     → Each (Right unit number bytes P u) (answered_load unit bytes load u)
 answered_load_right unit number bytes P closed u s alone None h =
-    each_weaker (λ e. EachWay u.loads (SoundOn P) e × IsPairBy u.moment e) (Right unit number bytes P u)
+    each_weaker (λ e. EachWay u.loads (SoundOn P) e × IsPairBy u.moment e) _
     (λ e a. (a, answers_none u.loads unit number bytes h e)) u.pairs
     (each_both (EachWay u.loads (SoundOn P)) (IsPairBy u.moment) u.pairs s.sound s.timely)
 answered_load_right unit number bytes P closed u s alone (Some l) h =
     let S : Pair → Type 0 = IsSound u.loads u.moment s.asked P in
     let R : Pair → Type 0 = Right unit number bytes P u in
     let aim : Aim = word_aim unit l.address bytes in
-    let all : Each S u.pairs = each_both (EachWay u.loads (SoundOn P)) (IsPairBy u.moment) u.pairs s.sound s.timely in
+    let all : Each S u.pairs = each_both _ _ u.pairs s.sound s.timely in
     let joint : IsJoint S = sound_joint u.loads u.moment s.asked P in
     let both : IsJoint R =
     λ g e i a b. (joint g e i a.0 b.0, each_joint u.loads (λ x. has_answer unit number bytes x ≡ true) g e i a.1 b.1) in
-    let missed : List Pair = gathered (pair_missed unit bytes l) u.pairs in
+    let missed : List Pair = gathered _ u.pairs in
     met_sound u.loads u.moment s.asked S R joint both (sound_kept u.loads u.moment s.asked P closed) (suc (rounds (with_hope aim missed)))
-    aim (λ e a t. (a, word_answers u.loads u.moment s.asked unit number bytes l h alone e t)) (gathered (pair_got unit bytes l) u.pairs)
-    (with_hope aim missed) (got_sound u.loads u.moment s.asked unit number bytes l h alone (SoundOn P) u.pairs all)
+    aim (λ e a t. (a, word_answers u.loads u.moment s.asked unit number bytes l h alone e t)) _
+    _ (got_sound u.loads u.moment s.asked unit number bytes l h alone (SoundOn P) u.pairs all)
     (each_filter S aim.hope missed (missed_sound u.loads u.moment s.asked unit number bytes l h (SoundOn P) u.pairs all))
 
 answered_load_fits : (unit : UnitPlace) (number : ℕ) (bytes : List ℕ) (P Q : UnitMemory → Type 0) → IsClosed P
@@ -261,25 +253,25 @@ answered_load_fits : (unit : UnitPlace) (number : ℕ) (bytes : List ℕ) (P Q :
     → (u : Ways) → Fits P u → IsAlone (is_under number) u.loads
     → Fits Q (ways_without_load number u (answered_load unit bytes (find (is_under number) u.loads) u))
 answered_load_fits unit number bytes P Q closed f u s alone =
-    let out : List Pair = answered_load unit bytes (find (is_under number) u.loads) u in
-    let left : List WatchedLoad = loads_without number u.loads in
-    let R : Pair → Type 0 = Right unit number bytes P u in
-    let there : Each R out = answered_load_right unit number bytes P closed u s alone (find (is_under number) u.loads) refl in
+    let out = answered_load unit bytes _ u in
+    let left = loads_without number u.loads in
+    let R = Right unit number bytes P u in
+    let there = answered_load_right unit number bytes P closed u s alone _ refl in
     record {
-      asked = moment_asked (is_first number u.loads) u.moment left (left_asked number u.moment u.loads s.asked);
-      timely = moment_by (is_first number u.loads) u.moment left out (each_weaker R (IsPairBy u.moment) (λ e r. r.0.1) out there);
-      sound = each_cut left (SoundOn Q) (is_first number u.loads) out
-          (each_weaker R (EachWay left (SoundOn Q))
+      asked = moment_asked _ u.moment left (left_asked number u.moment u.loads s.asked);
+      timely = moment_by _ u.moment left out (each_weaker R _ (λ e r. r.0.1) out there);
+      sound = each_cut left (SoundOn Q) _ out
+          (each_weaker R _
           (λ e r path has. subst (SoundOn Q) (sym (way_without number u.loads e path))
-          (λ m o. sound_without_load unit number bytes P Q f (way_on u.loads e path) (r.1 path has) (r.0.0 path has) m o)) out there);
+          (λ m o. sound_without_load unit number bytes P Q f _ (r.1 path has) (r.0.0 path has) m o)) out there);
     }
 
 answered_load_leads : (unit : UnitPlace) (number : ℕ) (bytes : List ℕ) (m : UnitMemory) → may_answer_load unit number bytes m.loads ≡ true
     → (u : Ways) → Each (IsAsked u.moment) u.loads → LeadsTo u m
     → LeadsTo (ways_without_load number u (answered_load unit bytes (find (is_under number) u.loads) u)) (without_load number m)
 answered_load_leads unit number bytes m may u asked o =
-    let out : List Pair = answered_load unit bytes (find (is_under number) u.loads) u in
-    let left : List WatchedLoad = loads_without number u.loads in
+    let out = answered_load unit bytes _ u in
+    let left = loads_without number u.loads in
     one_cut left (λ b. Leads b (without_load number m)) (is_first number u.loads) out
     (one_weaker (OneWay u.loads (λ b. Leads b m)) (OneWay left (λ b. Leads b (without_load number m)))
     (λ e p. (
@@ -293,7 +285,7 @@ answered_load_leads unit number bytes m may u asked o =
         → One (OneWay u.loads (λ b. Leads b m)) (answered_load unit bytes load u)
     finds None h = o
     finds (Some l) h =
-        let aim : Aim = word_aim unit l.address bytes in
+        let aim = word_aim unit l.address bytes in
         found_complete u.loads u.moment asked m _ aim (is_for u.loads u.moment asked unit number bytes l h m may)
         (gathered (pair_got unit bytes l) u.pairs) (with_hope aim (gathered (pair_missed unit bytes l) u.pairs))
         (split_complete u.loads u.moment asked unit number bytes l h m may u.pairs o)
@@ -309,27 +301,27 @@ pub event_fits : (unit : UnitPlace) (P Q : UnitMemory → Type 0) → IsClosed P
     → ((m n : UnitMemory) → P m → seen unit m event ≡ Some n → Q n)
     → (u : Ways) → IsAloneFor u event → Fits P u → Fits Q (ways_after unit u event)
 event_fits unit P Q closed_p closed_q (LoadRequest number address n) f u alone s =
-    requested_load_fits number address P Q closed_q (is_at unit address n) f u s
+    requested_load_fits number address P Q closed_q _ f u s
 event_fits unit P Q closed_p closed_q (LoadResponse number bytes) f u alone s =
     answered_load_fits unit number bytes.now P Q closed_p
-    (λ m p g. f m (without_load number m) p
+    (λ m p g. f m _ p
     (if_true (may_answer_load unit number bytes.now m.loads) (Some (without_load number m)) None g)) u s alone
 event_fits unit P Q closed_p closed_q (StoreRequest number address bytes enables) f u alone s =
-    let stored : List (Option ℕ) = at_unit unit (stored_byte address bytes.now enables) in
-    requested_store_fits number stored P Q (list_any is_some stored) f u s
+    let stored = at_unit unit (stored_byte address bytes.now enables) in
+    requested_store_fits number stored P Q _ f u s
 event_fits unit P Q closed_p closed_q (StoreResponse number) f u alone s =
     answered_store_fits number P Q closed_p
-    (λ m p g. f m (without_store number m) p (if_true (may_answer_store number m.stores) (Some (without_store number m)) None g)) u s
+    (λ m p g. f m _ p (if_true (may_answer_store number m.stores) (Some (without_store number m)) None g)) u s
 
 pub event_leads : (unit : UnitPlace) (event : HistoryEvent) (m n : UnitMemory) → seen unit m event ≡ Some n → (u : Ways)
     → Each (IsAsked u.moment) u.loads → Each (IsPairBy u.moment) u.pairs → LeadsTo u m → LeadsTo (ways_after unit u event) n
 event_leads unit (LoadRequest number address k) m n h u asked by o =
-    requested_load_leads number address (is_at unit address k) m n h u by o
+    requested_load_leads number address _ m n h u by o
 event_leads unit (LoadResponse number bytes) m n h u asked by o =
-    let p = some_if (may_answer_load unit number bytes.now m.loads) (without_load number m) n h in
+    let p = some_if _ (without_load number m) n h in
     subst (LeadsTo (ways_after unit u (LoadResponse number bytes))) p.1 (answered_load_leads unit number bytes.now m p.0 u asked o)
 event_leads unit (StoreRequest number address bytes enables) m n h u asked by o =
-    let stored : List (Option ℕ) = at_unit unit (stored_byte address bytes.now enables) in
+    let stored = at_unit unit (stored_byte address bytes.now enables) in
     requested_store_leads number stored (list_any is_some stored) m n h u o
 event_leads unit (StoreResponse number) m n h u asked by o =
     let p = some_if (may_answer_store number m.stores) (without_store number m) n h in
@@ -339,8 +331,7 @@ event_leads unit (StoreResponse number) m n h u asked by o =
 
 -- a step on one of the ways
 one_step : (u : Ways) (m n : UnitMemory) → HiddenStep m n → LeadsTo u m → LeadsTo u n
-one_step u m n step o =
-    one_weaker (OneWay u.loads (λ b. Leads b m)) (OneWay u.loads (λ b. Leads b n)) (λ e p. (p.0, p.1, leads_on n p.2 step)) u.pairs o
+one_step u m n step o = grind (arith, one_weaker, u.loads, leads_on, u.pairs)
 
 first_complete : (image : List ℕ) (rest : Rest) (unit : UnitPlace) (xs : List HistoryEvent) (m : UnitMemory)
     → MayBe unit (untouched image rest unit) xs m → xs ≡ [] → LeadsTo (first_ways image rest unit) m
@@ -358,8 +349,8 @@ later_complete start unit u v history event before next xs m (steps hs k n r ste
     one_step v k n step (later_complete start unit u v history event before next hs k r h)
 later_complete start unit u v history event before next xs m (sees hs last k n r e) h =
     let p = same_from_push hs history last event h in
-    let there : MayBe unit start history k = subst (λ x. MayBe unit start x k) p.0 r in
-    next k n there (subst (λ x. seen unit k x ≡ Some n) p.1 e) (before k there)
+    let there = subst (λ x. MayBe unit start x k) p.0 r in
+    next k n there (rw p.1 at e) (before k there)
 
 nothing_open : (w : List (Option ℕ)) (ms : List OpenLoad) → AreWatched w [] ms → [] ≡ ms
 nothing_open w [] h = refl
@@ -376,7 +367,7 @@ stands_first image rest unit =
       alike = ([], (refl, tt));
       sound = (
         λ path has m o. (let same : start ≡ m =
-            (λ i. record { word = o.word i; stores = o.stores i; loads = nothing_open start.word m.loads o.loads i }) in subst
+            (λ i. record { word = o.word i; stores = o.stores i; loads = nothing_open start.word _ o.loads i }) in subst
             (λ x. MayBe unit start [] x) same starts),
         tt,
       );
@@ -388,10 +379,10 @@ pub stands_after : (start : UnitMemory) (unit : UnitPlace) (u : Ways) (history :
     → StandsFor start unit (ways_after unit u event) (history ++ event ∷ [])
 stands_after start unit u history event alone s =
     let P : UnitMemory → Type 0 = MayBe unit start history in
-    let Q : UnitMemory → Type 0 = MayBe unit start (history ++ event ∷ []) in
+    let Q : UnitMemory → Type 0 = MayBe unit start _ in
     let fits : Fits P u = record { asked = s.asked; timely = s.timely; sound = s.sound } in
-    let next : Fits Q (ways_after unit u event) =
-    event_fits unit P Q (λ m n r step. steps history m n r step) (λ m n r step. steps (history ++ event ∷ []) m n r step) event
+    let next : Fits Q _ =
+    event_fits unit P Q (λ m n r step. steps history m n r step) (λ m n r step. steps _ m n r step) event
     (λ m n r e. sees history event m n r e) u alone fits in
     let shape : IsShaped (ways_after unit u event) = event_shaped unit event u s.asked (record { apart = s.apart; alike = s.alike }) in
     record {
@@ -413,17 +404,14 @@ stands_passed start unit u history event pass s = record {
   timely = s.timely;
   apart = s.apart;
   alike = s.alike;
-  sound = each_weaker (EachWay u.loads (SoundOn (MayBe unit start history)))
-      (EachWay u.loads (SoundOn (MayBe unit start (history ++ event ∷ []))))
+  sound = each_weaker _
+      _
       (λ e f path has m o. sees history event m m (f path has m o) (pass m (f path has m o))) u.pairs s.sound;
-  complete = λ m r. later_complete start unit u u history event s.complete same (history ++ event ∷ []) m r refl;
+  complete = λ m r. later_complete start unit u u history event s.complete same _ m r refl;
 }
   where
     same : (k n : UnitMemory) → MayBe unit start history k → seen unit k event ≡ Some n → LeadsTo u k → LeadsTo u n
-    same k n there e o =
-        let both : Some k ≡ Some n = sym (pass k there) ∙ e in
-        let is : k ≡ n = cc in
-        subst (LeadsTo u) is o
+    same k n there e o = grind arith
 
 -- The verdict. ----
 
@@ -446,18 +434,16 @@ pub some_state : (start : UnitMemory) (unit : UnitPlace) (u : Ways) (e : Pair) (
     → (history : List HistoryEvent) → StandsFor start unit u history
     → (path : List Stood) × (m : UnitMemory) × IsOn (way_on u.loads e path) m × MayBe unit start history m
 some_state start unit u e es is history s =
-    let sound : Each (EachWay u.loads (SoundOn (MayBe unit start history))) (e ∷ es) =
+    let sound =
     subst (Each (EachWay u.loads (SoundOn (MayBe unit start history)))) is s.sound in
     let p = some_path e.past in
-    let r = state_on (way_on u.loads e p.0) in
+    let r = state_on _ in
     (p.0, r.0, r.1, sound.0 p.0 p.1 r.0 r.1)
 
 pub no_state : (start : UnitMemory) (unit : UnitPlace) (u : Ways) → u.pairs ≡ [] → (history : List HistoryEvent)
     → StandsFor start unit u history
     → ¬ ((m : UnitMemory) × MayBe unit start history m)
-no_state start unit u is history s h =
-    let o : One (OneWay u.loads (λ b. Leads b h.0)) [] = subst (One (OneWay u.loads (λ b. Leads b h.0))) is (s.complete h.0 h.1) in
-    absurd o
+no_state start unit u is history s h = grind arith
 
 -- Whole histories. ----
 
@@ -478,4 +464,4 @@ pub stands_by : (image : List ℕ) (rest : Rest) (unit : UnitPlace) (history : L
     → AlwaysAlone unit (first_ways image rest unit) history
     → StandsFor (untouched image rest unit) unit (fold (ways_after unit) (first_ways image rest unit) history) history
 stands_by image rest unit history a =
-    stands_from (untouched image rest unit) unit (first_ways image rest unit) [] history a (stands_first image rest unit)
+    stands_from _ unit (first_ways image rest unit) [] history a (stands_first image rest unit)

@@ -1,29 +1,26 @@
 -- The search for the pairs on which a goal is met: what it finds was reached by stores that took effect, and it finds each way there.
-use Rattle.std.proofs.Common.{◌≡◌, ℕ, zero, suc, ◌+◌, ◌<◌, ◌≤◌, ◌⊎◌, Bool, true, false, List, [], ◌∷◌, ◌++◌, length, map, max, filter, fold}
+use Rattle.std.proofs.Common.{◌≡◌, ℕ, zero, suc, ◌+◌, ◌<◌, ◌≤◌, ◌⊎◌, Bool, true, false, List, [], ◌∷◌, ◌++◌, length, max, filter, fold}
 use Rattle.std.proofs.Common.{inl, inr, refl, sym, ap, ◌∙◌, subst, append_assoc, append-nil, arith}
-use Rattle.std.specs.Cmp.Lexicographic.{pointwise}
 use Rattle.std.proofs.lemmas.Bool.{cases_Bool, and_parts}
 use Rattle.atomic_histories.specs.declared.unit.OpenStore.{OpenStore}
 use Rattle.atomic_histories.specs.declared.unit.WatchedLoad.{WatchedLoad}
 use Rattle.atomic_histories.specs.Law.{UnitMemory, HiddenStep, done_store}
 use Rattle.atomic_histories.specs.Pasts.{Past, Stood, stood, Has, overwritten}
 use Rattle.atomic_histories.specs.Branches.{Branch, effect_of}
-use Rattle.atomic_histories.specs.Followed.{Pair, Aim, watched, way_on, pair_after, cons_effect, effects_from, effects, is_same_word}
-use Rattle.atomic_histories.specs.Followed.{is_same_store, is_same_pair, merged_pair, with_pair, with_pairs, out_of, next_of, out_after}
-use Rattle.atomic_histories.specs.Followed.{next_after, met, rounds, found}
+use Rattle.atomic_histories.specs.Followed.{Pair, Aim, way_on, pair_after, cons_effect, effects_from, effects}
+use Rattle.atomic_histories.specs.Followed.{is_same_pair, merged_pair, with_pair, with_pairs, out_of, next_of, out_after}
+use Rattle.atomic_histories.specs.Followed.{met, rounds, found}
 use Rattle.atomic_histories.specs.Stands.{Each, One, EachWay, OneWay, IsAsked, IsPairBy, IsOn, Leads, now, later}
 use Rattle.atomic_histories.proofs.Lists.{one_weaker, one_none, one_or, one_filter, each_filter}
 use Rattle.atomic_histories.proofs.SameWords.{same_word, same_stores}
 use Rattle.atomic_histories.proofs.Steps.{sound_effect}
-use Rattle.atomic_histories.proofs.Paths.{some_path, merged_has, has_merged, by_merged, by_overwritten, watched_more}
+use Rattle.atomic_histories.proofs.Paths.{some_path, merged_has, has_merged, by_overwritten, watched_more}
 
 -- Pairs that are one. ----
 
 pub pair_parts : (f e : Pair) → is_same_pair f e ≡ true → (f.word ≡ e.word) × (f.stores ≡ e.stores)
 unfolding is_same_pair
-pair_parts f e h =
-    let p = and_parts (is_same_word f.word e.word) (pointwise is_same_store f.stores e.stores) h in
-    (same_word f.word e.word p.0, same_stores f.stores e.stores p.1)
+pair_parts f e h = grind (arith, and_parts, same_word, f.word, e.word, same_stores, f.stores, e.stores)
 
 -- what holds of one of two holds of the two merged
 abbrev pub IsTaken : (Pair → Type 0) → Type 0
@@ -36,12 +33,11 @@ IsJoint Q = (f e : Pair) → is_same_pair f e ≡ true → Q f → Q e → Q (me
 -- a way to one is a way to the other
 same_way : (loads : List WatchedLoad) (f e : Pair) (path : List Stood) → is_same_pair f e ≡ true
     → way_on loads e path ≡ way_on loads (merged_pair f e) path
-same_way loads f e path h =
-    let p = pair_parts f e h in λ i. record { word = sym p.0 i; stores = sym p.1 i; loads = map (watched path) loads }
+same_way loads f e path h = grind (arith, pair_parts)
 
 pub one_taken : (loads : List WatchedLoad) (P : Branch → Type 0) → IsTaken (OneWay loads P)
 one_taken loads P f e h (inl o) = (o.0, merged_has f.past e.past o.0 (inl o.1), o.2)
-one_taken loads P f e h (inr o) = (o.0, merged_has f.past e.past o.0 (inr o.1), subst P (same_way loads f e o.0 h) o.2)
+one_taken loads P f e h (inr o) = grind (arith, merged_has, f.past, e.past, same_way)
 
 pub each_joint : (loads : List WatchedLoad) (P : Branch → Type 0) → IsJoint (EachWay loads P)
 each_joint loads P f e h a b = λ path has. elim (has_merged f.past e.past path has) [
@@ -50,13 +46,13 @@ each_joint loads P f e h a b = λ path has. elim (has_merged f.past e.past path 
 ]
 
 pub by_joint : (moment : ℕ) → IsJoint (IsPairBy moment)
-by_joint moment f e h a b = by_merged moment f.past e.past a b
+by_joint moment f e h a b = grind arith
 
 -- One more pair. ----
 
 one_with : (Q : Pair → Type 0) → IsTaken Q → (es : List Pair) (e : Pair) → One Q es → One Q (with_pair es e)
 one_with Q t [] e h = absurd h
-one_with Q t (f ∷ fs) e h = elim (cases_Bool (is_same_pair f e)) [
+one_with Q t (f ∷ fs) e h = elim (cases_Bool _) [
   | inl y ↦
       let on : One Q (merged_pair f e ∷ fs) = elim h [ inl q ↦ inl (t f e y (inl q)) | inr r ↦ inr r ] in
       rw y on
@@ -67,9 +63,9 @@ one_with Q t (f ∷ fs) e h = elim (cases_Bool (is_same_pair f e)) [
 
 new_with : (Q : Pair → Type 0) → IsTaken Q → (es : List Pair) (e : Pair) → Q e → One Q (with_pair es e)
 new_with Q t [] e q = inl q
-new_with Q t (f ∷ fs) e q = elim (cases_Bool (is_same_pair f e)) [
-  | inl y ↦ let on : One Q (merged_pair f e ∷ fs) = inl (t f e y (inr q)) in rw y on
-  | inr n ↦ let on : One Q (f ∷ with_pair fs e) = inr (new_with Q t fs e q) in rw n on
+new_with Q t (f ∷ fs) e q = elim (cases_Bool _) [
+  | inl y ↦ let on = inl (t f e y (inr q)) in rw y on
+  | inr n ↦ let on = inr (new_with Q t fs e q) in rw n on
 ]
 
 pub each_with : (Q : Pair → Type 0) → IsJoint Q → (es : List Pair) (e : Pair) → Each Q es → Q e → Each Q (with_pair es e)
@@ -85,7 +81,7 @@ one_withs Q t es (e ∷ more) h = one_withs Q t (with_pair es e) more (one_with 
 
 new_withs : (Q : Pair → Type 0) → IsTaken Q → (es more : List Pair) → One Q more → One Q (with_pairs es more)
 new_withs Q t es [] h = absurd h
-new_withs Q t es (e ∷ more) (inl q) = one_withs Q t (with_pair es e) more (new_with Q t es e q)
+new_withs Q t es (e ∷ more) (inl q) = one_withs Q t _ more (new_with Q t es e q)
 new_withs Q t es (e ∷ more) (inr h) = new_withs Q t (with_pair es e) more h
 
 each_withs : (Q : Pair → Type 0) → IsJoint Q → (es more : List Pair) → Each Q es → Each Q more → Each Q (with_pairs es more)
@@ -118,19 +114,19 @@ one_effect : (Q : Pair → Type 0) (p : Past) (e : Pair) (past ss before : List 
 one_effect Q p e past [] [] s after split open_ q = cc
 one_effect Q p e past [] (b ∷ bs) s after split open_ q = cc
 one_effect Q p e past (x ∷ xs) [] s after split open_ q =
-    let x_s : x ≡ s = head_same x s xs after split in
-    let xs_after : xs ≡ after = tail_same x s xs after split in
-    let q1 : Q (pair_after p e past s after) = subst (λ b. Q (pair_after p e b s after)) (append-nil past) q in
-    let q2 : Q (pair_after p e past x xs) =
-    subst (λ y. Q (pair_after p e past y xs)) (sym x_s) (subst (λ ys. Q (pair_after p e past s ys)) (sym xs_after) q1) in
-    new_cons Q x.is_done (pair_after p e past x xs) (effects_from p e (past ++ x ∷ []) xs) (ap (λ y. y.is_done) x_s ∙ open_) q2
+    let x_s = head_same x s xs after split in
+    let xs_after = tail_same x s xs after split in
+    let q1 = subst (λ b. Q (pair_after p e b s after)) (append-nil past) q in
+    let q2 =
+    subst (λ y. Q (pair_after p e past y xs)) (sym x_s) (rw (sym xs_after) at q1) in
+    new_cons Q x.is_done _ _ (cc (x_s, open_)) q2
 one_effect Q p e past (x ∷ xs) (b ∷ bs) s after split open_ q =
-    let x_b : x ≡ b = head_same x b xs (bs ++ s ∷ after) split in
-    let rest : xs ≡ bs ++ s ∷ after = tail_same x b xs (bs ++ s ∷ after) split in
-    let q1 : Q (pair_after p e (past ++ x ∷ bs) s after) = subst (λ y. Q (pair_after p e (past ++ y ∷ bs) s after)) (sym x_b) q in
-    let q2 : Q (pair_after p e ((past ++ x ∷ []) ++ bs) s after) =
+    let x_b = head_same x b xs _ split in
+    let rest = tail_same x b xs _ split in
+    let q1 = subst (λ y. Q (pair_after p e (past ++ y ∷ bs) s after)) (sym x_b) q in
+    let q2 =
     subst (λ b. Q (pair_after p e b s after)) (sym (append_assoc past (x ∷ []) bs)) q1 in
-    one_cons Q x.is_done (pair_after p e past x xs) (effects_from p e (past ++ x ∷ []) xs)
+    one_cons Q x.is_done _ _
     (one_effect Q p e (past ++ x ∷ []) xs bs s after rest open_ q2)
 
 each_effect : (Q : Pair → Type 0) (p : Past) (e : Pair) (past ss : List OpenStore)
@@ -138,10 +134,10 @@ each_effect : (Q : Pair → Type 0) (p : Past) (e : Pair) (past ss : List OpenSt
     → Q (pair_after p e (past ++ before) s after)) → Each Q (effects_from p e past ss)
 each_effect Q p e past [] f = tt
 each_effect Q p e past (x ∷ xs) f =
-    each_cons Q x.is_done (pair_after p e past x xs) (effects_from p e (past ++ x ∷ []) xs)
+    each_cons Q x.is_done _ _
     (λ o. subst (λ b. Q (pair_after p e b x xs)) (append-nil past) (f [] x xs refl o))
-    (each_effect Q p e (past ++ x ∷ []) xs (λ before s after split o.
-    subst (λ b. Q (pair_after p e b s after)) (sym (append_assoc past (x ∷ []) before)) (f (x ∷ before) s after (ap (λ t. x ∷ t) split) o)))
+    (each_effect Q p e _ xs (λ before s after split o.
+    subst (λ b. Q (pair_after p e b s after)) (sym (append_assoc past (x ∷ []) before)) (f _ s after (ap (λ t. x ∷ t) split) o)))
 
 -- how many steps a pair is from the one at which all stores have taken effect
 abbrev undone_of : Bool → ℕ
@@ -172,7 +168,7 @@ more_rounds n (e ∷ es) = let h = more_rounds (max n (length e.stores)) es in o
 pub one_rounds : (Q : Pair → Type 0) (n : ℕ) (es : List Pair) → One Q es
     → One (λ e. Q e × (undone e.stores ≤ fold (λ k x. max k (length x.stores)) n es)) es
 one_rounds Q n [] h = absurd h
-one_rounds Q n (e ∷ es) (inl q) = let h = more_rounds (max n (length e.stores)) es in let l = undone_length e.stores in inl (q, omega arith)
+one_rounds Q n (e ∷ es) (inl q) = grind (arith, more_rounds, e.stores, undone_length)
 one_rounds Q n (e ∷ es) (inr h) = inr (one_rounds Q (max n (length e.stores)) es h)
 
 -- The loads that are open, and the moment. ----
@@ -191,9 +187,9 @@ module _ (loads : List WatchedLoad) (moment : ℕ) (asked : Each (IsAsked moment
           ≡ effect_of (way_on ls e path) before s after)
       made [] a = ([], refl, refl)
       made (l ∷ ls) a =
-          let more : map (watched (stood e.word moment ∷ path)) (l ∷ ls) ≡ (effect_of (way_on (l ∷ ls) e path) before s after).loads =
+          let more =
           watched_more moment e.word path (l ∷ ls) a in
-          let there : Branch = effect_of (way_on (l ∷ ls) e path) before s after in
+          let there = effect_of (way_on (l ∷ ls) e path) before s after in
           (stood e.word moment ∷ path, (path, refl, h), λ i. record { word = there.word; stores = there.stores; loads = more i })
 
   path_on : (e : Pair) (before : List OpenStore) (s : OpenStore) (after : List OpenStore) (more : List Stood) → Has (past_on e) more
@@ -206,11 +202,7 @@ module _ (loads : List WatchedLoad) (moment : ℕ) (asked : Each (IsAsked moment
           × (way_on ls (pair_after (overwritten ls moment e.word e.past) e before s after) more
           ≡ effect_of (way_on ls e path) before s after)
       made [] a g = let r = some_path e.past in (r.0, r.1, refl)
-      made (l ∷ ls) a g =
-          let same : map (watched more) (l ∷ ls) ≡ (effect_of (way_on (l ∷ ls) e g.0) before s after).loads =
-          ap (λ p. map (watched p) (l ∷ ls)) g.1 ∙ watched_more moment e.word g.0 (l ∷ ls) a in
-          let there : Branch = effect_of (way_on (l ∷ ls) e g.0) before s after in
-          (g.0, g.2, λ i. record { word = there.word; stores = there.stores; loads = same i })
+      made (l ∷ ls) a g = grind (arith, watched_more, e.word)
 
   -- what holds of the pairs on, if it is kept when a store takes effect
   abbrev pub IsKept : (Pair → Type 0) → Type 0
@@ -229,14 +221,14 @@ module _ (loads : List WatchedLoad) (moment : ℕ) (asked : Each (IsAsked moment
   sound_kept P closed e before s after h split open_ = (
     λ more has.
         let r = path_on e before s after more has in
-        let on : (m : UnitMemory) → IsOn (effect_of (way_on loads e r.0) before s after) m → P m =
-        λ m o. sound_effect P closed (way_on loads e r.0) before s after (h.0 r.0 r.1) split open_ m o in
-        subst (λ (b : Branch). (m : UnitMemory) → IsOn b m → P m) (sym r.2) on,
+        let on : (m : UnitMemory) → IsOn _ m → P m =
+        λ m o. sound_effect P closed _ before s after (h.0 r.0 r.1) split open_ m o in
+        subst (λ b. (m : UnitMemory) → IsOn b m → P m) (sym r.2) on,
     by_overwritten loads moment e.word e.past h.1,
   )
 
   each_effects : (S : Pair → Type 0) → IsKept S → (e : Pair) → S e → Each S (effects loads moment e)
-  each_effects S kept e h = each_effect S (past_on e) e [] e.stores (λ before s after split o. kept e before s after h split o)
+  each_effects S kept e h = each_effect S _ e [] e.stores (λ before s after split o. kept e before s after h split o)
 
   -- One round. ----
 
@@ -259,7 +251,7 @@ module _ (loads : List WatchedLoad) (moment : ℕ) (asked : Each (IsAsked moment
   next_keeps Q t aim next (e ∷ es) h = elim (cases_Bool (aim.goal e)) [
     | inl u ↦ rw u (next_keeps Q t aim next es h)
     | inr f ↦
-        let on : List Pair = filter aim.hope (effects loads moment e) in
+        let on = filter aim.hope _ in
         rw f (next_keeps Q t aim (with_pairs next on) es (one_withs Q t next on h))
   ]
 
@@ -267,9 +259,7 @@ module _ (loads : List WatchedLoad) (moment : ℕ) (asked : Each (IsAsked moment
       → One (λ e. (aim.goal e ≡ false) × One Q (filter aim.hope (effects loads moment e))) es
       → One Q (fold (next_of loads moment aim) next es)
   next_finds Q t aim next [] h = absurd h
-  next_finds Q t aim next (e ∷ es) (inl p) =
-      let on : List Pair = filter aim.hope (effects loads moment e) in
-      rw p.0 (next_keeps Q t aim (with_pairs next on) es (new_withs Q t next on p.1))
+  next_finds Q t aim next (e ∷ es) (inl p) = grind (arith, aim.hope, next_keeps, new_withs)
   next_finds Q t aim next (e ∷ es) (inr h) = next_finds Q t aim (next_of loads moment aim next e) es h
 
   -- what is found has a property that those which meet the goal have
@@ -287,7 +277,7 @@ module _ (loads : List WatchedLoad) (moment : ℕ) (asked : Each (IsAsked moment
   next_sound S j kept aim next (e ∷ es) a b = elim (cases_Bool (aim.goal e)) [
     | inl t ↦ rw t (next_sound S j kept aim next es a b.1)
     | inr f ↦
-        let on : List Pair = filter aim.hope (effects loads moment e) in
+        let on = filter aim.hope _ in
         rw f (next_sound S j kept aim (with_pairs next on) es
         (each_withs S j next on a (each_filter S aim.hope (effects loads moment e) (each_effects S kept e b.0))) b.1)
   ]
@@ -299,7 +289,7 @@ module _ (loads : List WatchedLoad) (moment : ℕ) (asked : Each (IsAsked moment
       → Each R out → Each S es → Each R (met loads moment n aim out es)
   met_sound S R j k kept zero aim g out es a b = a
   met_sound S R j k kept (suc n) aim g out es a b =
-      met_sound S R j k kept n aim g (out_after aim.goal out es) (next_after loads moment aim es)
+      met_sound S R j k kept n aim g _ _
       (out_sound S R k aim.goal g out es a b)
       (next_sound S j kept aim [] es tt b)
 
@@ -319,10 +309,10 @@ module _ (loads : List WatchedLoad) (moment : ℕ) (asked : Each (IsAsked moment
       split : Leads (way_on loads e path) m → undone e.stores < suc n → IsOn (way_on loads e path) m ⊎ One Q (effects loads moment e)
       split (now o) l = inl o
       split (later before s after is open_ r) l =
-          let less : undone e.stores ≡ suc (undone (before ++ done_store s ∷ after)) = ap undone is ∙ undone_less before s after open_ in
+          let less : undone e.stores ≡ suc _ = ap undone is ∙ undone_less before s after open_ in
           let p = on_path e before s after path has in
-          let few : undone (before ++ done_store s ∷ after) < n = omega arith in
-          inr (one_effect Q (past_on e) e [] e.stores before s after is open_ (f before s after p.0 p.1 p.2 (r, few)))
+          let few : undone _ < n = omega arith in
+          inr (one_effect Q _ e [] e.stores before s after is open_ (f before s after p.0 p.1 p.2 (r, few)))
 
   -- The goal is met late: of the ways that haven't met it each state that it is about has it now or behind more effects. ----
 
@@ -346,8 +336,8 @@ module _ (loads : List WatchedLoad) (moment : ℕ) (asked : Each (IsAsked moment
         → One (Way n) (filter aim.hope (effects loads moment e))
     way_split n aim f e away w =
         elim (leads_split m (λ x. Way n x × (aim.hope x ≡ true)) n e w.0 w.1 w.2.0 on) [
-          | inl o ↦ let x : true ≡ false = sym (f.here e w.0 w.2.1 o) ∙ away in cc
-          | inr o ↦ one_filter (Way n) aim.hope (effects loads moment e) o
+          | inl o ↦ let x = sym (f.here e w.0 w.2.1 o) ∙ away in cc
+          | inr o ↦ one_filter _ aim.hope _ o
         ]
       where
         on : (before : List OpenStore) (s : OpenStore) (after : List OpenStore) (more : List Stood) → Has (past_on e) more
@@ -355,35 +345,35 @@ module _ (loads : List WatchedLoad) (moment : ℕ) (asked : Each (IsAsked moment
             → LeadsWithin m n (effect_of (way_on loads e w.0) before s after)
             → Way n (pair_after (past_on e) e before s after) × (aim.hope (pair_after (past_on e) e before s after) ≡ true)
         on before s after more has same r =
-            let x : Pair = pair_after (past_on e) e before s after in
-            let lead : LeadsWithin m n (way_on loads x more) = subst (LeadsWithin m n) (sym same) r in
-            let late : Late (way_on loads x more) = subst Late (sym same) (f.stays e w.0 before s after away w.2.1) in
+            let x = pair_after _ e before s after in
+            let lead = subst (LeadsWithin m n) (sym same) r in
+            let late = subst Late (sym same) (f.stays e w.0 before s after away w.2.1) in
             ((more, has, (lead, late)), f.hopes x more late lead.0)
 
     none_within : (e : Pair) → Way zero e → ⊥
-    none_within e w = let l = w.2.0.1 in absurd (omega arith)
+    none_within e w = grind arith
 
     -- a way that leads to a state is found at the first place where the goal is met
     met_finds : (aim : Aim) → IsFor aim → (n : ℕ) (out es : List Pair) → One LeadsThere out ⊎ One (Way n) es
         → One LeadsThere (met loads moment n aim out es)
     met_finds aim f zero out es (inl h) = h
-    met_finds aim f zero out es (inr h) = absurd (one_none es (one_weaker (Way zero) (λ e. ⊥) none_within es h))
+    met_finds aim f zero out es (inr h) = absurd (one_none es (one_weaker _ (λ e. ⊥) none_within es h))
     met_finds aim f (suc n) out es h =
         let t : IsTaken LeadsThere = one_taken loads (λ b. Leads b m) in
-        let u : IsTaken (Way n) = one_taken loads (λ b. LeadsWithin m n b × Late b) in
+        let u : IsTaken _ = one_taken loads (λ b. LeadsWithin m n b × Late b) in
         let Here : Pair → Type 0 = λ e. (aim.goal e ≡ true) × LeadsThere e in
-        let There : Pair → Type 0 = λ e. (aim.goal e ≡ false) × One (Way n) (filter aim.hope (effects loads moment e)) in
-        let either : (e : Pair) → Way (suc n) e → Here e ⊎ There e = λ e w. elim (cases_Bool (aim.goal e)) [
+        let There : Pair → Type 0 = λ e. (aim.goal e ≡ false) × One _ _ in
+        let either : (e : Pair) → Way _ e → Here e ⊎ There e = λ e w. elim (cases_Bool _) [
           | inl y ↦ inl (y, (w.0, w.1, w.2.0.0))
           | inr u ↦ inr (u, way_split n aim f e u w)
         ] in
         elim h [
-          | inl o ↦ met_finds aim f n (out_after aim.goal out es) (next_after loads moment aim es)
+          | inl o ↦ met_finds aim f n _ _
               (inl (out_keeps LeadsThere t aim.goal out es o))
-          | inr o ↦ elim (one_or Here There es (one_weaker (Way (suc n)) (λ e. Here e ⊎ There e) either es o)) [
-            | inl a ↦ met_finds aim f n (out_after aim.goal out es) (next_after loads moment aim es)
+          | inr o ↦ elim (one_or Here There es (one_weaker _ (λ e. Here e ⊎ There e) either es o)) [
+            | inl a ↦ met_finds aim f n _ _
                 (inl (out_finds LeadsThere t aim.goal out es a))
-            | inr a ↦ met_finds aim f n (out_after aim.goal out es) (next_after loads moment aim es)
+            | inr a ↦ met_finds aim f n _ _
                 (inr (next_finds (Way n) u aim [] es a))
           ]
         ]
@@ -392,10 +382,10 @@ module _ (loads : List WatchedLoad) (moment : ℕ) (asked : Each (IsAsked moment
         → One LeadsThere out ⊎ One (OneWay loads (λ b. Leads b m × Late b)) es → One LeadsThere (found loads moment aim out es)
     found_complete aim f out es (inl h) = met_finds aim f (suc (rounds es)) out es (inl h)
     found_complete aim f out es (inr h) =
-        let n : ℕ = rounds es in
-        let Q : Pair → Type 0 = OneWay loads (λ b. Leads b m × Late b) in
-        met_finds aim f (suc n) out es
-        (inr (one_weaker (λ e. Q e × (undone e.stores ≤ n)) (Way (suc n))
+        let n = rounds es in
+        let Q = OneWay loads (λ b. Leads b m × Late b) in
+        met_finds aim f _ out es
+        (inr (one_weaker (λ e. Q e × (undone e.stores ≤ n)) _
         (λ e p. (p.0.0, p.0.1, ((p.0.2.0, within e p.1), p.0.2.1))) es (one_rounds Q 0 es h)))
       where
         within : (e : Pair) → undone e.stores ≤ rounds es → undone e.stores < suc (rounds es)

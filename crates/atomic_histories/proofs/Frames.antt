@@ -1,6 +1,6 @@
 -- What stretches show, of which more are pushed behind those that there are.
 use Rattle.std.proofs.Common.{◌≡◌, ℕ, zero, suc, ◌+◌, ◌<◌, ◌≤◌, false, List, [], ◌∷◌, ◌++◌, fold, length, get_or, length-append}
-use Rattle.std.proofs.Common.{append_assoc, refl, subst, sym, ap, ap₂, ◌∙◌, arith}
+use Rattle.std.proofs.Common.{append_assoc, refl, sym, ap, ap₂, ◌∙◌, arith}
 use Rattle.std.proofs.lemmas.List.{get_or_append_left, append-nil}
 use Rattle.std.proofs.Math.Seq.{get_or-append_seam}
 use Rattle.std.proofs.lemmas.List.Sums.{fold-append}
@@ -10,7 +10,6 @@ use Rattle.atomic_histories.specs.declared.stretches.Stretch.{Stretch}
 use Rattle.atomic_histories.specs.declared.stretches.Stretch.TheVariants.{Overwritten, Either}
 use Rattle.atomic_histories.specs.declared.pairs.FollowedPair.{FollowedPair}
 use Rattle.atomic_histories.specs.Pasts.{Past, begins, after, either, is_beginning, merged}
-use Rattle.atomic_histories.specs.Followed.{Pair}
 use Rattle.atomic_histories.specs.Stands.{Each}
 use Rattle.atomic_histories.specs.Shown.{past_at, past_of, pasts, IsIn, Grows, shown, shown_all, AreIn}
 use Rattle.atomic_histories.proofs.Lists.{each_weaker, each_append}
@@ -21,28 +20,28 @@ abbrev pub more_past : List Past → Stretch → List Past
 more_past ps s = ps ++ past_of ps s ∷ []
 
 pub pasts_push : (ss : List Stretch) (s : Stretch) → pasts (ss ++ s ∷ []) ≡ pasts ss ++ past_of (pasts ss) s ∷ []
-pasts_push ss s = fold-append more_past [] ss (s ∷ [])
+pasts_push ss s = fold-append more_past [] ss _
 
 length_more : (ps : List Past) (ss : List Stretch) → length (fold more_past ps ss) ≡ length ps + length ss
 length_more ps [] = omega arith
 length_more ps (s ∷ ss) =
     let h = length_more (more_past ps s) ss in
-    let one : length (more_past ps s) ≡ length ps + 1 = length-append ps (past_of ps s ∷ []) in
+    let one = length-append ps (past_of ps s ∷ []) in
     omega (arith, h, one)
 
 pub length_pasts : (ss : List Stretch) → length (pasts ss) ≡ length ss
-length_pasts ss = let h = length_more [] ss in omega (arith, h)
+length_pasts ss = grind (arith, length_more)
 
 -- each stretch shows the same with more behind it
 pasts_kept : (ps : List Past) (ss : List Stretch) → (more : List Past) × (fold more_past ps ss ≡ ps ++ more)
 pasts_kept ps [] = ([], sym (append-nil ps))
 pasts_kept ps (s ∷ ss) =
-    let h = pasts_kept (more_past ps s) ss in
-    (past_of ps s ∷ h.0, h.1 ∙ append_assoc ps (past_of ps s ∷ []) h.0)
+    let h = pasts_kept _ ss in
+    (past_of ps s ∷ h.0, h.1 ∙ append_assoc ps _ h.0)
 
 pub pasts_append : (ss more : List Stretch) → (behind : List Past) × (pasts (ss ++ more) ≡ pasts ss ++ behind)
 pasts_append ss more =
-    let h = pasts_kept (pasts ss) more in
+    let h = pasts_kept _ more in
     (h.0, fold-append more_past [] ss more ∙ h.1)
 
 -- a stretch shows a word at least
@@ -54,7 +53,7 @@ more_in : (ps : List Past) (ss : List Stretch) → Each (λ p. is_beginning p �
     → Each (λ p. is_beginning p ≡ false) (fold more_past ps ss)
 more_in ps [] h = h
 more_in ps (s ∷ ss) h =
-    more_in (more_past ps s) ss (each_append (λ p. is_beginning p ≡ false) ps (past_of ps s ∷ []) h (more_of ps s, tt))
+    more_in _ ss (each_append (λ p. is_beginning p ≡ false) ps _ h (more_of ps s, tt))
 
 more_at : (ps : List Past) (place : ℕ) → place < length ps → Each (λ p. is_beginning p ≡ false) ps
     → is_beginning (get_or ps place begins) ≡ false
@@ -63,7 +62,7 @@ more_at (p ∷ ps) zero i h = h.0
 more_at (p ∷ ps) (suc place) i h = more_at ps place (omega (arith, i)) h.1
 
 pub more_behind : (ss : List Stretch) (place : ℕ) → place < length ss → is_beginning (past_at (pasts ss) (Behind place)) ≡ false
-more_behind ss place i = more_at (pasts ss) place (omega (arith, length_pasts ss, i)) (more_in [] ss tt)
+more_behind ss place i = grind (arith, more_at, length_pasts, more_in)
 
 merged_first : (p q : Past) → is_beginning p ≡ false → merged p q ≡ either p q
 merged_first p q h = rw h refl
@@ -76,15 +75,11 @@ merged_second (either o p) q h = refl
 -- one of two references is to one of them
 pub merged_one : (ss : List Stretch) (one other : Before) (place : ℕ) → one ≡ Behind place → IsIn ss one
     → merged (past_at (pasts ss) one) (past_at (pasts ss) other) ≡ either (past_at (pasts ss) one) (past_at (pasts ss) other)
-merged_one ss one other place e i =
-    let more : is_beginning (past_at (pasts ss) one) ≡ false = rw e (more_behind ss place (subst (IsIn ss) e i)) in
-    merged_first (past_at (pasts ss) one) (past_at (pasts ss) other) more
+merged_one ss one other place e i = grind (arith, more_behind, merged_first)
 
 pub merged_other : (ss : List Stretch) (one other : Before) (place : ℕ) → other ≡ Behind place → IsIn ss other
     → merged (past_at (pasts ss) one) (past_at (pasts ss) other) ≡ either (past_at (pasts ss) one) (past_at (pasts ss) other)
-merged_other ss one other place e i =
-    let more : is_beginning (past_at (pasts ss) other) ≡ false = rw e (more_behind ss place (subst (IsIn ss) e i)) in
-    merged_second (past_at (pasts ss) one) (past_at (pasts ss) other) more
+merged_other ss one other place e i = grind (arith, more_behind, merged_second)
 
 -- More stretches. ----
 
@@ -95,7 +90,7 @@ pub grows_more : (ss ts us : List Stretch) → Grows ss ts → Grows ts us → G
 grows_more ss ts us g h = (g.0 ++ h.0, h.1 ∙ ap (λ xs. xs ++ h.0) g.1 ∙ append_assoc ss g.0 h.0)
 
 pub grows_longer : (ss ts : List Stretch) → Grows ss ts → length ss ≤ length ts
-grows_longer ss ts g = let e = ap length g.1 ∙ length-append ss g.0 in omega (arith, e)
+grows_longer ss ts g = grind (arith, length-append)
 
 pub in_grown : (ss ts : List Stretch) → Grows ss ts → (b : Before) → IsIn ss b → IsIn ts b
 in_grown ss ts g Nothing h = tt
@@ -105,25 +100,21 @@ pub past_grown : (ss ts : List Stretch) → Grows ss ts → (b : Before) → IsI
 past_grown ss ts g Nothing h = refl
 past_grown ss ts g (Behind place) h =
     let behind = pasts_append ss g.0 in
-    let within : place < length (pasts ss) = omega (arith, length_pasts ss, h) in
+    let within : place < length _ = omega (arith, length_pasts ss, h) in
     ap (λ xs. get_or (pasts xs) place begins) g.1 ∙ ap (λ xs. get_or xs place begins) behind.1
-    ∙ get_or_append_left (pasts ss) behind.0 begins place within
+    ∙ get_or_append_left _ behind.0 begins place within
 
 -- what a stretch shows that is pushed
 pub past_pushed : (ss : List Stretch) (s : Stretch) → past_at (pasts (ss ++ s ∷ [])) (Behind (length ss)) ≡ past_of (pasts ss) s
-past_pushed ss s =
-    let e : length ss ≡ length (pasts ss) = sym (length_pasts ss) in
-    ap₂ (λ xs n. get_or xs n begins) (pasts_push ss s) e ∙ get_or-append_seam (pasts ss) (past_of (pasts ss) s) [] begins
+past_pushed ss s = grind (arith, length_pasts, pasts_push, get_or-append_seam)
 
 -- Pairs. ----
 
 pub pair_grown : (ss ts : List Stretch) → Grows ss ts → (p : FollowedPair) → IsIn ss p.past → shown ts p ≡ shown ss p
-pair_grown ss ts g p h =
-    let to : Past → Pair = λ past. record { word = p.word; stores = p.stores.items; past = past } in
-    ap to (past_grown ss ts g p.past h)
+pair_grown ss ts g p h = grind (arith, past_grown, p.past)
 
 pub are_in_grown : (ss ts : List Stretch) → Grows ss ts → (ps : List FollowedPair) → AreIn ss ps → AreIn ts ps
-are_in_grown ss ts g ps h = each_weaker (λ p. IsIn ss p.past) (λ p. IsIn ts p.past) (λ p i. in_grown ss ts g p.past i) ps h
+are_in_grown ss ts g ps h = grind (arith, each_weaker, in_grown)
 
 pub shown_grown : (ss ts : List Stretch) → Grows ss ts → (ps : List FollowedPair) → AreIn ss ps → shown_all ts ps ≡ shown_all ss ps
 shown_grown ss ts g [] h = refl

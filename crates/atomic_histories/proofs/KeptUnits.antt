@@ -1,5 +1,5 @@
 -- Steps of the loops over the pairs of a unit, and what is shown of them.
-use Rattle.std.proofs.Common.{◌≡◌, ℕ, zero, suc, ◌+◌, ◌<◌, ◌⊎◌, true, false, min, fold, List, [], ◌∷◌, ◌++◌, map, length, take, drop}
+use Rattle.std.proofs.Common.{◌≡◌, ℕ, zero, suc, ◌+◌, ◌<◌, ◌⊎◌, true, min, fold, List, [], ◌∷◌, ◌++◌, map, length, take, drop}
 use Rattle.std.proofs.Common.{get_or, set, Some, None, refl, sym, ap, ap₂, ◌∙◌, subst, inl, inr, add-one, drop-cons, append_assoc, arith}
 use Rattle.std.specs.List.{All, list_all}
 use Rattle.std.proofs.lemmas.Bool.{cases_lt, and_parts, lt-leb, le-ltb}
@@ -9,7 +9,7 @@ use Rattle.atomic_histories.specs.declared.unit.WatchedLoad.{WatchedLoad}
 use Rattle.atomic_histories.specs.declared.stretches.Before.{Before}
 use Rattle.atomic_histories.specs.declared.stretches.Before.TheVariants.{Nothing, Behind}
 use Rattle.atomic_histories.specs.declared.stretches.Stretch.{Stretch}
-use Rattle.atomic_histories.specs.declared.stretches.Stretch.TheVariants.{Overwritten, Either}
+use Rattle.atomic_histories.specs.declared.stretches.Stretch.TheVariants.{Overwritten}
 use Rattle.atomic_histories.specs.declared.pairs.FollowedPair.{FollowedPair}
 use Rattle.atomic_histories.specs.declared.moves.Moved.{Moved}
 use Rattle.atomic_histories.specs.Pasts.{Past, begins, after, cut, earlier, oldest}
@@ -30,7 +30,7 @@ changed_more {X} {Y} s f xs i v d h e = rw add-one (more xs i h e)
         → map s (take (suc i) (set xs i v)) ++ map f (map s (drop (suc i) (set xs i v)))
         ≡ map s (take i xs) ++ map f (map s (drop i xs))
     more [] i h e = absurd (omega arith)
-    more (x ∷ xs) zero h e = ap (λ y. y ∷ map f (map s xs)) e
+    more (x ∷ xs) zero h e = grind arith
     more (x ∷ xs) (suc i) h e = ap (λ ys. s x ∷ ys) (more xs i (omega arith) e)
 
 -- one that shows what it did
@@ -44,12 +44,12 @@ set_shown s (x ∷ xs) (suc i) v d h e = ap (λ ys. s x ∷ ys) (set_shown s xs 
 pub all_before : {X : Type 0} (P : X → Type 0) (xs : List X) (i : ℕ) (v : X) → i < length xs → All P (take i xs) → P v
     → All P (take (i + 1) (set xs i v))
 all_before P xs i v h a p =
-    All-same P (take (i + 1) (set xs i v)) (take i xs ++ v ∷ []) (take_more_set xs i v h) (All-push P (take i xs) v a p)
+    All-same P _ _ (take_more_set xs i v h) (All-push P (take i xs) v a p)
 
 pub all_behind : {X : Type 0} (P : X → Type 0) (xs : List X) (i : ℕ) (v d : X) → i < length xs → All P (drop i xs)
     → All P (drop (i + 1) (set xs i v))
 all_behind P xs i v d h a =
-    All-same P (drop (i + 1) (set xs i v)) (drop (suc i) xs) (rw add-one (drop-set-lt (suc i) xs i v (omega arith)))
+    All-same P _ _ (rw add-one (drop-set-lt (suc i) xs i v (omega arith)))
     (All-rest P (get_or xs i d) (drop (suc i) xs) (drop i xs) (drop-cons xs i d h) a)
 
 -- one more of those that are made one by one
@@ -57,16 +57,17 @@ pub made_more : {X Y Z : Type 0} (s : X → Z) (g : Y → Z) (ys : List Y) (i : 
     → i < length ys → more ≡ xs ++ x ∷ [] → s x ≡ g (get_or ys i d) → map s xs ++ map g (drop i ys) ≡ whole
     → map s more ++ map g (drop (i + 1) ys) ≡ whole
 made_more s g ys i d x xs more whole h e same inv =
-    let rest : map g (drop i ys) ≡ g (get_or ys i d) ∷ map g (drop (i + 1) ys) = rw (add-one, drop-cons ys i d h) refl in
+    let rest : map g _ ≡ g _ ∷ map g _ = rw (add-one, drop-cons ys i d h) refl in
     ap (λ zs. map s zs ++ map g (drop (i + 1) ys)) e
-    ∙ (ap (λ zs. zs ++ map g (drop (i + 1) ys)) (map-append s xs (x ∷ []))
-    ∙ (append_assoc (map s xs) (s x ∷ []) (map g (drop (i + 1) ys))
-    ∙ (ap (λ z. map s xs ++ z ∷ map g (drop (i + 1) ys)) same ∙ (ap (λ zs. map s xs ++ zs) (sym rest) ∙ inv))))
+    ∙ (cc (
+      map-append s xs (x ∷ []),
+      (append_assoc (map s xs) (s x ∷ []) (map g (drop (i + 1) ys))
+          ∙ (ap (λ z. map s xs ++ z ∷ map g (drop (i + 1) ys)) same ∙ (ap (λ zs. map s xs ++ zs) (sym rest) ∙ inv))),
+    ))
 
 pub are_in_more : (ss : List Stretch) (ps more : List FollowedPair) (p : FollowedPair) (b : Before) → more ≡ ps ++ p ∷ [] → p.past ≡ b
     → AreIn ss ps → IsIn ss b → AreIn ss more
-are_in_more ss ps more p b e same a in_ =
-    subst (AreIn ss) (sym e) (each_append (λ q. IsIn ss q.past) ps (p ∷ []) a (subst (IsIn ss) (sym same) in_, tt))
+are_in_more ss ps more p b e same a in_ = grind (arith, each_append)
 
 -- What is shown of pairs whose references changed. ----
 
@@ -113,24 +114,24 @@ kept_push : (since : ℕ) (ps : List Past) (s : Stretch) → is_late since s ≡
 kept_push since ps s t h Nothing = refl
 kept_push since ps s t h (Behind place) =
     let P : Past → Type 0 = λ p. p ≡ cut since p in
-    elim (last_or ps (past_of ps s) place) [
+    elim (last_or ps _ place) [
       | inl e ↦ subst P (sym e) (h (Behind place))
       | inr e ↦ subst P (sym e) (last s t)
     ]
   where
     last : (s : Stretch) → is_late since s ≡ true → past_of ps s ≡ cut since (past_of ps s)
     last (Overwritten word moment before) t = elim (cases_lt moment since) [
-      | inl l ↦ let f : false ≡ true = sym (lt-leb since moment l) ∙ t in cc
+      | inl l ↦ let f = sym (lt-leb since moment l) ∙ t in cc
       | inr l ↦ rw (le-ltb moment since l) (ap (after word moment) (h before))
     ]
-    last (Either one other) t = cc
+    last _ t = cc
 
 late_kept : (since : ℕ) (ps : List Past) (ss : List Stretch) → list_all (is_late since) ss ≡ true → IsKept since ps
     → IsKept since (fold (λ qs s. qs ++ past_of qs s ∷ []) ps ss)
 late_kept since ps [] t h = h
 late_kept since ps (s ∷ ss) t h =
-    let both = and_parts (is_late since s) (list_all (is_late since) ss) t in
-    late_kept since (ps ++ past_of ps s ∷ []) ss both.1 (kept_push since ps s both.0 h)
+    let both = and_parts _ _ t in
+    late_kept since _ ss both.1 (kept_push since ps s both.0 h)
 
 pub cut_late : (since : ℕ) (ss rr : List Stretch) (ps : List FollowedPair) → rr ≡ ss → list_all (is_late since) rr ≡ true
     → shown_all ss ps ≡ map (pair_cut (Some since)) (shown_all ss ps)
@@ -138,10 +139,10 @@ cut_late since ss rr ps e t = each ps
   where
     nothing : IsKept since []
     nothing Nothing = refl
-    nothing (Behind place) = refl
+    nothing _ = refl
 
     kept : IsKept since (pasts ss)
-    kept = late_kept since [] ss (subst (λ xs. list_all (is_late since) xs ≡ true) e t) nothing
+    kept = grind (arith, late_kept, nothing)
 
     each : (ps : List FollowedPair) → shown_all ss ps ≡ map (pair_cut (Some since)) (shown_all ss ps)
     each [] = refl
@@ -156,9 +157,11 @@ pub copied_shown : (m : Moved) (ss rr ts : List Stretch) (ps qs rs ks : List Fol
     → Each (λ (p : FollowedPair). past_at (pasts ts) (moved_to m p.past) ≡ past_at (pasts rr) p.past) rs
     → shown_all ts qs ≡ shown_all ss ps
 copied_shown m ss rr ts ps qs rs ks d e g f same =
-    f ∙ (ap (map (λ (p : FollowedPair). shown ts (moved_pair m p))) g
-    ∙ (each ps (subst (Each (λ (p : FollowedPair). past_at (pasts ts) (moved_to m p.past) ≡ past_at (pasts rr) p.past)) e same)
-    ∙ ap (λ ss. shown_all ss ps) d))
+    f ∙ (cc (
+      g,
+      (each ps (rw e at same)
+          ∙ ap (λ ss. shown_all ss ps) d),
+    ))
   where
     pair : FollowedPair → Past → Pair
     pair p past = record { word = p.word; stores = p.stores.items; past = past }
@@ -181,19 +184,10 @@ moment_none moment (l ∷ ls) h = absurd (some_oldest l.since ls h)
 
 pub copied_pair : (ss : List Stretch) (p q : FollowedPair) → p.word ≡ q.word → p.stores.items ≡ q.stores.items → p.past ≡ q.past
     → shown ss p ≡ shown ss q
-copied_pair ss p q word stores past =
-    ap (λ w. record { word = w; stores = p.stores.items; past = past_at (pasts ss) p.past }) word
-    ∙ (ap (λ s. record { word = q.word; stores = s; past = past_at (pasts ss) p.past }) stores
-    ∙ ap (λ b. record { word = q.word; stores = q.stores.items; past = past_at (pasts ss) b }) past)
+copied_pair ss p q word stores past = grind arith
 
 pub same_pair : (e f : Pair) → e.word ≡ f.word → e.stores ≡ f.stores → e.past ≡ f.past → e ≡ f
-same_pair e f word stores past =
-    ap (λ w. let x : Pair = record { word = w; stores = e.stores; past = e.past } in x) word
-    ∙ (ap (λ s. let x : Pair = record { word = f.word; stores = s; past = e.past } in x) stores
-    ∙ ap (λ p. let x : Pair = record { word = f.word; stores = f.stores; past = p } in x) past)
+same_pair e f word stores past = grind arith
 
 pub same_ways : (u v : Ways) → u.loads ≡ v.loads → u.moment ≡ v.moment → u.pairs ≡ v.pairs → u ≡ v
-same_ways u v loads moment pairs =
-    ap (λ l. let x : Ways = record { loads = l; moment = u.moment; pairs = u.pairs } in x) loads
-    ∙ (ap (λ m. let x : Ways = record { loads = v.loads; moment = m; pairs = u.pairs } in x) moment
-    ∙ ap (λ p. let x : Ways = record { loads = v.loads; moment = v.moment; pairs = p } in x) pairs)
+same_ways u v loads moment pairs = grind arith

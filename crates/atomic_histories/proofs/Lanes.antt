@@ -1,16 +1,15 @@
 -- Words by their lanes, and what holds of each byte that a unit may have.
-use Rattle.std.proofs.Common.{◌≡◌, ℕ, zero, suc, ◌+◌, ◌<◌, ◌⊎◌, Bool, true, false, not, if◌then◌else◌, nat_lt, List, [], ◌∷◌, ◌++◌, Option}
-use Rattle.std.proofs.Common.{Some, None, is_some, inl, inr, refl, sym, ◌∙◌, subst, arith}
-use Rattle.std.specs.List.{list_any}
+use Rattle.std.proofs.Common.{◌≡◌, ℕ, zero, suc, ◌+◌, ◌<◌, ◌⊎◌, Bool, true, false, if◌then◌else◌, nat_lt, List, [], ◌∷◌, Option}
+use Rattle.std.proofs.Common.{Some, None, inl, inr, refl, sym, ◌∙◌, subst, arith}
 use Rattle.std.proofs.lemmas.Bool.{cases_lt, and_parts, and_from, lt-ltb, le-ltb}
 use Rattle.std.proofs.lemmas.List.{get_or_past}
 use Rattle.std.proofs.lemmas.List.FromFn.{get_or-map-range_with_len}
 use Rattle.memory_histories.specs.declared.events.HistoryEvent.{HistoryEvent}
 use Rattle.memory_histories.specs.declared.events.HistoryEvent.TheVariants.{LoadRequest, LoadResponse, StoreRequest, StoreResponse}
 use Rattle.atomic_histories.specs.declared.unit.UnitPlace.{UnitPlace}
-use Rattle.atomic_histories.specs.Words.{at_unit, at_lane, stored_byte, byte_for, is_at, written, is_as_it_stood, is_word_of}
-use Rattle.atomic_histories.specs.Law.{UnitMemory, HiddenStep, MayBe, starts, steps, sees, done_store, done_load, is_store, is_load}
-use Rattle.atomic_histories.specs.Law.{may_answer_load, may_answer_store, with_load, with_store, without_load, without_store, seen}
+use Rattle.atomic_histories.specs.Words.{at_unit, at_lane, stored_byte, byte_for, written, is_as_it_stood, is_word_of}
+use Rattle.atomic_histories.specs.Law.{UnitMemory, HiddenStep, MayBe, starts, steps, sees}
+use Rattle.atomic_histories.specs.Law.{with_load, with_store, seen}
 use Rattle.atomic_histories.specs.Stands.{Each}
 use Rattle.atomic_histories.specs.May.{lane_of}
 use Rattle.atomic_histories.proofs.Lists.{each_append, each_at, each_replace, each_filter, each_split}
@@ -52,7 +51,7 @@ written_lane (x ∷ bs) (w ∷ ws) (suc j) b h = written_lane bs ws j b h
 then_some : {c : ℕ} (t : (ℕ → Option ℕ)) (j size : ℕ) → (if nat_lt j size then t j else None) ≡ Some c → (j < size) × (t j ≡ Some c)
 then_some t j size h = elim (cases_lt j size) [
   | inl l ↦ (l, (rw (lt-ltb j size l) at h))
-  | inr l ↦ let x : None ≡ Some _ = (rw (le-ltb j size l) at h) in cc
+  | inr l ↦ let x = (rw (le-ltb j size l) at h) in cc
 ]
 
 pub unit_lane : (unit : UnitPlace) (f : ℕ → Option ℕ) (j b : ℕ) → lane_of j (at_unit unit f) ≡ Some b
@@ -60,7 +59,7 @@ pub unit_lane : (unit : UnitPlace) (f : ℕ → Option ℕ) (j b : ℕ) → lane
 unit_lane unit f j b h = elim (cases_lt j 8) [
   | inl l ↦ then_some (λ k. f (unit.first + k)) j unit.size
       (sym (get_or-map-range_with_len (at_lane unit f) 0 8 j j None l (omega arith)) ∙ h)
-  | inr l ↦ let x : None ≡ Some b = sym (get_or_past (at_unit unit f) j None l) ∙ h in cc
+  | inr l ↦ let x = sym (get_or_past (at_unit unit f) j None l) ∙ h in cc
 ]
 
 -- What holds of each byte that a unit may have. ----
@@ -81,22 +80,22 @@ module _ (P : ℕ → ℕ → Type 0) where
   Writes unit event = Unit {0}
 
   holds_written : (bs ws : Word) → AreLanes P bs → AreLanes P ws → AreLanes P (written bs ws)
-  holds_written bs ws p q j b h = elim (written_lane bs ws j b h) [ inl l ↦ p j b l | inr l ↦ q j b l ]
+  holds_written bs ws p q j b h = grind (arith, written_lane)
 
   holds_step : (m n : UnitMemory) → Holds m → HiddenStep m n → Holds n
   holds_step m n h (inl (before, s, after, split, undone, made)) =
-      let each : Each (λ x. AreLanes P x.bytes) (before ++ s ∷ after) = subst (Each (λ x. AreLanes P x.bytes)) split h.stores in
+      let each = subst (Each (λ x. AreLanes P x.bytes)) split h.stores in
       subst Holds (sym made) (record {
-        word = holds_written s.bytes m.word (each_at (λ x. AreLanes P x.bytes) before s after each) h.word;
-        stores = each_replace (λ x. AreLanes P x.bytes) before s (done_store s) after (λ p. p) each;
+        word = holds_written s.bytes _ (each_at (λ x. AreLanes P x.bytes) before s after each) h.word;
+        stores = each_replace (λ x. AreLanes P x.bytes) before s _ after (λ p. p) each;
         loads = h.loads;
       })
   holds_step m n h (inr (before, l, after, split, undone, made)) =
-      let each : Each (λ x. HasGot x.got) (before ++ l ∷ after) = subst (Each (λ x. HasGot x.got)) split h.loads in
+      let each = subst (Each (λ x. HasGot x.got)) split h.loads in
       subst Holds (sym made) (record {
         word = h.word;
         stores = h.stores;
-        loads = each_replace (λ x. HasGot x.got) before l (done_load m.word l) after (λ p. h.word) each;
+        loads = each_replace (λ x. HasGot x.got) before l _ after (λ p. h.word) each;
       })
 
   some_same : {X : Type 0} (x y : X) → Some x ≡ Some y → x ≡ y
@@ -111,7 +110,7 @@ module _ (P : ℕ → ℕ → Type 0) where
   holds_requested m number address true h = record {
     word = h.word;
     stores = h.stores;
-    loads = each_append (λ x. HasGot x.got) m.loads _ h.loads (tt, tt);
+    loads = each_append (λ x. HasGot x.got) _ _ h.loads (tt, tt);
   }
 
   holds_stored : (m : UnitMemory) (number : ℕ) (bytes : Word) → AreLanes P bytes → (b : Bool) → Holds m
@@ -119,35 +118,20 @@ module _ (P : ℕ → ℕ → Type 0) where
   holds_stored m number bytes p false h = h
   holds_stored m number bytes p true h = record {
     word = h.word;
-    stores = each_append (λ x. AreLanes P x.bytes) m.stores _ h.stores (p, tt);
+    stores = each_append (λ x. AreLanes P x.bytes) _ _ h.stores (p, tt);
     loads = h.loads;
   }
 
   holds_seen : (unit : UnitPlace) (m n : UnitMemory) (event : HistoryEvent) → Writes unit event → Holds m → seen unit m event ≡ Some n
       → Holds n
-  holds_seen unit m n (LoadRequest number address k) w h e =
-      subst Holds (some_same (if is_at unit address k then with_load number address m else m) n e)
-      (holds_requested m number address (is_at unit address k) h)
-  holds_seen unit m n (LoadResponse number bytes) w h e =
-      subst Holds (some_if (may_answer_load unit number bytes.now m.loads) (without_load number m) n e) (record {
-        word = h.word;
-        stores = h.stores;
-        loads = each_filter (λ x. HasGot x.got) (λ l. not (is_load number l)) m.loads h.loads;
-      })
-  holds_seen unit m n (StoreRequest number address bytes enables) w h e =
-      let stored : Word = at_unit unit (stored_byte address bytes.now enables) in
-      subst Holds (some_same (if list_any is_some stored then with_store number stored m else m) n e)
-      (holds_stored m number stored w (list_any is_some stored) h)
-  holds_seen unit m n (StoreResponse number) w h e =
-      subst Holds (some_if (may_answer_store number m.stores) (without_store number m) n e) (record {
-        word = h.word;
-        stores = each_filter (λ x. AreLanes P x.bytes) (λ s. not (is_store number s)) m.stores h.stores;
-        loads = h.loads;
-      })
+  holds_seen unit m n (LoadRequest number address k) w h e = grind (arith, some_same, holds_requested)
+  holds_seen unit m n (LoadResponse number bytes) w h e = grind (arith, some_if, bytes.now, each_filter)
+  holds_seen unit m n (StoreRequest number address bytes enables) w h e = grind (arith, bytes.now, some_same, holds_stored)
+  holds_seen unit m n (StoreResponse number) w h e = grind (arith, some_if, each_filter)
 
   pub holds : (unit : UnitPlace) (start : UnitMemory) → Holds start → {history : List HistoryEvent} {m : UnitMemory}
       → MayBe unit start history m → Each (Writes unit) history → Holds m
   holds unit start h starts w = h
   holds unit start h (steps history m n r step) w = holds_step m n (holds unit start h r w) step
   holds unit start h (sees history event m n r e) w =
-      let p = each_split (Writes unit) history (event ∷ []) w in holds_seen unit m n event p.1.0 (holds unit start h r p.0) e
+      let p = each_split _ history _ w in holds_seen unit m n event p.1.0 (holds unit start h r p.0) e

@@ -1,8 +1,8 @@
 -- What is open at a unit is what is open in the history and has a byte there.
-use Rattle.std.proofs.Common.{◌≡◌, ℕ, suc, ◌+◌, ◌-◌, ◌*◌, ◌/◌, ◌<◌, ◌≤◌, Bool, true, false, ◌&&◌, ◌||◌, not, ◌==◌, if◌then◌else◌, nat_lt}
-use Rattle.std.proofs.Common.{nat_le, List, [], ◌∷◌, ◌++◌, map, fold, length, filter, min, Option, Some, None, is_none, is_some, slice_get}
-use Rattle.std.proofs.Common.{inl, inr, refl, sym, ap, ap₂, ◌∙◌, subst, append-nil, eqb-true, eq-eqb, leb-true, div-lt_iff_lt-mul}
-use Rattle.std.proofs.Common.{le-div_iff_mul-le, suc-mul, ltb-true, arith}
+use Rattle.std.proofs.Common.{◌≡◌, ℕ, ◌+◌, ◌-◌, ◌/◌, ◌<◌, ◌≤◌, Bool, true, false, ◌||◌, not, ◌==◌, if◌then◌else◌, nat_lt}
+use Rattle.std.proofs.Common.{List, [], ◌∷◌, ◌++◌, map, fold, length, filter, Option, Some, None, is_none, is_some}
+use Rattle.std.proofs.Common.{inl, inr, refl, sym, ap, ◌∙◌, subst, append-nil, eqb-true, eq-eqb}
+use Rattle.std.proofs.Common.{arith}
 use Rattle.std.specs.List.{list_any, find, range_with_len}
 use Rattle.std.specs.Int.{bit_at}
 use Rattle.std.proofs.lemmas.Bool.{cases_Bool, cases_lt, and_parts, and_from, lt-ltb, le-ltb, le-leb, lt-leb, or_parts}
@@ -20,11 +20,11 @@ use Rattle.atomic_histories.specs.declared.unit.UnitPlace.{UnitPlace}
 use Rattle.atomic_histories.specs.Words.{at_unit, at_lane, stored_byte, is_at}
 use Rattle.atomic_histories.specs.Operations.{Opened, none_opened, opened_after, opened_by, has_number, without_number, answer_fault}
 use Rattle.atomic_histories.specs.Operations.{form_fault}
-use Rattle.atomic_histories.specs.Law.{OpenLoad, UnitMemory, HiddenStep, MayBe, starts, steps, sees, untouched, done_store, done_load}
+use Rattle.atomic_histories.specs.Law.{OpenLoad, UnitMemory, HiddenStep, MayBe, starts, steps, sees, untouched, done_store}
 use Rattle.atomic_histories.specs.Law.{is_store, is_load, may_answer_load, may_answer_store, with_load, with_store, without_load}
 use Rattle.atomic_histories.specs.Law.{without_store, seen, unit_at, is_formed}
 use Rattle.atomic_histories.specs.Stands.{Each, One}
-use Rattle.atomic_histories.specs.Held.{bytes_of_open, covered, units_of, is_among}
+use Rattle.atomic_histories.specs.Held.{covered, units_of, is_among}
 use Rattle.atomic_histories.proofs.Lists.{one_left, one_last, each_weaker, each_append}
 
 -- What a store touches. ----
@@ -35,24 +35,24 @@ lane_inside : (unit : UnitPlace) (address : ℕ) (bytes : List ℕ) (enables k :
     → is_at unit address (length bytes) ≡ true
 lane_inside unit address bytes enables k h = elim (cases_lt k unit.size) [
   | inr past ↦
-      let x : is_some (at_lane unit (stored_byte address bytes enables) k) ≡ false =
-      rw (le-ltb k unit.size past) refl in let e : true ≡ false = sym h ∙ x in cc
-  | inl within ↦ elim (cases_lt (unit.first + k) address) [
+      let x : is_some _ ≡ false =
+      rw (le-ltb k unit.size past) refl in let e = sym h ∙ x in cc
+  | inl within ↦ elim (cases_lt _ address) [
     | inl below ↦
         let x : is_some (at_lane unit (stored_byte address bytes enables) k) ≡ false =
         rw (lt-ltb k unit.size within, lt-leb address (unit.first + k) below) refl in
-        let e : true ≡ false = sym h ∙ x in cc
+        let e = sym h ∙ x in cc
     | inr above ↦ elim (cases_lt (unit.first + k - address) (length bytes)) [
       | inl inside ↦
           and_from (nat_lt address (unit.first + unit.size)) (nat_lt unit.first (address + length bytes))
           (lt-ltb address (unit.first + unit.size) (omega arith))
           (lt-ltb unit.first (address + length bytes) (omega arith))
       | inr outside ↦
-          let none : slice_get bytes (unit.first + k - address) ≡ None = slice_get_past bytes (unit.first + k - address) outside in
+          let none = slice_get_past bytes (unit.first + k - address) outside in
           let x : is_some (at_lane unit (stored_byte address bytes enables) k) ≡ false =
           rw (lt-ltb k unit.size within, le-leb address (unit.first + k) above, none)
           (nothing (bit_at enables (unit.first + k - address) == 1) None refl) in
-          let e : true ≡ false = sym h ∙ x in cc
+          let e = sym h ∙ x in cc
     ]
   ]
 ]
@@ -64,7 +64,7 @@ lane_inside unit address bytes enables k h = elim (cases_lt k unit.size) [
 pub any_lane : (unit : UnitPlace) (address : ℕ) (bytes : List ℕ) (enables : ℕ) (ks : List ℕ)
     → list_any is_some (map (at_lane unit (stored_byte address bytes enables)) ks) ≡ true → is_at unit address (length bytes) ≡ true
 any_lane unit address bytes enables [] h = cc
-any_lane unit address bytes enables (k ∷ ks) h = elim (cases_Bool (is_some (at_lane unit (stored_byte address bytes enables) k))) [
+any_lane unit address bytes enables (k ∷ ks) h = elim (cases_Bool _) [
   | inl t ↦ lane_inside unit address bytes enables k t
   | inr f ↦ any_lane unit address bytes enables ks (rw f at h)
 ]
@@ -91,8 +91,8 @@ or_false true b h i = h
 or_false false b h i = i
 
 eq_false_sym : (a b : ℕ) → (a == b) ≡ false → (b == a) ≡ false
-eq_false_sym a b h = elim (cases_Bool (b == a)) [
-  | inl t ↦ let x : (a == b) ≡ true = eq-eqb a b (sym (eqb-true b a t)) in let y : true ≡ false = sym x ∙ h in cc
+eq_false_sym a b h = elim (cases_Bool _) [
+  | inl t ↦ let x = eq-eqb a b (sym (eqb-true b a t)) in let y = sym x ∙ h in cc
   | inr f ↦ f
 ]
 
@@ -100,8 +100,8 @@ distinct_push : (os : List Operation) (o : Operation) → AreDistinct os → lis
     → AreDistinct (os ++ o ∷ [])
 distinct_push [] o d n = (refl, tt)
 distinct_push (x ∷ xs) o d n =
-    let p = or_parts (x.number == o.number) (list_any (has_number o.number) xs) n in
-    let first : list_any (has_number x.number) (xs ++ o ∷ []) ≡ false =
+    let p = or_parts _ _ n in
+    let first =
     list_any-append (has_number x.number) xs (o ∷ []) ∙ or_false (list_any (has_number x.number) xs) ((o.number == x.number) || false) d.0
     (or_false (o.number == x.number) false (eq_false_sym x.number o.number p.0) refl) in
     (first, distinct_push xs o d.1 p.1)
@@ -110,7 +110,7 @@ none_filtered : (number m : ℕ) (os : List Operation) → list_any (has_number 
     → list_any (has_number m) (without_number number os) ≡ false
 none_filtered number m [] h = refl
 none_filtered number m (x ∷ xs) h =
-    let p = or_parts (x.number == m) (list_any (has_number m) xs) h in
+    let p = or_parts _ _ h in
     elim (cases_Bool (has_number number x)) [
       | inl t ↦ rw t (none_filtered number m xs p.1)
       | inr f ↦ rw f (or_false (x.number == m) (list_any (has_number m) (without_number number xs)) p.0 (none_filtered number m xs p.1))
@@ -143,24 +143,13 @@ store_allowed true true false h = (refl, refl)
 
 fit_push : (os : List Operation) (o : Operation) → AreFit os → IsInside o → list_any (has_number o.number) os ≡ false
     → AreFit (os ++ o ∷ [])
-fit_push os o a i n = (distinct_push os o a.0 n, each_append IsInside os (o ∷ []) a.1 (i, tt))
+fit_push os o a i n = grind (arith, distinct_push, each_append)
 
 fit_after : (o : Opened) (event : HistoryEvent) → IsFit o → form_fault o event ≡ None → IsFit (opened_after o event)
-fit_after o (LoadRequest number address n) a f =
-    let p = load_allowed (is_inside address n) (list_any (has_number number) o.loads) f in
-    record { loads = fit_push o.loads (record { number = number; address = address; length = n }) a.loads p.0 p.1; stores = a.stores }
-fit_after o (LoadResponse number bytes) a f =
-    record { loads = (distinct_filtered number o.loads a.loads.0, inside_filtered number o.loads a.loads.1); stores = a.stores }
-fit_after o (StoreRequest number address bytes enables) a f =
-    let p = store_allowed (is_inside address (length bytes.now)) (has_enabled bytes.now enables)
-    (list_any (has_number number) o.stores) f in
-    record {
-      loads = a.loads;
-      stores =
-          fit_push o.stores (record { number = number; address = address; length = length bytes.now }) a.stores p.0 p.1;
-    }
-fit_after o (StoreResponse number) a f =
-    record { loads = a.loads; stores = (distinct_filtered number o.stores a.stores.0, inside_filtered number o.stores a.stores.1) }
+fit_after o (LoadRequest number address n) a f = grind (arith, load_allowed, fit_push, o.loads, a.loads)
+fit_after o (LoadResponse number bytes) a f = grind (arith, distinct_filtered, o.loads, inside_filtered)
+fit_after o (StoreRequest number address bytes enables) a f = grind (arith, store_allowed, fit_push, o.stores, a.stores)
+fit_after o (StoreResponse number) a f = grind (arith, distinct_filtered, o.stores, inside_filtered)
 
 pub none_is : {X : Type 0} (o : Option X) → is_none o ≡ true → o ≡ None
 none_is None h = refl
@@ -169,16 +158,16 @@ none_is (Some x) h = cc
 fit_from : (o : Opened) (history : List HistoryEvent) → IsFit o → is_formed o history ≡ true → IsFit (fold opened_after o history)
 fit_from o [] a h = a
 fit_from o (x ∷ xs) a h =
-    let p = and_parts (is_none (form_fault o x)) (is_formed (opened_after o x) xs) h in fit_from (opened_after o x) xs
+    let p = and_parts _ _ h in fit_from (opened_after o x) xs
     (fit_after o x a (none_is (form_fault o x) p.0)) p.1
 
 pub fit_by : (history : List HistoryEvent) → is_formed none_opened history ≡ true → IsFit (opened_by history)
-fit_by history h = fit_from none_opened history (record { loads = (tt, tt); stores = (tt, tt) }) h
+fit_by history h = grind (arith, fit_from)
 
 pub found_fit : (number : ℕ) (os : List Operation) (o : Operation) → Each IsInside os → find (has_number number) os ≡ Some o → IsInside o
 found_fit number [] o a e = cc
 found_fit number (x ∷ xs) o a e = elim (cases_Bool (has_number number x)) [
-  | inl t ↦ let same : x ≡ o = some_same x o (rw t at e) in subst IsInside same a.0
+  | inl t ↦ let same = some_same x o (rw t at e) in subst IsInside same a.0
   | inr f ↦ found_fit number xs o a.1 (rw f at e)
 ]
   where
@@ -190,18 +179,18 @@ pub only : (P : Operation → Type 0) (number : ℕ) (os : List Operation) (o : 
     → find (has_number number) os ≡ Some o
     → One (λ x. (x.number ≡ number) × P x) os → P o
 only P number [] o d e h = absurd h
-only P number (x ∷ xs) o d e h = elim (cases_Bool (has_number number x)) [
+only P number (x ∷ xs) o d e h = elim (cases_Bool _) [
   | inl t ↦
-      let same : x ≡ o = some_same x o (rw t at e) in
+      let same = some_same x o (rw t at e) in
       elim h [
         | inl p ↦ subst P same p.1
         | inr r ↦
-            let n : x.number ≡ number = eqb-true x.number number t in
-            let none : list_any (has_number number) xs ≡ false =
+            let n = eqb-true x.number number t in
+            let none =
             subst (λ i. list_any (has_number i) xs ≡ false) n d.0 in absurd (no_one xs none r)
       ]
   | inr f ↦ elim h [
-    | inl p ↦ let t : (x.number == number) ≡ true = eq-eqb x.number number p.0 in let y : true ≡ false = sym t ∙ f in cc
+    | inl p ↦ let t = eq-eqb x.number number p.0 in let y = sym t ∙ f in cc
     | inr r ↦ only P number xs o d.1 (rw f at e) r
   ]
 ]
@@ -211,9 +200,7 @@ only P number (x ∷ xs) o d e h = elim (cases_Bool (has_number number x)) [
 
     no_one : (xs : List Operation) → list_any (has_number number) xs ≡ false → One (λ x. (x.number ≡ number) × P x) xs → ⊥
     no_one [] n r = r
-    no_one (y ∷ ys) n (inl p) =
-        let q = or_parts (y.number == number) (list_any (has_number number) ys) n in
-        let t : (y.number == number) ≡ true = eq-eqb y.number number p.0 in let z : true ≡ false = sym t ∙ q.0 in cc
+    no_one (y ∷ ys) n (inl p) = grind arith
     no_one (y ∷ ys) n (inr r) = no_one ys (or_parts (y.number == number) (list_any (has_number number) ys) n).1 r
 
 -- What is open at a unit. ----
@@ -236,18 +223,12 @@ pub record IsLinked (unit : UnitPlace) (m : UnitMemory) (o : Opened) : Type 0 wh
 keys_push : (unit : UnitPlace) (ms : List OpenLoad) (os : List Operation) (m : OpenLoad) (o : Operation)
     → map load_key ms ≡ map key (filter (is_of unit) os) → load_key m ≡ key o → is_of unit o ≡ true
     → map load_key (ms ++ m ∷ []) ≡ map key (filter (is_of unit) (os ++ o ∷ []))
-keys_push unit ms os m o h e t =
-    let last : filter (is_of unit) (o ∷ []) ≡ o ∷ [] = rw t refl in
-    map-append load_key ms (m ∷ []) ∙ (ap₂ (λ a b. a ++ b ∷ []) h e ∙ (sym (map-append key (filter (is_of unit) os) (o ∷ []))
-    ∙ ap (map key) (ap (λ l. filter (is_of unit) os ++ l) (sym last) ∙ sym (filter-append (is_of unit) os (o ∷ [])))))
+keys_push unit ms os m o h e t = grind (arith, map-append, filter-append)
 
 keys_pass : (unit : UnitPlace) (ms : List OpenLoad) (os : List Operation) (o : Operation)
     → map load_key ms ≡ map key (filter (is_of unit) os) → is_of unit o ≡ false
     → map load_key ms ≡ map key (filter (is_of unit) (os ++ o ∷ []))
-keys_pass unit ms os o h f =
-    let last : filter (is_of unit) (o ∷ []) ≡ [] = rw f refl in
-    h ∙ ap (map key) (sym
-    (filter-append (is_of unit) os (o ∷ []) ∙ (ap (λ l. filter (is_of unit) os ++ l) last ∙ append-nil (filter (is_of unit) os))))
+keys_pass unit ms os o h f = grind (arith, filter-append, append-nil)
 
 abbrev other : ℕ → ℕ × ℕ → Bool
 other number p = not (p.0 == number)
@@ -276,7 +257,7 @@ open_keys unit number (o ∷ os) = elim (cases_Bool (has_number number o)) [
 
 keys_left : (unit : UnitPlace) (number : ℕ) (ms : List OpenLoad) (os : List Operation) → map load_key ms ≡ map key (filter (is_of unit) os)
     → map load_key (filter (λ l. not (is_load number l)) ms) ≡ map key (filter (is_of unit) (without_number number os))
-keys_left unit number ms os h = load_keys number ms ∙ (ap (filter (other number)) h ∙ sym (open_keys unit number os))
+keys_left unit number ms os h = grind (arith, load_keys, open_keys)
 
 abbrev HasStore : UnitPlace → List Operation → OpenStore → Type 0
 HasStore unit os s = One (λ x. (x.number ≡ s.number) × (is_of unit x ≡ true)) os
@@ -284,7 +265,7 @@ HasStore unit os s = One (λ x. (x.number ≡ s.number) × (is_of unit x ≡ tru
 store_stays : (unit : UnitPlace) (number : ℕ) (s : OpenStore) → is_store number s ≡ false → (xs : List Operation) → HasStore unit xs s
     → HasStore unit (without_number number xs) s
 store_stays unit number s f [] h = h
-store_stays unit number s f (x ∷ xs) (inl p) = let g : has_number number x ≡ false = ap (λ i. i == number) p.0 ∙ f in rw g (inl p)
+store_stays unit number s f (x ∷ xs) (inl p) = let g = ap (λ i. i == number) p.0 ∙ f in rw g (inl p)
 store_stays unit number s f (x ∷ xs) (inr h) = elim (cases_Bool (has_number number x)) [
   | inl u ↦ rw u (store_stays unit number s f xs h)
   | inr u ↦ rw u (inr (store_stays unit number s f xs h))
@@ -310,7 +291,7 @@ load_requested unit m n o number address k h true t e =
     let x : Operation = record { number = number; address = address; length = k } in
     subst (λ y. IsLinked unit y (opened_after o (LoadRequest number address k))) same
     (record {
-      loads = keys_push unit m.loads o.loads (record { number = number; address = address; got = None }) x h.loads refl t;
+      loads = keys_push unit _ o.loads (record { number = number; address = address; got = None }) x h.loads refl t;
       stores =
           h.stores;
     })
@@ -318,13 +299,11 @@ load_requested unit m n o number address k h false t e =
     let same : m ≡ n = cc in
     let x : Operation = record { number = number; address = address; length = k } in
     subst (λ y. IsLinked unit y (opened_after o (LoadRequest number address k))) same
-    (record { loads = keys_pass unit m.loads o.loads x h.loads t; stores = h.stores })
+    (record { loads = keys_pass unit _ o.loads x h.loads t; stores = h.stores })
 
 stores_more : (unit : UnitPlace) (os : List Operation) (o : Operation) (ss : List OpenStore) → Each (HasStore unit os) ss
     → Each (HasStore unit (os ++ o ∷ [])) ss
-stores_more unit os o ss a =
-    each_weaker (HasStore unit os) (HasStore unit (os ++ o ∷ []))
-    (λ s h. one_left (λ x. (x.number ≡ s.number) × (is_of unit x ≡ true)) os (o ∷ []) h) ss a
+stores_more unit os o ss a = grind (arith, each_weaker, one_left)
 
 store_requested : (unit : UnitPlace) (m n : UnitMemory) (o : Opened) (x : Operation) (stored : List (Option ℕ)) → IsLinked unit m o
     → (b : Bool) → (b ≡ true → is_of unit x ≡ true)
@@ -336,33 +315,33 @@ store_requested unit m n o x stored h true t e =
     subst (λ y. IsLinked unit y (record { loads = o.loads; stores = o.stores ++ x ∷ [] })) same
     (record {
       loads = h.loads;
-      stores = each_append (HasStore unit (o.stores ++ x ∷ [])) m.stores (s ∷ []) (stores_more unit o.stores x m.stores h.stores)
+      stores = each_append _ _ _ (stores_more unit o.stores x m.stores h.stores)
           (one_last (λ y. (y.number ≡ s.number) × (is_of unit y ≡ true)) o.stores x (refl, t refl), tt);
     })
 store_requested unit m n o x stored h false t e =
     let same : m ≡ n = cc in
     subst (λ y. IsLinked unit y (record { loads = o.loads; stores = o.stores ++ x ∷ [] })) same
-    (record { loads = h.loads; stores = stores_more unit o.stores x m.stores h.stores })
+    (record { loads = h.loads; stores = stores_more unit o.stores x _ h.stores })
 
 linked_after : (unit : UnitPlace) (m n : UnitMemory) (o : Opened) (event : HistoryEvent) → IsLinked unit m o → seen unit m event ≡ Some n
     → IsLinked unit n (opened_after o event)
-linked_after unit m n o (LoadRequest number address k) h e = load_requested unit m n o number address k h (is_at unit address k) refl e
+linked_after unit m n o (LoadRequest number address k) h e = load_requested unit m n o number address k h _ refl e
 linked_after unit m n o (LoadResponse number bytes) h e =
-    let same : without_load number m ≡ n = some_if (may_answer_load unit number bytes.now m.loads) (without_load number m) n e in
+    let same = some_if _ _ n e in
     subst (λ y. IsLinked unit y (opened_after o (LoadResponse number bytes))) same
-    (record { loads = keys_left unit number m.loads o.loads h.loads; stores = h.stores })
+    (record { loads = keys_left unit number _ o.loads h.loads; stores = h.stores })
 linked_after unit m n o (StoreRequest number address bytes enables) h e =
-    let stored : List (Option ℕ) = at_unit unit (stored_byte address bytes.now enables) in
-    store_requested unit m n o (record { number = number; address = address; length = length bytes.now }) stored h (list_any is_some stored)
+    let stored = at_unit unit (stored_byte address bytes.now enables) in
+    store_requested unit m n o (record { number = number; address = address; length = length bytes.now }) stored h _
     (λ t. any_lane unit address bytes.now enables (range_with_len 0 8) t) e
 linked_after unit m n o (StoreResponse number) h e =
-    let same : without_store number m ≡ n = some_if (may_answer_store number m.stores) (without_store number m) n e in
+    let same = some_if _ _ n e in
     subst (λ y. IsLinked unit y (opened_after o (StoreResponse number))) same
-    (record { loads = h.loads; stores = stores_left unit number o.stores m.stores h.stores })
+    (record { loads = h.loads; stores = stores_left unit number o.stores _ h.stores })
 
 linked_step : (unit : UnitPlace) (m n : UnitMemory) (o : Opened) → IsLinked unit m o → HiddenStep m n → IsLinked unit n o
 linked_step unit m n o h (inl (before, s, after, split, undone, made)) =
-    let a : Each (HasStore unit o.stores) (before ++ s ∷ after) = subst (Each (HasStore unit o.stores)) split h.stores in
+    let a = subst (Each (HasStore unit o.stores)) split h.stores in
     subst (λ y. IsLinked unit y o) (sym made) (record { loads = h.loads; stores = done before a })
   where
     done : (xs : List OpenStore) → Each (HasStore unit o.stores) (xs ++ s ∷ after)
@@ -370,8 +349,8 @@ linked_step unit m n o h (inl (before, s, after, split, undone, made)) =
     done [] a = (a.0, a.1)
     done (x ∷ xs) a = (a.0, done xs a.1)
 linked_step unit m n o h (inr (before, l, after, split, undone, made)) =
-    let same : map load_key (before ++ done_load m.word l ∷ after) ≡ map load_key (before ++ l ∷ after) =
-    map-append load_key before (done_load m.word l ∷ after) ∙ sym (map-append load_key before (l ∷ after)) in
+    let same =
+    map-append load_key before _ ∙ sym (map-append load_key before (l ∷ after)) in
     subst (λ y. IsLinked unit y o) (sym made) (record { loads = same ∙ (ap (map load_key) (sym split) ∙ h.loads); stores = h.stores })
 
 pub opened_more : (o : Opened) (history : List HistoryEvent) (event : HistoryEvent)
@@ -382,7 +361,7 @@ opened_more o (x ∷ xs) event = opened_more (opened_after o x) xs event
 pub linked : (image : List ℕ) (rest : Rest) (unit : UnitPlace) {history : List HistoryEvent} {m : UnitMemory}
     → MayBe unit (untouched image rest unit) history m → IsLinked unit m (opened_by history)
 linked image rest unit starts = record { loads = refl; stores = tt }
-linked image rest unit (steps history m n r step) = linked_step unit m n (opened_by history) (linked image rest unit r) step
+linked image rest unit (steps history m n r step) = linked_step unit m n _ (linked image rest unit r) step
 linked image rest unit (sees history event m n r e) =
     subst (λ o. IsLinked unit n o) (sym (opened_more none_opened history event))
     (linked_after unit m n (opened_by history) event (linked image rest unit r) e)
@@ -396,9 +375,9 @@ no_key : (unit : UnitPlace) (number : ℕ) (os : List Operation) (o : Operation)
 no_key unit number os o d e f ps same = elim (cases_Bool (list_any (λ p. p.0 == number) ps)) [
   | inr n ↦ n
   | inl t ↦
-      let there : One (λ x. (x.number ≡ number) × (is_of unit x ≡ true)) os =
-      key_found os (ap (list_any (λ p. p.0 == number)) (sym same) ∙ t) in
-      let yes : is_of unit o ≡ true = only (λ x. is_of unit x ≡ true) number os o d e there in let y : true ≡ false = sym yes ∙ f in cc
+      let there =
+      key_found os (cc (same, t)) in
+      let yes = only (λ x. is_of unit x ≡ true) number os o d e there in let y = sym yes ∙ f in cc
 ]
   where
     key_found : (xs : List Operation) → list_any (λ p. p.0 == number) (map key (filter (is_of unit) xs)) ≡ true
@@ -420,58 +399,48 @@ loads_pass : (unit : UnitPlace) (number : ℕ) (bytes : List ℕ) (ms : List Ope
     → (may_answer_load unit number bytes ms ≡ true) × (filter (λ l. not (is_load number l)) ms ≡ ms)
 loads_pass unit number bytes [] h = (refl, refl)
 loads_pass unit number bytes (m ∷ ms) h =
-    let p = or_parts (is_load number m) (list_any (is_load number) ms) h in
+    let p = or_parts _ (list_any (is_load number) ms) h in
     let r = loads_pass unit number bytes ms p.1 in (rw p.0 r.0, rw p.0 (ap (λ l. m ∷ l) r.1))
 
 stores_pass : (number : ℕ) (ss : List OpenStore) → list_any (is_store number) ss ≡ false
     → (may_answer_store number ss ≡ true) × (filter (λ s. not (is_store number s)) ss ≡ ss)
 stores_pass number [] h = (refl, refl)
 stores_pass number (s ∷ ss) h =
-    let p = or_parts (is_store number s) (list_any (is_store number) ss) h in let r =
+    let p = or_parts _ (list_any (is_store number) ss) h in let r =
     stores_pass number ss p.1 in (rw p.0 r.0, rw p.0 (ap (λ l. s ∷ l) r.1))
 
 no_store : (unit : UnitPlace) (number : ℕ) (os : List Operation) (o : Operation) → AreDistinct os → find (has_number number) os ≡ Some o
     → is_of unit o ≡ false
     → (ss : List OpenStore) → Each (HasStore unit os) ss → list_any (is_store number) ss ≡ false
 no_store unit number os o d e f [] a = refl
-no_store unit number os o d e f (s ∷ ss) a = elim (cases_Bool (is_store number s)) [
+no_store unit number os o d e f (s ∷ ss) a = elim (cases_Bool _) [
   | inr n ↦ rw n (no_store unit number os o d e f ss a.1)
   | inl t ↦
-      let n : s.number ≡ number = eqb-true s.number number t in
-      let yes : is_of unit o ≡ true =
-      only (λ x. is_of unit x ≡ true) number os o d e (subst (λ i. One (λ x. (x.number ≡ i) × (is_of unit x ≡ true)) os) n a.0) in
-      let y : true ≡ false = sym yes ∙ f in cc
+      let n = eqb-true s.number number t in
+      let yes =
+      only (λ x. is_of unit x ≡ true) number os o d e (rw n at a.0) in
+      let y = sym yes ∙ f in cc
 ]
 
 in_range : (size address n k : ℕ) → 1 ≤ size → address + n ≤ 18446744073709551616 → is_at (unit_at size k) address n ≡ true
     → (address / size ≤ k) × (k < address / size + units_of size address n)
-in_range size address n k pos fits h =
-    let p = and_parts (nat_lt address (k * size + size)) (nat_lt (k * size) (address + n)) h in
-    let low : address < k * size + size = ltb-true address (k * size + size) p.0 in
-    let high : k * size < address + n = ltb-true (k * size) (address + n) p.1 in
-    let more : address < suc k * size = subst (λ x. address < x) (sym (suc-mul k size)) low in
-    let first : address / size < suc k = (div-lt_iff_lt-mul pos).1 more in
-    let within : k * size ≤ min (address + n) 18446744073709551616 - 1 = omega arith in
-    let last : k ≤ (min (address + n) 18446744073709551616 - 1) / size = (le-div_iff_mul-le pos).1 within in
-    (omega arith, omega arith)
+in_range size address n k pos fits h = grind arith
 
 -- what isn't among the units of some bytes has none of them
 not_at : (size address n k : ℕ) → 1 ≤ size → address + n ≤ 18446744073709551616 → is_among size (address, n) k ≡ false
     → is_at (unit_at size k) address n ≡ false
-not_at size address n k pos fits h = elim (cases_Bool (is_at (unit_at size k) address n)) [
+not_at size address n k pos fits h = elim (cases_Bool _) [
   | inr f ↦ f
   | inl t ↦
       let r = in_range size address n k pos fits t in
-      let yes : is_among size (address, n) k ≡ true =
-      and_from (nat_le (address / size) k) (nat_lt k (address / size + units_of size address n)) (le-leb (address / size) k r.0)
+      let yes =
+      and_from _ _ (le-leb (address / size) k r.0)
       (lt-ltb k (address / size + units_of size address n) r.1) in
-      let y : true ≡ false = sym yes ∙ h in cc
+      let y = sym yes ∙ h in cc
 ]
 
 pub inside_end : (a n : ℕ) → is_inside a n ≡ true → a + n ≤ 18446744073709551616
-inside_end a n h =
-    let p = and_parts (nat_le 1 n) (nat_le n 64 && nat_le (a + n) 18446744073709551616) h in
-    let q = and_parts (nat_le n 64) (nat_le (a + n) 18446744073709551616) p.1 in leb-true (a + n) 18446744073709551616 q.1
+inside_end a n h = grind arith
 
 pub open_load : (o : Option Operation) (n : ℕ) → answer_fault o n ≡ None → (x : Operation) × (o ≡ Some x)
 open_load None n h = cc
@@ -502,40 +471,40 @@ pub passes : (size k : ℕ) (m : UnitMemory) (o : Opened) (event : HistoryEvent)
     → form_fault o event ≡ None
     → is_among size (covered o event) k ≡ false → seen (unit_at size k) m event ≡ Some m
 passes size k m o (LoadRequest number address n) pos fit link f out =
-    let p = load_allowed (is_inside address n) (list_any (has_number number) o.loads) f in
+    let p = load_allowed _ _ f in
     ap Some (if_other (is_at (unit_at size k) address n) (with_load number address m) m
     (not_at size address n k pos (inside_end address n p.0) out))
 passes size k m o (LoadResponse number bytes) pos fit link f out =
-    let unit : UnitPlace = unit_at size k in
-    let r = open_load (find (has_number number) o.loads) (length bytes.now) f in
-    let x : Operation = r.0 in
-    let no : is_of unit x ≡ false =
+    let unit = unit_at size k in
+    let r = open_load _ _ f in
+    let x = r.0 in
+    let no =
     not_at size x.address x.length k pos (inside_end x.address x.length (found_fit number o.loads x fit.loads.1 r.1))
-    (subst (λ y. is_among size (bytes_of_open y) k ≡ false) r.1 out) in
-    let none : list_any (is_load number) m.loads ≡ false =
+    (rw r.1 at out) in
+    let none =
     any_key number m.loads ∙ no_key unit number o.loads x fit.loads.0 r.1 no (map load_key m.loads) link.loads in
     let q = loads_pass unit number bytes.now m.loads none in
     if_some (may_answer_load unit number bytes.now m.loads) (without_load number m) q.0
     ∙ ap (λ ls. Some (record { word = m.word; stores = m.stores; loads = ls })) q.1
 passes size k m o (StoreRequest number address bytes enables) pos fit link f out =
-    let unit : UnitPlace = unit_at size k in
-    let stored : List (Option ℕ) = at_unit unit (stored_byte address bytes.now enables) in
+    let unit = unit_at size k in
+    let stored = at_unit unit (stored_byte address bytes.now enables) in
     let p = store_allowed (is_inside address (length bytes.now)) (has_enabled bytes.now enables)
     (list_any (has_number number) o.stores) f in
-    let no : is_at unit address (length bytes.now) ≡ false =
+    let no =
     not_at size address (length bytes.now) k pos (inside_end address (length bytes.now) p.0) out in
     let none : list_any is_some stored ≡ false = elim (cases_Bool (list_any is_some stored)) [
       | inr n ↦ n
-      | inl t ↦ let y : true ≡ false = sym (any_lane unit address bytes.now enables (range_with_len 0 8) t) ∙ no in cc
+      | inl t ↦ let y = sym (any_lane unit address bytes.now enables (range_with_len 0 8) t) ∙ no in cc
     ] in
     ap Some (if_other (list_any is_some stored) (with_store number stored m) m none)
 passes size k m o (StoreResponse number) pos fit link f out =
-    let unit : UnitPlace = unit_at size k in
+    let unit = unit_at size k in
     let r = found_one number o.stores (is_answered (list_any (has_number number) o.stores) f) in
-    let x : Operation = r.0 in
-    let no : is_of unit x ≡ false =
+    let x = r.0 in
+    let no =
     not_at size x.address x.length k pos (inside_end x.address x.length (found_fit number o.stores x fit.stores.1 r.1))
-    (subst (λ y. is_among size (bytes_of_open y) k ≡ false) r.1 out) in
+    (rw r.1 at out) in
     let q = stores_pass number m.stores (no_store unit number o.stores x fit.stores.0 r.1 no m.stores link.stores) in
     if_some (may_answer_store number m.stores) (without_store number m) q.0
     ∙ ap (λ ss. Some (record { word = m.word; stores = ss; loads = m.loads })) q.1

@@ -109,11 +109,11 @@ one_elim P Q (x ∷ xs) (inr h) f = one_elim P Q xs h f
 
 pub all_each : {X : Type 0} (p : X → Bool) (xs : List X) → list_all p xs ≡ true → Each (λ x. p x ≡ true) xs
 all_each p [] h = tt
-all_each p (x ∷ xs) h = let r = and_parts (p x) (list_all p xs) h in (r.0, all_each p xs r.1)
+all_each p (x ∷ xs) h = let r = and_parts (p x) _ h in (r.0, all_each p xs r.1)
 
 pub each_all : {X : Type 0} (p : X → Bool) (xs : List X) → Each (λ x. p x ≡ true) xs → list_all p xs ≡ true
 each_all p [] h = refl
-each_all p (x ∷ xs) h = and_from (p x) (list_all p xs) h.0 (each_all p xs h.1)
+each_all p (x ∷ xs) h = and_from (p x) _ h.0 (each_all p xs h.1)
 
 pub one_any : {X : Type 0} (p : X → Bool) (xs : List X) → One (λ x. p x ≡ true) xs → list_any p xs ≡ true
 one_any p [] h = absurd h

@@ -2,7 +2,7 @@
 use Rattle.std.proofs.Common.{◌≡◌, ℕ, zero, suc, ◌+◌, ◌-◌, ◌<◌, Bool, true, false, ◌||◌, List, [], ◌∷◌, ◌++◌, fold, filter, length, take}
 use Rattle.std.proofs.Common.{drop, get_or, set, refl, sym, ap, subst, ◌∙◌, add-one, take-suc, drop-cons, append_assoc, inl, inr, arith}
 use Rattle.std.specs.List.{list_all}
-use Rattle.std.proofs.lemmas.Bool.{cases_Bool, and_parts, or_left}
+use Rattle.std.proofs.lemmas.Bool.{cases_Bool, and_parts}
 use Rattle.std.proofs.lemmas.List.{map-append, set_split, drop_all, length-map, append-nil, take_rest}
 use Rattle.atomic_histories.specs.declared.unit.OpenStore.{OpenStore}
 use Rattle.atomic_histories.specs.declared.unit.WatchedLoad.{WatchedLoad}
@@ -19,14 +19,14 @@ use Rattle.atomic_histories.proofs.Frames.{shown_grown}
 
 pub shown_push : (ss : List Stretch) (ps : List FollowedPair) (p : FollowedPair)
     → shown_all ss (ps ++ p ∷ []) ≡ shown_all ss ps ++ shown ss p ∷ []
-shown_push ss ps p = map-append (shown ss) ps (p ∷ [])
+shown_push ss ps p = map-append _ ps _
 
 pub shown_drop : (ss : List Stretch) (ps : List FollowedPair) (i : ℕ) (d : FollowedPair) → i < length ps
     → shown_all ss (drop i ps) ≡ shown ss (get_or ps i d) ∷ shown_all ss (drop (i + 1) ps)
 shown_drop ss ps i d h = rw (add-one, drop-cons ps i d h) refl
 
 pub length_shown : (ss : List Stretch) (ps : List FollowedPair) → length (shown_all ss ps) ≡ length ps
-length_shown ss ps = length-map ps (shown ss)
+length_shown ss ps = length-map ps _
 
 -- the pair at a place
 pair_here : (ps : List FollowedPair) (p : FollowedPair) (i : ℕ) → i < length ps → p ≡ get_or ps i p → drop i ps ≡ p ∷ drop (i + 1) ps
@@ -51,14 +51,12 @@ pub copied_more : (ss : List Stretch) (same ps : List FollowedPair) (p copy : Fo
     → i < length ps → p ≡ get_or ps i p → next ≡ same ++ copy ∷ [] → copy.past ≡ p.past
     → AreIn ss (same ++ drop i ps) → AreIn ss (next ++ drop (i + 1) ps)
 copied_more ss same ps p copy next i h is n e a =
-    rw (n, append_assoc) (each_replace (λ q. IsIn ss q.past) same p copy (drop (i + 1) ps) (λ b. subst (IsIn ss) (sym e) b)
-    (subst (λ xs. AreIn ss (same ++ xs)) (pair_here ps p i h is) a))
+    rw (n, append_assoc) (each_replace (λ q. IsIn ss q.past) same p copy _ (λ b. subst (IsIn ss) (sym e) b)
+    (rw (pair_here ps p i h is) at a))
 
 pub copied_all : (ss : List Stretch) (same ps : List FollowedPair) (i : ℕ) → length ps < i + 1 → AreIn ss (same ++ drop i ps)
     → AreIn ss same
-copied_all ss same ps i h a =
-    let none : drop i ps ≡ [] = drop_all i ps (omega (arith, h)) in
-    subst (AreIn ss) (ap (λ xs. same ++ xs) none ∙ append-nil same) a
+copied_all ss same ps i h a = grind (arith, drop_all, append-nil)
 
 -- Stores take effect. ----
 
@@ -66,12 +64,12 @@ effects_step : (past : Past) (e : Pair) (ss : List OpenStore) (i : ℕ) (d : Ope
     → effects_from past e (take i ss) (drop i ss)
     ≡ cons_effect (get_or ss i d).is_done (pair_after past e (take i ss) (get_or ss i d) (drop (i + 1) ss))
     (effects_from past e (take (i + 1) ss) (drop (i + 1) ss))
-effects_step past e ss i d h = rw (add-one, drop-cons ss i d h, take-suc ss i d h) refl
+effects_step past e ss i d h = grind (arith, add-one, drop-cons, take-suc)
 
 followed_more : (hope : Pair → Bool) (t : Bool) (x : Pair) (es next rest all : List Pair)
     → next ≡ with_pairs es (filter hope (cons_effect t x []))
     → with_pairs es (filter hope (cons_effect t x rest)) ≡ all → with_pairs next (filter hope rest) ≡ all
-followed_more hope true x es next rest all n whole = ap (λ fs. with_pairs fs (filter hope rest)) n ∙ whole
+followed_more hope true x es next rest all n whole = grind arith
 followed_more hope false x es next rest all n whole = elim (cases_Bool (hope x)) [
   | inl t ↦ ap (λ fs. with_pairs fs (filter hope rest)) (rw t at n) ∙ (rw t at whole)
   | inr f ↦ ap (λ fs. with_pairs fs (filter hope rest)) (rw f at n) ∙ (rw f at whole)
@@ -84,7 +82,7 @@ effects_done past e before [] h = refl
 effects_done past e before (s ∷ ss) h =
     let r = and_parts s.is_done (list_all (λ s. s.is_done) ss) h in
     ap (λ b. cons_effect b (pair_after past e before s ss) (effects_from past e (before ++ s ∷ []) ss)) r.0
-    ∙ effects_done past e (before ++ s ∷ []) ss r.1
+    ∙ effects_done past e _ ss r.1
 
 -- one more store is looked at
 pub effects_more : (hope : Pair → Bool) (past now : Past) (e : Pair) (ss : List OpenStore) (i : ℕ) (d : OpenStore) (es next all : List Pair)
@@ -93,12 +91,7 @@ pub effects_more : (hope : Pair → Bool) (past now : Past) (e : Pair) (ss : Lis
     (cons_effect (get_or ss i d).is_done (pair_after now e (take i ss) (get_or ss i d) (drop (i + 1) ss)) []))
     → with_pairs es (filter hope (effects_from past e (take i ss) (drop i ss))) ≡ all
     → with_pairs next (filter hope (effects_from past e (take (i + 1) ss) (drop (i + 1) ss))) ≡ all
-effects_more hope past now e ss i d es next all h same n whole =
-    let to : Past → List Pair = λ p. with_pairs es (filter hope
-    (cons_effect (get_or ss i d).is_done (pair_after p e (take i ss) (get_or ss i d) (drop (i + 1) ss)) [])) in
-    followed_more hope (get_or ss i d).is_done (pair_after past e (take i ss) (get_or ss i d) (drop (i + 1) ss)) es next
-    (effects_from past e (take (i + 1) ss) (drop (i + 1) ss)) all (n ∙ ap to same)
-    (ap (λ xs. with_pairs es (filter hope xs)) (sym (effects_step past e ss i d h)) ∙ whole)
+effects_more hope past now e ss i d es next all h same n whole = grind (arith, followed_more, effects_step)
 
 set_store : (ss : List OpenStore) (i : ℕ) (s : OpenStore) → i < length ss → set ss i s ≡ take i ss ++ s ∷ drop (i + 1) ss
 set_store ss i s h = rw add-one (set_split ss i s h)
@@ -110,8 +103,7 @@ same_default (x ∷ xs) (suc i) d e h = same_default xs i d e (omega arith)
 
 pub finished : (ss : List OpenStore) (i : ℕ) (d e : OpenStore) → i < length ss
     → set ss i (done_store (get_or ss i e)) ≡ take i ss ++ done_store (get_or ss i d) ∷ drop (i + 1) ss
-finished ss i d e h =
-    set_store ss i (done_store (get_or ss i e)) h ∙ ap (λ s. take i ss ++ done_store s ∷ drop (i + 1) ss) (same_default ss i e d h)
+finished ss i d e h = grind (arith, set_store, same_default)
 
 -- Rounds. ----
 
@@ -119,9 +111,7 @@ finished ss i d e h =
 pub fold_more : {X : Type 0} (f : X → Pair → X) (ss : List Stretch) (ps : List FollowedPair) (p : FollowedPair) (i : ℕ) (x y all : X)
     → i < length ps → p ≡ get_or ps i p → y ≡ f x (shown ss p) → fold f x (shown_all ss (drop i ps)) ≡ all
     → fold f y (shown_all ss (drop (i + 1) ps)) ≡ all
-fold_more f ss ps p i x y all h e n whole =
-    let here : shown_all ss (drop i ps) ≡ shown ss p ∷ shown_all ss (drop (i + 1) ps) = rw (shown_drop ss ps i p h, ← e) refl in
-    ap (λ z. fold f z (shown_all ss (drop (i + 1) ps))) n ∙ ap (fold f x) (sym here) ∙ whole
+fold_more f ss ps p i x y all h e n whole = grind (arith, shown_drop)
 
 -- a pair that is wanted has no more pairs behind it, and from another nothing is put out
 pub next_met : (ls : List WatchedLoad) (moment : ℕ) (aim : Aim) (next : List Pair) (e : Pair) → aim.goal e ≡ true
@@ -140,38 +130,30 @@ pub over_go : (limit : ℕ) (ls : List WatchedLoad) (moment n : ℕ) (aim : Aim)
     → (are_too_many limit es || are_too_many limit out) ≡ false → 0 < n
     → is_over limit ls moment n aim out es ≡ is_over limit ls moment (n - 1) aim (out_after aim.goal out es) (next_after ls moment aim es)
 over_go limit ls moment zero aim out es h p = absurd (omega arith)
-over_go limit ls moment (suc n) aim out es h p = let e : suc n - 1 ≡ n =
-    omega arith in rw e (or_behind (are_too_many limit es || are_too_many limit out)
-    (is_over limit ls moment n aim (out_after aim.goal out es) (next_after ls moment aim es)) h)
+over_go limit ls moment (suc n) aim out es h p = grind arith
 
 -- the pairs once one round more has gone
 pub met_go : (ls : List WatchedLoad) (moment n : ℕ) (aim : Aim) (out es : List Pair) → 0 < n
     → met ls moment n aim out es ≡ met ls moment (n - 1) aim (out_after aim.goal out es) (next_after ls moment aim es)
 met_go ls moment zero aim out es p = absurd (omega arith)
-met_go ls moment (suc n) aim out es p = let e : suc n - 1 ≡ n = omega arith in rw e refl
+met_go ls moment (suc n) aim out es p = grind arith
 
 -- the pairs that are followed to see what a load may get
 pub reach_stop : (limit : ℕ) (ls : List WatchedLoad) (moment n : ℕ) (es next : List Pair) → next ≡ next_after ls moment never es
     → are_too_many limit next ≡ true → 0 < n → is_reach_over limit ls moment n es ≡ true
 reach_stop limit ls moment zero es next e h p = absurd (omega arith)
-reach_stop limit ls moment (suc n) es next e h p =
-    or_left (are_too_many limit (next_after ls moment never es)) (is_reach_over limit ls moment n (next_after ls moment never es))
-    (ap (are_too_many limit) (sym e) ∙ h)
+reach_stop limit ls moment (suc n) es next e h p = grind arith
 
 pub reach_go : (limit : ℕ) (ls : List WatchedLoad) (moment n : ℕ) (es next : List Pair) → next ≡ next_after ls moment never es
     → are_too_many limit next ≡ false → 0 < n
     → is_reach_over limit ls moment n es ≡ is_reach_over limit ls moment (n - 1) next
 reach_go limit ls moment zero es next e h p = absurd (omega arith)
-reach_go limit ls moment (suc n) es next e h p =
-    let m : suc n - 1 ≡ n = omega arith in
-    rw m (or_behind (are_too_many limit (next_after ls moment never es)) (is_reach_over limit ls moment n (next_after ls moment never es))
-    (ap (are_too_many limit) (sym e) ∙ h) ∙ ap (is_reach_over limit ls moment n) (sym e))
+reach_go limit ls moment (suc n) es next e h p = grind arith
 
 reached_go : (ls : List WatchedLoad) (moment n : ℕ) (es next : List Pair) → next ≡ next_after ls moment never es → 0 < n
     → reached_in ls moment n es ≡ next ++ reached_in ls moment (n - 1) next
 reached_go ls moment zero es next e p = absurd (omega arith)
-reached_go ls moment (suc n) es next e p =
-    let m : suc n - 1 ≡ n = omega arith in rw m (ap (λ x. x ++ reached_in ls moment n x) (sym e))
+reached_go ls moment (suc n) es next e p = grind arith
 
 pub behind_all : (ps more : List FollowedPair) → drop (length ps) (ps ++ more) ≡ more
 behind_all [] more = refl
@@ -183,8 +165,8 @@ pub reached_more : (ls : List WatchedLoad) (moment n : ℕ) (ss ts : List Stretc
     → shown_all ss all ++ reached_in ls moment n (shown_all ss from) ≡ whole
     → shown_all ts both ++ reached_in ls moment (n - 1) (shown_all ts (drop (length all) both)) ≡ whole
 reached_more ls moment n ss ts grown all from next both whole a b p e w =
-    rw (b, behind_all all next, map-append (shown ts) all next, shown_grown ss ts grown all a, append_assoc)
-    (ap (λ es. shown_all ss all ++ es) (sym (reached_go ls moment n (shown_all ss from) (shown_all ts next) e p)) ∙ w)
+    rw (b, behind_all all next, map-append _ all next, shown_grown ss ts grown all a, append_assoc)
+    (cc (reached_go ls moment n (shown_all ss from) (shown_all ts next) e p, w))
 
 -- the pairs from a place on
 pub slice_from : (xs ys : List FollowedPair) (i : ℕ) → xs ≡ ys → take (length xs - i) (drop i xs) ≡ drop i ys

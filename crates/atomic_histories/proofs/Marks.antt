@@ -1,12 +1,11 @@
 -- Pairs beside their marks: ways to one pair have one mark.
 use Rattle.std.proofs.Common.{◌≡◌, ℕ, zero, suc, ◌+◌, ◌<◌, ◌≤◌, true, false, ◌==◌, List, [], ◌∷◌, map, fold, drop, length, get_or, add-one}
 use Rattle.std.proofs.Common.{refl, sym, ap, ap₂, ◌∙◌, eq-eqb, inl, inr, arith}
-use Rattle.std.specs.Cmp.Lexicographic.{pointwise}
 use Rattle.std.proofs.lemmas.Bool.{cases_Bool, cases_lt, and_parts}
 use Rattle.std.proofs.lemmas.List.{drop_all, get_or-map, length-map}
 use Rattle.atomic_histories.specs.declared.stretches.Stretch.{Stretch}
 use Rattle.atomic_histories.specs.declared.pairs.FollowedPair.{FollowedPair}
-use Rattle.atomic_histories.specs.Followed.{is_same_word, is_same_store, is_same_pair}
+use Rattle.atomic_histories.specs.Followed.{is_same_pair}
 use Rattle.atomic_histories.specs.Shown.{shown}
 use Rattle.atomic_histories.specs.Marks.{mark, mark_of, with_byte, with_store, before_mark}
 use Rattle.atomic_histories.proofs.SameWords.{same_word, same_stores}
@@ -14,13 +13,13 @@ use Rattle.atomic_histories.proofs.SameWords.{same_word, same_stores}
 same_mark : (ss : List Stretch) (p q : FollowedPair) → is_same_pair (shown ss p) (shown ss q) ≡ true → mark p ≡ mark q
 unfolding mark_of is_same_pair
 same_mark ss p q h =
-    let r = and_parts (is_same_word p.word q.word) (pointwise is_same_store p.stores.items q.stores.items) h in
+    let r = and_parts _ _ h in
     ap₂ (λ w s. fold with_store (fold with_byte 0 w) s) (same_word p.word q.word r.0) (same_stores p.stores.items q.stores.items r.1)
 
 -- pairs with another mark are others
 pub other_pair : (ss : List Stretch) (p q : FollowedPair) → (mark p == mark q) ≡ false → is_same_pair (shown ss p) (shown ss q) ≡ false
-other_pair ss p q h = elim (cases_Bool (is_same_pair (shown ss p) (shown ss q))) [
-  | inl t ↦ let x : true ≡ false = sym (eq-eqb (mark p) (mark q) (same_mark ss p q t)) ∙ h in cc
+other_pair ss p q h = elim (cases_Bool _) [
+  | inl t ↦ let x = sym (eq-eqb (mark p) (mark q) (same_mark ss p q t)) ∙ h in cc
   | inr o ↦ o
 ]
 
@@ -38,15 +37,15 @@ mark_later ms at n d h f = rw add-one (go ms at h f)
     go : (ms : List ℕ) (at : ℕ) → at < length ms → (get_or ms at d == n) ≡ false
         → suc at + before_mark n (drop (suc at) ms) ≡ at + before_mark n (drop at ms)
     go [] at h f = absurd (omega arith)
-    go (m ∷ ms) zero h f = rw f (omega arith)
+    go _ zero h f = rw f (omega arith)
     go (m ∷ ms) (suc at) h f = let k = go ms at (omega arith) f in omega (arith, k)
 
 pub no_mark : (ms : List ℕ) (at n : ℕ) → length ms ≤ at → at + before_mark n (drop at ms) ≡ at
-no_mark ms at n h = rw (drop_all at ms h) (omega arith)
+no_mark ms at n h = grind (arith, drop_all)
 
 before_other : (ms : List ℕ) (n k d : ℕ) → k < before_mark n ms → (get_or ms k d == n) ≡ false
-before_other [] n k d h = absurd (omega (arith, h))
-before_other (m ∷ ms) n zero d h = elim (cases_Bool (m == n)) [ inl t ↦ let x = rw t at h in absurd (omega (arith, x)) | inr o ↦ o ]
+before_other [] n k d h = grind arith
+before_other (m ∷ ms) n zero d h = grind (arith, cases_Bool)
 before_other (m ∷ ms) n (suc k) d h = elim (cases_Bool (m == n)) [
   | inl t ↦ let x = rw t at h in absurd (omega (arith, x))
   | inr o ↦ let x = rw o at h in before_other ms n k d (omega (arith, x))
@@ -54,7 +53,7 @@ before_other (m ∷ ms) n (suc k) d h = elim (cases_Bool (m == n)) [
 
 -- the marks from a place on to the next that is this one
 passed_by : (ms : List ℕ) (n from k d : ℕ) → from ≤ k → k < from + before_mark n (drop from ms) → (get_or ms k d == n) ≡ false
-passed_by ms n zero k d l h = before_other ms n k d (omega (arith, h))
+passed_by ms n zero k d l h = grind (arith, before_other)
 passed_by [] n (suc from) k d l h = absurd (omega (arith, h))
 passed_by (m ∷ ms) n (suc from) zero d l h = absurd (omega (arith, l))
 passed_by (m ∷ ms) n (suc from) (suc k) d l h = passed_by ms n from k d (omega (arith, l)) (omega (arith, h))
@@ -67,8 +66,8 @@ pub passed : (ss : List Stretch) (ps : List FollowedPair) (p d : FollowedPair) (
 passed ss ps p d ms m from at are is here others k h l = elim (cases_lt k from) [
   | inl early ↦ others k early
   | inr late ↦
-      let x : (get_or ms k (mark d) == m) ≡ false = passed_by ms m from k (mark d) late (omega (arith, h, here)) in
-      let y : get_or ms k (mark d) ≡ mark (get_or ps k d) = ap (λ xs. get_or xs k (mark d)) are ∙ get_or-map mark ps k d (mark d) l in
+      let x = passed_by ms m from k _ late (omega (arith, h, here)) in
+      let y = ap (λ xs. get_or xs k (mark d)) are ∙ get_or-map mark ps k d _ l in
       other_pair ss (get_or ps k d) p (ap₂ (λ a b. a == b) (sym y) (sym is) ∙ x)
 ]
 

@@ -21,7 +21,7 @@ all_weaker : {X : Type 0} (p q : X → Bool) → ((x : X) → p x ≡ true → q
     → list_all q xs ≡ true
 all_weaker p q f [] h = refl
 all_weaker p q f (x ∷ xs) h =
-    let r = and_parts (p x) (list_all p xs) h in and_from (q x) (list_all q xs) (f x r.0) (all_weaker p q f xs r.1)
+    let r = and_parts (p x) _ h in and_from (q x) _ (f x r.0) (all_weaker p q f xs r.1)
 
 -- One lane. ----
 
@@ -44,15 +44,15 @@ none_asked (Some b) = refl
 
 any_between : (p : OpenStore → Bool) (before : List OpenStore) (s : OpenStore) (after : List OpenStore)
     → (list_any p before || (p s || list_any p after)) ≡ true → list_any p (before ++ s ∷ after) ≡ true
-any_between p before s after h = list_any-append p before (s ∷ after) ∙ h
+any_between p before s after h = list_any-append p before _ ∙ h
 
 -- a store that has taken effect writes no more
 any_undone : (k : ℕ) (answer : Option ℕ) (before : List OpenStore) (s : OpenStore) (after : List OpenStore)
     → list_any (writes k answer) (before ++ done_store s ∷ after) ≡ true
     → list_any (writes k answer) (before ++ s ∷ after) ≡ true
 any_undone k answer before s after h =
-    let p : OpenStore → Bool = writes k answer in
-    elim (or_cases (list_any p before) (list_any p after) (sym (list_any-append p before (done_store s ∷ after)) ∙ h)) [
+    let p = writes k answer in
+    elim (or_cases _ _ (sym (list_any-append p before (done_store s ∷ after)) ∙ h)) [
       | inl t ↦ any_between p before s after (or_left (list_any p before) (p s || list_any p after) t)
       | inr t ↦ any_between p before s after
           (or_right (list_any p before) (p s || list_any p after) (or_right (p s) (list_any p after) t))
@@ -62,11 +62,11 @@ any_undone k answer before s after h =
 new_before : (k b : ℕ) (word : Word) (before : List OpenStore) (s : OpenStore) (after : List OpenStore) (answer : Option ℕ)
     → s.is_done ≡ false → get_or s.bytes k None ≡ Some b → is_as_it_stood (Some b) answer ≡ true
     → may_come_in k word (before ++ s ∷ after) answer ≡ true
-new_before k b word before s after None open_ w t = or_left (is_as_it_stood (get_or word k None) None) _ (none_asked (get_or word k None))
+new_before k b word before s after None open_ w t = or_left _ _ (none_asked (get_or word k None))
 new_before k b word before s after (Some c) open_ w t =
-    let p : OpenStore → Bool = writes k (Some c) in
+    let p = writes k _ in
     let here : p s ≡ true = rw (open_, w) t in
-    or_right (is_as_it_stood (get_or word k None) (Some c)) (list_any p (before ++ s ∷ after))
+    or_right _ _
     (any_between p before s after
     (or_right (list_any p before) (p s || list_any p after) (or_left (p s) (list_any p after) here)))
 
@@ -74,14 +74,14 @@ come_before : (k : ℕ) (word : Word) (before : List OpenStore) (s : OpenStore) 
     → s.is_done ≡ false → may_come_in k (written s.bytes word) (before ++ done_store s ∷ after) answer ≡ true
     → may_come_in k word (before ++ s ∷ after) answer ≡ true
 come_before k word before s after answer open_ h =
-    let p : OpenStore → Bool = writes k answer in
-    elim (or_cases (is_as_it_stood (get_or (written s.bytes word) k None) answer) (list_any p (before ++ done_store s ∷ after)) h) [
-      | inr t ↦ or_right (is_as_it_stood (get_or word k None) answer) (list_any p (before ++ s ∷ after))
+    let p = writes k answer in
+    elim (or_cases _ _ h) [
+      | inr t ↦ or_right _ _
           (any_undone k answer before s after t)
       | inl t ↦ elim (lane_written s.bytes word k) [
-        | inl same ↦ or_left (is_as_it_stood (get_or word k None) answer) (list_any p (before ++ s ∷ after))
+        | inl same ↦ or_left _ _
             (ap (λ x. is_as_it_stood x answer) (sym same) ∙ t)
-        | inr new ↦ new_before k new.0 word before s after answer open_ new.2 (ap (λ x. is_as_it_stood x answer) (sym new.1) ∙ t)
+        | inr new ↦ new_before k new.0 word before s after answer open_ new.2 (cc (new.1, t))
       ]
     ]
 
@@ -112,8 +112,8 @@ module _ (unit : UnitPlace) (number : ℕ) (bytes : List ℕ) (e : Branch) (befo
 
   all_come : (l : Watched) → comes unit bytes on (with_word e.word l) ≡ true → comes unit bytes e l ≡ true
   all_come l h =
-      all_weaker (λ k. may_come_in k on.word on.stores (byte_for l.address bytes (unit.first + k)))
-      (λ k. may_come_in k e.word e.stores (byte_for l.address bytes (unit.first + k))) (come l) (range_with_len 0 8) h
+      all_weaker (λ k. may_come_in k on.word on.stores _)
+      (λ k. may_come_in k e.word e.stores _) (come l) (range_with_len 0 8) h
 
   -- the word of an answer that an effect makes may come before it
   word_comes : (l : Watched) → is_word_of unit.first on.word l.address bytes ≡ true → comes unit bytes e l ≡ true
@@ -126,20 +126,20 @@ module _ (unit : UnitPlace) (number : ℕ) (bytes : List ℕ) (e : Branch) (befo
 
       all_from : (ks : List ℕ) → list_all (λ k. may_come_in k e.word e.stores (byte_for l.address bytes (unit.first + k))) ks ≡ true
       all_from [] = refl
-      all_from (k ∷ ks) = and_from (may_come_in k e.word e.stores (byte_for l.address bytes (unit.first + k))) _ (lane k) (all_from ks)
+      all_from (k ∷ ks) = and_from _ _ (lane k) (all_from ks)
 
   hopes_before : (l : Watched) → hopes unit number bytes on (with_word e.word l) ≡ true → hopes unit number bytes e l ≡ true
   hopes_before l h =
       let is : Word → Bool = λ w. is_word_of unit.first w l.address bytes in
-      let have : Bool = may_have unit bytes e l in
-      let may : Bool = comes unit bytes e l in
-      let done : (have || may) ≡ true → hopes unit number bytes e l ≡ true = or_right (not (is_watched number l)) (have || may) in
-      elim (or_cases (not (is_watched number l))
-      (may_have unit bytes on (with_word e.word l) || comes unit bytes on (with_word e.word l)) h) [
-        | inl t ↦ or_left (not (is_watched number l)) (have || may) t
-        | inr a ↦ elim (or_cases (may_have unit bytes on (with_word e.word l)) (comes unit bytes on (with_word e.word l)) a) [
+      let have = may_have unit bytes e l in
+      let may = comes unit bytes e l in
+      let done = or_right _ _ in
+      elim (or_cases _
+      _ h) [
+        | inl t ↦ or_left _ _ t
+        | inr a ↦ elim (or_cases _ _ a) [
           | inr c ↦ done (or_right have may (all_come l c))
-          | inl b ↦ elim (or_cases (is on.word) (is e.word || list_any is l.words) b) [
+          | inl b ↦ elim (or_cases _ _ b) [
             | inl c ↦ done (or_right have may (word_comes l c))
             | inr c ↦ done (or_left have may c)
           ]
@@ -150,7 +150,7 @@ module _ (unit : UnitPlace) (number : ℕ) (bytes : List ℕ) (e : Branch) (befo
   unfolding on
   hope_before h =
       all_weaker (λ l. hopes unit number bytes (effect_of e before s after) (with_word e.word l))
-      (hopes unit number bytes e) hopes_before e.loads
+      _ hopes_before e.loads
       (sym (list_all-map (hopes unit number bytes (effect_of e before s after)) (with_word e.word) e.loads) ∙ h)
 
 -- All loads. ----
@@ -158,10 +158,10 @@ module _ (unit : UnitPlace) (number : ℕ) (bytes : List ℕ) (e : Branch) (befo
 pub answer_hopes : (unit : UnitPlace) (number : ℕ) (bytes : List ℕ) (e : Branch) → has_answer unit number bytes e ≡ true
     → has_hope unit number bytes e ≡ true
 answer_hopes unit number bytes e h =
-    all_weaker (λ l. not (is_watched number l) || may_have unit bytes e l) (hopes unit number bytes e) weaker e.loads h
+    all_weaker (λ l. not _ || may_have unit bytes e l) _ weaker e.loads h
   where
     weaker : (l : Watched) → (not (is_watched number l) || may_have unit bytes e l) ≡ true → hopes unit number bytes e l ≡ true
-    weaker l t = elim (or_cases (not (is_watched number l)) (may_have unit bytes e l) t) [
+    weaker l t = elim (or_cases _ (may_have unit bytes e l) t) [
       | inl a ↦ or_left (not (is_watched number l)) _ a
       | inr b ↦ or_right (not (is_watched number l)) _ (or_left (may_have unit bytes e l) (comes unit bytes e l) b)
     ]
@@ -183,7 +183,7 @@ word_may_come unit address bytes word stores h = all_from (range_with_len 0 8)
     all_from : (ks : List ℕ) → list_all (λ k. may_come_in k word stores (byte_for address bytes (unit.first + k))) ks ≡ true
     all_from [] = refl
     all_from (k ∷ ks) =
-        and_from (may_come_in k word stores (byte_for address bytes (unit.first + k))) _
+        and_from _ _
         (or_left (is_as_it_stood (get_or word k None) (byte_for address bytes (unit.first + k))) _
         (word_lane unit.first word address bytes k h)) (all_from ks)
 
@@ -191,10 +191,10 @@ all_found : (p q : Watched → Bool) (ls : List Watched) (l : Watched) → list_
     → (p l ≡ true) × (q l ≡ true)
 all_found p q [] l h f = cc
 all_found p q (x ∷ xs) l h f =
-    let r = and_parts (p x) (list_all p xs) h in
+    let r = and_parts (p x) _ h in
     elim (cases_Bool (q x)) [
       | inl t ↦
-          let same : Some x ≡ Some l = rw t at f in
+          let same = rw t at f in
           let is : x ≡ l = cc in
           (ap p (sym is) ∙ r.0, ap q (sym is) ∙ t)
       | inr n ↦ all_found p q xs l r.1 (rw n at f)
@@ -212,13 +212,13 @@ pub late_hope : (unit : UnitPlace) (number : ℕ) (bytes : List ℕ) (e : Branch
     → may_come unit l.address bytes e.word e.stores ≡ true
 late_hope unit number bytes e l m f late g r =
     let is : Word → Bool = λ w. is_word_of unit.first w l.address bytes in
-    let p = all_found (hopes unit number bytes e) (is_watched number) e.loads l (hope_leads unit number bytes g r) f in
-    let have : (may_have unit bytes e l || comes unit bytes e l) ≡ true = rw p.1 at p.0 in
-    elim (or_cases (may_have unit bytes e l) (comes unit bytes e l) have) [
+    let p = all_found _ _ e.loads l (hope_leads unit number bytes g r) f in
+    let have = rw p.1 at p.0 in
+    elim (or_cases _ _ have) [
       | inr c ↦ c
-      | inl b ↦ elim (or_cases (is e.word) (list_any is l.words) b) [
+      | inl b ↦ elim (or_cases _ _ b) [
         | inl c ↦ word_may_come unit l.address bytes e.word e.stores c
-        | inr c ↦ let x : true ≡ false = sym c ∙ late l f in cc
+        | inr c ↦ let x = sym c ∙ late l f in cc
       ]
     ]
 
@@ -229,10 +229,10 @@ pub late_answer : (unit : UnitPlace) (number : ℕ) (bytes : List ℕ) (e : Bran
     → is_word_of unit.first e.word l.address bytes ≡ true
 late_answer unit number bytes e l m f late g o =
     let is : Word → Bool = λ w. is_word_of unit.first w l.address bytes in
-    let p = all_found (λ k. not (is_watched number k) || may_have unit bytes e k) (is_watched number) e.loads l
+    let p = all_found (λ k. not _ || may_have unit bytes e k) _ e.loads l
     (answer_on unit number bytes m g e o) f in
-    let have : may_have unit bytes e l ≡ true = rw p.1 at p.0 in
-    elim (or_cases (is e.word) (list_any is l.words) have) [
+    let have = rw p.1 at p.0 in
+    elim (or_cases _ _ have) [
       | inl c ↦ c
-      | inr c ↦ let x : true ≡ false = sym c ∙ late l f in cc
+      | inr c ↦ let x = sym c ∙ late l f in cc
     ]

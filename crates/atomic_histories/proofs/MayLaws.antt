@@ -1,30 +1,28 @@
 -- What an open load may return is what the answers have that would be taken now.
 use Rattle.std.proofs.Common.{◌≡◌, ℕ, zero, suc, ◌+◌, ◌-◌, ◌*◌, ◌/◌, ◌%◌, ◌<◌, ◌≤◌, ◌↔◌, Bool, true, false, ◌||◌, not, ◌==◌, if◌then◌else◌}
-use Rattle.std.proofs.Common.{nat_le, nat_lt, List, [], ◌∷◌, ◌++◌, map, length, Option, Some, None, slice_get, inl, inr, refl, sym, ap, ◌∙◌}
+use Rattle.std.proofs.Common.{List, [], ◌∷◌, ◌++◌, map, length, Option, Some, None, slice_get, inl, inr, refl, sym, ap, ◌∙◌}
 use Rattle.std.proofs.Common.{subst, leb-true, ltb-true, eqb-true, eq-eqb, arith}
 use Rattle.std.specs.Borrow.{Bor}
 use Rattle.std.specs.List.{All, find, list_any, range_with_len}
-use Rattle.std.proofs.Math.Nat.{mod-lt}
 use Rattle.std.proofs.lemmas.Nat.{div-mul-add, mod-mul-add, div-add-mod'}
 use Rattle.std.proofs.lemmas.Bool.{cases_Bool, cases_lt, and_parts, and_from, lt-ltb, lt-leb, le-leb}
-use Rattle.std.proofs.lemmas.List.{get_or_past, same_from_push}
+use Rattle.std.proofs.lemmas.List.{same_from_push}
 use Rattle.std.proofs.lemmas.List.Elements.{All-head, All-tail, All-map}
 use Rattle.std.proofs.lemmas.List.FromFn.{get_or-map-range_with_len, length-map-range_with_len}
 use Rattle.std.proofs.lemmas.Option.{slice_get_within, slice_get_past, slice_get_read}
 use Rattle.memory_histories.specs.declared.events.HistoryEvent.{HistoryEvent}
 use Rattle.memory_histories.specs.declared.events.HistoryEvent.TheVariants.{LoadRequest, LoadResponse, StoreRequest, StoreResponse}
-use Rattle.memory_histories.specs.declared.events.HistoryFault.TheVariants.{WrongLength}
 use Rattle.memory_histories.specs.declared.events.Rest.{Rest}
 use Rattle.memory_histories.specs.declared.events.Rest.TheVariants.{Zeros, Unknown}
 use Rattle.atomic_histories.specs.declared.unit.Operation.{Operation}
 use Rattle.atomic_histories.specs.declared.unit.UnitPlace.{UnitPlace}
-use Rattle.atomic_histories.specs.Words.{first_byte, initial_byte, byte_for, enabled_byte, stored_byte, is_as_it_stood, is_word_of}
-use Rattle.atomic_histories.specs.Operations.{none_opened, opened_by, has_number, form_fault, answer_fault}
+use Rattle.atomic_histories.specs.Words.{first_byte, initial_byte, byte_for, stored_byte, is_as_it_stood, is_word_of}
+use Rattle.atomic_histories.specs.Operations.{none_opened, opened_by, has_number, answer_fault}
 use Rattle.atomic_histories.specs.Law.{OpenLoad, UnitMemory, MayBe, starts, steps, sees, untouched, done_load, is_load, is_got}
 use Rattle.atomic_histories.specs.Law.{may_answer_load, without_load, seen, unit_at, is_formed, IsAtomicAt}
 use Rattle.atomic_histories.specs.Stands.{Each, One}
 use Rattle.atomic_histories.specs.Held.{is_lost}
-use Rattle.atomic_histories.specs.May.{lane_of, may_show, has_got, got_byte, MayGet, MayReturn, asks}
+use Rattle.atomic_histories.specs.May.{lane_of, may_show, got_byte, MayGet, MayReturn, asks}
 use Rattle.atomic_histories.specs.MayLaws.{IsByte, StoresBytes, IsOfLaw, MayAnswer, HasAnswer, HasAnswerFor, SetsAreOfAnswers}
 use Rattle.atomic_histories.specs.MayLaws.{SetIsOfAnswers, AreSameIn, HasAnswerIn, UnitsChooseAlone}
 use Rattle.atomic_histories.proofs.Lists.{one_elim, one_each, one_any, one_weaker, each_weaker, each_both, each_at, all_each, each_all}
@@ -62,28 +60,28 @@ IsOf unit j b = (j < unit.size) × IsByte b
 
 stored_is : (address : ℕ) (bytes : List ℕ) (enables a b : ℕ) → All IsByte bytes → stored_byte address bytes enables a ≡ Some b → IsByte b
 stored_is address bytes enables a b h e =
-    let p = then_it (nat_le address a) (enabled_byte bytes enables (a - address)) b e in
-    let q = then_it _ (slice_get bytes (a - address)) b p.1 in
-    byte_of_all IsByte bytes (a - address) b h q.1
+    let p = then_it _ _ b e in
+    let q = then_it _ _ b p.1 in
+    byte_of_all IsByte bytes _ b h q.1
 
 writes_bytes : (unit : UnitPlace) (event : HistoryEvent) → StoresBytes event → Writes (IsOf unit) unit event
 writes_bytes unit (LoadRequest number address n) h = tt
 writes_bytes unit (LoadResponse number bytes) h = tt
 writes_bytes unit (StoreRequest number address bytes enables) h = λ j b e.
     let p = unit_lane unit (stored_byte address bytes.now enables) j b e in
-    (p.0, stored_is address bytes.now enables (unit.first + j) b h p.1)
+    (p.0, stored_is address bytes.now enables _ b h p.1)
 writes_bytes unit (StoreResponse number) h = tt
 
 first_is : (image : Option ℕ) (rest : Rest) (b : ℕ) → ((c : ℕ) → image ≡ Some c → IsByte c) → first_byte image rest ≡ Some b → IsByte b
 first_is (Some c) rest b h e = h b e
-first_is None Zeros b h e = let same : 0 ≡ b = cc in subst IsByte same (omega arith)
+first_is None Zeros b h e = grind arith
 first_is None Unknown b h e = cc
 
 holds_first : (image : List ℕ) (rest : Rest) (unit : UnitPlace) → All IsByte image → Holds (IsOf unit) (untouched image rest unit)
 holds_first image rest unit h = record {
   word = λ j b e.
       let p = unit_lane unit (initial_byte image rest) j b e in
-      (p.0, first_is (slice_get image (unit.first + j)) rest b (λ c s. byte_of_all IsByte image (unit.first + j) c h s) p.1);
+      (p.0, first_is _ rest b (λ c s. byte_of_all IsByte image _ c h s) p.1);
   stores = tt;
   loads = tt;
 }
@@ -112,17 +110,17 @@ Lets image rest history unit number bytes =
 lets_from : (image : List ℕ) (rest : Rest) (history : List HistoryEvent) (unit : UnitPlace) (number : ℕ) (answer : Bor (List ℕ))
     → IsAtomicAt image rest unit (history ++ LoadResponse number answer ∷ []) → Lets image rest history unit number answer.now
 lets_from image rest history unit number answer h =
-    let event : HistoryEvent = LoadResponse number answer in
-    let r = seen_last (untouched image rest unit) unit history event (history ++ event ∷ []) h.0 h.1 refl in
-    let p = then_it (may_answer_load unit number answer.now r.0.loads) (Some (without_load number r.0)) r.1.0 r.1.1.1 in
-    (r.0, r.1.1.0, all_each (lets unit number answer.now) r.0.loads p.0)
+    let event = LoadResponse number answer in
+    let r = seen_last _ unit history event _ h.0 h.1 refl in
+    let p = then_it _ _ r.1.0 r.1.1.1 in
+    (r.0, r.1.1.0, all_each _ r.0.loads p.0)
 
 from_lets : (image : List ℕ) (rest : Rest) (history : List HistoryEvent) (unit : UnitPlace) (number : ℕ) (answer : Bor (List ℕ))
     → Lets image rest history unit number answer.now → IsAtomicAt image rest unit (history ++ LoadResponse number answer ∷ [])
 from_lets image rest history unit number answer h =
-    let may : may_answer_load unit number answer.now h.0.loads ≡ true = each_all (lets unit number answer.now) h.0.loads h.2 in (
+    let may = each_all _ h.0.loads h.2 in (
       without_load number h.0,
-      sees history (LoadResponse number answer) h.0 (without_load number h.0) h.1
+      sees history _ h.0 _ h.1
           (then_some (may_answer_load unit number answer.now h.0.loads) (without_load number h.0) may),
     )
 
@@ -139,63 +137,51 @@ got_some unit address bytes (Some w) h = (w, refl, h)
 same_word : (unit : UnitPlace) (w : Word) (a : ℕ) (bs cs : List ℕ) → AreLanes (IsOf unit) w
     → ((j : ℕ) → j < unit.size → byte_for a bs (unit.first + j) ≡ byte_for a cs (unit.first + j))
     → is_word_of unit.first w a bs ≡ true → is_word_of unit.first w a cs ≡ true
-same_word unit w a bs cs lanes same h = lane_word unit.first w a cs (λ j. lane j (lane_of j w) refl)
+same_word unit w a bs cs lanes same h = lane_word unit.first w a cs (λ j. lane j _ refl)
   where
     lane : (j : ℕ) (x : Option ℕ) → lane_of j w ≡ x → is_as_it_stood (lane_of j w) (byte_for a cs (unit.first + j)) ≡ true
     lane j None e = rw e refl
-    lane j (Some b) e =
-        subst (λ y. is_as_it_stood (lane_of j w) y ≡ true) (same j (lanes j b e).0) (word_lane unit.first w a bs j h)
+    lane j (Some b) e = grind (arith, word_lane, unit.first)
 
 -- a load that may be answered so may be answered with the same bytes in the unit
 same_lets : (unit : UnitPlace) (number a : ℕ) (bs cs : List ℕ)
     → ((j : ℕ) → j < unit.size → byte_for a bs (unit.first + j) ≡ byte_for a cs (unit.first + j))
     → (l : OpenLoad) → (is_load number l ≡ true → l.address ≡ a) → HasGot (IsOf unit) l.got → lets unit number bs l ≡ true
     → lets unit number cs l ≡ true
-same_lets unit number a bs cs same l at lanes h = elim (cases_Bool (is_load number l)) [
+same_lets unit number a bs cs same l at lanes h = elim (cases_Bool _) [
   | inr f ↦ rw f refl
   | inl t ↦
       let got : is_got unit l.address bs l.got ≡ true = (rw t at h) in
-      or_right_true (not (is_load number l)) (is_got unit l.address cs l.got) (other l.got lanes (subst (λ x. is_got unit x bs l.got ≡ true)
-      (at t) got) (at t))
+      or_right_true _ _ (other l.got lanes (rw (at t) at got) (at t))
 ]
   where
     other : (g : Option Word) → HasGot (IsOf unit) g → is_got unit a bs g ≡ true → l.address ≡ a → is_got unit l.address cs g ≡ true
     other None p t e = cc
-    other (Some w) p t e = subst (λ x. is_word_of unit.first w x cs ≡ true) (sym e) (same_word unit w a bs cs p same t)
+    other (Some w) p t e = grind (arith, unit.first, same_word)
 
 -- Places. ----
 
 same_for : (size k address : ℕ) (bs cs : List ℕ) → AreSameIn size k address bs cs → (j : ℕ) → j < size
     → byte_for address bs (k * size + j) ≡ byte_for address cs (k * size + j)
-same_for size k address bs cs same j l = elim (cases_lt (k * size + j) address) [
+same_for size k address bs cs same j l = elim (cases_lt _ address) [
   | inl below ↦ rw (lt-leb address (k * size + j) below) refl
   | inr above ↦
       let at : address + (k * size + j - address) ≡ k * size + j = omega arith in
       let e : slice_get bs (k * size + j - address) ≡ slice_get cs (k * size + j - address) =
-      same (k * size + j - address) (ap (λ x. x / size) at ∙ div-mul-add k size j l) in
+      same (k * size + j - address) (cc (at, div-mul-add k size j l)) in
       rw (le-leb address (k * size + j) above) e
 ]
 
 byte_inside : (a : ℕ) (bs : List ℕ) (i : ℕ) → byte_for a bs (a + i) ≡ slice_get bs i
-byte_inside a bs i =
-    let l : a ≤ a + i = omega arith in
-    let s : a + i - a ≡ i = omega arith in
-    rw (le-leb a (a + i) l) (ap (slice_get bs) s)
+byte_inside a bs i = grind arith
 
 -- a byte that answers for an address is one of the answer's
 byte_place : (a at b : ℕ) (bs : List ℕ) → byte_for a bs at ≡ Some b → (a ≤ at) × (slice_get bs (at - a) ≡ Some b)
-byte_place a at b bs e = let p = then_it (nat_le a at) (slice_get bs (at - a)) b e in (leb-true a at p.0, p.1)
+byte_place a at b bs e = grind arith
 
 -- the unit of one of an operation's bytes is one that it touches
 touches : (size : ℕ) (o : Operation) (i : ℕ) → 1 ≤ size → i < o.length → is_of (unit_at size ((o.address + i) / size)) o ≡ true
-touches size o i pos l =
-    let q : ℕ = (o.address + i) / size in
-    let some : 0 < size = omega (arith, pos) in
-    let within : (o.address + i) % size < size = mod-lt (o.address + i) some in
-    let place : (o.address + i) / size * size + (o.address + i) % size ≡ o.address + i = div-add-mod' (o.address + i) size in
-    and_from (nat_lt o.address (q * size + size)) (nat_lt (q * size) (o.address + o.length))
-    (lt-ltb o.address (q * size + size) (omega (arith, within, place, l)))
-    (lt-ltb (q * size) (o.address + o.length) (omega (arith, place, l)))
+touches size o i pos l = grind arith
 
 shows_stood : (x : Option ℕ) (b : ℕ) → is_as_it_stood x (Some b) ≡ true → may_show x b ≡ true
 shows_stood None b h = refl
@@ -211,10 +197,10 @@ is_small (Some c) h = h c refl
 
 -- nothing is known of a word that has no lanes
 no_lane : (j : ℕ) → lane_of j [] ≡ None
-no_lane j = get_or_past [] j None (omega arith)
+no_lane j = grind arith
 
 no_lanes : (P : ℕ → ℕ → Type 0) → AreLanes P []
-no_lanes P j b e = let x : None ≡ Some b = sym (no_lane j) ∙ e in cc
+no_lanes P j b e = grind arith
 
 false_true : {A : Type 0} (b : Bool) → b ≡ false → b ≡ true → A
 false_true true f t = cc
@@ -229,19 +215,19 @@ module _ (lost : List ℕ) (image : List ℕ) (rest : Rest) (size : ℕ) (histor
   Comes k m = MayBe (unit k) (untouched image rest (unit k)) history m
 
   distinct : AreDistinct (opened_by history).loads
-  distinct = (fit_by history law.atomic.formed).loads.0
+  distinct = grind (arith, fit_by)
 
   holds_at : (k : ℕ) (m : UnitMemory) → Comes k m → Holds (IsOf (unit k)) m
   holds_at k m r =
-      holds (IsOf (unit k)) (unit k) (untouched image rest (unit k)) (holds_first image rest (unit k) law.first_bytes) r
+      holds _ _ _ (holds_first image rest (unit k) law.first_bytes) r
       (each_weaker StoresBytes (Writes (IsOf (unit k)) (unit k)) (writes_bytes (unit k)) history
       (all_each_of StoresBytes history law.stored_bytes))
 
   addresses : (k : ℕ) (m : UnitMemory) → Comes k m → Each (λ l. is_load number l ≡ true → l.address ≡ o.address) m.loads
-  addresses k m r = has_address (unit k) number m (opened_by history) (linked image rest (unit k) r) distinct o found
+  addresses k m r = has_address _ number m _ (linked image rest (unit k) r) distinct o found
 
   is_alone : (k : ℕ) (m : UnitMemory) → Comes k m → IsAlone (is_load number) m.loads
-  is_alone k m r = alone (unit k) number m (opened_by history) (linked image rest (unit k) r) distinct o found
+  is_alone k m r = alone _ number m _ (linked image rest (unit k) r) distinct o found
 
   -- Answers that are formed. ----
 
@@ -249,20 +235,16 @@ module _ (lost : List ℕ) (image : List ℕ) (rest : Rest) (size : ℕ) (histor
   more answer = history ++ LoadResponse number answer ∷ []
 
   answer_formed : (answer : Bor (List ℕ)) → length answer.now ≡ o.length → is_formed none_opened (more answer) ≡ true
-  answer_formed answer e =
-      let same : (o.length == length answer.now) ≡ true = eq-eqb o.length (length answer.now) (sym e) in
-      let fault : answer_fault (Some o) (length answer.now) ≡ None = rw same refl in
-      formed_more none_opened history (LoadResponse number answer) law.atomic.formed
-      (ap (λ x. answer_fault x (length answer.now)) found ∙ fault)
+  answer_formed answer e = grind (arith, eq-eqb, formed_more)
 
   answer_length : (answer : Bor (List ℕ)) → MayAnswer lost image rest size history number answer → length answer.now ≡ o.length
   answer_length answer a =
-      let f : form_fault (opened_by history) (LoadResponse number answer) ≡ None =
-      formed_last none_opened history (LoadResponse number answer) a.formed in
-      let g : answer_fault (Some o) (length answer.now) ≡ None = ap (λ x. answer_fault x (length answer.now)) (sym found) ∙ f in
-      elim (cases_Bool (o.length == length answer.now)) [
+      let f =
+      formed_last none_opened history _ a.formed in
+      let g = ap (λ x. answer_fault x (length answer.now)) (sym found) ∙ f in
+      elim (cases_Bool _) [
         | inl t ↦ sym (eqb-true o.length (length answer.now) t)
-        | inr n ↦ let x : Some WrongLength ≡ None = (rw n at g) in cc
+        | inr n ↦ let x = (rw n at g) in cc
       ]
 
   -- Each unit's bytes are chosen for themselves. ----
@@ -270,19 +252,19 @@ module _ (lost : List ℕ) (image : List ℕ) (rest : Rest) (size : ℕ) (histor
   moments_same : (k : ℕ) (answer other : Bor (List ℕ)) → AreSameIn size k o.address answer.now other.now
       → IsAtomicAt image rest (unit k) (more other) → IsAtomicAt image rest (unit k) (more answer)
   moments_same k answer other same h =
-      let r = lets_from image rest history (unit k) number other h in
+      let r = lets_from image rest history _ number other h in
       let m : UnitMemory = r.0 in
-      let Known : OpenLoad → Type 0 = λ l. (is_load number l ≡ true → l.address ≡ o.address) × HasGot (IsOf (unit k)) l.got in
-      let known : Each Known m.loads =
-      each_both (λ l. is_load number l ≡ true → l.address ≡ o.address) (λ l. HasGot (IsOf (unit k)) l.got) m.loads (addresses k m r.1)
+      let Known : OpenLoad → Type 0 = λ l. (is_load number l ≡ true → l.address ≡ o.address) × HasGot _ l.got in
+      let known : Each Known _ =
+      each_both (λ l. is_load number l ≡ true → l.address ≡ o.address) (λ l. HasGot _ l.got) _ (addresses k m r.1)
       (holds_at k m r.1).loads in
-      from_lets image rest history (unit k) number answer (
+      from_lets image rest history _ number answer (
         m,
         r.1,
         each_weaker (λ l. Known l × (lets (unit k) number other.now l ≡ true)) (λ l. lets (unit k) number answer.now l ≡ true)
-            (λ l p. same_lets (unit k) number o.address other.now answer.now
-            (λ j w. sym (same_for size k o.address answer.now other.now same j w)) l p.0.0 p.0.1 p.1) m.loads
-            (each_both Known (λ l. lets (unit k) number other.now l ≡ true) m.loads known r.2),
+            (λ l p. same_lets _ number o.address other.now answer.now
+            (λ j w. sym (same_for size k o.address answer.now other.now same j w)) l p.0.0 p.0.1 p.1) _
+            (each_both Known (λ l. lets (unit k) number other.now l ≡ true) _ known r.2),
       )
 
   pub units_alone : (answer : Bor (List ℕ)) → MayAnswer lost image rest size history number answer
@@ -300,45 +282,39 @@ module _ (lost : List ℕ) (image : List ℕ) (rest : Rest) (size : ℕ) (histor
 
   load_gets : (k j b : ℕ) (answer : List ℕ) → byte_for o.address answer (k * size + j) ≡ Some b → (l : OpenLoad)
       → is_load number l ≡ true → lets (unit k) number answer l ≡ true → l.address ≡ o.address → got_byte number j b l ≡ true
-  load_gets k j b answer e l t h at =
-      let got : is_got (unit k) l.address answer l.got ≡ true = (rw t at h) in
-      let r = got_some (unit k) l.address answer l.got got in
-      let word : is_word_of (k * size) r.0 o.address answer ≡ true = subst (λ a. is_word_of (k * size) r.0 a answer ≡ true) at r.2 in
-      let stood : is_as_it_stood (lane_of j r.0) (Some b) ≡ true =
-      subst (λ x. is_as_it_stood (lane_of j r.0) x ≡ true) e (word_lane (k * size) r.0 o.address answer j word) in
-      and_from (is_load number l) (has_got j b l.got) t (ap (has_got j b) r.1 ∙ shows_stood (lane_of j r.0) b stood)
+  load_gets k j b answer e l t h at = grind (arith, got_some, l.address, l.got, word_lane, and_from, shows_stood)
 
   gets_at : (k j b : ℕ) (answer : Bor (List ℕ)) → byte_for o.address answer.now (k * size + j) ≡ Some b → is_of (unit k) o ≡ true
       → IsAtomicAt image rest (unit k) (more answer) → MayGet image rest history (unit k) number j b
   gets_at k j b answer e there h =
-      let r = lets_from image rest history (unit k) number answer h in
+      let r = lets_from image rest history _ number answer h in
       let m : UnitMemory = r.0 in
-      let one : One (λ l. is_load number l ≡ true) m.loads =
-      is_there (unit k) number m (opened_by history) (linked image rest (unit k) r.1) distinct o found there in
+      let one : One (λ l. is_load number l ≡ true) _ =
+      is_there _ number m _ (linked image rest (unit k) r.1) distinct o found there in
       let Known : OpenLoad → Type 0 = λ l. (is_load number l ≡ true → l.address ≡ o.address) × (lets (unit k) number answer.now l ≡ true) in
-      let known : Each Known m.loads =
-      each_both (λ l. is_load number l ≡ true → l.address ≡ o.address) (λ l. lets (unit k) number answer.now l ≡ true) m.loads
+      let known : Each Known _ =
+      each_both (λ l. is_load number l ≡ true → l.address ≡ o.address) (λ l. lets (unit k) number answer.now l ≡ true) _
       (addresses k m r.1) r.2 in (
         m,
         r.1,
-        one_any (got_byte number j b) m.loads
+        one_any _ _
             (one_weaker (λ l. (is_load number l ≡ true) × Known l) (λ l. got_byte number j b l ≡ true)
-            (λ l p. load_gets k j b answer.now e l p.0 p.1.1 (p.1.0 p.0)) m.loads
-            (one_each (λ l. is_load number l ≡ true) Known m.loads one known)),
+            (λ l p. load_gets k j b answer.now e l p.0 p.1.1 (p.1.0 p.0)) _
+            (one_each (λ l. is_load number l ≡ true) Known _ one known)),
       )
 
   pub answer_may : (i b : ℕ) → HasAnswer lost image rest size history number i b
       → MayReturn lost image rest size history number (o.address + i) b
   answer_may i b (answer, bytes, e, a) =
-      let at : ℕ = o.address + i in
-      let q : ℕ = at / size in
-      let within : i < o.length = subst (λ n. i < n) (answer_length answer a) (slice_get_within answer.now i b e) in
-      let place : q * size + at % size ≡ at = div-add-mod' at size in
-      let byte : byte_for o.address answer.now (q * size + at % size) ≡ Some b =
+      let at = o.address + i in
+      let q = at / size in
+      let within = subst (λ n. i < n) (answer_length answer a) (slice_get_within answer.now i b e) in
+      let place = div-add-mod' at size in
+      let byte =
       ap (byte_for o.address answer.now) place ∙ (byte_inside o.address answer.now i ∙ e) in
-      elim (cases_Bool (is_lost q lost)) [
+      elim (cases_Bool _) [
         | inl t ↦ inl t
-        | inr f ↦ inr (f, gets_at q (at % size) b answer byte (touches size o i law.sized within) (a.moments q f))
+        | inr f ↦ inr (f, gets_at q _ b answer byte (touches size o i law.sized within) (a.moments q f))
       ]
 
   -- What may be returned an answer has. ----
@@ -354,35 +330,35 @@ module _ (lost : List ℕ) (image : List ℕ) (rest : Rest) (size : ℕ) (histor
       → m.loads ≡ before ++ l ∷ after → list_any (is_load number) before ≡ false → list_any (is_load number) after ≡ false
       → (g : Option Word) → l.got ≡ g → HasWord k
   load_got k m r before l after split b a None e =
-      let n : UnitMemory = record { word = m.word; stores = m.stores; loads = before ++ done_load m.word l ∷ after } in (
+      let n : UnitMemory = record { word = m.word; stores = m.stores; loads = before ++ done_load _ l ∷ after } in (
         m.word,
         (holds_at k m r).word,
         (
           n,
           steps history m n r (inr (before, l, after, split, e, refl)),
-          got_between number m.word before (done_load m.word l) after b a refl,
+          got_between number _ before _ after b a refl,
         ),
       )
   load_got k m r before l after split b a (Some w) e =
-      let each : Each (λ x. HasGot (IsOf (unit k)) x.got) (before ++ l ∷ after) =
-      subst (Each (λ x. HasGot (IsOf (unit k)) x.got)) split (holds_at k m r).loads in (
+      let each : Each (λ x. HasGot _ x.got) _ =
+      subst (Each (λ x. HasGot _ x.got)) split (holds_at k m r).loads in (
         w,
-        subst (HasGot (IsOf (unit k))) e (each_at (λ x. HasGot (IsOf (unit k)) x.got) before l after each),
+        subst (HasGot (IsOf (unit k))) e (each_at (λ x. HasGot _ x.got) before l after each),
         (m, r, subst (HaveGot number w) (sym split) (got_between number w before l after b a e)),
       )
 
   some_word : (k : ℕ) → IsAtomicAt image rest (unit k) history → HasWord k
-  some_word k (m, r) = elim (the_load number m.loads (is_alone k m r)) [
-    | inl none ↦ ([], no_lanes (IsOf (unit k)), (m, r, each_none (λ l. l.got ≡ Some []) (is_load number) m.loads none))
+  some_word k (m, r) = elim (the_load number _ (is_alone k m r)) [
+    | inl none ↦ ([], no_lanes _, (m, r, each_none (λ l. l.got ≡ Some []) _ _ none))
     | inr s ↦ load_got k m r s.0 s.1 s.2 s.3 s.4 s.5 s.1.got refl
   ]
 
   shown_at : (k j b : ℕ) → MayGet image rest history (unit k) number j b → (w : HasWord k) × (may_show (lane_of j w.0) b ≡ true)
   shown_at k j b (m, r, any) =
-      let s = shown_word number j b m.loads (is_alone k m r) any in
-      let lanes : AreLanes (IsOf (unit k)) s.0 =
-      one_elim (λ l. (l.got ≡ Some s.0) × HasGot (IsOf (unit k)) l.got) (AreLanes (IsOf (unit k)) s.0) m.loads
-      (one_each (λ l. l.got ≡ Some s.0) (λ l. HasGot (IsOf (unit k)) l.got) m.loads s.2 (holds_at k m r).loads)
+      let s = shown_word number j b _ (is_alone k m r) any in
+      let lanes =
+      one_elim (λ l. (l.got ≡ Some s.0) × HasGot _ l.got) _ _
+      (one_each (λ l. l.got ≡ Some s.0) (λ l. HasGot _ l.got) _ s.2 (holds_at k m r).loads)
       (λ l p. subst (HasGot (IsOf (unit k))) p.0 p.1) in
       ((s.0, lanes, (m, r, s.3)), s.1)
 
@@ -393,32 +369,32 @@ module _ (lost : List ℕ) (image : List ℕ) (rest : Rest) (size : ℕ) (histor
       × (k ≡ at / size → may_show (lane_of (at % size) w) b ≡ true)
 
   choose : (at b : ℕ) → MayReturn lost image rest size history number at b → (k : ℕ) → Choice at b k
-  choose at b may k = elim (cases_Bool (is_lost k lost)) [
+  choose at b may k = elim (cases_Bool _) [
     | inl t ↦ (
       [],
-      no_lanes (IsOf (unit k)),
-      λ f. false_true (is_lost k lost) f t,
+      no_lanes _,
+      λ f. false_true _ f t,
       λ e. ap (λ x. may_show x b) (no_lane (at % size)),
     )
-    | inr f ↦ elim (cases_Bool (k == at / size)) [
+    | inr f ↦ elim (cases_Bool _) [
       | inr n ↦
           let s = some_word k (law.atomic.moments k f) in
-          (s.0, s.1, λ x. s.2, λ e. false_true (k == at / size) n (eq-eqb k (at / size) e))
+          (s.0, s.1, λ x. s.2, λ e. false_true _ n (eq-eqb k (at / size) e))
       | inl t ↦
-          let same : k ≡ at / size = eqb-true k (at / size) t in
+          let same = eqb-true k _ t in
           elim may [
-            | inl y ↦ false_true (is_lost k lost) f (ap (λ x. is_lost x lost) same ∙ y)
+            | inl y ↦ false_true _ f (ap (λ x. is_lost x lost) same ∙ y)
             | inr g ↦ subst (Choice at b) (sym same) (of_shown (shown_at (at / size) (at % size) b g.1))
           ]
     ]
   ]
     where
       of_shown : (w : HasWord (at / size)) × (may_show (lane_of (at % size) w.0) b ≡ true) → Choice at b (at / size)
-      of_shown (w, s) = (w.0, w.1, λ x. w.2, λ e. s)
+      of_shown (w, s) = grind arith
 
   module _ (i b : ℕ) (inside : i < o.length) (small : b < 256) (may : MayReturn lost image rest size history number (o.address + i) b) where
     chosen : (k : ℕ) → Choice (o.address + i) b k
-    chosen k = choose (o.address + i) b may k
+    chosen k = choose _ b may k
 
     -- the byte for an address
     abbrev byte_of : ℕ → ℕ
@@ -437,41 +413,39 @@ module _ (lost : List ℕ) (image : List ℕ) (rest : Rest) (size : ℕ) (histor
     byte_small x = elim (cases_Bool (x == i)) [
       | inl t ↦ rw t small
       | inr f ↦
-          let a : ℕ = o.address + x in
-          let c = chosen (a / size) in rw f (is_small (lane_of (a % size) c.0) (λ d e. (c.1 (a % size) d e).1))
+          let a = o.address + x in
+          let c = chosen _ in rw f (is_small (lane_of (a % size) c.0) (λ d e. (c.1 (a % size) d e).1))
     ]
 
     are_bytes : All IsByte answer
     are_bytes =
-        All-map IsByte byte_at (range_with_len 0 o.length) (all_from (λ x. IsByte (byte_at x)) byte_small (range_with_len 0 o.length))
+        All-map IsByte byte_at _ (all_from (λ x. IsByte _) byte_small _)
 
     is_long : length answer ≡ o.length
     is_long = length-map-range_with_len byte_at 0 o.length
 
     at_place : (x : ℕ) → x < o.length → slice_get answer x ≡ Some (byte_at x)
     at_place x l =
-        slice_get_read answer o.length x (byte_at x) (sym is_long) l
+        slice_get_read answer o.length x _ (sym is_long) l
         (sym (get_or-map-range_with_len byte_at 0 o.length x x (byte_at x) l (omega arith)))
 
     byte_there : (k j : ℕ) → j < size → byte_of (k * size + j) ≡ or_zero (lane_of j (chosen k).0)
-    byte_there k j l =
-        ap (λ y. or_zero (lane_of y (chosen ((k * size + j) / size)).0)) (mod-mul-add k size j l)
-        ∙ ap (λ y. or_zero (lane_of j (chosen y).0)) (div-mul-add k size j l)
+    byte_there k j l = grind (arith, chosen, mod-mul-add, div-mul-add)
 
     -- a byte of the answer is the word's that was chosen for its unit
     agrees : (k j c x : ℕ) → j < size → lane_of j (chosen k).0 ≡ Some c → o.address + x ≡ k * size + j → (c == byte_at x) ≡ true
-    agrees k j c x l e place = elim (cases_Bool (x == i)) [
+    agrees k j c x l e place = elim (cases_Bool _) [
       | inl t ↦
-          let same : x ≡ i = eqb-true x i t in
-          let at : o.address + i ≡ k * size + j = ap (λ y. o.address + y) (sym same) ∙ place in
-          let unit_ : k ≡ (o.address + i) / size = sym (ap (λ y. y / size) at ∙ div-mul-add k size j l) in
-          let lane : (o.address + i) % size ≡ j = ap (λ y. y % size) at ∙ mod-mul-add k size j l in
-          let shows : may_show (lane_of ((o.address + i) % size) (chosen k).0) b ≡ true = (chosen k).3 unit_ in
-          let it : may_show (Some c) b ≡ true =
-          subst (λ y. may_show y b ≡ true) e (subst (λ y. may_show (lane_of y (chosen k).0) b ≡ true) lane shows) in
+          let same = eqb-true x i t in
+          let at = ap (λ y. o.address + y) (sym same) ∙ place in
+          let unit_ = sym (cc (at, div-mul-add k size j l)) in
+          let lane = ap (λ y. y % size) at ∙ mod-mul-add k size j l in
+          let shows = (chosen k).3 unit_ in
+          let it =
+          subst (λ y. may_show y b ≡ true) e (rw lane at shows) in
           rw t it
       | inr f ↦
-          let byte : byte_of (o.address + x) ≡ c = ap byte_of place ∙ (byte_there k j l ∙ ap or_zero e) in
+          let byte = ap byte_of place ∙ (byte_there k j l ∙ ap or_zero e) in
           rw f (eq-eqb c (byte_of (o.address + x)) (sym byte))
     ]
 
@@ -480,12 +454,12 @@ module _ (lost : List ℕ) (image : List ℕ) (rest : Rest) (size : ℕ) (histor
     stands k j None e = ap (λ y. is_as_it_stood y (byte_for o.address answer (k * size + j))) e
     stands k j (Some c) e =
         ap (λ y. is_as_it_stood y (byte_for o.address answer (k * size + j))) e
-        ∙ elim (cases_lt (k * size + j) o.address) [
+        ∙ elim (cases_lt _ o.address) [
           | inl below ↦ rw (lt-leb o.address (k * size + j) below) refl
           | inr above ↦ elim (cases_lt (k * size + j - o.address) o.length) [
             | inr past ↦
                 let none : slice_get answer (k * size + j - o.address) ≡ None =
-                slice_get_past answer (k * size + j - o.address) (subst (λ n. n ≤ k * size + j - o.address) (sym is_long) past) in
+                slice_get_past answer (k * size + j - o.address) (rw (sym is_long) at past) in
                 let all : byte_for o.address answer (k * size + j) ≡ None = rw (le-leb o.address (k * size + j) above) none in
                 ap (is_as_it_stood (Some c)) all
             | inl within ↦
@@ -499,14 +473,14 @@ module _ (lost : List ℕ) (image : List ℕ) (rest : Rest) (size : ℕ) (histor
 
     load_lets : (k : ℕ) (l : OpenLoad) → (is_load number l ≡ true → l.address ≡ o.address)
         → (is_load number l ≡ true → l.got ≡ Some (chosen k).0) → lets (unit k) number answer l ≡ true
-    load_lets k l at got = elim (cases_Bool (is_load number l)) [
+    load_lets k l at got = elim (cases_Bool _) [
       | inr f ↦ rw f refl
       | inl t ↦
-          let word : is_word_of (k * size) (chosen k).0 o.address answer ≡ true =
-          lane_word (k * size) (chosen k).0 o.address answer (λ j. stands k j (lane_of j (chosen k).0) refl) in
-          let there : is_got (unit k) l.address answer l.got ≡ true =
-          ap (is_got (unit k) l.address answer) (got t) ∙ (ap (λ a. is_word_of (k * size) (chosen k).0 a answer) (at t) ∙ word) in
-          or_right_true (not (is_load number l)) (is_got (unit k) l.address answer l.got) there
+          let word =
+          lane_word _ (chosen k).0 o.address answer (λ j. stands k j _ refl) in
+          let there =
+          ap (is_got (unit k) l.address answer) (got t) ∙ (cc (at t, word)) in
+          or_right_true _ _ there
     ]
 
     given_at : (k : ℕ) → is_lost k lost ≡ false → IsAtomicAt image rest (unit k) (more given)
@@ -515,10 +489,10 @@ module _ (lost : List ℕ) (image : List ℕ) (rest : Rest) (size : ℕ) (histor
         let m : UnitMemory = r.0 in
         let At : OpenLoad → Type 0 = λ l. is_load number l ≡ true → l.address ≡ o.address in
         let Got : OpenLoad → Type 0 = λ l. is_load number l ≡ true → l.got ≡ Some (chosen k).0 in
-        from_lets image rest history (unit k) number given (
+        from_lets image rest history _ number given (
           m,
           r.1,
-          each_weaker (λ l. At l × Got l) (λ l. lets (unit k) number answer l ≡ true) (λ l p. load_lets k l p.0 p.1) m.loads
+          each_weaker (λ l. At l × Got l) (λ l. lets (unit k) number answer l ≡ true) (λ l p. load_lets k l p.0 p.1) _
               (each_both At Got m.loads (addresses k m r.1) r.2),
         )
 
@@ -537,7 +511,7 @@ pub sets_law : (lost : List ℕ) (image : List ℕ) (rest : Rest) (size : ℕ) (
     → SetsAreOfAnswers lost image rest size history number
 sets_law lost image rest size history number law sets s i set get b small =
     let exact = s.exact i set get b small in
-    let inside : i < s.load.length = subst (λ n. i < n) s.length_ (slice_get_within sets i set get) in (
+    let inside = subst (λ n. i < n) s.length_ (slice_get_within sets i set get) in (
       λ t. may_answer lost image rest size history number law s.load s.open_ i b inside small (exact.0 t),
       λ h. exact.1 (answer_may lost image rest size history number law s.load s.open_ i b h),
     )
@@ -546,8 +520,8 @@ asked : (o : Option Operation) (a : ℕ) → asks o a ≡ true
     → (x : Operation) × (o ≡ Some x) × (x.address ≤ a) × (a < x.address + x.length)
 asked None a h = cc
 asked (Some x) a h =
-    let p = and_parts (nat_le x.address a) (nat_lt a (x.address + x.length)) h in
-    (x, refl, leb-true x.address a p.0, ltb-true a (x.address + x.length) p.1)
+    let p = and_parts _ _ h in
+    (x, refl, leb-true x.address a p.0, ltb-true a _ p.1)
 
 module _ (lost : List ℕ) (image : List ℕ) (rest : Rest) (size : ℕ) (history : List HistoryEvent) (number : ℕ)
     (law : IsOfLaw lost image rest size history) (a b : ℕ) where
@@ -561,28 +535,28 @@ module _ (lost : List ℕ) (image : List ℕ) (rest : Rest) (size : ℕ) (histor
       let inside : a - load.address < load.length =
       subst (λ n. a - load.address < n) long (slice_get_within answer.now (a - load.address) b p.1) in (
         subst (λ x. MayReturn lost image rest size history number x b) at
-            (answer_may lost image rest size history number law load found (a - load.address) b (answer, bytes, p.1, h)),
+            (answer_may lost image rest size history number law load found _ b (answer, bytes, p.1, h)),
         ap (λ x. asks x a) found
-            ∙ and_from (nat_le load.address a) (nat_lt a (load.address + load.length)) (le-leb load.address a p.0)
-            (lt-ltb a (load.address + load.length) (omega (arith, p.0, inside))),
+            ∙ and_from _ _ (le-leb load.address a p.0)
+            (lt-ltb a _ (omega (arith, p.0, inside))),
       )
 
   may_answer_for : asks (find (has_number number) (opened_by history).loads) a ≡ true → b < 256
       → MayReturn lost image rest size history number a b → HasAnswerFor lost image rest size history number a b
   may_answer_for t small may =
-      let x = asked (find (has_number number) (opened_by history).loads) a t in
+      let x = asked _ a t in
       let load : Operation = x.0 in
       let at : load.address + (a - load.address) ≡ a = omega (arith, x.2) in
       let inside : a - load.address < load.length = omega (arith, x.2, x.3) in
-      let r = may_answer lost image rest size history number law load x.1 (a - load.address) b inside small
-      (subst (λ y. MayReturn lost image rest size history number y b) (sym at) may) in
+      let r = may_answer lost image rest size history number law load x.1 _ b inside small
+      (rw (sym at) at may) in
       (load, x.1, (r.0, r.1, rw (le-leb load.address a x.2) r.2, r.3))
 
 pub set_law : (lost : List ℕ) (image : List ℕ) (rest : Rest) (size : ℕ) (history : List HistoryEvent) (number : ℕ)
     → SetIsOfAnswers lost image rest size history number
 set_law lost image rest size history number law a None none b small = (
   λ t. cc,
-  λ h. false_true (asks (find (has_number number) (opened_by history).loads) a) none
+  λ h. false_true _ none
       (answer_for_may lost image rest size history number law a b h).1,
 )
 set_law lost image rest size history number law a (Some set) p b small = (

@@ -1,7 +1,6 @@
 -- Steps towards what an open load may return: the sets of its bytes one after the other, and why there are none.
-use Rattle.std.proofs.Common.{◌≡◌, ℕ, zero, suc, ◌+◌, ◌-◌, ◌*◌, ◌/◌, ◌%◌, ◌<◌, nat_lt, List, [], ◌∷◌, ◌++◌, length}
-use Rattle.std.proofs.Common.{Option, None, refl, sym, ap, ◌∙◌, subst, arith, Some}
-use Rattle.std.proofs.lemmas.Nat.{div-add-mod'}
+use Rattle.std.proofs.Common.{◌≡◌, ℕ, zero, suc, ◌+◌, ◌-◌, ◌*◌, ◌/◌, ◌%◌, ◌<◌, List, [], ◌∷◌, ◌++◌, length}
+use Rattle.std.proofs.Common.{Option, None, refl, ◌∙◌, arith, Some}
 use Rattle.std.specs.List.{find}
 use Rattle.std.proofs.lemmas.Bool.{lt-ltb, or_right}
 use Rattle.memory_histories.specs.declared.sets.ByteSet.{ByteSet}
@@ -19,7 +18,6 @@ use Rattle.atomic_histories.specs.declared.memory.AtomicFault.{AtomicFault}
 use Rattle.atomic_histories.specs.declared.memory.AtomicFault.TheVariants.{Refused, Undecided, OutOfMemory}
 use Rattle.atomic_histories.specs.declared.search.Stop.{Stop}
 use Rattle.atomic_histories.specs.declared.search.Stop.TheVariants.{TooManyWays, NoMemory}
-use Rattle.atomic_histories.specs.declared.search.TheConstants.{MOST_WORDS}
 use Rattle.atomic_histories.specs.Followed.{Ways, first_ways, rounds, is_under}
 use Rattle.atomic_histories.specs.Held.{Held}
 use Rattle.atomic_histories.specs.Judge.{bytes_of, fault_of, kept_or}
@@ -51,9 +49,7 @@ pub unknown_set : (number k : ℕ) (ss : List Stretch) (ps : List FollowedPair) 
     → (length ps ≡ 0 → ⊥) → find (is_under number) loads ≡ None
     → IsSet (λ b. may_get number k b (record { loads = loads; moment = moment; pairs = shown_all ss ps })) no_bytes
 unknown_set number k ss [] loads moment h f = absurd (h refl)
-unknown_set number k ss (p ∷ ps) loads moment h f =
-    λ b l. has-no_bytes b ∙ ap (λ o. is_shown o k b (reached (record { loads = loads; moment = moment; pairs = shown_all ss (p ∷ ps) })))
-    (sym f)
+unknown_set number k ss (p ∷ ps) loads moment h f = grind (arith, has-no_bytes)
 
 -- those of a load that is
 pub known_set : (number k : ℕ) (ss : List Stretch) (ps : List FollowedPair) (loads : List WatchedLoad) (moment : ℕ) (load : WatchedLoad)
@@ -61,41 +57,32 @@ pub known_set : (number k : ℕ) (ss : List Stretch) (ps : List FollowedPair) (l
     → IsSet (λ b. is_shown (Some load) k b (reached (record { loads = loads; moment = moment; pairs = shown_all ss ps }))) set
     → IsSet (λ b. may_get number k b (record { loads = loads; moment = moment; pairs = shown_all ss ps })) set
 known_set number k ss [] loads moment load set h f s = absurd (h refl)
-known_set number k ss (p ∷ ps) loads moment load set h f s =
-    λ b l. s b l ∙ ap (λ o. is_shown o k b (reached (record { loads = loads; moment = moment; pairs = shown_all ss (p ∷ ps) }))) (sym f)
+known_set number k ss (p ∷ ps) loads moment load set h f s = grind arith
 
 -- the set of the next byte
 sets_pushed : (h : Held) (number a from n : ℕ) (sets : List ByteSet) (set : ByteSet) → AreSetsFrom h number a from n sets
     → IsSet (may_get_at h number (address_of a (from + n))) set → AreSetsFrom h number a from (suc n) (sets ++ set ∷ [])
-sets_pushed h number a from zero [] set r s =
-    let here : from + 0 ≡ from = omega arith in (subst (λ i. IsSet (may_get_at h number (address_of a i)) set) here s, tt)
+sets_pushed h number a from zero [] set r s = grind arith
 sets_pushed h number a from zero (x ∷ xs) set r s = absurd r
 sets_pushed h number a from (suc n) [] set r s = absurd r
 sets_pushed h number a from (suc n) (x ∷ xs) set r s =
     let next : from + suc n ≡ from + 1 + n = omega arith in
-    (r.0, sets_pushed h number a (from + 1) n xs set r.1 (subst (λ i. IsSet (may_get_at h number (address_of a i)) set) next s))
+    (r.0, sets_pushed h number a (from + 1) n xs set r.1 (rw next at s))
 
 pub one_set_more : (h : Held) (number a i : ℕ) (sets : List ByteSet) (set : ByteSet) → AreSetsFrom h number a 0 i sets
     → IsSet (may_get_at h number (address_of a i)) set → AreSetsFrom h number a 0 (i + 1) (sets ++ set ∷ [])
-one_set_more h number a i sets set r s =
-    let next : suc i ≡ i + 1 = omega arith in
-    let here : i ≡ 0 + i = omega arith in
-    subst (λ n. AreSetsFrom h number a 0 n (sets ++ set ∷ [])) next
-    (sets_pushed h number a 0 i sets set r (subst (λ n. IsSet (may_get_at h number (address_of a n)) set) here s))
+one_set_more h number a i sets set r s = grind (arith, sets_pushed)
 
 -- No verdict. ----
 
 unit_start : (a m : ℕ) → a - a % m ≡ a / m * m
-unit_start a m = minus (a / m * m) (a % m) a (div-add-mod' a m)
-  where
-    minus : (x y a : ℕ) → x + y ≡ a → a - y ≡ x
-    minus x y a e = omega arith
+unit_start a m = grind arith
 
 -- a search that was stopped at the unit in which a byte lies
 pub stopped_set : (limit : ℕ) (h : Held) (a : ℕ) (stop : Stop)
     → StopIs (is_reach_wide limit (h.words (a / h.size)) (h.units (a / h.size))) stop
     → IsNoVerdict (IsWideByte limit h a) (fault_of stop (a - a % h.size))
-stopped_set limit h a TooManyWays w = (unit_start a h.size, w)
+stopped_set limit h a TooManyWays w = grind arith
 stopped_set limit h a NoMemory w = tt
 
 pub no_set : (fault : AtomicFault) (limit : ℕ) (h : Held) (a n i : ℕ) → i < n
@@ -108,5 +95,5 @@ no_set OutOfMemory limit h a n i l f = tt
 pub reach_wide : (limit words : ℕ) (u : Ways) (stop : Stop) → StopIs (is_reach_over limit u.loads u.moment (rounds u.pairs) u.pairs) stop
     → StopIs (is_reach_wide limit words u) stop
 reach_wide limit words u TooManyWays w =
-    or_right (nat_lt MOST_WORDS words) (is_reach_over limit u.loads u.moment (rounds u.pairs) u.pairs) w
+    or_right _ _ w
 reach_wide limit words u NoMemory w = tt

@@ -1,6 +1,6 @@
 -- A pair is put to those that are followed, or its ways to those that have come there.
 use Rattle.std.proofs.Common.{◌≡◌, ℕ, zero, suc, ◌+◌, ◌<◌, ◌≤◌, Bool, true, false, List, [], ◌∷◌, ◌++◌, map, length, take, drop, get_or}
-use Rattle.std.proofs.Common.{set, Some, None, refl, sym, ap, ap₂, ◌∙◌, add-one, length-set, inl, inr, nat_lt, arith}
+use Rattle.std.proofs.Common.{set, Some, None, refl, ap, ap₂, ◌∙◌, add-one, length-set, inl, inr, nat_lt, arith}
 use Rattle.std.specs.List.{position, position_or_len}
 use Rattle.std.proofs.lemmas.Bool.{cases_Bool, lt-ltb, le-ltb, ltb-false}
 use Rattle.std.proofs.lemmas.List.Sums.{position_or_len_is, fails_before_first}
@@ -8,7 +8,7 @@ use Rattle.std.proofs.lemmas.List.Quantifiers.{position-Some}
 use Rattle.atomic_histories.specs.declared.stretches.Before.{Before}
 use Rattle.atomic_histories.specs.declared.stretches.Stretch.{Stretch}
 use Rattle.atomic_histories.specs.declared.pairs.FollowedPair.{FollowedPair}
-use Rattle.atomic_histories.specs.Pasts.{Past, merged}
+use Rattle.atomic_histories.specs.Pasts.{merged}
 use Rattle.atomic_histories.specs.Followed.{Pair, is_same_pair, merged_pair, with_pair}
 use Rattle.atomic_histories.specs.Shown.{past_at, pasts, shown, shown_all, IsIn, AreIn, Grows}
 use Rattle.atomic_histories.specs.Marks.{mark}
@@ -19,21 +19,19 @@ use Rattle.atomic_histories.proofs.Frames.{in_grown, are_in_grown, shown_grown, 
 
 pub found_at : {X : Type 0} (p : X → Bool) (xs : List X) (i : ℕ) (d : X) → i < length xs → ((k : ℕ) → k < i → p (get_or xs k d) ≡ false)
     → p (get_or xs i d) ≡ true → Some i ≡ position p xs
-found_at p xs i d h others here =
-    let at : position_or_len p xs ≡ i = position_or_len_is p xs i d (omega arith) others (λ l. here) in
-    rw (at, lt-ltb i (length xs) h) refl
+found_at p xs i d h others here = grind (arith, position_or_len_is, lt-ltb)
 
 pub found_nowhere : {X : Type 0} (p : X → Bool) (xs : List X) (d : X) → ((k : ℕ) → k < length xs → p (get_or xs k d) ≡ false)
     → None ≡ position p xs
 found_nowhere p xs d others =
-    let at : position_or_len p xs ≡ length xs = position_or_len_is p xs (length xs) d (omega arith) others (λ l. absurd (omega arith)) in
+    let at = position_or_len_is p xs _ d (omega arith) others (λ l. absurd (omega arith)) in
     rw (at, le-ltb (length xs) (length xs) (omega arith)) refl
 
 -- it is at none of the places
 nowhere : {X : Type 0} (p : X → Bool) (xs : List X) (d : X) → None ≡ position p xs → (k : ℕ) → k < length xs → p (get_or xs k d) ≡ false
 nowhere p xs d e k h = elim (cases_Bool (nat_lt (position_or_len p xs) (length xs))) [
   | inl t ↦
-      let x : position p xs ≡ Some (position_or_len p xs) = rw t refl in
+      let x : position p xs ≡ Some _ = rw t refl in
       let y : None ≡ Some (position_or_len p xs) = e ∙ x in
       cc
   | inr l ↦ fails_before_first p xs k d (omega (arith, ltb-false (position_or_len p xs) (length xs) l, h))
@@ -53,19 +51,18 @@ put_at : (ss : List Stretch) (p : FollowedPair) (ps : List FollowedPair) (i : �
 put_at ss p [] i h others here = absurd (omega arith)
 put_at ss p (f ∷ fs) zero h others here = rw here refl
 put_at ss p (f ∷ fs) (suc i) h others here =
-    let other : is_this ss p f ≡ false = others 0 (omega arith) in
+    let other = others 0 (omega arith) in
     rw other (ap (λ es. shown ss f ∷ es) (put_at ss p fs i (omega arith) (λ k l. others (suc k) (omega arith)) here))
 
 pub merged_there : (ss : List Stretch) (p : FollowedPair) (ps xs : List FollowedPair) (i : ℕ) → xs ≡ ps
     → Some i ≡ position (is_this ss p) xs
     → with_pair (shown_all ss ps) (shown ss p)
     ≡ take i (shown_all ss ps) ++ merged_pair (get_or (shown_all ss ps) i (shown ss p)) (shown ss p) ∷ drop (i + 1) (shown_all ss ps)
-merged_there ss p ps xs i are e =
-    let r = position-Some (is_this ss p) ps i p (sym (e ∙ ap (position (is_this ss p)) are)) in rw add-one (put_at ss p ps i r.0 r.2 r.1)
+merged_there ss p ps xs i are e = grind (arith, position-Some, add-one, put_at)
 
 pub is_inside : (ss : List Stretch) (p : FollowedPair) (ps xs : List FollowedPair) (i : ℕ) → xs ≡ ps → Some i ≡ position (is_this ss p) xs
     → i < length ps
-is_inside ss p ps xs i are e = (position-Some (is_this ss p) ps i p (sym (e ∙ ap (position (is_this ss p)) are))).0
+is_inside ss p ps xs i are e = grind arith
 
 -- it is none of them
 put_last : (ss : List Stretch) (p : FollowedPair) (ps : List FollowedPair)
@@ -73,23 +70,20 @@ put_last : (ss : List Stretch) (p : FollowedPair) (ps : List FollowedPair)
     → with_pair (shown_all ss ps) (shown ss p) ≡ shown_all ss (ps ++ p ∷ [])
 put_last ss p [] others = refl
 put_last ss p (f ∷ fs) others =
-    let other : is_this ss p f ≡ false = others 0 (omega arith) in
+    let other = others 0 (omega arith) in
     rw other (ap (λ es. shown ss f ∷ es) (put_last ss p fs (λ k l. others (suc k) (omega arith))))
 
 pub put_behind : (ss : List Stretch) (p : FollowedPair) (ps xs next : List FollowedPair) → xs ≡ ps
     → None ≡ position (is_this ss p) xs → next ≡ ps ++ p ∷ []
     → shown_all ss next ≡ with_pair (shown_all ss ps) (shown ss p)
-put_behind ss p ps xs next are e n =
-    ap (shown_all ss) n ∙ sym (put_last ss p ps (nowhere (is_this ss p) ps p (e ∙ ap (position (is_this ss p)) are)))
+put_behind ss p ps xs next are e n = grind (arith, put_last, nowhere)
 
 -- The ways to the pair at a place, and others. ----
 
 merged_shown : (ss ts : List Stretch) (f g : FollowedPair) (b past : Before) (e : Pair) → f ≡ g
     → past_at (pasts ts) b ≡ merged (past_at (pasts ss) f.past) (past_at (pasts ss) past) → e.past ≡ past_at (pasts ss) past
     → shown ts (record { word = g.word; stores = g.stores; past = b }) ≡ merged_pair (shown ss g) e
-merged_shown ss ts f g b past e same m is =
-    let to : Past → Pair = λ p. record { word = g.word; stores = g.stores.items; past = p } in
-    ap to (m ∙ ap₂ (λ x y. merged (past_at (pasts ss) x.past) y) same (sym is))
+merged_shown ss ts f g b past e same m is = grind arith
 
 merged_one : (ss ts : List Stretch) → Grows ss ts → (ps : List FollowedPair) → AreIn ss ps → (i : ℕ) (g q : FollowedPair) (e : Pair)
     → i < length ps → g ≡ get_or ps i g → shown ts q ≡ merged_pair (shown ss g) e
@@ -97,7 +91,7 @@ merged_one : (ss ts : List Stretch) → Grows ss ts → (ps : List FollowedPair)
     ≡ take i (shown_all ss ps) ++ merged_pair (get_or (shown_all ss ps) i e) e ∷ drop (suc i) (shown_all ss ps)
 merged_one ss ts grown [] a i g q e h is m = absurd (omega arith)
 merged_one ss ts grown (p ∷ ps) a zero g q e h is m =
-    ap₂ (λ x xs. x ∷ xs) (m ∙ ap (λ x. merged_pair (shown ss x) e) is) (shown_grown ss ts grown ps a.1)
+    ap₂ (λ x xs. x ∷ xs) (cc (m, is)) (shown_grown ss ts grown ps a.1)
 merged_one ss ts grown (p ∷ ps) a (suc i) g q e h is m =
     ap₂ (λ x xs. x ∷ xs) (pair_grown ss ts grown p a.0) (merged_one ss ts grown ps a.1 i g q e (omega arith) is m)
 
@@ -106,10 +100,7 @@ pub merged_at : (ss ts : List Stretch) → Grows ss ts → (ps : List FollowedPa
     → past_at (pasts ts) b ≡ merged (past_at (pasts ss) f.past) (past_at (pasts ss) past) → e.past ≡ past_at (pasts ss) past
     → shown_all ts (set ps i (record { word = g.word; stores = g.stores; past = b }))
     ≡ take i (shown_all ss ps) ++ merged_pair (get_or (shown_all ss ps) i e) e ∷ drop (i + 1) (shown_all ss ps)
-merged_at ss ts grown ps a i f g b past e h fis gis m is =
-    let same : f ≡ g = fis ∙ (same_default ps i f g h ∙ sym gis) in
-    rw add-one (merged_one ss ts grown ps a i g (record { word = g.word; stores = g.stores; past = b }) e h gis
-    (merged_shown ss ts f g b past e same m is))
+merged_at ss ts grown ps a i f g b past e h fis gis m is = grind (arith, same_default, add-one, merged_one, merged_shown)
 
 pub merged_in : (ss ts : List Stretch) → Grows ss ts → (ps : List FollowedPair) → AreIn ss ps → (i : ℕ) (q : FollowedPair) → IsIn ts q.past
     → AreIn ts (set ps i q)
@@ -128,6 +119,4 @@ pub still_followed : (ms : List ℕ) (most : ℕ) (ps : List FollowedPair) (i : 
     → g ≡ get_or ps i g → (most ≤ length ps → ms ≡ map mark ps)
     → most ≤ length (set ps i (record { word = g.word; stores = g.stores; past = b }))
     → ms ≡ map mark (set ps i (record { word = g.word; stores = g.stores; past = b }))
-still_followed ms most ps i g b h is f m =
-    let q : FollowedPair = record { word = g.word; stores = g.stores; past = b } in
-    f (omega (arith, length-set ps i q, m)) ∙ sym (merged_marks ps i g q h is refl)
+still_followed ms most ps i g b h is f m = grind (arith, length-set, merged_marks)

@@ -1,6 +1,6 @@
 -- Where stretches went.
-use Rattle.std.proofs.Common.{◌≡◌, ℕ, zero, suc, ◌+◌, ◌<◌, ◌≤◌, Bool, true, if◌then◌else◌, nat_lt, List, [], ◌∷◌, ◌++◌, length, get_or}
-use Rattle.std.proofs.Common.{take, drop, length-append, refl, subst, sym, ap, ap₂, ◌∙◌, add-one, take-suc, arith, inl, inr}
+use Rattle.std.proofs.Common.{◌≡◌, ℕ, zero, suc, ◌+◌, ◌<◌, ◌≤◌, Bool, true, List, [], ◌∷◌, ◌++◌, length, get_or}
+use Rattle.std.proofs.Common.{take, drop, length-append, refl, subst, sym, ap, ◌∙◌, add-one, take-suc, arith, inl, inr}
 use Rattle.std.proofs.lemmas.List.{get_or_append_left, get_or_past}
 use Rattle.std.proofs.lemmas.Bool.{cases_order, cases_lt}
 use Rattle.std.proofs.Math.Seq.{take-length, take-append_seam}
@@ -10,7 +10,7 @@ use Rattle.atomic_histories.specs.declared.stretches.Stretch.{Stretch}
 use Rattle.atomic_histories.specs.declared.stretches.Stretch.TheVariants.{Overwritten, Either}
 use Rattle.atomic_histories.specs.declared.pairs.FollowedPair.{FollowedPair}
 use Rattle.atomic_histories.specs.declared.moves.Moved.{Moved}
-use Rattle.atomic_histories.specs.Pasts.{Past, begins, after, either, merged, cut}
+use Rattle.atomic_histories.specs.Pasts.{Past, begins, cut}
 use Rattle.atomic_histories.specs.Stands.{Each}
 use Rattle.atomic_histories.specs.Shown.{past_at, past_of, pasts, IsIn, Grows}
 use Rattle.atomic_histories.specs.Shares.{moved_in, moved_to, moved_stretch, cut_of, AreMoved, is_used, IsUsedBelow, RefersToUsed, StayUsed}
@@ -29,15 +29,15 @@ same_more : (used : Before → Bool) (to : Past → Past) (place : ℕ) (ps : Li
     → (b : Before) → used b ≡ true → past_at (pasts ts) (moved_in (m.places.items ++ r ∷ []) b) ≡ to (past_at (ps ++ past ∷ []) b)
 same_more used to place ps past m ts r bare long placed same is_in g here Nothing u = sym bare
 same_more used to place ps past m ts r bare long placed same is_in g here (Behind k) u = elim (cases_order k place) [
-  | inl e ↦ rw (at_push m.places.items r Nothing k (e ∙ sym placed), at_push ps past begins k (e ∙ sym long))
-      (here (subst (λ x. used (Behind x) ≡ true) e u))
+  | inl e ↦ rw (at_push _ r Nothing k (e ∙ sym placed), at_push ps past begins k (e ∙ sym long))
+      (here (rw e at u))
   | inr o ↦ elim o [
     | inl b ↦ rw (
-      get_or_append_left m.places.items (r ∷ []) Nothing k (omega (arith, b, placed)),
-      get_or_append_left ps (past ∷ []) begins k
+      get_or_append_left m.places.items _ Nothing k (omega (arith, b, placed)),
+      get_or_append_left ps _ begins k
           (omega (arith, b, long)),
     )
-        (past_grown m.stretches.items ts g (moved_to m (Behind k)) (is_in (Behind k)) ∙ same (Behind k) u)
+        (past_grown _ ts g _ (is_in (Behind k)) ∙ same _ u)
     | inr a ↦ rw (past_push m.places.items r Nothing k (omega (arith, a, placed)), past_push ps past begins k (omega (arith, a, long)))
         (sym bare)
   ]
@@ -48,9 +48,9 @@ in_more : (place : ℕ) (m : Moved) (ts : List Stretch) (r : Before) → length 
     → (b : Before) → IsIn ts (moved_in (m.places.items ++ r ∷ []) b)
 in_more place m ts r placed is_in g i Nothing = tt
 in_more place m ts r placed is_in g i (Behind k) = elim (cases_order k place) [
-  | inl e ↦ rw (at_push m.places.items r Nothing k (e ∙ sym placed)) i
+  | inl e ↦ rw (at_push _ r Nothing k (e ∙ sym placed)) i
   | inr o ↦ elim o [
-    | inl b ↦ rw (get_or_append_left m.places.items (r ∷ []) Nothing k (omega (arith, b, placed)))
+    | inl b ↦ rw (get_or_append_left m.places.items _ Nothing k (omega (arith, b, placed)))
         (in_grown m.stretches.items ts g (moved_to m (Behind k)) (is_in (Behind k)))
     | inr a ↦ rw (past_push m.places.items r Nothing k (omega (arith, a, placed))) tt
   ]
@@ -66,30 +66,28 @@ moved_more used to place ss s m n r p e bare h g new i here =
     let past = past_of ps s in
     let more = pasts_take ss place s p e in
     let long = pasts_length ss place (omega (arith, p)) in
-    let same : (b : Before) → used b ≡ true
-    → past_at (pasts n.stretches.items) (moved_in (m.places.items ++ r ∷ []) b) ≡ to (past_at (ps ++ past ∷ []) b) =
+    let same =
     same_more used to place ps past m n.stretches.items r bare long h.places h.same h.is_in g here in
-    let in_all : (b : Before) → IsIn n.stretches.items (moved_in (m.places.items ++ r ∷ []) b) =
+    let in_all =
     in_more place m n.stretches.items r h.places h.is_in g i in
     record {
-      same = λ b u. rw (more, new) (same b u);
+      same = grind arith;
       is_in = λ b. rw new (in_all b);
-      places = ap length new ∙ length-append m.places.items (r ∷ []) ∙ ap (λ k. k + 1) h.places;
+      places = ap length new ∙ length-append _ _ ∙ ap (λ k. k + 1) h.places;
     }
 
 -- all of them
 pub moved_all : (used : Before → Bool) (to : Past → Past) (place : ℕ) (ss : List Stretch) (m : Moved) → place ≡ length ss
     → AreMoved used to place ss m → (b : Before) → used b ≡ true
     → past_at (pasts m.stretches.items) (moved_to m b) ≡ to (past_at (pasts ss) b)
-moved_all used to place ss m p h b u = h.same b u ∙ ap (λ xs. to (past_at (pasts xs) b)) (ap (λ k. take k ss) p ∙ take-length ss)
+moved_all used to place ss m p h b u = grind (arith, h.same, take-length)
 
 -- What was overwritten before a moment is cut. ----
 
 pub cut_law : (since place : ℕ) (ss : List Stretch) (s : Stretch) (m : Moved) → AreMoved (λ b. true) (cut since) place ss m
     → cut_of since (λ b. past_at (pasts m.stretches.items) (moved_to m b)) s ≡ cut since (past_of (pasts (take place ss)) s)
-cut_law since place ss (Overwritten word moment b) m h =
-    ap (λ q. if nat_lt moment since then q else after word moment q) (h.same b refl)
-cut_law since place ss (Either one other) m h = ap₂ merged (h.same one refl) (h.same other refl)
+cut_law since place ss (Overwritten word moment b) m h = grind arith
+cut_law since place ss (Either one other) m h = grind arith
 
 -- Stretches that are used are kept. ----
 
@@ -110,9 +108,8 @@ same_below used place ss m p h (Behind k) u = elim (cases_lt k place) [
 pub kept_law : (used : List Bool) (place : ℕ) (ss : List Stretch) (s : Stretch) (m : Moved) → place ≤ length ss
     → AreMoved (is_used used) (λ p. p) place ss m → RefersToUsed used place s
     → past_of (pasts m.stretches.items) (moved_stretch m s) ≡ past_of (pasts (take place ss)) s
-kept_law used place ss (Overwritten word moment b) m p h u = ap (after word moment) (same_below used place ss m p h b u)
-kept_law used place ss (Either one other) m p h u =
-    ap₂ either (same_below used place ss m p h one u.0) (same_below used place ss m p h other u.1)
+kept_law used place ss (Overwritten word moment b) m p h u = grind (arith, same_below)
+kept_law used place ss (Either one other) m p h u = grind (arith, same_below)
 
 -- Which are used. ----
 
@@ -134,14 +131,13 @@ same_at (x ∷ xs) (suc k) d e h = same_at xs k d e (omega (arith, h))
 
 pub pairs_stay : (old new : List Bool) (ps : List FollowedPair) → StayUsed old new → Each (λ p. is_used old p.past ≡ true) ps
     → Each (λ p. is_used new p.past ≡ true) ps
-pairs_stay old new ps stay h =
-    each_weaker (λ p. is_used old p.past ≡ true) (λ p. is_used new p.past ≡ true) (λ p u. stays_used old new p.past stay u) ps h
+pairs_stay old new ps stay h = grind (arith, each_weaker, stays_used)
 
 -- what a slice of a list was written to stands in the list
 pub used_written : (new old : List Bool) (end : ℕ) (ps : List FollowedPair) → length new ≡ end → Each (λ p. is_used new p.past ≡ true) ps
     → Each (λ p. is_used (take end (new ++ drop (length new) old)) p.past ≡ true) ps
 used_written new old end ps l h =
-    let whole : take end (new ++ drop (length new) old) ≡ new = rw (← l) (take-append_seam new (drop (length new) old)) in
+    let whole : take end _ ≡ new = rw (← l) (take-append_seam new (drop (length new) old)) in
     subst (λ used. Each (λ p. is_used used p.past ≡ true) ps) (sym whole) h
 
 -- one pair more
@@ -149,8 +145,8 @@ pub pairs_more : (old new : List Bool) (ps : List FollowedPair) (p : FollowedPai
     → length new ≡ end → StayUsed old new → IsUsedBelow new end p.past
     → Each (λ q. is_used old q.past ≡ true) (take i ps) → Each (λ q. is_used new q.past ≡ true) (take (i + 1) ps)
 pairs_more old new ps p i end l e long stay here h =
-    let more : take (i + 1) ps ≡ take i ps ++ p ∷ [] = rw add-one (take-suc ps i p l ∙ ap (λ x. take i ps ++ x ∷ []) (sym e)) in
-    rw more (each_append (λ q. is_used new q.past ≡ true) (take i ps) (p ∷ []) (pairs_stay old new (take i ps) stay h)
+    let more : take (i + 1) ps ≡ take i ps ++ p ∷ [] = rw add-one (cc (take-suc ps i p l, e)) in
+    rw more (each_append (λ q. is_used new q.past ≡ true) _ _ (pairs_stay old new (take i ps) stay h)
     (below_used new end p.past long here, tt))
 
 -- the pasts of pairs are where their references went
@@ -158,6 +154,4 @@ pub pairs_moved : (used : List Bool) (ss : List Stretch) (m : Moved) (ps : List 
     → ((b : Before) → is_used used b ≡ true → past_at (pasts m.stretches.items) (moved_to m b) ≡ past_at (pasts ss) b)
     → Each (λ p. is_used used p.past ≡ true) ps
     → Each (λ p. past_at (pasts m.stretches.items) (moved_to m p.past) ≡ past_at (pasts ss) p.past) ps
-pairs_moved used ss m ps same h =
-    each_weaker (λ p. is_used used p.past ≡ true) (λ p. past_at (pasts m.stretches.items) (moved_to m p.past) ≡ past_at (pasts ss) p.past)
-    (λ p u. same p.past u) ps h
+pairs_moved used ss m ps same h = grind (arith, each_weaker)

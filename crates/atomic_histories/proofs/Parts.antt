@@ -1,8 +1,7 @@
 -- The pairs on whose ways a load may have got its answer, and the others: what is gathered of them one by one.
 use Rattle.std.proofs.Common.{◌≡◌, ℕ, zero, suc, ◌+◌, ◌<◌, Result, Ok, Err, IfOk, IfErr, IsErrAnd, Bool, true, false, List, [], ◌∷◌, ◌++◌}
 use Rattle.std.proofs.Common.{filter, length, drop, get_or, Option, Some, None, refl, sym, ap, ◌∙◌, subst, append_assoc, add-one, drop-cons}
-use Rattle.std.proofs.Common.{inl, inr, arith}
-use Rattle.std.proofs.lemmas.Bool.{cases_Bool}
+use Rattle.std.proofs.Common.{arith}
 use Rattle.atomic_histories.specs.declared.unit.UnitPlace.{UnitPlace}
 use Rattle.atomic_histories.specs.declared.unit.WatchedLoad.{WatchedLoad}
 use Rattle.atomic_histories.specs.declared.stretches.Before.{Before}
@@ -33,30 +32,21 @@ pub part_more : (gather : List Pair → List Pair) (part : Pair → List Pair)
     → p ≡ get_or ps i p → more ≡ es ++ added → added ≡ part (shown ss p) → es ++ gather (shown_all ss (drop i ps)) ≡ whole
     → more ++ gather (shown_all ss (drop (i + 1) ps)) ≡ whole
 part_more gather part step ss ps i p es added more whole h is e a inv =
-    let rest : List Pair = gather (shown_all ss (drop (i + 1) ps)) in
-    let left : gather (shown_all ss (drop i ps)) ≡ part (shown ss p) ++ rest =
-    ap (λ qs. gather (shown_all ss qs)) (parts_left) ∙ step (shown ss p) (shown_all ss (drop (i + 1) ps)) in
+    let rest = gather _ in
+    let left =
+    ap (λ qs. gather (shown_all ss qs)) (parts_left) ∙ step _ _ in
     ap (λ xs. xs ++ rest) e ∙ (append_assoc es added rest
-    ∙ (ap (λ xs. es ++ (xs ++ rest)) a ∙ (ap (λ xs. es ++ xs) (sym left) ∙ inv)))
+    ∙ (cc (a, (ap (λ xs. es ++ xs) (sym left) ∙ inv))))
   where
     parts_left : drop i ps ≡ p ∷ drop (i + 1) ps
     parts_left = rw (add-one, drop-cons ps i p h, ← is) refl
 
 pub got_step : (f : Pair → Option Pair) (e : Pair) (es : List Pair) → gathered f (e ∷ es) ≡ cons_any (f e) [] ++ gathered f es
-got_step f e es = front (f e)
-  where
-    front : (x : Option Pair) → cons_any x (gathered f es) ≡ cons_any x [] ++ gathered f es
-    front None = refl
-    front (Some y) = refl
+got_step f e es = grind arith
 
 pub missed_step : (aim : Aim) (f : Pair → Option Pair) (e : Pair) (es : List Pair)
     → with_hope aim (gathered f (e ∷ es)) ≡ filter aim.hope (cons_any (f e) []) ++ with_hope aim (gathered f es)
-missed_step aim f e es = front (f e)
-  where
-    front : (x : Option Pair)
-        → filter aim.hope (cons_any x (gathered f es)) ≡ filter aim.hope (cons_any x []) ++ filter aim.hope (gathered f es)
-    front None = refl
-    front (Some y) = elim (cases_Bool (aim.hope y)) [ inl t ↦ rw t refl | inr n ↦ rw n refl ]
+missed_step aim f e es = grind arith
 
 -- One pair. ----
 
@@ -82,22 +72,12 @@ pub missed_part : (unit : UnitPlace) (bytes : List ℕ) (l : WatchedLoad) (ss : 
     → may_come unit l.address bytes p.word p.stores.items ≡ true
     → cons_any (pair_on (shown ss p) (past_any (pasts ss) r)) []
     ≡ filter (word_aim unit l.address bytes).hope (cons_any (pair_missed unit bytes l (shown ss p)) [])
-missed_part unit bytes l ss s p r is e n t =
-    let hope : Pair → Bool = (word_aim unit l.address bytes).hope in
-    let pair : Pair = shown ss p in
-    ap (λ x. cons_any (pair_on pair (past_any (pasts ss) x)) []) e
-    ∙ (ap (λ x. cons_any (pair_on pair x) []) is.missed.shows
-    ∙ (hoped hope pair (missed (is_answer unit l.address l.since bytes) pair.past) (λ x. t)
-    ∙ ap (λ x. filter hope (cons_any x [])) (sym (not_got unit bytes l pair n))))
+missed_part unit bytes l ss s p r is e n t = grind arith
 
 pub lost_part : (unit : UnitPlace) (bytes : List ℕ) (l : WatchedLoad) (ss : List Stretch) (p : FollowedPair)
     → is_word_of unit.first p.word l.address bytes ≡ false → may_come unit l.address bytes p.word p.stores.items ≡ false
     → [] ≡ filter (word_aim unit l.address bytes).hope (cons_any (pair_missed unit bytes l (shown ss p)) [])
-lost_part unit bytes l ss p n t =
-    let hope : Pair → Bool = (word_aim unit l.address bytes).hope in
-    let pair : Pair = shown ss p in
-    unhoped hope pair (missed (is_answer unit l.address l.since bytes) pair.past) (λ x. t)
-    ∙ ap (λ x. filter hope (cons_any x [])) (sym (not_got unit bytes l pair n))
+lost_part unit bytes l ss p n t = grind arith
 
 -- All pairs. ----
 
@@ -123,18 +103,12 @@ are_parts unit bytes l ss ts s g a b (p ∷ ps) h = (here, are_parts unit bytes 
 pub found_same : {A E : Type 0} (r : Result A E) (shows : A → List Pair) (ks ls : List WatchedLoad) (moment : ℕ) (aim : Aim)
     (as_ bs cs ds : List Pair)
     → ks ≡ ls → as_ ≡ bs → cs ≡ ds → IfOk r (λ x. shows x ≡ found ks moment aim as_ cs) → IfOk r (λ x. shows x ≡ found ls moment aim bs ds)
-found_same r shows ks ls moment aim as_ bs cs ds e f g h =
-    subst (λ xs. IfOk r (λ x. shows x ≡ found xs moment aim bs ds)) e
-    (subst (λ xs. IfOk r (λ x. shows x ≡ found ks moment aim xs ds)) f
-    (subst (λ xs. IfOk r (λ x. shows x ≡ found ks moment aim as_ xs)) g h))
+found_same r shows ks ls moment aim as_ bs cs ds e f g h = grind arith
 
 pub stop_same : {A : Type 0} (r : Result A Stop) (limit : ℕ) (ks ls : List WatchedLoad) (moment : ℕ) (aim : Aim) (as_ bs cs ds : List Pair)
     → ks ≡ ls → as_ ≡ bs → cs ≡ ds → IfErr r (StopIs (needs_more limit ks moment aim as_ cs))
     → IfErr r (StopIs (needs_more limit ls moment aim bs ds))
-stop_same r limit ks ls moment aim as_ bs cs ds e f g h =
-    subst (λ xs. IfErr r (StopIs (needs_more limit xs moment aim bs ds))) e
-    (subst (λ xs. IfErr r (StopIs (needs_more limit ks moment aim xs ds))) f
-    (subst (λ xs. IfErr r (StopIs (needs_more limit ks moment aim as_ xs))) g h))
+stop_same r limit ks ls moment aim as_ bs cs ds e f g h = grind arith
 
 -- what is said of an error that is passed on
 pub pass_on : {A E : Type 0} (r : Result A E) (e : E) (P : E → Type 0) → IsErrAnd r (λ f. f ≡ e) → P e → IfErr r P

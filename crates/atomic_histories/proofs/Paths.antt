@@ -1,8 +1,8 @@
 -- What stood there on the ways of a past.
-use Rattle.std.proofs.Common.{◌≡◌, ℕ, ◌+◌, ◌<◌, ◌≤◌, ◌⊎◌, Bool, true, false, ◌||◌, not, nat_lt, nat_le, min, List, [], ◌∷◌, map, filter}
+use Rattle.std.proofs.Common.{◌≡◌, ℕ, ◌+◌, ◌<◌, ◌≤◌, ◌⊎◌, Bool, true, false, not, nat_lt, nat_le, List, [], ◌∷◌, map, filter}
 use Rattle.std.proofs.Common.{fold, Option, Some, None, inl, inr, refl, sym, ap, ◌∙◌, subst, arith}
 use Rattle.std.specs.List.{list_any}
-use Rattle.std.proofs.lemmas.Bool.{cases_Bool, cases_lt, lt-ltb, le-ltb, le-leb, lt-leb}
+use Rattle.std.proofs.lemmas.Bool.{cases_Bool, cases_lt, lt-ltb, le-ltb, lt-leb}
 use Rattle.atomic_histories.specs.declared.unit.WatchedLoad.{WatchedLoad}
 use Rattle.atomic_histories.specs.Pasts.{Past, begins, after, either, Stood, stood, Has, IsBy, merged, merged_any, after_any, got, missed}
 use Rattle.atomic_histories.specs.Pasts.{cut, earlier, oldest, overwritten, seen_since}
@@ -67,28 +67,28 @@ after_of_any w t (Some p) path h = h
 -- Those on which something stood there, and those on which it never did. ----
 
 pub got_has : (is : Stood → Bool) (p : Past) (path : List Stood) → Has p path → list_any is path ≡ true → HasAny (got is p) path
-got_has is begins path h t = let x : false ≡ true = ap (list_any is) (sym h) ∙ t in cc
+got_has is begins path h t = let x = ap (list_any is) (sym h) ∙ t in cc
 got_has is (after w s p) path h t = elim (cases_Bool (is (stood w s))) [
   | inl y ↦ rw y h
   | inr n ↦
-      let r : (is (stood w s) || list_any is h.0) ≡ true = ap (list_any is) (sym h.1) ∙ t in
+      let r = ap (list_any is) (sym h.1) ∙ t in
       rw n (any_after w s (got is p) path h.0 h.1 (got_has is p h.0 h.2 (rw n at r)))
 ]
-got_has is (either p q) path (inl h) t = any_merged (got is p) (got is q) path (inl (got_has is p path h t))
-got_has is (either p q) path (inr h) t = any_merged (got is p) (got is q) path (inr (got_has is q path h t))
+got_has is (either p q) path (inl h) t = any_merged _ _ path (inl (got_has is p path h t))
+got_has is (either p q) path (inr h) t = any_merged _ _ path (inr (got_has is q path h t))
 
 pub has_got : (is : Stood → Bool) (p : Past) (path : List Stood) → HasAny (got is p) path → Has p path × (list_any is path ≡ true)
 has_got is begins path h = absurd h
 has_got is (after w s p) path h = elim (cases_Bool (is (stood w s))) [
   | inl y ↦
-      let r : Has (after w s p) path = rw y at h in
+      let r = rw y at h in
       (r, ap (list_any is) r.1 ∙ rw y refl)
   | inr n ↦
-      let r = after_of_any w s (got is p) path (rw n at h) in
+      let r = after_of_any w s _ path (rw n at h) in
       let b = has_got is p r.0 r.2 in
       ((r.0, r.1, b.0), ap (list_any is) r.1 ∙ rw n b.1)
 ]
-has_got is (either p q) path h = elim (merged_of_any (got is p) (got is q) path h) [
+has_got is (either p q) path h = elim (merged_of_any _ _ path h) [
   | inl a ↦ let r = has_got is p path a in (inl r.0, r.1)
   | inr a ↦ let r = has_got is q path a in (inr r.0, r.1)
 ]
@@ -96,24 +96,24 @@ has_got is (either p q) path h = elim (merged_of_any (got is p) (got is q) path 
 pub missed_has : (is : Stood → Bool) (p : Past) (path : List Stood) → Has p path → list_any is path ≡ false → HasAny (missed is p) path
 missed_has is begins path h t = h
 missed_has is (after w s p) path h t =
-    let r : (is (stood w s) || list_any is h.0) ≡ false = ap (list_any is) (sym h.1) ∙ t in
+    let r = ap (list_any is) (sym h.1) ∙ t in
     elim (cases_Bool (is (stood w s))) [
-      | inl y ↦ let x : true ≡ false = rw y at r in cc
+      | inl y ↦ let x = rw y at r in cc
       | inr n ↦ rw n (any_after w s (missed is p) path h.0 h.1 (missed_has is p h.0 h.2 (rw n at r)))
     ]
-missed_has is (either p q) path (inl h) t = any_merged (missed is p) (missed is q) path (inl (missed_has is p path h t))
-missed_has is (either p q) path (inr h) t = any_merged (missed is p) (missed is q) path (inr (missed_has is q path h t))
+missed_has is (either p q) path (inl h) t = any_merged _ _ path (inl (missed_has is p path h t))
+missed_has is (either p q) path (inr h) t = any_merged _ _ path (inr (missed_has is q path h t))
 
 pub has_missed : (is : Stood → Bool) (p : Past) (path : List Stood) → HasAny (missed is p) path → Has p path × (list_any is path ≡ false)
 has_missed is begins path h = (h, ap (list_any is) h)
 has_missed is (after w s p) path h = elim (cases_Bool (is (stood w s))) [
   | inl y ↦ absurd (rw y at h)
   | inr n ↦
-      let r = after_of_any w s (missed is p) path (rw n at h) in
+      let r = after_of_any w s _ path (rw n at h) in
       let b = has_missed is p r.0 r.2 in
       ((r.0, r.1, b.0), ap (list_any is) r.1 ∙ rw n b.1)
 ]
-has_missed is (either p q) path h = elim (merged_of_any (missed is p) (missed is q) path h) [
+has_missed is (either p q) path h = elim (merged_of_any _ _ path h) [
   | inl a ↦ let r = has_missed is p path a in (inl r.0, r.1)
   | inr a ↦ let r = has_missed is q path a in (inr r.0, r.1)
 ]
@@ -126,25 +126,25 @@ cut_path since path = filter (λ s. not (nat_lt s.moment since)) path
 pub cut_has : (since : ℕ) (p : Past) (path : List Stood) → Has p path → Has (cut since p) (cut_path since path)
 cut_has since begins path h = ap (cut_path since) h
 cut_has since (after w t p) path h =
-    let whole : cut_path since path ≡ cut_path since (stood w t ∷ h.0) = ap (cut_path since) h.1 in
+    let whole = ap (cut_path since) h.1 in
     elim (cases_Bool (nat_lt t since)) [
       | inl y ↦ rw y (subst (Has (cut since p)) (sym (whole ∙ rw y refl)) (cut_has since p h.0 h.2))
       | inr n ↦ rw n (cut_path since h.0, whole ∙ rw n refl, cut_has since p h.0 h.2)
     ]
-cut_has since (either p q) path (inl h) = merged_has (cut since p) (cut since q) (cut_path since path) (inl (cut_has since p path h))
-cut_has since (either p q) path (inr h) = merged_has (cut since p) (cut since q) (cut_path since path) (inr (cut_has since q path h))
+cut_has since (either p q) path (inl h) = merged_has _ _ _ (inl (cut_has since p path h))
+cut_has since (either p q) path (inr h) = merged_has _ _ _ (inr (cut_has since q path h))
 
 pub has_cut : (since : ℕ) (p : Past) (path : List Stood) → Has (cut since p) path
     → (whole : List Stood) × Has p whole × (path ≡ cut_path since whole)
 has_cut since begins path h = ([], refl, h)
-has_cut since (after w t p) path h = elim (cases_Bool (nat_lt t since)) [
+has_cut since (after w t p) path h = elim (cases_Bool _) [
   | inl y ↦
       let r = has_cut since p path (rw y at h) in
       (stood w t ∷ r.0, (r.0, refl, r.1), r.2 ∙ sym (short r.0 y))
   | inr n ↦
-      let a : Has (after w t (cut since p)) path = rw n at h in
+      let a = rw n at h in
       let r = has_cut since p a.0 a.2 in
-      (stood w t ∷ r.0, (r.0, refl, r.1), a.1 ∙ (ap (λ x. stood w t ∷ x) r.2 ∙ sym (long r.0 n)))
+      (stood w t ∷ r.0, (r.0, refl, r.1), a.1 ∙ (cc (r.2, long r.0 n)))
 ]
   where
     short : (rest : List Stood) → nat_lt t since ≡ true → cut_path since (stood w t ∷ rest) ≡ cut_path since rest
@@ -152,7 +152,7 @@ has_cut since (after w t p) path h = elim (cases_Bool (nat_lt t since)) [
 
     long : (rest : List Stood) → nat_lt t since ≡ false → cut_path since (stood w t ∷ rest) ≡ stood w t ∷ cut_path since rest
     long rest n = rw n refl
-has_cut since (either p q) path h = elim (has_merged (cut since p) (cut since q) path h) [
+has_cut since (either p q) path h = elim (has_merged _ _ path h) [
   | inl a ↦ let r = has_cut since p path a in (r.0, inl r.1, r.2)
   | inr a ↦ let r = has_cut since q path a in (r.0, inr r.1, r.2)
 ]
@@ -190,7 +190,7 @@ by_got n is (after w t p) h = elim (cases_Bool (is (stood w t))) [
   | inl y ↦ rw y h
   | inr f ↦ rw f (by_after_any n w t (got is p) h.0 (by_got n is p h.1))
 ]
-by_got n is (either p q) h = by_merged_any n (got is p) (got is q) (by_got n is p h.0) (by_got n is q h.1)
+by_got n is (either p q) h = by_merged_any n _ _ (by_got n is p h.0) (by_got n is q h.1)
 
 pub by_missed : (n : ℕ) (is : Stood → Bool) (p : Past) → IsBy n p → IsAnyBy n (missed is p)
 by_missed n is begins h = tt
@@ -198,7 +198,7 @@ by_missed n is (after w t p) h = elim (cases_Bool (is (stood w t))) [
   | inl y ↦ rw y tt
   | inr f ↦ rw f (by_after_any n w t (missed is p) h.0 (by_missed n is p h.1))
 ]
-by_missed n is (either p q) h = by_merged_any n (missed is p) (missed is q) (by_missed n is p h.0) (by_missed n is q h.1)
+by_missed n is (either p q) h = by_merged_any n _ _ (by_missed n is p h.0) (by_missed n is q h.1)
 
 pub by_cut : (n since : ℕ) (p : Past) → IsBy n p → IsBy n (cut since p)
 by_cut n since begins h = tt
@@ -206,11 +206,11 @@ by_cut n since (after w t p) h = elim (cases_Bool (nat_lt t since)) [
   | inl y ↦ rw y (by_cut n since p h.1)
   | inr f ↦ rw f (h.0, by_cut n since p h.1)
 ]
-by_cut n since (either p q) h = by_merged n (cut since p) (cut since q) (by_cut n since p h.0) (by_cut n since q h.1)
+by_cut n since (either p q) h = by_merged n _ _ (by_cut n since p h.0) (by_cut n since q h.1)
 
 pub by_overwritten : (loads : List WatchedLoad) (n : ℕ) (w : Word) (p : Past) → IsBy n p → IsBy n (overwritten loads n w p)
 by_overwritten [] n w p h = tt
-by_overwritten (l ∷ ls) n w p h = let same : n ≤ n = omega arith in (same, h)
+by_overwritten (l ∷ ls) n w p h = grind arith
 
 pub path_by : (n : ℕ) (p : Past) (path : List Stood) → IsBy n p → Has p path → Each (λ s. s.moment ≤ n) path
 path_by n begins path b h = subst (Each (λ s. s.moment ≤ n)) (sym h) tt
@@ -225,14 +225,12 @@ pub seen_none : (n : ℕ) (path : List Stood) → Each (λ s. s.moment ≤ n) pa
 seen_none n [] a = refl
 seen_none n (s ∷ path) a =
     let before : s.moment < n + 1 = let l = a.0 in omega arith in
-    rw (lt-leb (n + 1) s.moment before) (seen_none n path a.1)
+    rw (lt-leb _ s.moment before) (seen_none n path a.1)
 
 -- the word of now is overwritten
 watched_one : (t : ℕ) (w : Word) (path : List Stood) (l : WatchedLoad) → l.since ≤ t
     → watched (stood w t ∷ path) l ≡ with_word w (watched path l)
-watched_one t w path l h =
-    let more : seen_since l.since (stood w t ∷ path) ≡ w ∷ seen_since l.since path = rw (le-leb l.since t h) refl in
-    λ i. record { number = l.number; address = l.address; words = more i }
+watched_one t w path l h = grind arith
 
 pub watched_more : (t : ℕ) (w : Word) (path : List Stood) (ls : List WatchedLoad) → Each (IsAsked t) ls
     → map (watched (stood w t ∷ path)) ls ≡ map (with_word w) (map (watched path) ls)
@@ -256,7 +254,7 @@ pub watched_cut : (from : ℕ) (path : List Stood) (ls : List WatchedLoad) → E
     → map (watched (cut_path from path)) ls ≡ map (watched path) ls
 watched_cut from path [] a = refl
 watched_cut from path (l ∷ ls) a =
-    let one : seen_since l.since (cut_path from path) ≡ seen_since l.since path = seen_cut l.since from a.0 path in
+    let one = seen_cut l.since from a.0 path in
     λ i. record { number = l.number; address = l.address; words = one i } ∷ watched_cut from path ls a.1 i
 
 -- The oldest load. ----
@@ -266,7 +264,7 @@ earlier_stays : (ls : List WatchedLoad) (since : ℕ) → (from : ℕ) × (fold 
     × Each (λ l. from ≤ l.since) ls
 earlier_stays [] since = let same : since ≤ since = omega arith in (since, refl, same, tt)
 earlier_stays (l ∷ ls) since =
-    let r = earlier_stays ls (min since l.since) in
+    let r = earlier_stays ls _ in
     let low = r.2 in
     let first : r.0 ≤ since = omega arith in
     let here : r.0 ≤ l.since = omega arith in
@@ -274,12 +272,12 @@ earlier_stays (l ∷ ls) since =
 
 pub oldest_none : (ls : List WatchedLoad) → oldest ls ≡ None → ls ≡ []
 oldest_none [] h = refl
-oldest_none (l ∷ ls) h = let r = earlier_stays ls l.since in let x : None ≡ Some r.0 = sym h ∙ r.1 in cc
+oldest_none (l ∷ ls) h = let r = earlier_stays ls l.since in let x = sym h ∙ r.1 in cc
 
 pub oldest_first : (ls : List WatchedLoad) (from : ℕ) → oldest ls ≡ Some from → Each (λ l. from ≤ l.since) ls
 oldest_first [] from h = cc
 oldest_first (l ∷ ls) from h =
     let r = earlier_stays ls l.since in
-    let same : Some r.0 ≡ Some from = sym r.1 ∙ h in
+    let same = sym r.1 ∙ h in
     let is : r.0 ≡ from = cc in
     subst (λ n. Each (λ l. n ≤ l.since) (l ∷ ls)) is (r.2, r.3)

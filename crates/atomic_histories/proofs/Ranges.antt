@@ -1,8 +1,7 @@
 -- The units that bytes lie in, and steps of the loops over units.
 use Rattle.std.proofs.Common.{◌≡◌, ℕ, zero, suc, ◌+◌, ◌-◌, ◌*◌, ◌/◌, ◌<◌, ◌≤◌, true, false, ◌&&◌, ◌==◌, if◌then◌else◌, nat_lt, nat_le, List}
-use Rattle.std.proofs.Common.{[], ◌∷◌, ◌++◌, map, length, Option, None, Some, inl, inr, refl, sym, ap, ◌∙◌, subst, ne_eqb, eq-eqb}
-use Rattle.std.proofs.Common.{append_assoc, mul-le-mul_right, mul-le-mul_left, suc-mul, arith}
-use Rattle.std.proofs.Math.Path.{fun_ext}
+use Rattle.std.proofs.Common.{[], ◌∷◌, ◌++◌, map, length, Option, None, Some, inl, inr, refl, sym, ap, ◌∙◌, ne_eqb, eq-eqb}
+use Rattle.std.proofs.Common.{append_assoc, arith}
 use Rattle.std.proofs.lemmas.Bool.{cases_Bool, cases_eq, cases_lt, and_from, lt-ltb, le-ltb, lt-leb, le-leb}
 use Rattle.std.proofs.lemmas.List.{map-append}
 use Rattle.memory_histories.specs.declared.events.HistoryEvent.{HistoryEvent}
@@ -38,26 +37,17 @@ sized Eight = omega arith
 
 pub unit_below : (from count size j : ℕ) → (from + count) * size ≤ 18446744073709551616 → j < count → 1 ≤ size
     → (from + j) * size < 18446744073709551616
-unit_below from count size j h l pos =
-    let more : suc (from + j) * size ≤ (from + count) * size = mul-le-mul_right size (omega arith) in
-    let split : suc (from + j) * size ≡ (from + j) * size + size = suc-mul (from + j) size in
-    omega arith
+unit_below from count size j h l pos = grind arith
 
 pub number_below : (from count size j : ℕ) → (from + count) * size ≤ 18446744073709551616 → j < count → 1 ≤ size
     → from + j < 18446744073709551616
-number_below from count size j h l pos =
-    let below : (from + j) * size < 18446744073709551616 = unit_below from count size j h l pos in
-    let least : (from + j) * 1 ≤ (from + j) * size = mul-le-mul_left (from + j) pos in
-    omega arith
+number_below from count size j h l pos = grind arith
 
 -- Loops over units. ----
 
 pub ways_step : (h : Held) (event : HistoryEvent) (from count j : ℕ) → j < count
     → ways_from h event (from + j) (count - j) ≡ changed h event (from + j) ∷ ways_from h event (from + (j + 1)) (count - (j + 1))
-ways_step h event from count j l =
-    let left : count - j ≡ suc (count - (j + 1)) = omega arith in
-    let next : from + j + 1 ≡ from + (j + 1) = omega arith in
-    rw (left, ← next) refl
+ways_step h event from count j l = grind arith
 
 -- one more unit of those that are changed one by one
 pub ways_more : (h : Held) (event : HistoryEvent) (us : List KeptUnit) (u : KeptUnit) (from count j : ℕ) → j < count
@@ -65,8 +55,8 @@ pub ways_more : (h : Held) (event : HistoryEvent) (us : List KeptUnit) (u : Kept
     → map shown_unit (us ++ u ∷ []) ++ ways_from h event (from + (j + 1)) (count - (j + 1)) ≡ map shown_unit us ++ ways_from h event
     (from + j) (count - j)
 ways_more h event us u from count j l e =
-    let tail : List Ways = ways_from h event (from + (j + 1)) (count - (j + 1)) in
-    ap (λ t. t ++ tail) (map-append shown_unit us (u ∷ [])) ∙ (append_assoc (map shown_unit us) (shown_unit u ∷ []) tail
+    let tail = ways_from h event _ _ in
+    ap (λ t. t ++ tail) (map-append shown_unit us (u ∷ [])) ∙ (append_assoc _ _ tail
     ∙ (ap (λ x. map shown_unit us ++ x ∷ tail) e ∙ ap (λ t. map shown_unit us ++ t) (sym (ways_step h event from count j l))))
 
 pub stuck_step : (h : Held) (event : HistoryEvent) (from count j : ℕ) → j < count → is_stuck h event (from + j) ≡ false
@@ -84,8 +74,7 @@ stuck_here h event k (suc n) l t = rw t refl
 pub fault_at : (fault : AtomicFault) (limit : ℕ) (h : Held) (event : HistoryEvent) (from count j : ℕ) → j < count
     → stuck_from h event (from + j) (count - j) ≡ stuck_from h event from count → UnitFaultIs limit h event (from + j) fault
     → ChangeFaultIs limit h event from count fault
-fault_at (Refused cause) limit h event from count j l same f =
-    (from + j, sym same ∙ stuck_here h event (from + j) (count - j) (omega arith) f.0, f.1)
+fault_at (Refused cause) limit h event from count j l same f = grind (arith, stuck_here)
 fault_at (Undecided address) limit h event from count j l same f = (from + j, omega arith, omega arith, f.0, f.1)
 fault_at OutOfMemory limit h event from count j l same f = tt
 
@@ -97,9 +86,9 @@ pub put_last : (f g : ℕ → Option KeptUnit) (us : List KeptUnit) (u : KeptUni
 put_last f g [] u from k e =
     let here : from + 0 ≡ from = omega arith in e k ∙ ap (λ i. put_from f i (u ∷ []) k) here
 put_last f g (x ∷ xs) u from k e =
-    let next : from + suc (length xs) ≡ from + 1 + length xs = omega arith in
-    let rest : put_from g (from + 1) xs k ≡ put_from f (from + 1) (xs ++ u ∷ []) k =
-    put_last f g xs u (from + 1) k (λ j. e j ∙ ap (λ i. put_from f i (u ∷ []) j) next) in
+    let next : from + suc _ ≡ from + 1 + length xs = omega arith in
+    let rest =
+    put_last f g xs u _ k (λ j. e j ∙ ap (λ i. put_from f i (u ∷ []) j) next) in
     ap (λ r. if from == k then Some x else r) rest
 
 -- what is shown of units that were put
@@ -114,14 +103,14 @@ put_shown h event f d zero from (u ∷ us) e k = cc
 put_shown h event f d (suc n) from [] e k = cc
 put_shown h event f d (suc n) from (u ∷ us) e k =
     let first : shown_unit u ≡ changed h event from = cc in
-    let others : map shown_unit us ≡ ways_from h event (from + 1) n = cc in
+    let others : map shown_unit us ≡ ways_from h event _ n = cc in
     elim (cases_eq from k) [
       | inl same ↦
-          let in_ : (nat_le from k && nat_lt k (from + suc n)) ≡ true =
-          and_from (nat_le from k) (nat_lt k (from + suc n)) (le-leb from k (omega arith)) (lt-ltb k (from + suc n) (omega arith)) in
+          let in_ =
+          and_from _ _ (le-leb from k (omega arith)) (lt-ltb k (from + suc n) (omega arith)) in
           rw (eq-eqb from k same, in_) (first ∙ ap (changed h event) same)
       | inr other ↦
-          let none : (from == k) ≡ false = ne_eqb from k other in
+          let none = ne_eqb from k other in
           let r = put_shown h event f d n (from + 1) us others k in
           let more : (nat_le (from + 1) k && nat_lt k (from + 1 + n)) ≡ (nat_le from k && nat_lt k (from + suc n)) =
           elim (cases_lt k from) [
@@ -130,7 +119,7 @@ put_shown h event f d (suc n) from (u ∷ us) e k =
                 let end : from + 1 + n ≡ from + suc n = omega arith in
                 rw (le-leb from k above, le-leb (from + 1) k (omega arith), end) refl
           ] in
-          rw none (r ∙ ap (λ b. if b then changed h event k else kept_or (f k) d) more)
+          rw none (cc (r, more))
     ]
 
 length_from : (h : Held) (event : HistoryEvent) (k n : ℕ) → length (ways_from h event k n) ≡ n
@@ -139,11 +128,10 @@ length_from h event k (suc n) = ap suc (length_from h event (k + 1) n)
 
 -- there are numbers for so many units
 pub numbers_fit : (from count size : ℕ) → (from + count) * size ≤ 18446744073709551616 → 1 ≤ size → from + count ≤ 18446744073709551616
-numbers_fit from count size h pos = let least : (from + count) * 1 ≤ (from + count) * size =
-    mul-le-mul_left (from + count) pos in omega arith
+numbers_fit from count size h pos = grind arith
 
 pub step_fits : (a b m n l : ℕ) → b ≡ a → n ≡ m → a / m + l ≤ 18446744073709551616 → b / n + l ≤ 18446744073709551616
-step_fits a b m n l e f h = subst (λ x. x / n + l ≤ 18446744073709551616) (sym e) (subst (λ x. a / x + l ≤ 18446744073709551616) (sym f) h)
+step_fits a b m n l e f h = grind arith
 
 -- what is shown of a unit after an event, once the units are put that it touches
 pub taken_unit : (h : Held) (event : HistoryEvent) (f g : ℕ → Option KeptUnit) (d : Ways) (from : ℕ) (us : List KeptUnit) (k : ℕ)
@@ -152,13 +140,7 @@ pub taken_unit : (h : Held) (event : HistoryEvent) (f g : ℕ → Option KeptUni
     → map shown_unit us ≡ ways_from h event ((covered h.opened event).0 / h.size)
     (units_of h.size (covered h.opened event).0 (covered h.opened event).1)
     → kept_or (f k) d ≡ h.units k → kept_or (g k) d ≡ unit_after h event k
-taken_unit h event f g d from us k put same e kept =
-    let first : ℕ = (covered h.opened event).0 / h.size in
-    let count : ℕ = units_of h.size (covered h.opened event).0 (covered h.opened event).1 in
-    ap (λ x. kept_or x d) put
-    ∙ (ap (λ i. kept_or (put_from f i us k) d) same
-    ∙ (put_shown h event f d count first us e k
-    ∙ ap (λ x. if nat_le first k && nat_lt k (first + count) then changed h event k else x) kept))
+taken_unit h event f g d from us k put same e kept = grind (arith, h.opened, h.size, put_shown)
 
 pub forgotten_unit : (f : ℕ → Option KeptUnit) (d : Ways) (number k : ℕ) (u : KeptUnit) → shown_unit u ≡ no_ways
     → kept_or (put_from f number (u ∷ []) k) d ≡ (if number == k then no_ways else kept_or (f k) d)
@@ -170,13 +152,13 @@ forgotten_unit f d number k u e = elim (cases_Bool (number == k)) [
 -- a map that has the same at each key shows the same units, and keeps as many words of each
 pub same_units : (image : List ℕ) (rest : Rest) (size : ℕ) (f g : ℕ → Option KeptUnit) → ((k : ℕ) → g k ≡ f k)
     → kept_at image rest size g ≡ kept_at image rest size f
-same_units image rest size f g e = fun_ext (λ k. ap (λ x. kept_or x (first_ways image rest (unit_at size k))) (e k))
+same_units image rest size f g e = grind arith
 
 abbrev words_at : (ℕ → Option KeptUnit) → ℕ → ℕ
 words_at f k = words_of (f k)
 
 pub same_words : (f g : ℕ → Option KeptUnit) → ((k : ℕ) → g k ≡ f k) → words_at g ≡ words_at f
-same_words f g e = fun_ext (λ k. ap words_of (e k))
+same_words f g e = grind arith
 
 -- at the unit that an event touches
 pub stopped_unit : (limit : ℕ) (place : UnitPlace) (words : ℕ) (u : Ways) (event : HistoryEvent) (loads : List Operation) (stop : Stop)
@@ -189,16 +171,13 @@ pub kept_none : (image : List ℕ) (rest : Rest) (size : ℕ) (f : ℕ → Optio
     (bytes : List ℕ)
     → None ≡ f k → bytes ≡ image → place ≡ unit_at size k → shown_unit u ≡ first_ways bytes rest place
     → shown_unit u ≡ kept_at image rest size f k
-kept_none image rest size f k place u bytes none same at_ e =
-    e ∙ (ap (λ bs. first_ways bs rest place) same
-    ∙ (ap (first_ways image rest) at_ ∙ ap (λ o. kept_or o (first_ways image rest (unit_at size k))) none))
+kept_none image rest size f k place u bytes none same at_ e = grind arith
 
 pub words_none : (f : ℕ → Option KeptUnit) (k : ℕ) (u : KeptUnit) → None ≡ f k → u.stretches.items ≡ []
     → words_in u.stretches.items ≡ words_of (f k)
-words_none f k u none e = ap words_in e ∙ ap words_of none
+words_none f k u none e = grind arith
 
 -- what is said of a unit in one place is said in the same
 pub said_there : (P : UnitPlace → ℕ → Ways → List Operation → Type 0) (p q : UnitPlace) (m n : ℕ) (u v : Ways) (ks ls : List Operation)
     → p ≡ q → m ≡ n → u ≡ v → ks ≡ ls → P p m u ks → P q n v ls
-said_there P p q m n u v ks ls a b d e h =
-    subst (P q n v) e (subst (λ x. P q n x ks) d (subst (λ x. P q x u ks) b (subst (λ x. P x m u ks) a h)))
+said_there P p q m n u v ks ls a b d e h = grind arith

@@ -1,5 +1,5 @@
 -- What an open load may return is what the ways show that are followed.
-use Rattle.std.proofs.Common.{◌≡◌, ℕ, zero, suc, ◌+◌, ◌/◌, ◌%◌, ◌<◌, ◌≤◌, ◌⊎◌, ◌↔◌, Bool, true, false, ◌&&◌, ◌||◌, ◌==◌, nat_le, List, []}
+use Rattle.std.proofs.Common.{◌≡◌, ℕ, zero, suc, ◌+◌, ◌/◌, ◌<◌, ◌≤◌, ◌⊎◌, ◌↔◌, Bool, true, false, ◌&&◌, ◌||◌, ◌==◌, nat_le, List, []}
 use Rattle.std.proofs.Common.{◌∷◌, ◌++◌, map, filter, length, Option, Some, None, Result, Ok, Err, IfOk, slice_get, inl, inr, refl, sym, ap}
 use Rattle.std.proofs.Common.{◌∙◌, subst, arith}
 use Rattle.std.specs.List.{list_any, find}
@@ -15,7 +15,7 @@ use Rattle.atomic_histories.specs.declared.unit.WatchedLoad.{WatchedLoad}
 use Rattle.atomic_histories.specs.Operations.{opened_by, has_number}
 use Rattle.atomic_histories.specs.Law.{OpenLoad, UnitMemory, HiddenStep, MayBe, steps, untouched, unit_at, is_load}
 use Rattle.atomic_histories.specs.Pasts.{Past, begins, after, either, Stood, stood, Has, shows, seen_since}
-use Rattle.atomic_histories.specs.Branches.{Watched, Branch, with_word, effect_of, is_watched}
+use Rattle.atomic_histories.specs.Branches.{Watched, Branch, with_word, is_watched}
 use Rattle.atomic_histories.specs.Followed.{Pair, Ways, never, watched, way_on, effects, is_under, next_after, rounds}
 use Rattle.atomic_histories.specs.Stands.{Each, One, EachWay, OneWay, IsAsked, IsPairBy, MayHaveGot, IsWatched, AreWatched, IsOn, Leads}
 use Rattle.atomic_histories.specs.Stands.{now, later, StandsFor}
@@ -68,29 +68,29 @@ past_word p (x ∷ xs) h = elim (cases_Bool (p x)) [
 shown_word : (k b : ℕ) (e : Branch) (l : Watched)
     → (may_show (lane_of k e.word) b || list_any (λ w. may_show (lane_of k w) b) l.words) ≡ true
     → (v : Word) × (may_show (lane_of k v) b ≡ true) × MayHaveGot e.word l.words (Some v)
-shown_word k b e l h = elim (cases_Bool (may_show (lane_of k e.word) b)) [
+shown_word k b e l h = elim (cases_Bool _) [
   | inl t ↦ (e.word, t, inl refl)
-  | inr f ↦ let r = past_word (λ w. may_show (lane_of k w) b) l.words (rw f at h) in (r.0, r.1, inr r.2)
+  | inr f ↦ let r = past_word (λ w. may_show _ b) l.words (rw f at h) in (r.0, r.1, inr r.2)
 ]
 
 with_got : (number k b : ℕ) (e : Branch) (ls : List Watched) → list_any (shows_load number k b e) ls ≡ true
     → (ms : List OpenLoad) × AreWatched e.word ls ms × (list_any (got_byte number k b) ms ≡ true)
 with_got number k b e [] h = cc
-with_got number k b e (l ∷ ls) h = elim (cases_Bool (shows_load number k b e l)) [
+with_got number k b e (l ∷ ls) h = elim (cases_Bool _) [
   | inl t ↦
-      let p = and_parts (is_watched number l)
-      (may_show (lane_of k e.word) b || list_any (λ w. may_show (lane_of k w) b) l.words) t in
+      let p = and_parts _
+      (may_show _ b || list_any (λ w. may_show _ b) l.words) t in
       let v = shown_word k b e l p.1 in
       let m : OpenLoad = record { number = l.number; address = l.address; got = Some v.0 } in
-      let got : got_byte number k b m ≡ true = and_from (is_load number m) (may_show (lane_of k v.0) b) p.0 v.1 in (
+      let got : got_byte number k b m ≡ true = and_from _ _ p.0 v.1 in (
         m ∷ map not_yet ls,
         ((refl, refl, v.2), watched_not_yet e.word ls),
-        or_left_true (got_byte number k b m)
-            (list_any (got_byte number k b) (map not_yet ls)) got,
+        or_left_true _
+            _ got,
       )
   | inr f ↦
       let r = with_got number k b e ls (rw f at h) in
-      (not_yet l ∷ r.0, (first, r.1), or_right_true (got_byte number k b (not_yet l)) (list_any (got_byte number k b) r.0) r.2)
+      (not_yet l ∷ r.0, (first, r.1), or_right_true _ _ r.2)
 ]
   where
     first : IsWatched e.word l (not_yet l)
@@ -105,18 +105,18 @@ shown_got number k b P e s h =
 
 past_shown : (p : Word → Bool) (v : Word) (xs : List Word) → p v ≡ true → One (λ y. v ≡ y) xs → list_any p xs ≡ true
 past_shown p v [] t h = absurd h
-past_shown p v (x ∷ xs) t (inl e) = or_left_true (p x) (list_any p xs) (ap p (sym e) ∙ t)
-past_shown p v (x ∷ xs) t (inr h) = or_right_true (p x) (list_any p xs) (past_shown p v xs t h)
+past_shown p v (x ∷ xs) t (inl e) = or_left_true (p x) _ (ap p (sym e) ∙ t)
+past_shown p v (x ∷ xs) t (inr h) = or_right_true (p x) _ (past_shown p v xs t h)
 
 got_shown : (k b : ℕ) (e : Branch) (l : Watched) (g : Option Word) → has_got k b g ≡ true → MayHaveGot e.word l.words g
     → (may_show (lane_of k e.word) b || list_any (λ w. may_show (lane_of k w) b) l.words) ≡ true
 got_shown k b e l None t h = cc
 got_shown k b e l (Some v) t (inl same) =
-    or_left_true (may_show (lane_of k e.word) b) (list_any (λ w. may_show (lane_of k w) b) l.words)
-    (ap (λ w. may_show (lane_of k w) b) (sym same) ∙ t)
+    or_left_true _ (list_any (λ w. may_show _ b) l.words)
+    (cc (same, t))
 got_shown k b e l (Some v) t (inr past) =
-    or_right_true (may_show (lane_of k e.word) b) (list_any (λ w. may_show (lane_of k w) b) l.words)
-    (past_shown (λ w. may_show (lane_of k w) b) v l.words t past)
+    or_right_true _ (list_any (λ w. may_show _ b) l.words)
+    (past_shown (λ w. may_show _ b) v l.words t past)
 
 loads_show : (number k b : ℕ) (e : Branch) (ls : List Watched) (ms : List OpenLoad) → AreWatched e.word ls ms
     → list_any (got_byte number k b) ms ≡ true
@@ -124,15 +124,15 @@ loads_show : (number k b : ℕ) (e : Branch) (ls : List Watched) (ms : List Open
 loads_show number k b e [] [] a h = cc
 loads_show number k b e [] (m ∷ ms) a h = absurd a
 loads_show number k b e (l ∷ ls) [] a h = absurd a
-loads_show number k b e (l ∷ ls) (m ∷ ms) a h = elim (cases_Bool (got_byte number k b m)) [
+loads_show number k b e (l ∷ ls) (m ∷ ms) a h = elim (cases_Bool _) [
   | inl t ↦
-      let p = and_parts (is_load number m) (has_got k b m.got) t in
-      let there : is_watched number l ≡ true = ap (λ i. i == number) a.0.0 ∙ p.0 in
-      or_left_true (shows_load number k b e l) (list_any (shows_load number k b e) ls)
-      (and_from (is_watched number l)
-      (may_show (lane_of k e.word) b || list_any (λ w. may_show (lane_of k w) b) l.words) there
+      let p = and_parts _ _ t in
+      let there = ap (λ i. i == number) a.0.0 ∙ p.0 in
+      or_left_true _ _
+      (and_from _
+      (may_show _ b || list_any (λ w. may_show _ b) l.words) there
       (got_shown k b e l m.got p.1 a.0.2))
-  | inr f ↦ or_right_true (shows_load number k b e l) (list_any (shows_load number k b e) ls)
+  | inr f ↦ or_right_true _ _
       (loads_show number k b e ls ms a.1 (rw f at h))
 ]
 
@@ -141,7 +141,7 @@ loads_show number k b e (l ∷ ls) (m ∷ ms) a h = elim (cases_Bool (got_byte n
 past_shows : (is : Word → Bool) (since : ℕ) (p : Past) → shows is since p ≡ true
     → (path : List Stood) × Has p path × (list_any is (seen_since since path) ≡ true)
 past_shows is since begins h = cc
-past_shows is since (after w t p) h = elim (or_cases (nat_le since t && is w) (shows is since p) h) [
+past_shows is since (after w t p) h = elim (or_cases _ _ h) [
   | inl y ↦
       let q = and_parts (nat_le since t) (is w) y in
       let r = some_way p in
@@ -167,18 +167,18 @@ past_shows is since (either p q) h = elim (or_cases (shows is since p) (shows is
 shows_past : (is : Word → Bool) (since : ℕ) (p : Past) (path : List Stood) → Has p path → list_any is (seen_since since path) ≡ true
     → shows is since p ≡ true
 shows_past is since begins path has h =
-    let x : false ≡ true = ap (λ q. list_any is (seen_since since q)) (sym has) ∙ h in cc
+    let x = ap (λ q. list_any is (seen_since since q)) (sym has) ∙ h in cc
 shows_past is since (after w t p) path has h =
-    let there : list_any is (seen_since since (stood w t ∷ has.0)) ≡ true = ap (λ q. list_any is (seen_since since q)) (sym has.1) ∙ h in
+    let there = ap (λ q. list_any is (seen_since since q)) (sym has.1) ∙ h in
     elim (cases_Bool (nat_le since t)) [
-      | inl s ↦ elim (or_cases (is w) (list_any is (seen_since since has.0)) (rw s at there)) [
+      | inl s ↦ elim (or_cases (is w) _ (rw s at there)) [
         | inl y ↦ rw s (or_left_true (is w) (shows is since p) y)
-        | inr y ↦ or_right_true (nat_le since t && is w) (shows is since p) (shows_past is since p has.0 has.2 y)
+        | inr y ↦ or_right_true _ _ (shows_past is since p has.0 has.2 y)
       ]
-      | inr s ↦ or_right_true (nat_le since t && is w) (shows is since p) (shows_past is since p has.0 has.2 (rw s at there))
+      | inr s ↦ or_right_true _ _ (shows_past is since p has.0 has.2 (rw s at there))
     ]
-shows_past is since (either p q) path (inl has) h = or_left_true (shows is since p) (shows is since q) (shows_past is since p path has h)
-shows_past is since (either p q) path (inr has) h = or_right_true (shows is since p) (shows is since q) (shows_past is since q path has h)
+shows_past is since (either p q) path (inl has) h = or_left_true _ _ (shows_past is since p path has h)
+shows_past is since (either p q) path (inr has) h = or_right_true _ _ (shows_past is since q path has h)
 
 found_any : (p : Watched → Bool) (ls : List Watched) (l : Watched) → (q : Watched → Bool) → find q ls ≡ Some l → p l ≡ true
     → list_any p ls ≡ true
@@ -187,8 +187,8 @@ found_any p (x ∷ xs) l q f h = elim (cases_Bool (q x)) [
   | inl t ↦
       let e : Some x ≡ Some l = rw t at f in
       let is : x ≡ l = cc in
-      or_left_true (p x) (list_any p xs) (ap p is ∙ h)
-  | inr n ↦ or_right_true (p x) (list_any p xs) (found_any p xs l q (rw n at f) h)
+      or_left_true (p x) _ (ap p is ∙ h)
+  | inr n ↦ or_right_true (p x) _ (found_any p xs l q (rw n at f) h)
 ]
 
 found_is : (q : WatchedLoad → Bool) (ls : List WatchedLoad) (l : WatchedLoad) → find q ls ≡ Some l → q l ≡ true
@@ -212,12 +212,12 @@ module _ (loads : List WatchedLoad) (moment : ℕ) (asked : Each (IsAsked moment
   -- a way that shows what a pair does
   way_shows : (e : Pair) → shown e ≡ true
       → (path : List Stood) × Has e.past path × (list_any (shows_load number k b (way_on loads e path)) (map (watched path) loads) ≡ true)
-  way_shows e h = elim (or_cases (is e.word) (shows is l.since e.past) h) [
+  way_shows e h = elim (or_cases _ _ h) [
     | inl y ↦
         let r = any_way e.past in (
           r.0,
           r.1,
-          found_any (shows_load number k b (way_on loads e r.0)) (map (watched r.0) loads) (watched r.0 l) (is_watched number)
+          found_any _ _ _ (is_watched number)
               (find_watched number r.0 loads l open_)
               (and_from (is_watched number (watched r.0 l)) _ (found_is (is_under number) loads l open_)
               (or_left_true (is e.word) (list_any is (seen_since l.since r.0)) y)),
@@ -243,12 +243,12 @@ module _ (loads : List WatchedLoad) (moment : ℕ) (asked : Each (IsAsked moment
     Sound e = EachWay loads (SoundOn P) e × IsPairBy moment e
 
     pair_got : (e : Pair) → Sound e → shown e ≡ true → (m : UnitMemory) × P m × (list_any (got_byte number k b) m.loads ≡ true)
-    pair_got e s h = let r = way_shows e h in shown_got number k b P (way_on loads e r.0) (s.0 r.0 r.1) r.2
+    pair_got e s h = let r = way_shows e h in shown_got number k b P _ (s.0 r.0 r.1) r.2
 
     any_got : (es : List Pair) → Each Sound es → list_any shown es ≡ true
         → (m : UnitMemory) × P m × (list_any (got_byte number k b) m.loads ≡ true)
     any_got [] a h = cc
-    any_got (e ∷ es) a h = elim (or_cases (shown e) (list_any shown es) h) [
+    any_got (e ∷ es) a h = elim (or_cases _ _ h) [
       | inl t ↦ pair_got e a.0 t
       | inr f ↦ any_got es a.1 f
     ]
@@ -257,8 +257,8 @@ module _ (loads : List WatchedLoad) (moment : ℕ) (asked : Each (IsAsked moment
         → (m : UnitMemory) × P m × (list_any (got_byte number k b) m.loads ≡ true)
     reached_got zero es a h = cc
     reached_got (suc n) es a h =
-        let next : List Pair = next_after loads moment never es in
-        let each : Each Sound next =
+        let next = next_after loads moment never es in
+        let each =
         next_sound loads moment asked Sound (sound_joint loads moment asked P) (sound_kept loads moment asked P closed) never [] es tt a in
         elim (or_cases (list_any shown next) (list_any shown (reached_in loads moment n next))
         (sym (list_any-append shown next (reached_in loads moment n next)) ∙ h)) [
@@ -274,14 +274,14 @@ module _ (loads : List WatchedLoad) (moment : ℕ) (asked : Each (IsAsked moment
         → list_any (shows_load number k b (way_on loads e path)) (map (watched path) ls) ≡ true → shown e ≡ true
     one_shows e path has [] a h = cc
     one_shows e path has (x ∷ xs) a h =
-        elim (or_cases (shows_load number k b (way_on loads e path) (watched path x)) _ h) [
+        elim (or_cases _ _ h) [
           | inr r ↦ one_shows e path has xs a.1 r
           | inl t ↦
-              let p = and_parts (is_under number x) (is e.word || list_any is (seen_since x.since path)) t in
-              let same : x ≡ l = a.0 p.0 in
-              let there : (is e.word || list_any is (seen_since l.since path)) ≡ true =
-              ap (λ (y : WatchedLoad). is e.word || list_any is (seen_since y.since path)) (sym same) ∙ p.1 in
-              elim (or_cases (is e.word) (list_any is (seen_since l.since path)) there) [
+              let p = and_parts _ _ t in
+              let same = a.0 p.0 in
+              let there =
+              ap (λ y. is e.word || list_any is (seen_since y.since path)) (sym same) ∙ p.1 in
+              elim (or_cases _ (list_any is (seen_since l.since path)) there) [
                 | inl y ↦ or_left_true (is e.word) (shows is l.since e.past) y
                 | inr y ↦ or_right_true (is e.word) (shows is l.since e.past) (shows_past is l.since e.past path has y)
               ]
@@ -302,15 +302,15 @@ module _ (loads : List WatchedLoad) (moment : ℕ) (asked : Each (IsAsked moment
 
       one_any : (es : List Pair) → One (λ e. shown e ≡ true) es → list_any shown es ≡ true
       one_any [] h = absurd h
-      one_any (e ∷ es) (inl t) = or_left_true (shown e) (list_any shown es) t
-      one_any (e ∷ es) (inr h) = or_right_true (shown e) (list_any shown es) (one_any es h)
+      one_any (e ∷ es) (inl t) = or_left_true _ _ t
+      one_any (e ∷ es) (inr h) = or_right_true _ _ (one_any es h)
 
       none_there : (e : Pair) → There zero e → ⊥
-      none_there e w = let l = w.2.1 in absurd (omega arith)
+      none_there e w = grind arith
 
       keep_there : (n : ℕ) (e : Pair) → There (suc n) e → (shown e ≡ true) ⊎ One (There n) (effects loads moment e)
       keep_there n e w =
-          elim (leads_split loads moment asked m (There n) n e w.0 w.1 w.2
+          elim (leads_split loads moment asked m _ n e w.0 w.1 w.2
           (λ before s after more has same r. (more, has, subst (LeadsWithin loads moment asked m n) (sym same) r))) [
             | inl o ↦ inl (here_shows e w.0 w.1 o)
             | inr o ↦ inr o
@@ -325,39 +325,39 @@ module _ (loads : List WatchedLoad) (moment : ℕ) (asked : Each (IsAsked moment
       comes_there : (n : ℕ) (es : List Pair) → One (There (suc n)) es
           → (list_any shown es || list_any shown (reached_in loads moment n es)) ≡ true
       comes_there zero es h =
-          or_left_true (list_any shown es) false
-          (one_any es (one_weaker (There 1) (λ e. shown e ≡ true)
+          or_left_true _ false
+          (one_any es (one_weaker _ (λ e. shown e ≡ true)
           (λ e w. elim (keep_there zero e w) [
             | inl t ↦ t
-            | inr o ↦ absurd (one_none (effects loads moment e) (one_weaker (There zero) (λ x. ⊥) none_there (effects loads moment e) o))
+            | inr o ↦ absurd (one_none _ (one_weaker _ (λ x. ⊥) none_there _ o))
           ]) es h))
       comes_there (suc n) es h =
           let next : List Pair = next_after loads moment never es in
           let More : Pair → Type 0 = λ e. (never.goal e ≡ false) × One (There (suc n)) (filter never.hope (effects loads moment e)) in
           let either : One (λ e. (shown e ≡ true) ⊎ More e) es =
-          one_weaker (There (suc (suc n))) (λ e. (shown e ≡ true) ⊎ More e)
-          (λ e w. elim (keep_there (suc n) e w) [
+          one_weaker _ (λ e. (shown e ≡ true) ⊎ More e)
+          (λ e w. elim (keep_there _ e w) [
             | inl t ↦ inl t
-            | inr o ↦ inr (refl, all_hope (effects loads moment e) (suc n) o)
+            | inr o ↦ inr (refl, all_hope _ _ o)
           ]) es h in
           elim (one_or (λ e. shown e ≡ true) More es either) [
-            | inl a ↦ or_left_true (list_any shown es) _ (one_any es a)
+            | inl a ↦ or_left_true _ _ (one_any es a)
             | inr a ↦
                 let rest = comes_there n next (next_finds loads moment asked (There (suc n))
                 (one_taken loads (LeadsWithin loads moment asked m (suc n))) never [] es a) in
-                or_right_true (list_any shown es) (list_any shown (next ++ reached_in loads moment n next))
-                (list_any-append shown next (reached_in loads moment n next) ∙ rest)
+                or_right_true _ _
+                (list_any-append shown next _ ∙ rest)
           ]
 
       pub is_reached : (es : List Pair) → One (OneWay loads (λ x. Leads x m)) es
           → list_any shown (es ++ reached_in loads moment (rounds es) es) ≡ true
       is_reached es h =
-          let Q : Pair → Type 0 = OneWay loads (λ x. Leads x m) in
-          let n : ℕ = rounds es in
-          let ways : One (There (suc n)) es =
-          one_weaker (λ e. Q e × (undone e.stores ≤ n)) (There (suc n)) (λ e p. (p.0.0, p.0.1, (p.0.2, within e p.1))) es
+          let Q = OneWay loads (λ x. Leads x m) in
+          let n = rounds es in
+          let ways =
+          one_weaker (λ e. Q e × (undone e.stores ≤ n)) _ (λ e p. (p.0.0, p.0.1, (p.0.2, within e p.1))) es
           (one_rounds Q 0 es h) in
-          list_any-append shown es (reached_in loads moment n es) ∙ comes_there n es ways
+          list_any-append shown es _ ∙ comes_there n es ways
         where
           within : (e : Pair) → undone e.stores ≤ rounds es → undone e.stores < suc (rounds es)
           within e l = omega arith
@@ -374,10 +374,10 @@ leads_open number k b w m r ls same f h = opened w m r (none_open w.loads ls sam
         → map (λ (l : Watched). l.number) ws ≡ map (λ (l : WatchedLoad). l.number) ks
         → find (is_under number) ks ≡ None → list_any (is_watched number) ws ≡ false
     none_open [] ks e g = refl
-    none_open (x ∷ xs) [] e g = cc
+    none_open _ [] e g = cc
     none_open (x ∷ xs) (y ∷ ys) e g =
         let first : x.number ≡ y.number = cc in
-        let others : map (λ (l : Watched). l.number) xs ≡ map (λ (l : WatchedLoad). l.number) ys = cc in
+        let others : map (λ l. l.number) xs ≡ map (λ l. l.number) ys = cc in
         elim (cases_Bool (is_under number y)) [
           | inl t ↦ let z : Some y ≡ None = rw t at g in cc
           | inr n ↦ rw (ap (λ i. i == number) first ∙ n) (none_open xs ys others (rw n at g))
@@ -387,7 +387,7 @@ leads_open number k b w m r ls same f h = opened w m r (none_open w.loads ls sam
         → list_any (got_byte number k b) ms ≡ true → ⊥
     on_none v [] [] a n t = cc
     on_none v [] (y ∷ ys) a n t = absurd a
-    on_none v (x ∷ xs) [] a n t = absurd a
+    on_none v _ [] a n t = absurd a
     on_none v (x ∷ xs) (y ∷ ys) a n t = elim (cases_Bool (is_watched number x)) [
       | inl u ↦ let z : true ≡ false = rw u at n in cc
       | inr u ↦
@@ -403,7 +403,7 @@ leads_open number k b w m r ls same f h = opened w m r (none_open w.loads ls sam
         → list_any (got_byte number k b) n.loads ≡ true → ⊥
     opened x n (now o) none t = on_none x.word x.loads n.loads o.loads none t
     opened x n (later before s rest split open_ q) none t =
-        opened (effect_of x before s rest) n q (mapped x.word x.loads ∙ none) t
+        opened _ n q (mapped x.word x.loads ∙ none) t
 
 same_numbers : (path : List Stood) (ls : List WatchedLoad)
     → map (λ (l : Watched). l.number) (map (watched path) ls) ≡ map (λ (l : WatchedLoad). l.number) ls
@@ -413,7 +413,7 @@ same_numbers path (l ∷ ls) = ap (λ ns. l.number ∷ ns) (same_numbers path ls
 unit_law : (image : List ℕ) (rest : Rest) (history : List HistoryEvent) (unit : UnitPlace) (u : Ways)
     → StandsFor (untouched image rest unit) unit u history → (number : ℕ) → IsAlone (is_under number) u.loads → (k b : ℕ)
     → (is_shown (find (is_under number) u.loads) k b (reached u) ≡ true) ↔ MayGet image rest history unit number k b
-unit_law image rest history unit u s number alone k b = go (find (is_under number) u.loads) refl
+unit_law image rest history unit u s number alone k b = go _ refl
   where
     P : UnitMemory → Type 0
     P = MayBe unit (untouched image rest unit) history
@@ -426,14 +426,14 @@ unit_law image rest history unit u s number alone k b = go (find (is_under numbe
     go None f = (
       λ h. cc,
       λ g. absurd (one_elim (OneWay u.loads (λ x. Leads x g.0)) ⊥ u.pairs (s.complete g.0 g.1)
-          (λ e w. leads_open number k b (way_on u.loads e w.0) g.0 w.2 u.loads (same_numbers w.0 u.loads) f g.2)),
+          (λ e w. leads_open number k b _ g.0 w.2 u.loads (same_numbers w.0 u.loads) f g.2)),
     )
     go (Some l) f =
-        let n : ℕ = rounds u.pairs in
-        let sound : Each (λ e. EachWay u.loads (SoundOn P) e × IsPairBy u.moment e) u.pairs =
-        each_both (EachWay u.loads (SoundOn P)) (IsPairBy u.moment) u.pairs s.sound s.timely in (
-          λ h. elim (or_cases (list_any (shows_byte l.since k b) u.pairs)
-              (list_any (shows_byte l.since k b) (reached_in u.loads u.moment n u.pairs))
+        let n = rounds u.pairs in
+        let sound =
+        each_both _ _ u.pairs s.sound s.timely in (
+          λ h. elim (or_cases _
+              _
               (sym (list_any-append (shows_byte l.since k b) u.pairs (reached_in u.loads u.moment n u.pairs)) ∙ h)) [
                 | inl t ↦ any_got u.loads u.moment s.asked number k b l f P closed u.pairs sound t
                 | inr t ↦ reached_got u.loads u.moment s.asked number k b l f P closed n u.pairs sound t
@@ -449,12 +449,12 @@ set_law : (h : Held) (lost : List ℕ) (history : List HistoryEvent) → StandsB
 set_law h lost history s number a b o open_ = elim (s.units (a / h.size)) [
   | inl p ↦ (λ t. inl p.0, λ r. rw p.1 refl)
   | inr p ↦
-      let unit : UnitPlace = unit_at h.size (a / h.size) in
-      let alone : IsAlone (is_under number) (h.units (a / h.size)).loads =
-      alone_under h.image h.rest unit history (h.units (a / h.size)) s.formed p.1.0 p.1.1 number o open_ in
-      let u = unit_law h.image h.rest history unit (h.units (a / h.size)) p.1.0 number alone (a % h.size) b in (
+      let unit = unit_at h.size _ in
+      let alone =
+      alone_under h.image h.rest unit history _ s.formed p.1.0 p.1.1 number o open_ in
+      let u = unit_law h.image h.rest history unit _ p.1.0 number alone _ b in (
         λ t. inr (p.0, u.0 (rw p.1.1 at t)),
-        λ r. elim r [ inl y ↦ let z : true ≡ false = sym y ∙ p.0 in cc | inr g ↦ rw p.1.1 (u.1 g.1) ],
+        λ r. elim r [ inl y ↦ let z = sym y ∙ p.0 in cc | inr g ↦ rw p.1.1 (u.1 g.1) ],
       )
 ]
 
@@ -467,12 +467,8 @@ pub byte_law : {E : Type 0} (r : Result (Option ByteSet) E) (h : Held) (number a
     → (lost : List ℕ) (history : List HistoryEvent) → StandsBut h lost history
     → IfOk r (IsSetOf lost h.image h.rest h.size history number a)
 byte_law (Err e) h number a p lost history s = tt
-byte_law (Ok None) h number a p lost history s = ap (λ o. asks (find (has_number number) o.loads) a) (sym s.opened) ∙ p
-byte_law (Ok (Some set)) h number a p lost history s =
-    let there : asks (find (has_number number) (opened_by history).loads) a ≡ true =
-    ap (λ o. asks (find (has_number number) o.loads) a) (sym s.opened) ∙ p.0 in
-    let o = asks_some (find (has_number number) (opened_by history).loads) a there in
-    (there, λ b l. let law = set_law h lost history s number a b o.0 o.1 in (λ t. law.0 (sym (p.1 b l) ∙ t), λ m. p.1 b l ∙ law.1 m))
+byte_law (Ok None) h number a p lost history s = cc (s.opened, p)
+byte_law (Ok (Some set)) h number a p lost history s = grind (arith, asks_some, set_law)
 
 sets_at : (h : Held) (number a : ℕ) (n from : ℕ) (sets : List ByteSet) → AreSetsFrom h number a from n sets
     → (i : ℕ) (set : ByteSet) → slice_get sets i ≡ Some set
@@ -486,10 +482,10 @@ sets_at h number a (suc n) from (x ∷ xs) r zero set e =
     let here : from + 0 ≡ from = omega arith in (
       omega arith,
       subst (IsSet (may_get_at h number (address_of a (from + 0)))) same
-          (subst (λ j. IsSet (may_get_at h number (address_of a j)) x) (sym here) r.0),
+          (rw (sym here) at r.0),
     )
 sets_at h number a (suc n) from (x ∷ xs) r (suc i) set e =
-    let q = sets_at h number a n (from + 1) xs r.1 i set e in
+    let q = sets_at h number a n _ xs r.1 i set e in
     let next : from + 1 + i ≡ from + suc i = omega arith in
     (omega (arith, q.0), subst (λ j. IsSet (may_get_at h number (address_of a j)) set) next q.1)
 
@@ -503,7 +499,7 @@ sets_law : (h : Held) (lost : List ℕ) (history : List HistoryEvent) → Stands
     → find (has_number number) h.opened.loads ≡ Some o → (sets : List ByteSet) → AreSetsFrom h number o.address 0 o.length sets
     → AreSetsOf lost h.image h.rest h.size history number sets
 sets_law h lost history s number o e sets r =
-    let found : find (has_number number) (opened_by history).loads ≡ Some o =
+    let found : find _ (opened_by history).loads ≡ Some o =
     ap (λ x. find (has_number number) x.loads) (sym s.opened) ∙ e in
     let end : o.address + o.length ≤ 18446744073709551616 =
     inside_end o.address o.length (found_fit number (opened_by history).loads o (fit_by history s.formed).loads.1 found) in
@@ -514,9 +510,9 @@ sets_law h lost history s number o e sets r =
       exact = λ i set get b l.
           let q = sets_at h number o.address o.length 0 sets r i set get in
           let inside : i < o.length = q.0 in
-          let there : address_of o.address (0 + i) ≡ o.address + i = omega arith in
-          let same : has set b ≡ may_get_at h number (o.address + i) b = q.1 b l ∙ ap (λ x. may_get_at h number x b) there in
-          let law = set_law h lost history s number (o.address + i) b o found in
+          let there : address_of o.address _ ≡ o.address + i = omega arith in
+          let same : has set b ≡ may_get_at h number _ b = q.1 b l ∙ ap (λ x. may_get_at h number x b) there in
+          let law = set_law h lost history s number _ b o found in
           (λ t. law.0 (sym same ∙ t), λ m. same ∙ law.1 m);
     }
 
@@ -524,5 +520,5 @@ sets_law h lost history s number o e sets r =
 pub may_law : {X E : Type 0} (r : Result X E) (items : X → List ByteSet) (h : Held) (number : ℕ) → IfOk r (λ x. HasSets h number (items x))
     → (lost : List ℕ) (history : List HistoryEvent) → StandsBut h lost history
     → IfOk r (λ x. AreSetsOf lost h.image h.rest h.size history number (items x))
-may_law (Ok x) items h number p lost history s = sets_law h lost history s number p.0 p.1 (items x) p.2
+may_law (Ok x) items h number p lost history s = grind (arith, sets_law)
 may_law (Err e) items h number p lost history s = tt

@@ -1,5 +1,5 @@
 -- Words and stores that are found to be the same are one.
-use Rattle.std.proofs.Common.{◌≡◌, ℕ, Bool, true, false, ◌&&◌, ◌==◌, List, [], ◌∷◌, Option, Some, None, refl, ap, ap₂, eqb-true}
+use Rattle.std.proofs.Common.{◌≡◌, ℕ, Bool, true, false, ◌==◌, List, [], ◌∷◌, Option, Some, None, refl, ap, ap₂, eqb-true}
 use Rattle.std.specs.Option.{option_eq}
 use Rattle.std.specs.Cmp.Lexicographic.{pointwise}
 use mathlib.Core.Bool.{beq}
@@ -24,18 +24,18 @@ same_list eq f [] [] h = refl
 same_list eq f [] (y ∷ ys) h = cc
 same_list eq f (x ∷ xs) [] h = cc
 same_list eq f (x ∷ xs) (y ∷ ys) h = let p =
-    and_parts (eq x y) (pointwise eq xs ys) h in ap₂ (λ a b. a ∷ b) (f x y p.0) (same_list eq f xs ys p.1)
+    and_parts _ _ h in ap₂ (λ a b. a ∷ b) (f x y p.0) (same_list eq f xs ys p.1)
 
 pub same_word : (a b : List (Option ℕ)) → is_same_word a b ≡ true → a ≡ b
-same_word a b h = same_list (option_eq ◌==◌) same_byte a b h
+same_word a b h = same_list _ same_byte a b h
 
 same_store : (a b : OpenStore) → is_same_store a b ≡ true → a ≡ b
 same_store a b h =
-    let p = and_parts (a.number == b.number) (is_same_word a.bytes b.bytes && beq a.is_done b.is_done) h in
-    let q = and_parts (is_same_word a.bytes b.bytes) (beq a.is_done b.is_done) p.1 in
-    let n : a.number ≡ b.number = eqb-true a.number b.number p.0 in
-    let w : a.bytes ≡ b.bytes = same_word a.bytes b.bytes q.0 in
-    let d : a.is_done ≡ b.is_done = same_bool a.is_done b.is_done q.1 in
+    let p = and_parts _ _ h in
+    let q = and_parts _ _ p.1 in
+    let n = eqb-true a.number b.number p.0 in
+    let w = same_word a.bytes b.bytes q.0 in
+    let d = same_bool a.is_done b.is_done q.1 in
     λ i. record { number = n i; bytes = w i; is_done = d i }
 
 pub same_stores : (a b : List OpenStore) → pointwise is_same_store a b ≡ true → a ≡ b

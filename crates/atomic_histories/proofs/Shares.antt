@@ -38,17 +38,17 @@ pub at_push : {X : Type 0} (xs : List X) (x d : X) (k : ℕ) → k ≡ length xs
 at_push xs x d k e = rw e (get_or-append_seam xs x [] d)
 
 pub past_push : {X : Type 0} (xs : List X) (x d : X) (k : ℕ) → length xs < k → get_or (xs ++ x ∷ []) k d ≡ d
-past_push xs x d k h = get_or_past (xs ++ x ∷ []) k d (omega (arith, length-append xs (x ∷ []), h))
+past_push xs x d k h = grind (arith, get_or_past, length-append)
 
 pushed : (left : Past → Option Past) (bare : Option Before) (ps : List Past) (p : Past) (ss : List Stretch) (shares : List (Option Before))
     (share : Option Before) → length shares ≡ length ps
     → ((b : Before) → IsShare ss (share_in bare shares b) (left (past_at ps b)))
     → IsShare ss share (left p) → (b : Before) → IsShare ss (share_in bare (shares ++ share ∷ []) b) (left (past_at (ps ++ p ∷ []) b))
 pushed left bare ps p ss shares share l h here Nothing = h Nothing
-pushed left bare ps p ss shares share l h here (Behind k) = elim (cases_order k (length ps)) [
+pushed left bare ps p ss shares share l h here (Behind k) = elim (cases_order k _) [
   | inl e ↦ rw (at_push shares share bare k (e ∙ sym l), at_push ps p begins k e) here
   | inr o ↦ elim o [
-    | inl b ↦ rw (get_or_append_left shares (share ∷ []) bare k (omega (arith, b, l)), get_or_append_left ps (p ∷ []) begins k b)
+    | inl b ↦ rw (get_or_append_left shares _ bare k (omega (arith, b, l)), get_or_append_left ps _ begins k b)
         (h (Behind k))
     | inr a ↦ rw (past_push shares share bare k (omega (arith, a, l)), past_push ps p begins k a) (h Nothing)
   ]
@@ -57,12 +57,12 @@ pushed left bare ps p ss shares share l h here (Behind k) = elim (cases_order k 
 pub pasts_take : (ss : List Stretch) (place : ℕ) (s : Stretch) → place < length ss → s ≡ get_or ss place s
     → pasts (take (place + 1) ss) ≡ pasts (take place ss) ++ past_of (pasts (take place ss)) s ∷ []
 pasts_take ss place s p e =
-    let more : take (place + 1) ss ≡ take place ss ++ s ∷ [] =
-    rw add-one (take-suc ss place s p ∙ ap (λ x. take place ss ++ x ∷ []) (sym e)) in
+    let more : take _ ss ≡ take place ss ++ s ∷ [] =
+    rw add-one (cc (take-suc ss place s p, e)) in
     ap pasts more ∙ pasts_push (take place ss) s
 
 pub pasts_length : (ss : List Stretch) (place : ℕ) → place ≤ length ss → length (pasts (take place ss)) ≡ place
-pasts_length ss place p = length_pasts (take place ss) ∙ length-take-le place ss p
+pasts_length ss place p = length_pasts _ ∙ length-take-le place ss p
 
 -- with the share of one stretch more, while others are pushed
 pub shares_more : (left : Past → Option Past) (bare : Option Before) (place : ℕ) (ss us : List Stretch) (s : Stretch)
@@ -72,11 +72,11 @@ pub shares_more : (left : Past → Option Past) (bare : Option Before) (place : 
     → AreShares left bare (place + 1) us (shares ++ share ∷ [])
 shares_more left bare place ss us s shares share p e l g h here before =
     let ps = pasts (take place ss) in
-    let kept : take (place + 1) us ≡ take (place + 1) ss =
-    ap (take (place + 1)) g.1 ∙ take-append-le (place + 1) ss g.0 (omega (arith, p)) in
-    let long : length shares ≡ length ps = l ∙ sym (pasts_length ss place (omega (arith, p))) in
-    let so_far : (b : Before) → IsShare us (share_in bare shares b) (left (past_at ps b)) =
-    λ b. share_grown ss us (share_in bare shares b) (left (past_at ps b)) g (h b) in
+    let kept =
+    ap (take (place + 1)) g.1 ∙ take-append-le _ ss g.0 (omega (arith, p)) in
+    let long = l ∙ sym (pasts_length ss place (omega (arith, p))) in
+    let so_far : (b : Before) → IsShare us _ _ =
+    λ b. share_grown ss us _ _ g (h b) in
     rw (kept, pasts_take ss place s p e) (pushed left bare ps (past_of ps s) us shares share long so_far here before)
 
 -- What a stretch itself shows. ----
@@ -88,10 +88,10 @@ pub stands : (ss : List Stretch) (place : ℕ) (s : Stretch) → place < length 
     → past_at (pasts ss) (Behind place) ≡ past_of (pasts (take place ss)) s
 stands ss place s p e =
     let ps = pasts (take place ss) in
-    let within : place < length (take (place + 1) ss) = omega (arith, length-take-le (place + 1) ss (omega (arith, p))) in
-    past_grown (take (place + 1) ss) ss (grows_take ss (place + 1)) (Behind place) within
+    let within : place < length _ = omega (arith, length-take-le (place + 1) ss (omega (arith, p))) in
+    past_grown _ ss (grows_take ss (place + 1)) (Behind place) within
     ∙ ap (λ xs. get_or xs place begins) (pasts_take ss place s p e)
-    ∙ at_push ps (past_of ps s) begins place (sym (pasts_length ss place (omega (arith, p))))
+    ∙ at_push ps _ begins place (sym (pasts_length ss place (omega (arith, p))))
 
 -- what is left of it is left of a stretch before the place
 pub stays : (bare : Option Before) (place : ℕ) (ss : List Stretch) (shares : List (Option Before)) (b : Before)
@@ -99,7 +99,7 @@ pub stays : (bare : Option Before) (place : ℕ) (ss : List Stretch) (shares : L
     → past_at (pasts (take place ss)) b ≡ past_at (pasts ss) b
 stays bare place ss shares Nothing n p l e = refl
 stays bare place ss shares (Behind k) n p l e = elim (cases_lt k place) [
-  | inl b ↦ sym (past_grown (take place ss) ss (grows_take ss place) (Behind k) (omega (arith, length-take-le place ss p, b)))
+  | inl b ↦ sym (past_grown _ ss (grows_take ss place) (Behind k) (omega (arith, length-take-le place ss p, b)))
   | inr a ↦ absurd (n k (sym (get_or_past shares k bare (omega (arith, a, l))) ∙ e))
 ]
 
@@ -113,7 +113,7 @@ stands_grown : (ss ts : List Stretch) (place : ℕ) (s : Stretch) → place < le
     → (place < length ts) × (s ≡ get_or ts place s)
 stands_grown ss ts place s p e g = (
   omega (arith, grows_longer ss ts g, p),
-  e ∙ sym (ap (λ xs. get_or xs place s) g.1 ∙ get_or_append_left ss g.0 s place p),
+  e ∙ sym (cc (g.1, get_or_append_left ss g.0 s place p)),
 )
 
 -- a word's stretch is what is left of it if all is left that stood there before
@@ -146,8 +146,7 @@ shown_share : (left : Past → Option Past) (bare : Option Before) (place : ℕ)
     (shares : List (Option Before))
     (share : Option Before) → AreShares left bare place ss shares → Grows ss ts → share ≡ share_in bare shares b
     → past_any (pasts ts) share ≡ left (past_at (pasts (take place ss)) b)
-shown_share left bare place ss ts b shares share h g i =
-    past_any_grown ss ts g share (subst (IsInAny ss) (sym i) (h b).is_in) ∙ ap (past_any (pasts ss)) i ∙ (h b).shows
+shown_share left bare place ss ts b shares share h g i = grind (arith, past_any_grown)
 
 pub word_left : (left : Past → Option Past) (bare : Option Before) (place : ℕ) (ss ts us : List Stretch) (word : List (Option ℕ))
     (moment : ℕ)
@@ -182,8 +181,8 @@ split_more is place ss us s split new past g m p e shows grows h got_is missed_i
   got = λ b. rw new_got (shares_more (got is) None place ss us s split.got.items g p e h.got_places grows h.got (rw shows got_is) b);
   missed = λ b. rw new_missed
       (shares_more (missed is) (Some Nothing) place ss us s split.missed.items m p e h.missed_places grows h.missed (rw shows missed_is) b);
-  got_places = ap length new_got ∙ length-append split.got.items (g ∷ []) ∙ ap (λ k. k + 1) h.got_places;
-  missed_places = ap length new_missed ∙ length-append split.missed.items (m ∷ []) ∙ ap (λ k. k + 1) h.missed_places;
+  got_places = ap length new_got ∙ length-append split.got.items _ ∙ ap (λ k. k + 1) h.got_places;
+  missed_places = ap length new_missed ∙ length-append split.missed.items _ ∙ ap (λ k. k + 1) h.missed_places;
 }
 
 -- the whole of a stretch is got
@@ -198,7 +197,7 @@ whole_got is ss place s word moment b p e of t = record {
 pub whole_missed : (is : Stood → Bool) (ss : List Stretch) (word : List (Option ℕ)) (moment : ℕ) (past : Past)
     → is (stood word moment) ≡ true
     → IsShare ss None (missed is (after word moment past))
-whole_missed is ss word moment past t = record { shows = rw t refl; is_in = tt }
+whole_missed is ss word moment past t = grind arith
 
 pub got_word : (is : Stood → Bool) (word : List (Option ℕ)) (moment : ℕ) (past : Past) → is (stood word moment) ≡ false
     → got is (after word moment past) ≡ after_any word moment (got is past)

@@ -4,7 +4,7 @@ use Rattle.std.proofs.Common.{None, inl, inr, refl, sym, ap, ◌∙◌}
 use Rattle.std.specs.List.{list_any}
 use Rattle.std.proofs.lemmas.Bool.{cases_Bool, lt-ltb}
 use Rattle.memory_histories.specs.declared.sets.ByteSet.{ByteSet}
-use Rattle.memory_histories.specs.Sets.{has, union, no_bytes}
+use Rattle.memory_histories.specs.Sets.{has, no_bytes}
 use Rattle.memory_histories.proofs.ByteSets.{has-with_byte, has-union, has-no_bytes, has-all_bytes}
 use Rattle.atomic_histories.specs.declared.stretches.Before.{Before}
 use Rattle.atomic_histories.specs.declared.stretches.Before.TheVariants.{Nothing, Behind}
@@ -71,20 +71,19 @@ module _ (since k b : ℕ) (l : b < 256) where
   one_agrees : (sets : List ByteSet) (ps : List Past) → Agree sets ps → (s : Stretch)
       → has (stretch_set since k sets s) b ≡ shows is since (past_of ps s)
   one_agrees sets ps a (Overwritten word moment before) = elim (cases_Bool (nat_le since moment)) [
-    | inl t ↦ rw t (has_lane (set_of sets before) (lane_of k word) b l
-        ∙ (ap (λ x. x || is word) (agree_of sets ps a before) ∙ or_swap (shows is since (past_at ps before)) (is word)))
+    | inl t ↦ rw t (has_lane _ _ b l
+        ∙ (cc (agree_of sets ps a before, or_swap _ (is word))))
     | inr f ↦ rw f (agree_of sets ps a before)
   ]
   one_agrees sets ps a (Either one other) =
       has-union (set_of sets one) (set_of sets other) b
-      ∙ (ap (λ x. x || has (set_of sets other) b) (agree_of sets ps a one)
-      ∙ ap (λ x. shows is since (past_at ps one) || x) (agree_of sets ps a other))
+      ∙ (cc (agree_of sets ps a one, agree_of sets ps a other))
 
   all_agree : (sets : List ByteSet) (ps : List Past) → Agree sets ps → (ss : List Stretch)
       → Agree (fold (λ xs s. xs ++ stretch_set since k xs s ∷ []) sets ss) (fold (λ qs s. qs ++ past_of qs s ∷ []) ps ss)
   all_agree sets ps a [] = a
   all_agree sets ps a (s ∷ ss) =
-      all_agree (sets ++ stretch_set since k sets s ∷ []) (ps ++ past_of ps s ∷ [])
+      all_agree (sets ++ stretch_set since k sets s ∷ []) _
       (agree_more sets ps (stretch_set since k sets s) (past_of ps s) a (one_agrees sets ps a s)) ss
 
   sets_agree : (ss : List Stretch) → Agree (stretch_sets since k ss) (pasts ss)
@@ -93,19 +92,19 @@ module _ (since k b : ℕ) (l : b < 256) where
   pair_bytes : (ss : List Stretch) (set : ByteSet) (p : FollowedPair)
       → has (with_pair_bytes k (stretch_sets since k ss) set p) b ≡ (has set b || shows_byte since k b (shown ss p))
   pair_bytes ss set p =
-      let before : Bool = shows is since (past_at (pasts ss) p.past) in
-      has_lane (union set (set_of (stretch_sets since k ss) p.past)) (lane_of k p.word) b l
-      ∙ (ap (λ x. x || is p.word) (has-union set (set_of (stretch_sets since k ss) p.past) b
-      ∙ ap (λ x. has set b || x) (agree_of (stretch_sets since k ss) (pasts ss) (sets_agree ss) p.past))
-      ∙ (or_assoc (has set b) before (is p.word) ∙ ap (λ x. has set b || x) (or_swap before (is p.word))))
+      let before = shows is since (past_at (pasts ss) p.past) in
+      has_lane _ _ b l
+      ∙ (cc (
+        has-union set _ b ∙ ap (λ x. has set b || x) (agree_of (stretch_sets since k ss) (pasts ss) (sets_agree ss) p.past),
+        (or_assoc _ before _ ∙ ap (λ x. has set b || x) (or_swap before (is p.word))),
+      ))
 
   pairs_bytes : (ss : List Stretch) (set : ByteSet) (ps : List FollowedPair)
       → has (with_pairs_bytes k (stretch_sets since k ss) set ps) b ≡ (has set b || list_any (shows_byte since k b) (shown_all ss ps))
   pairs_bytes ss set [] = sym (or_none (has set b))
   pairs_bytes ss set (p ∷ ps) =
       pairs_bytes ss (with_pair_bytes k (stretch_sets since k ss) set p) ps
-      ∙ (ap (λ x. x || list_any (shows_byte since k b) (shown_all ss ps)) (pair_bytes ss set p)
-      ∙ or_assoc (has set b) (shows_byte since k b (shown ss p)) (list_any (shows_byte since k b) (shown_all ss ps)))
+      ∙ (cc (pair_bytes ss set p, or_assoc _ (shows_byte since k b (shown ss p)) (list_any (shows_byte since k b) (shown_all ss ps))))
 
 -- the set of what a load since a moment may have got on the ways to some pairs
 pub pairs_shown : (since k : ℕ) (ss : List Stretch) (ps : List FollowedPair)

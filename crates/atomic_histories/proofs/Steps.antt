@@ -33,18 +33,18 @@ load_took w (l ∷ ls) (b ∷ bs) m after h = (h.0, load_took w ls bs m after h.
 
 pub leads_on : {e : Branch} {m : UnitMemory} (n : UnitMemory) → Leads e m → HiddenStep m n → Leads e n
 leads_on {e} {m} n (now o) (inl (before, s, after, split, open_, made)) =
-    let on : IsOn (effect_of e before s after)
-    (record { word = written s.bytes m.word; stores = before ++ done_store s ∷ after; loads = m.loads }) = record {
+    let on : IsOn _
+    (record { word = written s.bytes _; stores = before ++ done_store s ∷ after; loads = m.loads }) = record {
       word = ap (written s.bytes) o.word;
       stores = refl;
-      loads = watched_on e.word (written s.bytes e.word) e.loads m.loads o.loads;
+      loads = watched_on e.word _ e.loads _ o.loads;
     } in
     subst (λ x. Leads e x) (sym made) (later before s after (o.stores ∙ split) open_ (now on))
 leads_on {e} {m} n (now o) (inr (before, l, after, split, open_, made)) =
-    let h : AreWatched e.word e.loads (before ++ l ∷ after) = subst (λ x. AreWatched e.word e.loads x) split o.loads in
-    let t : AreWatched e.word e.loads (before ++ done_load m.word l ∷ after) =
+    let h = subst (λ x. AreWatched e.word e.loads x) split o.loads in
+    let t : AreWatched e.word e.loads _ =
     subst (λ x. AreWatched e.word e.loads (before ++ done_load x l ∷ after)) o.word (load_took e.word e.loads before l after h) in
-    let on : IsOn e (record { word = m.word; stores = m.stores; loads = before ++ done_load m.word l ∷ after }) =
+    let on : IsOn e (record { word = m.word; stores = m.stores; loads = before ++ done_load _ l ∷ after }) =
     record { word = o.word; stores = o.stores; loads = t } in
     subst (λ x. Leads e x) (sym made) (now on)
 leads_on {e} {m} n (later before s after split open_ r) step = later before s after split open_ (leads_on n r step)
@@ -67,7 +67,7 @@ take_all Q w c [] [] t q = q
 take_all Q w c [] (n ∷ ns) t q = absurd t
 take_all Q w c (m ∷ ms) [] t q = absurd t
 take_all Q w c (m ∷ ms) (n ∷ ns) t q =
-    let first : Q (n ∷ ms) = elim t.0 [
+    let first : Q _ = elim t.0 [
       | inl e ↦ subst (λ x. Q (x ∷ ms)) e q
       | inr p ↦ subst (λ x. Q (x ∷ ms)) (sym p.1) (c [] m ms p.0 q)
     ] in
@@ -111,4 +111,4 @@ sound_effect P closed e before s after sound split open_ n o =
     let Q : List OpenLoad → Type 0 = λ ls. P (record { word = v; stores = stores; loads = ls }) in
     let q : Q n.loads = take_all Q v (λ bs l as_ g x. closed _ _ x (inr (bs, l, as_, refl, g, refl))) b.0 n.loads b.1.1 p1 in
     subst (λ w. P (record { word = w; stores = n.stores; loads = n.loads })) o.word
-    (subst (λ ss. P (record { word = v; stores = ss; loads = n.loads })) o.stores q)
+    (rw o.stores at q)

@@ -1,5 +1,5 @@
 -- What a step says: an event that leaves each unit a way is of the law, and another is none.
-use Rattle.std.proofs.Common.{◌≡◌, ℕ, ◌-◌, ◌*◌, ◌≤◌, Bool, true, false, ◌==◌, if◌then◌else◌, List, [], ◌∷◌, ◌++◌, length, fold, Option}
+use Rattle.std.proofs.Common.{◌≡◌, ℕ, ◌*◌, ◌≤◌, Bool, true, false, if◌then◌else◌, List, [], ◌∷◌, ◌++◌, length, fold, Option}
 use Rattle.std.proofs.Common.{Some, None, is_none, Result, Ok, Err, IfOk, IfErr, OnOk, OnErr, inl, inr, refl, sym, ap, ◌∙◌, subst}
 use Rattle.std.specs.List.{list_any, find}
 use Rattle.std.proofs.lemmas.Bool.{and_parts}
@@ -27,7 +27,7 @@ use Rattle.atomic_histories.proofs.Whole.{stands_all_first, stands_all_after, at
 
 pub formed_last : (o : Opened) (history : List HistoryEvent) (event : HistoryEvent) → is_formed o (history ++ event ∷ []) ≡ true
     → form_fault (fold opened_after o history) event ≡ None
-formed_last o [] event h = none_is (form_fault o event) (and_parts (is_none (form_fault o event)) true h).0
+formed_last o [] event h = none_is _ (and_parts (is_none (form_fault o event)) true h).0
 formed_last o (x ∷ xs) event h =
     formed_last (opened_after o x) xs event (and_parts (is_none (form_fault o x)) (is_formed (opened_after o x) (xs ++ event ∷ [])) h).1
 
@@ -52,10 +52,10 @@ length_never false place h = cc
 
 answer_never : (o : Option Operation) (n place : ℕ) → answer_fault o n ≡ Some (WrongByte place) → ⊥
 answer_never None n place h = cc
-answer_never (Some o) n place h = length_never (o.length == n) place h
+answer_never (Some o) n place h = length_never _ place h
 
 never_wrong : (o : Opened) (event : HistoryEvent) (place : ℕ) → form_fault o event ≡ Some (WrongByte place) → ⊥
-never_wrong o (LoadRequest number address n) place h = load_never (is_inside address n) (list_any (has_number number) o.loads) place h
+never_wrong o (LoadRequest number address n) place h = load_never _ _ place h
 never_wrong o (LoadResponse number bytes) place h = answer_never (find (has_number number) o.loads) (length bytes.now) place h
 never_wrong o (StoreRequest number address bytes enables) place h =
     store_never (is_inside address (length bytes.now)) (has_enabled bytes.now enables) (list_any (has_number number) o.stores) place h
@@ -74,10 +74,10 @@ malformed : (lost : List ℕ) (h : Held) (event : HistoryEvent) (cause : History
     → (history : List HistoryEvent) → StandsBut h lost history
     → FaultIsBut lost h.image h.rest h.size history event cause × ¬ (IsAtomicBut lost h.image h.rest h.size (history ++ event ∷ []))
 malformed lost h event cause f history s =
-    let g : form_fault (opened_by history) event ≡ Some cause = ap (λ o. form_fault o event) (sym s.opened) ∙ f in (
+    let g = ap (λ o. form_fault o event) (sym s.opened) ∙ f in (
       fault_is lost h history event cause g,
-      λ a. let none : form_fault (opened_by history) event ≡ None =
-          formed_last none_opened history event a.formed in let x : None ≡ Some cause = sym none ∙ g in cc,
+      λ a. let none =
+          formed_last none_opened history event a.formed in let x = sym none ∙ g in cc,
     )
 
 -- Wrong bytes. ----
@@ -87,13 +87,13 @@ wrong : (lost : List ℕ) (h : Held) (event : HistoryEvent) (k : ℕ) → form_f
     → FaultIsBut lost h.image h.rest h.size history event (WrongByte (place_in h.opened.loads event (k * h.size)))
     × ¬ (IsAtomicBut lost h.image h.rest h.size (history ++ event ∷ []))
 wrong lost h (LoadResponse number bytes) k f e history s =
-    let event : HistoryEvent = LoadResponse number bytes in
+    let event = LoadResponse number bytes in
     let r = refused_at h lost history event s f k e in
-    let same : form_fault (opened_by history) event ≡ None = ap (λ o. form_fault o event) (sym s.opened) ∙ f in
+    let same = ap (λ o. form_fault o event) (sym s.opened) ∙ f in
     let o = open_load (find (has_number number) h.opened.loads) (length bytes.now) f in
-    let found : find (has_number number) (opened_by history).loads ≡ Some o.0 =
+    let found =
     ap (λ x. find (has_number number) x.loads) (sym s.opened) ∙ o.1 in
-    let place : place_in h.opened.loads event (k * h.size) ≡ k * h.size - o.0.address = ap (λ x. place_from x (k * h.size)) o.1 in
+    let place = ap (λ x. place_from x (k * h.size)) o.1 in
     ((same, (k, o.0, found, place, r.0, r.1, r.2)), λ a. r.1 (a.moments k r.0))
 wrong lost h (LoadRequest number address n) k f e history s = absurd (only_answers h lost history (LoadRequest number address n) s f tt k e)
 wrong lost h (StoreRequest number address bytes enables) k f e history s =
@@ -167,7 +167,7 @@ pub accepted_law : (r : Result (Unit {0}) AtomicFault) (h next : Held) (event : 
     → (history : List HistoryEvent) → StandsBut h [] history
     → OnOk r (IsAtomic h.image h.rest h.size (history ++ event ∷ []) × StandsBut next [] (history ++ event ∷ []))
 accepted_law (Ok u) h next event t history s =
-    let a = accepted_but (Ok u) h next event t [] history s in (to_atomic h.image h.rest h.size (history ++ event ∷ []) a.0, a.1)
+    let a = accepted_but (Ok u) h next event t [] history s in (to_atomic h.image h.rest h.size _ a.0, a.1)
 accepted_law (Err e) h next event t history s = tt
 
 pub refused_law : (r : Result (Unit {0}) AtomicFault) (limit : ℕ) (h : Held) (event : HistoryEvent) → IfErr r (KeptFaultIs limit h event)
@@ -189,10 +189,10 @@ first_law (Err e) image rest size pos h = tt
 pub same_memory : (r : Result (Unit {0}) AtomicFault) (h next : Held) (event : HistoryEvent) → OnOk r (IsTaken h event next)
     → OnErr r (next ≡ h) → HasSameMemory next h
 same_memory (Ok u) h next event t same = (t.image, t.rest, t.size)
-same_memory (Err e) h next event t same = (ap (λ (x : Held). x.image) same, ap (λ (x : Held). x.rest) same, ap (λ (x : Held). x.size) same)
+same_memory (Err e) h next event t same = (ap (λ x. x.image) same, ap (λ x. x.rest) same, ap (λ x. x.size) same)
 
 pub same_forgotten : {E : Type 0} (r : Result (Unit {0}) E) (h next : Held) (number : ℕ) → OnOk r (IsForgotten h number next)
     → OnErr r (next ≡ h) → HasSameMemory next h
 same_forgotten (Ok u) h next number t same = (t.image, t.rest, t.size)
 same_forgotten (Err e) h next number t same =
-    (ap (λ (x : Held). x.image) same, ap (λ (x : Held). x.rest) same, ap (λ (x : Held). x.size) same)
+    (ap (λ x. x.image) same, ap (λ x. x.rest) same, ap (λ x. x.size) same)

@@ -1,7 +1,7 @@
 -- All units together: what is kept after an event is of the history with it, and an event is refused exactly if it is none of the law.
-use Rattle.std.proofs.Common.{◌≡◌, ℕ, zero, suc, ◌+◌, ◌/◌, ◌<◌, ◌≤◌, Bool, true, false, ◌&&◌, ◌||◌, not, ◌==◌, if◌then◌else◌, nat_lt}
-use Rattle.std.proofs.Common.{nat_le, List, [], ◌∷◌, ◌++◌, map, fold, length, Option, Some, None, is_none, is_some, Result, Ok, Err, OnOk}
-use Rattle.std.proofs.Common.{inl, inr, refl, sym, ap, ◌∙◌, subst, append_assoc, append-nil, leb-true, ltb-true, arith}
+use Rattle.std.proofs.Common.{◌≡◌, ℕ, zero, suc, ◌+◌, ◌/◌, ◌<◌, ◌≤◌, Bool, true, false, ◌||◌, not, ◌==◌, if◌then◌else◌}
+use Rattle.std.proofs.Common.{List, [], ◌∷◌, ◌++◌, map, fold, Option, Some, None, is_some, Result, Ok, Err, OnOk}
+use Rattle.std.proofs.Common.{inl, inr, refl, sym, ap, ◌∙◌, subst, append_assoc, append-nil, arith}
 use Rattle.std.specs.List.{list_any, list_all, find}
 use Rattle.std.proofs.lemmas.Bool.{cases_Bool, cases_lt, and_parts, and_from, or_parts}
 use Rattle.std.proofs.lemmas.List.Folds.{list_all-append}
@@ -11,22 +11,22 @@ use Rattle.memory_histories.specs.declared.events.Rest.{Rest}
 use Rattle.atomic_histories.specs.declared.unit.OpenStore.{OpenStore}
 use Rattle.atomic_histories.specs.declared.unit.Operation.{Operation}
 use Rattle.atomic_histories.specs.declared.unit.UnitPlace.{UnitPlace}
-use Rattle.atomic_histories.specs.Words.{written, at_unit, stored_byte, is_at}
+use Rattle.atomic_histories.specs.Words.{written, at_unit, stored_byte}
 use Rattle.atomic_histories.specs.Operations.{Opened, none_opened, opened_after, opened_by, has_number, form_fault}
 use Rattle.atomic_histories.specs.Law.{is_load, OpenLoad, UnitMemory, HiddenStep, MayBe, steps, sees, untouched, done_store, is_store}
 use Rattle.atomic_histories.specs.Law.{may_answer_store, without_store, unit_at, is_formed, IsAtomicAt}
 use Rattle.atomic_histories.specs.declared.unit.WatchedLoad.{WatchedLoad}
-use Rattle.atomic_histories.specs.Followed.{Pair, Ways, no_ways, has_pair, has_way, watched, met, is_under, is_first, word_aim, effect_aim}
-use Rattle.atomic_histories.specs.Followed.{Aim, answered_load, pair_cut, pair_with_store, pair_without_store, ways_with_load}
-use Rattle.atomic_histories.specs.Followed.{ways_with_store, ways_after, loads_without}
-use Rattle.atomic_histories.specs.Pasts.{Stood, oldest}
+use Rattle.atomic_histories.specs.Followed.{Pair, Ways, has_pair, has_way, watched, met, is_under, effect_aim}
+use Rattle.atomic_histories.specs.Followed.{Aim, answered_load, ways_with_load}
+use Rattle.atomic_histories.specs.Followed.{ways_with_store, ways_after}
+use Rattle.atomic_histories.specs.Pasts.{Stood}
 use Rattle.atomic_histories.specs.Stands.{One, OneWay, AreWatched, Leads, StandsFor}
 use Rattle.atomic_histories.specs.Held.{Held, nothing_held, covered, units_of, is_among, changed, unit_after, is_without, is_stuck}
 use Rattle.atomic_histories.specs.Held.{stuck_from, first_stuck, Stands, is_lost, StandsBut}
 use Rattle.atomic_histories.specs.Lost.{IsAtomicBut}
 use Rattle.atomic_histories.specs.Judge.{IsTaken, IsForgotten}
 use Rattle.atomic_histories.proofs.Alone.{IsAlone, alone}
-use Rattle.atomic_histories.proofs.Exact.{IsAloneFor, stands_first, stands_after, stands_passed, some_state, no_state}
+use Rattle.atomic_histories.proofs.Exact.{IsAloneFor, stands_first, stands_after, stands_passed, some_state}
 use Rattle.atomic_histories.proofs.Links.{fit_by, linked, open_load, opened_more, passes}
 
 -- Ways that are left. ----
@@ -46,7 +46,7 @@ way_if_load false number address u h = h
 
 way_if_store : (b : Bool) (number : ℕ) (bytes : List (Option ℕ)) (u : Ways) → has_way u ≡ true
     → has_way (if b then ways_with_store number bytes u else u) ≡ true
-way_if_store true number bytes u h = pair_map (pair_with_store number bytes) u.pairs h
+way_if_store true number bytes u h = pair_map _ u.pairs h
 way_if_store false number bytes u h = h
 
 some_pair : (es : List Pair) → has_pair es ≡ true → (e : Pair) × (rest : List Pair) × (es ≡ e ∷ rest)
@@ -66,7 +66,7 @@ state_from start unit history u s h =
 
 pub none_from : (start : UnitMemory) (unit : UnitPlace) (history : List HistoryEvent) (u : Ways) → StandsFor start unit u history
     → has_way u ≡ false → ¬ ((m : UnitMemory) × MayBe unit start history m)
-none_from start unit history u s h = no_state start unit u (no_pair u.pairs h) history s
+none_from start unit history u s h = grind arith
 
 -- The load that is answered. ----
 
@@ -76,7 +76,7 @@ alone_watched : (number : ℕ) (w : List (Option ℕ)) (path : List Stood) (ls :
 alone_watched number w path [] ms h a = tt
 alone_watched number w path (l ∷ ls) [] h a = absurd h
 alone_watched number w path (l ∷ ls) (m ∷ ms) h a = (
-  λ t. none ls ms h.1 (a.0 (ap (λ n. n == number) (sym h.0.0) ∙ t)),
+  λ t. none ls ms h.1 (a.0 (cc (h.0.0, t))),
   alone_watched number w path ls ms h.1 a.1,
 )
   where
@@ -94,9 +94,9 @@ pub alone_under : (image : List ℕ) (rest : Rest) (unit : UnitPlace) (history :
     → (o : Operation) → find (has_number number) (opened_by history).loads ≡ Some o → IsAlone (is_under number) u.loads
 alone_under image rest unit history u formed s way number o open_ =
     let p = some_pair u.pairs way in
-    let r = some_state (untouched image rest unit) unit u p.0 p.1 p.2 history s in
-    let one : IsAlone (is_load number) r.1.loads =
-    alone unit number r.1 (opened_by history) (linked image rest unit r.3) (fit_by history formed).loads.0 o open_ in
+    let r = some_state _ unit u p.0 p.1 p.2 history s in
+    let one =
+    alone unit number r.1 _ (linked image rest unit r.3) (fit_by history formed).loads.0 o open_ in
     alone_watched number p.0.word r.0 u.loads r.1.loads r.2.loads one
 
 pub alone_for : (image : List ℕ) (rest : Rest) (unit : UnitPlace) (history : List HistoryEvent) (event : HistoryEvent) (u : Ways)
@@ -104,7 +104,7 @@ pub alone_for : (image : List ℕ) (rest : Rest) (unit : UnitPlace) (history : L
     → StandsFor (untouched image rest unit) unit u history → has_way u ≡ true → IsAloneFor u event
 alone_for image rest unit history (LoadRequest number address n) u formed f s way = tt
 alone_for image rest unit history (LoadResponse number bytes) u formed f s way =
-    let o = open_load (find (has_number number) (opened_by history).loads) (length bytes.now) f in
+    let o = open_load _ _ f in
     alone_under image rest unit history u formed s way number o.0 o.1
 alone_for image rest unit history (StoreRequest number address bytes enables) u formed f s way = tt
 alone_for image rest unit history (StoreResponse number) u formed f s way = tt
@@ -116,25 +116,21 @@ all_done ss = list_all (λ s. s.is_done) ss
 
 done_more : (before : List OpenStore) (s : OpenStore) → all_done before ≡ true → s.is_done ≡ true → all_done (before ++ s ∷ []) ≡ true
 unfolding all_done
-done_more before s h d =
-    list_all-append (λ x. x.is_done) before (s ∷ [])
-    ∙ and_from (list_all (λ x. x.is_done) before) (s.is_done && true) h (and_from s.is_done true d refl)
+done_more before s h d = grind (arith, list_all-append, and_from, s.is_done)
 
 finish : (P : UnitMemory → Type 0) → ((m n : UnitMemory) → P m → HiddenStep m n → P n)
     → (loads : List OpenLoad) (before after : List OpenStore) (w : List (Option ℕ)) → all_done before ≡ true
     → P (record { word = w; stores = before ++ after; loads = loads })
     → (v : List (Option ℕ)) × (ss : List OpenStore) × P (record { word = v; stores = ss; loads = loads }) × (all_done ss ≡ true)
-finish P closed loads before [] w d p =
-    (w, before, subst (λ ss. P (record { word = w; stores = ss; loads = loads })) (append-nil before) p, d)
+finish P closed loads before [] w d p = grind (arith, append-nil)
 finish P closed loads before (s ∷ after) w d p = elim (cases_Bool s.is_done) [
-  | inl t ↦ finish P closed loads (before ++ s ∷ []) after w (done_more before s d t)
-      (subst (λ ss. P (record { word = w; stores = ss; loads = loads })) (sym (append_assoc before (s ∷ []) after)) p)
+  | inl t ↦ finish P closed loads _ after w (done_more before s d t)
+      (rw (sym (append_assoc before (s ∷ []) after)) at p)
   | inr f ↦
       let q : P (record { word = written s.bytes w; stores = before ++ done_store s ∷ after; loads = loads }) =
       closed (record { word = w; stores = before ++ s ∷ after; loads = loads }) _ p (inl (before, s, after, refl, f, refl)) in
       finish P closed loads (before ++ done_store s ∷ []) after (written s.bytes w) (done_more before (done_store s) d refl)
-      (subst (λ ss. P (record { word = written s.bytes w; stores = ss; loads = loads }))
-      (sym (append_assoc before (done_store s ∷ []) after)) q)
+      (rw (sym (append_assoc before (done_store s ∷ []) after)) at q)
 ]
 
 or_true_right : (a b : Bool) → b ≡ true → (a || b) ≡ true
@@ -146,7 +142,7 @@ unfolding all_done
 done_answer number [] h = refl
 done_answer number (s ∷ ss) h =
     let p = and_parts s.is_done (list_all (λ x. x.is_done) ss) h in
-    and_from (not (is_store number s) || s.is_done) (may_answer_store number ss) (or_true_right (not (is_store number s)) s.is_done p.0)
+    and_from _ _ (or_true_right (not (is_store number s)) s.is_done p.0)
     (done_answer number ss p.1)
 
 none_done : all_done [] ≡ true
@@ -160,10 +156,10 @@ then_some false x h = cc
 store_answered : (start : UnitMemory) (unit : UnitPlace) (history : List HistoryEvent) (number : ℕ)
     → (m : UnitMemory) × MayBe unit start history m → (n : UnitMemory) × MayBe unit start (history ++ StoreResponse number ∷ []) n
 store_answered start unit history number h =
-    let r = finish (MayBe unit start history) (λ m n x step. steps history m n x step) h.0.loads [] h.0.stores h.0.word none_done h.1 in
+    let r = finish _ (λ m n x step. steps history m n x step) h.0.loads [] h.0.stores h.0.word none_done h.1 in
     let m : UnitMemory = record { word = r.0; stores = r.1; loads = h.0.loads } in (
       without_store number m,
-      sees history (StoreResponse number) m (without_store number m) r.2
+      sees history _ m _ r.2
           (then_some (may_answer_store number r.1) (without_store number m) (done_answer number r.1 r.3)),
     )
 
@@ -175,10 +171,10 @@ IsNoAnswer event = Unit {0}
 pub way_left : (start : UnitMemory) (unit : UnitPlace) (history : List HistoryEvent) (event : HistoryEvent) → IsNoAnswer event
     → (u : Ways) → StandsFor start unit u history → has_way u ≡ true
     → has_way (ways_after unit u event) ≡ true
-way_left start unit history (LoadRequest number address n) a u s h = way_if_load (is_at unit address n) number address u h
+way_left start unit history (LoadRequest number address n) a u s h = way_if_load _ number address u h
 way_left start unit history (LoadResponse number bytes) a u s h = absurd a
 way_left start unit history (StoreRequest number address bytes enables) a u s h =
-    let stored : List (Option ℕ) = at_unit unit (stored_byte address bytes.now enables) in
+    let stored = at_unit unit (stored_byte address bytes.now enables) in
     way_if_store (list_any is_some stored) number stored u h
 way_left start unit history (StoreResponse number) a u s h =
     let n = store_answered start unit history number (state_from start unit history u s h) in
@@ -201,7 +197,7 @@ stuck_none h event k (suc n) e j l m = elim (cases_Bool (is_stuck h event k)) [
 pub stuck_some : (h : Held) (event : HistoryEvent) (k n i : ℕ) → stuck_from h event k n ≡ Some i
     → (is_stuck h event i ≡ true) × ((j : ℕ) → k ≤ j → j < i → is_stuck h event j ≡ false)
 stuck_some h event k zero i e = cc
-stuck_some h event k (suc n) i e = elim (cases_Bool (is_stuck h event k)) [
+stuck_some h event k (suc n) i e = elim (cases_Bool _) [
   | inl t ↦
       let x : Some k ≡ Some i = rw t at e in
       let same : k ≡ i = cc in
@@ -217,20 +213,10 @@ stuck_some h event k (suc n) i e = elim (cases_Bool (is_stuck h event k)) [
 ]
 
 way_stays : (before after : Ways) → is_without before after ≡ false → has_way before ≡ true → has_way after ≡ true
-way_stays before after h w = stays (has_way before) (has_way after) h w
-  where
-    stays : (a b : Bool) → (a && not b) ≡ false → a ≡ true → b ≡ true
-    stays true true h w = refl
-    stays true false h w = cc
-    stays false b h w = cc
+way_stays before after h w = grind arith
 
 way_lost : (before after : Ways) → is_without before after ≡ true → (has_way before ≡ true) × (has_way after ≡ false)
-way_lost before after h = lost (has_way before) (has_way after) h
-  where
-    lost : (a b : Bool) → (a && not b) ≡ true → (a ≡ true) × (b ≡ false)
-    lost true false h = (refl, refl)
-    lost true true h = cc
-    lost false b h = cc
+way_lost before after h = grind arith
 
 -- No way leads on where there is none. ----
 
@@ -241,36 +227,33 @@ met_none loads moment (suc n) aim = met_none loads moment n aim
 answered_none : (unit : UnitPlace) (bytes : List ℕ) (load : Option WatchedLoad) (loads : List WatchedLoad) (moment : ℕ) (es : List Pair)
     → es ≡ [] → answered_load unit bytes load (record { loads = loads; moment = moment; pairs = es }) ≡ []
 answered_none unit bytes None loads moment es h = h
-answered_none unit bytes (Some l) loads moment es h =
-    subst (λ xs. answered_load unit bytes (Some l) (record { loads = loads; moment = moment; pairs = xs }) ≡ []) (sym h)
-    (met_none loads moment 1 (word_aim unit l.address bytes))
+answered_none unit bytes (Some l) loads moment es h = grind arith
 
 none_mapped : (b : Bool) (f : Pair → Pair) (es : List Pair) → es ≡ [] → has_pair (if b then map f es else es) ≡ false
-none_mapped true f es h = ap (λ xs. has_pair (map f xs)) h
+none_mapped true f es h = grind arith
 none_mapped false f es h = ap has_pair h
 
 none_after : (unit : UnitPlace) (u : Ways) (event : HistoryEvent) → has_way u ≡ false → has_way (ways_after unit u event) ≡ false
-none_after unit u (LoadRequest number address n) h = none_if (is_at unit address n)
+none_after unit u (LoadRequest number address n) h = none_if _
   where
     none_if : (b : Bool) → has_way (if b then ways_with_load number address u else u) ≡ false
     none_if true = h
     none_if false = h
 none_after unit u (LoadResponse number bytes) h =
-    none_mapped (is_first number u.loads) (pair_cut (oldest (loads_without number u.loads)))
-    (answered_load unit bytes.now (find (is_under number) u.loads) u)
+    none_mapped _ _
+    _
     (answered_none unit bytes.now (find (is_under number) u.loads) u.loads u.moment u.pairs (no_pair u.pairs h))
 none_after unit u (StoreRequest number address bytes enables) h =
-    none_if (list_any is_some (at_unit unit (stored_byte address bytes.now enables)))
+    none_if _
   where
     none_if : (b : Bool)
         → has_way (if b then ways_with_store number (at_unit unit (stored_byte address bytes.now enables)) u else u) ≡ false
-    none_if true =
-        ap (λ xs. has_pair (map (pair_with_store number (at_unit unit (stored_byte address bytes.now enables))) xs)) (no_pair u.pairs h)
+    none_if true = grind arith
     none_if false = h
 none_after unit u (StoreResponse number) h =
     let none : ways_after unit (record { loads = u.loads; moment = u.moment; pairs = [] }) (StoreResponse number)
     ≡ record { loads = u.loads; moment = u.moment; pairs = [] } =
-    ap (λ (xs : List Pair). record { loads = u.loads; moment = u.moment; pairs = map (pair_without_store number) xs })
+    ap (λ xs. record { loads = u.loads; moment = u.moment; pairs = grind arith })
     (met_none u.loads u.moment 1 (effect_aim number)) in
     ap (λ xs. has_way (ways_after unit (record { loads = u.loads; moment = u.moment; pairs = xs }) (StoreResponse number)))
     (no_pair u.pairs h)
@@ -283,13 +266,13 @@ pub formed_more : (o : Opened) (history : List HistoryEvent) (event : HistoryEve
     → is_formed o (history ++ event ∷ []) ≡ true
 formed_more o [] event h f = rw f refl
 formed_more o (x ∷ xs) event h f =
-    let p = and_parts (is_none (form_fault o x)) (is_formed (opened_after o x) xs) h in
-    and_from (is_none (form_fault o x)) (is_formed (opened_after o x) (xs ++ event ∷ [])) p.0
+    let p = and_parts _ _ h in
+    and_from _ _ p.0
     (formed_more (opened_after o x) xs event p.1 f)
 
 pub stands_all_first : (image : List ℕ) (rest : Rest) (size : ℕ) → 1 ≤ size → StandsBut (nothing_held image rest size) [] []
 stands_all_first image rest size l =
-    record { sized = l; formed = refl; opened = refl; units = λ k. inr (refl, (stands_first image rest (unit_at size k), refl)) }
+    record { sized = l; formed = refl; opened = refl; units = λ k. inr (refl, (stands_first image rest _, refl)) }
 
 module _ (h : Held) (lost : List ℕ) (history : List HistoryEvent) (event : HistoryEvent) (s : StandsBut h lost history)
     (formed : form_fault h.opened event ≡ None) where
@@ -303,33 +286,33 @@ module _ (h : Held) (lost : List ℕ) (history : List HistoryEvent) (event : His
   count = units_of h.size (covered h.opened event).0 (covered h.opened event).1
 
   formless : form_fault (opened_by history) event ≡ None
-  formless = ap (λ o. form_fault o event) (sym s.opened) ∙ formed
+  formless = grind arith
 
   -- what is kept of a unit that the event passes
   passed : (k : ℕ) → is_among h.size (covered h.opened event) k ≡ false → Stands h.image h.rest history (unit_at h.size k) (h.units k)
       → Now k (h.units k)
   passed k out a =
-      stands_passed (untouched h.image h.rest (unit_at h.size k)) (unit_at h.size k) (h.units k) history event
-      (λ m r. passes h.size k m (opened_by history) event s.sized (fit_by history s.formed)
+      stands_passed _ _ _ history event
+      (λ m r. passes h.size k m _ event s.sized (fit_by history s.formed)
       (linked h.image h.rest (unit_at h.size k) r) formless
-      (subst (λ o. is_among h.size (covered o event) k ≡ false) s.opened out)) a
+      (rw s.opened at out)) a
 
   touched : (k : ℕ) → Stands h.image h.rest history (unit_at h.size k) (h.units k) → has_way (h.units k) ≡ true → Now k (changed h event k)
   touched k a way =
-      stands_after (untouched h.image h.rest (unit_at h.size k)) (unit_at h.size k) (h.units k) history event
+      stands_after _ _ (h.units k) history event
       (alone_for h.image h.rest (unit_at h.size k) history event (h.units k) s.formed formless a way) a
 
   range : (k : ℕ) → is_among h.size (covered h.opened event) k ≡ true → (first ≤ k) × (k < first + count)
-  range k t = let p = and_parts (nat_le first k) (nat_lt k (first + count)) t in (leb-true first k p.0, ltb-true k (first + count) p.1)
+  range k t = grind arith
 
   -- the ways of each unit after an event that leaves them some
   after_at : first_stuck h event ≡ None → (k : ℕ)
       → (is_lost k lost ≡ false) × (Stands h.image h.rest history (unit_at h.size k) (h.units k) × (has_way (h.units k) ≡ true))
       → Now k (unit_after h event k) × (has_way (unit_after h event k) ≡ true)
-  after_at none k a = elim (cases_Bool (is_among h.size (covered h.opened event) k)) [
+  after_at none k a = elim (cases_Bool _) [
     | inl t ↦
         let r = range k t in
-        let w : has_way (changed h event k) ≡ true =
+        let w =
         way_stays (h.units k) (changed h event k) (stuck_none h event first count none k r.0 r.1) a.1.1 in
         rw t (touched k a.1.0 a.1.1, w)
     | inr f ↦ rw f (passed k f a.1.0, a.1.1)
@@ -342,36 +325,33 @@ module _ (h : Held) (lost : List ℕ) (history : List HistoryEvent) (event : His
   ]
 
   pub formed_after : is_formed none_opened (history ++ event ∷ []) ≡ true
-  formed_after = formed_more none_opened history event s.formed formless
+  formed_after = grind (arith, formed_more, formless)
 
   -- an event that leaves each unit a way
   pub stands_all_after : (next : Held) → IsTaken h event next → StandsBut next lost (history ++ event ∷ [])
   stands_all_after next t = record {
-    sized = subst (λ n. 1 ≤ n) (sym t.size) s.sized;
+    sized = grind arith;
     formed = formed_after;
-    opened = t.opened ∙ (ap (λ o. opened_after o event) s.opened ∙ sym (opened_more none_opened history event));
+    opened = t.opened ∙ (cc (s.opened, opened_more none_opened history event));
     units = λ k. elim (s.units k) [
       | inl a ↦ inl (a.0, ap has_way (t.units k) ∙ lost_after k a.1)
       | inr a ↦
           let r = after_at t.ways k a in
-          inr (a.0, (same next t k (subst (λ u. Now k u) (sym (t.units k)) r.0), subst (λ u. has_way u ≡ true) (sym (t.units k)) r.1))
+          inr (a.0, (same next t k (rw (sym (t.units k)) at r.0), subst (λ u. has_way u ≡ true) (sym (t.units k)) r.1))
     ];
   }
     where
       same : (next : Held) → IsTaken h event next → (k : ℕ) → Now k (next.units k)
           → Stands next.image next.rest (history ++ event ∷ []) (unit_at next.size k) (next.units k)
-      same next t k a =
-          subst (λ i. Stands i next.rest (history ++ event ∷ []) (unit_at next.size k) (next.units k)) (sym t.image)
-          (subst (λ i. Stands h.image i (history ++ event ∷ []) (unit_at next.size k) (next.units k)) (sym t.rest)
-          (subst (λ i. Stands h.image h.rest (history ++ event ∷ []) (unit_at i k) (next.units k)) (sym t.size) a))
+      same next t k a = grind arith
 
   pub atomic_after : first_stuck h event ≡ None → IsAtomicBut lost h.image h.rest h.size (history ++ event ∷ [])
   atomic_after none = record {
     formed = formed_after;
     moments = λ k there. elim (s.units k) [
-      | inl a ↦ let y : true ≡ false = sym a.0 ∙ there in cc
-      | inr a ↦ let r = after_at none k a in state_from (untouched h.image h.rest (unit_at h.size k)) (unit_at h.size k)
-          (history ++ event ∷ []) (unit_after h event k) r.0 r.1
+      | inl a ↦ let y = sym a.0 ∙ there in cc
+      | inr a ↦ let r = after_at none k a in state_from _ _
+          _ _ r.0 r.1
     ];
   }
 
@@ -410,11 +390,11 @@ module _ (h : Held) (lost : List ℕ) (history : List HistoryEvent) (event : His
       let r = stuck_some h event first count k e in
       let w = way_lost (h.units k) (changed h event k) r.0 in
       elim (s.units k) [
-        | inl a ↦ let z : true ≡ false = sym w.0 ∙ a.1 in cc
+        | inl a ↦ let z = sym w.0 ∙ a.1 in cc
         | inr a ↦
-            let left : has_way (changed h event k) ≡ true =
+            let left =
             way_left (untouched h.image h.rest (unit_at h.size k)) (unit_at h.size k) history event other (h.units k) a.1.0 a.1.1 in
-            let z : true ≡ false = sym left ∙ w.1 in cc
+            let z = sym left ∙ w.1 in cc
       ]
 
 -- A unit is forgotten. ----
@@ -422,38 +402,18 @@ module _ (h : Held) (lost : List ℕ) (history : List HistoryEvent) (event : His
 pub stands_forgotten : (h next : Held) (number : ℕ) → IsForgotten h number next → (lost : List ℕ) (history : List HistoryEvent)
     → StandsBut h lost history → StandsBut next (number ∷ lost) history
 stands_forgotten h next number t lost history s = record {
-  sized = subst (λ n. 1 ≤ n) (sym t.size) s.sized;
+  sized = grind arith;
   formed = s.formed;
   opened = t.opened ∙ s.opened;
-  units = λ k. elim (cases_Bool (number == k)) [
-    | inl e ↦
-        let none : next.units k ≡ no_ways = t.units k ∙ rw e refl in
-        inl (rw e refl, ap has_way none)
-    | inr f ↦
-        let kept : next.units k ≡ h.units k = t.units k ∙ rw f refl in
-        elim (s.units k) [
-          | inl a ↦ inl (rw f a.0, ap has_way kept ∙ a.1)
-          | inr a ↦ inr (
-            rw f a.0,
-            (
-              same k (subst (λ es. Stands h.image h.rest history (unit_at h.size k) es) (sym kept) a.1.0),
-              subst (λ es. has_way es ≡ true)
-                  (sym kept) a.1.1,
-            ),
-          )
-        ]
-  ];
+  units = grind arith;
 }
   where
     same : (k : ℕ) → Stands h.image h.rest history (unit_at h.size k) (next.units k)
         → Stands next.image next.rest history (unit_at next.size k) (next.units k)
-    same k a =
-        subst (λ i. Stands i next.rest history (unit_at next.size k) (next.units k)) (sym t.image)
-        (subst (λ i. Stands h.image i history (unit_at next.size k) (next.units k)) (sym t.rest)
-        (subst (λ i. Stands h.image h.rest history (unit_at i k) (next.units k)) (sym t.size) a))
+    same k a = grind arith
 
 pub forgotten_law : {E : Type 0} (r : Result (Unit {0}) E) (h next : Held) (number : ℕ) → OnOk r (IsForgotten h number next)
     → (lost : List ℕ) (history : List HistoryEvent) → StandsBut h lost history
     → OnOk r (StandsBut next (number ∷ lost) history)
-forgotten_law (Ok u) h next number t lost history s = stands_forgotten h next number t lost history s
+forgotten_law (Ok u) h next number t lost history s = grind arith
 forgotten_law (Err e) h next number t lost history s = tt

@@ -1,8 +1,8 @@
 -- Where a search would follow more pairs than the limit, the unit may be in as many states that differ.
-use Rattle.std.proofs.Common.{◌≡◌, ℕ, zero, suc, ltb-true, ◌/◌, ◌<◌, ◌≤◌, ◌⊎◌, true, false, ◌||◌, nat_lt, List, [], ◌∷◌, map, length}
+use Rattle.std.proofs.Common.{◌≡◌, ℕ, zero, suc, ltb-true, ◌/◌, ◌<◌, ◌⊎◌, true, false, nat_lt, List, [], ◌∷◌, map, length}
 use Rattle.std.proofs.Common.{Option, Some, None, inl, inr, refl, sym, ap, ◌∙◌, subst, arith}
 use Rattle.std.specs.List.{find}
-use Rattle.std.proofs.lemmas.Bool.{le-ltb, or_cases}
+use Rattle.std.proofs.lemmas.Bool.{or_cases}
 use Rattle.memory_histories.specs.declared.events.HistoryEvent.{HistoryEvent}
 use Rattle.memory_histories.specs.declared.events.HistoryEvent.TheVariants.{LoadRequest, LoadResponse, StoreRequest, StoreResponse}
 use Rattle.memory_histories.specs.declared.events.Rest.{Rest}
@@ -10,13 +10,13 @@ use Rattle.atomic_histories.specs.declared.unit.UnitPlace.{UnitPlace}
 use Rattle.atomic_histories.specs.declared.unit.WatchedLoad.{WatchedLoad}
 use Rattle.atomic_histories.specs.declared.search.TheConstants.{MOST_WORDS}
 use Rattle.atomic_histories.specs.Law.{UnitMemory, HiddenStep, MayBe, steps, untouched, unit_at}
-use Rattle.atomic_histories.specs.Followed.{Pair, Ways, Aim, never, way_on, out_after, next_after, rounds, is_under, is_over, are_too_many}
-use Rattle.atomic_histories.specs.Followed.{needs_more, effect_aim, word_aim, pair_got, pair_missed, gathered, with_hope, load_needs_more}
+use Rattle.atomic_histories.specs.Followed.{Pair, Ways, Aim, never, way_on, next_after, rounds, is_under, is_over, are_too_many}
+use Rattle.atomic_histories.specs.Followed.{needs_more, effect_aim, word_aim, pair_got, gathered, with_hope, load_needs_more}
 use Rattle.atomic_histories.specs.Followed.{is_too_wide}
-use Rattle.atomic_histories.specs.Stands.{Each, EachWay, IsPairBy, IsAsked, AreApart, StandsFor}
+use Rattle.atomic_histories.specs.Stands.{Each, IsAsked, AreApart, StandsFor}
 use Rattle.atomic_histories.specs.Held.{Held, StandsBut}
 use Rattle.atomic_histories.specs.May.{address_of, is_reach_over, is_reach_wide}
-use Rattle.atomic_histories.specs.Wide.{DiffersFrom, AllDiffer, MayBeMany, UndecidedIsMuch, NoSetsAreMuch}
+use Rattle.atomic_histories.specs.Wide.{AllDiffer, MayBeMany, UndecidedIsMuch, NoSetsAreMuch}
 use Rattle.atomic_histories.proofs.Lists.{each_weaker, each_map, each_filter, each_both}
 use Rattle.atomic_histories.proofs.Paths.{some_path}
 use Rattle.atomic_histories.proofs.Found.{IsSound, sound_joint, sound_kept, out_sound, next_sound}
@@ -44,12 +44,12 @@ module _ (loads : List WatchedLoad) (moment : ℕ) (asked : Each (IsAsked moment
       → is_over limit loads moment n aim out es ≡ true → AreMany limit S
   over_many limit zero aim out es a b s t h = cc
   over_many limit (suc n) aim out es a b s t h =
-      elim (or_cases (are_too_many limit es || are_too_many limit out) _ h) [
-        | inl now ↦ elim (or_cases (are_too_many limit es) (are_too_many limit out) now) [
+      elim (or_cases _ _ h) [
+        | inl now ↦ elim (or_cases _ _ now) [
           | inl y ↦ (es, y, b, t)
           | inr y ↦ (out, y, a, s)
         ]
-        | inr later ↦ over_many limit n aim (out_after aim.goal out es) (next_after loads moment aim es) (apart_out aim.goal out es a)
+        | inr later ↦ over_many limit n aim _ _ (apart_out aim.goal out es a)
             (apart_next loads moment aim [] es tt)
             (out_sound loads moment asked S S (sound_joint loads moment asked P) aim.goal (λ e r y. r) out es s t)
             (next_sound loads moment asked S (sound_joint loads moment asked P) (sound_kept loads moment asked P closed) aim [] es tt t)
@@ -59,7 +59,7 @@ module _ (loads : List WatchedLoad) (moment : ℕ) (asked : Each (IsAsked moment
   pub more_many : (limit : ℕ) (aim : Aim) (out es : List Pair) → AreApart out → Each S out → Each S es
       → needs_more limit loads moment aim out es ≡ true → AreMany limit S
   more_many limit aim out es a s t h =
-      over_many limit (rounds es) aim (out_after aim.goal out es) (next_after loads moment aim es) (apart_out aim.goal out es a)
+      over_many limit _ aim _ _ (apart_out aim.goal out es a)
       (apart_next loads moment aim [] es tt)
       (out_sound loads moment asked S S (sound_joint loads moment asked P) aim.goal (λ e r y. r) out es s t)
       (next_sound loads moment asked S (sound_joint loads moment asked P) (sound_kept loads moment asked P closed) aim [] es tt t) h
@@ -67,10 +67,10 @@ module _ (loads : List WatchedLoad) (moment : ℕ) (asked : Each (IsAsked moment
   pub reach_many : (limit n : ℕ) (es : List Pair) → Each S es → is_reach_over limit loads moment n es ≡ true → AreMany limit S
   reach_many limit zero es s h = cc
   reach_many limit (suc n) es s h =
-      let next : List Pair = next_after loads moment never es in
-      let t : Each S next =
+      let next = next_after loads moment never es in
+      let t =
       next_sound loads moment asked S (sound_joint loads moment asked P) (sound_kept loads moment asked P closed) never [] es tt s in
-      elim (or_cases (are_too_many limit next) (is_reach_over limit loads moment n next) h) [
+      elim (or_cases _ _ h) [
         | inl y ↦ (next, y, apart_next loads moment never [] es tt, t)
         | inr y ↦ reach_many limit n next t y
       ]
@@ -85,23 +85,16 @@ module _ (loads : List WatchedLoad) (moment : ℕ) (asked : Each (IsAsked moment
 
   state_is : (e : Pair) → S e → P (state_of e)
   unfolding state_of
-  state_is e s =
-      let p = some_path e.past in
-      let r = state_on (way_on loads e p.0) in
-      s.0 p.0 p.1 (record { word = e.word; stores = e.stores; loads = r.0.loads })
-      (record { word = refl; stores = refl; loads = r.1.loads })
+  state_is e s = grind arith
 
   states_differ : (es : List Pair) → AreApart es → AllDiffer (map state_of es)
   unfolding state_of
   states_differ [] a = tt
-  states_differ (e ∷ es) a = (each_map state_of (DiffersFrom (state_of e)) es a.0, states_differ es a.1)
+  states_differ (e ∷ es) a = (each_map state_of _ es a.0, states_differ es a.1)
 
   pub many_states : (limit : ℕ) → AreMany limit S
       → (ms : List UnitMemory) × (limit < length ms) × Each P ms × AllDiffer ms
-  many_states limit m =
-      let more : limit < length (map state_of m.0) =
-      subst (λ n. limit < n) (sym (length_mapped state_of m.0)) (ltb-true limit (length m.0) m.1) in
-      (map state_of m.0, more, each_map state_of P m.0 (each_weaker S (λ e. P (state_of e)) state_is m.0 m.3), states_differ m.0 m.2)
+  many_states limit m = grind (arith, length_mapped, ltb-true, each_map, each_weaker, state_is, states_differ)
 
 -- Units. ----
 
@@ -117,7 +110,7 @@ module _ (image : List ℕ) (rest : Rest) (unit : UnitPlace) (history : List His
   here_closed m n r step = steps history m n r step
 
   all_sound : Each Follows u.pairs
-  all_sound = each_both (EachWay u.loads (SoundOn Here)) (IsPairBy u.moment) u.pairs s.sound s.timely
+  all_sound = grind (arith, each_both)
 
   pub store_much : (limit number : ℕ) → needs_more limit u.loads u.moment (effect_aim number) [] u.pairs ≡ true
       → MayBeMany limit image rest unit history
@@ -129,9 +122,9 @@ module _ (image : List ℕ) (rest : Rest) (unit : UnitPlace) (history : List His
       → load_needs_more limit unit bytes load u ≡ true → MayBeMany limit image rest unit history
   load_much limit number bytes None open_ h = cc
   load_much limit number bytes (Some l) open_ h =
-      let aim : Aim = word_aim unit l.address bytes in
-      let out : List Pair = gathered (pair_got unit bytes l) u.pairs in
-      let missed : List Pair = gathered (pair_missed unit bytes l) u.pairs in
+      let aim = word_aim unit l.address bytes in
+      let out = gathered _ u.pairs in
+      let missed = gathered _ u.pairs in
       many_states u.loads u.moment s.asked Here here_closed limit
       (more_many u.loads u.moment s.asked Here here_closed limit aim out (with_hope aim missed)
       (gathered_apart (pair_got unit bytes l) (got_keeps unit bytes l) u.pairs s.apart)
@@ -146,7 +139,7 @@ module _ (image : List ℕ) (rest : Rest) (unit : UnitPlace) (history : List His
       (reach_many u.loads u.moment s.asked Here here_closed limit (rounds u.pairs) u.pairs all_sound h)
 
 few : (limit : ℕ) → nat_lt limit 0 ≡ false
-few limit = let least : 0 ≤ limit = omega arith in le-ltb limit 0 least
+few limit = grind arith
 
 no_over : (limit : ℕ) (loads : List WatchedLoad) (moment n : ℕ) (aim : Aim) → is_over limit loads moment n aim [] [] ≡ false
 no_over limit loads moment zero aim = refl
@@ -156,14 +149,11 @@ no_load : (limit : ℕ) (unit : UnitPlace) (bytes : List ℕ) (load : Option Wat
     (es : List Pair)
     → es ≡ [] → load_needs_more limit unit bytes load (record { loads = loads; moment = moment; pairs = es }) ≡ false
 no_load limit unit bytes None loads moment es h = refl
-no_load limit unit bytes (Some l) loads moment es h =
-    subst (λ xs. load_needs_more limit unit bytes (Some l) (record { loads = loads; moment = moment; pairs = xs }) ≡ false) (sym h)
-    (no_over limit loads moment 0 (word_aim unit l.address bytes))
+no_load limit unit bytes (Some l) loads moment es h = grind arith
 
 no_store : (limit number : ℕ) (loads : List WatchedLoad) (moment : ℕ) (es : List Pair) → es ≡ []
     → needs_more limit loads moment (effect_aim number) [] es ≡ false
-no_store limit number loads moment es h =
-    subst (λ xs. needs_more limit loads moment (effect_aim number) [] xs ≡ false) (sym h) (no_over limit loads moment 0 (effect_aim number))
+no_store limit number loads moment es h = grind arith
 
 -- All units. ----
 
@@ -175,9 +165,9 @@ module _ (limit : ℕ) (h : Held) (lost : List ℕ) (history : List HistoryEvent
       → load_needs_more limit (unit_at h.size k) bytes (find (is_under number) (h.units k).loads) (h.units k) ≡ true → Much k
   by_load k number bytes t = elim (s.units k) [
     | inl a ↦
-        let none = no_load limit (unit_at h.size k) bytes (find (is_under number) (h.units k).loads) (h.units k).loads (h.units k).moment
+        let none = no_load limit (unit_at h.size k) bytes _ (h.units k).loads (h.units k).moment
         (h.units k).pairs (no_pair (h.units k).pairs a.1) in
-        let x : true ≡ false = sym t ∙ none in
+        let x = sym t ∙ none in
         cc
     | inr a ↦ inr (load_much h.image h.rest (unit_at h.size k) history (h.units k) a.1.0 limit number bytes
         (find (is_under number) (h.units k).loads) refl t)
@@ -187,7 +177,7 @@ module _ (limit : ℕ) (h : Held) (lost : List ℕ) (history : List HistoryEvent
   by_store k number t = elim (s.units k) [
     | inl a ↦
         let none = no_store limit number (h.units k).loads (h.units k).moment (h.units k).pairs (no_pair (h.units k).pairs a.1) in
-        let x : true ≡ false = sym t ∙ none in
+        let x = sym t ∙ none in
         cc
     | inr a ↦ inr (store_much h.image h.rest (unit_at h.size k) history (h.units k) a.1.0 limit number t)
   ]
@@ -195,28 +185,28 @@ module _ (limit : ℕ) (h : Held) (lost : List ℕ) (history : List HistoryEvent
   by_reach : (k : ℕ) → is_reach_over limit (h.units k).loads (h.units k).moment (rounds (h.units k).pairs) (h.units k).pairs ≡ true → Much k
   by_reach k t = elim (s.units k) [
     | inl a ↦
-        let none : is_reach_over limit (h.units k).loads (h.units k).moment (rounds (h.units k).pairs) (h.units k).pairs ≡ false =
+        let none =
         subst (λ xs. is_reach_over limit (h.units k).loads (h.units k).moment (rounds xs) xs ≡ false)
         (sym (no_pair (h.units k).pairs a.1)) refl in
-        let x : true ≡ false = sym t ∙ none in
+        let x = sym t ∙ none in
         cc
     | inr a ↦ inr (reach_much h.image h.rest (unit_at h.size k) history (h.units k) a.1.0 limit t)
   ]
 
   wide_much : (k : ℕ) (event : HistoryEvent) → is_too_wide limit (unit_at h.size k) (h.words k) (h.units k) event ≡ true → Much k
   wide_much k (LoadRequest number address n) t = cc
-  wide_much k (LoadResponse number bytes) t = elim (or_cases (nat_lt MOST_WORDS (h.words k)) _ t) [
+  wide_much k (LoadResponse number bytes) t = elim (or_cases _ _ t) [
     | inl y ↦ inl (ltb-true MOST_WORDS (h.words k) y)
     | inr y ↦ by_load k number bytes.now y
   ]
   wide_much k (StoreRequest number address bytes enables) t = cc
-  wide_much k (StoreResponse number) t = elim (or_cases (nat_lt MOST_WORDS (h.words k)) _ t) [
+  wide_much k (StoreResponse number) t = elim (or_cases _ _ t) [
     | inl y ↦ inl (ltb-true MOST_WORDS (h.words k) y)
     | inr y ↦ by_store k number y
   ]
 
   reach_wide_much : (k : ℕ) → is_reach_wide limit (h.words k) (h.units k) ≡ true → Much k
-  reach_wide_much k t = elim (or_cases (nat_lt MOST_WORDS (h.words k)) _ t) [
+  reach_wide_much k t = elim (or_cases _ _ t) [
     | inl y ↦ inl (ltb-true MOST_WORDS (h.words k) y)
     | inr y ↦ by_reach k y
   ]
@@ -229,4 +219,4 @@ undecided_much limit h lost history event address s formed w =
 pub no_sets_much : (limit : ℕ) (h : Held) (lost : List ℕ) (history : List HistoryEvent) (a n address : ℕ)
     → NoSetsAreMuch limit h lost history a n address
 no_sets_much limit h lost history a n address s w =
-    (address_of a w.0 / h.size, w.2.0, reach_wide_much limit h lost history s (address_of a w.0 / h.size) w.2.1)
+    (address_of a w.0 / h.size, w.2.0, reach_wide_much limit h lost history s _ w.2.1)

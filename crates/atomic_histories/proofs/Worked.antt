@@ -37,8 +37,8 @@ alone_one false b h t = cc
 alone_from : {X : Type 0} (p : X → Bool) (xs : List X) → is_alone p xs ≡ true → IsAlone p xs
 alone_from p [] h = tt
 alone_from p (x ∷ xs) h =
-    let r = and_parts (not (p x) || not (list_any p xs)) (is_alone p xs) h in
-    (alone_one (p x) (list_any p xs) r.0, alone_from p xs r.1)
+    let r = and_parts _ _ h in
+    (alone_one (p x) _ r.0, alone_from p xs r.1)
 
 abbrev is_alone_for : Ways → HistoryEvent → Bool
 is_alone_for u (LoadResponse number bytes) = is_alone (is_under number) u.loads
@@ -50,14 +50,14 @@ are_alone u (event ∷ events) = is_alone_for u event && are_alone (ways_after p
 
 event_alone : (u : Ways) (event : HistoryEvent) → is_alone_for u event ≡ true → IsAloneFor u event
 event_alone u (LoadRequest number address n) h = tt
-event_alone u (LoadResponse number bytes) h = alone_from (is_under number) u.loads h
+event_alone u (LoadResponse number bytes) h = alone_from _ u.loads h
 event_alone u (StoreRequest number address bytes enables) h = tt
 event_alone u (StoreResponse number) h = tt
 
 always : (u : Ways) (history : List HistoryEvent) → are_alone u history ≡ true → AlwaysAlone pair u history
 always u [] h = tt
 always u (event ∷ events) h =
-    let r = and_parts (is_alone_for u event) (are_alone (ways_after pair u event) events) h in
+    let r = and_parts _ _ h in
     (event_alone u event r.0, always (ways_after pair u event) events r.1)
 
 -- The law, decided. ----
@@ -69,18 +69,18 @@ decided rest history = (are_alone (first_ways [] rest pair) history, has_way (wa
 alone_in : (rest : Rest) (history : List HistoryEvent) (b : Bool) → decided rest history ≡ (true, b)
     → StandsFor (untouched [] rest pair) pair (ways rest history) history
 alone_in rest history b h =
-    stands_by [] rest pair history (always (first_ways [] rest pair) history (ap (λ (p : Bool × Bool). p.0) h))
+    stands_by [] rest pair history (always _ history (ap (λ p. p.0) h))
 
 passes_by : (rest : Rest) (history : List HistoryEvent) → decided rest history ≡ (true, true) → IsAtomicAt [] rest pair history
 passes_by rest history h =
-    state_from (untouched [] rest pair) pair history (ways rest history) (alone_in rest history true h) (ap (λ (p : Bool × Bool). p.1) h)
+    state_from _ pair history _ (alone_in rest history true h) (ap (λ p. p.1) h)
 
 passes : (history : List HistoryEvent) → decided Zeros history ≡ (true, true) → IsAtomicAt [] Zeros pair history
 passes history h = passes_by Zeros history h
 
 stops : (history : List HistoryEvent) → decided Zeros history ≡ (true, false) → ¬ (IsAtomicAt [] Zeros pair history)
 stops history h =
-    none_from (untouched [] Zeros pair) pair history (ways Zeros history) (alone_in Zeros history false h) (ap (λ (p : Bool × Bool). p.1) h)
+    none_from _ pair history _ (alone_in Zeros history false h) (ap (λ p. p.1) h)
 
 unknown_passes : (history : List HistoryEvent) → decided Unknown history ≡ (true, true) → IsAtomicAt [] Unknown pair history
 unknown_passes history h = passes_by Unknown history h
@@ -100,35 +100,35 @@ two_stores = StoreRequest 1 4096 (bytes (17 ∷ 17 ∷ [])) 3 ∷ StoreRequest 2
 -- while a store is open, loads may see what was there before, then what it stores
 pub old_then_new : IsAtomicAt [] Zeros pair (StoreRequest 1 4096 (bytes (90 ∷ [])) 1 ∷ [] ++ load 1 1 (0 ∷ []) ++ load 2 1 (90 ∷ []))
 unfolding written is_word_of is_same_pair
-old_then_new = passes (StoreRequest 1 4096 (bytes (90 ∷ [])) 1 ∷ [] ++ load 1 1 (0 ∷ []) ++ load 2 1 (90 ∷ [])) refl
+old_then_new = passes _ refl
 
 -- new then old: one load sees the store, and a later one doesn't. The regular law lets it through
 pub new_then_old : ¬ (IsAtomicAt [] Zeros pair (StoreRequest 1 4096 (bytes (90 ∷ [])) 1 ∷ [] ++ load 1 1 (90 ∷ []) ++ load 2 1 (0 ∷ [])))
 unfolding written is_word_of is_same_pair
-new_then_old = stops (StoreRequest 1 4096 (bytes (90 ∷ [])) 1 ∷ [] ++ load 1 1 (90 ∷ []) ++ load 2 1 (0 ∷ [])) refl
+new_then_old = stops _ refl
 
 -- two overlapping stores: a load behind them sees either, and not what stood there before
 pub the_first_of_two : IsAtomicAt [] Zeros pair (two_stores ++ load 1 2 (17 ∷ 17 ∷ []))
 unfolding written is_word_of is_same_pair
-the_first_of_two = passes (two_stores ++ load 1 2 (17 ∷ 17 ∷ [])) refl
+the_first_of_two = passes _ refl
 
 pub the_second_of_two : IsAtomicAt [] Zeros pair (two_stores ++ load 1 2 (34 ∷ 34 ∷ []))
 unfolding written is_word_of is_same_pair
-the_second_of_two = passes (two_stores ++ load 1 2 (34 ∷ 34 ∷ [])) refl
+the_second_of_two = passes _ refl
 
 pub none_of_two : ¬ (IsAtomicAt [] Zeros pair (two_stores ++ load 1 2 (0 ∷ 0 ∷ [])))
 unfolding written is_word_of is_same_pair
-none_of_two = stops (two_stores ++ load 1 2 (0 ∷ 0 ∷ [])) refl
+none_of_two = stops _ refl
 
 -- a torn word: no order gives it. The regular law lets it through
 pub a_torn_word : ¬ (IsAtomicAt [] Zeros pair (two_stores ++ load 1 2 (17 ∷ 34 ∷ [])))
 unfolding written is_word_of is_same_pair
-a_torn_word = stops (two_stores ++ load 1 2 (17 ∷ 34 ∷ [])) refl
+a_torn_word = stops _ refl
 
 -- two loads behind them see the same
 pub both_of_two : ¬ (IsAtomicAt [] Zeros pair (two_stores ++ load 1 2 (17 ∷ 17 ∷ []) ++ load 1 2 (34 ∷ 34 ∷ [])))
 unfolding written is_word_of is_same_pair
-both_of_two = stops (two_stores ++ load 1 2 (17 ∷ 17 ∷ []) ++ load 1 2 (34 ∷ 34 ∷ [])) refl
+both_of_two = stops _ refl
 
 -- a store of the first byte alone settles that byte, and leaves its neighbour's choice
 abbrev one_byte_stored : List HistoryEvent
@@ -136,16 +136,16 @@ one_byte_stored = two_stores ++ StoreRequest 3 4096 (bytes (51 ∷ 51 ∷ [])) 1
 
 pub a_neighbour_stays : IsAtomicAt [] Zeros pair (one_byte_stored ++ load 1 2 (51 ∷ 34 ∷ []))
 unfolding written is_word_of is_same_pair
-a_neighbour_stays = passes (one_byte_stored ++ load 1 2 (51 ∷ 34 ∷ [])) refl
+a_neighbour_stays = passes _ refl
 
 pub a_byte_is_settled : ¬ (IsAtomicAt [] Zeros pair (one_byte_stored ++ load 1 2 (17 ∷ 17 ∷ [])))
 unfolding written is_word_of is_same_pair
-a_byte_is_settled = stops (one_byte_stored ++ load 1 2 (17 ∷ 17 ∷ [])) refl
+a_byte_is_settled = stops _ refl
 
 -- a byte that no store has covered may be anything, each time
 pub unknown_each_time : IsAtomicAt [] Unknown pair (load 1 2 (1 ∷ 2 ∷ []) ++ load 1 2 (3 ∷ 4 ∷ []))
 unfolding written is_word_of is_same_pair
-unknown_each_time = unknown_passes (load 1 2 (1 ∷ 2 ∷ []) ++ load 1 2 (3 ∷ 4 ∷ [])) refl
+unknown_each_time = unknown_passes _ refl
 
 -- a load that is open while a store is answered may have got either word, and which one it got binds the loads behind it
 pub an_open_load_binds : ¬
@@ -155,6 +155,4 @@ pub an_open_load_binds : ¬
     (bytes (34 ∷ 34 ∷ [])) ∷ LoadRequest 2 4096 2 ∷ LoadResponse 2 (bytes (17 ∷ 17 ∷ [])) ∷ []))
 unfolding written is_word_of is_same_pair
 an_open_load_binds = stops
-    (StoreRequest 1 4096 (bytes (17 ∷ 17 ∷ [])) 3 ∷ StoreRequest 2 4096
-    (bytes (34 ∷ 34 ∷ [])) 3 ∷ StoreResponse 1 ∷ LoadRequest 1 4096 2 ∷ LoadResponse 1
-    (bytes (34 ∷ 34 ∷ [])) ∷ LoadRequest 2 4096 2 ∷ LoadResponse 2 (bytes (17 ∷ 17 ∷ [])) ∷ []) refl
+    _ refl

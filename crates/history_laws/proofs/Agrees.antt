@@ -10,7 +10,7 @@ use Rattle.memory_histories.specs.declared.events.HistoryEvent.TheVariants.{Load
 use Rattle.memory_histories.specs.declared.windows.StoreByte.{StoreByte}
 use Rattle.memory_histories.specs.declared.windows.LoadByte.{LoadByte}
 use Rattle.memory_histories.specs.Windows.{Windows, store_bytes, is_open, after_response, windows_after}
-use Rattle.memory_histories.specs.Regular.{is_inside, has_enabled}
+use Rattle.memory_histories.specs.Regular.{has_enabled}
 use Rattle.memory_histories.proofs.Lists.{list_any-map, list_any-filter, list_any-kept}
 use Rattle.atomic_histories.specs.declared.unit.Operation.{Operation}
 use Rattle.atomic_histories.specs.Operations.{Opened, opened_after, has_number, without_number, form_fault}
@@ -26,19 +26,18 @@ use Rattle.atomic_histories.proofs.Links.{none_is}
 
 pub formed_parts : (o : Opened) (history : List HistoryEvent) (event : HistoryEvent) → is_formed o (history ++ event ∷ []) ≡ true
     → (is_formed o history ≡ true) × (form_fault (fold opened_after o history) event ≡ None)
-formed_parts o [] event h = (refl, none_is (form_fault o event) (and_parts (is_none (form_fault o event)) true h).0)
+formed_parts o [] event h = (refl, none_is _ (and_parts (is_none (form_fault o event)) true h).0)
 formed_parts o (x ∷ xs) event h =
-    let p = and_parts (is_none (form_fault o x)) (is_formed (opened_after o x) (xs ++ event ∷ [])) h in
+    let p = and_parts _ _ h in
     let r = formed_parts (opened_after o x) xs event p.1 in
-    (and_from (is_none (form_fault o x)) (is_formed (opened_after o x) xs) p.0 r.0, r.1)
+    (and_from _ _ p.0 r.0, r.1)
 
 pub formed_more : (o : Opened) (history : List HistoryEvent) (event : HistoryEvent) → is_formed o history ≡ true
     → form_fault (fold opened_after o history) event ≡ None → is_formed o (history ++ event ∷ []) ≡ true
 formed_more o [] event h f = rw f refl
 formed_more o (x ∷ xs) event h f =
-    let p = and_parts (is_none (form_fault o x)) (is_formed (opened_after o x) xs) h in
-    and_from (is_none (form_fault o x)) (is_formed (opened_after o x) (xs
-    ++ event ∷ [])) p.0 (formed_more (opened_after o x) xs event p.1 f)
+    let p = and_parts _ _ h in
+    and_from _ _ p.0 (formed_more (opened_after o x) xs event p.1 f)
 
 -- The open loads and stores of the regular law. ----
 
@@ -62,14 +61,14 @@ or_last false false = refl
 
 any_more : (n : ℕ) (os : List Operation) (x : Operation) → list_any (has_number n) (os
     ++ x ∷ []) ≡ (list_any (has_number n) os || has_number n x)
-any_more n os x = list_any-append (has_number n) os (x ∷ []) ∙ or_last (list_any (has_number n) os) (has_number n x)
+any_more n os x = list_any-append _ os _ ∙ or_last _ _
 
 -- once a store is requested
 stores_more : (stores : List StoreByte) (os : List Operation) (n a : ℕ) (bs : List ℕ) (e t : ℕ) (x : Operation) → x.number ≡ n
     → has_enabled bs e ≡ true → (m : ℕ) → list_any (is_open m) stores ≡ list_any (has_number m) os
     → list_any (is_open m) (stores ++ store_bytes n a bs e t) ≡ list_any (has_number m) (os ++ x ∷ [])
 stores_more stores os n a bs e t x same any m h =
-    list_any-append (is_open m) stores (store_bytes n a bs e t)
+    list_any-append _ stores _
     ∙ (rw (h, any_new n a bs e t m, any) (ap (λ y. list_any (has_number m) os || (y == m)) (sym same)) ∙ sym (any_more m os x))
 
 -- once the store under a number is answered
@@ -82,8 +81,8 @@ closed n t s = elim (after_cases n t s) [
 other_open : (n m t : ℕ) (s : StoreByte) → (n == m) ≡ false → is_open m (after_response n t s) ≡ is_open m s
 other_open n m t s h = elim (after_cases n t s) [
   | inl c ↦
-      let f : is_open m s ≡ false = false_if (is_open m s) (λ e.
-      false_true (n == m) h (eq-eqb n m (sym c.1.0 ∙ eqb-true s.number m (and_parts (is_none s.ended) (s.number == m) e).1))) in
+      let f = false_if _ (λ e.
+      false_true _ h (eq-eqb n m (sym c.1.0 ∙ eqb-true s.number m (and_parts (is_none s.ended) (s.number == m) e).1))) in
       ap (is_open m) c.1.1 ∙ sym f
   | inr c ↦ ap (is_open m) c.1
 ]
@@ -93,32 +92,32 @@ not_itself true = refl
 not_itself false = refl
 
 kept_other : (n m : ℕ) (o : Operation) → (n == m) ≡ false → has_number m o ≡ true → not (has_number n o) ≡ true
-kept_other n m o h e = ap not (false_if (has_number n o) (λ f.
-    false_true (n == m) h (eq-eqb n m (sym (eqb-true o.number n f) ∙ eqb-true o.number m e))))
+kept_other n m o h e = ap not (false_if _ (λ f.
+    false_true _ h (eq-eqb n m (sym (eqb-true o.number n f) ∙ eqb-true o.number m e))))
 
 stores_fewer : (stores : List StoreByte) (os : List Operation) (n t : ℕ) → ((m : ℕ)
     → list_any (is_open m) stores ≡ list_any (has_number m) os)
     → (m : ℕ) → list_any (is_open m) (map (after_response n t) stores) ≡ list_any (has_number m) (without_number n os)
-stores_fewer stores os n t h m = elim (cases_Bool (n == m)) [
+stores_fewer stores os n t h m = elim (cases_Bool _) [
   | inl e ↦
-      let same : n ≡ m = eqb-true n m e in
+      let same = eqb-true n m e in
       subst (λ k. list_any (is_open k) (map (after_response n t) stores) ≡ list_any (has_number k) (without_number n os)) same
-      (list_any-map (after_response n t) (is_open n) stores
+      (list_any-map _ _ stores
       ∙ (any_none (λ s. is_open n (after_response n t s)) stores (each_always (λ s.
       is_open n (after_response n t s) ≡ false) (closed n t) stores)
-      ∙ sym (list_any-filter (λ o. not (has_number n o)) (has_number n) os ∙ any_none (λ o.
-      not (has_number n o) && has_number n o) os (each_always (λ o. (not (has_number n o) && has_number n o) ≡ false) (λ o.
+      ∙ sym (list_any-filter (λ o. not _) _ os ∙ any_none (λ o.
+      not _ && has_number n o) os (each_always (λ o. (not _ && has_number n o) ≡ false) (λ o.
       not_itself (has_number n o)) os))))
   | inr e ↦
-      list_any-map (after_response n t) (is_open m) stores
-      ∙ (any_agree (λ s. is_open m (after_response n t s)) (is_open m) (λ s. other_open n m t s e) stores
-      ∙ (h m ∙ sym (list_any-kept (λ o. not (has_number n o)) (has_number m) (λ o f. kept_other n m o e f) os)))
+      list_any-map _ _ stores
+      ∙ (any_agree (λ s. is_open m (after_response n t s)) _ (λ s. other_open n m t s e) stores
+      ∙ (h m ∙ sym (list_any-kept (λ o. not _) _ (λ o f. kept_other n m o e f) os)))
 ]
 
 pub agrees_after : (o : Opened) (w : Windows) (ks : List (Marked ℕ)) (event : HistoryEvent) → Agrees o w ks → form_fault o event ≡ None
     → Agrees (opened_after o event) (windows_after w event) (marked_after w.moment ks event)
 agrees_after o w ks (LoadRequest n a len) g f =
-    let p = load_formed (is_inside a len) (list_any (has_number n) o.loads) f in
+    let p = load_formed _ _ f in
     record {
       loads = loads_more load_byte number_of its_number ks w.loads o.loads g.loads (record {
         operation = record {
@@ -135,7 +134,7 @@ agrees_after o w ks (LoadResponse n bytes) g f = record {
   stores = g.stores;
 }
 agrees_after o w ks (StoreRequest n a bytes e) g f =
-    let p = store_formed (is_inside a (length bytes.now)) (has_enabled bytes.now e) (list_any (has_number n) o.stores) f in
+    let p = store_formed _ _ _ f in
     record {
       loads = g.loads;
       stores = λ m.
@@ -154,12 +153,12 @@ marks_from w ks (event ∷ events) = marks_from (windows_after w event) (marked_
 pub marks_more : (w : Windows) (ks : List (Marked ℕ)) (history : List HistoryEvent) (event : HistoryEvent) → marks_from w ks (history
     ++ event ∷ []) ≡ marked_after (fold windows_after w history).moment (marks_from w ks history) event
 marks_more w ks [] event = refl
-marks_more w ks (x ∷ xs) event = marks_more (windows_after w x) (marked_after w.moment ks x) xs event
+marks_more w ks (x ∷ xs) event = marks_more (windows_after w x) _ xs event
 
 pub agrees_from : (o : Opened) (w : Windows) (ks : List (Marked ℕ)) (history : List HistoryEvent) → Agrees o w ks
     → is_formed o history ≡ true → Agrees (fold opened_after o history) (fold windows_after w history) (marks_from w ks history)
 agrees_from o w ks [] g f = g
 agrees_from o w ks (x ∷ xs) g f =
-    let p = and_parts (is_none (form_fault o x)) (is_formed (opened_after o x) xs) f in
-    agrees_from (opened_after o x) (windows_after w x) (marked_after w.moment ks x) xs (agrees_after o w ks x g (none_is (form_fault o x)
+    let p = and_parts _ _ f in
+    agrees_from (opened_after o x) _ _ xs (agrees_after o w ks x g (none_is (form_fault o x)
     p.0)) p.1

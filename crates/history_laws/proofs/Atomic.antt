@@ -2,7 +2,7 @@
 use Rattle.std.proofs.Common.{◌≡◌, ℕ, ◌+◌, ◌*◌, ◌/◌, ◌%◌, ◌<◌, ◌≤◌, Bool, true, false, ◌||◌, not, if◌then◌else◌, List, [], ◌∷◌, ◌++◌}
 use Rattle.std.proofs.Common.{length, fold, Option, Some, None, slice_get, inl, inr, refl, sym, ap, ◌∙◌, subst, append-nil, append_assoc}
 use Rattle.std.proofs.Common.{div-add-mod', mod-lt, eq-eqb, eqb-true, arith}
-use Rattle.std.specs.Prelude.{is_none, is_some, IsTrue}
+use Rattle.std.specs.Prelude.{is_some, IsTrue}
 use Rattle.std.specs.Borrow.{Bor}
 use Rattle.std.specs.List.{All, find, list_any}
 use Rattle.std.proofs.lemmas.Bool.{cases_Bool, and_parts}
@@ -21,9 +21,9 @@ use Rattle.memory_histories.specs.Kept as keeps
 use Rattle.memory_histories.proofs.Stands.{stands_first, stands_after}
 use Rattle.atomic_histories.specs.declared.unit.UnitPlace.{UnitPlace}
 use Rattle.atomic_histories.specs.Words.{at_unit, initial_byte, stored_byte, byte_for, is_at, is_as_it_stood}
-use Rattle.atomic_histories.specs.Operations.{Opened, none_opened, opened_after, opened_by, has_number, form_fault}
+use Rattle.atomic_histories.specs.Operations.{Opened, none_opened, opened_after, opened_by, form_fault}
 use Rattle.atomic_histories.specs.Law.{OpenLoad, UnitMemory, HiddenStep, MayBe, starts, steps, sees, untouched, is_load, is_got}
-use Rattle.atomic_histories.specs.Law.{may_answer_load, may_answer_store, with_load, with_store, without_load, without_store, seen, unit_at}
+use Rattle.atomic_histories.specs.Law.{with_load, with_store, seen, unit_at}
 use Rattle.atomic_histories.specs.Law.{is_formed, IsAtomicAt}
 use Rattle.atomic_histories.specs.Stands.{Each}
 use Rattle.atomic_histories.proofs.Lists.{one_each, no_snoc, all_each, one_elim}
@@ -31,10 +31,10 @@ use Rattle.atomic_histories.proofs.Links.{none_is}
 use Rattle.history_laws.specs.Laws.{IsByte, ReturnsBytes, IsUnitSize, AtomicIsRegular}
 use Rattle.history_laws.proofs.Lists.{each_all, each_find, each_get}
 use Rattle.history_laws.proofs.Pieces.{Marked, is_number, IsSome}
-use Rattle.history_laws.proofs.Open.{no_loads, loads_any, loads_under, no_fault, store_formed, answer_formed, marked_after}
+use Rattle.history_laws.proofs.Open.{loads_any, loads_under, no_fault, store_formed, answer_formed, marked_after}
 use Rattle.history_laws.proofs.Words.{lane, lane_unit, word_lane, byte_inside}
 use Rattle.history_laws.proofs.Fits.{Fits, IsAllowed, fits_store, fits_load, fits_requested, fits_answered, fits_store_requested}
-use Rattle.history_laws.proofs.Fits.{fits_store_answered, IsLoad, HasLoad}
+use Rattle.history_laws.proofs.Fits.{fits_store_answered, IsLoad}
 use Rattle.history_laws.proofs.Agrees.{formed_parts, formed_more, load_byte, number_of, its_number, Agrees, marks_from, marks_more}
 use Rattle.history_laws.proofs.Agrees.{agrees_from}
 
@@ -53,9 +53,8 @@ pub moments_before : (image : List ℕ) (rest : Rest) (unit : UnitPlace) (past f
     ++ future) → IsAtomicAt image rest unit past
 moments_before image rest unit past [] h = subst (IsAtomicAt image rest unit) (append-nil past) h
 moments_before image rest unit past (event ∷ events) h =
-    let more = moments_before image rest unit (past
-    ++ event ∷ []) events (subst (IsAtomicAt image rest unit) (sym (append_assoc past (event ∷ []) events)) h) in
-    let s = seen_last (untouched image rest unit) unit past event (past ++ event ∷ []) more.0 more.1 refl in
+    let more = moments_before image rest unit _ events (rw (sym (append_assoc past (event ∷ []) events)) at h) in
+    let s = seen_last _ unit past event _ more.0 more.1 refl in
     (s.0, s.1.1.0)
 
 -- Windows of a history. ----
@@ -72,18 +71,18 @@ marks_by image rest history = marks_from (first_windows image rest) [] history
 stands_from : (k : Kept) (w : Windows) (history : List HistoryEvent) → StandsFor k w
     → StandsFor (fold kept_after k history) (fold windows_after w history)
 stands_from k w [] s = s
-stands_from k w (x ∷ xs) s = stands_from (kept_after k x) (windows_after w x) xs (stands_after k w x s)
+stands_from k w (x ∷ xs) s = stands_from (kept_after k x) _ xs (stands_after k w x s)
 
 timely_by : (image : List ℕ) (rest : Rest) (history : List HistoryEvent)
     → All (IsTimely (windows_by image rest history).moment) (windows_by image rest history).stores
-timely_by image rest history = (stands_from (keeps.opening image rest) (first_windows image rest) history (stands_first image rest)).timely
+timely_by image rest history = (stands_from _ _ history (stands_first image rest)).timely
 
 first_agrees : (image : List ℕ) (rest : Rest) → Agrees none_opened (first_windows image rest) []
-first_agrees image rest = record { loads = no_loads load_byte number_of its_number; stores = λ n. refl }
+first_agrees image rest = grind arith
 
 agrees_by : (image : List ℕ) (rest : Rest) (history : List HistoryEvent) → is_formed none_opened history ≡ true
     → Agrees (opened_by history) (windows_by image rest history) (marks_by image rest history)
-agrees_by image rest history f = agrees_from none_opened (first_windows image rest) [] history (first_agrees image rest) f
+agrees_by image rest history f = agrees_from none_opened _ [] history (first_agrees image rest) f
 
 same_image : (w : Windows) (history : List HistoryEvent) → ((fold windows_after w history).image ≡ w.image)
     × ((fold windows_after w history).rest ≡ w.rest)
@@ -92,7 +91,7 @@ same_image w (x ∷ xs) = same_image (windows_after w x) xs
 
 windows_more : (w : Windows) (history : List HistoryEvent) (event : HistoryEvent) → fold windows_after w (history
     ++ event ∷ []) ≡ windows_after (fold windows_after w history) event
-windows_more w history event = fold-append windows_after w history (event ∷ [])
+windows_more w history event = fold-append windows_after w history _
 
 -- What a unit may be fits the windows. ----
 
@@ -113,18 +112,17 @@ module _ (image : List ℕ) (rest : Rest) (unit : UnitPlace) (j : ℕ) (within :
       len then with_load k a m else m) n e)
       (fits_requested image rest unit j w.stores w.moment ks m k a len within fits (is_at unit a len) refl)
   fits_event o w ks m n (LoadResponse k bytes) g f t fits e =
-      let p = then_parts (may_answer_load unit k bytes.now m.loads) (without_load k m) n e in
+      let p = then_parts _ _ n e in
       subst (Fits image rest unit j w.stores (w.moment + 1) (marked_after w.moment ks (LoadResponse k bytes))) p.1 (fits_answered image rest
       unit j w.stores w.moment ks m k fits)
   fits_event o w ks m n (StoreRequest k a bytes es) g f t fits e =
-      let p = store_formed (is_inside a (length bytes.now)) (has_enabled bytes.now es) (list_any (has_number k) o.stores) f in
-      let word : List (Option ℕ) = at_unit unit (stored_byte a bytes.now es) in
+      let p = store_formed _ _ _ f in
+      let word = at_unit unit (stored_byte a bytes.now es) in
       subst (Fits image rest unit j (windows_after w (StoreRequest k a bytes es)).stores (w.moment + 1) ks) (some_same (if list_any is_some
       word then with_store k word m else m) n e)
-      (fits_store_requested image rest unit j w.stores w.moment ks m k a bytes.now es within lane_of (g.stores k ∙ p.1.1) fits (list_any
-      is_some word) refl)
+      (fits_store_requested image rest unit j w.stores w.moment ks m k a bytes.now es within lane_of (g.stores k ∙ p.1.1) fits _ refl)
   fits_event o w ks m n (StoreResponse k) g f t fits e =
-      let p = then_parts (may_answer_store k m.stores) (without_store k m) n e in
+      let p = then_parts _ _ n e in
       subst (Fits image rest unit j (windows_after w (StoreResponse k)).stores (w.moment + 1) ks) p.1 (fits_store_answered image rest unit j
       w.stores w.moment ks m k t p.0 fits)
 
@@ -132,12 +130,12 @@ module _ (image : List ℕ) (rest : Rest) (unit : UnitPlace) (j : ℕ) (within :
       → HiddenStep m n → Fits image rest unit j stores moment ks n
   fits_hidden stores moment ks m n f (inl s) =
       subst (Fits image rest unit j stores moment ks) (sym s.5)
-      (fits_store image rest unit j stores moment ks m.word m.loads s.0 s.1 s.2
-      (subst (λ os. Fits image rest unit j stores moment ks (record { word = m.word; stores = os; loads = m.loads })) s.3 f))
+      (fits_store image rest unit j stores moment ks _ _ s.0 s.1 s.2
+      (rw s.3 at f))
   fits_hidden stores moment ks m n f (inr s) =
       subst (Fits image rest unit j stores moment ks) (sym s.5)
-      (fits_load image rest unit j stores moment ks m.word m.stores s.0 s.1 s.2
-      (subst (λ ls. Fits image rest unit j stores moment ks (record { word = m.word; stores = m.stores; loads = ls })) s.3 f))
+      (fits_load image rest unit j stores moment ks _ _ s.0 s.1 s.2
+      (rw s.3 at f))
 
   fits : (history : List HistoryEvent) (m : UnitMemory) → MayBe unit (untouched image rest unit) history m
       → is_formed none_opened history ≡ true
@@ -149,17 +147,16 @@ module _ (image : List ℕ) (rest : Rest) (unit : UnitPlace) (j : ℕ) (within :
     has_bytes = tt;
     has_loads = tt;
   }
-  fits history m (steps hs k n r step) f = fits_hidden (windows_by image rest hs).stores (windows_by image rest hs).moment (marks_by image
-      rest hs) k n (fits hs k r f) step
+  fits history m (steps hs k n r step) f = fits_hidden (windows_by image rest hs).stores (windows_by image rest hs).moment _ k n
+      (fits hs k r f) step
   fits history m (sees hs event k n r e) f =
       let p = formed_parts none_opened hs event f in
       let w = windows_by image rest hs in
       subst (λ v. Fits image rest unit j v.stores v.moment (marks_by image rest (hs
       ++ event ∷ [])) n) (sym (windows_more (first_windows image rest) hs event))
-      (subst (λ ks. Fits image rest unit j (windows_after w event).stores (w.moment + 1) ks n) (sym (marks_more (first_windows image rest)
-      [] hs event))
-      (fits_event (opened_by hs) w (marks_by image rest hs) k n event (agrees_by image rest hs p.0) p.1 (timely_by image rest hs) (fits hs k
-      r p.0) e))
+      (rw (sym (marks_more (first_windows image rest) [] hs event)) at
+      (fits_event (opened_by hs) w (marks_by image rest hs) k n event (agrees_by image rest hs p.0) p.1 (timely_by image rest hs)
+      (fits hs k r p.0) e))
 
   -- A load may return what it is answered. ----
 
@@ -172,7 +169,7 @@ module _ (image : List ℕ) (rest : Rest) (unit : UnitPlace) (j : ℕ) (within :
       → IsAllowed image rest unit j stores k.operation.number k.mark got → (word : List (Option ℕ)) → got ≡ Some word
       → (b : ℕ) → IsByte rest b → is_as_it_stood (lane word j) (Some b) ≡ true
       → may_return_byte image rest stores (record { number = k.operation.number; address = unit.first + j; began = k.mark }) b ≡ true
-  allowed_got stores k got h word e b small i = subst (IsAllowed image rest unit j stores k.operation.number k.mark) e h b small i
+  allowed_got stores k got h word e b small i = grind arith
 
   allowed_load : (past : List HistoryEvent) (n : ℕ) (bytes : List ℕ) (k : Marked ℕ) → k.operation.number ≡ n → (b : ℕ) → IsByte rest b
       → byte_for k.operation.address bytes (unit.first + j) ≡ Some b
@@ -183,13 +180,7 @@ module _ (image : List ℕ) (rest : Rest) (unit : UnitPlace) (j : ℕ) (within :
         address = unit.first + j;
         began = k.mark;
       }) b ≡ true
-  allowed_load past n bytes k named b small is_b l q h =
-      let it : is_load n l ≡ true = eq-eqb l.number n (q.0 ∙ named) in
-      let got : is_got unit l.address bytes l.got ≡ true = (rw it at h) in
-      let g = got_word bytes l.address l.got got in
-      let stood : is_as_it_stood (lane g.0 j) (Some b) ≡ true = subst (λ x. is_as_it_stood (lane g.0 j) x ≡ true) is_b (subst (λ a.
-      is_as_it_stood (lane g.0 j) (byte_for a bytes (unit.first + j)) ≡ true) q.1.0 g.1.1) in
-      allowed_got (windows_by image rest past).stores k l.got q.1.1 g.0 g.1.0 b small stood
+  allowed_load past n bytes k named b small is_b l q h = grind (arith, eq-eqb, l.number, got_word, l.address, l.got, lane, allowed_got)
 
   allowed_byte : (past : List HistoryEvent) (n : ℕ) (bytes : Bor (List ℕ)) → IsAtomicAt image rest unit (past ++ LoadResponse n bytes ∷ [])
       → is_formed none_opened past ≡ true
@@ -203,24 +194,24 @@ module _ (image : List ℕ) (rest : Rest) (unit : UnitPlace) (j : ℕ) (within :
       }) b ≡ true
   allowed_byte past n bytes a f k found low high named b small is_b =
       let w = windows_by image rest past in
-      let s = seen_last (untouched image rest unit) unit past (LoadResponse n bytes) (past ++ LoadResponse n bytes ∷ []) a.0 a.1 refl in
-      let m : UnitMemory = s.0 in
+      let s = seen_last _ unit past _ _ a.0 a.1 refl in
+      let m = s.0 in
       let here = fits past m s.1.1.0 f in
-      let may = then_parts (may_answer_load unit n bytes.now m.loads) (without_load n m) s.1.0 s.1.1.1 in
-      let has = each_find (HasLoad image rest unit j w.stores w.moment m.loads) (is_number n) (marks_by image rest past) k here.has_loads
+      let may = then_parts _ _ s.1.0 s.1.1.1 in
+      let has = each_find _ _ _ k here.has_loads
       found in
       one_elim (λ l. IsLoad image rest unit j w.stores k l
-      × ((not (is_load n l) || is_got unit l.address bytes.now l.got) ≡ true)) _ m.loads
-      (one_each (IsLoad image rest unit j w.stores k) (λ l.
-      (not (is_load n l) || is_got unit l.address bytes.now l.got) ≡ true) m.loads (has.1 low high)
-      (all_each (λ l. not (is_load n l) || is_got unit l.address bytes.now l.got) m.loads may.0))
+      × ((not _ || is_got unit l.address bytes.now l.got) ≡ true)) _ _
+      (one_each _ (λ l.
+      (not _ || is_got unit l.address bytes.now l.got) ≡ true) _ (has.1 low high)
+      (all_each (λ l. not _ || is_got unit l.address bytes.now l.got) _ may.0))
       (λ l q. allowed_load past n bytes.now k named b small is_b l q.0 q.1)
 
 -- The law. ----
 
 each_named : (ks : List (Marked ℕ)) (k : Marked ℕ) (n : ℕ) → find (is_number n) ks ≡ Some k → k.operation.number ≡ n
 each_named [] k n h = cc
-each_named (x ∷ ks) k n h = elim (cases_Bool (is_number n x)) [
+each_named (x ∷ ks) k n h = elim (cases_Bool _) [
   | inl e ↦ let s : Some x ≡ Some k = (rw e at h) in let same : x ≡ k = cc in subst (λ y.
       y.operation.number ≡ n) same (eqb-true x.operation.number n e)
   | inr e ↦ each_named ks k n (rw e at h)
@@ -239,7 +230,7 @@ module _ (image : List ℕ) (rest : Rest) (size : ℕ) (sized : IsUnitSize size)
         began = k.mark;
       }) b ≡ true
   allowed_at past n bytes a f k found named i b e l small =
-      let at : ℕ = k.operation.address + i in
+      let at = k.operation.address + i in
       let some : 0 < size = let s = sized.0 in omega arith in
       let within : at % size < size = mod-lt at some in
       let lane_of : at % size < 8 = let s = sized.1 in omega arith in
@@ -250,7 +241,7 @@ module _ (image : List ℕ) (rest : Rest) (size : ℕ) (sized : IsUnitSize size)
         began =
             k.mark;
       }) b ≡ true) place
-      (allowed_byte image rest (unit_at size (at / size)) (at % size) within lane_of past n bytes (a (at / size)) f k found (omega arith)
+      (allowed_byte image rest _ _ within lane_of past n bytes (a (at / size)) f k found (omega arith)
       (omega arith) named b small
       (ap (byte_for k.operation.address bytes.now) place ∙ (byte_inside k.operation.address bytes.now i ∙ e)))
 
@@ -268,15 +259,15 @@ module _ (image : List ℕ) (rest : Rest) (size : ℕ) (sized : IsUnitSize size)
       let w = windows_by image rest past in
       let ks = marks_by image rest past in
       let loads = (agrees_by image rest past f).loads in
-      let x = answer_formed (find (has_number n) (opened_by past).loads) (length bytes.now) g in
+      let x = answer_formed _ _ g in
       let u = loads_under load_byte number_of its_number ks w.loads (opened_by past).loads loads n x.0 x.1.0 in
-      let k : Marked ℕ = u.0 in
-      let some : IsSome k = each_find IsSome (is_number n) ks k loads.each_some u.1.0 in
-      let long : length bytes.now ≡ k.operation.length = sym x.1.1 ∙ ap (λ o. o.length) (sym u.1.1.0) in
-      let named : k.operation.number ≡ n = each_named ks k n u.1.0 in
+      let k = u.0 in
+      let some = each_find IsSome _ ks k loads.each_some u.1.0 in
+      let long = sym x.1.1 ∙ ap (λ o. o.length) (sym u.1.1.0) in
+      let named = each_named ks k n u.1.0 in
       let same = same_image (first_windows image rest) past in
       ap (λ ls. load_response_fault (may_return w) ls bytes.now) u.1.1.1
-      ∙ no_fault load_byte number_of its_number (may_return w) k bytes.now some long
+      ∙ no_fault load_byte number_of its_number _ k bytes.now some long
       (λ i b e l. rw (
         same.0,
         same.1,
@@ -288,16 +279,16 @@ module _ (image : List ℕ) (rest : Rest) (size : ℕ) (sized : IsUnitSize size)
       → IsTrue (is_some (regular_run (windows_by image rest past) future))
   regular_from past [] m f g r = refl
   regular_from past (event ∷ events) m f g r =
-      let p = and_parts (is_none (form_fault (opened_by past) event)) (is_formed (opened_after (opened_by past) event) events) g in
-      let formed : form_fault (opened_by past) event ≡ None = none_is (form_fault (opened_by past) event) p.0 in
-      let more : (k : ℕ) → IsAtomicAt image rest (unit_at size k) ((past ++ event ∷ []) ++ events) = λ k.
+      let p = and_parts _ _ g in
+      let formed = none_is _ p.0 in
+      let more : (k : ℕ) → IsAtomicAt image rest _ _ = λ k.
       subst (IsAtomicAt image rest (unit_at size k)) (sym (append_assoc past (event ∷ []) events)) (m k) in
       let none : fault (windows_by image rest past) event ≡ None =
-      no_regular_fault past event (λ k. moments_before image rest (unit_at size k) (past ++ event ∷ []) events (more k)) f formed r.0 in
-      let next : IsTrue (is_some (regular_run (windows_after (windows_by image rest past) event) events)) =
+      no_regular_fault past event (λ k. moments_before image rest _ _ events (more k)) f formed r.0 in
+      let next : IsTrue _ =
       subst (λ w. IsTrue (is_some (regular_run w events))) (windows_more (first_windows image rest) past event)
-      (regular_from (past ++ event ∷ []) events more (formed_more none_opened past event f formed) (subst (λ o.
-      is_formed o events ≡ true) (sym (fold-append opened_after none_opened past (event ∷ []))) p.1) r.1) in
+      (regular_from (past ++ event ∷ []) events more (formed_more none_opened past event f formed)
+      (rw (sym (fold-append opened_after none_opened past (event ∷ []))) at p.1) r.1) in
       rw none next
 
 pub atomic_is_regular : (image : List ℕ) (rest : Rest) (size : ℕ) (history : List HistoryEvent) → AtomicIsRegular image rest size history

@@ -13,7 +13,7 @@ use Rattle.atomic_histories.specs.declared.unit.OpenStore.{OpenStore}
 use Rattle.atomic_histories.specs.declared.unit.UnitPlace.{UnitPlace}
 use Rattle.atomic_histories.specs.Words.{at_unit, stored_byte, is_at, is_word_of}
 use Rattle.atomic_histories.specs.Law.{OpenLoad, UnitMemory, HiddenStep, MayBe, starts, steps, sees, done_load, is_load, is_got}
-use Rattle.atomic_histories.specs.Law.{may_answer_load, may_answer_store, with_load, with_store, without_load, without_store, seen}
+use Rattle.atomic_histories.specs.Law.{may_answer_load, may_answer_store, with_load, with_store, without_store, seen}
 use Rattle.atomic_histories.specs.Stands.{Each}
 use Rattle.atomic_histories.proofs.Lists.{each_weaker, each_map, each_split, all_each}
 use Rattle.history_laws.proofs.Lists.{each_passes, each_always, false_if}
@@ -31,7 +31,7 @@ module _ (unit : UnitPlace) where
   pub and_then : (start m k : UnitMemory) (past events : List HistoryEvent) → MayBe unit start past m → MayBe unit m events k
       → MayBe unit start (past ++ events) k
   and_then start m k past events r starts = subst (λ x. MayBe unit start x m) (sym (append-nil past)) r
-  and_then start m k past events r (steps es h n q step) = steps (past ++ es) h n (and_then start m h past es r q) step
+  and_then start m k past events r (steps es h n q step) = steps _ h n (and_then start m h past es r q) step
   and_then start m k past events r (sees es event h n q e) =
       subst (λ x. MayBe unit start x n) (append_assoc past es (event ∷ [])) (sees (past ++ es) event h n (and_then start m h past es r q) e)
 
@@ -81,16 +81,15 @@ module _ (unit : UnitPlace) where
     hides : (got : Option (List (Option ℕ))) (start m n : UnitMemory) (events : List HistoryEvent) → MayBe unit start events (late got m)
         → HiddenStep m n → MayBe unit start events (late got n)
     hides got start m n events r (inl s) =
-        steps events (late got m) (late got n) r (inl (s.0, s.1, s.2, s.3, s.4, ap (late got) s.5))
+        steps events _ _ r (inl (s.0, s.1, s.2, s.3, s.4, ap (late got) s.5))
     hides got start m n events r (inr s) =
-        let after : UnitMemory = record { word = m.word; stores = m.stores; loads = s.0 ++ done_load m.word s.1 ∷ s.2 } in
-        let apart : (x : OpenLoad) → map (late_load got) (s.0 ++ x ∷ s.2) ≡ map (late_load got) s.0 ++ late_load got x ∷ map (late_load
+        let after : UnitMemory = record { word = m.word; stores = m.stores; loads = s.0 ++ done_load _ s.1 ∷ s.2 } in
+        let apart : (x : OpenLoad) → map _ _ ≡ map _ s.0 ++ late_load got x ∷ map (late_load
         got) s.2 = λ x. map-append (late_load got) s.0 (x ∷ s.2) in
         subst (λ x. MayBe unit start events (late got x)) (sym s.5) (elim (cases_Bool (is_load tag s.1)) [
           | inl e ↦
               let same : map (late_load got) m.loads ≡ map (late_load got) after.loads =
-              ap (map (late_load got)) s.3 ∙ (apart s.1 ∙ (ap (λ x. map (late_load got) s.0 ++ x ∷ map (late_load got) s.2) (sym (late_done
-              got m.word s.1 e)) ∙ sym (apart (done_load m.word s.1)))) in
+              ap (map (late_load got)) s.3 ∙ (apart s.1 ∙ (cc (late_done got m.word s.1 e, apart (done_load m.word s.1)))) in
               subst (λ ls. MayBe unit start events (record { word = m.word; stores = m.stores; loads = ls })) same r
           | inr e ↦
               let here : map (late_load got) m.loads ≡ map (late_load got) s.0 ++ late_load got s.1 ∷ map (late_load got) s.2 = ap (map
@@ -120,16 +119,15 @@ module _ (unit : UnitPlace) where
         → (if t then with_load n a (late got m) else late got m) ≡ late got (if t then with_load n a m else m)
     sees_load got m n a true h =
         let l : OpenLoad = record { number = n; address = a; got = None } in
-        ap (λ ls. record { word = m.word; stores = m.stores; loads = ls }) (sym (map-append (late_load got) m.loads (l ∷ [])
-        ∙ ap (λ x. map (late_load got) m.loads ++ x ∷ []) (late_new got n a h)))
+        ap (λ ls. record { word = m.word; stores = m.stores; loads = ls }) (sym (cc (map-append _ _ _, late_new got n a h)))
     sees_load got m n a false h = refl
 
     other_answer : (got : Option (List (Option ℕ))) (n : ℕ) (bytes : List ℕ) → (n == tag) ≡ false → (l : OpenLoad)
         → (not (is_load n l) || is_got unit l.address bytes l.got) ≡ true
         → (not (is_load n l) || is_got unit (late_load got l).address bytes (late_load got l).got) ≡ true
-    other_answer got n bytes ne l h = elim (cases_Bool (is_load tag l)) [
+    other_answer got n bytes ne l h = elim (cases_Bool _) [
       | inl e ↦
-          let no : is_load n l ≡ false = false_if (is_load n l) (λ q. false_true (n == tag) ne (eq-eqb n tag (sym (eqb-true l.number n q) ∙
+          let no = false_if _ (λ q. false_true _ ne (eq-eqb n tag (sym (eqb-true l.number n q) ∙
           eqb-true l.number tag e))) in
           rw no refl
       | inr e ↦ rw e h
@@ -138,8 +136,8 @@ module _ (unit : UnitPlace) where
     answers_other : (got : Option (List (Option ℕ))) (m : UnitMemory) (n : ℕ) (bytes : List ℕ) → (n == tag) ≡ false
         → may_answer_load unit n bytes m.loads ≡ true → may_answer_load unit n bytes (late got m).loads ≡ true
     answers_other got m n bytes ne h =
-        each_passes (λ l. not (is_load n l) || is_got unit l.address bytes l.got) (map (late_load got) m.loads)
-        (each_map (late_load got) (λ l. (not (is_load n l) || is_got unit l.address bytes l.got) ≡ true) m.loads
+        each_passes (λ l. not _ || is_got unit l.address bytes l.got) _
+        (each_map _ (λ l. (not _ || is_got unit l.address bytes l.got) ≡ true) _
         (each_weaker (λ l. (not (is_load n l) || is_got unit l.address bytes l.got) ≡ true) (λ l.
         (not (is_load n l) || is_got unit (late_load got l).address bytes (late_load got l).got) ≡ true) (other_answer got n bytes ne)
         m.loads (all_each (λ l. not (is_load n l) || is_got unit l.address bytes l.got) m.loads h)))
@@ -152,15 +150,15 @@ module _ (unit : UnitPlace) where
     sees_late : (got : Option (List (Option ℕ))) (m k : UnitMemory) (event : HistoryEvent) → Suits got event → seen unit m event ≡ Some k
         → seen unit (late got m) event ≡ Some (late got k)
     sees_late got m k (LoadRequest n a len) s e =
-        ap Some (sees_load got m n a (is_at unit a len) s ∙ ap (late got) (some_same (if is_at unit a len then with_load n a m else m) k e))
+        ap Some (sees_load got m n a _ s ∙ ap (late got) (some_same (if is_at unit a len then with_load n a m else m) k e))
     sees_late got m k (LoadResponse n bytes) s e =
-        let p = then_parts (may_answer_load unit n bytes.now m.loads) (without_load n m) k e in
-        let may : may_answer_load unit n bytes.now (late got m).loads ≡ true = answers_other got m n bytes.now s p.0 in
-        let left : without_load n (late got m) ≡ late got (without_load n m) =
-        ap (λ ls. record { word = m.word; stores = m.stores; loads = ls }) (filter-map (late_load got) (λ l. not (is_load n l)) m.loads) in
+        let p = then_parts _ _ k e in
+        let may = answers_other got m n bytes.now s p.0 in
+        let left =
+        ap (λ ls. record { word = m.word; stores = m.stores; loads = ls }) (filter-map _ (λ l. not (is_load n l)) m.loads) in
         rw may (ap Some (left ∙ ap (late got) p.1))
     sees_late got m k (StoreRequest n a bytes es) s e =
-        let word : List (Option ℕ) = at_unit unit (stored_byte a bytes.now es) in
+        let word = at_unit unit (stored_byte a bytes.now es) in
         ap Some (sees_store got m n word (list_any is_some word) ∙ ap (late got) (some_same (if list_any is_some word then with_store n
         word m else m) k e))
     sees_late got m k (StoreResponse n) s e =
@@ -171,10 +169,10 @@ module _ (unit : UnitPlace) where
     pub follows : (got : Option (List (Option ℕ))) (m k : UnitMemory) (events : List HistoryEvent) → MayBe unit m events k
         → Each (Suits got) events → MayBe unit (late got m) events (late got k)
     follows got m k events starts s = starts
-    follows got m k events (steps es h n r step) s = hides got (late got m) h n es (follows got m h es r s) step
+    follows got m k events (steps es h n r step) s = hides got _ h n es (follows got m h es r s) step
     follows got m k events (sees es event h n r e) s =
-        let p = each_split (Suits got) es (event ∷ []) s in
-        sees es event (late got h) (late got n) (follows got m h es r p.0) (sees_late got h n event p.1.0 e)
+        let p = each_split _ es _ s in
+        sees es event _ _ (follows got m h es r p.0) (sees_late got h n event p.1.0 e)
 
     -- The load takes effect. ----
 
@@ -183,8 +181,8 @@ module _ (unit : UnitPlace) where
         → MayBe unit start past (record { word = word; stores = stores; loads = done ++ map (late_load (Some word)) ls })
     settles start past word stores done [] r = r
     settles start past word stores done (l ∷ ls) r =
-        let one : OpenLoad = late_load (Some word) l in
-        let rest : List OpenLoad = map (late_load None) ls in
+        let one = late_load (Some word) l in
+        let rest = map _ ls in
         let here : MayBe unit start past (record { word = word; stores = stores; loads = done ++ one ∷ rest }) =
         elim (cases_Bool (is_load tag l)) [
           | inl e ↦
@@ -214,12 +212,7 @@ module _ (unit : UnitPlace) where
         ] in
         subst (λ x. MayBe unit start past (record { word = word; stores = stores; loads = x })) (append_assoc done (one ∷ []) (map
         (late_load (Some word)) ls))
-        (settles start past word stores (done ++ one ∷ []) ls (subst (λ x. MayBe unit start past (record {
-          word = word;
-          stores = stores;
-          loads
-              = x;
-        })) (sym (append_assoc done (one ∷ []) rest)) here))
+        (settles start past word stores (done ++ one ∷ []) ls (rw (sym (append_assoc done (one ∷ []) rest)) at here))
 
     -- The load is answered. ----
 
@@ -230,7 +223,7 @@ module _ (unit : UnitPlace) where
     pub answers_late : (m : UnitMemory) (word : List (Option ℕ)) (bytes : List ℕ) → is_word_of unit.first word address bytes ≡ true
         → may_answer_load unit tag bytes (late (Some word) m).loads ≡ true
     answers_late m word bytes h =
-        each_passes (λ l. not (is_load tag l) || is_got unit l.address bytes l.got) (map (late_load (Some word)) m.loads)
-        (each_map (late_load (Some word)) (λ l. (not (is_load tag l) || is_got unit l.address bytes l.got) ≡ true) m.loads
+        each_passes (λ l. not _ || is_got unit l.address bytes l.got) _
+        (each_map _ (λ l. (not (is_load tag l) || is_got unit l.address bytes l.got) ≡ true) m.loads
         (each_always (λ l. (not (is_load tag l) || is_got unit (late_load (Some word) l).address bytes (late_load (Some word) l).got) ≡
         true) (its_answer word bytes h) m.loads))

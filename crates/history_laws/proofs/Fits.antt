@@ -1,6 +1,6 @@
 -- What a unit of the atomic law may be, beside the windows of the regular law: at one of its bytes.
 use Rattle.std.proofs.Common.{◌≡◌, ℕ, zero, suc, ◌+◌, ◌<◌, ◌≤◌, ◌⊎◌, Bool, true, false, ◌&&◌, ◌||◌, not, ◌==◌, if◌then◌else◌, nat_lt, List}
-use Rattle.std.proofs.Common.{[], ◌∷◌, ◌++◌, map, length, Option, Some, None, slice_get, inl, inr, refl, sym, ap, ◌∙◌, subst, arith}
+use Rattle.std.proofs.Common.{[], ◌∷◌, ◌++◌, map, length, Option, Some, None, inl, inr, refl, sym, ap, ◌∙◌, subst, arith}
 use Rattle.std.proofs.Common.{eqb-true}
 use Rattle.std.specs.Prelude.{is_none, is_some}
 use Rattle.std.specs.List.{All, filter, list_any}
@@ -10,14 +10,14 @@ use Rattle.memory_histories.specs.declared.events.Rest.TheVariants.{Zeros, Unkno
 use Rattle.memory_histories.specs.declared.windows.StoreByte.{StoreByte}
 use Rattle.memory_histories.specs.declared.windows.LoadByte.{LoadByte}
 use Rattle.memory_histories.specs.Windows.{store_bytes, is_open, after_response}
-use Rattle.memory_histories.specs.Regular.{is_before, overwrites, is_overwritten, is_left, is_covered, is_initial, may_return_byte}
+use Rattle.memory_histories.specs.Regular.{is_before, overwrites, is_overwritten, is_covered, is_initial, may_return_byte}
 use Rattle.memory_histories.specs.Kept.{IsTimely}
-use Rattle.memory_histories.proofs.Live.{after-before, left_answered, covered_answered}
+use Rattle.memory_histories.proofs.Live.{left_answered, covered_answered}
 use Rattle.memory_histories.proofs.Requests.{IsNew, store_bytes-new, left_requested, covered_requested}
 use Rattle.atomic_histories.specs.declared.unit.OpenStore.{OpenStore}
 use Rattle.atomic_histories.specs.declared.unit.UnitPlace.{UnitPlace}
 use Rattle.atomic_histories.specs.Words.{at_unit, first_byte, initial_byte, stored_byte, is_at, written_byte, written, is_as_it_stood}
-use Rattle.atomic_histories.specs.Law.{OpenLoad, UnitMemory, done_store, done_load, is_store, is_load, may_answer_store, with_load}
+use Rattle.atomic_histories.specs.Law.{OpenLoad, UnitMemory, done_store, done_load, is_store, may_answer_store, with_load}
 use Rattle.atomic_histories.specs.Law.{with_store, without_load, without_store}
 use Rattle.atomic_histories.specs.Stands.{Each, One}
 use Rattle.atomic_histories.proofs.Lists.{each_weaker, each_append, each_map, each_both, one_weaker, one_left, one_last, one_map, one_each}
@@ -26,7 +26,7 @@ use Rattle.history_laws.specs.Laws.{IsByte}
 use Rattle.history_laws.proofs.Lists.{each_all, each_passing, one_unfilter, one_split, one_right, one_replace, one_replaced, one_at}
 use Rattle.history_laws.proofs.Lists.{one_never, or_more, each_always, any_one, any_none, false_if, or_true}
 use Rattle.history_laws.proofs.Pieces.{Marked, is_number, false_true}
-use Rattle.history_laws.proofs.Words.{lane, lane_written, length_written, lane_unit, stored_new, each_new, IsNewByte, new_byte}
+use Rattle.history_laws.proofs.Words.{lane, lane_written, length_written, lane_unit, stored_new, each_new, new_byte}
 
 none_from : (o : Option ℕ) → is_none o ≡ true → o ≡ None
 none_from None h = refl
@@ -49,8 +49,8 @@ any_lane (w ∷ ws) (suc j) b h = rw (any_lane ws j b h) (or_true (is_some w))
 pub after_cases : (n t : ℕ) (s : StoreByte) → ((s.ended ≡ None) × ((s.number ≡ n)
     × (after_response n t s ≡ record { number = s.number; address = s.address; byte = s.byte; began = s.began; ended = Some t })))
     ⊎ ((is_open n s ≡ false) × (after_response n t s ≡ s))
-after_cases n t s = elim (cases_Bool (is_open n s)) [
-  | inl e ↦ let p = and_parts (is_none s.ended) (s.number == n) e in inl (none_from s.ended p.0, (eqb-true s.number n p.1, rw e refl))
+after_cases n t s = elim (cases_Bool _) [
+  | inl e ↦ let p = and_parts _ _ e in inl (none_from s.ended p.0, (eqb-true s.number n p.1, rw e refl))
   | inr e ↦ inr (e, rw e refl)
 ]
 
@@ -68,7 +68,7 @@ open_before (Some e) t h = cc
 initial_allowed : (o : Option ℕ) (rest : Rest) (b : ℕ) → IsByte rest b → is_as_it_stood (first_byte o rest) (Some b) ≡ true
     → is_initial o rest b ≡ true
 initial_allowed (Some i) rest b l h = h
-initial_allowed None Zeros b l h = eq-eqb b 0 (sym (eqb-true 0 b h))
+initial_allowed None Zeros b l h = grind arith
 initial_allowed None Unknown b l h = lt-ltb b 256 l
 
 right_of : (x y z : Bool) → y ≡ true → z ≡ false → (x || (y && not z)) ≡ true
@@ -136,37 +136,23 @@ module _ (image : List ℕ) (rest : Rest) (unit : UnitPlace) (j : ℕ) where
 
   uncovered : (os : List OpenStore) (stores : List StoreByte) (n t : ℕ) → Each (λ s. s.address ≡ here → IsDone os s → ⊥) stores
       → is_covered stores (record { number = n; address = here; began = t }) ≡ false
-  uncovered os stores n t h =
-      any_none (λ s. (s.address == here) && is_before s.ended t) stores
-      (each_weaker (λ s. s.address ≡ here → IsDone os s → ⊥) (λ s. ((s.address == here) && is_before s.ended t) ≡ false)
-      (λ s f. false_if ((s.address == here) && is_before s.ended t) (λ e. let p = and_parts (s.address == here) (is_before s.ended t) e in
-      f (eqb-true s.address here p.0) (inl (before_some s.ended t p.1)))) stores h)
+  uncovered os stores n t h = grind (arith, any_none, each_weaker, false_if, and_parts, eqb-true, before_some)
 
   not_overwritten : (os : List OpenStore) (stores : List StoreByte) (s : StoreByte) (t : ℕ) → s.address ≡ here → Each (λ o. o.address ≡ here
       → IsDone os o → is_before s.ended o.began ≡ false) stores
       → is_overwritten stores s t ≡ false
   not_overwritten os stores s t a h =
-      any_none (overwrites s t) stores
+      any_none _ stores
       (each_weaker (λ o. o.address ≡ here → IsDone os o → is_before s.ended o.began ≡ false) (λ o. overwrites s t o ≡ false)
-      (λ o f. false_if (overwrites s t o) (λ e.
-      let p = and_parts (o.address == s.address) (is_before s.ended o.began && is_before o.ended t) e in
-      let q = and_parts (is_before s.ended o.began) (is_before o.ended t) p.1 in
-      false_true (is_before s.ended o.began) (f (eqb-true o.address s.address p.0 ∙ a) (inl (before_some o.ended t q.1))) q.0)) stores h)
+      (λ o f. false_if _ (λ e.
+      let p = and_parts _ _ e in
+      let q = and_parts _ _ p.1 in
+      false_true _ (f (eqb-true o.address s.address p.0 ∙ a) (inl (before_some o.ended t q.1))) q.0)) stores h)
 
   pub may_now : (os : List OpenStore) (stores : List StoreByte) (x : Option ℕ) → Stands os stores x → (n t b : ℕ) → IsByte rest b
       → is_as_it_stood x (Some b) ≡ true → may stores n t b ≡ true
-  may_now os stores x (inl f) n t b l h =
-      right_of (is_left stores (record { number = n; address = here; began = t }) b) (is_initial (slice_get image here) rest b) (is_covered
-      stores (record { number = n; address = here; began = t }))
-      (initial_allowed (slice_get image here) rest b l (subst (λ y. is_as_it_stood y (Some b) ≡ true) f.0 h)) (uncovered os stores n t f.1)
-  may_now os stores x (inr o) n t b l h =
-      let left : is_left stores (record { number = n; address = here; began = t }) b ≡ true =
-      any_one (λ s. (s.address == here) && ((s.byte == b) && not (is_overwritten stores s t))) stores
-      (one_weaker (IsLast os stores x) (λ s. ((s.address == here) && ((s.byte == b) && not (is_overwritten stores s t))) ≡ true)
-      (λ s p. let same : (s.byte == b) ≡ true = subst (λ y. is_as_it_stood y (Some b) ≡ true) p.1.0 h in
-      and_from (s.address == here) _ (eq-eqb s.address here p.0) (and_from (s.byte == b) _ same (ap not (not_overwritten os stores s t p.0
-      p.1.1.1)))) stores o) in
-      rw left refl
+  may_now os stores x (inl f) n t b l h = grind (arith, right_of, initial_allowed, uncovered)
+  may_now os stores x (inr o) n t b l h = grind (arith, any_one, one_weaker, and_from, eq-eqb, not_overwritten)
 
   -- A store takes effect. ----
 
@@ -176,14 +162,14 @@ module _ (image : List ℕ) (rest : Rest) (unit : UnitPlace) (j : ℕ) where
   done_more before o after s (inr p) =
       inr (
         p.0,
-        one_replace (λ x. IsOf s x × (x.is_done ≡ true)) (λ x. IsOf s x × (x.is_done ≡ true)) before o (done_store o) after (λ x q.
+        one_replace (λ x. IsOf s x × (x.is_done ≡ true)) (λ x. IsOf s x × (x.is_done ≡ true)) before o _ after (λ x q.
             q) (λ q. (q.0, refl)) p.1,
       )
 
   done_fewer : (before : List OpenStore) (o : OpenStore) (after : List OpenStore) (s : StoreByte) → IsDone (before
       ++ done_store o ∷ after) s → IsDone (before ++ o ∷ after) s ⊎ ((s.ended ≡ None) × IsOf s o)
   done_fewer before o after s (inl e) = inl (inl e)
-  done_fewer before o after s (inr p) = elim (one_replaced (λ x. IsOf s x × (x.is_done ≡ true)) before o (done_store o) after p.1) [
+  done_fewer before o after s (inr p) = elim (one_replaced (λ x. IsOf s x × (x.is_done ≡ true)) before o _ after p.1) [
     | inl a ↦ inl (inr (p.0, a))
     | inr q ↦ inr (p.0, q.0)
   ]
@@ -201,34 +187,18 @@ module _ (image : List ℕ) (rest : Rest) (unit : UnitPlace) (j : ℕ) where
 
   stands_fewer : (os ds : List OpenStore) (stores : List StoreByte) (x : Option ℕ) → ((s : StoreByte) → IsDone os s → IsDone ds s)
       → ((s : StoreByte) → IsDone ds s → IsDone os s) → Stands os stores x → Stands ds stores x
-  stands_fewer os ds stores x f g (inl p) =
-      inl (
-        p.0,
-        each_weaker (λ s. s.address ≡ here → IsDone os s → ⊥) (λ s. s.address ≡ here → IsDone ds s → ⊥) (λ s h a d.
-            h a (g s d)) stores p.1,
-      )
-  stands_fewer os ds stores x f g (inr o) =
-      inr (one_weaker (IsLast os stores x) (IsLast ds stores x) (λ s p. (
-        p.0,
-        (
-          p.1.0,
-          (
-            f s p.1.1.0,
-            each_weaker (λ y. y.address ≡ here → IsDone os y → is_before s.ended y.began ≡ false) (λ y. y.address ≡ here → IsDone ds y
-                → is_before s.ended y.began ≡ false) (λ y h a d. h a (g y d)) stores p.1.1.1,
-          ),
-        ),
-      )) stores o)
+  stands_fewer os ds stores x f g (inl p) = grind (arith, each_weaker)
+  stands_fewer os ds stores x f g (inr o) = grind (arith, one_weaker, each_weaker)
 
   stands_effect : (before : List OpenStore) (o : OpenStore) (after : List OpenStore) (stores : List StoreByte) (x : Option ℕ)
       → HasByte stores o → Stands (before ++ o ∷ after) stores x
       → (v : Option ℕ) → lane o.bytes j ≡ v → Stands (before ++ done_store o ∷ after) stores (written_byte v x)
   stands_effect before o after stores x has st None e =
-      stands_fewer (before ++ o ∷ after) (before ++ done_store o ∷ after) stores x (λ s d. done_more before o after s d) (λ s d.
+      stands_fewer _ _ stores x (λ s d. done_more before o after s d) (λ s d.
       done_same before o after e s d) st
   stands_effect before o after stores x has st (Some b) e =
-      let os : List OpenStore = before ++ done_store o ∷ after in
-      inr (one_weaker (IsByteOf o.number b) (IsLast os stores (Some b))
+      let os = before ++ done_store o ∷ after in
+      inr (one_weaker _ _
       (λ s p. (
         p.0,
         (
@@ -236,7 +206,7 @@ module _ (image : List ℕ) (rest : Rest) (unit : UnitPlace) (j : ℕ) where
           (
             inr (
               p.1.0,
-              one_at (λ y. IsOf s y × (y.is_done ≡ true)) before (done_store o) after (
+              one_at (λ y. IsOf s y × (y.is_done ≡ true)) before _ after (
                 (sym p.1.1.0, e ∙ ap Some (sym p.1.1.1)),
                 refl,
               ),
@@ -256,9 +226,9 @@ module _ (image : List ℕ) (rest : Rest) (unit : UnitPlace) (j : ℕ) where
     word = subst (Stands (before ++ done_store o ∷ after) stores) (sym (lane_written o.bytes word j f.wide))
         (stands_effect before o after stores (lane word j) (each_at (HasByte stores) before o after f.has_bytes) f.word (lane o.bytes j)
         refl);
-    has_stores = each_weaker (HasStore (before ++ o ∷ after)) (HasStore (before ++ done_store o ∷ after))
-        (λ s h a n. one_replace (IsOf s) (IsOf s) before o (done_store o) after (λ x p. p) (λ p. p) (h a n)) stores f.has_stores;
-    has_bytes = each_replace (HasByte stores) before o (done_store o) after (λ h. h) f.has_bytes;
+    has_stores = each_weaker _ _
+        (λ s h a n. one_replace _ _ before o _ after (λ x p. p) (λ p. p) (h a n)) stores f.has_stores;
+    has_bytes = each_replace _ before o _ after (λ h. h) f.has_bytes;
     has_loads = f.has_loads;
   }
 
@@ -273,11 +243,11 @@ module _ (image : List ℕ) (rest : Rest) (unit : UnitPlace) (j : ℕ) where
     word = f.word;
     has_stores = f.has_stores;
     has_bytes = f.has_bytes;
-    has_loads = each_weaker (HasLoad stores moment (before ++ l ∷ after)) (HasLoad stores moment (before ++ done_load word l ∷ after))
+    has_loads = each_weaker _ _
         (λ k h. (
           h.0,
-          λ a b. one_replace (IsLoad stores k) (IsLoad stores k) before l (done_load word l) after (λ x p. p)
-              (λ p. (p.0, (p.1.0, λ c q e. may_now os stores (lane word j) f.word k.operation.number k.mark c q e))) (h.1 a b),
+          λ a b. one_replace _ _ before l _ after (λ x p. p)
+              (λ p. (p.0, (p.1.0, λ c q e. may_now os stores _ f.word k.operation.number k.mark c q e))) (h.1 a b),
         )) ks f.has_loads;
   }
 
@@ -285,38 +255,32 @@ module _ (image : List ℕ) (rest : Rest) (unit : UnitPlace) (j : ℕ) where
 
   later : (stores : List StoreByte) (moment : ℕ) (loads more : List OpenLoad) (ks : List (Marked ℕ)) → Each (HasLoad stores moment loads) ks
       → Each (HasLoad stores (moment + 1) (loads ++ more)) ks
-  later stores moment loads more ks h =
-      each_weaker (HasLoad stores moment loads) (HasLoad stores (moment + 1) (loads ++ more)) (λ k p. let l = p.0 in (
-        omega arith,
-        λ a b.
-            one_left (IsLoad stores k) loads more (p.1 a b),
-      )) ks h
+  later stores moment loads more ks h = grind (arith, each_weaker, one_left)
 
   pub fits_requested : (stores : List StoreByte) (moment : ℕ) (ks : List (Marked ℕ)) (m : UnitMemory) (n a len : ℕ) → j < unit.size
       → Fits stores moment ks m → (t : Bool) → is_at unit a len ≡ t
       → Fits stores (moment + 1) (ks
       ++ record { operation = record { number = n; address = a; length = len }; mark = moment } ∷ []) (if t then with_load n a m else m)
   fits_requested stores moment ks m n a len jl f true e =
-      let k : Marked ℕ = record { operation = record { number = n; address = a; length = len }; mark = moment } in
+      let k : Marked ℕ = record { operation = grind arith; mark = moment } in
       let o : OpenLoad = record { number = n; address = a; got = None } in
       record {
         wide = f.wide;
         word = f.word;
         has_stores = f.has_stores;
         has_bytes = f.has_bytes;
-        has_loads = each_append (HasLoad stores (moment + 1) (m.loads
-            ++ o ∷ [])) ks (k ∷ []) (later stores moment m.loads (o ∷ []) ks f.has_loads)
-            ((omega arith, λ p q. one_last (IsLoad stores k) m.loads o (refl, (refl, tt))), tt);
+        has_loads = each_append _ ks _ (later stores moment m.loads (o ∷ []) ks f.has_loads)
+            ((omega arith, λ p q. one_last _ _ o (refl, (refl, tt))), tt);
       }
   fits_requested stores moment ks m n a len jl f false e =
-      let k : Marked ℕ = record { operation = record { number = n; address = a; length = len }; mark = moment } in
+      let k : Marked ℕ = record { operation = grind arith; mark = moment } in
       record {
         wide = f.wide;
         word = f.word;
         has_stores = f.has_stores;
         has_bytes = f.has_bytes;
-        has_loads = each_append (HasLoad stores (moment + 1) m.loads) ks (k ∷ [])
-            (each_weaker (HasLoad stores moment m.loads) (HasLoad stores (moment + 1) m.loads) (λ k p. let l = p.0 in (
+        has_loads = each_append _ ks _
+            (each_weaker _ _ (λ k p. let l = p.0 in (
               omega arith,
               p.1,
             )) ks f.has_loads) (
@@ -338,17 +302,17 @@ module _ (image : List ℕ) (rest : Rest) (unit : UnitPlace) (j : ℕ) where
     word = f.word;
     has_stores = f.has_stores;
     has_bytes = f.has_bytes;
-    has_loads = each_passing (HasLoad stores (moment + 1) (without_load n m).loads) (λ k. not (is_number n k)) ks
-        (each_weaker (HasLoad stores moment m.loads) (λ k. not (is_number n k) ≡ true
+    has_loads = each_passing _ (λ k. not _) ks
+        (each_weaker _ (λ k. not _ ≡ true
         → HasLoad stores (moment + 1) (without_load n m).loads k)
         (λ k p e. let l = p.0 in (
           omega arith,
-          λ a b. one_filter (IsLoad stores k) (λ o. not (is_load n o)) m.loads
-              (one_weaker (IsLoad stores k) (λ o. IsLoad stores k o × (not (is_load n o) ≡ true)) (λ o q. (
+          λ a b. one_filter _ (λ o. not _) _
+              (one_weaker _ (λ o. IsLoad stores k o × (not _ ≡ true)) (λ o q. (
                 q,
                 ap (λ x.
                     not (x == n)) q.0 ∙ e,
-              )) m.loads (p.1 a b)),
+              )) _ (p.1 a b)),
         )) ks f.has_loads);
   }
 
@@ -360,8 +324,8 @@ module _ (image : List ℕ) (rest : Rest) (unit : UnitPlace) (j : ℕ) where
   grows stores added t new n u b h =
       let l : LoadByte = record { number = n; address = here; began = u } in
       rw (left_requested t stores added new l b, covered_requested t stores added new l)
-      (or_more (is_left stores l b) (list_any (λ s.
-      (s.address == here) && (s.byte == b)) added) (is_initial (slice_get image here) rest b && not (is_covered stores l)) h)
+      (or_more _ (list_any (λ s.
+      (s.address == here) && (s.byte == b)) added) _ h)
 
   allowed_at : (stores more : List StoreByte) (n u : ℕ) (got : Option (List (Option ℕ))) → ((b : ℕ) → may stores n u b ≡ true
       → may more n u b ≡ true) → IsAllowed stores n u got → IsAllowed more n u got
@@ -372,10 +336,10 @@ module _ (image : List ℕ) (rest : Rest) (unit : UnitPlace) (j : ℕ) where
       → k.mark < moment → (b : ℕ) → may stores k.operation.number k.mark b ≡ true → may more k.operation.number k.mark b ≡ true)
       → Each (HasLoad stores moment loads) ks → Each (HasLoad more (moment + 1) loads) ks
   loads_more stores more moment loads ks g h =
-      each_weaker (HasLoad stores moment loads) (HasLoad more (moment + 1) loads)
+      each_weaker _ _
       (λ k p. let l = p.0 in (
         omega arith,
-        λ a b. one_weaker (IsLoad stores k) (IsLoad more k) (λ o q. (
+        λ a b. one_weaker _ _ (λ o q. (
           q.0,
           (
             q.1.0,
@@ -386,7 +350,7 @@ module _ (image : List ℕ) (rest : Rest) (unit : UnitPlace) (j : ℕ) where
 
   done_old : (os : List OpenStore) (o : OpenStore) (s : StoreByte) → o.is_done ≡ false → IsDone (os ++ o ∷ []) s → IsDone os s
   done_old os o s e (inl d) = inl d
-  done_old os o s e (inr p) = elim (one_split (λ x. IsOf s x × (x.is_done ≡ true)) os (o ∷ []) p.1) [
+  done_old os o s e (inr p) = elim (one_split (λ x. IsOf s x × (x.is_done ≡ true)) os _ p.1) [
     | inl a ↦ inr (p.0, a)
     | inr (inl q) ↦ absurd (false_true o.is_done e q.1)
     | inr (inr q) ↦ absurd q
@@ -397,69 +361,47 @@ module _ (image : List ℕ) (rest : Rest) (unit : UnitPlace) (j : ℕ) where
       → (s : StoreByte) → s.number ≡ n → s.ended ≡ None → IsDone os s → ⊥
   none_under os stores n free has s e o (inl d) = absurd (open_answered s.ended o d)
   none_under os stores n free has s e o (inr p) =
-      one_never (λ x. IsOf s x × (x.is_done ≡ true)) (HasByte stores) os p.1 has
-      (λ x q h. false_true (list_any (is_open n) stores) free
-      (any_one (is_open n) stores (one_weaker (IsByteOf x.number s.byte) (λ y. is_open n y ≡ true)
+      one_never (λ x. IsOf s x × (x.is_done ≡ true)) _ os p.1 has
+      (λ x q h. false_true _ free
+      (any_one _ stores (one_weaker _ (λ y. is_open n y ≡ true)
       (λ y r. rw r.1.0 (eq-eqb y.number n (r.1.1.0 ∙ (q.0.0 ∙ e)))) stores (h s.byte q.0.1))))
 
   done_with : (os more : List OpenStore) (s : StoreByte) → IsDone os s → IsDone (os ++ more) s
   done_with os more s (inl d) = inl d
-  done_with os more s (inr p) = inr (p.0, one_left (λ x. IsOf s x × (x.is_done ≡ true)) os more p.1)
+  done_with os more s (inr p) = grind (arith, one_left)
 
   stands_requested : (os ds : List OpenStore) (stores added : List StoreByte) (x : Option ℕ) → ((s : StoreByte) → IsDone os s → IsDone ds s)
       → ((s : StoreByte) → IsDone ds s → IsDone os s)
       → Each (λ s. IsDone os s → ⊥) added → Stands os stores x → Stands ds (stores ++ added) x
-  stands_requested os ds stores added x f g new (inl p) =
-      inl (
-        p.0,
-        each_append (λ s. s.address ≡ here → IsDone ds s → ⊥) stores added
-            (each_weaker (λ s. s.address ≡ here → IsDone os s → ⊥) (λ s. s.address ≡ here → IsDone ds s → ⊥) (λ s h a d.
-            h a (g s d)) stores p.1)
-            (each_weaker (λ s. IsDone os s → ⊥) (λ s. s.address ≡ here → IsDone ds s → ⊥) (λ s h a d. h (g s d)) added new),
-      )
-  stands_requested os ds stores added x f g new (inr o) =
-      inr (one_left (IsLast ds (stores ++ added) x) stores added
-      (one_weaker (IsLast os stores x) (IsLast ds (stores ++ added) x) (λ s p. (
-        p.0,
-        (
-          p.1.0,
-          (
-            f s p.1.1.0,
-            each_append (λ y. y.address ≡ here → IsDone ds y → is_before s.ended y.began ≡ false) stores added
-                (each_weaker (λ y. y.address ≡ here → IsDone os y → is_before s.ended y.began ≡ false) (λ y. y.address ≡ here → IsDone ds y
-                → is_before s.ended y.began ≡ false) (λ y h a d. h a (g y d)) stores p.1.1.1)
-                (each_weaker (λ y. IsDone os y → ⊥) (λ y. y.address ≡ here → IsDone ds y → is_before s.ended y.began ≡ false) (λ y h a d.
-                absurd (h (g y d))) added new),
-          ),
-        ),
-      )) stores o))
+  stands_requested os ds stores added x f g new (inl p) = grind (arith, each_append, each_weaker)
+  stands_requested os ds stores added x f g new (inr o) = grind (arith, one_left, one_weaker, each_append, each_weaker)
 
   pub fits_store_requested : (stores : List StoreByte) (moment : ℕ) (ks : List (Marked ℕ)) (m : UnitMemory) (n a : ℕ) (bs : List ℕ) (e : ℕ)
       → j < unit.size → j < 8 → list_any (is_open n) stores ≡ false → Fits stores moment ks m
       → (t : Bool) → list_any is_some (at_unit unit (stored_byte a bs e)) ≡ t
       → Fits (stores ++ store_bytes n a bs e moment) (moment + 1) ks (if t then with_store n (at_unit unit (stored_byte a bs e)) m else m)
   fits_store_requested stores moment ks m n a bs e jl jw free f true c =
-      let added : List StoreByte = store_bytes n a bs e moment in
-      let word : List (Option ℕ) = at_unit unit (stored_byte a bs e) in
+      let added = store_bytes n a bs e moment in
+      let word : List _ = at_unit unit (stored_byte a bs e) in
       let o : OpenStore = record { number = n; bytes = word; is_done = false } in
       let lane_here : lane word j ≡ stored_byte a bs e here = lane_unit unit (stored_byte a bs e) j jl jw in
       record {
         wide = f.wide;
-        word = stands_requested m.stores (m.stores ++ o ∷ []) stores added (lane m.word j) (λ s d. done_with m.stores (o ∷ []) s d) (λ s d.
-            done_old m.stores o s refl d)
-            (each_weaker (IsNewByte n a bs e moment) (λ s. IsDone m.stores s → ⊥) (λ s h d.
-            none_under m.stores stores n free f.has_bytes s h.0 h.1.0 d) added (each_new n a bs e moment)) f.word;
-        has_stores = each_append (HasStore (m.stores ++ o ∷ [])) stores added
-            (each_weaker (HasStore m.stores) (HasStore (m.stores ++ o ∷ [])) (λ s h p q.
-            one_left (IsOf s) m.stores (o ∷ []) (h p q)) stores f.has_stores)
-            (each_weaker (IsNewByte n a bs e moment) (HasStore (m.stores ++ o ∷ [])) (λ s h p q. one_last (IsOf s) m.stores o (
+        word = stands_requested _ _ stores added _ (λ s d. done_with _ _ s d) (λ s d.
+            done_old _ o s refl d)
+            (each_weaker _ (λ s. IsDone _ s → ⊥) (λ s h d.
+            none_under _ stores n free f.has_bytes s h.0 h.1.0 d) added (each_new n a bs e moment)) f.word;
+        has_stores = each_append _ stores added
+            (each_weaker _ _ (λ s h p q.
+            one_left _ _ _ (h p q)) stores f.has_stores)
+            (each_weaker _ _ (λ s h p q. one_last _ _ o (
               sym h.0,
               lane_here ∙ (ap (stored_byte a bs e) (sym p) ∙ h.1.1.1),
             )) added (each_new n a bs e moment));
-        has_bytes = each_append (HasByte (stores ++ added)) m.stores (o ∷ [])
-            (each_weaker (HasByte stores) (HasByte (stores ++ added)) (λ y h b p.
-            one_left (IsByteOf y.number b) stores added (h b p)) m.stores f.has_bytes) (
-              λ b p. one_right (IsByteOf n b) stores added (one_weaker (λ s. s ≡ new_byte n here b moment) (IsByteOf n b) (λ s q. (
+        has_bytes = each_append _ _ _
+            (each_weaker _ _ (λ y h b p.
+            one_left _ stores added (h b p)) _ f.has_bytes) (
+              λ b p. one_right _ stores added (one_weaker (λ s. s ≡ new_byte n here b moment) _ (λ s q. (
                 ap (λ z.
                     z.address) q,
                 (ap (λ z. z.ended) q, (ap (λ z. z.number) q, ap (λ z. z.byte) q)),
@@ -467,71 +409,70 @@ module _ (image : List ℕ) (rest : Rest) (unit : UnitPlace) (j : ℕ) where
                   (stored_new n a bs e moment here b (sym lane_here ∙ p))),
               tt,
             );
-        has_loads = loads_more stores (stores ++ added) moment m.loads ks (λ k l b h.
+        has_loads = loads_more stores _ moment _ ks (λ k l b h.
             grows stores added moment (store_bytes-new n a bs e moment) k.operation.number k.mark b h) f.has_loads;
       }
   fits_store_requested stores moment ks m n a bs e jl jw free f false c =
       let added : List StoreByte = store_bytes n a bs e moment in
-      let word : List (Option ℕ) = at_unit unit (stored_byte a bs e) in
+      let word : List _ = at_unit unit (stored_byte a bs e) in
       let lane_here : lane word j ≡ stored_byte a bs e here = lane_unit unit (stored_byte a bs e) j jl jw in
       record {
         wide = f.wide;
-        word = stands_requested m.stores m.stores stores added (lane m.word j) (λ s d. d) (λ s d. d)
-            (each_weaker (IsNewByte n a bs e moment) (λ s. IsDone m.stores s → ⊥) (λ s h d.
-            none_under m.stores stores n free f.has_bytes s h.0 h.1.0 d) added (each_new n a bs e moment)) f.word;
-        has_stores = each_append (HasStore m.stores) stores added f.has_stores
-            (each_weaker (IsNewByte n a bs e moment) (HasStore m.stores) (λ s h p q.
-            absurd (false_true (list_any is_some word) c (any_lane word j s.byte (lane_here ∙ (ap (stored_byte a bs e) (sym p) ∙
+        word = stands_requested _ _ stores added _ (λ s d. d) (λ s d. d)
+            (each_weaker _ (λ s. IsDone _ s → ⊥) (λ s h d.
+            none_under _ stores n free f.has_bytes s h.0 h.1.0 d) added (each_new n a bs e moment)) f.word;
+        has_stores = each_append _ stores added f.has_stores
+            (each_weaker _ _ (λ s h p q.
+            absurd (false_true _ c (any_lane word j s.byte (lane_here ∙ (ap (stored_byte a bs e) (sym p) ∙
             h.1.1.1))))) added (each_new n a bs e moment));
-        has_bytes = each_weaker (HasByte stores) (HasByte (stores ++ added)) (λ y h b p.
-            one_left (IsByteOf y.number b) stores added (h b p)) m.stores f.has_bytes;
-        has_loads = loads_more stores (stores ++ added) moment m.loads ks (λ k l b h.
+        has_bytes = each_weaker _ _ (λ y h b p.
+            one_left _ stores added (h b p)) _ f.has_bytes;
+        has_loads = loads_more stores _ moment _ ks (λ k l b h.
             grows stores added moment (store_bytes-new n a bs e moment) k.operation.number k.mark b h) f.has_loads;
       }
 
   -- A store is answered. ----
 
   not_its : (n : ℕ) (s : StoreByte) (o : OpenStore) → is_open n s ≡ false → s.ended ≡ None → o.number ≡ s.number → not (is_store n o) ≡ true
-  not_its n s o h e q = let x : (s.number == n) ≡ false = (rw e at h) in ap not (ap (λ y. y == n) q ∙ x)
+  not_its n s o h e q = grind arith
 
   -- what is left of the open stores has every open byte of another number
   left_open : (os : List OpenStore) (n : ℕ) (P : OpenStore → Type 0) (s : StoreByte) → is_open n s ≡ false → s.ended ≡ None
       → ((o : OpenStore) → P o → o.number ≡ s.number) → One P os → One P (filter (λ o. not (is_store n o)) os)
-  left_open os n P s h e f one = one_filter P (λ o. not (is_store n o)) os (one_weaker P (λ o. P o × (not (is_store n o) ≡ true)) (λ o p.
-      (p, not_its n s o h e (f o p))) os one)
+  left_open os n P s h e f one = grind (arith, one_filter, one_weaker, not_its)
 
   done_by_answer : (n : ℕ) (o : OpenStore) → o.number ≡ n → (not (is_store n o) || o.is_done) ≡ true → o.is_done ≡ true
-  done_by_answer n o e h = let x : (o.number == n) ≡ true = eq-eqb o.number n e in rw x at h
+  done_by_answer n o e h = grind arith
 
   done_filtered : (os : List OpenStore) (n : ℕ) (s : StoreByte) → is_open n s ≡ false → IsDone os s → IsDone (filter (λ o.
       not (is_store n o)) os) s
   done_filtered os n s h (inl d) = inl d
-  done_filtered os n s h (inr p) = inr (p.0, left_open os n (λ o. IsOf s o × (o.is_done ≡ true)) s h p.0 (λ o q. q.0.0) p.1)
+  done_filtered os n s h (inr p) = grind (arith, left_open)
 
   done_unfiltered : (os : List OpenStore) (n : ℕ) (s : StoreByte) → IsDone (filter (λ o. not (is_store n o)) os) s → IsDone os s
   done_unfiltered os n s (inl d) = inl d
-  done_unfiltered os n s (inr p) = inr (p.0, one_unfilter (λ o. IsOf s o × (o.is_done ≡ true)) (λ o. not (is_store n o)) os p.1)
+  done_unfiltered os n s (inr p) = grind (arith, one_unfilter)
 
   done_before : (os : List OpenStore) (n t : ℕ) (s : StoreByte) → may_answer_store n os ≡ true → HasStore os s → s.address ≡ here
       → IsDone (filter (λ o. not (is_store n o)) os) (after_response n t s) → IsDone os s
   done_before os n t s m has a d = elim (after_cases n t s) [
     | inl c ↦ inr (
       c.0,
-      one_weaker (λ o. IsOf s o × ((not (is_store n o) || o.is_done) ≡ true)) (λ o. IsOf s o × (o.is_done ≡ true)) (λ o q. (
+      one_weaker (λ o. IsOf s o × ((not _ || o.is_done) ≡ true)) (λ o. IsOf s o × (o.is_done ≡ true)) (λ o q. (
         q.0,
         done_by_answer n o (q.0.0 ∙ c.1.0) q.1,
       )) os
-          (one_each (IsOf s) (λ o. (not (is_store n o) || o.is_done) ≡ true) os (has a c.0) (all_each (λ o.
-          not (is_store n o) || o.is_done) os m)),
+          (one_each _ (λ o. (not _ || o.is_done) ≡ true) os (has a c.0) (all_each (λ o.
+          not _ || o.is_done) os m)),
     )
-    | inr c ↦ done_unfiltered os n s (subst (IsDone (filter (λ o. not (is_store n o)) os)) c.1 d)
+    | inr c ↦ done_unfiltered os n s (rw c.1 at d)
   ]
 
   done_after : (os : List OpenStore) (n t : ℕ) (s : StoreByte) → IsDone os s → IsDone (filter (λ o.
       not (is_store n o)) os) (after_response n t s)
   done_after os n t s d = elim (after_cases n t s) [
     | inl c ↦ inl (ap (λ y. is_some y.ended) c.1.1)
-    | inr c ↦ subst (IsDone (filter (λ o. not (is_store n o)) os)) (sym c.1) (done_filtered os n s c.0 d)
+    | inr c ↦ subst (IsDone (filter (λ o. not _) os)) (sym c.1) (done_filtered os n s c.0 d)
   ]
 
   after_here : (n t : ℕ) (s : StoreByte) → ((after_response n t s).address ≡ s.address) × (((after_response n t s).byte ≡ s.byte)
@@ -544,27 +485,26 @@ module _ (image : List ℕ) (rest : Rest) (unit : UnitPlace) (j : ℕ) where
   -- a byte that took effect is not overwritten by the answer
   before_same : (n t : ℕ) (s o : StoreByte) → o.began < t → is_before s.ended o.began ≡ false
       → is_before (after_response n t s).ended (after_response n t o).began ≡ false
-  before_same n t s o l h = ap (λ m.
-      is_before (after_response n t s).ended m) (after_here n t o).1.1.0 ∙ (after-before n t o.began s (omega arith) ∙ h)
+  before_same n t s o l h = grind arith
 
   stands_answered : (os : List OpenStore) (stores : List StoreByte) (n t : ℕ) (x : Option ℕ) → may_answer_store n os ≡ true
       → Each (HasStore os) stores → Each (IsTimely t) stores → Stands os stores x
       → Stands (filter (λ o. not (is_store n o)) os) (map (after_response n t) stores) x
   stands_answered os stores n t x m has timely (inl p) =
-      let ds : List OpenStore = filter (λ o. not (is_store n o)) os in
+      let ds = filter (λ o. not _) os in
       inl (
         p.0,
-        each_map (after_response n t) (λ s. s.address ≡ here → IsDone ds s → ⊥) stores
+        each_map _ (λ s. s.address ≡ here → IsDone ds s → ⊥) stores
             (each_weaker (λ s. (s.address ≡ here → IsDone os s → ⊥) × HasStore os s) (λ s. (after_response n t s).address ≡ here
             → IsDone ds (after_response n t s) → ⊥)
-            (λ s h a d. let b : s.address ≡ here = sym (after_here n t s).0 ∙ a in h.0 b (done_before os n t s m h.1 b d)) stores
-            (each_both (λ s. s.address ≡ here → IsDone os s → ⊥) (HasStore os) stores p.1 has)),
+            (λ s h a d. let b = sym (after_here n t s).0 ∙ a in h.0 b (done_before os n t s m h.1 b d)) stores
+            (each_both (λ s. s.address ≡ here → IsDone os s → ⊥) _ stores p.1 has)),
       )
   stands_answered os stores n t x m has timely (inr o) =
-      let ds : List OpenStore = filter (λ o. not (is_store n o)) os in
-      let f : StoreByte → StoreByte = after_response n t in
-      inr (one_map f (IsLast ds (map f stores) x) stores
-      (one_weaker (IsLast os stores x) (λ s. IsLast ds (map f stores) x (f s)) (λ s p. (
+      let ds = filter (λ o. not _) os in
+      let f = after_response n t in
+      inr (one_map f _ stores
+      (one_weaker _ (λ s. IsLast ds _ x (f s)) (λ s p. (
         (after_here n t s).0 ∙ p.0,
         (
           p.1.0 ∙ ap Some (sym (after_here n t s).1.0),
@@ -573,7 +513,7 @@ module _ (image : List ℕ) (rest : Rest) (unit : UnitPlace) (j : ℕ) where
             each_map f (λ y. y.address ≡ here → IsDone ds y → is_before (f s).ended y.began ≡ false) stores
                 (each_weaker (λ y. (y.address ≡ here → IsDone os y → is_before s.ended y.began ≡ false) × (HasStore os y
                 × IsTimely t y)) (λ y. (f y).address ≡ here → IsDone ds (f y) → is_before (f s).ended (f y).began ≡ false)
-                (λ y h a d. let b : y.address ≡ here = sym (after_here n t y).0 ∙ a in
+                (λ y h a d. let b = sym (after_here n t y).0 ∙ a in
                 before_same n t s y h.1.1.0 (h.0 b (done_before os n t y m h.1.0 b d))) stores
                 (each_both (λ y. y.address ≡ here → IsDone os y → is_before s.ended y.began ≡ false) (λ y. HasStore os y
                 × IsTimely t y) stores p.1.1.1 (each_both (HasStore os) (IsTimely t) stores has timely))),
@@ -583,16 +523,14 @@ module _ (image : List ℕ) (rest : Rest) (unit : UnitPlace) (j : ℕ) where
 
   keeps : (stores : List StoreByte) (n t : ℕ) → All (IsTimely t) stores → (k u b : ℕ) → u ≤ t → may stores k u b ≡ true
       → may (map (after_response n t) stores) k u b ≡ true
-  keeps stores n t timely k u b l h =
-      let y : LoadByte = record { number = k; address = here; began = u } in
-      rw (left_answered n t stores timely y b l, covered_answered n t stores y l) h
+  keeps stores n t timely k u b l h = grind (arith, left_answered, covered_answered)
 
   pub fits_store_answered : (stores : List StoreByte) (moment : ℕ) (ks : List (Marked ℕ)) (m : UnitMemory) (n : ℕ)
       → All (IsTimely moment) stores → may_answer_store n m.stores ≡ true → Fits stores moment ks m
       → Fits (map (after_response n moment) stores) (moment + 1) ks (without_store n m)
   fits_store_answered stores moment ks m n timely may_end f =
-      let after : StoreByte → StoreByte = after_response n moment in
-      let ds : List OpenStore = filter (λ o. not (is_store n o)) m.stores in
+      let after = after_response n moment in
+      let ds = filter (λ o. not _) m.stores in
       record {
         wide = f.wide;
         word = stands_answered m.stores stores n moment (lane m.word j) may_end f.has_stores (each_all (IsTimely moment) stores timely)
@@ -600,7 +538,7 @@ module _ (image : List ℕ) (rest : Rest) (unit : UnitPlace) (j : ℕ) where
         has_stores = each_map after (HasStore ds) stores (each_weaker (HasStore m.stores) (λ s. HasStore ds (after s))
             (λ s h a e. elim (after_cases n moment s) [
               | inl c ↦ absurd (some_none (sym (ap (λ y. y.ended) c.1.1) ∙ e))
-              | inr c ↦ let e2 : s.ended ≡ None = sym (ap (λ y. y.ended) c.1) ∙ e in
+              | inr c ↦ let e2 = sym (ap (λ y. y.ended) c.1) ∙ e in
                   subst (λ y. One (IsOf y) ds) (sym c.1) (left_open m.stores n (IsOf s) s c.0 e2 (λ o p.
                   p.0) (h (sym (after_here n moment s).0 ∙ a) e2))
             ]) stores f.has_stores);

@@ -1,11 +1,10 @@
 -- A flat history is an atomic one: each operation takes effect right behind its request.
 use Rattle.std.proofs.Common.{◌≡◌, ℕ, zero, suc, ◌+◌, ◌-◌, ◌/◌, ◌%◌, ◌<◌, ◌≤◌, Bool, true, false, ◌&&◌, ◌||◌, not, ◌==◌, cond}
-use Rattle.std.proofs.Common.{if◌then◌else◌, nat_le, nat_lt, List, [], ◌∷◌, ◌++◌, map, length, Option, Some, None, slice_get, inl, inr}
+use Rattle.std.proofs.Common.{if◌then◌else◌, nat_lt, List, [], ◌∷◌, ◌++◌, map, length, Option, Some, None, slice_get, inl, inr}
 use Rattle.std.proofs.Common.{refl, sym, ap, ◌∙◌, subst, append-nil, append_assoc, eq-eqb, eqb-true, arith}
 use Rattle.std.specs.Prelude.{is_none, is_some, IsTrue}
 use Rattle.std.specs.Borrow.{Bor}
 use Rattle.std.specs.List.{filter, find, list_any, range_with_len, zip, position, prefix_len}
-use Rattle.std.specs.Int.{bit_at}
 use Rattle.std.specs.Option.{option_and_then}
 use Rattle.std.proofs.lemmas.Bool.{cases_Bool, cases_lt, cases_eq, lt-ltb, ltb-true, lt-leb, leb-true, ne_eqb}
 use Rattle.std.proofs.Math.Path.{fun_ext}
@@ -13,7 +12,6 @@ use Rattle.std.proofs.Math.Bool.{or_assoc}
 use Rattle.memory_histories.specs.declared.events.HistoryEvent.{HistoryEvent}
 use Rattle.memory_histories.specs.declared.events.HistoryEvent.TheVariants.{LoadRequest, LoadResponse, StoreRequest, StoreResponse}
 use Rattle.memory_histories.specs.declared.events.HistoryFault.{HistoryFault}
-use Rattle.memory_histories.specs.declared.events.HistoryFault.TheVariants.{NotOpen, WrongLength}
 use Rattle.memory_histories.specs.declared.events.Rest.{Rest}
 use Rattle.memory_histories.specs.declared.events.Rest.TheVariants.{Zeros, Unknown}
 use Rattle.memory_histories.specs.declared.reasons.Owed.{Owed}
@@ -22,14 +20,14 @@ use Rattle.memory_histories.specs.declared.reasons.StoreName.{StoreName}
 use Rattle.memory_histories.specs.declared.flat.OwedByte.{OwedByte}
 use Rattle.memory_histories.specs.Regular.{is_inside, has_enabled, load_request_fault, load_response_fault, store_request_fault}
 use Rattle.memory_histories.specs.Regular.{store_response_fault, wrong_byte, wrong_place}
-use Rattle.memory_histories.specs.Flat.{Flat, initial, with_value, with_bytes, stored, is_paid_by, may_return, is_of, is_open, flat_fault}
+use Rattle.memory_histories.specs.Flat.{Flat, initial, with_value, with_bytes, stored, is_paid_by, may_return, is_open, flat_fault}
 use Rattle.memory_histories.specs.Flat.{flat_after, flat_run}
 use Rattle.memory_histories.specs.Flat as flat
 use Rattle.memory_histories.proofs.Lists.{list_any-kept, list_any-filter}
 use Rattle.atomic_histories.specs.declared.unit.Operation.{Operation}
 use Rattle.atomic_histories.specs.declared.unit.OpenStore.{OpenStore}
 use Rattle.atomic_histories.specs.declared.unit.UnitPlace.{UnitPlace}
-use Rattle.atomic_histories.specs.Words.{at_lane, at_unit, first_byte, initial_byte, byte_for, enabled_byte, stored_byte, is_at}
+use Rattle.atomic_histories.specs.Words.{at_lane, at_unit, first_byte, byte_for, enabled_byte, stored_byte, is_at}
 use Rattle.atomic_histories.specs.Words.{written_byte, written, is_as_it_stood, is_word_of}
 use Rattle.atomic_histories.specs.Operations.{Opened, none_opened, opened_after, has_number, form_fault}
 use Rattle.atomic_histories.specs.Law.{OpenLoad, UnitMemory, MayBe, starts, steps, sees, untouched, done_store, done_load, is_store}
@@ -41,7 +39,7 @@ use Rattle.history_laws.specs.Laws.{FlatIsAtomic, FlatIsRegular}
 use Rattle.history_laws.proofs.Atomic.{atomic_is_regular}
 use Rattle.history_laws.proofs.Lists.{each_passing, each_passes, any_one, any_none, each_always, false_if, or_true}
 use Rattle.history_laws.proofs.Pieces.{Marked, is_number, AreDifferent, bytes_of, piece, false_true}
-use Rattle.history_laws.proofs.Open.{Loads, no_loads, loads_any, loads_more, loads_fewer, loads_under, length_bytes, load_formed}
+use Rattle.history_laws.proofs.Open.{Loads, loads_any, loads_more, loads_fewer, loads_under, length_bytes, load_formed}
 use Rattle.history_laws.proofs.Open.{inside_some, marked_after}
 use Rattle.history_laws.proofs.Words.{lane_map, zero_plus, lane_word, stored_inside, enabled_first, enabled_next}
 
@@ -88,10 +86,10 @@ first_value true value at a b x h = rw h refl
 first_value false value at a b x h = refl
 
 nothing_enabled : (e k : ℕ) → enabled_byte [] e k ≡ None
-nothing_enabled e k = elim (cases_Bool (bit_at e k == 1)) [ inl h ↦ rw h refl | inr h ↦ rw h refl ]
+nothing_enabled e k = grind arith
 
 nothing_stored : (a x e : ℕ) → stored_byte a [] e x ≡ None
-nothing_stored a x e = elim (cases_Bool (nat_le a x)) [ inl h ↦ rw h (nothing_enabled e (x - a)) | inr h ↦ rw h refl ]
+nothing_stored a x e = grind arith
 
 written_at : (value : ℕ → Owed) (a x b : ℕ) (bs : List ℕ) (e : ℕ) (at : ℕ → Owed)
     → chosen value (stored_byte (a + 1) bs (e / 2) x) ((if e % 2 == 1 then with_value at a (value b) else at) x) ≡ chosen value (stored_byte
@@ -100,22 +98,22 @@ written_at value a x b bs e at = elim (cases_lt x a) [
   | inl l ↦
       let m : x < a + 1 = omega arith in
       let ne : (a == x) ≡ false = ne_eqb a x (λ q. absurd (omega arith)) in
-      rw (not_below (a + 1) x bs (e / 2) m, not_below a x (b ∷ bs) e l) (value_at (e % 2 == 1) at a (value b) x ne)
+      rw (not_below _ x bs _ m, not_below a x _ e l) (value_at (e % 2 == 1) at a (value b) x ne)
   | inr l ↦ elim (cases_eq a x) [
     | inl same ↦
         let m : x < a + 1 = omega arith in
         let at_first : stored_byte a (b ∷ bs) e x ≡ enabled_byte (b ∷ bs) e 0 = subst (λ y.
         stored_byte a (b ∷ bs) e y ≡ enabled_byte (b ∷ bs) e 0) (zero_behind a ∙ same) (stored_inside a (b ∷ bs) e 0) in
-        rw (not_below (a + 1) x bs (e / 2) m, at_first, enabled_first b bs e) (first_value (e % 2 == 1) value at a b x (eq-eqb a x same))
+        rw (not_below _ x bs _ m, at_first, enabled_first b bs e) (first_value (e % 2 == 1) value at a b x (eq-eqb a x same))
     | inr other ↦
         let k : ℕ = x - (a + 1) in
         let far : a + 1 ≤ x = omega arith in
         let p : a + 1 + k ≡ x = omega arith in
         let q : a + suc k ≡ x = omega arith in
-        let next : stored_byte (a + 1) bs (e / 2) x ≡ enabled_byte bs (e / 2) k = subst (λ y.
+        let next : stored_byte _ bs _ x ≡ enabled_byte bs _ k = subst (λ y.
         stored_byte (a + 1) bs (e / 2) y ≡ enabled_byte bs (e / 2) k) p (stored_inside (a + 1) bs (e / 2) k) in
-        let here : stored_byte a (b ∷ bs) e x ≡ enabled_byte bs (e / 2) k = subst (λ y.
-        stored_byte a (b ∷ bs) e y ≡ enabled_byte bs (e / 2) k) q (stored_inside a (b ∷ bs) e (suc k) ∙ enabled_next b bs e k) in
+        let here : stored_byte a (b ∷ bs) e x ≡ enabled_byte bs _ k = subst (λ y.
+        stored_byte a (b ∷ bs) e y ≡ enabled_byte bs (e / 2) k) q (stored_inside a (b ∷ bs) e _ ∙ enabled_next b bs e k) in
         rw (next, here) (ap (chosen value (enabled_byte bs (e / 2) k)) (value_at (e % 2 == 1) at a (value b) x (ne_eqb a x other)))
   ]
 ]
@@ -123,7 +121,7 @@ written_at value a x b bs e at = elim (cases_lt x a) [
 pub bytes_at : (value : ℕ → Owed) (bs : List ℕ) (a x e : ℕ) (at : ℕ → Owed)
     → with_bytes at value a bs e x ≡ chosen value (stored_byte a bs e x) (at x)
 bytes_at value [] a x e at = rw (nothing_stored a x e) refl
-bytes_at value (b ∷ bs) a x e at = bytes_at value bs (a + 1) x (e / 2) (if e % 2 == 1 then with_value at a (value b) else at) ∙ written_at
+bytes_at value (b ∷ bs) a x e at = bytes_at value bs _ x _ (if e % 2 == 1 then with_value at a _ else at) ∙ written_at
     value a x b bs e at
 
 pub known_chosen : (store : StoreName) (o : Option ℕ) (old : Owed) → known (chosen (λ b.
@@ -134,7 +132,7 @@ known_chosen store None old = refl
 -- Words. ----
 
 unit_same : (unit : UnitPlace) (f g : ℕ → Option ℕ) → ((a : ℕ) → f a ≡ g a) → at_unit unit f ≡ at_unit unit g
-unit_same unit f g h = ap (at_unit unit) (fun_ext h)
+unit_same unit f g h = grind arith
 
 written_map : (f g : ℕ → Option ℕ) (xs : List ℕ) → written (map f xs) (map g xs) ≡ map (λ x. written_byte (f x) (g x)) xs
 unfolding written
@@ -143,12 +141,11 @@ written_map f g (x ∷ xs) = ap (λ ws. written_byte (f x) (g x) ∷ ws) (writte
 
 written_lane : (unit : UnitPlace) (f g : ℕ → Option ℕ) (k : ℕ) → written_byte (at_lane unit f k) (at_lane unit g k) ≡ at_lane unit (λ a.
     written_byte (f a) (g a)) k
-written_lane unit f g k = elim (cases_Bool (nat_lt k unit.size)) [ inl e ↦ rw e refl | inr e ↦ rw e refl ]
+written_lane unit f g k = grind arith
 
 written_unit : (unit : UnitPlace) (f g : ℕ → Option ℕ) → written (at_unit unit f) (at_unit unit g) ≡ at_unit unit (λ a.
     written_byte (f a) (g a))
-written_unit unit f g = written_map (at_lane unit f) (at_lane unit g) (range_with_len 0 8) ∙ ap (λ h.
-    map h (range_with_len 0 8)) (fun_ext (written_lane unit f g))
+written_unit unit f g = cc (written_map (at_lane unit f) (at_lane unit g) (range_with_len 0 8), fun_ext (written_lane unit f g))
 
 written_nothing : (bs ws : List (Option ℕ)) → list_any is_some bs ≡ false → written bs ws ≡ ws
 unfolding written
@@ -162,16 +159,16 @@ written_nothing (Some b ∷ bs) (w ∷ ws) h = cc
 no_place : {L : Type 0} (may : L → ℕ → Bool) (ps : List (L × ℕ)) → nat_lt (prefix_len (λ p. not (not (may p.0 p.1))) ps) (length ps) ≡ false
     → Each (λ p. may p.0 p.1 ≡ true) ps
 no_place may [] h = tt
-no_place may (p ∷ ps) h = elim (cases_Bool (may p.0 p.1)) [
+no_place may (p ∷ ps) h = elim (cases_Bool _) [
   | inl e ↦ (
     e,
-    no_place may ps (false_if (nat_lt (prefix_len (λ q. not (not (may q.0 q.1))) ps) (length ps)) (λ t.
-        let l : prefix_len (λ q. not (not (may q.0 q.1))) ps < length ps = ltb-true _ _ t in
-        let f : nat_lt (1 + prefix_len (λ q. not (not (may q.0 q.1))) ps) (suc (length ps)) ≡ false = (rw e at h) in
-        false_true (nat_lt (1 + prefix_len (λ q. not (not (may q.0 q.1))) ps) (suc (length ps))) f (lt-ltb _ _ (omega arith)))),
+    no_place may ps (false_if (nat_lt (prefix_len (λ q. not _) ps) _) (λ t.
+        let l = ltb-true _ _ t in
+        let f = (rw e at h) in
+        false_true (nat_lt (1 + prefix_len (λ q. not _) ps) _) f (lt-ltb _ _ (omega arith)))),
   )
   | inr e ↦
-      let f : nat_lt 0 (suc (length ps)) ≡ false = (rw e at h) in
+      let f = (rw e at h) in
       absurd (false_true (nat_lt 0 (suc (length ps))) f (lt-ltb 0 (suc (length ps)) (omega arith)))
 ]
 
@@ -181,8 +178,7 @@ unconditional false k h = refl
 
 place_none : {L : Type 0} (may : L → ℕ → Bool) (ps : List (L × ℕ)) → position (λ p. not (may p.0 p.1)) ps ≡ None → nat_lt (prefix_len (λ p.
     not (not (may p.0 p.1))) ps) (length ps) ≡ false
-place_none may ps h = unconditional (nat_lt (prefix_len (λ p. not (not (may p.0 p.1))) ps) (length ps)) (prefix_len (λ p.
-    not (not (may p.0 p.1))) ps) h
+place_none may ps h = grind arith
 
 wrong_none : (o : Option ℕ) → wrong_byte o ≡ None → o ≡ None
 wrong_none None h = refl
@@ -191,10 +187,10 @@ wrong_none (Some k) h = cc
 response_parts : {L : Type 0} (may : L → ℕ → Bool) (ls : List L) (bs : List ℕ) → load_response_fault may ls bs ≡ None
     → ((length ls == 0) ≡ false) × ((length ls ≡ length bs) × (wrong_place may ls bs ≡ None))
 response_parts may ls bs h = elim (cases_Bool (length ls == 0)) [
-  | inl e ↦ let f : Some NotOpen ≡ None = (rw e at h) in cc
-  | inr e ↦ elim (cases_Bool (length ls == length bs)) [
-    | inl g ↦ (e, (eqb-true (length ls) (length bs) g, wrong_none (wrong_place may ls bs) (rw (e, g) at h)))
-    | inr g ↦ let f : Some WrongLength ≡ None = (rw (e, g) at h) in cc
+  | inl e ↦ let f = (rw e at h) in cc
+  | inr e ↦ elim (cases_Bool _) [
+    | inl g ↦ (e, (eqb-true _ _ g, wrong_none _ (rw (e, g) at h)))
+    | inr g ↦ let f = (rw (e, g) at h) in cc
   ]
 ]
 
@@ -205,7 +201,7 @@ paid_at : {X L : Type 0} (make : ℕ → ℕ → X → L) (number : L → ℕ) (
 paid_at make number named may n x zero a bs h i b e l = absurd (omega arith)
 paid_at make number named may n x (suc len) a [] h i b e l = cc
 paid_at make number named may n x (suc len) a (c ∷ bs) h zero b e l = let same : c ≡ b = cc in subst (λ y.
-    may (make n y x) b ≡ true) (omega arith) (subst (λ y. may (make n a x) y ≡ true) same h.0)
+    may (make n y x) b ≡ true) (omega arith) (rw same at h.0)
 paid_at make number named may n x (suc len) a (c ∷ bs) h (suc i) b e l =
     subst (λ y. may (make n y x) b ≡ true) (omega arith) (paid_at make number named may n x len (a + 1) bs h.1 i b e (omega arith))
 
@@ -230,11 +226,10 @@ or_last false = refl
 
 any_snoc : {X : Type 0} (p : X → Bool) (xs : List X) (x : X) → list_any p (xs ++ x ∷ []) ≡ (list_any p xs || p x)
 any_snoc p [] x = or_last (p x)
-any_snoc p (y ∷ xs) x = ap (λ t. p y || t) (any_snoc p xs x) ∙ sym (or_assoc (p y) (list_any p xs) (p x))
+any_snoc p (y ∷ xs) x = cc (any_snoc p xs x, or_assoc (p y) (list_any p xs) (p x))
 
 kept_other : {X : Type 0} (number : X → ℕ) (n m : ℕ) (x : X) → (n == m) ≡ false → (number x == m) ≡ true → not (number x == n) ≡ true
-kept_other number n m x h e = ap not (false_if (number x == n) (λ f.
-    false_true (n == m) h (eq-eqb n m (sym (eqb-true (number x) n f) ∙ eqb-true (number x) m e))))
+kept_other number n m x h e = grind arith
 
 not_itself : (b : Bool) → (not b && b) ≡ false
 not_itself true = refl
@@ -243,21 +238,21 @@ not_itself false = refl
 -- whether a number is left without another one
 without_one : {X : Type 0} (number : X → ℕ) (n m : ℕ) (xs : List X) → list_any (λ x. number x == m) (filter (λ x.
     not (number x == n)) xs) ≡ (not (n == m) && list_any (λ x. number x == m) xs)
-without_one number n m xs = elim (cases_Bool (n == m)) [
+without_one number n m xs = elim (cases_Bool _) [
   | inl e ↦
-      let same : n ≡ m = eqb-true n m e in
+      let same = eqb-true n m e in
       rw e (subst (λ k. list_any (λ x. number x == k) (filter (λ x. not (number x == n)) xs) ≡ false) same
-      (list_any-filter (λ x. not (number x == n)) (λ x. number x == n) xs
-      ∙ any_none (λ x. not (number x == n) && (number x == n)) xs (each_always (λ x. (not (number x == n) && (number x == n)) ≡ false) (λ x.
+      (list_any-filter (λ x. not _) (λ x. number x == n) xs
+      ∙ any_none (λ x. not _ && (number x == n)) xs (each_always (λ x. (not _ && (number x == n)) ≡ false) (λ x.
       not_itself (number x == n)) xs)))
-  | inr e ↦ rw e (list_any-kept (λ x. not (number x == n)) (λ x. number x == m) (λ x f. kept_other number n m x e f) xs)
+  | inr e ↦ rw e (list_any-kept (λ x. not _) (λ x. number x == m) (λ x f. kept_other number n m x e f) xs)
 ]
 
 pub agrees_after : (o : Opened) (f : Flat) (ks : List (Marked (ℕ → Owed))) (event : HistoryEvent) → Agrees o f ks
     → form_fault o event ≡ None
     → Agrees (opened_after o event) (flat_after f event) (marked_after f.memory ks event)
 agrees_after o f ks (LoadRequest n a len) g h =
-    let p = load_formed (is_inside a len) (list_any (has_number n) o.loads) h in
+    let p = load_formed _ _ h in
     record {
       loads = loads_more owed_byte owed_number owed_named ks f.loads o.loads g.loads (record {
         operation = record {
@@ -277,12 +272,11 @@ agrees_after o f ks (StoreRequest n a bytes e) g h =
     let x : Operation = record { number = n; address = a; length = length bytes.now } in
     record {
       loads = g.loads;
-      stores = λ m. any_snoc (is_open m) f.stores n ∙ (ap (λ t. t || (n == m)) (g.stores m) ∙ sym (any_snoc (has_number m) o.stores x));
+      stores = λ m. any_snoc _ f.stores n ∙ (cc (g.stores m, any_snoc (has_number m) o.stores x));
     }
 agrees_after o f ks (StoreResponse n) g h = record {
   loads = g.loads;
-  stores = λ m. without_one (λ x. x) n m f.stores ∙ (ap (λ t. not (n == m) && t) (g.stores m) ∙ sym (without_one (λ x.
-      x.number) n m o.stores));
+  stores = λ m. without_one (λ x. x) n m f.stores ∙ (cc (g.stores m, without_one (λ x. x.number) n m o.stores));
 }
 
 found : (p : Operation → Bool) (os : List Operation) → list_any p os ≡ true → (x : Operation) × (find p os ≡ Some x)
@@ -313,13 +307,13 @@ record IsAnswer (o : Opened) (ks : List (Marked (ℕ → Owed))) (n : ℕ) (byte
 answer_of : (o : Opened) (f : Flat) (ks : List (Marked (ℕ → Owed))) (n : ℕ) (bytes : Bor (List ℕ)) → Agrees o f ks
     → flat_fault f (LoadResponse n bytes) ≡ None → IsAnswer o ks n bytes.now
 answer_of o f ks n bytes g h =
-    let r = response_parts may_return (filter (is_of n) f.loads) bytes.now h in
-    let any : list_any (has_number n) o.loads ≡ true = sym (loads_any owed_byte owed_number owed_named ks f.loads o.loads g.loads n) ∙
-    some_passes (is_of n) f.loads r.0 in
-    let x = found (has_number n) o.loads any in
+    let r = response_parts may_return _ bytes.now h in
+    let any = sym (loads_any owed_byte owed_number owed_named ks f.loads o.loads g.loads n) ∙
+    some_passes _ f.loads r.0 in
+    let x = found _ o.loads any in
     let u = loads_under owed_byte owed_number owed_named ks f.loads o.loads g.loads n x.0 x.1 in
-    let k : Marked (ℕ → Owed) = u.0 in
-    let right : wrong_place may_return (bytes_of owed_byte owed_number owed_named k) bytes.now ≡ None = ap (λ ls.
+    let k = u.0 in
+    let right = ap (λ ls.
     wrong_place may_return ls bytes.now) (sym u.1.1.1) ∙ r.1.1 in
     record {
       operation = x.0;
@@ -340,7 +334,7 @@ formed_after o f ks (LoadRequest n a len) g h = ap (load_request_fault (is_insid
     ks f.loads o.loads g.loads n)) ∙ h
 formed_after o f ks (LoadResponse n bytes) g h =
     let a = answer_of o f ks n bytes g h in
-    let same : (a.operation.length == length bytes.now) ≡ true = eq-eqb a.operation.length (length bytes.now) (ap (λ x.
+    let same = eq-eqb a.operation.length _ (ap (λ x.
     x.length) (sym a.same) ∙ sym a.long) in
     rw (a.found_open, same) refl
 formed_after o f ks (StoreRequest n a bytes e) g h = ap (store_request_fault (is_inside a (length bytes.now)) (has_enabled bytes.now e))
@@ -351,19 +345,18 @@ formed_after o f ks (StoreResponse n) g h = ap store_response_fault (sym (g.stor
 
 pub no_other : (ks : List (Marked (ℕ → Owed))) (n : ℕ) (Q : Marked (ℕ → Owed) → Type 0) → One (λ x. (x.operation.number ≡ n) × Q x) ks
     → list_any (is_number n) ks ≡ false → ⊥
-no_other ks n Q o h = false_true (list_any (is_number n) ks) h (any_one (is_number n) ks (one_weaker (λ x. (x.operation.number ≡ n)
-    × Q x) (λ x. is_number n x ≡ true) (λ x q. eq-eqb x.operation.number n q.0) ks o))
+no_other ks n Q o h = grind (arith, false_true, any_one, one_weaker, is_number, eq-eqb)
 
 same_load : (ks : List (Marked (ℕ → Owed))) (n : ℕ) (k : Marked (ℕ → Owed)) (Q : Marked (ℕ → Owed) → Type 0) → AreDifferent ks
     → find (is_number n) ks ≡ Some k → One (λ x. (x.operation.number ≡ n) × Q x) ks → Q k
 same_load [] n k Q d h o = absurd o
-same_load (x ∷ ks) n k Q d h o = elim (cases_Bool (is_number n x)) [
+same_load (x ∷ ks) n k Q d h o = elim (cases_Bool _) [
   | inl e ↦
       let s : Some x ≡ Some k = (rw e at h) in
       let same : x ≡ k = cc in
       elim o [
         | inl q ↦ subst Q same q.1
-        | inr r ↦ absurd (no_other ks n Q r (subst (λ m. list_any (is_number m) ks ≡ false) (eqb-true x.operation.number n e) d.0))
+        | inr r ↦ absurd (no_other ks n Q r (rw (eqb-true x.operation.number n e) at d.0))
       ]
   | inr e ↦ elim o [
     | inl q ↦ absurd (false_true (is_number n x) e (eq-eqb x.operation.number n q.0))
@@ -388,11 +381,11 @@ run_cases : (o : Option HistoryFault) → {p : Option HistoryFault} → p ≡ o 
     → IsTrue (is_some (option_and_then (λ x. flat_run x events) (if is_none p then Some g else None))) → (p ≡ None)
     × IsTrue (is_some (flat_run g events))
 run_cases None e g events t = (e, rw e at t)
-run_cases (Some c) e g events t = let f : false ≡ true = (rw e at t) in cc
+run_cases (Some c) e g events t = grind arith
 
 run_parts : (f : Flat) (event : HistoryEvent) (events : List HistoryEvent) → IsTrue (is_some (flat_run f (event ∷ events)))
     → (flat_fault f event ≡ None) × IsTrue (is_some (flat_run (flat_after f event) events))
-run_parts f event events t = run_cases (flat_fault f event) refl (flat_after f event) events t
+run_parts f event events t = grind arith
 
 module _ (unit : UnitPlace) where
   abbrev pub word_of : (ℕ → Owed) → List (Option ℕ)
@@ -411,7 +404,7 @@ module _ (unit : UnitPlace) where
       → written (at_unit unit (stored_byte a bs e)) (word_of memory) ≡ word_of (stored memory store a bs e)
   word_stored memory store a bs e =
       written_unit unit (stored_byte a bs e) (λ x. known (memory x))
-      ∙ unit_same unit (λ x. written_byte (stored_byte a bs e x) (known (memory x))) (λ x. known (stored memory store a bs e x))
+      ∙ unit_same unit (λ x. written_byte _ (known (memory x))) (λ x. known (stored memory store a bs e x))
       (λ x. sym (ap known (bytes_at (λ b. owed.Stored b store) bs a x e memory) ∙ known_chosen store (stored_byte a bs e x) (memory x)))
 
   lane_paid : (k : Marked (ℕ → Owed)) (bs : List ℕ) → length bs ≡ k.operation.length → ((i b : ℕ) → slice_get bs i ≡ Some b
@@ -420,13 +413,13 @@ module _ (unit : UnitPlace) where
       known (k.mark a)) j) (byte_for k.operation.address bs (unit.first + j)) ≡ true
   lane_paid k bs long paid j None e = rw e (stood_none (at_lane unit (λ a. known (k.mark a)) j))
   lane_paid k bs long paid j (Some b) e =
-      let p = below (nat_le k.operation.address (unit.first + j)) (slice_get bs (unit.first + j - k.operation.address)) b e in
-      let i : ℕ = unit.first + j - k.operation.address in
-      let low : k.operation.address ≤ unit.first + j = leb-true k.operation.address (unit.first + j) p.0 in
+      let p = below _ _ b e in
+      let i = unit.first + j - k.operation.address in
+      let low = leb-true k.operation.address _ p.0 in
       let place : k.operation.address + i ≡ unit.first + j = omega arith in
       let short : i < k.operation.length = subst (λ n. i < n) long (get_within bs i b p.1) in
-      let stood : is_as_it_stood (known (k.mark (unit.first + j))) (Some b) ≡ true = paid_stood (k.mark (unit.first + j)) b (subst (λ x.
-      is_paid_by (k.mark x) b ≡ true) place (paid i b p.1 short)) in
+      let stood : is_as_it_stood (known (k.mark (unit.first + j))) (Some b) ≡ true =
+      paid_stood (k.mark (unit.first + j)) b (rw place at (paid i b p.1 short)) in
       rw e (lane_stood (nat_lt j unit.size) (known (k.mark (unit.first + j))) b stood)
 
   -- what a load got is what it is answered
@@ -434,20 +427,23 @@ module _ (unit : UnitPlace) where
       → i < k.operation.length → is_paid_by (k.mark (k.operation.address + i)) b ≡ true)
       → is_word_of unit.first (word_of k.mark) k.operation.address bs ≡ true
   got_paid k bs long paid =
-      lane_word unit.first (word_of k.mark) k.operation.address bs
-      (λ j l. let l8 : j < 8 = l in
-      subst (λ x. is_as_it_stood x (byte_for k.operation.address bs (unit.first + j)) ≡ true) (sym (lane_map (at_lane unit (λ a.
-      known (k.mark a))) 8 0 j l8 ∙ ap (at_lane unit (λ a. known (k.mark a))) (zero_plus j)))
+      lane_word unit.first _ k.operation.address bs
+      (λ j l. let l8 = l in
+      subst (λ x. is_as_it_stood x (byte_for k.operation.address bs (unit.first + j)) ≡ true) (sym (cc (
+        lane_map (at_lane unit (λ a.
+            known (k.mark a))) 8 0 j l8,
+        zero_plus j,
+      )))
       (lane_paid k bs long paid j (byte_for k.operation.address bs (unit.first + j)) refl))
 
   bound_got : (ks : List (Marked (ℕ → Owed))) (n : ℕ) (bytes : List ℕ) → AreDifferent ks → (k : Marked (ℕ → Owed))
       → find (is_number n) ks ≡ Some k → is_word_of unit.first (word_of k.mark) k.operation.address bytes ≡ true
       → (l : OpenLoad) → One (IsBound l) ks → (not (is_load n l) || is_got unit l.address bytes l.got) ≡ true
-  bound_got ks n bytes d k e right l q = elim (cases_Bool (is_load n l)) [
+  bound_got ks n bytes d k e right l q = elim (cases_Bool _) [
     | inl t ↦
-        let b = same_load ks n k (λ x. (l.address ≡ x.operation.address) × (l.got ≡ Some (word_of x.mark))) d e
-        (one_weaker (IsBound l) (λ x. (x.operation.number ≡ n) × ((l.address ≡ x.operation.address)
-        × (l.got ≡ Some (word_of x.mark)))) (λ x y. (y.0 ∙ eqb-true l.number n t, y.1)) ks q) in
+        let b = same_load ks n k (λ x. (l.address ≡ x.operation.address) × (l.got ≡ Some _)) d e
+        (one_weaker _ (λ x. (x.operation.number ≡ n) × ((l.address ≡ x.operation.address)
+        × (l.got ≡ Some _))) (λ x y. (y.0 ∙ eqb-true l.number n t, y.1)) ks q) in
         rw (t, b.0, b.1) right
     | inr t ↦ rw t refl
   ]
@@ -461,31 +457,31 @@ module _ (unit : UnitPlace) where
   requested start past f ks m n a len r h true e =
       let l : OpenLoad = record { number = n; address = a; got = None } in
       let k : Marked (ℕ → Owed) = record { operation = record { number = n; address = a; length = len }; mark = f.memory } in
-      let after : UnitMemory = record { word = m.word; stores = m.stores; loads = m.loads ++ done_load m.word l ∷ [] } in (
+      let after : UnitMemory = record { word = m.word; stores = m.stores; loads = m.loads ++ done_load _ l ∷ [] } in (
         after,
         (
-          steps (past ++ LoadRequest n a len ∷ []) (with_load n a m) after (sees past (LoadRequest n a len) m (with_load n a m) r (rw e
+          steps _ _ after (sees past (LoadRequest n a len) m (with_load n a m) r (rw e
               refl)) (inr (m.loads, l, [], refl, refl, refl)),
           record {
             word = h.word;
             done = h.done;
-            bound = each_append (λ x. One (IsBound x) (ks ++ k ∷ [])) m.loads (done_load m.word l ∷ [])
-                (each_weaker (λ x. One (IsBound x) ks) (λ x. One (IsBound x) (ks ++ k ∷ [])) (λ x q.
-                one_left (IsBound x) ks (k ∷ []) q) m.loads h.bound)
-                (one_last (IsBound (done_load m.word l)) ks k (refl, (refl, ap Some h.word)), tt);
+            bound = each_append (λ x. One _ _) _ _
+                (each_weaker (λ x. One _ ks) (λ x. One _ _) (λ x q.
+                one_left _ ks _ q) _ h.bound)
+                (one_last _ ks k (refl, (refl, ap Some h.word)), tt);
           },
         ),
       )
   requested start past f ks m n a len r h false e =
-      let k : Marked (ℕ → Owed) = record { operation = record { number = n; address = a; length = len }; mark = f.memory } in (
+      let k : Marked (ℕ → Owed) = record { operation = grind arith; mark = f.memory } in (
         m,
         (
-          sees past (LoadRequest n a len) m m r (rw e refl),
+          sees past _ m m r (rw e refl),
           record {
             word = h.word;
             done = h.done;
-            bound = each_weaker (λ x. One (IsBound x) ks) (λ x. One (IsBound x) (ks ++ k ∷ [])) (λ x q.
-                one_left (IsBound x) ks (k ∷ []) q) m.loads h.bound;
+            bound = each_weaker (λ x. One _ ks) (λ x. One _ _) (λ x q.
+                one_left _ ks _ q) _ h.bound;
           },
         ),
       )
@@ -496,21 +492,21 @@ module _ (unit : UnitPlace) where
       → (k : UnitMemory) × (MayBe unit start (past ++ LoadResponse n bytes ∷ []) k
       × Holds (flat_after f (LoadResponse n bytes)) (marked_after f.memory ks (LoadResponse n bytes)) k)
   answered start past o f ks m n bytes r h d a =
-      let may : may_answer_load unit n bytes.now m.loads ≡ true =
-      each_passes (λ l. not (is_load n l) || is_got unit l.address bytes.now l.got) m.loads
-      (each_weaker (λ l. One (IsBound l) ks) (λ l. (not (is_load n l) || is_got unit l.address bytes.now l.got) ≡ true) (λ l q.
-      bound_got ks n bytes.now d a.load a.found_load (got_paid a.load bytes.now a.long a.paid) l q) m.loads h.bound) in (
+      let may : may_answer_load unit n bytes.now _ ≡ true =
+      each_passes (λ l. not _ || is_got unit l.address bytes.now l.got) _
+      (each_weaker (λ l. One _ ks) (λ l. (not _ || is_got unit l.address bytes.now l.got) ≡ true) (λ l q.
+      bound_got ks n bytes.now d a.load a.found_load (got_paid a.load bytes.now a.long a.paid) l q) _ h.bound) in (
         without_load n m,
         (
-          sees past (LoadResponse n bytes) m (without_load n m) r (rw may refl),
+          sees past _ m _ r (rw may refl),
           record {
             word = h.word;
             done = h.done;
-            bound = each_passing (λ l. One (IsBound l) (filter (λ k. not (is_number n k)) ks)) (λ l. not (is_load n l)) m.loads
-                (each_weaker (λ l. One (IsBound l) ks) (λ l. not (is_load n l) ≡ true → One (IsBound l) (filter (λ k.
-                not (is_number n k)) ks))
-                (λ l q other. one_filter (IsBound l) (λ k. not (is_number n k)) ks (one_weaker (IsBound l) (λ k. IsBound l k
-                × (not (is_number n k) ≡ true)) (λ k b. (b, ap (λ x. not (x == n)) b.0 ∙ other)) ks q)) m.loads h.bound);
+            bound = each_passing (λ l. One _ (filter (λ k. not _) ks)) (λ l. not _) _
+                (each_weaker (λ l. One _ ks) (λ l. not _ ≡ true → One _ (filter (λ k.
+                not _) ks))
+                (λ l q other. one_filter _ (λ k. not _) ks (one_weaker _ (λ k. IsBound l k
+                × (not _ ≡ true)) (λ k b. (b, ap (λ x. not (x == n)) b.0 ∙ other)) ks q)) _ h.bound);
           },
         ),
       )
@@ -521,27 +517,27 @@ module _ (unit : UnitPlace) where
       → (k : UnitMemory) × (MayBe unit start (past ++ StoreRequest n a bytes e ∷ []) k
       × Holds (flat_after f (StoreRequest n a bytes e)) ks k)
   store_requested start past f ks m n a bytes e r h true c =
-      let word : List (Option ℕ) = at_unit unit (stored_byte a bytes.now e) in
+      let word = at_unit unit (stored_byte a bytes.now e) in
       let s : OpenStore = record { number = n; bytes = word; is_done = false } in
-      let after : UnitMemory = record { word = written word m.word; stores = m.stores ++ done_store s ∷ []; loads = m.loads } in
+      let after : UnitMemory = record { word = written word _; stores = m.stores ++ done_store s ∷ []; loads = m.loads } in
       let store : StoreName = record { number = n; requested = f.moment } in (
         after,
         (
-          steps (past ++ StoreRequest n a bytes e ∷ []) (with_store n word m) after (sees past (StoreRequest n a bytes e) m (with_store n
+          steps _ _ after (sees past (StoreRequest n a bytes e) m (with_store n
               word m) r (rw c refl)) (inl (m.stores, s, [], refl, refl, refl)),
           record {
             word = ap (written word) h.word ∙ word_stored f.memory store a bytes.now e;
-            done = each_append (λ x. x.is_done ≡ true) m.stores (done_store s ∷ []) h.done (refl, tt);
+            done = each_append (λ x. x.is_done ≡ true) _ _ h.done (refl, tt);
             bound = h.bound;
           },
         ),
       )
   store_requested start past f ks m n a bytes e r h false c =
-      let word : List (Option ℕ) = at_unit unit (stored_byte a bytes.now e) in
+      let word : List _ = at_unit unit (stored_byte a bytes.now e) in
       let store : StoreName = record { number = n; requested = f.moment } in (
         m,
         (
-          sees past (StoreRequest n a bytes e) m m r (rw c refl),
+          sees past _ m m r (rw c refl),
           record {
             word = sym (written_nothing word m.word c) ∙ (ap (written word) h.word ∙ word_stored f.memory store a bytes.now e);
             done = h.done;
@@ -554,24 +550,23 @@ module _ (unit : UnitPlace) where
       → MayBe unit start past m → Holds f ks m
       → (k : UnitMemory) × (MayBe unit start (past ++ StoreResponse n ∷ []) k × Holds (flat_after f (StoreResponse n)) ks k)
   store_answered start past f ks m n r h =
-      let may : may_answer_store n m.stores ≡ true =
-      each_passes (λ s. not (is_store n s) || s.is_done) m.stores (each_weaker (λ s. s.is_done ≡ true) (λ s.
-      (not (is_store n s) || s.is_done) ≡ true) (λ s q. rw q (or_true (not (is_store n s)))) m.stores h.done) in (
+      let may : may_answer_store n _ ≡ true =
+      each_passes (λ s. not _ || s.is_done) _ (each_weaker (λ s. s.is_done ≡ true) (λ s.
+      (not _ || s.is_done) ≡ true) (λ s q. rw q (or_true (not (is_store n s)))) _ h.done) in (
         without_store n m,
         (
-          sees past (StoreResponse n) m (without_store n m) r (rw may refl),
-          record { word = h.word; done = each_filter (λ s. s.is_done ≡ true) (λ s. not (is_store n s)) m.stores h.done; bound = h.bound },
+          sees past _ m _ r (rw may refl),
+          record { word = h.word; done = each_filter (λ s. s.is_done ≡ true) (λ s. not _) _ h.done; bound = h.bound },
         ),
       )
 
   pub next : (start : UnitMemory) (past : List HistoryEvent) (o : Opened) (f : Flat) (ks : List (Marked (ℕ
       → Owed))) (m : UnitMemory) (event : HistoryEvent) → MayBe unit start past m → Holds f ks m → Agrees o f ks → flat_fault f event ≡ None
       → (k : UnitMemory) × (MayBe unit start (past ++ event ∷ []) k × Holds (flat_after f event) (marked_after f.memory ks event) k)
-  next start past o f ks m (LoadRequest n a len) r h g e = requested start past f ks m n a len r h (is_at unit a len) refl
+  next start past o f ks m (LoadRequest n a len) r h g e = requested start past f ks m n a len r h _ refl
   next start past o f ks m (LoadResponse n bytes) r h g e = answered start past o f ks m n bytes r h g.loads.different (answer_of o f ks n
       bytes g e)
-  next start past o f ks m (StoreRequest n a bytes es) r h g e = store_requested start past f ks m n a bytes es r h (list_any is_some
-      (at_unit unit (stored_byte a bytes.now es))) refl
+  next start past o f ks m (StoreRequest n a bytes es) r h g e = store_requested start past f ks m n a bytes es r h _ refl
   next start past o f ks m (StoreResponse n) r h g e = store_answered start past f ks m n r h
 
   moments_from : (start : UnitMemory) (past future : List HistoryEvent) (o : Opened) (f : Flat) (ks : List (Marked (ℕ
@@ -581,8 +576,7 @@ module _ (unit : UnitPlace) where
   moments_from start past (event ∷ events) o f ks m r h g t =
       let p = run_parts f event events t in
       let s = next start past o f ks m event r h g p.0 in
-      let v = moments_from start (past
-      ++ event ∷ []) events (opened_after o event) (flat_after f event) (marked_after f.memory ks event) s.0 s.1.0 s.1.1
+      let v = moments_from start _ events (opened_after o event) (flat_after f event) (marked_after f.memory ks event) s.0 s.1.0 s.1.1
       (agrees_after o f ks event g (formed_after o f ks event g p.0)) p.1 in
       (v.0, subst (λ x. MayBe unit start x v.0) (append_assoc past (event ∷ []) events) v.1)
 
@@ -591,16 +585,16 @@ pub formed_from : (o : Opened) (f : Flat) (ks : List (Marked (ℕ → Owed))) (h
 formed_from o f ks [] g t = refl
 formed_from o f ks (event ∷ events) g t =
     let p = run_parts f event events t in
-    let e : form_fault o event ≡ None = formed_after o f ks event g p.0 in
+    let e = formed_after o f ks event g p.0 in
     rw e (formed_from (opened_after o event) (flat_after f event) (marked_after f.memory ks event) events (agrees_after o f ks event g e)
     p.1)
 
 pub first_agrees : (image : List ℕ) (rest : Rest) → Agrees none_opened (flat.opening image rest) []
-first_agrees image rest = record { loads = no_loads owed_byte owed_number owed_named; stores = λ n. refl }
+first_agrees image rest = grind arith
 
 pub first_holds : (image : List ℕ) (rest : Rest) (unit : UnitPlace) → Holds unit (flat.opening image rest) [] (untouched image rest unit)
 first_holds image rest unit = record {
-  word = unit_same unit (initial_byte image rest) (λ a. known (initial (slice_get image a) rest)) (λ a.
+  word = unit_same unit _ (λ a. known _) (λ a.
       sym (known_initial (slice_get image a) rest));
   done = tt;
   bound = tt;
@@ -608,9 +602,9 @@ first_holds image rest unit = record {
 
 pub flat_is_atomic : (image : List ℕ) (rest : Rest) (size : ℕ) (history : List HistoryEvent) → FlatIsAtomic image rest size history
 flat_is_atomic image rest size history = λ t. record {
-  formed = formed_from none_opened (flat.opening image rest) [] history (first_agrees image rest) t;
-  moments = λ k. moments_from (unit_at size k) (untouched image rest (unit_at size k)) [] history none_opened (flat.opening image rest) []
-      (untouched image rest (unit_at size k)) starts (first_holds image rest (unit_at size k)) (first_agrees image rest) t;
+  formed = formed_from none_opened _ [] history (first_agrees image rest) t;
+  moments = λ k. moments_from _ _ [] history none_opened _ []
+      (untouched image rest _) starts (first_holds image rest (unit_at size k)) (first_agrees image rest) t;
 }
 
 pub flat_is_regular : (image : List ℕ) (rest : Rest) (history : List HistoryEvent) → FlatIsRegular image rest history

@@ -1,5 +1,5 @@
 -- A run whose last value is late is an atomic history.
-use Rattle.std.proofs.Common.{◌≡◌, ℕ, zero, suc, ◌+◌, ◌*◌, ◌<◌, ◌≤◌, Bool, true, false, ◌&&◌, not, ◌==◌, if◌then◌else◌, nat_lt, List, []}
+use Rattle.std.proofs.Common.{◌≡◌, ℕ, zero, suc, ◌+◌, ◌*◌, ◌<◌, ◌≤◌, Bool, true, false, ◌&&◌, not, ◌==◌, if◌then◌else◌, List, []}
 use Rattle.std.proofs.Common.{◌∷◌, ◌++◌, length, Option, Some, None, slice_get, inl, inr, refl, sym, ap, ◌∙◌, subst, eq-eqb, eqb-true}
 use Rattle.std.proofs.Common.{append-nil, append_assoc}
 use Rattle.std.specs.Prelude.{is_none, is_some, IsTrue}
@@ -12,13 +12,12 @@ use Rattle.memory_histories.specs.declared.events.HistoryEvent.TheVariants.{Load
 use Rattle.memory_histories.specs.declared.events.HistoryFault.{HistoryFault}
 use Rattle.memory_histories.specs.declared.events.Rest.TheVariants.{Zeros}
 use Rattle.memory_histories.specs.declared.reasons.Owed.{Owed}
-use Rattle.memory_histories.specs.Regular.{is_inside}
 use Rattle.memory_histories.specs.Flat.{Flat, is_paid_by, flat_fault, flat_after, flat_run}
 use Rattle.memory_histories.specs.Flat as flat
 use Rattle.atomic_histories.specs.declared.unit.UnitPlace.{UnitPlace}
 use Rattle.atomic_histories.specs.Words.{is_word_of}
-use Rattle.atomic_histories.specs.Operations.{Opened, none_opened, opened_after, has_number, form_fault}
-use Rattle.atomic_histories.specs.Law.{OpenLoad, UnitMemory, IsAtomic, MayBe, starts, sees, untouched, is_load, may_answer_load}
+use Rattle.atomic_histories.specs.Operations.{Opened, none_opened, opened_after, form_fault}
+use Rattle.atomic_histories.specs.Law.{OpenLoad, UnitMemory, IsAtomic, MayBe, starts, sees, is_load, may_answer_load}
 use Rattle.atomic_histories.specs.Law.{without_load, unit_at, is_formed}
 use Rattle.atomic_histories.specs.Stands.{Each, One}
 use Rattle.atomic_histories.proofs.Lists.{each_weaker, each_append, one_weaker}
@@ -35,7 +34,7 @@ use Rattle.history_laws.specs.Late.{is_value_of, has_no_value, HasStood, LateIsA
 use Rattle.history_laws.proofs.Lists.{false_if}
 use Rattle.history_laws.proofs.Pieces.{Marked, is_number}
 use Rattle.history_laws.proofs.Open.{any_operation, load_formed, marked_after}
-use Rattle.history_laws.proofs.Flat.{word_of, owed_byte, owed_number, owed_named, IsBound, Holds, got_paid, next, Agrees, agrees_after}
+use Rattle.history_laws.proofs.Flat.{owed_byte, owed_number, owed_named, IsBound, Holds, got_paid, next, Agrees, agrees_after}
 use Rattle.history_laws.proofs.Flat.{formed_after, formed_from, first_agrees, first_holds, no_other}
 use Rattle.history_laws.proofs.Told.{Tells, eqb_swap, known_paid, value_taken, told_step, run_append, first_tells}
 use Rattle.history_laws.proofs.Delay.{and_then, late, none_late, Suits, follows, settles, answers_late}
@@ -54,12 +53,12 @@ told_append s g [] [] more more_answers h = refl
 told_append s g [] (answer ∷ answers) more more_answers h = cc
 told_append s g (event ∷ events) [] more more_answers h = cc
 told_append s g (event ∷ events) (answer ∷ answers) more more_answers h =
-    let p = step_parts (may_answer s event answer) (model.flat_after s event answer) g events answers h in
+    let p = step_parts _ _ g events answers h in
     ap (λ t. told_events event answer ++ t) (told_append (model.flat_after s event answer) g events answers more more_answers p.1) ∙ sym
     (append_assoc (told_events event answer) (told_history events answers) (told_history more more_answers))
 
 pub nested : {X : Type 0} (xs : List X) (x : X) (ys zs ws : List X) → (xs ++ x ∷ (ys ++ zs)) ++ ws ≡ xs ++ x ∷ (ys ++ (zs ++ ws))
-nested xs x ys zs ws = append_assoc xs (x ∷ (ys ++ zs)) ws ∙ ap (λ t. xs ++ x ∷ t) (append_assoc ys zs ws)
+nested xs x ys zs ws = cc (append_assoc xs _ ws, append_assoc ys zs ws)
 
 -- events in which this tag doesn't come
 abbrev Spares : ℕ → HistoryEvent → Type 0
@@ -72,20 +71,20 @@ abbrev Keeps : ℕ → Word → List HistoryEvent → model.Flat → Type 0
 Keeps tag v told s = Each (Spares tag) told × (s.due tag ≡ Some v)
 
 not_free : (s : model.Flat) (tag t : ℕ) (v : Word) → s.due tag ≡ Some v → is_none (s.due t) ≡ true → (t == tag) ≡ false
-not_free s tag t v h free = false_if (t == tag) (λ q. let none : is_none (s.due tag) ≡ true = subst (λ x.
-    is_none (s.due x) ≡ true) (eqb-true t tag q) free in let some : is_none (Some v) ≡ true = subst (λ o. is_none o ≡ true) h none in cc)
+not_free s tag t v h free = false_if _ (λ q. let none = subst (λ x.
+    is_none (s.due x) ≡ true) (eqb-true t tag q) free in let some = subst (λ o. is_none o ≡ true) h none in cc)
 
 other_due : (s : model.Flat) (tag t : ℕ) (v : Word) (o : Option Word) → s.due tag ≡ Some v → (t == tag) ≡ false
     → model.with_due s.due t o tag ≡ Some v
-other_due s tag t v o h ne = let flip : (tag == t) ≡ false = eqb_swap tag t ∙ ne in rw flip h
+other_due s tag t v o h ne = let flip = eqb_swap tag t ∙ ne in rw flip h
 
 keeps_step : (s : model.Flat) (tag : ℕ) (v : Word) (event : Event) (answer : Answer) → s.due tag ≡ Some v
     → may_answer s event answer ≡ true → is_value_of tag event answer ≡ false
     → Keeps tag v (told_events event answer) (model.flat_after s event answer)
 keeps_step s tag v (Load t at) Accepted h may still =
-    let p = and_parts (nat_lt at (length s.mem)) (is_none (s.due t)) may in
-    let ne : (t == tag) ≡ false = not_free s tag t v h p.1 in
-    ((ne, tt), other_due s tag t v (Some (word_at s.mem at)) h ne)
+    let p = and_parts _ _ may in
+    let ne = not_free s tag t v h p.1 in
+    ((ne, tt), other_due s tag t v _ h ne)
 keeps_step s tag v (Load t at) Moved h may still = (tt, h)
 keeps_step s tag v (Load t at) (Value u w) h may still = (tt, h)
 keeps_step s tag v (Load t at) Nothing h may still = (tt, h)
@@ -117,11 +116,11 @@ keeps_run s g tag v [] [] h r still = let same : s ≡ g = cc in (tt, subst (λ 
 keeps_run s g tag v [] (answer ∷ answers) h r still = cc
 keeps_run s g tag v (event ∷ events) [] h r still = cc
 keeps_run s g tag v (event ∷ events) (answer ∷ answers) h r still =
-    let p = step_parts (may_answer s event answer) (model.flat_after s event answer) g events answers r in
-    let q = and_parts (not (is_value_of tag event answer)) (has_no_value tag events answers) still in
+    let p = step_parts _ _ g events answers r in
+    let q = and_parts _ _ still in
     let one = keeps_step s tag v event answer h p.0 (not_true (is_value_of tag event answer) q.0) in
     let more = keeps_run (model.flat_after s event answer) g tag v events answers one.1 p.1 q.1 in
-    (each_append (Spares tag) (told_events event answer) (told_history events answers) one.0 more.0, more.1)
+    (each_append _ _ _ one.0 more.0, more.1)
 
 run_to : (n : ℕ) (fits : n ≤ 4611686018427387904) (s g : model.Flat) (f : Flat) (events : List Event) (answers : List Answer) → Tells n s f
     → model.flat_run s events answers ≡ Some g → (k : Flat) × ((flat_run f (told_history events answers) ≡ Some k) × Tells n g k)
@@ -129,10 +128,10 @@ run_to n fits s g f [] [] t r = let same : s ≡ g = cc in (f, (refl, subst (λ 
 run_to n fits s g f [] (answer ∷ answers) t r = cc
 run_to n fits s g f (event ∷ events) [] t r = cc
 run_to n fits s g f (event ∷ events) (answer ∷ answers) t r =
-    let p = step_parts (may_answer s event answer) (model.flat_after s event answer) g events answers r in
+    let p = step_parts _ _ g events answers r in
     let one = told_step n fits s f event answer t p.0 in
     let more = run_to n fits (model.flat_after s event answer) g one.0 events answers one.1.1 p.1 in
-    (more.0, (run_append n fits (told_events event answer) (told_history events answers) f one.0 one.1.0 ∙ more.1.0, more.1.1))
+    (more.0, (run_append n fits (told_events event answer) _ f one.0 one.1.0 ∙ more.1.0, more.1.1))
 
 -- each byte of a word that stands at an address
 byte_paid : (paid : ℕ → ℕ → Bool) (word : Word) → paid 0 word.b0 ≡ true → paid 1 word.b1 ≡ true → paid 2 word.b2 ≡ true
@@ -147,10 +146,10 @@ word_paid : (n : ℕ) (fits : n ≤ 4611686018427387904) (s : model.Flat) (f : F
     → same_word (word_at s.mem at) word ≡ true → (i b : ℕ) → slice_get (word_bytes word) i ≡ Some b
     → is_paid_by (f.memory (4 * at + i)) b ≡ true
 word_paid n fits s f at word t low same i b e =
-    let v : Word = word_at s.mem at in
-    let p = and_parts (v.b0 == word.b0) ((v.b1 == word.b1) && ((v.b2 == word.b2) && (v.b3 == word.b3))) same in
-    let q = and_parts (v.b1 == word.b1) ((v.b2 == word.b2) && (v.b3 == word.b3)) p.1 in
-    let r = and_parts (v.b2 == word.b2) (v.b3 == word.b3) q.1 in
+    let v = word_at s.mem at in
+    let p = and_parts _ _ same in
+    let q = and_parts _ _ p.1 in
+    let r = and_parts _ _ q.1 in
     byte_paid (λ j. λ c. is_paid_by (f.memory (4 * at + j)) c) word (known_paid n fits (f.memory (4 * at + 0)) v.b0 word.b0 (t.words at
     Lane0 low) p.0) (known_paid n fits (f.memory (4 * at + 1)) v.b1 word.b1 (t.words at Lane1 low) q.0) (known_paid n fits (f.memory (4 *
     at + 2)) v.b2 word.b2 (t.words at Lane2 low) r.0) (known_paid n fits (f.memory (4 * at + 3)) v.b3 word.b3 (t.words at Lane3 low) r.1)
@@ -165,7 +164,7 @@ to_cases (Some c) e same x g events h = cc
 
 run_parts_to : (f g : Flat) (event : HistoryEvent) (events : List HistoryEvent) → flat_run f (event ∷ events) ≡ Some g
     → (flat_fault f event ≡ None) × (flat_run (flat_after f event) events ≡ Some g)
-run_parts_to f g event events h = to_cases (flat_fault f event) (flat_fault f event) refl (flat_after f event) g events h
+run_parts_to f g event events h = to_cases _ _ refl _ g events h
 
 module _ (unit : UnitPlace) where
   -- what the unit may be after a flat run, if operations take effect right behind their requests
@@ -202,13 +201,13 @@ module _ (unit : UnitPlace) where
       → flat_fault f (LoadRequest tag address len) ≡ None → list_any (is_number tag) ks ≡ false
   no_mark o f ks tag address len a e =
       sym (any_operation owed_byte owed_number owed_named ks o.loads tag a.loads.operations)
-      ∙ (load_formed (is_inside address len) (list_any (has_number tag) o.loads) (formed_after o f ks (LoadRequest tag address len) a e)).1
+      ∙ (load_formed _ _ (formed_after o f ks (LoadRequest tag address len) a e)).1
 
   other_number : (ks : List (Marked (ℕ → Owed))) (tag : ℕ) → list_any (is_number tag) ks ≡ false → (l : OpenLoad)
       → One (IsBound unit l) ks → is_load tag l ≡ false
-  other_number ks tag none l b = false_if (is_load tag l) (λ q. no_other ks tag (λ k. (l.address ≡ k.operation.address)
-      × (l.got ≡ Some (word_of unit k.mark))) (one_weaker (IsBound unit l) (λ k. (k.operation.number ≡ tag)
-      × ((l.address ≡ k.operation.address) × (l.got ≡ Some (word_of unit k.mark)))) (λ k c. (c.0 ∙ eqb-true l.number tag q, c.1)) ks b)
+  other_number ks tag none l b = false_if _ (λ q. no_other ks tag (λ k. (l.address ≡ k.operation.address)
+      × (l.got ≡ Some _)) (one_weaker _ (λ k. (k.operation.number ≡ tag)
+      × ((l.address ≡ k.operation.address) × (l.got ≡ Some _))) (λ k c. (c.0 ∙ eqb-true l.number tag q, c.1)) ks b)
       none)
 
   suits : (tag address : ℕ) (got : Option (List (Option ℕ))) (event : HistoryEvent) → Spares tag event → Suits unit tag address got event
@@ -226,40 +225,39 @@ module _ (unit : UnitPlace) where
       → ((i b : ℕ) → slice_get bytes.now i ≡ Some b → is_paid_by (f2.memory (address + i)) b ≡ true)
       → (k : UnitMemory) × MayBe unit start (before ++ LoadRequest tag address len ∷ (until ++ (behind ++ LoadResponse tag bytes ∷ []))) k
   comes_late start o f0 f1 f2 f3 ks before until behind tag address len bytes h a e1 e2 e3 s2 s3 long paid =
-      let request : HistoryEvent = LoadRequest tag address len in
+      let request = LoadRequest tag address len in
       let first = reaches start [] before o f0 f1 ks start starts h a e1 in
-      let m1 : UnitMemory = first.memory in
+      let m1 = first.memory in
       let p = run_parts_to f1 f2 request until e2 in
-      let none : list_any (is_number tag) first.marks ≡ false = no_mark first.opened f1 first.marks tag address len first.agrees p.0 in
-      let others : Each (λ l. is_load tag l ≡ false) m1.loads = each_weaker (λ l. One (IsBound unit l) first.marks) (λ l.
-      is_load tag l ≡ false) (other_number first.marks tag none) m1.loads first.holds.bound in
+      let none = no_mark first.opened f1 first.marks tag address len first.agrees p.0 in
+      let others = each_weaker (λ l. One _ first.marks) (λ l.
+      is_load tag l ≡ false) (other_number first.marks tag none) _ first.holds.bound in
       let second = reaches m1 [] (request ∷ until) first.opened f1 f2 first.marks m1 starts first.holds first.agrees e2 in
-      let m2 : UnitMemory = second.memory in
-      let spared2 : Each (Suits unit tag address None) until = each_weaker (Spares tag) (Suits unit tag address None) (suits tag address
+      let m2 = second.memory in
+      let spared2 = each_weaker _ _ (suits tag address
       None) until s2 in
-      let to_moment : MayBe unit m1 (request ∷ until) (late unit tag address None m2) = subst (λ x.
+      let to_moment = subst (λ x.
       MayBe unit x (request ∷ until) (late unit tag address None m2)) (none_late unit tag address None m1 others)
-      (follows unit tag address None m1 m2 (request ∷ until) second.may (inr (refl, refl), spared2)) in
-      let at_moment : MayBe unit start (before ++ request ∷ until) (late unit tag address (Some m2.word) m2) =
-      settles unit tag address start (before ++ request ∷ until) m2.word m2.stores [] m2.loads (and_then unit start m1 (late unit tag
+      (follows unit tag address None m1 m2 _ second.may (inr (refl, refl), spared2)) in
+      let at_moment =
+      settles unit tag address start _ _ _ [] m2.loads (and_then unit start m1 (late unit tag
       address None m2) before (request ∷ until) first.may to_moment) in
       let third = reaches m2 [] behind second.opened f2 f3 second.marks m2 starts second.holds second.agrees e3 in
       let m3 : UnitMemory = third.memory in
-      let spared3 : Each (Suits unit tag address (Some m2.word)) behind = each_weaker (Spares tag) (Suits unit tag address (Some m2.word))
+      let spared3 : Each _ behind = each_weaker _ _
       (suits tag address (Some m2.word)) behind s3 in
-      let m4 : UnitMemory = late unit tag address (Some m2.word) m3 in
-      let to_end : MayBe unit start ((before ++ request ∷ until) ++ behind) m4 =
-      and_then unit start (late unit tag address (Some m2.word) m2) m4 (before ++ request ∷ until) behind at_moment (follows unit tag
+      let m4 : UnitMemory = late unit tag address _ m3 in
+      let to_end : MayBe unit start _ m4 =
+      and_then unit start _ m4 _ behind at_moment (follows unit tag
       address (Some m2.word) m2 m3 behind third.may spared3) in
       let k : Marked (ℕ → Owed) = record { operation = record { number = tag; address = address; length = len }; mark = f2.memory } in
-      let right : is_word_of unit.first m2.word address bytes.now ≡ true = subst (λ w.
+      let right : is_word_of unit.first _ address bytes.now ≡ true = subst (λ w.
       is_word_of unit.first w address bytes.now ≡ true) (sym second.holds.word) (got_paid unit k bytes.now long (λ i b g l. paid i b g)) in
-      let may : may_answer_load unit tag bytes.now m4.loads ≡ true = answers_late unit tag address m3 m2.word bytes.now right in
-      let all : MayBe unit start (((before ++ request ∷ until) ++ behind) ++ LoadResponse tag bytes ∷ []) (without_load tag m4) =
-      sees ((before ++ request ∷ until) ++ behind) (LoadResponse tag bytes) m4 (without_load tag m4) to_end (rw may refl) in (
+      let may : may_answer_load unit tag bytes.now _ ≡ true = answers_late unit tag address m3 _ bytes.now right in
+      let all : MayBe unit start _ _ =
+      sees _ _ m4 _ to_end (rw may refl) in (
         without_load tag m4,
-        subst (λ x. MayBe unit start x (without_load tag m4)) (append_assoc (before ++ request ∷ until) behind (LoadResponse tag bytes ∷
-            []) ∙ append_assoc before (request ∷ until) (behind ++ LoadResponse tag bytes ∷ [])) all,
+        subst (λ x. MayBe unit start x (without_load tag m4)) (append_assoc _ behind _ ∙ append_assoc before _ _) all,
       )
 
 -- The law. ----
@@ -286,8 +284,8 @@ parts_run : (n : ℕ) (fits : n ≤ 4611686018427387904) (f0 f1 f2 f3 f4 : Flat)
     HistoryEvent) → flat_run f0 before ≡ Some f1 → flat_run f1 (asked ∷ until) ≡ Some f2 → flat_run f2 behind ≡ Some f3
     → flat_run f3 more ≡ Some f4 → IsTrue (is_some (flat_run f0 (before ++ asked ∷ (until ++ (behind ++ more)))))
 parts_run n fits f0 f1 f2 f3 f4 before until behind more asked e1 e2 e3 e4 =
-    ap is_some (run_append n fits before (asked ∷ (until ++ (behind ++ more))) f0 f1 e1
-    ∙ (run_append n fits (asked ∷ until) (behind ++ more) f1 f2 e2 ∙ (run_append n fits behind more f2 f3 e3 ∙ e4)))
+    ap is_some (run_append n fits before _ f0 f1 e1
+    ∙ (run_append n fits (asked ∷ until) _ f1 f2 e2 ∙ (run_append n fits behind more f2 f3 e3 ∙ e4)))
 
 -- the same history with another word at its end
 other_word : (before until behind : List HistoryEvent) (asked : HistoryEvent) (tag : ℕ) (v w : Word)
@@ -295,7 +293,7 @@ other_word : (before until behind : List HistoryEvent) (asked : HistoryEvent) (t
     → is_formed none_opened (before ++ asked ∷ (until ++ (behind ++ LoadResponse tag (seen_bytes (word_bytes w)) ∷ []))) ≡ true
 other_word before until behind asked tag v w h =
     let apart : (x : HistoryEvent) → ((before ++ asked ∷ until) ++ behind) ++ x ∷ [] ≡ before ++ asked ∷ (until ++ (behind ++ x ∷ [])) = λ
-    x. append_assoc (before ++ asked ∷ until) behind (x ∷ []) ∙ append_assoc before (asked ∷ until) (behind ++ x ∷ []) in
+    x. append_assoc _ behind _ ∙ append_assoc before _ _ in
     ap (is_formed none_opened) (sym (apart (LoadResponse tag (seen_bytes (word_bytes w)))))
     ∙ (sym (same_form none_opened ((before ++ asked ∷ until) ++ behind) tag v w)
     ∙ (ap (is_formed none_opened) (apart (LoadResponse tag (seen_bytes (word_bytes v)))) ∙ h))
@@ -306,52 +304,49 @@ module _ (image : List Word) (size : ℕ) (events : List Event) (answers : List 
       ++ LoadRequest tag (4 * s.at) 4 ∷ (told_history s.until s.until_answers ++ (told_history s.behind s.behind_answers
       ++ LoadResponse tag (seen_bytes (word_bytes word)) ∷ []))
   late_told s =
-      let request : Event = Load tag s.at in
-      let whole : events ++ Take step ∷ [] ≡ s.before ++ request ∷ (s.until ++ (s.behind ++ Take step ∷ [])) =
-      ap (λ x. x ++ Take step ∷ []) s.events_are ∙ nested s.before request s.until s.behind (Take step ∷ []) in
-      let whole_answers : answers ++ Value tag word ∷ [] ≡ s.before_answers ++ Accepted ∷ (s.until_answers ++ (s.behind_answers
-      ++ Value tag word ∷ [])) =
-      ap (λ x. x ++ Value tag word ∷ []) s.answers_are ∙ nested s.before_answers Accepted s.until_answers s.behind_answers (Value tag word ∷
-      []) in
+      let request = Load tag s.at in
+      let whole =
+      ap (λ x. x ++ Take step ∷ []) s.events_are ∙ nested s.before request s.until s.behind _ in
+      let whole_answers =
+      ap (λ x. x ++ Value tag word ∷ []) s.answers_are ∙ nested s.before_answers Accepted s.until_answers s.behind_answers _ in
       (λ i. told_history (whole i) (whole_answers i))
-      ∙ (told_append (model.opening image) s.first s.before s.before_answers (request ∷ (s.until ++ (s.behind ++ Take step ∷ []))) (Accepted
-      ∷ (s.until_answers ++ (s.behind_answers ++ Value tag word ∷ []))) s.runs_first
+      ∙ (told_append _ s.first s.before s.before_answers _ _ s.runs_first
       ∙ ap (λ t. told_history s.before s.before_answers ++ LoadRequest tag (4 * s.at) 4 ∷ t)
-      (told_append (model.flat_after s.first request Accepted) s.moment s.until s.until_answers (s.behind ++ Take step ∷ [])
-      (s.behind_answers ++ Value tag word ∷ []) s.runs_until
+      (told_append _ s.moment s.until s.until_answers _
+      _ s.runs_until
       ∙ ap (λ t. told_history s.until s.until_answers ++ t) (told_append s.moment s.last s.behind s.behind_answers (Take step ∷ []) (Value
       tag word ∷ []) s.runs_behind)))
 
   pub late_is_atomic : LateIsAtomic image size events answers tag step word
   late_is_atomic = λ fits s.
-      let n : ℕ = length image in
-      let request : Event = Load tag s.at in
-      let asked : HistoryEvent = LoadRequest tag (4 * s.at) 4 in
-      let f0 : Flat = flat.opening (image_bytes image) Zeros in
-      let v : Word = word_at s.first.mem s.at in
-      let before : List HistoryEvent = told_history s.before s.before_answers in
-      let until : List HistoryEvent = told_history s.until s.until_answers in
-      let behind : List HistoryEvent = told_history s.behind s.behind_answers in
-      let p = and_parts (nat_lt s.at (length s.first.mem)) (is_none (s.first.due tag)) s.accepted in
-      let first = run_to n fits (model.opening image) s.first f0 s.before s.before_answers (first_tells Zeros image) s.runs_first in
-      let low : s.at < n = subst (λ m. s.at < m) first.1.1.size (ltb-true s.at (length s.first.mem) p.0) in
+      let n = length image in
+      let request = Load tag s.at in
+      let asked = LoadRequest tag _ 4 in
+      let f0 = flat.opening _ Zeros in
+      let v = word_at s.first.mem s.at in
+      let before = told_history s.before s.before_answers in
+      let until = told_history s.until s.until_answers in
+      let behind = told_history s.behind s.behind_answers in
+      let p = and_parts _ _ s.accepted in
+      let first = run_to n fits _ s.first f0 s.before s.before_answers (first_tells Zeros image) s.runs_first in
+      let low = subst (λ m. s.at < m) first.1.1.size (ltb-true s.at (length s.first.mem) p.0) in
       let one = told_step n fits s.first first.0 request Accepted first.1.1 s.accepted in
-      let moment = run_to n fits (model.flat_after s.first request Accepted) s.moment one.0 s.until s.until_answers one.1.1 s.runs_until in
+      let moment = run_to n fits _ s.moment one.0 s.until s.until_answers one.1.1 s.runs_until in
       let last = run_to n fits s.moment s.last moment.0 s.behind s.behind_answers moment.1.1 s.runs_behind in
-      let to_moment : flat_run first.0 (asked ∷ until) ≡ Some moment.0 = run_append n fits (asked ∷ []) until first.0 one.0 one.1.0 ∙
+      let to_moment = run_append n fits (asked ∷ []) until first.0 one.0 one.1.0 ∙
       moment.1.0 in
-      let keeps = keeps_run (model.flat_after s.first request Accepted) s.moment tag v s.until s.until_answers (now_due s.first tag v)
+      let keeps = keeps_run _ s.moment tag v s.until s.until_answers (now_due s.first tag v)
       s.runs_until s.open_until in
       let keeps_on = keeps_run s.moment s.last tag v s.behind s.behind_answers keeps.1 s.runs_behind s.open_behind in
       let paid = value_taken n fits s.last last.0 last.1.1 tag v (its_due (s.last.due tag) v keeps_on.1) in
-      let right : List HistoryEvent = LoadResponse tag (seen_bytes (word_bytes v)) ∷ [] in
+      let right = LoadResponse tag _ ∷ [] in
       let runs = parts_run n fits f0 first.0 moment.0 last.0 paid.0 before until behind right asked first.1.0 to_moment last.1.0 paid.1.0 in
-      let formed : is_formed none_opened (before ++ asked ∷ (until ++ (behind ++ right))) ≡ true =
+      let formed =
       formed_from none_opened f0 [] (before ++ asked ∷ (until ++ (behind ++ right))) (first_agrees (image_bytes image) Zeros) runs in
       subst (IsAtomic (image_bytes image) Zeros size) (sym (late_told s)) (record {
         formed = other_word before until behind asked tag v word formed;
-        moments = λ k. comes_late (unit_at size k) (untouched (image_bytes image) Zeros (unit_at size k)) none_opened f0 first.0 moment.0
-            last.0 [] before until behind tag (4 * s.at) 4 (seen_bytes (word_bytes word)) (first_holds (image_bytes image) Zeros (unit_at
+        moments = λ k. comes_late _ _ none_opened f0 first.0 moment.0
+            last.0 [] before until behind tag _ 4 _ (first_holds (image_bytes image) Zeros (unit_at
             size k)) (first_agrees (image_bytes image) Zeros) first.1.0 to_moment last.1.0 keeps.0 keeps_on.0 refl (word_paid n fits
             s.moment moment.0 s.at word moment.1.1 low s.stood);
       })

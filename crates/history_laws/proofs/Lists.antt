@@ -32,7 +32,7 @@ one_right P (x ∷ xs) ys h = inr (one_right P xs ys h)
 pub one_unfilter : {X : Type 0} (P : X → Type 0) (p : X → Bool) (xs : List X) → One P (filter p xs) → One P xs
 one_unfilter P p [] h = absurd h
 one_unfilter P p (x ∷ xs) h = elim (cases_Bool (p x)) [
-  | inl e ↦ let g : One P (x ∷ filter p xs) = (rw e at h) in elim g [ inl a ↦ inl a | inr b ↦ inr (one_unfilter P p xs b) ]
+  | inl e ↦ let g = (rw e at h) in elim g [ inl a ↦ inl a | inr b ↦ inr (one_unfilter P p xs b) ]
   | inr e ↦ inr (one_unfilter P p xs (rw e at h))
 ]
 
@@ -104,7 +104,7 @@ or_more false false z h = h
 pub each_find : {X : Type 0} (P : X → Type 0) (p : X → Bool) (xs : List X) (x : X) → Each P xs → find p xs ≡ Some x → P x
 each_find P p [] x h e = cc
 each_find P p (y ∷ ys) x h e = elim (cases_Bool (p y)) [
-  | inl t ↦ let s : Some y ≡ Some x = (rw t at e) in let same : y ≡ x = cc in subst P same h.0
+  | inl t ↦ let s = (rw t at e) in let same : y ≡ x = cc in subst P same h.0
   | inr t ↦ each_find P p ys x h.1 (rw t at e)
 ]
 

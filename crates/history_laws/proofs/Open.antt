@@ -1,14 +1,14 @@
 -- The loads that are open, as the atomic law has them and as a law of single bytes has them; and events that aren't malformed.
 use Rattle.std.proofs.Common.{◌≡◌, ℕ, zero, suc, ◌+◌, ◌<◌, ◌≤◌, Bool, true, false, not, ◌==◌, if◌then◌else◌, List, [], ◌∷◌, ◌++◌, map}
-use Rattle.std.proofs.Common.{length, Option, Some, None, slice_get, refl, sym, ap, ◌∙◌, arith, eqb-true}
+use Rattle.std.proofs.Common.{length, Option, Some, None, slice_get, refl, sym, ap, ◌∙◌, arith}
 use Rattle.std.specs.List.{filter, find, list_any, range_with_len, zip}
 use Rattle.std.specs.Option.{option_map}
-use Rattle.std.proofs.lemmas.Bool.{and_parts, leb-true, eq-eqb, ne_eqb}
+use Rattle.std.proofs.lemmas.Bool.{eq-eqb, ne_eqb}
 use Rattle.std.proofs.lemmas.List.{length-map, map-append}
 use Rattle.memory_histories.specs.declared.events.HistoryEvent.{HistoryEvent}
 use Rattle.memory_histories.specs.declared.events.HistoryEvent.TheVariants.{LoadRequest, LoadResponse}
 use Rattle.memory_histories.specs.declared.events.HistoryFault.TheVariants.{WrongLength}
-use Rattle.memory_histories.specs.Regular.{is_inside, load_request_fault, load_response_fault, store_request_fault, wrong_place}
+use Rattle.memory_histories.specs.Regular.{is_inside, load_request_fault, load_response_fault, store_request_fault}
 use Rattle.memory_histories.proofs.Lists.{list_any-map, filter-map, find-map}
 use Rattle.atomic_histories.specs.declared.unit.Operation.{Operation}
 use Rattle.atomic_histories.specs.Stands.{Each}
@@ -36,10 +36,10 @@ same_length false h = cc
 
 pub answer_formed : (o : Option Operation) (n : ℕ) → answer_fault o n ≡ None → (x : Operation) × ((o ≡ Some x) × (x.length ≡ n))
 answer_formed None n h = cc
-answer_formed (Some x) n h = (x, (refl, eqb-true x.length n (same_length (x.length == n) h)))
+answer_formed (Some x) n h = grind arith
 
 pub inside_some : (address n : ℕ) → is_inside address n ≡ true → 1 ≤ n
-inside_some address n h = leb-true 1 n (and_parts _ _ h).0
+inside_some address n h = grind arith
 
 -- what is kept of the loads after an event
 abbrev pub marked_after : {X : Type 0} → X → List (Marked X) → HistoryEvent → List (Marked X)
@@ -57,16 +57,15 @@ module _ {X L : Type 0} (make : ℕ → ℕ → X → L) (number : L → ℕ) (n
     pub different : AreDifferent ks
 
   pub no_loads : Loads [] [] []
-  no_loads = record { bytes = refl; operations = refl; each_some = tt; different = tt }
+  no_loads = grind arith
 
   pub any_operation : (ks : List (Marked X)) (os : List Operation) (n : ℕ) → os ≡ map operation_of ks
       → list_any (has_number n) os ≡ list_any (is_number n) ks
-  any_operation ks os n h = ap (list_any (has_number n)) h ∙ list_any-map operation_of (has_number n) ks
+  any_operation ks os n h = grind (arith, list_any-map, operation_of)
 
   pub loads_any : (ks : List (Marked X)) (ls : List L) (os : List Operation) → Loads ks ls os → (n : ℕ) → list_any (λ l.
       number l == n) ls ≡ list_any (has_number n) os
-  loads_any ks ls os h n =
-      ap (list_any (λ l. number l == n)) h.bytes ∙ (any_bytes make number named ks n h.each_some ∙ sym (any_operation ks os n h.operations))
+  loads_any ks ls os h n = cc (h.bytes, (any_bytes make number named ks n h.each_some ∙ sym (any_operation ks os n h.operations)))
 
   pub loads_more : (ks : List (Marked X)) (ls : List L) (os : List Operation) → Loads ks ls os → (k : Marked X)
       → list_any (has_number k.operation.number) os ≡ false → IsSome k
@@ -74,17 +73,17 @@ module _ {X L : Type 0} (make : ℕ → ℕ → X → L) (number : L → ℕ) (n
   loads_more ks ls os h k new s = record {
     bytes = ap (λ x. x ++ bytes_of make number named k) h.bytes ∙ sym (bytes_more make number named ks k);
     operations = ap (λ x. x ++ k.operation ∷ []) h.operations ∙ sym (map-append operation_of ks (k ∷ []));
-    each_some = each_append IsSome ks (k ∷ []) h.each_some (s, tt);
+    each_some = each_append IsSome ks _ h.each_some (s, tt);
     different = different_more ks k h.different (sym (any_operation ks os k.operation.number h.operations) ∙ new);
   }
 
   pub loads_fewer : (ks : List (Marked X)) (ls : List L) (os : List Operation) → Loads ks ls os → (n : ℕ)
       → Loads (filter (λ k. not (is_number n k)) ks) (filter (λ l. not (number l == n)) ls) (without_number n os)
   loads_fewer ks ls os h n = record {
-    bytes = ap (filter (λ l. not (number l == n))) h.bytes ∙ bytes_without make number named ks n;
-    operations = ap (without_number n) h.operations ∙ filter-map operation_of (λ o. not (has_number n o)) ks;
-    each_some = each_filter IsSome (λ k. not (is_number n k)) ks h.each_some;
-    different = different_fewer (λ k. not (is_number n k)) ks h.different;
+    bytes = ap (filter (λ l. not _)) h.bytes ∙ bytes_without make number named ks n;
+    operations = ap (without_number n) h.operations ∙ filter-map operation_of (λ o. not _) ks;
+    each_some = each_filter IsSome (λ k. not _) ks h.each_some;
+    different = different_fewer (λ k. not _) ks h.different;
   }
 
   some_from : (o : Option (Marked X)) (x : Operation) → option_map operation_of o ≡ Some x → (k : Marked X) × ((o ≡ Some k)
@@ -98,7 +97,7 @@ module _ {X L : Type 0} (make : ℕ → ℕ → X → L) (number : L → ℕ) (n
       → (k : Marked X) × ((find (is_number n) ks ≡ Some k) × ((k.operation ≡ x) × (filter (λ l.
       number l == n) ls ≡ bytes_of make number named k)))
   loads_under ks ls os h n x e =
-      let s = some_from (find (is_number n) ks) x (sym (find-map operation_of (has_number n) ks) ∙ (ap (find (has_number n)) (sym
+      let s = some_from _ x (sym (find-map operation_of (has_number n) ks) ∙ (ap (find (has_number n)) (sym
       h.operations) ∙ e)) in
       (s.0, (s.1.0, (s.1.1, ap (filter (λ l. number l == n)) h.bytes ∙ bytes_under make number named ks n s.0 h.different s.1.0)))
 
@@ -107,8 +106,7 @@ module _ {X L : Type 0} (make : ℕ → ℕ → X → L) (number : L → ℕ) (n
   length_range (suc n) a = ap suc (length_range n (a + 1))
 
   pub length_bytes : (k : Marked X) → length (bytes_of make number named k) ≡ k.operation.length
-  length_bytes k = length-map (range_with_len k.operation.address k.operation.length) (λ b.
-      make k.operation.number b k.mark) ∙ length_range k.operation.length k.operation.address
+  length_bytes k = grind (arith, length-map, k.operation.number, length_range, k.operation.length)
 
   -- an answer of which each byte may be returned has no fault
   pub no_fault : (may : L → ℕ → Bool) (k : Marked X) (bs : List ℕ) → IsSome k → length bs ≡ k.operation.length
@@ -117,11 +115,11 @@ module _ {X L : Type 0} (make : ℕ → ℕ → X → L) (number : L → ℕ) (n
       → load_response_fault may (bytes_of make number named k) bs ≡ None
   no_fault may k bs s e h =
       let len = length_bytes k in
-      let some : (length (bytes_of make number named k) == 0) ≡ false = ne_eqb (length (bytes_of make number named k)) 0 (λ z.
+      let some = ne_eqb (length (bytes_of make number named k)) 0 (λ z.
       absurd (omega arith)) in
-      let same : (length (bytes_of make number named k) == length bs) ≡ true = eq-eqb (length (bytes_of make number named k)) (length bs)
+      let same = eq-eqb (length (bytes_of make number named k)) (length bs)
       (len ∙ sym e) in
       let paid = each_paid make number named may k.operation.number k.mark k.operation.length k.operation.address bs h in
-      let right : wrong_place may (bytes_of make number named k) bs ≡ None = no_wrong_place may (zip (bytes_of make number named k) bs) paid
+      let right = no_wrong_place may (zip (bytes_of make number named k) bs) paid
       in
       rw (some, same, right) refl

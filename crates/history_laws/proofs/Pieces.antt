@@ -2,14 +2,14 @@
 use Rattle.std.proofs.Common.{◌≡◌, ℕ, zero, suc, ◌+◌, ◌<◌, ◌≤◌, Bool, true, false, ◌||◌, not, ◌==◌, List, [], ◌∷◌, ◌++◌, map, length, Some}
 use Rattle.std.proofs.Common.{None, slice_get, inl, inr, append_assoc, append-nil, eqb-true, refl, sym, ap, ◌∙◌, subst, arith}
 use Rattle.std.specs.List.{filter, find, list_any, range_with_len, zip, position, prefix_len}
-use Rattle.std.proofs.lemmas.Bool.{cases_Bool, le-ltb, eq-eqb}
+use Rattle.std.proofs.lemmas.Bool.{cases_Bool, le-ltb}
 use Rattle.std.proofs.Math.Bool.{or_assoc}
 use Rattle.std.proofs.lemmas.List.Elements.{filter-append}
 use Rattle.std.proofs.lemmas.List.Folds.{list_any-append}
 use Rattle.atomic_histories.specs.declared.unit.Operation.{Operation}
 use Rattle.atomic_histories.specs.Stands.{Each}
 use Rattle.atomic_histories.proofs.Lists.{each_weaker}
-use Rattle.history_laws.proofs.Lists.{any_none, filter_all, filter_none, false_if}
+use Rattle.history_laws.proofs.Lists.{any_none, filter_all, filter_none}
 
 -- an open load, and what is kept of its request
 pub record Marked (X : Type 0) : Type 0 where
@@ -47,36 +47,34 @@ module _ {X L : Type 0} (make : ℕ → ℕ → X → L) (number : L → ℕ) (n
 
   each_named : (n : ℕ) (x : X) (len a : ℕ) → Each (λ l. number l ≡ n) (piece n x a len)
   each_named n x zero a = tt
-  each_named n x (suc len) a = (named n a x, each_named n x len (a + 1))
+  each_named n x (suc len) a = (named n a x, each_named n x len _)
 
   abbrev is_it : ℕ → L → Bool
   is_it n l = number l == n
 
   each_is : (k : Marked X) (n : ℕ) (b : Bool) → is_number n k ≡ b → Each (λ l. is_it n l ≡ b) (bytes_of k)
-  each_is k n b h =
-      each_weaker (λ l. number l ≡ k.operation.number) (λ l. is_it n l ≡ b) (λ l e. ap (λ m.
-      m == n) e ∙ h) (bytes_of k) (each_named k.operation.number k.mark k.operation.length k.operation.address)
+  each_is k n b h = grind (arith, each_weaker, k.operation.number, each_named, k.mark, k.operation.length)
 
   any_first : (m : ℕ) (x : X) (a len n : ℕ) → 1 ≤ len → (m == n) ≡ true → list_any (is_it n) (piece m x a len) ≡ true
   any_first m x a zero n s e = absurd (omega arith)
-  any_first m x a (suc len) n s e = rw (named m a x, e) refl
+  any_first m x a (suc len) n s e = grind arith
 
   any_piece : (k : Marked X) (n : ℕ) → IsSome k → list_any (is_it n) (bytes_of k) ≡ is_number n k
-  any_piece k n s = elim (cases_Bool (is_number n k)) [
+  any_piece k n s = elim (cases_Bool _) [
     | inl e ↦ any_first k.operation.number k.mark k.operation.address k.operation.length n s e ∙ sym e
-    | inr e ↦ any_none (is_it n) (bytes_of k) (each_is k n false e) ∙ sym e
+    | inr e ↦ any_none _ _ (each_is k n false e) ∙ sym e
   ]
 
   -- whether a load is open under a number
   pub any_bytes : (ks : List (Marked X)) (n : ℕ) → Each IsSome ks → list_any (is_it n) (all_bytes ks) ≡ list_any (is_number n) ks
   any_bytes [] n s = refl
-  any_bytes (k ∷ ks) n s = list_any-append (is_it n) (bytes_of k) (all_bytes ks) ∙ rw (any_piece k n s.0, any_bytes ks n s.1) refl
+  any_bytes (k ∷ ks) n s = list_any-append _ (bytes_of k) (all_bytes ks) ∙ rw (any_piece k n s.0, any_bytes ks n s.1) refl
 
   none_of : (ks : List (Marked X)) (n : ℕ) → list_any (is_number n) ks ≡ false → filter (is_it n) (all_bytes ks) ≡ []
   none_of [] n h = refl
   none_of (k ∷ ks) n h = elim (cases_Bool (is_number n k)) [
     | inl e ↦ absurd (false_true (is_number n k || list_any (is_number n) ks) h (rw e refl))
-    | inr e ↦ let r : list_any (is_number n) ks ≡ false = (rw e at h) in
+    | inr e ↦ let r = (rw e at h) in
         filter-append (is_it n) (bytes_of k) (all_bytes ks) ∙ rw (
           filter_none (is_it n) (bytes_of k) (each_is k n false e),
           none_of ks n r,
@@ -87,17 +85,16 @@ module _ {X L : Type 0} (make : ℕ → ℕ → X → L) (number : L → ℕ) (n
   pub bytes_under : (ks : List (Marked X)) (n : ℕ) (k : Marked X) → AreDifferent ks → find (is_number n) ks ≡ Some k
       → filter (is_it n) (all_bytes ks) ≡ bytes_of k
   bytes_under [] n k d h = cc
-  bytes_under (j ∷ ks) n k d h = elim (cases_Bool (is_number n j)) [
+  bytes_under (j ∷ ks) n k d h = elim (cases_Bool _) [
     | inl e ↦
         let s : Some j ≡ Some k = (rw e at h) in
         let same : j ≡ k = cc in
-        let m : j.operation.number ≡ n = eqb-true j.operation.number n e in
+        let m = eqb-true j.operation.number n e in
         let parts : filter (is_it n) (all_bytes (j ∷ ks)) ≡ bytes_of j =
         filter-append (is_it n) (bytes_of j) (all_bytes ks)
         ∙ rw (
           filter_all (is_it n) (bytes_of j) (each_is j n true e),
-          none_of ks n (subst (λ x.
-              list_any (is_number x) ks ≡ false) m d.0),
+          none_of ks n (rw m at d.0),
         ) (append-nil (bytes_of j)) in
         parts ∙ ap bytes_of same
     | inr e ↦
@@ -109,7 +106,7 @@ module _ {X L : Type 0} (make : ℕ → ℕ → X → L) (number : L → ℕ) (n
   pub bytes_without : (ks : List (Marked X)) (n : ℕ) → filter (λ l. not (is_it n l)) (all_bytes ks) ≡ all_bytes (filter (λ k.
       not (is_number n k)) ks)
   bytes_without [] n = refl
-  bytes_without (k ∷ ks) n = elim (cases_Bool (is_number n k)) [
+  bytes_without (k ∷ ks) n = elim (cases_Bool _) [
     | inl e ↦
         filter-append (λ l. not (is_it n l)) (bytes_of k) (all_bytes ks)
         ∙ rw (
@@ -128,8 +125,8 @@ module _ {X L : Type 0} (make : ℕ → ℕ → X → L) (number : L → ℕ) (n
   ]
 
   pub bytes_more : (ks : List (Marked X)) (k : Marked X) → all_bytes (ks ++ k ∷ []) ≡ all_bytes ks ++ bytes_of k
-  bytes_more [] k = append-nil (bytes_of k)
-  bytes_more (j ∷ ks) k = ap (λ x. bytes_of j ++ x) (bytes_more ks k) ∙ sym (append_assoc (bytes_of j) (all_bytes ks) (bytes_of k))
+  bytes_more [] k = append-nil _
+  bytes_more (j ∷ ks) k = cc (bytes_more ks k, append_assoc (bytes_of j) (all_bytes ks) (bytes_of k))
 
   -- an answer that passes at each byte has no wrong place
   pub each_paid : (may : L → ℕ → Bool) (n : ℕ) (x : X) (len a : ℕ) (bs : List ℕ) → ((i b : ℕ) → slice_get bs i ≡ Some b → i < len
@@ -139,7 +136,7 @@ module _ {X L : Type 0} (make : ℕ → ℕ → X → L) (number : L → ℕ) (n
   each_paid may n x (suc len) a [] h = tt
   each_paid may n x (suc len) a (b ∷ bs) h = (
     subst (λ y. may (make n y x) b ≡ true) (omega arith) (h 0 b refl (omega arith)),
-    each_paid may n x len (a + 1) bs (λ i c e l. subst (λ y. may (make n y x) c ≡ true) (omega arith) (h (suc i) c e (omega arith))),
+    each_paid may n x len _ bs (λ i c e l. subst (λ y. may (make n y x) c ≡ true) (omega arith) (h (suc i) c e (omega arith))),
   )
 
 -- Different numbers. ----
@@ -150,12 +147,11 @@ or_last false = refl
 
 any_snoc : {X : Type 0} (n : ℕ) (ks : List (Marked X)) (k : Marked X) → list_any (is_number n) (ks
     ++ k ∷ []) ≡ (list_any (is_number n) ks || is_number n k)
-any_snoc n [] k = or_last (is_number n k)
-any_snoc n (j ∷ ks) k = ap (λ x.
-    is_number n j || x) (any_snoc n ks k) ∙ sym (or_assoc (is_number n j) (list_any (is_number n) ks) (is_number n k))
+any_snoc n [] k = or_last _
+any_snoc n (j ∷ ks) k = cc (any_snoc n ks k, or_assoc (is_number n j) (list_any (is_number n) ks) (is_number n k))
 
 eqb_flip : (x y : ℕ) → (x == y) ≡ false → (y == x) ≡ false
-eqb_flip x y h = false_if (y == x) (λ e. false_true (x == y) h (eq-eqb x y (sym (eqb-true y x e))))
+eqb_flip x y h = grind arith
 
 pub different_more : {X : Type 0} (ks : List (Marked X)) (k : Marked X) → AreDifferent ks
     → list_any (is_number k.operation.number) ks ≡ false → AreDifferent (ks ++ k ∷ [])
@@ -163,7 +159,7 @@ different_more [] k d h = (refl, tt)
 different_more (j ∷ ks) k d h = elim (cases_Bool (is_number k.operation.number j)) [
   | inl e ↦ absurd (false_true (is_number k.operation.number j || list_any (is_number k.operation.number) ks) h (rw e refl))
   | inr e ↦
-      let r : list_any (is_number k.operation.number) ks ≡ false = (rw e at h) in
+      let r = (rw e at h) in
       (any_snoc j.operation.number ks k ∙ rw (d.0, eqb_flip j.operation.number k.operation.number e) refl, different_more ks k d.1 r)
 ]
 
@@ -172,14 +168,14 @@ any_fewer p q [] h = refl
 any_fewer p q (k ∷ ks) h = elim (cases_Bool (p k)) [
   | inl e ↦ absurd (false_true (p k || list_any p ks) h (rw e refl))
   | inr e ↦
-      let r : list_any p ks ≡ false = (rw e at h) in
+      let r = (rw e at h) in
       elim (cases_Bool (q k)) [ inl f ↦ rw (f, e) (any_fewer p q ks r) | inr f ↦ rw f (any_fewer p q ks r) ]
 ]
 
 pub different_fewer : {X : Type 0} (q : Marked X → Bool) (ks : List (Marked X)) → AreDifferent ks → AreDifferent (filter q ks)
 different_fewer q [] d = tt
 different_fewer q (k ∷ ks) d = elim (cases_Bool (q k)) [
-  | inl e ↦ rw e (any_fewer (is_number k.operation.number) q ks d.0, different_fewer q ks d.1)
+  | inl e ↦ rw e (any_fewer _ q ks d.0, different_fewer q ks d.1)
   | inr e ↦ rw e (different_fewer q ks d.1)
 ]
 
@@ -192,4 +188,4 @@ all_long may (p ∷ ps) h = rw (h.0, all_long may ps h.1) (omega arith)
 
 pub no_wrong_place : {L : Type 0} (may : L → ℕ → Bool) (ps : List (L × ℕ)) → Each (λ p. may p.0 p.1 ≡ true) ps → position (λ p.
     not (may p.0 p.1)) ps ≡ None
-no_wrong_place may ps h = rw (all_long may ps h, le-ltb (length ps) (length ps) (omega arith)) refl
+no_wrong_place may ps h = grind (arith, all_long, le-ltb)

@@ -1,5 +1,5 @@
 -- What stood at an address since a load was accepted, by the fold over the lines of a run, stood there at some moment of the run.
-use Rattle.std.proofs.Common.{◌≡◌, ℕ, ◌+◌, Bool, true, false, ◌&&◌, not, ◌==◌, if◌then◌else◌, nat_lt, List, [], ◌∷◌, ◌++◌, length, Option}
+use Rattle.std.proofs.Common.{◌≡◌, ℕ, ◌+◌, Bool, true, false, not, ◌==◌, if◌then◌else◌, nat_lt, List, [], ◌∷◌, ◌++◌, length, Option}
 use Rattle.std.proofs.Common.{Some, None, inl, inr, refl, sym, ap, ◌∙◌, subst, eqb-true, append-nil, append_assoc}
 use Rattle.std.specs.List.{list_any}
 use Rattle.std.proofs.lemmas.Bool.{cases_Bool, and_parts, and_from, ltb-true}
@@ -83,7 +83,7 @@ module _ (image : List Word) where
       → IsOpen image events answers now tag at → may_answer now event answer ≡ true → is_value_of tag event answer ≡ false
       → IsOpen image (events ++ event ∷ []) (answers ++ answer ∷ []) (flat_after now event answer) tag at
   open_more events answers now tag at event answer o may v =
-      let begun : Flat = flat_after o.first (Load tag at) Accepted in
+      let begun = flat_after o.first (Load tag at) Accepted in
       record {
         before = o.before;
         until = o.until ++ event ∷ [];
@@ -103,7 +103,7 @@ module _ (image : List Word) where
       → IsLate image (events ++ event ∷ []) (answers ++ answer ∷ []) (flat_after now event answer) tag word
   late_more events answers now tag word event answer l may v =
       let h = l.stands in
-      let may_here : may_answer h.last event answer ≡ true = subst (λ x. may_answer x event answer ≡ true) (sym l.last_is) may in
+      let may_here = subst (λ x. may_answer x event answer ≡ true) (sym l.last_is) may in
       record {
         stands = record {
           at = h.at;
@@ -113,9 +113,8 @@ module _ (image : List Word) where
           before_answers = h.before_answers;
           until_answers = h.until_answers;
           behind_answers = h.behind_answers ++ answer ∷ [];
-          events_are = ap (λ x. x ++ event ∷ []) h.events_are ∙ nested h.before (Load tag h.at) h.until h.behind (event ∷ []);
-          answers_are = ap (λ x. x ++ answer ∷ []) h.answers_are ∙ nested h.before_answers Accepted h.until_answers h.behind_answers (answer
-              ∷ []);
+          events_are = ap (λ x. x ++ event ∷ []) h.events_are ∙ nested h.before _ h.until h.behind _;
+          answers_are = ap (λ x. x ++ answer ∷ []) h.answers_are ∙ nested h.before_answers Accepted h.until_answers h.behind_answers _;
           first = h.first;
           moment = h.moment;
           last = flat_after h.last event answer;
@@ -186,17 +185,17 @@ module _ (image : List Word) where
 
     more : (event : Event) (answer : Answer) → may_answer o.flat event answer ≡ true
         → flat_run (opening image) (events ++ event ∷ []) (answers ++ answer ∷ []) ≡ Some (flat_after o.flat event answer)
-    more event answer may = run_more (opening image) o.flat events answers event answer h.runs may
+    more event answer may = run_more _ o.flat events answers event answer h.runs may
 
     unchanged : (event : Event) (answer : Answer) → may_answer o.flat event answer ≡ true → ((tag : ℕ)
         → is_value_of tag event answer ≡ false) → tags_after o n event answer ≡ o.tags → since_after o event answer ≡ o.since
         → Next event answer
     unchanged event answer may v same same_since = record {
       runs = more event answer may;
-      open_loads = λ tag load e. still_open event answer may tag load (subst (λ f. f tag ≡ Loaded load) same e) (v tag);
+      open_loads = λ tag load e. still_open event answer may tag load (rw same at e) (v tag);
       stood = λ tag load e. subst (λ f. Each (λ w.
           IsLate image (events ++ event ∷ []) (answers ++ answer ∷ []) (flat_after o.flat event answer) tag w) (f tag)) (sym same_since)
-          (still_stood event answer may tag load (subst (λ f. f tag ≡ Loaded load) same e) (v tag));
+          (still_stood event answer may tag load (rw same at e) (v tag));
     }
 
     -- a load is accepted
@@ -205,7 +204,7 @@ module _ (image : List Word) where
       runs = more (Load t at) Accepted may;
       open_loads = λ tag load e. elim (cases_Bool (tag == t)) [
         | inl q ↦
-            let this : Loaded (accepted_load o n at) ≡ Loaded load = (rw q at e) in
+            let this = (rw q at e) in
             let same : accepted_load o n at ≡ load = cc in
             let here : IsOpen image (events ++ Load t at ∷ []) (answers ++ Accepted ∷ []) (flat_after o.flat (Load t at) Accepted) t at =
             record {
@@ -240,13 +239,13 @@ module _ (image : List Word) where
         tag (merged (word_at o.flat.mem at) word lanes)
     left at word lanes may tag load e q =
         let p = and_parts (nat_lt at (length o.flat.mem)) (has_any lanes) may in
-        let w : Word = merged (word_at o.flat.mem at) word lanes in
-        let now : Flat = flat_after o.flat (Store at word lanes) Accepted in
-        let here : load.at ≡ at = eqb-true load.at at (subst (λ u. is_open_at at u ≡ true) e q) in
-        let stands : word_at now.mem at ≡ w = get_or-set_same o.flat.mem at w zero_word (ltb-true at (length o.flat.mem) p.0) in
+        let w = merged (word_at o.flat.mem at) word lanes in
+        let now = flat_after o.flat (Store at word lanes) Accepted in
+        let here = eqb-true load.at at (rw e at q) in
+        let stands = get_or-set_same o.flat.mem at w zero_word (ltb-true at (length o.flat.mem) p.0) in
         late_now (events ++ Store at word lanes ∷ []) (answers ++ Accepted ∷ []) now tag at w
-        (subst (λ x. IsOpen image (events ++ Store at word lanes ∷ []) (answers ++ Accepted ∷ []) now tag x) here (still_open (Store at word
-        lanes) Accepted may tag load e refl)) (subst (λ v. same_word v w ≡ true) (sym stands) (same_itself w))
+        (rw here at (still_open (Store at word lanes) Accepted may tag load e refl))
+        (subst (λ v. same_word v w ≡ true) (sym stands) (same_itself w))
 
     stored : (at : ℕ) (word : Word) (lanes : Lanes) → may_answer o.flat (Store at word lanes) Accepted ≡ true
         → Next (Store at word lanes) Accepted
@@ -266,7 +265,7 @@ module _ (image : List Word) where
     taken p t word may = record {
       runs = more (Take p) (Value t word) may;
       open_loads = λ tag load e. elim (cases_Bool (tag == t)) [
-        | inl q ↦ let this : Taken n ≡ Loaded load = (rw q at e) in cc
+        | inl q ↦ let this = (rw q at e) in cc
         | inr q ↦ still_open (Take p) (Value t word) may tag load (rw q at e) (eqb_swap t tag ∙ q)
       ];
       stood = λ tag load e. elim (cases_Bool (tag == t)) [
@@ -385,7 +384,7 @@ value_here o (Load tag at) answer h =
     let f = place_stood o at answer (tag_reason tag (o.tags tag)) (tag_stood tag (o.tags tag)) in
     absurd (false_true (has_stood_since (place_reason o at answer (tag_reason tag (o.tags tag)))) f h)
 value_here o (Store at word lanes) answer h =
-    let other : Reason = if has_any lanes then HasLanes else NoLanes in
+    let other = if has_any lanes then HasLanes else NoLanes in
     absurd (false_true (has_stood_since (place_reason o at answer other)) (place_stood o at answer other (lanes_stood (has_any lanes))) h)
 value_here o (Prefetch at) answer h =
     absurd (false_true (has_stood_since (place_reason o at answer (never answer))) (place_stood o at answer (never answer) (never_stood
@@ -412,9 +411,9 @@ late_value o event answer h = elim (cases_Bool (is_ever event answer)) [
 
 same_is : (v w : Word) → same_word v w ≡ true → v ≡ w
 same_is v w h =
-    let p = and_parts (v.b0 == w.b0) ((v.b1 == w.b1) && ((v.b2 == w.b2) && (v.b3 == w.b3))) h in
-    let q = and_parts (v.b1 == w.b1) ((v.b2 == w.b2) && (v.b3 == w.b3)) p.1 in
-    let r = and_parts (v.b2 == w.b2) (v.b3 == w.b3) q.1 in
+    let p = and_parts _ _ h in
+    let q = and_parts _ _ p.1 in
+    let r = and_parts _ _ q.1 in
     let e0 = eqb-true v.b0 w.b0 p.0 in
     let e1 = eqb-true v.b1 w.b1 q.0 in
     let e2 = eqb-true v.b2 w.b2 r.0 in
@@ -428,18 +427,16 @@ one_passes p (x ∷ xs) h = elim (cases_Bool (p x)) [ inl e ↦ inl e | inr e �
 pub told_late_is_atomic : (words : List Word) (size : ℕ) (texts : List (List ℕ)) (steps : ℕ) (found : List ℕ) (m : Mismatch)
     → ToldLateIsAtomic words size texts steps found m
 told_late_is_atomic words size texts steps found m = λ fits flat mismatch told.
-    let o : Origins = origins_of words texts in
-    let h : Explained words o (events_in texts) (answers_in texts) = from_lines words o.flat 1 (beginning words) texts [] [] (begins words)
+    let o = origins_of words texts in
+    let h = from_lines words o.flat 1 (beginning words) texts [] [] (begins words)
     flat.1 in
-    let v = late_value o m.event m.answer (ap (λ x. has_stood_since x.reason) (sym mismatch.why) ∙ told) in
-    let stood : HasStood words (events_in texts) (answers_in texts) v.tag v.word =
+    let v = late_value o m.event m.answer (cc (mismatch.why, told)) in
+    let stood =
     one_elim (λ w. (same_word w v.word ≡ true) × IsLate words (events_in texts) (answers_in texts) o.flat v.tag w) _ (o.since v.tag)
     (one_each (λ w. same_word w v.word ≡ true) (λ w. IsLate words (events_in texts) (answers_in texts) o.flat v.tag w) (o.since v.tag)
     (one_passes (λ w. same_word w v.word) (o.since v.tag) v.has) (h.stood v.tag v.load v.is_loaded))
     (λ w q. subst (HasStood words (events_in texts) (answers_in texts) v.tag) (same_is w v.word q.0) q.1.stands) in
-    let atomic : IsAtomic (image_bytes words) Zeros size (told_history (events_in texts ++ Take v.step ∷ []) (answers_in texts
-    ++ Value v.tag v.word ∷ [])) = late_is_atomic words size (events_in texts) (answers_in texts) v.tag v.step v.word fits stood in
+    let atomic = late_is_atomic words size (events_in texts) (answers_in texts) v.tag v.step v.word fits stood in
     subst (λ e. IsAtomic (image_bytes words) Zeros size (told_history (events_in texts ++ e ∷ []) (answers_in texts ++ m.answer ∷ []))) (sym
     v.event_is)
-    (subst (λ a. IsAtomic (image_bytes words) Zeros size (told_history (events_in texts ++ Take v.step ∷ []) (answers_in texts ++ a ∷ [])))
-    (sym v.answer_is) atomic)
+    (rw (sym v.answer_is) at atomic)

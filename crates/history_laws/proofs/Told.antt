@@ -1,13 +1,13 @@
 -- A run of flat memory, told as a history, is one of the flat law.
 use Rattle.std.proofs.Common.{◌≡◌, ◌≢◌, ℕ, zero, suc, ◌+◌, ◌-◌, ◌*◌, ◌/◌, ◌%◌, ◌<◌, ◌≤◌, Bool, true, false, ◌&&◌, ◌||◌, not, ◌==◌, cond}
-use Rattle.std.proofs.Common.{if◌then◌else◌, nat_lt, List, [], ◌∷◌, ◌++◌, map, length, get_or, Option, Some, None, slice_get, inl, inr}
+use Rattle.std.proofs.Common.{if◌then◌else◌, nat_lt, List, [], ◌∷◌, ◌++◌, map, length, Option, Some, None, slice_get, inl, inr}
 use Rattle.std.proofs.Common.{refl, sym, ap, ◌∙◌, subst, eq-eqb, eqb-true, append-nil, arith}
 use Rattle.std.specs.Prelude.{is_none, is_some, IsTrue}
 use Rattle.std.specs.Int.{bit_at}
-use Rattle.std.specs.List.{filter, list_any, zip}
+use Rattle.std.specs.List.{filter, list_any}
 use Rattle.std.specs.Option.{option_and_then}
-use Rattle.std.proofs.lemmas.Bool.{cases_Bool, cases_eq, cases_lt, and_parts, ne_eqb, ltb-true, le-leb}
-use Rattle.std.proofs.lemmas.Nat.Bits.{bit_at_lowest, bit_at-suc, bit_at-lt, and_pow}
+use Rattle.std.proofs.lemmas.Bool.{cases_Bool, cases_eq, cases_lt, and_parts, ne_eqb, ltb-true}
+use Rattle.std.proofs.lemmas.Nat.Bits.{bit_at-suc, bit_at-lt, and_pow}
 use Rattle.std.proofs.lemmas.List.{get_or-set_same, get_or-set_other, length-set}
 use Rattle.std.proofs.lemmas.List.Elements.{filter-append}
 use Rattle.std.proofs.lemmas.Option.{slice_get_past}
@@ -19,9 +19,9 @@ use Rattle.memory_histories.specs.declared.reasons.Owed.{Owed}
 use Rattle.memory_histories.specs.declared.reasons.Owed.TheVariants as owed
 use Rattle.memory_histories.specs.declared.reasons.StoreName.{StoreName}
 use Rattle.memory_histories.specs.declared.flat.OwedByte.{OwedByte}
-use Rattle.memory_histories.specs.Regular.{is_inside, has_enabled, load_response_fault, wrong_place}
-use Rattle.memory_histories.specs.Flat.{Flat, initial, stored, owed_bytes, is_paid_by, may_return, is_of, is_open, flat_fault, flat_after}
-use Rattle.memory_histories.specs.Flat.{flat_step, flat_run}
+use Rattle.memory_histories.specs.Regular.{is_inside, has_enabled, load_response_fault}
+use Rattle.memory_histories.specs.Flat.{Flat, initial, stored, owed_bytes, is_paid_by, may_return, is_of, flat_fault, flat_after}
+use Rattle.memory_histories.specs.Flat.{flat_run}
 use Rattle.memory_histories.specs.Flat as flat
 use Rattle.atomic_histories.specs.Words.{enabled_byte, stored_byte, written_byte}
 use Rattle.flat_model.specs.declared.Word.{Word}
@@ -41,7 +41,7 @@ use Rattle.history_laws.specs.Laws.{IsFlat, ReturnsBytes}
 use Rattle.history_laws.specs.Told.{word_bytes, image_bytes, seen_bytes, told_events, told_history, IsAddressable, RunIsLawful}
 use Rattle.history_laws.specs.Told.{MachineIsLawful}
 use Rattle.history_laws.proofs.Lists.{false_if}
-use Rattle.history_laws.proofs.Pieces.{false_true, no_wrong_place}
+use Rattle.history_laws.proofs.Pieces.{false_true}
 use Rattle.history_laws.proofs.Words.{stored_inside}
 use Rattle.history_laws.proofs.Flat.{flat_is_atomic, flat_is_regular, known, not_below, chosen, bytes_at, known_chosen}
 
@@ -68,18 +68,18 @@ byte_there w Lane3 = refl
 one_bit : (x m : ℕ) → x < 2 → 1 ≤ m → (x * m == m) ≡ (x == 1)
 one_bit x m h l = elim (cases_eq x 1) [
   | inl e ↦ rw e (eq-eqb (1 * m) m (omega arith))
-  | inr ne ↦ let z : x ≡ 0 = omega arith in rw z (ne_eqb (0 * m) m (λ q. absurd (omega arith)))
+  | inr ne ↦ let z : x ≡ 0 = omega arith in rw z (ne_eqb _ m (λ q. absurd (omega arith)))
 ]
 
 has_bit : (m : Lanes) (l : Lane) → has m l ≡ (bit_at m.0 (place l) == 1)
 unfolding has
-has_bit m Lane0 = ap (λ x. x == 1) (and_pow m.0 0) ∙ one_bit (bit_at m.0 0) 1 (bit_at-lt m.0 0) (omega arith)
-has_bit m Lane1 = ap (λ x. x == 2) (and_pow m.0 1) ∙ one_bit (bit_at m.0 1) 2 (bit_at-lt m.0 1) (omega arith)
-has_bit m Lane2 = ap (λ x. x == 4) (and_pow m.0 2) ∙ one_bit (bit_at m.0 2) 4 (bit_at-lt m.0 2) (omega arith)
-has_bit m Lane3 = ap (λ x. x == 8) (and_pow m.0 3) ∙ one_bit (bit_at m.0 3) 8 (bit_at-lt m.0 3) (omega arith)
+has_bit m Lane0 = cc (and_pow m.0 0, one_bit _ 1 (bit_at-lt m.0 0) (omega arith))
+has_bit m Lane1 = cc (and_pow m.0 1, one_bit _ 2 (bit_at-lt m.0 1) (omega arith))
+has_bit m Lane2 = cc (and_pow m.0 2, one_bit _ 4 (bit_at-lt m.0 2) (omega arith))
+has_bit m Lane3 = cc (and_pow m.0 3, one_bit _ 8 (bit_at-lt m.0 3) (omega arith))
 
 low_bit : (e : ℕ) → (bit_at e 0 == 1) ≡ (e % 2 == 1)
-low_bit e = ap (λ x. x == 1) (bit_at_lowest e)
+low_bit e = grind arith
 
 next_bit : (e k : ℕ) → (bit_at e (suc k) == 1) ≡ (bit_at (e / 2) k == 1)
 next_bit e k = ap (λ x. x == 1) (bit_at-suc e k)
@@ -92,15 +92,7 @@ or_end false false false true = refl
 or_end false false false false = refl
 
 some_enabled : (w : Word) (m : Lanes) → has_any m ≡ true → has_enabled (word_bytes w) m.0 ≡ true
-some_enabled w m h =
-    let e = m.0 in
-    let b0 : has m Lane0 ≡ (e % 2 == 1) = has_bit m Lane0 ∙ low_bit e in
-    let b1 : has m Lane1 ≡ (e / 2 % 2 == 1) = has_bit m Lane1 ∙ (next_bit e 0 ∙ low_bit (e / 2)) in
-    let b2 : has m Lane2 ≡ (e / 2 / 2 % 2 == 1) = has_bit m Lane2 ∙ (next_bit e 1 ∙ (next_bit (e / 2) 0 ∙ low_bit (e / 2 / 2))) in
-    let b3 : has m Lane3 ≡ (e / 2 / 2 / 2 % 2 == 1) = has_bit m Lane3 ∙ (next_bit e 2 ∙ (next_bit (e / 2) 1 ∙ (next_bit (e / 2 / 2) 0 ∙
-    low_bit (e / 2 / 2 / 2)))) in
-    sym (or_end (e % 2 == 1) (e / 2 % 2 == 1) (e / 2 / 2 % 2 == 1) (e / 2 / 2 / 2 % 2 == 1)) ∙ (sym (λ i.
-    b0 i || (b1 i || (b2 i || b3 i))) ∙ h)
+some_enabled w m h = grind (arith, has_bit, low_bit, next_bit, or_end)
 
 -- The byte of a word that a store leaves. ----
 
@@ -133,12 +125,12 @@ none_known (l ∷ ls) h = cc
 none_of : {X : Type 0} (p : X → Bool) (xs : List X) → filter p xs ≡ [] → list_any p xs ≡ false
 none_of p [] h = refl
 none_of p (x ∷ xs) h = elim (cases_Bool (p x)) [
-  | inl e ↦ let f : x ∷ filter p xs ≡ [] = (rw e at h) in cc
+  | inl e ↦ let f = (rw e at h) in cc
   | inr e ↦ rw e (none_of p xs (rw e at h))
 ]
 
 inside_word : (n at : ℕ) → n ≤ 4611686018427387904 → at < n → is_inside (4 * at) 4 ≡ true
-inside_word n at h l = le-leb (4 * at + 4) 18446744073709551616 (omega arith)
+inside_word n at h l = grind arith
 
 due_none : (o : Option Word) → is_none o ≡ true → due_bytes o ≡ []
 due_none None h = refl
@@ -187,32 +179,32 @@ module _ (n : ℕ) (fits : n ≤ 4611686018427387904) where
       → knowns (owed_bytes f.memory tag (4 * at) 4) ≡ due_bytes (Some (word_at s.mem at))
   owed_word s f t tag at l =
       let w = word_at s.mem at in
-      let k0 : known (f.memory (4 * at)) ≡ Some w.b0 = subst (λ a. known (f.memory a) ≡ Some w.b0) (omega arith) (t.words at Lane0 l) in
-      let k1 : known (f.memory (4 * at + 1)) ≡ Some w.b1 = t.words at Lane1 l in
-      let k2 : known (f.memory (4 * at + 1 + 1)) ≡ Some w.b2 = subst (λ a.
+      let k0 = subst (λ a. known (f.memory a) ≡ Some w.b0) (omega arith) (t.words at Lane0 l) in
+      let k1 = t.words at Lane1 l in
+      let k2 = subst (λ a.
       known (f.memory a) ≡ Some w.b2) (omega arith) (t.words at Lane2 l) in
-      let k3 : known (f.memory (4 * at + 1 + 1 + 1)) ≡ Some w.b3 = subst (λ a.
+      let k3 = subst (λ a.
       known (f.memory a) ≡ Some w.b3) (omega arith) (t.words at Lane3 l) in
       λ i. k0 i ∷ k1 i ∷ k2 i ∷ k3 i ∷ []
 
   its_bytes : (memory : ℕ → Owed) (tag at t : ℕ)
       → filter (is_of t) (owed_bytes memory tag (4 * at) 4) ≡ (if tag == t then owed_bytes memory tag (4 * at) 4 else [])
-  its_bytes memory tag at t = elim (cases_Bool (tag == t)) [ inl e ↦ rw e refl | inr e ↦ rw e refl ]
+  its_bytes memory tag at t = grind arith
 
   loads_with : (s : model.Flat) (f : Flat) → Tells n s f → (tag at : ℕ) → at < n → is_none (s.due tag) ≡ true → (t : ℕ)
       → knowns (filter (is_of t) (f.loads
       ++ owed_bytes f.memory tag (4 * at) 4)) ≡ due_bytes (with_due s.due tag (Some (word_at s.mem at)) t)
   loads_with s f h tag at l free t =
-      ap knowns (filter-append (is_of t) f.loads (owed_bytes f.memory tag (4 * at) 4)) ∙ (knowns_append (filter (is_of t) f.loads) (filter
+      ap knowns (filter-append (is_of t) f.loads (owed_bytes f.memory tag (4 * at) 4)) ∙ (knowns_append _ (filter
       (is_of t) (owed_bytes f.memory tag (4 * at) 4))
       ∙ elim (cases_Bool (tag == t)) [
         | inl e ↦
-            let same : tag ≡ t = eqb-true tag t e in
-            let none : due_bytes (s.due t) ≡ [] = subst (λ x. due_bytes (s.due x) ≡ []) same (due_none (s.due tag) free) in
-            let flip : (t == tag) ≡ true = eqb_swap t tag ∙ e in
+            let same = eqb-true tag t e in
+            let none = subst (λ x. due_bytes (s.due x) ≡ []) same (due_none (s.due tag) free) in
+            let flip = eqb_swap t tag ∙ e in
             rw (its_bytes f.memory tag at t, e, h.due t, none, flip) (owed_word s f h tag at l)
         | inr e ↦
-            let flip : (t == tag) ≡ false = eqb_swap t tag ∙ e in
+            let flip = eqb_swap t tag ∙ e in
             rw (its_bytes f.memory tag at t, e, flip) (append-nil (knowns (filter (is_of t) f.loads)) ∙ h.due t)
       ])
 
@@ -220,10 +212,10 @@ module _ (n : ℕ) (fits : n ≤ 4611686018427387904) where
       → (g : Flat) × ((flat_run f (LoadRequest tag (4 * at) 4 ∷ []) ≡ Some g)
       × Tells n (record { mem = s.mem; due = with_due s.due tag (Some (word_at s.mem at)) }) g)
   load_accepted s f h tag at may =
-      let p = and_parts (nat_lt at (length s.mem)) (is_none (s.due tag)) may in
-      let l : at < n = subst (λ m. at < m) h.size (ltb-true at (length s.mem) p.0) in
-      let none : filter (is_of tag) f.loads ≡ [] = none_known (filter (is_of tag) f.loads) (h.due tag ∙ due_none (s.due tag) p.1) in
-      let right : flat_fault f (LoadRequest tag (4 * at) 4) ≡ None = rw (inside_word n at fits l, none_of (is_of tag) f.loads none) refl in (
+      let p = and_parts _ _ may in
+      let l = subst (λ m. at < m) h.size (ltb-true at (length s.mem) p.0) in
+      let none : filter _ f.loads ≡ [] = none_known _ (h.due tag ∙ due_none _ p.1) in
+      let right : flat_fault f (LoadRequest tag (4 * at) 4) ≡ None = rw (inside_word n at fits l, none_of _ f.loads none) refl in (
         flat_after f (LoadRequest tag (4 * at) 4),
         (
           rw right refl,
@@ -237,24 +229,23 @@ module _ (n : ℕ) (fits : n ≤ 4611686018427387904) where
       → known (memory (4 * at + place l)) ≡ Some old
       → known (stored memory store (4 * at) (word_bytes word) m.0 (4 * at + place l)) ≡ Some (cond (has m l) (byte word l) old)
   at_lane memory store at word m l old h =
-      ap known (bytes_at (λ b. owed.Stored b store) (word_bytes word) (4 * at) (4 * at + place l) m.0 memory)
-      ∙ (known_chosen store (stored_byte (4 * at) (word_bytes word) m.0 (4 * at + place l)) (memory (4 * at + place l))
+      ap known (bytes_at (λ b. owed.Stored b store) (word_bytes word) _ _ m.0 memory)
+      ∙ (known_chosen store _ (memory (4 * at + place l))
       ∙ rw (stored_inside (4 * at) (word_bytes word) m.0 (place l), enabled_lane word m l, h) (lane_left (has m l) (byte word l) old))
 
   not_enabled : (bs : List ℕ) (e k : ℕ) → length bs ≤ k → enabled_byte bs e k ≡ None
-  not_enabled bs e k h = elim (cases_Bool (bit_at e k == 1)) [ inl t ↦ rw (t, slice_get_past bs k h) refl | inr t ↦ rw t refl ]
+  not_enabled bs e k h = grind (arith, cases_Bool, slice_get_past)
 
   not_stored : (at other : ℕ) (word : Word) (e : ℕ) (l : Lane) → other ≢ at
       → stored_byte (4 * at) (word_bytes word) e (4 * other + place l) ≡ None
-  not_stored at other word e l ne = elim (cases_lt (4 * other + place l) (4 * at)) [
-    | inl below ↦ not_below (4 * at) (4 * other + place l) (word_bytes word) e below
+  not_stored at other word e l ne = elim (cases_lt _ _) [
+    | inl below ↦ not_below _ _ (word_bytes word) e below
     | inr above ↦
-        let small : place l < 4 = place_small l in
+        let small = place_small l in
         let far : 4 ≤ 4 * other + place l - 4 * at = omega arith in
         let whole : 4 * at + (4 * other + place l - 4 * at) ≡ 4 * other + place l = omega arith in
         subst (λ a. stored_byte (4 * at) (word_bytes word) e a ≡ None) whole
-        (stored_inside (4 * at) (word_bytes word) e (4 * other + place l - 4 * at) ∙ not_enabled (word_bytes word) e (4 * other + place l -
-        4 * at) far)
+        (stored_inside _ (word_bytes word) e _ ∙ not_enabled (word_bytes word) e _ far)
   ]
 
   words_with : (s : model.Flat) (f : Flat) → Tells n s f → (store : StoreName) (at : ℕ) (word : Word) (m : Lanes) → at < n
@@ -263,17 +254,15 @@ module _ (n : ℕ) (fits : n ≤ 4611686018427387904) where
       m) other) l)
   words_with s f h store at word m low other l more = elim (cases_eq other at) [
     | inl e ↦
-        let long : at < length s.mem = subst (λ k. at < k) (sym h.size) low in
-        let left : word_at (model.stored s.mem at word m) at ≡ merged (word_at s.mem at) word m = get_or-set_same s.mem at (merged (word_at
-        s.mem at) word m) zero_word long in
+        let long = subst (λ k. at < k) (sym h.size) low in
+        let left = get_or-set_same s.mem at (merged _ word m) zero_word long in
         subst (λ x. known (stored f.memory store (4 * at) (word_bytes word) m.0 (4 * x + place l)) ≡ Some (byte (word_at (model.stored s.mem
         at word m) x) l)) (sym e)
-        (at_lane f.memory store at word m l (byte (word_at s.mem at) l) (h.words at l low) ∙ sym (ap (λ w.
+        (at_lane f.memory store at word m l _ (h.words at l low) ∙ sym (ap (λ w.
         Some (byte w l)) left ∙ ap Some (byte-merged (word_at s.mem at) word m l)))
     | inr ne ↦
-        let same : word_at (model.stored s.mem at word m) other ≡ word_at s.mem other = get_or-set_other s.mem at other (merged (word_at
-        s.mem at) word m) zero_word ne in
-        ap known (bytes_at (λ b. owed.Stored b store) (word_bytes word) (4 * at) (4 * other + place l) m.0 f.memory)
+        let same = get_or-set_other s.mem at other _ zero_word ne in
+        ap known (bytes_at (λ b. owed.Stored b store) (word_bytes word) _ _ m.0 f.memory)
         ∙ (ap (λ o. known (chosen (λ b. owed.Stored b store) o (f.memory (4 * other + place l)))) (not_stored at other word m.0 l ne)
         ∙ (h.words other l more ∙ ap (λ w. Some (byte w l)) (sym same)))
   ]
@@ -283,9 +272,9 @@ module _ (n : ℕ) (fits : n ≤ 4611686018427387904) where
       → (g : Flat) × ((flat_run f (StoreRequest 0 (4 * at) (seen_bytes (word_bytes word)) m.0 ∷ StoreResponse 0 ∷ []) ≡ Some g)
       × Tells n (record { mem = model.stored s.mem at word m; due = s.due }) g)
   store_accepted s f h at word m may =
-      let p = and_parts (nat_lt at (length s.mem)) (has_any m) may in
-      let l : at < n = subst (λ k. at < k) h.size (ltb-true at (length s.mem) p.0) in
-      let request : HistoryEvent = StoreRequest 0 (4 * at) (seen_bytes (word_bytes word)) m.0 in
+      let p = and_parts _ _ may in
+      let l = subst (λ k. at < k) h.size (ltb-true at (length s.mem) p.0) in
+      let request : HistoryEvent = StoreRequest 0 _ (seen_bytes (word_bytes word)) m.0 in
       let right : flat_fault f request ≡ None = rw (inside_word n at fits l, some_enabled word m p.1, h.no_stores) refl in
       let open_now : (flat_after f request).stores ≡ 0 ∷ [] = ap (λ os. os ++ 0 ∷ []) h.no_stores in
       let ends : flat_fault (flat_after f request) (StoreResponse 0) ≡ None = rw open_now refl in
@@ -295,10 +284,10 @@ module _ (n : ℕ) (fits : n ≤ 4611686018427387904) where
         (
           rw (right, ends) refl,
           record {
-            size = length-set s.mem at (merged (word_at s.mem at) word m) ∙ h.size;
+            size = length-set s.mem at (merged _ word m) ∙ h.size;
             words = λ other lane more. words_with s f h store at word m l other lane more;
             due = h.due;
-            no_stores = ap (filter (λ k. not (is_open 0 k))) open_now;
+            no_stores = grind arith;
           },
         ),
       )
@@ -307,8 +296,8 @@ module _ (n : ℕ) (fits : n ≤ 4611686018427387904) where
 
   pub known_paid : (o : Owed) (b c : ℕ) → known o ≡ Some b → (b == c) ≡ true → is_paid_by o c ≡ true
   known_paid owed.Unknown b c h e = cc
-  known_paid (owed.Initial x) b c h e = let same : x ≡ b = cc in subst (λ y. (y == c) ≡ true) (sym same) e
-  known_paid (owed.Stored x store) b c h e = let same : x ≡ b = cc in subst (λ y. (y == c) ≡ true) (sym same) e
+  known_paid (owed.Initial x) b c h e = grind arith
+  known_paid (owed.Stored x store) b c h e = grind arith
 
   paid_word : (ls : List OwedByte) (v word : Word) → knowns ls ≡ due_bytes (Some v) → same_word v word ≡ true
       → load_response_fault may_return ls (word_bytes word) ≡ None
@@ -316,26 +305,7 @@ module _ (n : ℕ) (fits : n ≤ 4611686018427387904) where
   paid_word (a ∷ []) v word h e = cc
   paid_word (a ∷ b ∷ []) v word h e = cc
   paid_word (a ∷ b ∷ c ∷ []) v word h e = cc
-  paid_word (a ∷ b ∷ c ∷ d ∷ []) v word h e =
-      let p = and_parts (v.b0 == word.b0) ((v.b1 == word.b1) && ((v.b2 == word.b2) && (v.b3 == word.b3))) e in
-      let q = and_parts (v.b1 == word.b1) ((v.b2 == word.b2) && (v.b3 == word.b3)) p.1 in
-      let r = and_parts (v.b2 == word.b2) (v.b3 == word.b3) q.1 in
-      let ka : known a.owed ≡ Some v.b0 = cc in
-      let kb : known b.owed ≡ Some v.b1 = cc in
-      let kc : known c.owed ≡ Some v.b2 = cc in
-      let kd : known d.owed ≡ Some v.b3 = cc in
-      let right : wrong_place may_return (a ∷ b ∷ c ∷ d ∷ []) (word_bytes word) ≡ None =
-      no_wrong_place may_return (zip (a ∷ b ∷ c ∷ d ∷ []) (word_bytes word)) (
-        known_paid a.owed v.b0 word.b0 ka p.0,
-        (
-          known_paid b.owed v.b1 word.b1 kb q.0,
-          (
-            known_paid c.owed v.b2 word.b2 kc r.0,
-            (known_paid d.owed v.b3 word.b3 kd r.1, tt),
-          ),
-        ),
-      ) in
-      rw right refl
+  paid_word (a ∷ b ∷ c ∷ d ∷ []) v word h e = grind arith
   paid_word (a ∷ b ∷ c ∷ d ∷ x ∷ ls) v word h e = cc
 
   owed_value : (o : Option Word) (word : Word) → is_owed o word ≡ true → (v : Word) × ((o ≡ Some v) × (same_word v word ≡ true))
@@ -347,26 +317,24 @@ module _ (n : ℕ) (fits : n ≤ 4611686018427387904) where
   others [] tag t = elim (cases_Bool (t == tag)) [ inl e ↦ rw e refl | inr e ↦ rw e refl ]
   others (l ∷ ls) tag t = elim (cases_Bool (l.number == tag)) [
     | inl e ↦ elim (cases_Bool (t == tag)) [
-      | inl k ↦ let more : knowns (filter (is_of t) (filter (λ l. not (is_of tag l)) ls)) ≡ [] = (rw k at (others ls tag t)) in rw (
+      | inl k ↦ let more = (rw k at (others ls tag t)) in rw (
         e,
         k,
       ) more
       | inr k ↦
-          let ne : (l.number == t) ≡ false = false_if (l.number == t) (λ q.
-          false_true (t == tag) k (eq-eqb t tag (sym (eqb-true l.number t q) ∙ eqb-true l.number tag e))) in
-          let more : knowns (filter (is_of t) (filter (λ l.
-          not (is_of tag l)) ls)) ≡ knowns (filter (is_of t) ls) = (rw k at (others ls tag t)) in
+          let ne = false_if _ (λ q.
+          false_true _ k (eq-eqb t tag (sym (eqb-true l.number t q) ∙ eqb-true l.number tag e))) in
+          let more = (rw k at (others ls tag t)) in
           rw (e, k, ne) more
     ]
-    | inr e ↦ elim (cases_Bool (t == tag)) [
+    | inr e ↦ elim (cases_Bool _) [
       | inl k ↦
-          let ne : (l.number == t) ≡ false = false_if (l.number == t) (λ q.
-          false_true (l.number == tag) e (eq-eqb l.number tag (eqb-true l.number t q ∙ eqb-true t tag k))) in
-          let more : knowns (filter (is_of t) (filter (λ l. not (is_of tag l)) ls)) ≡ [] = (rw k at (others ls tag t)) in
+          let ne = false_if _ (λ q.
+          false_true _ e (eq-eqb l.number tag (eqb-true l.number t q ∙ eqb-true t tag k))) in
+          let more = (rw k at (others ls tag t)) in
           rw (e, k, ne) more
       | inr k ↦
-          let more : knowns (filter (is_of t) (filter (λ l.
-          not (is_of tag l)) ls)) ≡ knowns (filter (is_of t) ls) = (rw k at (others ls tag t)) in
+          let more = (rw k at (others ls tag t)) in
           elim (cases_Bool (l.number == t)) [
             | inl q ↦ rw (e, k, q) (ap (λ ks. known l.owed ∷ ks) more)
             | inr q ↦ rw (e, k, q) more
@@ -378,8 +346,8 @@ module _ (n : ℕ) (fits : n ≤ 4611686018427387904) where
       → (g : Flat) × ((flat_run f (LoadResponse tag (seen_bytes (word_bytes word)) ∷ []) ≡ Some g)
       × Tells n (record { mem = s.mem; due = with_due s.due tag None }) g)
   value_taken s f h tag word may =
-      let o = owed_value (s.due tag) word may in
-      let right : flat_fault f (LoadResponse tag (seen_bytes (word_bytes word))) ≡ None = paid_word (filter (is_of tag) f.loads) o.0 word
+      let o = owed_value _ word may in
+      let right = paid_word _ o.0 word
       (h.due tag ∙ ap due_bytes o.1.0) o.1.1 in (
         flat_after f (LoadResponse tag (seen_bytes (word_bytes word))),
         (
@@ -387,8 +355,7 @@ module _ (n : ℕ) (fits : n ≤ 4611686018427387904) where
           record {
             size = h.size;
             words = h.words;
-            due = λ t. others f.loads tag t ∙ (ap (λ ks.
-                if t == tag then [] else ks) (h.due t) ∙ sym (due_cases (t == tag) true (s.due t) None));
+            due = λ t. others f.loads tag t ∙ (cc (h.due t, due_cases (t == tag) true (s.due t) None));
             no_stores = h.no_stores;
           },
         ),
@@ -426,16 +393,16 @@ module _ (n : ℕ) (fits : n ≤ 4611686018427387904) where
 
   pub run_append : (es more : List HistoryEvent) (f g : Flat) → flat_run f es ≡ Some g → flat_run f (es ++ more) ≡ flat_run g more
   run_append [] more f g h = let same : f ≡ g = cc in ap (λ x. flat_run x more) same
-  run_append (e ∷ es) more f g h = append_cases (flat_step f e) es more g h (λ x k. run_append es more x g k)
+  run_append (e ∷ es) more f g h = append_cases _ es more g h (λ x k. run_append es more x g k)
 
   run_from : (s : model.Flat) (f : Flat) (events : List Event) (answers : List Answer) → Tells n s f
       → IsTrue (is_some (model.flat_run s events answers)) → IsTrue (is_some (flat_run f (told_history events answers)))
   run_from s f [] answers h t = refl
   run_from s f (event ∷ events) [] h t = refl
   run_from s f (event ∷ events) (answer ∷ answers) h t =
-      let p = model_parts (may_answer s event answer) (model.flat_after s event answer) events answers t in
+      let p = model_parts _ _ events answers t in
       let r = told_step s f event answer h p.0 in
-      rw (run_append (told_events event answer) (told_history events answers) f r.0 r.1.0) (run_from (model.flat_after s event answer) r.0
+      rw (run_append _ _ f r.0 r.1.0) (run_from (model.flat_after s event answer) r.0
       events answers r.1.1 p.1)
 
 -- The image. ----
@@ -443,7 +410,7 @@ module _ (n : ℕ) (fits : n ≤ 4611686018427387904) where
 word_in : (ws : List Word) (at : ℕ) (l : Lane) → at < length ws
     → slice_get (image_bytes ws) (4 * at + place l) ≡ Some (byte (word_at ws at) l)
 word_in [] at l h = absurd (omega arith)
-word_in (w ∷ ws) zero l h = first_of w (image_bytes ws) l
+word_in (w ∷ ws) zero l h = first_of w _ l
 word_in (w ∷ ws) (suc at) l h = subst (λ k.
     slice_get (image_bytes (w ∷ ws)) k ≡ Some (byte (word_at ws at) l)) (shifted at (place l)) (word_in ws at l (omega arith))
 
@@ -457,7 +424,7 @@ first_tells rest image = record {
 
 pub run_is_flat : (rest : Rest) (image : List Word) (events : List Event) (answers : List Answer) → IsAddressable image
     → IsTrue (is_some (model.flat_run (model.opening image) events answers)) → IsFlat (image_bytes image) rest (told_history events answers)
-run_is_flat rest image events answers fits t = run_from (length image) fits (model.opening image) (flat.opening (image_bytes image) rest)
+run_is_flat rest image events answers fits t = run_from _ fits _ _
     events answers (first_tells rest image) t
 
 -- What the machine answers. ----
@@ -470,18 +437,18 @@ returned (StoreResponse number) = tt
 
 pub run_is_lawful : (image : List Word) (size : ℕ) (events : List Event) (answers : List Answer) → RunIsLawful image size events answers
 run_is_lawful image size events answers = λ fits t.
-    let history : List HistoryEvent = told_history events answers in
-    let flat_one : IsFlat (image_bytes image) Zeros history = run_is_flat Zeros image events answers fits t in
+    let history = told_history events answers in
+    let flat_one = run_is_flat Zeros image events answers fits t in
     record {
       flat = flat_one;
-      atomic = flat_is_atomic (image_bytes image) Zeros size history flat_one;
-      regular = flat_is_regular (image_bytes image) Zeros history (λ k d l. returned (get_or history k d)) flat_one;
+      atomic = flat_is_atomic _ Zeros size history flat_one;
+      regular = flat_is_regular _ Zeros history (λ k d l. returned _) flat_one;
     }
 
 pub machine_is_lawful : (z : Sizes) (image : List Word) (size : ℕ) (events : List Event) → MachineIsLawful z image size events
 machine_is_lawful z image size events = λ lawful long fits.
     let walk = walk_is_flat z image events lawful long in
-    let answers : List Answer = machine.told z (machine.opening z image) events in
-    let runs : IsTrue (is_some (model.flat_run (model.opening image) events answers)) =
+    let answers = machine.told z _ events in
+    let runs =
     ap is_some (ap (λ s. model.flat_run s events answers) (sym walk.opens) ∙ walk.runs) in
     run_is_lawful image size events answers fits runs

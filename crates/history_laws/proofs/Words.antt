@@ -1,10 +1,9 @@
 -- The places of a word, and the bytes of a store.
-use Rattle.std.proofs.Common.{◌≡◌, ℕ, zero, suc, ◌+◌, ◌-◌, ◌/◌, ◌%◌, ◌<◌, ◌≤◌, Bool, true, false, ◌&&◌, ◌||◌, ◌==◌, if◌then◌else◌, nat_le}
-use Rattle.std.proofs.Common.{List, [], ◌∷◌, map, length, Option, Some, None, slice_get, inl, inr, refl, sym, ap, ◌∙◌, subst, arith}
+use Rattle.std.proofs.Common.{◌≡◌, ℕ, zero, suc, ◌+◌, ◌-◌, ◌/◌, ◌%◌, ◌<◌, Bool, true, false, ◌&&◌, ◌||◌, ◌==◌, if◌then◌else◌}
+use Rattle.std.proofs.Common.{List, [], ◌∷◌, map, length, Option, Some, None, slice_get, inr, refl, sym, ap, ◌∙◌, subst, arith}
 use Rattle.std.specs.List.{list_any, range_with_len}
-use Rattle.std.specs.Int.{bit_at}
-use Rattle.std.proofs.lemmas.Bool.{cases_Bool, and_parts, and_from, lt-ltb, le-leb, leb-true}
-use Rattle.std.proofs.lemmas.Nat.Bits.{bit_at_lowest, bit_at-suc}
+use Rattle.std.proofs.lemmas.Bool.{and_parts, and_from, lt-ltb, leb-true}
+use Rattle.std.proofs.lemmas.Nat.Bits.{bit_at-suc}
 use Rattle.memory_histories.specs.declared.windows.StoreByte.{StoreByte}
 use Rattle.memory_histories.specs.Windows.{store_bytes, cons_if, is_open}
 use Rattle.memory_histories.specs.Regular.{has_enabled}
@@ -40,7 +39,7 @@ zero_plus j = omega arith
 pub lane_map : (g : ℕ → Option ℕ) (n i j : ℕ) → j < n → lane (map g (range_with_len i n)) j ≡ g (i + j)
 lane_map g zero i j h = absurd (omega arith)
 lane_map g (suc n) i zero h = ap g (omega arith)
-lane_map g (suc n) i (suc j) h = lane_map g n (i + 1) j (omega arith) ∙ ap g (omega arith)
+lane_map g (suc n) i (suc j) h = lane_map g n _ j (omega arith) ∙ ap g (omega arith)
 
 pub lane_unit : (unit : UnitPlace) (f : ℕ → Option ℕ) (j : ℕ) → j < unit.size → j < 8 → lane (at_unit unit f) j ≡ f (unit.first + j)
 lane_unit unit f j h l = lane_map (at_lane unit f) 8 0 j l ∙ (ap (at_lane unit f) (zero_plus j) ∙ rw (lt-ltb j unit.size h) refl)
@@ -49,7 +48,7 @@ pub word_lane : (first : ℕ) (ws : List (Option ℕ)) (a : ℕ) (bs : List ℕ)
     → is_as_it_stood (lane ws j) (byte_for a bs (first + j)) ≡ true
 unfolding is_word_of
 word_lane first [] a bs j h = refl
-word_lane first (w ∷ ws) a bs zero h = subst (λ x. is_as_it_stood w (byte_for a bs x) ≡ true) (omega arith) (and_parts _ _ h).0
+word_lane first (w ∷ ws) a bs zero h = grind arith
 word_lane first (w ∷ ws) a bs (suc j) h = subst (λ x.
     is_as_it_stood (lane ws j) (byte_for a bs x) ≡ true) (omega arith) (word_lane (first + 1) ws a bs j (and_parts _ _ h).1)
 
@@ -65,10 +64,10 @@ lane_word first (w ∷ ws) a bs h =
 -- The bytes of a store. ----
 
 enabled_none : (e k : ℕ) → enabled_byte [] e k ≡ None
-enabled_none e k = elim (cases_Bool (bit_at e k == 1)) [ inl h ↦ rw h refl | inr h ↦ rw h refl ]
+enabled_none e k = grind arith
 
 pub enabled_first : (b : ℕ) (bs : List ℕ) (e : ℕ) → enabled_byte (b ∷ bs) e 0 ≡ (if e % 2 == 1 then Some b else None)
-enabled_first b bs e = rw (bit_at_lowest e) refl
+enabled_first b bs e = grind arith
 
 pub enabled_next : (b : ℕ) (bs : List ℕ) (e k : ℕ) → enabled_byte (b ∷ bs) e (suc k) ≡ enabled_byte bs (e / 2) k
 enabled_next b bs e k = rw (bit_at-suc e k) refl
@@ -92,14 +91,12 @@ chosen false x b h = cc
 
 enabled_new : (n a : ℕ) (bs : List ℕ) (e t k b : ℕ) → enabled_byte bs e k ≡ Some b → One (λ s.
     s ≡ new_byte n (a + k) b t) (store_bytes n a bs e t)
-enabled_new n a [] e t k b h = let f : None ≡ Some b = sym (enabled_none e k) ∙ h in cc
-enabled_new n a (x ∷ bs) e t zero b h =
-    let c = chosen (e % 2 == 1) x b (sym (enabled_first x bs e) ∙ h) in
-    rw c.0 (inl (rw c.1 (ap (λ y. new_byte n y b t) (omega arith))))
+enabled_new n a [] e t k b h = grind arith
+enabled_new n a (x ∷ bs) e t zero b h = grind arith
 enabled_new n a (x ∷ bs) e t (suc k) b h =
-    one_cons_if (λ s. s ≡ new_byte n (a + suc k) b t) (e % 2 == 1) (new_byte n a x t) (store_bytes n (a + 1) bs (e / 2) t)
+    one_cons_if (λ s. s ≡ new_byte n _ b t) _ _ _
     (subst (λ y. One (λ s.
-    s ≡ new_byte n y b t) (store_bytes n (a + 1) bs (e / 2) t)) (omega arith) (enabled_new n (a + 1) bs (e / 2) t k b (sym (enabled_next
+    s ≡ new_byte n y b t) (store_bytes n (a + 1) bs (e / 2) t)) (omega arith) (enabled_new n (a + 1) bs _ t k b (sym (enabled_next
     x bs e k) ∙ h)))
 
 abbrev IsEnabled : ℕ → ℕ → List ℕ → ℕ → ℕ → StoreByte → Type 0
@@ -109,10 +106,10 @@ IsEnabled n a bs e t s = (s.number ≡ n) × ((s.ended ≡ None) × ((s.began �
 each_enabled : (n a : ℕ) (bs : List ℕ) (e t : ℕ) → Each (IsEnabled n a bs e t) (store_bytes n a bs e t)
 each_enabled n a [] e t = tt
 each_enabled n a (x ∷ bs) e t =
-    each_cons_if (IsEnabled n a (x ∷ bs) e t) (e % 2 == 1) (new_byte n a x t) (store_bytes n (a + 1) bs (e / 2) t)
+    each_cons_if _ _ _ _
     (λ c. (refl, (refl, (refl, (0, (omega arith, enabled_first x bs e ∙ rw c refl))))))
-    (each_weaker (IsEnabled n (a + 1) bs (e / 2) t) (IsEnabled n a (x ∷ bs) e t)
-    (λ s h. let p : s.address ≡ a + 1 + h.1.1.1.0 = h.1.1.1.1.0 in (
+    (each_weaker _ _
+    (λ s h. let p = h.1.1.1.1.0 in (
       h.0,
       (
         h.1.0,
@@ -127,13 +124,10 @@ each_enabled n a (x ∷ bs) e t =
           ),
         ),
       ),
-    )) (store_bytes n (a + 1) bs (e / 2) t) (each_enabled n (a + 1) bs (e / 2) t))
+    )) _ (each_enabled n (a + 1) bs (e / 2) t))
 
 pub stored_inside : (a : ℕ) (bs : List ℕ) (e k : ℕ) → stored_byte a bs e (a + k) ≡ enabled_byte bs e k
-stored_inside a bs e k =
-    let l : a ≤ a + k = omega arith in
-    let s : a + k - a ≡ k = omega arith in
-    rw (le-leb a (a + k) l) (ap (enabled_byte bs e) s)
+stored_inside a bs e k = grind arith
 
 below : (c : Bool) (o : Option ℕ) (b : ℕ) → (if c then o else None) ≡ Some b → (c ≡ true) × (o ≡ Some b)
 below true o b h = (refl, h)
@@ -142,30 +136,14 @@ below false o b h = cc
 -- a byte that a store writes at an address is one of its bytes
 pub stored_new : (n a : ℕ) (bs : List ℕ) (e t at b : ℕ) → stored_byte a bs e at ≡ Some b → One (λ s.
     s ≡ new_byte n at b t) (store_bytes n a bs e t)
-stored_new n a bs e t at b h =
-    let p = below (nat_le a at) (enabled_byte bs e (at - a)) b h in
-    let l : a ≤ at = leb-true a at p.0 in
-    let s : a + (at - a) ≡ at = omega arith in
-    subst (λ y. One (λ s. s ≡ new_byte n y b t) (store_bytes n a bs e t)) s (enabled_new n a bs e t (at - a) b p.1)
+stored_new n a bs e t at b h = grind (arith, below, leb-true, enabled_new)
 
 -- and each of its bytes is one that it writes
 abbrev pub IsNewByte : ℕ → ℕ → List ℕ → ℕ → ℕ → StoreByte → Type 0
 IsNewByte n a bs e t s = (s.number ≡ n) × ((s.ended ≡ None) × ((s.began ≡ t) × (stored_byte a bs e s.address ≡ Some s.byte)))
 
 pub each_new : (n a : ℕ) (bs : List ℕ) (e t : ℕ) → Each (IsNewByte n a bs e t) (store_bytes n a bs e t)
-each_new n a bs e t =
-    each_weaker (IsEnabled n a bs e t) (IsNewByte n a bs e t)
-    (λ s h. (
-      h.0,
-      (
-        h.1.0,
-        (
-          h.1.1.0,
-          ap (stored_byte a bs e) h.1.1.1.1.0 ∙ (stored_inside a bs e h.1.1.1.0 ∙ h.1.1.1.1.1),
-        ),
-      ),
-    )) (store_bytes n a bs e t) (each_enabled n a
-    bs e t)
+each_new n a bs e t = grind (arith, each_weaker, stored_inside, each_enabled)
 
 and_false_or : (x y : Bool) → (x || (y && x)) ≡ x
 and_false_or true y = refl
@@ -174,17 +152,14 @@ and_false_or false false = refl
 
 any_new_if : (c r x : Bool) (n m : ℕ) (s : StoreByte) (ss : List StoreByte) → is_open m s ≡ x → list_any (is_open m) ss ≡ (r && x)
     → list_any (is_open m) (cons_if c s ss) ≡ ((c || r) && x)
-any_new_if true r x n m s ss p h = rw (p, h) (and_false_or x r)
+any_new_if true r x n m s ss p h = grind arith
 any_new_if false r x n m s ss p h = h
 
 pub any_new : (n a : ℕ) (bs : List ℕ) (e t m : ℕ) → list_any (is_open m) (store_bytes n a bs e t) ≡ (has_enabled bs e && (n == m))
 any_new n a [] e t m = refl
 any_new n a (x ∷ bs) e t m =
-    any_new_if (e % 2 == 1) (has_enabled bs (e / 2)) (n == m) n m (new_byte n a x t) (store_bytes n (a + 1) bs (e / 2) t) refl (any_new n (a
+    any_new_if _ _ (n == m) n m (new_byte n a x t) (store_bytes n (a + 1) bs (e / 2) t) refl (any_new n (a
     + 1) bs (e / 2) t m)
 
 pub byte_inside : (a : ℕ) (bs : List ℕ) (i : ℕ) → byte_for a bs (a + i) ≡ slice_get bs i
-byte_inside a bs i =
-    let l : a ≤ a + i = omega arith in
-    let s : a + i - a ≡ i = omega arith in
-    rw (le-leb a (a + i) l) (ap (slice_get bs) s)
+byte_inside a bs i = grind arith

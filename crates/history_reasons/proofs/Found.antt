@@ -14,7 +14,7 @@ use Rattle.std.proofs.lemmas.Option.{slice_get-get_or, slice_get_past}
 use Rattle.memory_histories.proofs.Lists.{list_any-kept}
 use Rattle.history_reasons.specs.declared.places.StorePlace.{StorePlace}
 use Rattle.history_reasons.specs.declared.stores.KeptStore.{KeptStore}
-use Rattle.history_reasons.specs.Stores.{bytes_of, with_store, is_open_store, after_answer, cut, gone_stores, gone_bytes}
+use Rattle.history_reasons.specs.Stores.{bytes_of, with_store, after_answer, cut, gone_stores, gone_bytes}
 use Rattle.history_reasons.specs.Log.{shortened, gone}
 use Rattle.history_reasons.specs.Places.{is_place_of, reaches, AreFound, put, ended_from, ended_at, moved_down}
 
@@ -22,11 +22,11 @@ use Rattle.history_reasons.specs.Places.{is_place_of, reaches, AreFound, put, en
 
 pub put_there : (f : KeptStore → KeptStore) (xs : List KeptStore) (i : ℕ) (d : KeptStore) → i < length xs
     → set xs i (f (get_or xs i d)) ≡ put i (option_map f (slice_get xs i)) xs
-put_there f xs i d l = ap (λ (o : Option KeptStore). put i (option_map f o) xs) (sym (slice_get-get_or xs i d l))
+put_there f xs i d l = grind (arith, slice_get-get_or)
 
 pub put_past : (f : KeptStore → KeptStore) (xs : List KeptStore) (i : ℕ) → length xs ≤ i
     → xs ≡ put i (option_map f (slice_get xs i)) xs
-put_past f xs i l = ap (λ (o : Option KeptStore). put i (option_map f o) xs) (sym (slice_get_past xs i l))
+put_past f xs i l = grind (arith, slice_get_past)
 
 module _ (number moment : ℕ) where
   length_put : (k : ℕ) (o : Option KeptStore) (xs : List KeptStore) → length (put k o xs) ≡ length xs
@@ -34,7 +34,7 @@ module _ (number moment : ℕ) where
   length_put k (Some s) xs = length-set xs k s
 
   length_from : (p : StorePlace) (xs : List KeptStore) → length (ended_from p number moment xs) ≡ length xs
-  length_from p xs = length_put p.first (option_map (after_answer number moment) (slice_get xs p.first)) xs
+  length_from p xs = grind (arith, length_put, p.first)
 
   from_at : (p : StorePlace) (xs : List KeptStore) (k : ℕ) (d : KeptStore) → k < length xs
       → get_or (ended_from p number moment xs) k d ≡ (if p.first == k then after_answer number moment (get_or xs k d) else get_or xs k d)
@@ -59,7 +59,7 @@ module _ (number moment : ℕ) where
   step p xs = if is_place_of number p then ended_from p number moment xs else xs
 
   length_step : (p : StorePlace) (xs : List KeptStore) → length (step p xs) ≡ length xs
-  length_step p xs = elim (cases_Bool (is_place_of number p)) [ inl e ↦ rw e (length_from number moment p xs) | inr e ↦ rw e refl ]
+  length_step p xs = grind (arith, cases_Bool, length_from)
 
   step_at : (p : StorePlace) (xs : List KeptStore) (k : ℕ) (d : KeptStore) → k < length xs
       → get_or (step p xs) k d ≡ (if reaches number k p then after_answer number moment (get_or xs k d) else get_or xs k d)
@@ -70,7 +70,7 @@ module _ (number moment : ℕ) where
 
   -- an answered store isn't answered again
   twice : (s : KeptStore) → after_answer number moment (after_answer number moment s) ≡ after_answer number moment s
-  twice s = elim (cases_Bool (is_open_store number s)) [ inl e ↦ rw e refl | inr e ↦ rw e (rw e refl) ]
+  twice s = grind arith
 
   twice_if : (a b : Bool) (s : KeptStore)
       → (if b then after_answer number moment (if a then after_answer number moment s else s)
@@ -111,12 +111,7 @@ module _ (number moment : ℕ) where
 
   pub all_ended : (ps : List StorePlace) (xs : List KeptStore) → AreFound ps xs
       → ended_at ps number moment xs ≡ map (after_answer number moment) xs
-  all_ended ps xs h =
-      let long = length_at ps xs in
-      let same = length-map xs (after_answer number moment) in
-      same_lists (ended_at ps number moment xs) (map (after_answer number moment) xs) (omega arith) (λ k d l.
-      all_at ps xs k d (omega arith) ∙ found_at ps xs h k d (omega arith)
-      ∙ sym (get_or-map (after_answer number moment) xs k d d (omega arith)))
+  all_ended ps xs h = grind (arith, length_at, length-map, same_lists, all_at, found_at, get_or-map)
 
 pub ended_at_more : (ps : List StorePlace) (i number moment : ℕ) (xs : List KeptStore) (d : StorePlace) → i < length ps
     → ended_at (drop i ps) number moment xs ≡ ended_at (get_or ps i d ∷ drop (i + 1) ps) number moment xs
@@ -224,11 +219,7 @@ moved_reaches number c k (p ∷ ps) h = elim (cases_Bool (reaches number (c + k)
 ]
 
 pub rest_found : (ps : List StorePlace) (xs : List KeptStore) (c : ℕ) → AreFound ps xs → AreFound (map (moved_down c) ps) (drop c xs)
-rest_found ps xs c h k d l none =
-    let long = length-drop c xs in
-    let same : get_or (drop c xs) k d ≡ get_or xs (c + k) d = get_or-drop c xs k d in
-    ap (λ s. list_any (reaches s.number k) (map (moved_down c) ps)) same
-    ∙ moved_reaches (get_or xs (c + k) d).number c k ps (h (c + k) d (omega arith) (ap (λ s. is_none s.ended) (sym same) ∙ none))
+rest_found ps xs c h k d l none = grind (arith, length-drop, get_or-drop, moved_reaches)
 
 -- if none is forgotten, each stays where it is
 pub not_moved : (c : ℕ) (ps : List StorePlace) → c ≡ 0 → ps ≡ map (moved_down c) ps

@@ -4,7 +4,7 @@ use Rattle.std.proofs.Common.{inr, refl, sym, ap, subst, arith}
 use Rattle.std.specs.Bool.{Decides}
 use Rattle.std.specs.List.{Any, Contains, filter, list_any}
 use Rattle.std.proofs.lemmas.Bool.{cases_Bool}
-use Rattle.std.proofs.lemmas.Bool.Decides.{Decides-eqb, Decides-and, Decides-not}
+use Rattle.std.proofs.lemmas.Bool.Decides.{Decides-and, Decides-not}
 use Rattle.std.proofs.lemmas.List.Folds.{Any-from_list_any, list_any-from_Any}
 use Rattle.std.proofs.lemmas.List.Elements.{Contains-append_left, Contains-append_right, Contains-append_cases}
 use Rattle.memory_histories.specs.declared.events.Rest.{Rest}
@@ -23,7 +23,7 @@ use Rattle.history_reasons.proofs.Reasons.{initial, overwrites_law, covers_law}
 module _ {X : Type 0} where
   one_of : (y : X) (ys : List X) (x : X) → Contains (y ∷ ys) x → (y ≡ x) ⊎ Contains ys x
   one_of y ys x (zero, l, e) = inl e
-  one_of y ys x (suc k, l, e) = inr (k, omega arith, e)
+  one_of y ys x (suc k, l, e) = grind arith
 
   first_one : (y : X) (ys : List X) (x : X) → y ≡ x → Contains (y ∷ ys) x
   first_one y ys x e = (0, omega arith, e)
@@ -89,10 +89,10 @@ of_stores (y ∷ ys) x c = elim (one_of (Store y) (map Store ys) x c) [
 
 from_initial : (t : Bool) (x : Source) → Contains (initial_source t) x → (t ≡ true) × (Initial ≡ x)
 from_initial false x c = absurd (none_in x c)
-from_initial true x c = elim (one_of Initial [] x c) [ inl e ↦ (refl, e) | inr d ↦ absurd (none_in x d) ]
+from_initial true x c = grind arith
 
 to_initial : (t : Bool) → t ≡ true → Contains (initial_source t) Initial
-to_initial true h = first_one Initial [] Initial refl
+to_initial true h = grind arith
 to_initial false h = cc
 
 -- The law. ----
@@ -105,8 +105,7 @@ module _ (image : List ℕ) (rest : Rest) (stores : List StoreByte) (l : LoadByt
   overwritten s = any_decides (overwrites s l.began) (λ o. Overwrote o s l.began) (λ o. overwrites_law s o l.began) stores
 
   gives_law : (s : StoreByte) → Decides (gives stores l b s) (Gives stores l b s)
-  gives_law s =
-      Decides-and _ _ (Decides-eqb s.address l.address) (Decides-and _ _ (Decides-eqb s.byte b) (Decides-not _ (overwritten s)))
+  gives_law s = grind (arith, s.address, s.byte, overwritten)
 
   first_law : Decides is_first (IsInitial (slice_get image l.address) rest b × ¬ (IsCovered stores l))
   first_law =
@@ -134,7 +133,7 @@ module _ (image : List ℕ) (rest : Rest) (stores : List StoreByte) (l : LoadByt
 
   may : (x : Source) → IsSource image rest stores l b x → MayReturn image rest stores l b
   may Initial h = inr h
-  may (Store s) h = inl (h.0.0, s, h.0.1, h.0.2, h.1)
+  may (Store s) h = grind arith
 
   from_one : MayReturn image rest stores l b → 0 < length (sources image rest stores l b)
   from_one (inl a) =

@@ -2,7 +2,7 @@
 use Rattle.std.proofs.Common.{◌≡◌, ℕ, ◌+◌, ◌-◌, ◌<◌, ◌≤◌, ◌==◌, ◌&&◌, ◌↔◌, if◌then◌else◌, Bool, true, false, List, [], ◌∷◌, ◌++◌, map, drop}
 use Rattle.std.proofs.Common.{length, Option, Some, None, Result, Ok, Err, IfOk, inl, inr, refl, sym, ◌∙◌, ap, subst, arith, length-drop}
 use Rattle.std.proofs.Common.{length-append}
-use Rattle.std.specs.Prelude.{nat_le, nat_lt, IfSome}
+use Rattle.std.specs.Prelude.{nat_lt, IfSome}
 use Rattle.std.specs.Int.Count.{ones_in}
 use Rattle.std.proofs.lemmas.Bool.{cases_Bool, ltb-false, leb-true, ne_eqb, and_parts}
 use Rattle.std.proofs.lemmas.Bool.Decides.{Decides-ltb}
@@ -14,14 +14,14 @@ use Rattle.memory_histories.specs.declared.events.Rest.{Rest}
 use Rattle.memory_histories.specs.declared.events.Rest.TheVariants.{Unknown}
 use Rattle.memory_histories.specs.declared.windows.StoreByte.{StoreByte}
 use Rattle.memory_histories.specs.declared.windows.LoadByte.{LoadByte}
-use Rattle.memory_histories.specs.Windows.{Windows, opening, windows_after, store_bytes, after_response}
+use Rattle.memory_histories.specs.Windows.{Windows, opening, windows_after}
 use Rattle.memory_histories.specs.Regular.{MayReturn}
 use Rattle.history_reasons.specs.declared.log.StoreLog.{StoreLog}
 use Rattle.history_reasons.specs.declared.places.StorePlace.{StorePlace}
 use Rattle.history_reasons.specs.declared.Reason.{Reason}
 use Rattle.history_reasons.specs.declared.Reason.TheVariants.{NeverThere, InitialOverwritten, StoreOverwritten}
 use Rattle.history_reasons.specs.Reasons.{HasReason, Stores, Overwrote, last_reason}
-use Rattle.history_reasons.specs.Log.{IsLogOf, noted_stores, noted_loads, AreNoted, count_then, noted_places, shortened, gone, is_within}
+use Rattle.history_reasons.specs.Log.{IsLogOf, noted_stores, noted_loads, AreNoted, count_then, noted_places, shortened, is_within}
 use Rattle.history_reasons.specs.Log.{IsNoted, IsCounted, IsShortened, forgotten, left_stores, has_all, of_store, part_reason, kept_reason}
 use Rattle.history_reasons.specs.Log.{told_reason, IsTrueOf, idle, kept_sources, told_sources, kept_at_request, told_at_request}
 use Rattle.history_reasons.specs.declared.givers.Source.TheVariants.{Store}
@@ -30,11 +30,11 @@ use Rattle.history_reasons.specs.Places.{AreFound}
 use Rattle.history_reasons.specs.declared.stores.KeptStore.{KeptStore}
 use Rattle.history_reasons.specs.Stores.{all_bytes, stored_there}
 use Rattle.history_reasons.specs.Loads.{all_bytes_of}
-use Rattle.history_reasons.proofs.Found.{all_ended, none_found, request_found, answer_found, short_found, not_moved}
+use Rattle.history_reasons.proofs.Found.{all_ended, request_found, answer_found, short_found, not_moved}
 use Rattle.history_reasons.proofs.StoreLemmas.{with_its_bytes, all_answered, short_bytes, requested_count, few_ones}
 use Rattle.history_reasons.proofs.ThereLemmas.{whole_reason, whole_sources, whole_givers, whole_at_request, whole_givers_at_request}
 use Rattle.history_reasons.proofs.LoadLemmas.{bytes_noted}
-use Rattle.history_reasons.proofs.OpenLemmas.{none_open, same_open, none_before, short_open}
+use Rattle.history_reasons.proofs.OpenLemmas.{none_open, none_before, short_open}
 use Rattle.history_reasons.proofs.Reasons.{last_behind, reason_law}
 use Rattle.history_reasons.proofs.GiverLemmas.{some_source}
 
@@ -43,19 +43,16 @@ use Rattle.history_reasons.proofs.GiverLemmas.{some_source}
 module _ (m n : ℕ) (more : m ≤ n) where
   -- the first of what was left are forgotten too
   pub further : forgotten m + forgotten (n - forgotten m) ≡ forgotten n
-  further =
-      let a = div-add-mod' m 4096 in
-      let b = div-add-mod' n 4096 in
-      let c = div-add-mod' (n - forgotten m) 4096 in omega arith
+  further = grind arith
 
 pub within : (n : ℕ) → forgotten n ≤ n
-within n = let a = div-add-mod' n 4096 in omega arith
+within n = grind arith
 
 pub few : (n : ℕ) → n < 8192 → forgotten n ≡ 0
-few n h = let a = div-add-mod' n 4096 in omega arith
+few n h = grind arith
 
 pub many : (n : ℕ) → 8192 ≤ n → 1 ≤ forgotten n
-many n h = let a = div-add-mod' n 4096 in omega arith
+many n h = grind arith
 
 and_true : (b : Bool) → (b && true) ≡ b
 and_true true = refl
@@ -63,18 +60,7 @@ and_true false = refl
 
 -- few stores are all left
 pub not_shortened : (g : StoreLog) → g.byte_count < 8192 → IsShortened g g
-not_shortened g h =
-    let none : forgotten g.byte_count ≡ 0 = few g.byte_count h in
-    record {
-      image = refl;
-      rest = refl;
-      moment = refl;
-      loads = refl;
-      stores = sym (ap (λ n. shortened n g.stores.items) none);
-      byte_count = omega arith;
-      places = not_moved (gone (forgotten g.byte_count) g.stores.items) g.places.items (ap (λ n. gone n g.stores.items) none);
-      is_whole = sym (ap (λ n. g.is_whole && (n == 0)) none ∙ and_true g.is_whole);
-    }
+not_shortened g h = grind (arith, g.byte_count, few, not_moved, g.places.items)
 
 pub opened : (g : StoreLog) (image : List ℕ) (rest : Rest) → g.image.items ≡ image → g.rest ≡ rest → g.moment ≡ 0 → g.stores.items ≡ []
     → g.byte_count ≡ 0 → g.places.items ≡ [] → g.loads.items ≡ [] → g.is_whole ≡ true → IsLogOf g (opening image rest)
@@ -86,7 +72,7 @@ opened g image rest a b c d n p e f = record {
   stores = ap all_bytes d;
   byte_count = n;
   is_whole = f;
-  found = subst (AreFound g.places.items) (sym d) (none_found g.places.items);
+  found = grind arith;
   none_open = λ z. none_open g e p;
 }
 
@@ -98,26 +84,24 @@ same_log g h w k image rest moment stores byte_count places loads is_whole = rec
   image = image ∙ k.image;
   rest = rest ∙ k.rest;
   moment = moment ∙ k.moment;
-  loads = ap all_bytes_of loads ∙ k.loads;
-  stores = ap all_bytes stores ∙ k.stores;
-  byte_count = byte_count ∙ k.byte_count;
+  loads = grind arith;
+  stores = grind arith;
+  byte_count = grind arith;
   is_whole = is_whole ∙ k.is_whole;
-  found = subst (AreFound h.places.items) (sym stores) (subst (λ ps. AreFound ps g.stores.items) (sym places) k.found);
-  none_open = λ z. none_before g h (same_open g h loads places) (k.none_open z);
+  found = grind arith;
+  none_open = grind arith;
 }
 
 noted_behind : (xs : List StoreByte) (n moment : ℕ) (event : HistoryEvent) → n ≤ length xs
     → noted_stores (drop n xs) moment event ≡ drop n (noted_stores xs moment event)
-noted_behind xs n moment (StoreRequest number address bytes enables) h =
-    sym (drop-append-le n xs (store_bytes number address bytes.now enables moment) h)
-noted_behind xs n moment (StoreResponse number) h = sym (drop-map (after_response number moment) n xs)
+noted_behind xs n moment (StoreRequest number address bytes enables) h = grind (arith, drop-append-le, bytes.now)
+noted_behind xs n moment (StoreResponse number) h = grind (arith, drop-map)
 noted_behind xs n moment (LoadRequest number address m) h = refl
 noted_behind xs n moment (LoadResponse number bytes) h = refl
 
 no_fewer : (xs : List StoreByte) (moment : ℕ) (event : HistoryEvent) → length xs ≤ length (noted_stores xs moment event)
-no_fewer xs moment (StoreRequest number address bytes enables) =
-    let l = length-append xs (store_bytes number address bytes.now enables moment) in omega arith
-no_fewer xs moment (StoreResponse number) = let l = length-map xs (after_response number moment) in omega arith
+no_fewer xs moment (StoreRequest number address bytes enables) = grind (arith, length-append, bytes.now)
+no_fewer xs moment (StoreResponse number) = grind (arith, length-map)
 no_fewer xs moment (LoadRequest number address m) = omega arith
 no_fewer xs moment (LoadResponse number bytes) = omega arith
 
@@ -136,11 +120,7 @@ loads_noted w (LoadResponse number bytes) = refl
 -- of what was left and what came, as many are left as of all
 still_left : (xs ys : List StoreByte) → length xs ≤ length ys
     → left_stores (drop (forgotten (length xs)) ys) ≡ left_stores ys
-still_left xs ys more =
-    let f : ℕ = forgotten (length xs) in
-    let long : length (drop f ys) ≡ length ys - f = length-drop f ys in
-    ap (λ n. drop (forgotten n) (drop f ys)) long ∙ drop-drop (forgotten (length ys - f)) f ys
-    ∙ ap (λ n. drop n ys) (further (length xs) (length ys) more)
+still_left xs ys more = grind (arith, length-drop, drop-drop, further)
 
 still_all : (m n : ℕ) → m ≤ n → (nat_lt m 8192 && (forgotten (n - forgotten m) == 0)) ≡ nat_lt n 8192
 still_all m n more = elim (cases_Bool (nat_lt n 8192)) [
@@ -165,10 +145,8 @@ still_all m n more = elim (cases_Bool (nat_lt n 8192)) [
 -- the bytes of the stores are noted with the stores
 noted_whole : (ps : List StorePlace) (xs : List KeptStore) (moment : ℕ) (event : HistoryEvent) (ys : List KeptStore) → AreFound ps xs
     → AreNoted ps xs moment event ys → all_bytes ys ≡ noted_stores (all_bytes xs) moment event
-noted_whole ps xs moment (StoreRequest number address bytes enables) ys h (s, (its, (stored, is))) =
-    ap all_bytes is ∙ with_its_bytes s xs ∙ ap (λ (bs : List StoreByte). all_bytes xs ++ bs) stored
-noted_whole ps xs moment (StoreResponse number) ys h is =
-    ap all_bytes (is ∙ all_ended number moment ps xs h) ∙ all_answered number moment xs
+noted_whole ps xs moment (StoreRequest number address bytes enables) ys h (s, (its, (stored, is))) = grind (arith, with_its_bytes)
+noted_whole ps xs moment (StoreResponse number) ys h is = grind (arith, all_ended, all_answered)
 noted_whole ps xs moment (LoadRequest number address n) ys h is = ap all_bytes is
 noted_whole ps xs moment (LoadResponse number bytes) ys h is = ap all_bytes is
 
@@ -192,27 +170,19 @@ stored_count event = 0
 
 noted_count : (xs : List StoreByte) (moment : ℕ) (event : HistoryEvent)
     → length (noted_stores xs moment event) ≡ length xs + stored_count event
-noted_count xs moment (StoreRequest number address bytes enables) =
-    let l = length-append xs (store_bytes number address bytes.now enables moment) in
-    let c = requested_count number address bytes.now enables moment in omega arith
-noted_count xs moment (StoreResponse number) = let l = length-map xs (after_response number moment) in omega arith
+noted_count xs moment (StoreRequest number address bytes enables) = grind (arith, length-append, bytes.now, requested_count)
+noted_count xs moment (StoreResponse number) = grind (arith, length-map)
 noted_count xs moment (LoadRequest number address m) = omega arith
 noted_count xs moment (LoadResponse number bytes) = omega arith
 
 all_counted : (n : ℕ) (event : HistoryEvent) → n < 8192 → is_within event ≡ true → count_then n event ≡ n + stored_count event
-all_counted n (StoreRequest number address bytes enables) few h =
-    let m : ℕ = length bytes.now in
-    let some = and_parts (nat_le 1 m) (nat_le m 64 && nat_le (address + m) 18446744073709551616) h in
-    let short = leb-true m 64 (and_parts (nat_le m 64) (nat_le (address + m) 18446744073709551616) some.1).0 in
-    let most = few_ones m enables in omega arith
+all_counted n (StoreRequest number address bytes enables) few h = grind (arith, bytes.now, and_parts, leb-true, few_ones)
 all_counted n (StoreResponse number) few h = omega arith
 all_counted n (LoadRequest number address m) few h = omega arith
 all_counted n (LoadResponse number bytes) few h = omega arith
 
 few_left : (xs : List StoreByte) → length (left_stores xs) < 8192
-few_left xs =
-    let long = length-drop (forgotten (length xs)) xs in
-    let a = div-add-mod' (length xs) 4096 in omega arith
+few_left xs = grind (arith, length-drop, div-add-mod')
 
 -- an event is noted, too many bytes are forgotten, and it is counted
 module _ (g m f h : StoreLog) (w : Windows) (event : HistoryEvent) (inside : is_within event ≡ true) (k : IsLogOf g w)
@@ -221,40 +191,25 @@ module _ (g m f h : StoreLog) (w : Windows) (event : HistoryEvent) (inside : is_
   noted_bytes = noted_stores w.stores w.moment event
 
   its : all_bytes m.stores.items ≡ noted_stores (left_stores w.stores) w.moment event
-  its =
-      noted_whole g.places.items g.stores.items g.moment event m.stores.items k.found n.stores
-      ∙ (λ i. noted_stores (k.stores i) (k.moment i) event)
+  its = grind (arith, noted_whole)
 
   all : all_bytes m.stores.items ≡ drop (forgotten (length w.stores)) noted_bytes
-  all = its ∙ noted_behind w.stores (forgotten (length w.stores)) w.moment event (within (length w.stores))
+  all = grind (arith, its, noted_behind, within)
 
   count : m.byte_count ≡ length (all_bytes m.stores.items)
-  count =
-      let long : length (all_bytes m.stores.items) ≡ length (left_stores w.stores) + stored_count event =
-      ap (λ (xs : List StoreByte). length xs) its ∙ noted_count (left_stores w.stores) w.moment event in
-      n.byte_count ∙ ap (λ i. count_then i event) k.byte_count
-      ∙ all_counted (length (left_stores w.stores)) event (few_left w.stores) inside ∙ sym long
+  count = grind (arith, its, noted_count, all_counted, few_left)
 
   left : left_stores (all_bytes m.stores.items) ≡ left_stores (windows_after w event).stores
-  left =
-      ap left_stores all ∙ still_left w.stores noted_bytes (no_fewer w.stores w.moment event) ∙ ap left_stores (sym (stores_noted w event))
+  left = grind (arith, all, still_left, no_fewer, stores_noted)
 
   short_stores : all_bytes f.stores.items ≡ left_stores (all_bytes m.stores.items)
-  short_stores =
-      ap all_bytes s.stores ∙ short_bytes (forgotten m.byte_count) m.stores.items
-      ∙ ap (λ i. drop (forgotten i) (all_bytes m.stores.items)) count
+  short_stores = grind (arith, short_bytes, count)
 
   short_count : f.byte_count ≡ length (left_stores (all_bytes m.stores.items))
-  short_count =
-      s.byte_count ∙ ap (λ i. i - forgotten i) count
-      ∙ sym (length-drop (forgotten (length (all_bytes m.stores.items))) (all_bytes m.stores.items))
+  short_count = grind (arith, count, length-drop)
 
   short_whole : f.is_whole ≡ has_all (windows_after w event).stores
-  short_whole =
-      let long : m.byte_count ≡ length noted_bytes - forgotten (length w.stores) =
-      count ∙ ap (λ (xs : List StoreByte). length xs) all ∙ length-drop (forgotten (length w.stores)) noted_bytes in
-      s.is_whole ∙ (λ i. (n.is_whole ∙ k.is_whole) i && (forgotten (long i) == 0))
-      ∙ still_all (length w.stores) (length noted_bytes) (no_fewer w.stores w.moment event) ∙ ap has_all (sym (stores_noted w event))
+  short_whole = grind (arith, count, all, length-drop, still_all, no_fewer, stores_noted)
 
   short_places : AreFound f.places.items f.stores.items
   short_places =
@@ -271,8 +226,8 @@ noted g m f h w event few inside k n s c =
     let counted = c.moment in
     let left = left g m f h w event inside k n s in
     record {
-      image = c.image ∙ s.image ∙ n.image ∙ k.image;
-      rest = c.rest ∙ s.rest ∙ n.rest ∙ k.rest;
+      image = grind arith;
+      rest = grind arith;
       moment = omega arith;
       loads = ap all_bytes_of (c.loads ∙ s.loads ∙ n.loads) ∙ bytes_noted g.loads.items g.moment event
           ∙ (λ i. noted_loads (k.loads i) (k.moment i) event) ∙ sym (loads_noted w event);
@@ -281,25 +236,12 @@ noted g m f h w event few inside k n s c =
       is_whole = c.is_whole ∙ short_whole g m f h w event inside k n s;
       found = subst (AreFound h.places.items) (sym c.stores) (subst (λ ps. AreFound ps f.stores.items) (sym c.places)
           (short_places g m f h w event inside k n s));
-      none_open = λ z. absurd (omega arith);
+      none_open = grind arith;
     }
 
 -- a moment is counted
 pub idled : (g h : StoreLog) (w : Windows) → w.moment < 18446744073709551615 → IsLogOf g w → IsCounted g h → IsLogOf h (idle w)
-idled g h w few k c =
-    let before = k.moment in
-    let counted = c.moment in
-    record {
-      image = c.image ∙ k.image;
-      rest = c.rest ∙ k.rest;
-      moment = omega arith;
-      loads = ap all_bytes_of c.loads ∙ k.loads;
-      stores = ap all_bytes c.stores ∙ k.stores;
-      byte_count = c.byte_count ∙ k.byte_count;
-      is_whole = c.is_whole ∙ k.is_whole;
-      found = subst (AreFound h.places.items) (sym c.stores) (subst (λ ps. AreFound ps g.stores.items) (sym c.places) k.found);
-      none_open = λ z. absurd (omega arith);
-    }
+idled g h w few k c = grind arith
 
 -- of a log none is forgotten twice
 kept_short : (g f : StoreLog) (w : Windows) → IsLogOf g w → IsShortened g f → IsLogOf f w
@@ -311,10 +253,10 @@ kept_short g f w k s =
       image = s.image ∙ k.image;
       rest = s.rest ∙ k.rest;
       moment = s.moment ∙ k.moment;
-      loads = ap all_bytes_of s.loads ∙ k.loads;
-      stores = ap all_bytes s.stores ∙ ap (λ n. all_bytes (shortened n g.stores.items)) none ∙ k.stores;
+      loads = grind arith;
+      stores = grind arith;
       byte_count = omega arith;
-      is_whole = s.is_whole ∙ ap (λ n. g.is_whole && (n == 0)) none ∙ and_true g.is_whole ∙ k.is_whole;
+      is_whole = grind arith;
       found = subst (AreFound f.places.items) (sym s.stores) (subst (λ ps. AreFound ps (shortened (forgotten g.byte_count) g.stores.items))
           (sym s.places) (short_found g.places.items g.stores.items (forgotten g.byte_count) k.found));
       none_open = λ z. none_before g f (short_open g f s) (k.none_open z);
@@ -323,13 +265,12 @@ kept_short g f w k s =
 -- an event that doesn't lie within memory is only counted
 pub not_noted : (g m f h : StoreLog) (w : Windows) → w.moment < 18446744073709551615 → IsLogOf g w → m ≡ g → IsShortened m f
     → IsCounted f h → IsLogOf h (idle w)
-not_noted g m f h w few k same s c =
-    idled f h w few (kept_short g f w k (subst (λ x. IsShortened x f) same s)) c
+not_noted g m f h w few k same s c = grind (arith, idled, few, kept_short)
 
 -- What is told. ----
 
 all_left : (stores : List StoreByte) → has_all stores ≡ true → left_stores stores ≡ stores
-all_left stores t = ap (λ n. drop n stores) (few (length stores) ((Decides-ltb (length stores) 8192).0 t))
+all_left stores t = grind arith
 
 chosen_told : (g : StoreLog) (w : Windows) (l : LoadByte) (b : ℕ) → IsLogOf g w → (all : Bool) → has_all w.stores ≡ all
     → (if all then last_reason g.image.items g.rest (stored_there l.address g.stores.items) l b
@@ -343,10 +284,7 @@ chosen_told g w l b k false t =
 
 -- what a log says is told by the history
 pub log_tells : (g : StoreLog) (w : Windows) (l : LoadByte) (b : ℕ) → IsLogOf g w → kept_reason g l b ≡ told_reason w l b
-log_tells g w l b k =
-    ap (λ (all : Bool). if all then last_reason g.image.items g.rest (stored_there l.address g.stores.items) l b
-    else part_reason (stored_there l.address g.stores.items) l b) k.is_whole
-    ∙ chosen_told g w l b k (has_all w.stores) refl
+log_tells g w l b k = grind (arith, all, g.image.items, g.rest, l.address, chosen_told)
 
 -- what stores that are left say of who stored the byte is so of all
 part_true : (w : Windows) (l : LoadByte) (b n : ℕ) (reason : Option Reason) → IfSome reason (HasReason [] Unknown (drop n w.stores) l b)
@@ -379,35 +317,22 @@ chosen_sources : (g : StoreLog) (w : Windows) (l : LoadByte) (b : ℕ) → IsLog
     → (if all then sources g.image.items g.rest (stored_there l.address g.stores.items) l b
     else map Store (givers (stored_there l.address g.stores.items) l b))
     ≡ (if all then sources w.image w.rest w.stores l b else map Store (givers (left_stores w.stores) l b))
-chosen_sources g w l b k true t =
-    whole_sources g.image.items g.rest l b g.stores.items
-    ∙ (λ i. sources (k.image i) (k.rest i) ((k.stores ∙ all_left w.stores t) i) l b)
-chosen_sources g w l b k false t =
-    ap (map Store) (whole_givers g.image.items g.rest l b g.stores.items) ∙ ap (λ xs. map Store (givers xs l b)) k.stores
+chosen_sources g w l b k true t = grind (arith, whole_sources, g.image.items, g.rest, k.image, k.rest, all_left, w.stores)
+chosen_sources g w l b k false t = grind (arith, whole_givers, g.image.items, g.rest)
 
 pub log_names : (g : StoreLog) (w : Windows) (l : LoadByte) (b : ℕ) → IsLogOf g w → kept_sources g l b ≡ told_sources w l b
-log_names g w l b k =
-    ap (λ (all : Bool). if all then sources g.image.items g.rest (stored_there l.address g.stores.items) l b
-    else map Store (givers (stored_there l.address g.stores.items) l b)) k.is_whole
-    ∙ chosen_sources g w l b k (has_all w.stores) refl
+log_names g w l b k = grind (arith, all, g.image.items, g.rest, l.address, chosen_sources)
 
 chosen_at_request : (g : StoreLog) (w : Windows) (l : LoadByte) (b : ℕ) → IsLogOf g w → (all : Bool) → has_all w.stores ≡ all
     → (if all then sources g.image.items g.rest (at_request l (stored_there l.address g.stores.items)) l b
     else map Store (givers (at_request l (stored_there l.address g.stores.items)) l b))
     ≡ (if all then sources w.image w.rest (at_request l w.stores) l b else map Store (givers (at_request l (left_stores w.stores)) l b))
-chosen_at_request g w l b k true t =
-    whole_at_request g.image.items g.rest l b g.stores.items
-    ∙ (λ i. sources (k.image i) (k.rest i) (at_request l ((k.stores ∙ all_left w.stores t) i)) l b)
-chosen_at_request g w l b k false t =
-    ap (map Store) (whole_givers_at_request g.image.items g.rest l b g.stores.items)
-    ∙ ap (λ xs. map Store (givers (at_request l xs) l b)) k.stores
+chosen_at_request g w l b k true t = grind (arith, whole_at_request, g.image.items, g.rest, k.image, k.rest, all_left, w.stores)
+chosen_at_request g w l b k false t = grind (arith, whole_givers_at_request, g.image.items, g.rest)
 
 pub log_names_at_request : (g : StoreLog) (w : Windows) (l : LoadByte) (b : ℕ) → IsLogOf g w
     → kept_at_request g l b ≡ told_at_request w l b
-log_names_at_request g w l b k =
-    ap (λ (all : Bool). if all then sources g.image.items g.rest (at_request l (stored_there l.address g.stores.items)) l b
-    else map Store (givers (at_request l (stored_there l.address g.stores.items)) l b)) k.is_whole
-    ∙ chosen_at_request g w l b k (has_all w.stores) refl
+log_names_at_request g w l b k = grind (arith, all, g.image.items, g.rest, l.address, chosen_at_request)
 
 -- while none is forgotten there is a source exactly of the bytes that the law allows
 pub names_all : (w : Windows) (l : LoadByte) (b : ℕ) → has_all w.stores ≡ true

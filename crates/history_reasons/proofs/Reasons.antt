@@ -6,7 +6,7 @@ use Rattle.std.specs.Bool.{Decides}
 use Rattle.std.specs.List.{Any, Contains, find}
 use Rattle.std.specs.Option.{option_map}
 use Rattle.std.proofs.lemmas.Bool.{cases_Bool}
-use Rattle.std.proofs.lemmas.Bool.Decides.{Decides-eqb, Decides-ltb, Decides-and}
+use Rattle.std.proofs.lemmas.Bool.Decides.{Decides-eqb, Decides-ltb}
 use Rattle.std.proofs.lemmas.List.{get_or-drop, get_or-reverse, length-reverse, reverse-reverse}
 use Rattle.memory_histories.specs.declared.events.Rest.{Rest}
 use Rattle.memory_histories.specs.declared.events.Rest.TheVariants.{Zeros, Unknown}
@@ -71,13 +71,10 @@ none_there p (y ∷ ys) h k d l = elim (cases_Bool (p y)) [
 ]
 
 turned : (xs : List StoreByte) (x : StoreByte) → Contains (reverse xs) x → Contains xs x
-turned xs x c =
-    let long : length (reverse xs) ≡ length xs = length-reverse xs in
-    let within : c.0 < length xs = let l = c.1 in omega arith in
-    (length xs - 1 - c.0, omega arith, sym (get_or-reverse xs c.0 x within) ∙ c.2)
+turned xs x c = grind (arith, length-reverse, get_or-reverse)
 
 pub last_there : (p : StoreByte → Bool) (xs : List StoreByte) (x : StoreByte) → last_that p xs ≡ Some x → Contains xs x × (p x ≡ true)
-last_there p xs x h = let r = found_there p (reverse xs) x h in (turned xs x r.0, r.1)
+last_there p xs x h = grind (arith, found_there, turned)
 
 last_is : (p : StoreByte → Bool) (P : StoreByte → Type 0) (decides : (s : StoreByte) → Decides (p s) (P s)) (xs : List StoreByte)
     (x : StoreByte) → last_that p xs ≡ Some x → IsLast P xs x
@@ -123,7 +120,7 @@ none_passes p xs h x c t =
 -- The tests decide what they say. ----
 
 before : (o : Option ℕ) (t : ℕ) → Decides (is_before o t) (IsBefore o t)
-before None t = (λ h. absurd (false_true false refl h), λ h. absurd h)
+before None t = grind arith
 before (Some e) t = Decides-ltb e t
 
 pub initial : (o : Option ℕ) (r : Rest) (b : ℕ) → Decides (is_initial o r b) (IsInitial o r b)
@@ -132,14 +129,13 @@ initial None Unknown b = Decides-ltb b 256
 initial (Some i) r b = Decides-eqb i b
 
 stores_law : (address b : ℕ) (s : StoreByte) → Decides (stores_byte address b s) (Stores address b s)
-stores_law address b s = Decides-and _ _ (Decides-eqb s.address address) (Decides-eqb s.byte b)
+stores_law address b s = grind arith
 
 pub overwrites_law : (s by : StoreByte) (moment : ℕ) → Decides (overwrites s moment by) (Overwrote by s moment)
-overwrites_law s by moment = Decides-and _ _ (Decides-eqb by.address s.address) (Decides-and _ _ (before s.ended by.began) (before by.ended
-    moment))
+overwrites_law s by moment = grind arith
 
 pub covers_law : (l : LoadByte) (s : StoreByte) → Decides (covers l s) (Covered l s)
-covers_law l s = Decides-and _ _ (Decides-eqb s.address l.address) (before s.ended l.began)
+covers_law l s = grind arith
 
 some_none : {x : Reason} → Some x ≡ None → ⊥
 some_none h = cc
@@ -200,30 +196,26 @@ module _ (image : List ℕ) (rest : Rest) (stores : List StoreByte) (l : LoadByt
 
   never_case : last_that (stores_byte l.address b) stores ≡ None → ¬ (MayReturn image rest stores l b)
       → ¬ (IsInitial (slice_get image l.address) rest b) → IsExact image rest stores l b (Some NeverThere)
-  never_case h never first = ((λ x. absurd (some_none x), λ may. absurd (never may)), (not_stored h, first))
+  never_case h never first = grind (arith, some_none, not_stored)
 
   by_stored : ¬ (MayReturn image rest stores l b) → (o : Option StoreByte) → last_that (stores_byte l.address b) stores ≡ o → (first : Bool)
       → is_initial (slice_get image l.address) rest b ≡ first
       → IsExact image rest stores l b (reason_by o (λ s. last_that (overwrites s l.began) stores) first (last_that (covers l) stores))
-  by_stored never (Some s) h first i = stored_case s h never (last_that (overwrites s l.began) stores) refl
-  by_stored never None h true i = initial_case h never ((initial (slice_get image l.address) rest b).0 i) (last_that (covers l) stores) refl
-  by_stored never None h false i = never_case h never (λ p.
-      false_true (is_initial (slice_get image l.address) rest b) i ((initial (slice_get image l.address) rest b).1 p))
+  by_stored never (Some s) h first i = grind (arith, stored_case)
+  by_stored never None h true i = grind (arith, initial_case, initial)
+  by_stored never None h false i = grind (arith, never_case, false_true, initial)
 
   by_law : (may : Bool) → may_return_byte image rest stores l b ≡ may
       → IsExact image rest stores l b (if may then None else reason_by (last_that (stores_byte l.address b) stores) (λ s.
       last_that (overwrites s l.began) stores) (is_initial (slice_get image l.address) rest b) (last_that (covers l) stores))
-  by_law true e = ((λ x. (may_return_decides image rest stores l b).0 e, λ may. refl), tt)
-  by_law false e =
-      by_stored (λ may. false_true (may_return_byte image rest stores l b) e ((may_return_decides image rest stores l b).1 may)) (last_that
-      (stores_byte l.address b) stores) refl (is_initial (slice_get image l.address) rest b) refl
+  by_law true e = grind (arith, may_return_decides)
+  by_law false e = grind (arith, by_stored, false_true, may_return_decides)
 
 pub reason_law : (image : List ℕ) (rest : Rest) (stores : List StoreByte) (l : LoadByte) (b : ℕ)
     → IsExact image rest stores l b (last_reason image rest stores l b)
-reason_law image rest stores l b = by_law image rest stores l b (may_return_byte image rest stores l b) refl
+reason_law image rest stores l b = grind (arith, by_law)
 
 pub allowed_law : (image : List ℕ) (rest : Rest) (stores : List StoreByte) (l : LoadByte) (b : ℕ) (r : Bool)
     → (r ≡ true) ↔ MayReturn image rest stores l b → r ≡ may_return_byte image rest stores l b
-allowed_law image rest stores l b true h = sym ((may_return_decides image rest stores l b).1 (h.0 refl))
-allowed_law image rest stores l b false h = sym (false_if (may_return_byte image rest stores l b) (λ e.
-    false_true false refl (h.1 ((may_return_decides image rest stores l b).0 e))))
+allowed_law image rest stores l b true h = grind (arith, may_return_decides)
+allowed_law image rest stores l b false h = grind (arith, false_if, false_true, may_return_decides)

@@ -2,11 +2,11 @@
 use Rattle.std.proofs.Common.{◌≡◌, ℕ, zero, suc, ◌+◌, ◌-◌, ◌*◌, ◌%◌, ◌/◌, ◌<◌, ◌≤◌, ◌==◌, ◌&&◌, if◌then◌else◌, true, false, List, [], ◌∷◌}
 use Rattle.std.proofs.Common.{◌++◌, map, take, drop, length, get_or, slice_get, Option, Some, None, inl, inr, refl, sym, ◌∙◌, ap, ap₂}
 use Rattle.std.proofs.Common.{arith}
-use Rattle.std.specs.Prelude.{nat_le, is_none, is_some, min, count_ones, ◌^◌}
+use Rattle.std.specs.Prelude.{nat_le, is_none, is_some, count_ones, ◌^◌}
 use Rattle.std.specs.Int.{bit_at}
 use Rattle.std.specs.Int.Count.{ones_in, ones}
 use Rattle.std.proofs.lemmas.Bool.{cases_Bool, eq-eqb, ne_eqb, eqb-true, eqb-false, leb-true, leb-false}
-use Rattle.std.proofs.lemmas.Nat.{div-add-mod', mod-pow-add, mod_below, mod_low, ones_cat}
+use Rattle.std.proofs.lemmas.Nat.{div-add-mod', mod-pow-add, mod_below, ones_cat}
 use Rattle.std.proofs.lemmas.List.{append-nil, map-append, drop-drop, drop_all, drop-append-le, get_or-drop, nil_from_length, flat_map_more}
 use Rattle.std.proofs.lemmas.List.{at_drop_more}
 use Rattle.std.proofs.Math.Pow.{pow-lt}
@@ -96,8 +96,7 @@ ones_within (suc n) e =
     ∙ (let more = ones_within n (e / 2) in let bit = one_bit (e % 2) (omega arith) in omega arith)
 
 below : (m : ℕ) → m < 18446744073709551616 → m % 18446744073709551616 ≡ m
-below m h =
-    let same : m ≡ 0 * 2 ^ 64 + m = omega arith in ap (λ x. x % 2 ^ 64) same ∙ mod_low 0 64 m h
+below m h = grind arith
 
 pub first_ones : (n e : ℕ) → n < 64 → count_ones (e % (1 * 2 ^ n % 18446744073709551616)) ≡ ones_in n e
 first_ones n e h =
@@ -113,8 +112,7 @@ all_ones n e most least h =
 
 -- how many bytes a store has that is requested
 pub requested_count : (n a : ℕ) (bs : List ℕ) (e t : ℕ) → length (store_bytes n a bs e t) ≡ ones_in (length bs) e
-requested_count n a bs e t =
-    ap (λ (xs : List StoreByte). length xs) (store_lanes n a bs e t) ∙ lane_count-length n a (lanes_of bs e) t None ∙ lane_count-ones bs e
+requested_count n a bs e t = grind (arith, store_lanes, lane_count-length, lane_count-ones)
 
 -- Requests and answers. ----
 
@@ -130,11 +128,7 @@ pub new_bytes : (number address : ℕ) (bs full : List ℕ) (enables moment : �
       ended = None;
     })
     ≡ store_bytes number address bs enables moment
-new_bytes number address bs full enables moment few same =
-    let all : min (length bs) 64 ≡ length bs = omega arith in
-    let its : take (min (length bs) 64) full ≡ bs = ap (λ n. take n full) all ∙ same in
-    let first : address + 0 ≡ address = omega arith in
-    ap₂ (λ a xs. lane_bytes number a (lanes_of xs enables) moment None) first its ∙ sym (store_lanes number address bs enables moment)
+new_bytes number address bs full enables moment few same = grind (arith, store_lanes)
 
 pub with_its_bytes : (s : KeptStore) (xs : List KeptStore) → all_bytes (with_store s xs) ≡ all_bytes xs ++ bytes_of s
 with_its_bytes s xs = elim (cases_Bool (length (bytes_of s) == 0)) [
@@ -200,9 +194,7 @@ drop_none zero = refl
 drop_none (suc count) = refl
 
 drop_over : (count : ℕ) (xs ys : List StoreByte) → length xs ≤ count → drop (count - length xs) ys ≡ drop count (xs ++ ys)
-drop_over count xs ys h =
-    let e : length xs + (count - length xs) ≡ count = omega arith in
-    sym (drop-append-add xs ys (count - length xs)) ∙ ap (λ n. drop n (xs ++ ys)) e
+drop_over count xs ys h = grind (arith, drop-append-add)
 
 bytes_gone : (count : ℕ) (xs : List KeptStore) → all_bytes (without_bytes count xs) ≡ drop count (all_bytes xs)
 bytes_gone count [] = drop_none count
@@ -227,11 +219,10 @@ short_bytes count xs = elim (cases_Bool (count == 0)) [
 -- Loops. ----
 
 pub count_of : (s : KeptStore) → lane_count (lanes_in s) ≡ length (bytes_of s)
-count_of s = sym (lane_count-length s.number (first_in s) (lanes_in s) s.began s.ended)
+count_of s = grind (arith, lane_count-length, s.number, s.began)
 
 pub whole_count : (s : KeptStore) → s.from ≡ 0 → ones_in (length (bytes_in s)) s.enables ≡ length (bytes_of s)
-whole_count s whole =
-    sym (lane_count-ones (bytes_in s) s.enables) ∙ ap (λ n. lane_count (drop n (all_lanes s))) (sym whole) ∙ count_of s
+whole_count s whole = grind (arith, lane_count-ones, count_of)
 
 pub count_more : (s : KeptStore) (k : ℕ) → k < length (bytes_in s)
     → lane_count (drop k (all_lanes s)) ≡ (if is_some (get_or (all_lanes s) k None) then 1 else 0) + lane_count (drop (k + 1) (all_lanes s))
@@ -240,7 +231,7 @@ count_more s k l =
     at_drop_more lane_count (all_lanes s) k None (omega arith) ∙ lane_counted (get_or (all_lanes s) k None) (drop (k + 1) (all_lanes s))
 
 no_more : (s : KeptStore) (k : ℕ) → length (bytes_in s) ≤ k → drop k (all_lanes s) ≡ []
-no_more s k past = let long = length-lanes_of (bytes_in s) s.enables in drop_all k (all_lanes s) (omega arith)
+no_more s k past = grind (arith, length-lanes_of, s.enables, drop_all)
 
 pub count_past : (s : KeptStore) (k : ℕ) → length (bytes_in s) ≤ k → lane_count (drop k (all_lanes s)) ≡ 0
 count_past s k past = ap lane_count (no_more s k past)
@@ -249,7 +240,7 @@ one_with : (n : ℕ) (x : Option ℕ) (ls : List (Option ℕ)) → 0 < n
     → lanes_with n (x ∷ ls) ≡ suc (lanes_with (if is_some x then n - 1 else n) ls)
 one_with zero x ls h = absurd (omega arith)
 one_with (suc n) None ls h = refl
-one_with (suc n) (Some b) ls h = let e : n ≡ suc n - 1 = omega arith in ap (λ m. suc (lanes_with m ls)) e
+one_with (suc n) (Some b) ls h = grind arith
 
 pub with_more : (s : KeptStore) (n k : ℕ) → k < length (bytes_in s) → 0 < n
     → lanes_with n (drop k (all_lanes s))
@@ -264,7 +255,7 @@ none_with zero = refl
 none_with (suc n) = refl
 
 pub with_past : (s : KeptStore) (n k : ℕ) → length (bytes_in s) ≤ k → lanes_with n (drop k (all_lanes s)) ≡ 0
-with_past s n k past = ap (lanes_with n) (no_more s k past) ∙ none_with n
+with_past s n k past = grind (arith, no_more, none_with)
 
 pub gone_more : (xs : List KeptStore) (count k : ℕ) (d : KeptStore) → k < length xs
     → gone_stores count (drop k xs) ≡ gone_stores count (get_or xs k d ∷ drop (k + 1) xs)

@@ -1,10 +1,9 @@
 -- What is told of a byte looks at the stores to its address alone.
-use Rattle.std.proofs.Common.{◌≡◌, ℕ, ◌+◌, ◌<◌, ◌==◌, ◌&&◌, ◌||◌, not, if◌then◌else◌, Bool, true, false, List, [], ◌∷◌, ◌++◌, map}
+use Rattle.std.proofs.Common.{◌≡◌, ℕ, ◌+◌, ◌<◌, ◌==◌, ◌&&◌, if◌then◌else◌, Bool, true, false, List, [], ◌∷◌, ◌++◌}
 use Rattle.std.proofs.Common.{slice_get, Option, Some, None, inl, inr, refl, sym, ◌∙◌, ap, ap₂, arith}
-use Rattle.std.specs.Prelude.{reverse, nat_lt}
+use Rattle.std.specs.Prelude.{reverse}
 use Rattle.std.specs.List.{filter, find, filter_map, cons_option}
-use Rattle.std.specs.Option.{option_map}
-use Rattle.std.proofs.lemmas.Bool.{cases_Bool, eqb-true, eq-eqb, ne_eqb}
+use Rattle.std.proofs.lemmas.Bool.{cases_Bool, eqb-true, ne_eqb}
 use Rattle.std.proofs.lemmas.List.{reverse-append}
 use Rattle.std.proofs.lemmas.List.Elements.{filter-append, filter_map-append}
 use Rattle.memory_histories.specs.declared.events.Rest.{Rest}
@@ -14,13 +13,11 @@ use Rattle.memory_histories.specs.Regular.{is_before, is_overwritten, is_left, i
 use Rattle.memory_histories.specs.Parts.{lane_bytes, lane_at}
 use Rattle.memory_histories.proofs.Lists.{list_any-kept, list_any-same, filter-kept, filter-filter, filter-map}
 use Rattle.history_reasons.specs.declared.stores.KeptStore.{KeptStore}
-use Rattle.history_reasons.specs.Stores.{bytes_of, all_bytes, stored_at, stored_there, last_there, first_in, lanes_in}
+use Rattle.history_reasons.specs.Stores.{bytes_of, all_bytes, stored_there, last_there, first_in, lanes_in}
 use Rattle.history_reasons.specs.declared.Reason.{Reason}
-use Rattle.history_reasons.specs.declared.Reason.TheVariants.{StoreOverwritten}
 use Rattle.history_reasons.specs.Reasons.{stores_byte, covers, last_that, reason_by, last_reason}
-use Rattle.history_reasons.specs.declared.givers.Source.TheVariants.{Store}
 use Rattle.history_reasons.proofs.Reasons.{last_there as last_one}
-use Rattle.history_reasons.specs.Sources.{gives, givers, sources, initial_source, taken_at_once, at_request}
+use Rattle.history_reasons.specs.Sources.{gives, givers, sources, at_request}
 
 -- The bytes at an address. ----
 
@@ -80,10 +77,10 @@ reverse-filter_map {Y = Y} f (x ∷ xs) =
 
 pub last_turned : (p : StoreByte → Bool) (address : ℕ) (ss : List KeptStore)
     → last_there p address ss ≡ last_that p (stored_there address ss)
-last_turned p address ss = ap (find p) (reverse-filter_map (stored_at address) ss)
+last_turned p address ss = grind (arith, reverse-filter_map)
 
 single : {X : Type 0} (keep : X → Bool) (x : X) → filter keep (x ∷ []) ≡ reverse (filter keep (x ∷ []))
-single keep x = elim (cases_Bool (keep x)) [ inl e ↦ rw e refl | inr e ↦ rw e refl ]
+single keep x = grind arith
 
 reverse-filter : {X : Type 0} (keep : X → Bool) (xs : List X) → filter keep (reverse xs) ≡ reverse (filter keep xs)
 reverse-filter keep [] = refl
@@ -112,11 +109,10 @@ and_swap false false = refl
 
 filter_same : {X : Type 0} (p q : X → Bool) → ((x : X) → p x ≡ q x) → (xs : List X) → filter p xs ≡ filter q xs
 filter_same p q e [] = refl
-filter_same p q e (x ∷ xs) = rw (e x, filter_same p q e xs) refl
+filter_same p q e (x ∷ xs) = grind arith
 
 filter_swap : {X : Type 0} (p q : X → Bool) (xs : List X) → filter p (filter q xs) ≡ filter q (filter p xs)
-filter_swap p q xs =
-    filter-filter q p xs ∙ filter_same (λ x. q x && p x) (λ x. p x && q x) (λ x. and_swap (q x) (p x)) xs ∙ sym (filter-filter p q xs)
+filter_swap p q xs = grind (arith, filter-filter, filter_same, and_swap)
 
 and_first : (a b : Bool) → (a && b) ≡ true → a ≡ true
 and_first true b h = refl
@@ -129,49 +125,38 @@ module _ (image : List ℕ) (rest : Rest) (l : LoadByte) (b : ℕ) (xs : List St
   near = filter (is_there l.address) xs
 
   over_there : (s x : StoreByte) → (s.address == l.address) ≡ true → overwrites s l.began x ≡ true → is_there l.address x ≡ true
-  over_there s x e h =
-      let same : x.address ≡ s.address =
-      eqb-true x.address s.address (and_first (x.address == s.address) (is_before s.ended x.began && is_before x.ended l.began) h) in
-      eq-eqb x.address l.address (same ∙ eqb-true s.address l.address e)
+  over_there s x e h = grind arith
 
   over_same : (s : StoreByte) → (s.address == l.address) ≡ true → is_overwritten near s l.began ≡ is_overwritten xs s l.began
-  over_same s e = list_any-kept (is_there l.address) (overwrites s l.began) (λ x h. over_there s x e h) xs
+  over_same s e = grind (arith, list_any-kept, over_there)
 
   gives_same : (s : StoreByte) → gives near l b s ≡ gives xs l b s
-  gives_same s = elim (cases_Bool (s.address == l.address)) [ inl e ↦ rw (e, over_same s e) refl | inr e ↦ rw e refl ]
+  gives_same s = grind (arith, cases_Bool, over_same)
 
   gives_there : (s : StoreByte) → gives xs l b s ≡ true → is_there l.address s ≡ true
-  gives_there s h = and_first (s.address == l.address) ((s.byte == b) && not (is_overwritten xs s l.began)) h
+  gives_there s h = grind arith
 
   pub givers_same : givers near l b ≡ givers xs l b
   givers_same =
       filter_same (gives near l b) (gives xs l b) gives_same near ∙ filter-kept (is_there l.address) (gives xs l b) gives_there xs
 
   left_same : is_left near l b ≡ is_left xs l b
-  left_same =
-      list_any-same (gives near l b) (gives xs l b) gives_same near ∙ list_any-kept (is_there l.address) (gives xs l b) gives_there xs
+  left_same = grind (arith, list_any-same, gives_same, list_any-kept, gives_there)
 
   covered_same : is_covered near l ≡ is_covered xs l
-  covered_same =
-      list_any-kept (is_there l.address) (covers l) (λ s h. and_first (s.address == l.address) (is_before s.ended l.began) h) xs
+  covered_same = grind (arith, list_any-kept, and_first)
 
   may_same : may_return_byte image rest near l b ≡ may_return_byte image rest xs l b
-  may_same = ap₂ (λ p q. p || (is_initial (slice_get image l.address) rest b && not q)) left_same covered_same
+  may_same = grind (arith, left_same, covered_same)
 
   pub sources_same : sources image rest near l b ≡ sources image rest xs l b
-  sources_same =
-      ap₂ (λ (c : Bool) (gs : List StoreByte). initial_source (is_initial (slice_get image l.address) rest b && not c) ++ map Store gs)
-      covered_same givers_same
+  sources_same = grind (arith, covered_same, givers_same)
 
   by_same : (o : Option StoreByte) → last_that (stores_byte l.address b) xs ≡ o → (first : Bool) (c : Option StoreByte)
       → reason_by o (λ s. last_that (overwrites s l.began) near) first c ≡ reason_by o (λ s. last_that (overwrites s l.began) xs) first c
   by_same None e true c = refl
   by_same None e false c = refl
-  by_same (Some s) e first c =
-      let its = (last_one (stores_byte l.address b) xs s e).1 in
-      let there : (s.address == l.address) ≡ true = and_first (s.address == l.address) (s.byte == b) its in
-      ap (λ (o : Option StoreByte). option_map (λ x. StoreOverwritten s x) o)
-      (last_kept (is_there l.address) (overwrites s l.began) (λ x h. over_there s x there h) xs)
+  by_same (Some s) e first c = grind (arith, last_one, and_first, last_kept, over_there)
 
   reason_same : last_reason image rest near l b ≡ last_reason image rest xs l b
   reason_same =
@@ -185,9 +170,7 @@ module _ (image : List ℕ) (rest : Rest) (l : LoadByte) (b : ℕ) (xs : List St
       (by_same (last_that (stores_byte l.address b) xs) refl first (last_that (covers l) xs)))
 
   request_same : at_request l near ≡ filter (is_there l.address) (at_request l xs)
-  request_same =
-      ap (map taken_at_once) (filter_swap (λ s. nat_lt s.began l.began) (is_there l.address) xs)
-      ∙ sym (filter-map taken_at_once (is_there l.address) (filter (λ s. nat_lt s.began l.began) xs))
+  request_same = grind (arith, filter_swap, filter-map)
 
 -- The same of stores that are kept whole. ----
 
@@ -196,20 +179,19 @@ module _ (image : List ℕ) (rest : Rest) (l : LoadByte) (b : ℕ) (ss : List Ke
   there = stored_there l.address ss
 
   pub whole_reason : last_reason image rest there l b ≡ last_reason image rest (all_bytes ss) l b
-  whole_reason = ap (λ xs. last_reason image rest xs l b) (bytes_there l.address ss) ∙ reason_same image rest l b (all_bytes ss)
+  whole_reason = grind (arith, bytes_there, reason_same)
 
   pub whole_sources : sources image rest there l b ≡ sources image rest (all_bytes ss) l b
-  whole_sources = ap (λ xs. sources image rest xs l b) (bytes_there l.address ss) ∙ sources_same image rest l b (all_bytes ss)
+  whole_sources = grind (arith, bytes_there, sources_same)
 
   pub whole_givers : givers there l b ≡ givers (all_bytes ss) l b
-  whole_givers = ap (λ xs. givers xs l b) (bytes_there l.address ss) ∙ givers_same image rest l b (all_bytes ss)
+  whole_givers = grind (arith, bytes_there, givers_same)
 
   taken_there : at_request l there ≡ filter (is_there l.address) (at_request l (all_bytes ss))
-  taken_there = ap (at_request l) (bytes_there l.address ss) ∙ request_same image rest l b (all_bytes ss)
+  taken_there = grind (arith, bytes_there, request_same)
 
   pub whole_at_request : sources image rest (at_request l there) l b ≡ sources image rest (at_request l (all_bytes ss)) l b
-  whole_at_request =
-      ap (λ xs. sources image rest xs l b) taken_there ∙ sources_same image rest l b (at_request l (all_bytes ss))
+  whole_at_request = grind (arith, taken_there, sources_same)
 
   pub whole_givers_at_request : givers (at_request l there) l b ≡ givers (at_request l (all_bytes ss)) l b
-  whole_givers_at_request = ap (λ xs. givers xs l b) taken_there ∙ givers_same image rest l b (at_request l (all_bytes ss))
+  whole_givers_at_request = grind (arith, taken_there, givers_same)

@@ -289,7 +289,8 @@ seen_answered n t u stores timely test s = elim (cases_Bool _) [
         (stayed_test (is_dropped u ending s) (is_in u s) (is_some s.ended) (is_past stores s) (list_any (drops s) ending)
             (test s)
             (dropped_in u ending s)
-            ∙ ap (λ q. (is_seen u stores s && (not (is_dropped u ending s) && test s)) || (q && (is_in u s && test (answered_at t s)))) (sym h)),
+            ∙ ap (λ q. (is_seen u stores s && (not (is_dropped u ending s) && test s))
+            || (q && (is_in u s && test (answered_at t s)))) (sym h)),
       ))
 ]
 

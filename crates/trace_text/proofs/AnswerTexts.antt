@@ -1,7 +1,7 @@
 -- An answer is the text that it has, and no other text.
 use Rattle.std.proofs.Common.{◌≡◌, ℕ, ◌≤◌, Bool, true, false, Option, Some, None, List, ◌∷◌, ◌++◌, refl, sym, ◌∙◌, ap, subst, arith}
 use Rattle.std.proofs.Common.{decimal}
-use Rattle.std.specs.Prelude.{cond, codes, ◌==◌}
+use Rattle.std.specs.Prelude.{cond, codes}
 use Rattle.std.specs.Option.{option_and_then}
 use Rattle.std.proofs.lemmas.Bool.{eqb-true}
 use Rattle.flat_model.specs.declared.Word.{Word}
@@ -26,22 +26,7 @@ IsAnswered kind fields a = IsFitAnswer a × (whole kind fields ≡ answer_text a
 
 cause_is : (n : ℕ) (c : Cause) → cause_of n ≡ Some c → n ≡ number c
 unfolding cause_of
-cause_is n c e =
-    let P : Cause → Type 0 = λ k. n ≡ number k in
-    chosen P (n == 1) OutOfRange c _ (eqb-true n 1)
-    (chosen P (n == 2) NoLanes c _ (eqb-true n 2)
-    (chosen P (n == 3) TagInUse c _ (eqb-true n 3)
-    (chosen P (n == 4) RepliesFull c _ (eqb-true n 4)
-    (chosen P (n == 5) TargetsFull c _ (eqb-true n 5)
-    (chosen P (n == 6) BlockQueued c _ (eqb-true n 6)
-    (chosen P (n == 7) NoRegister c _ (eqb-true n 7)
-    (chosen P (n == 8) SetPending c _ (eqb-true n 8)
-    (chosen P (n == 9) QueueFull c _ (eqb-true n 9)
-    (chosen P (n == 10) BankFull c _ (eqb-true n 10)
-    (chosen P (n == 11) NotPresent c _ (eqb-true n 11)
-    (chosen P (n == 12) StackFull c _ (eqb-true n 12)
-    (chosen P (n == 13) StrayWord c _ (eqb-true n 13)
-    (λ none. cc))))))))))))) e
+cause_is n c e = grind (arith, chosen, eqb-true)
 
 cause_back : (c : Cause) → cause_of (number c) ≡ Some c
 unfolding cause_of
@@ -76,7 +61,7 @@ number_fits StrayWord = omega arith
 
 bare_is : (said : Answer) (kind : List ℕ) (fields : Option (List ℕ)) (a : Answer) → IsAnswered kind None said
     → bare_answer said fields ≡ Some a → IsAnswered kind fields a
-bare_is said kind None a shape e = let is : said ≡ a = cc in subst (IsAnswered kind None) is shape
+bare_is said kind None a shape e = grind arith
 bare_is said kind (Some f) a shape e = cc
 
 value_join : (t w : List ℕ) (o : Option ℕ) (p : Option Word) (a : Answer) → number_of MAX_TAG t ≡ o → word_of w ≡ p
@@ -105,12 +90,7 @@ value_is (Some f) a e = value_cut f (cut_of f) a (cut_is f) e
 refusal_join : (f : List ℕ) (n : ℕ) (o : Option Cause) (a : Answer) → number_in f ≡ Some n → cause_of n ≡ o → refusal o ≡ Some a
     → IsAnswered (codes "refused") (Some f) a
 unfolding answer_text
-refusal_join f n (Some c) a en eo e =
-    let field = number_is n f en in
-    let is : Refused c ≡ a = cc in
-    let text : codes "refused" ++ 32 ∷ f ≡ answer_text (Refused c) =
-    ap (λ x. codes "refused" ++ 32 ∷ x) (field.0 ∙ ap decimal (cause_is n c eo)) in
-    subst (IsAnswered (codes "refused") (Some f)) is (tt, text)
+refusal_join f n (Some c) a en eo e = grind (arith, number_is, cause_is)
 refusal_join f n None a en eo e = cc
 
 refusal_number : (f : List ℕ) (o : Option ℕ) (a : Answer) → number_in f ≡ o → refusal (option_and_then cause_of o) ≡ Some a
@@ -151,17 +131,14 @@ answer_is text a e =
 
 step : (kind fields : List ℕ) → no_space kind ≡ true → answer_of (kind ++ 32 ∷ fields) ≡ answer_from kind (Some fields)
 unfolding answer_of
-step kind fields none = ap (λ p. answer_from p.0 p.1) (cut_front kind fields (no_space_in kind none))
+step kind fields none = grind (arith, cut_front, no_space_in)
 
 bare_step : (kind : List ℕ) → no_space kind ≡ true → answer_of kind ≡ answer_from kind None
 unfolding answer_of
-bare_step kind none = ap (λ p. answer_from p.0 p.1) (cut_none kind (no_space_in kind none))
+bare_step kind none = grind (arith, cut_none, no_space_in)
 
 value_back : (tag : ℕ) (w : Word) → IsTag tag → IsWord w → value_of (Some (decimal tag ++ 32 ∷ word_text w)) ≡ Some (Value tag w)
-value_back tag w ft fw =
-    ap value_from (cut_front (decimal tag) (word_text w) (number_spaceless tag (omega (arith, ft))))
-    ∙ ap (λ o. value_answer o (word_of (word_text w))) (tag_back tag ft)
-    ∙ ap (value_answer (Some tag)) (word_read w fw.0 fw.1 fw.2 fw.3)
+value_back tag w ft fw = grind (arith, cut_front, number_spaceless, tag_back, word_read)
 
 pub answer_back : (a : Answer) → IsFitAnswer a → answer_of (answer_text a) ≡ Some a
 unfolding answer_from answer_text

@@ -8,12 +8,10 @@ use Rattle.std.proofs.Math.Seq.{take-append_seam, drop-append-add}
 use Rattle.std.proofs.lemmas.Bool.Decides.{nat_tests}
 use Rattle.flat_model.specs.declared.Event.TheVariants.{Load, Store, Prefetch, Evict, Drain, Serve, Arrive, Process, Take}
 use Rattle.machine_core.specs.Machine.{MachineState}
-use Rattle.trace_text.specs.Fields.{lanes_text, word_text}
 use Rattle.trace_text.specs.Lines.{line_of}
-use Rattle.machine_core.specs.AnyMachine.{answered}
 use Rattle.trace_text.specs.Texts.{reply_text}
 use Rattle.trace_text.specs.Serving.{answer_to}
-use Rattle.trace_text.specs.Pairs.{arrow_in, answered_pair, pair_with, pair_from, pair_cut, pair_of}
+use Rattle.trace_text.specs.Pairs.{arrow_in, pair_with, pair_from, pair_cut, pair_of}
 use Rattle.trace_text.specs.Written.{line_text, IsFit, IsFitReply}
 use Rattle.trace_text.specs.declared.fields.TheConstants.{MAX_NUMBER}
 use Rattle.trace_text.specs.declared.lines.Line.{Line}
@@ -23,9 +21,7 @@ use Rattle.trace_text.proofs.AnswerTexts.{answer_back}
 
 arrow_behind : (bytes : List ℕ) (b : ℕ) (bs : List ℕ) → bytes ≡ b ∷ bs → starts_with nat_eq bytes (codes " -> ") ≡ false
     → arrow_in bytes ≡ option_map (λ k. suc k) (arrow_in bs)
-arrow_behind bytes b bs whole e =
-    let test : starts_with nat_eq (b ∷ bs) (codes " -> ") ≡ false = subst (λ l. starts_with nat_eq l (codes " -> ") ≡ false) whole e in
-    ap arrow_in whole ∙ ap (λ t. cond t (Some 0) (option_map (λ k. suc k) (arrow_in bs))) test
+arrow_behind bytes b bs whole e = grind arith
 
 shifted : (o : Option ℕ) (at : ℕ) → option_map (λ k. at + k) (option_map (λ k. suc k) o) ≡ option_map (λ k. (at + 1) + k) o
 shifted None at = refl
@@ -46,16 +42,12 @@ none_with false c e = refl
 
 -- an arrow's first byte is a space
 first_is : (x : ℕ) (rest : List ℕ) → x ≢ 32 → starts_with nat_eq (x ∷ rest) (codes " -> ") ≡ false
-first_is x rest ne =
-    let test : nat_eq 32 x ≡ false = grind (arith, nat_tests) in
-    none_with (nat_eq 32 x) _ test
+first_is x rest ne = grind arith
 
 -- no arrow begins at a byte that is no space
 pub no_arrow_at : (text : List ℕ) (at : ℕ) → at < length text → get_or text at 0 ≢ 32 → starts_with nat_eq (drop at text) (codes " -> ")
     ≡ false
-no_arrow_at text at lt ne =
-    let here : drop at text ≡ get_or text at 0 ∷ drop (at + 1) text = rw (add-one, drop-cons text at 0) refl in
-    ap (λ l. starts_with nat_eq l (codes " -> ")) here ∙ first_is (get_or text at 0) (drop (at + 1) text) ne
+no_arrow_at text at lt ne = grind (arith, add-one, drop-cons, first_is)
 
 -- ---- where no hyphen stands
 
@@ -64,7 +56,7 @@ and_false true = refl
 and_false false = refl
 
 alone : (x : ℕ) → arrow_in (x ∷ []) ≡ None
-alone x = ap (λ t. cond t (Some 0) None) (and_false (nat_eq 32 x))
+alone x = grind arith
 
 and_none : (a b c : Bool) → b ≡ false → (a && (b && c)) ≡ false
 and_none true b c e = ap (λ t. t && c) e
@@ -72,9 +64,7 @@ and_none false b c e = refl
 
 -- an arrow's second byte is a hyphen
 second_is : (x y : ℕ) (rest : List ℕ) → y ≢ 45 → starts_with nat_eq (x ∷ y ∷ rest) (codes " -> ") ≡ false
-second_is x y rest ne =
-    let test : nat_eq 45 y ≡ false = grind (arith, nat_tests) in
-    and_none (nat_eq 32 x) (nat_eq 45 y) _ test
+second_is x y rest ne = grind arith
 
 -- a text with no hyphen has no arrow
 pub no_arrow : (text : List ℕ) → ((k : ℕ) → k < length text → get_or text k 0 ≢ 45) → arrow_in text ≡ None
@@ -95,10 +85,10 @@ moved_on (Some k) n = ap Some (omega arith)
 -- no arrow begins in front of this place where no byte up to it, but for the text's first, is a hyphen
 pub arrow_from : (text : List ℕ) (n : ℕ) → n ≤ length text → ((k : ℕ) → 0 < k → k ≤ n → get_or text k 0 ≢ 45)
     → arrow_in text ≡ option_map (λ k. n + k) (arrow_in (drop n text))
-arrow_from text zero le none = sym (unmoved (arrow_in text))
-arrow_from [] (suc n) le none = absurd (omega (arith, le))
+arrow_from text zero le none = grind arith
+arrow_from [] (suc n) le none = grind arith
 arrow_from (x ∷ []) (suc zero) le none = alone x
-arrow_from (x ∷ []) (suc (suc n)) le none = absurd (omega (arith, le))
+arrow_from (x ∷ []) (suc (suc n)) le none = grind arith
 arrow_from (x ∷ y ∷ text) (suc n) le none =
     arrow_behind (x ∷ y ∷ text) x (y ∷ text) refl (second_is x y text (none 1 (omega arith) (omega arith)))
     ∙ ap (option_map (λ k. suc k)) (arrow_from (y ∷ text) n (omega (arith, le)) (λ k above upto. none (suc k) (omega arith)
@@ -137,43 +127,23 @@ number_dashless : (n : ℕ) → n ≤ MAX_NUMBER → NoDash (decimal n)
 number_dashless n le = high_dashless (decimal n) (number_high n le)
 
 pub dashless_line : (l : Line) → IsFit l → NoDash (line_text l)
-dashless_line (line.Event (Load tag at)) fit =
-    dashless_then (codes "load ") (decimal tag ++ 32 ∷ decimal at) (no_dash_in (codes "load ") refl)
-    (dashless_then (decimal tag) (32 ∷ decimal at) (number_dashless tag (omega (arith, fit.0)))
-    (λ is. omega (arith, is), number_dashless at fit.1))
+dashless_line (line.Event (Load tag at)) fit = grind (arith, dashless_then, no_dash_in, number_dashless)
 dashless_line (line.Event (Store at word lanes)) fit =
-    dashless_then (codes "store ") (decimal at ++ (32 ∷ (lanes_text lanes ++ (32 ∷ word_text word)))) (no_dash_in (codes "store ") refl)
-    (dashless_then (decimal at) (32 ∷ (lanes_text lanes ++ (32 ∷ word_text word))) (number_dashless at fit.0) (
-      λ is. omega (arith, is),
-      dashless_then (lanes_text lanes) (32 ∷ word_text word) (high_dashless (lanes_text lanes) (mask_high lanes))
-          (λ is. omega (arith, is), high_dashless (word_text word) (word_high word)),
-    ))
-dashless_line (line.Event (Prefetch at)) fit = dashless_then (codes "prefetch ") (decimal at) (no_dash_in (codes "prefetch ") refl)
-    (number_dashless at fit)
-dashless_line (line.Event (Evict block)) fit = dashless_then (codes "evict ") (decimal block) (no_dash_in (codes "evict ") refl)
-    (number_dashless block fit)
-dashless_line (line.Event Drain) fit = no_dash_in (codes "drain") refl
-dashless_line (line.Event (Serve bank)) fit = dashless_then (codes "serve ") (decimal bank) (no_dash_in (codes "serve ") refl)
-    (number_dashless bank fit)
-dashless_line (line.Event (Arrive bank place)) fit =
-    dashless_then (codes "arrive ") (decimal bank ++ 32 ∷ decimal place) (no_dash_in (codes "arrive ") refl)
-    (dashless_then (decimal bank) (32 ∷ decimal place) (number_dashless bank fit.0) (λ is. omega (arith, is), number_dashless place fit.1))
-dashless_line (line.Event (Process place)) fit = dashless_then (codes "process ") (decimal place) (no_dash_in (codes "process ") refl)
-    (number_dashless place fit)
-dashless_line (line.Event (Take place)) fit = dashless_then (codes "take ") (decimal place) (no_dash_in (codes "take ") refl)
-    (number_dashless place fit)
-dashless_line (line.Register slot) fit = dashless_then (codes "reg ") (decimal slot) (no_dash_in (codes "reg ") refl)
-    (number_dashless slot fit)
-dashless_line (line.Bank at) fit = dashless_then (codes "bank ") (decimal at) (no_dash_in (codes "bank ") refl) (number_dashless at fit)
-dashless_line line.Settled fit = no_dash_in (codes "settled") refl
+    grind (arith, dashless_then, no_dash_in, number_dashless, high_dashless, mask_high, word_high)
+dashless_line (line.Event (Prefetch at)) fit = grind (arith, dashless_then, no_dash_in, number_dashless)
+dashless_line (line.Event (Evict block)) fit = grind (arith, dashless_then, no_dash_in, number_dashless)
+dashless_line (line.Event Drain) fit = grind arith
+dashless_line (line.Event (Serve bank)) fit = grind (arith, dashless_then, no_dash_in, number_dashless)
+dashless_line (line.Event (Arrive bank place)) fit = grind (arith, dashless_then, no_dash_in, number_dashless)
+dashless_line (line.Event (Process place)) fit = grind (arith, dashless_then, no_dash_in, number_dashless)
+dashless_line (line.Event (Take place)) fit = grind (arith, dashless_then, no_dash_in, number_dashless)
+dashless_line (line.Register slot) fit = grind (arith, dashless_then, no_dash_in, number_dashless)
+dashless_line (line.Bank at) fit = grind (arith, dashless_then, no_dash_in, number_dashless)
+dashless_line line.Settled fit = grind arith
 
 pub arrow_behind_line : (text reply : List ℕ) → NoDash text → arrow_in (text ++ (codes " -> " ++ reply)) ≡ Some (length text)
 arrow_behind_line [] reply none = refl
-arrow_behind_line (x ∷ []) reply none =
-    let test : starts_with nat_eq (x ∷ (codes " -> " ++ reply)) (codes " -> ") ≡ false =
-    second_is x 32 (45 ∷ 62 ∷ 32 ∷ reply) (λ is. omega (arith, is)) in
-    arrow_behind (x ∷ (codes " -> " ++ reply)) x (codes " -> " ++ reply) refl test
-    ∙ ap (option_map (λ k. suc k)) (arrow_behind_line [] reply none.1)
+arrow_behind_line (x ∷ []) reply none = grind arith
 arrow_behind_line (x ∷ y ∷ text) reply none =
     let behind = (y ∷ text) ++ (codes " -> " ++ reply) in
     let test : starts_with nat_eq (x ∷ behind) (codes " -> ") ≡ false = second_is x y (text ++ (codes " -> " ++ reply)) none.1.0 in
@@ -182,7 +152,7 @@ arrow_behind_line (x ∷ y ∷ text) reply none =
 answered_back : (m : MachineState) (l : Line) → IsFitReply (answer_to m l)
     → pair_with l (reply_text m l) ≡ Ok (record { line = l; answer = answer_to m l })
 unfolding reply_text
-answered_back m (line.Event event) fit = ap (answered_pair (line.Event event)) (answer_back (answered m event) fit)
+answered_back m (line.Event event) fit = grind (arith, line.Event, answer_back)
 answered_back m (line.Register slot) fit = refl
 answered_back m (line.Bank at) fit = refl
 answered_back m line.Settled fit = refl
@@ -203,4 +173,4 @@ read_behind text reply l said =
 -- what is served for a line is read as the line and its answer
 pub pair_back : (m : MachineState) (text : List ℕ) (l : Line) → line_of text ≡ Ok l → IsFitReply (answer_to m l)
     → pair_of (text ++ (codes " -> " ++ reply_text m l)) ≡ Ok (record { line = l; answer = answer_to m l })
-pair_back m text l said fit = read_behind text (reply_text m l) l said ∙ answered_back m l fit
+pair_back m text l said fit = grind (arith, read_behind, answered_back)

@@ -1,5 +1,5 @@
 -- The command that a text begins with is the one that stands up to its first space.
-use Rattle.std.proofs.Common.{◌≡◌, ◌≢◌, ℕ, Bool, true, false, Option, Some, None, List, [], ◌∷◌, ◌++◌, refl, sym, ◌∙◌, ap, subst}
+use Rattle.std.proofs.Common.{◌≡◌, ◌≢◌, ℕ, Bool, true, false, Option, Some, None, List, [], ◌∷◌, ◌++◌, refl, sym, ◌∙◌, ap}
 use Rattle.std.proofs.Common.{append_assoc, append-nil, length, drop, get_or, ◌<◌, arith}
 use Rattle.std.specs.Prelude.{◌==◌, IfNone}
 use Rattle.std.proofs.lemmas.Bool.{eqb-true}
@@ -7,7 +7,7 @@ use Rattle.std.proofs.lemmas.Bool.Decides.{nat_tests}
 use Rattle.trace_text.specs.Lines.{cut_of, name_of, command_named, command_told, BeginsNoCommand}
 use Rattle.trace_text.specs.declared.lines.Command.{Command}
 use Rattle.trace_text.specs.declared.lines.Command.TheVariants as command
-use Rattle.trace_text.proofs.Cuts.{NoSpace, cut_front, cut_none, whole, cut_is, no_space, no_space_in}
+use Rattle.trace_text.proofs.Cuts.{NoSpace, cut_front, cut_none, whole, cut_is, no_space}
 use Rattle.trace_text.proofs.Written.{named}
 
 -- ---- names
@@ -112,7 +112,7 @@ both_spaceless [] ys p q = q
 both_spaceless (x ∷ xs) ys p q = (p.0, both_spaceless xs ys p.1 q)
 
 name_spaceless : (c : Command) → NoSpace (name_of c)
-name_spaceless c = no_space_in (name_of c) (spaceless c)
+name_spaceless c = grind arith
 
 begins_whole : (c : Command) (text : List ℕ) (rest : Option (List ℕ)) → text ≡ whole (name_of c) rest → BeginsNoCommand text → ⊥
 begins_whole c text None is none = none c [] (is ∙ sym (append-nil (name_of c)))
@@ -121,14 +121,14 @@ begins_whole c text (Some rest) is none = none c (32 ∷ rest) is
 -- ---- what stands up to the first space
 
 pub bare_command : (c : Command) → cut_of (name_of c) ≡ (name_of c, None)
-bare_command c = cut_none (name_of c) (name_spaceless c)
+bare_command c = grind arith
 
 pub command_before : (c : Command) (fields : List ℕ) → cut_of (name_of c ++ 32 ∷ fields) ≡ (name_of c, Some fields)
-command_before c fields = cut_front (name_of c) fields (name_spaceless c)
+command_before c fields = grind arith
 
 pub command_is : (c : Command) (text : List ℕ) (rest : Option (List ℕ)) → cut_of text ≡ (name_of c, rest)
     → Some c ≡ command_named (cut_of text).0
-command_is c text rest cut = sym (ap (λ p. command_named p.0) cut ∙ own_command c)
+command_is c text rest cut = grind (arith, own_command)
 
 pub longer_name : (c : Command) (b : ℕ) (bs : List ℕ) → b ≢ 32 → command_named (cut_of (name_of c ++ b ∷ bs)).0 ≡ None
 longer_name c b bs ne =
@@ -146,7 +146,7 @@ no_command_in text (Some c) none e =
     absurd (begins_whole c text (cut_of text).1 (cut_is text ∙ ap (λ l. whole l (cut_of text).1) name) none)
 
 pub no_command : (text : List ℕ) → BeginsNoCommand text → command_named (cut_of text).0 ≡ None
-no_command text none = no_command_in text (command_named (cut_of text).0) none refl
+no_command text none = grind (arith, no_command_in)
 
 -- ---- what tells that no command begins
 
@@ -155,14 +155,11 @@ pub told_another : (text : List ℕ) (o : Option Command) → command_told (get_
 told_another text o is c rest e = sym is ∙ ap (λ l. command_told (get_or l 0 0) (get_or l 2 0)) e ∙ (told c rest).1
 
 pub told_none : (text : List ℕ) → command_told (get_or text 0 0) (get_or text 2 0) ≡ None → BeginsNoCommand text
-told_none text is c rest e = let other : None ≡ Some c = told_another text None is c rest e in cc
+told_none text is c rest e = grind (arith, told_another)
 
 pub only_told : (text : List ℕ) (d : Command) → command_told (get_or text 0 0) (get_or text 2 0) ≡ Some d
     → ((rest : List ℕ) → text ≢ name_of d ++ rest) → BeginsNoCommand text
-only_told text d is none c rest e =
-    let other : Some d ≡ Some c = told_another text (Some d) is c rest e in
-    let same : c ≡ d = cc in
-    none rest (subst (λ x. text ≡ name_of x ++ rest) same e)
+only_told text d is none c rest e = grind (arith, told_another)
 
 pub if_none : {A : Type 0} (o : Option A) (P : Type 0) → P → IfNone o P
 if_none None P p = p
@@ -171,15 +168,15 @@ if_none (Some x) P p = tt
 -- ---- a name, and what follows it
 
 pub bare_said : (c : Command) (text rest : List ℕ) → text ≡ name_of c ++ rest → length rest < 1 → cut_of text ≡ (name_of c, None)
-bare_said c text [] is lt = ap cut_of (is ∙ append-nil (name_of c)) ∙ bare_command c
+bare_said c text [] is lt = grind arith
 bare_said c text (b ∷ bs) is lt = absurd (omega arith)
 
 pub fields_said : (c : Command) (text rest : List ℕ) → text ≡ name_of c ++ rest → 0 < length rest → get_or rest 0 0 ≡ 32
     → cut_of text ≡ (name_of c, Some (drop 1 rest))
 fields_said c text [] is lt first = absurd (omega arith)
-fields_said c text (b ∷ bs) is lt first = ap cut_of (is ∙ ap (λ x. name_of c ++ x ∷ bs) first) ∙ command_before c bs
+fields_said c text (b ∷ bs) is lt first = grind arith
 
 pub longer_said : (c : Command) (text rest : List ℕ) → text ≡ name_of c ++ rest → 0 < length rest → get_or rest 0 0 ≢ 32
     → command_named (cut_of text).0 ≡ None
 longer_said c text [] is lt ne = absurd (omega arith)
-longer_said c text (b ∷ bs) is lt ne = ap (λ l. command_named (cut_of l).0) is ∙ longer_name c b bs ne
+longer_said c text (b ∷ bs) is lt ne = grind (arith, longer_name)

@@ -1,6 +1,6 @@
 -- A text is cut at its first space.
 use Rattle.std.proofs.Common.{◌≡◌, ◌≢◌, ℕ, zero, suc, ◌+◌, ◌<◌, Bool, true, false, Option, Some, None, List, [], ◌∷◌, ◌++◌, length, take}
-use Rattle.std.proofs.Common.{drop, get_or, take-append-drop, drop-cons, add-one, length-append, append-nil, refl, sym, ◌∙◌, ap, subst}
+use Rattle.std.proofs.Common.{drop, get_or, take-append-drop, drop-cons, add-one, length-append, append-nil, refl, ◌∙◌, ap, subst}
 use Rattle.std.proofs.Common.{arith}
 use Rattle.std.specs.Prelude.{cond, nat_lt, ◌==◌}
 use Rattle.std.proofs.lemmas.Bool.Decides.{nat_tests}
@@ -15,7 +15,7 @@ abbrev pub NoSpace : List ℕ → Type 0
 NoSpace = AllByRecursion (λ b. b ≢ 32)
 
 is_not : (b : ℕ) → b ≢ 32 → (b == 32) ≡ false
-is_not b ne = grind (arith, nat_tests)
+is_not b ne = grind arith
 
 in_front : (xs ys : List ℕ) (k : ℕ) → NoSpace xs → k < length xs → (get_or (xs ++ ys) k 0 == 32) ≡ false
 in_front [] ys k none lt = absurd (omega arith)
@@ -52,9 +52,7 @@ whole front None = front
 whole front (Some rest) = front ++ 32 ∷ rest
 
 at_space : (text : List ℕ) (i : ℕ) → i < length text → get_or text i 0 ≡ 32 → text ≡ take i text ++ 32 ∷ drop (i + 1) text
-at_space text i lt is =
-    let here : drop i text ≡ 32 ∷ drop (i + 1) text = rw (add-one, drop-cons text i 0, is) refl in
-    sym (take-append-drop i text) ∙ ap (λ l. take i text ++ l) here
+at_space text i lt is = grind (arith, add-one, drop-cons, take-append-drop)
 
 cut_test : (text : List ℕ) (i : ℕ) (b : Bool) → (b ≡ true → text ≡ take i text ++ 32 ∷ drop (i + 1) text)
     → text ≡ whole (cut_at text (cond b (Some i) None)).0 (cut_at text (cond b (Some i) None)).1
@@ -63,11 +61,7 @@ cut_test text i false h = refl
 
 -- a text is what it is cut into
 pub cut_is : (text : List ℕ) → text ≡ whole (cut_of text).0 (cut_of text).1
-cut_is text =
-    let i = position_or_len (λ b. b == 32) text in
-    cut_test text i (nat_lt i (length text)) (λ inside.
-    let lt : i < length text = grind (arith, nat_tests) in
-    at_space text i lt (eqb-true (get_or text i 0) 32 (passes_at_first (λ b. b == 32) text 0 lt)))
+cut_is text = grind (arith, cut_test, nat_tests, at_space, eqb-true, passes_at_first)
 
 -- ---- fields without a space
 

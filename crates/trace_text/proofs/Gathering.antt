@@ -1,5 +1,5 @@
 -- The events of the lines so far.
-use Rattle.std.proofs.Common.{◌≡◌, ℕ, ◌+◌, ◌≤◌, Option, Some, None, Ok, List, [], ◌∷◌, ◌++◌, length, length-append, append-nil}
+use Rattle.std.proofs.Common.{◌≡◌, ℕ, ◌+◌, ◌≤◌, Option, Some, None, Ok, List, [], ◌∷◌, ◌++◌, length, length-append}
 use Rattle.std.proofs.Common.{append_assoc, sym, ◌∙◌, ap, arith}
 use Rattle.std.specs.Option.{option_to_list}
 use Rattle.flat_model.specs.declared.Event.{Event}
@@ -11,7 +11,7 @@ use Rattle.trace_text.specs.declared.lines.Line.{Line}
 
 events_more : (texts : List (List ℕ)) (text : List ℕ) → trace_events (texts ++ text ∷ []) ≡ trace_events texts
     ++ option_to_list (event_of (line_of text))
-events_more [] text = append-nil (option_to_list (event_of (line_of text)))
+events_more [] text = grind arith
 events_more (t ∷ ts) text =
     ap (λ l. option_to_list (event_of (line_of t)) ++ l) (events_more ts text)
     ∙ sym (append_assoc (option_to_list (event_of (line_of t))) (trace_events ts) (option_to_list (event_of (line_of text))))
@@ -35,15 +35,4 @@ events_few (t ∷ ts) =
 pub gathered_more : (most : ℕ) (old new : Events) (event : Option Event) (said : Line) (texts : List (List ℕ)) (text : List ℕ)
     → event ≡ event_in said → Ok said ≡ line_of text → GathersOne old event new → Gathered most texts old
     → Gathered most (texts ++ text ∷ []) new
-gathered_more most old new event said texts text is read one held =
-    let told : event ≡ event_of (line_of text) = is ∙ ap event_of read in
-    let more : trace_events texts ++ option_to_list event ≡ trace_events (texts ++ text ∷ []) =
-    ap (λ o. trace_events texts ++ option_to_list o) told ∙ sym (events_more texts text) in
-    record {
-      limit = one.limit ∙ held.limit;
-      number = one.number ∙ ap (λ n. n + length (option_to_list event)) held.number
-          ∙ sym (length-append (trace_events texts) (option_to_list event)) ∙ ap length more;
-      kept = λ few.
-          let before : old.count ≤ old.most = omega (arith, one.number, one.limit, few) in
-          one.kept few ∙ ap (λ l. l ++ option_to_list event) (held.kept before) ∙ more;
-    }
+gathered_more most old new event said texts text is read one held = grind (arith, events_more, length-append)

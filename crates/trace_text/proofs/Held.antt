@@ -33,7 +33,7 @@ on_ok (Err e) f p = tt
 
 requests_more : (texts : List (List ℕ)) (text : List ℕ) → requests_of (texts ++ text ∷ []) ≡ requests_of texts
     ++ option_to_list (request_of (line_of text))
-requests_more [] text = append-nil (option_to_list (request_of (line_of text)))
+requests_more [] text = grind (arith, append-nil)
 requests_more (t ∷ ts) text =
     ap (λ l. option_to_list (request_of (line_of t)) ++ l) (requests_more ts text)
     ∙ sym (append_assoc (option_to_list (request_of (line_of t))) (requests_of ts) (option_to_list (request_of (line_of text))))
@@ -41,9 +41,7 @@ requests_more (t ∷ ts) text =
 pub requests_kept : (old new : List Event) (event : Option Event) (said : Line) (text : List ℕ)
     → event ≡ request_in said → Ok said ≡ line_of text → new ≡ old ++ option_to_list event
     → (texts : List (List ℕ)) → old ≡ requests_of texts → new ≡ requests_of (texts ++ text ∷ [])
-requests_kept old new event said text is read e texts held =
-    e ∙ ap (λ o. old ++ option_to_list o) (is ∙ ap request_of read) ∙ ap (λ l. l ++ option_to_list (request_of (line_of text))) held
-    ∙ sym (requests_more texts text)
+requests_kept old new event said text is read e texts held = grind (arith, requests_more)
 
 event_is : (event : Event) → AllByRecursion IsRequest (option_to_list (request_event event))
 event_is (Load tag at) = (tt, tt)
@@ -87,23 +85,21 @@ requests_few (t ∷ ts) =
 
 events_more : (texts : List (List ℕ)) (text : List ℕ) → events_in (texts ++ text ∷ []) ≡ events_in texts
     ++ event_of (step_of (pair_of text))
-events_more [] text = append-nil (event_of (step_of (pair_of text)))
+events_more [] text = grind (arith, append-nil)
 events_more (t ∷ ts) text =
     ap (λ l. event_of (step_of (pair_of t)) ++ l) (events_more ts text)
     ∙ sym (append_assoc (event_of (step_of (pair_of t))) (events_in ts) (event_of (step_of (pair_of text))))
 
 answers_more : (texts : List (List ℕ)) (text : List ℕ) → answers_in (texts ++ text ∷ []) ≡ answers_in texts
     ++ answer_of (step_of (pair_of text))
-answers_more [] text = append-nil (answer_of (step_of (pair_of text)))
+answers_more [] text = grind (arith, append-nil)
 answers_more (t ∷ ts) text =
     ap (λ l. answer_of (step_of (pair_of t)) ++ l) (answers_more ts text)
     ∙ sym (append_assoc (answer_of (step_of (pair_of t))) (answers_in ts) (answer_of (step_of (pair_of text))))
 
 numbers_more : (n : ℕ) (texts : List (List ℕ)) (text : List ℕ) → numbers_from n (texts ++ text ∷ []) ≡ numbers_from n texts
     ++ number_of (n + length texts) (step_of (pair_of text))
-numbers_more n [] text =
-    let same : n ≡ n + 0 = omega arith in
-    append-nil (number_of n (step_of (pair_of text))) ∙ ap (λ k. number_of k (step_of (pair_of text))) same
+numbers_more n [] text = grind (arith, append-nil)
 numbers_more n (t ∷ ts) text =
     let same : (n + 1) + length ts ≡ n + length (t ∷ ts) = omega arith in
     ap (λ l. number_of n (step_of (pair_of t)) ++ l) (numbers_more (n + 1) ts text)
@@ -134,7 +130,7 @@ step_in : (b : Bool) (o p : Option ℕ) (place : ℕ) → ((k : ℕ) → o ≡ S
     → cond b (option_map (λ k. suc k) o) (Some 0) ≡ Some place → cond b (option_map (λ k. suc k) p) (Some 0) ≡ Some place
 step_in false o p place more e = e
 step_in true None p place more e = cc
-step_in true (Some k) p place more e = ap (option_map (λ n. suc n)) (more k refl) ∙ e
+step_in true (Some k) p place more e = grind arith
 
 -- the first fault stands, whatever follows
 fault_then : (xs ys : List Event) (xa ya : List Answer) (s : Flat) (place : ℕ) → first_fault s xs xa ≡ Some place
@@ -169,7 +165,7 @@ no_step true t e = cc
 end_in : (b : Bool) (s t : Flat) (o : Option ℕ) (f : Flat → Option Flat) (place : ℕ) → option_and_then f (cond b (Some s) None) ≡ Some t
     → (f s ≡ Some t → o ≡ Some place) → cond b (option_map (λ k. suc k) o) (Some 0) ≡ Some (suc place)
 end_in false s t o f place e here = cc
-end_in true s t o f place e here = ap (option_map (λ n. suc n)) (here e)
+end_in true s t o f place e here = grind arith
 
 -- a step behind a run that is none is the first fault
 fault_at_end : (xs : List Event) (xa : List Answer) (x : Event) (a : Answer) (s t : Flat) → flat_run s xs xa ≡ Some t
@@ -218,11 +214,7 @@ judged_of : (start now : Flat) (texts : List (List ℕ)) (steps : ℕ) (o : Opti
     (numbers : List ℕ)
     → events_in texts ≡ events → answers_in texts ≡ answers → numbers_from 1 texts ≡ numbers
     → Judged start events answers numbers steps o now → JudgedFrom start texts steps o now
-judged_of start now texts steps o events answers numbers e a n judged =
-    gathered start now texts steps o
-    (subst (λ l. Judged start l (answers_in texts) (numbers_from 1 texts) steps o now) (sym e)
-    (subst (λ l. Judged start events l (numbers_from 1 texts) steps o now) (sym a)
-    (subst (λ l. Judged start events answers l steps o now) (sym n) judged)))
+judged_of start now texts steps o events answers numbers e a n judged = grind arith
 
 -- one more step
 judges_then : (start now next : Flat) (events : List Event) (answers : List Answer) (numbers : List ℕ) (event : Event) (answer : Answer)
@@ -257,15 +249,7 @@ pub judged_still : (start now : Flat) (texts : List (List ℕ)) (text : List ℕ
     → Ok pair ≡ pair_of text → None ≡ step_with pair.line pair.answer → JudgedFrom start texts steps o now
     → JudgedFrom start (texts ++ text ∷ []) steps o now
 judged_still start now texts text pair steps o read none judged =
-    let no : step_of (pair_of text) ≡ None = ap step_of (sym read) ∙ sym none in
-    let events : events_in (texts ++ text ∷ []) ≡ events_in texts = events_more texts text ∙ ap (λ s. events_in texts ++ event_of s) no
-    ∙ append-nil (events_in texts) in
-    let answers : answers_in (texts ++ text ∷ []) ≡ answers_in texts = answers_more texts text
-    ∙ ap (λ s. answers_in texts ++ answer_of s) no ∙ append-nil (answers_in texts) in
-    let numbers : numbers_from 1 (texts ++ text ∷ []) ≡ numbers_from 1 texts = numbers_more 1 texts text
-    ∙ ap (λ s. numbers_from 1 texts ++ number_of (1 + length texts) s) no ∙ append-nil (numbers_from 1 texts) in
-    judged_of start now (texts ++ text ∷ []) steps o (events_in texts) (answers_in texts) (numbers_from 1 texts) events answers numbers
-    (spread start now texts steps o judged)
+    grind (arith, events_more, append-nil, answers_more, numbers_more, judged_of, spread)
 
 -- a line that is a step
 pub judged_more : (start now : Flat) (texts : List (List ℕ)) (text : List ℕ) (pair : Pair) (step : Step) (number steps : ℕ) (o : Option ℕ)
@@ -300,8 +284,8 @@ events_few (t ∷ ts) =
 -- fewer steps than lines
 pub few_steps : (start now : Flat) (texts : List (List ℕ)) (steps : ℕ) (o : Option ℕ) → JudgedFrom start texts steps o now
     → steps ≤ length texts
-few_steps start now texts steps None judged = omega (arith, judged.0, events_few texts)
-few_steps start now texts steps (Some n) judged = omega (arith, judged.0, events_few texts)
+few_steps start now texts steps None judged = grind (arith, events_few)
+few_steps start now texts steps (Some n) judged = grind (arith, events_few)
 
 -- ---- what is answered
 
@@ -313,8 +297,7 @@ judged_flat start now texts steps (Some n) judged is = cc
 pub judged_mismatch : (start now : Flat) (texts : List (List ℕ)) (steps n : ℕ) (o : Option ℕ) → JudgedFrom start texts steps o now
     → o ≡ Some n → IsJudgedFrom start texts (Mismatch n) now
 judged_mismatch start now texts steps n None judged is = cc
-judged_mismatch start now texts steps n (Some m) judged is =
-    (fault_no_run (events_in texts) (answers_in texts) start judged.1.0 judged.1.1, (judged.1.0, judged.1.1, judged.1.2 ∙ is))
+judged_mismatch start now texts steps n (Some m) judged is = grind (arith, fault_no_run)
 
 -- from zeros on
 pub judged_zeros : (words : ℕ) (start last : Flat) (texts : List (List ℕ)) (end : CheckEnd) → start ≡ zeros words

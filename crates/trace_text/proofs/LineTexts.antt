@@ -1,6 +1,6 @@
 -- How bytes become lines, one by one: whatever a line's fault is, and however long it may be.
 use Rattle.std.proofs.Common.{◌≡◌, ◌≢◌, ℕ, ◌+◌, ◌<◌, ◌≤◌, Bool, true, false, Option, Some, List, [], ◌∷◌, ◌++◌, length, take, drop, get_or}
-use Rattle.std.proofs.Common.{length-append, append-nil, append_assoc, take-append-drop, refl, sym, ◌∙◌, ap, subst, arith}
+use Rattle.std.proofs.Common.{length-append, append-nil, append_assoc, take-append-drop, refl, sym, ◌∙◌, ap, arith}
 use Rattle.std.specs.Prelude.{nat_lt}
 use Rattle.std.proofs.Math.Seq.{get_or-append_seam}
 use Rattle.std.proofs.lemmas.List.{get_or_append_left, take_all, take_more}
@@ -21,31 +21,28 @@ at_end : (bytes : List ℕ) (b k : ℕ) → b ≢ 10 → HasNoEnd bytes → k < 
 at_end bytes b k ne none lt e = go (nat_lt k (length bytes)) refl
   where
     go : (t : Bool) → nat_lt k (length bytes) ≡ t → ⊥
-    go true is =
-        let below : k < length bytes = grind (arith, nat_tests) in
-        none k below (sym (get_or_append_left bytes (b ∷ []) 0 k below) ∙ e)
+    go true is = grind (arith, nat_tests, get_or_append_left)
     go false is =
         let here : k ≡ length bytes = grind (arith, nat_tests) in
         ne (sym (get_or-append_seam bytes b [] 0) ∙ sym (ap (λ i. get_or (bytes ++ b ∷ []) i 0) here) ∙ e)
 
 pub none_more : (bytes : List ℕ) (b : ℕ) → b ≢ 10 → HasNoEnd bytes → HasNoEnd (bytes ++ b ∷ [])
-none_more bytes b ne none k lt e = at_end bytes b k ne none (omega (arith, lt, length-append bytes (b ∷ []))) e
+none_more bytes b ne none k lt e = grind (arith, at_end, length-append)
 
 -- ---- faulty lines
 
 -- a line that ends here and has a fault that lines are said to have
 pub begins_said : (fault_in : List ℕ → Option LineFault) (most : ℕ) (text : List ℕ) (f : LineFault) → length text ≤ most → HasNoEnd text
     → IsSaid f → fault_in text ≡ Some f → BeginsFaulty fault_in most (text ++ 10 ∷ []) f
-begins_said fault_in most text Unknown short none said fault = (text, [], refl, short, none, fault)
-begins_said fault_in most text Field short none said fault = (text, [], refl, short, none, fault)
+begins_said fault_in most text Unknown short none said fault = grind arith
+begins_said fault_in most text Field short none said fault = grind arith
 begins_said fault_in most text TooLong short none said fault = absurd said
 begins_said fault_in most text NotEnded short none said fault = absurd said
 
 -- a line that is too long already
 pub begins_long : (fault_in : List ℕ → Option LineFault) (most : ℕ) (bytes : List ℕ) → length bytes ≡ most + 1 → HasNoEnd bytes
     → BeginsFaulty fault_in most bytes TooLong
-begins_long fault_in most bytes long none =
-    (omega (arith, long), subst HasNoEnd (sym (take_all (most + 1) bytes (omega (arith, long)))) none)
+begins_long fault_in most bytes long none = grind (arith, take_all)
 
 -- ---- lines
 

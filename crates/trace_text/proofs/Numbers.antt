@@ -1,9 +1,8 @@
 -- The number that digits stand for is the one that has them.
-use Rattle.std.proofs.Common.{◌≡◌, ◌≢◌, ℕ, zero, suc, ◌&&◌, ◌+◌, ◌-◌, ◌*◌, ◌^◌, ◌<◌, ◌≤◌, Bool, true, false, List, [], ◌∷◌, length, None}
+use Rattle.std.proofs.Common.{◌≡◌, ℕ, zero, suc, ◌&&◌, ◌+◌, ◌-◌, ◌*◌, ◌^◌, ◌<◌, ◌≤◌, Bool, true, false, List, [], ◌∷◌, length, None}
 use Rattle.std.proofs.Common.{Some, Option, get_or, refl, sym, ◌∙◌, ap, arith, decimal}
 use Rattle.std.specs.Prelude.{nat_le, cond}
 use Rattle.std.proofs.Common.{rules}
-use Rattle.std.proofs.lemmas.Bool.Decides.{nat_tests}
 use Rattle.std.proofs.lemmas.Str.Parse.{IsNumeralModel, numerals_by_fold}
 use Rattle.std.proofs.lemmas.Fmt.{decimal-digits_value, digits_decimal, digits_value-decimal, decimal_nonempty, first_decimal}
 use Rattle.std.proofs.lemmas.Fmt.{decimal_digit}
@@ -26,11 +25,11 @@ taken true x m e = (refl, e)
 taken false x m e = cc
 
 of_le : (a b : ℕ) → a ≤ b → nat_le a b ≡ true
-of_le a b e = grind (arith, nat_tests)
+of_le a b e = grind arith
 
 after_reads : (most n m : ℕ) (bs : List ℕ) → n ≤ most → number_after most n bs ≡ Some m → (all_digits bs ≡ true) × (read_on n bs ≡ m) ×
     (m ≤ most)
-after_reads most n m [] le e = let same : n ≡ m = cc in (refl, same, omega arith)
+after_reads most n m [] le e = grind arith
 after_reads most n m (b ∷ bs) le e =
     let t = taken (is_digit b && nat_le (n * 10 + (b - 48)) most) (number_after most (n * 10 + (b - 48)) bs) m e in
     let d = and_parts (is_digit b) (nat_le (n * 10 + (b - 48)) most) t.0 in
@@ -60,17 +59,17 @@ not_taken false x m e = (refl, e)
 
 good_front : (ds : List ℕ) → begins_badly ds ≡ false → (0 < length ds) × (get_or ds 0 0 ≡ 48 → length ds ≡ 1)
 good_front [] e = cc
-good_front (a ∷ []) e = (omega arith, λ _. refl)
-good_front (a ∷ b ∷ ds) e = (omega arith, λ is. absurd (grind (arith, nat_tests)))
+good_front (a ∷ []) e = grind arith
+good_front (a ∷ b ∷ ds) e = grind arith
 
 front_good : (ds : List ℕ) → 0 < length ds → (get_or ds 0 0 ≡ 48 → length ds ≡ 1) → begins_badly ds ≡ false
 front_good [] some h = absurd (omega arith)
 front_good (a ∷ []) some h = refl
-front_good (a ∷ b ∷ ds) some h = let ne : a ≢ 48 = λ e. omega (arith, h e) in grind (arith, nat_tests)
+front_good (a ∷ b ∷ ds) some h = grind arith
 
 short : (n : ℕ) → n < 2 ^ 64 → get_or (decimal n) 0 0 ≡ 48 → length (decimal n) ≡ 1
-short zero fits is = ap length (decimal_digit 0 (omega arith))
-short (suc n) fits is = absurd (omega (arith, is, first_decimal (suc n) (omega arith) fits))
+short zero fits is = grind (arith, decimal_digit)
+short (suc n) fits is = grind (arith, first_decimal)
 
 pub number_read : (most n : ℕ) (text : List ℕ) → most < 2 ^ 32 → number_of most text ≡ Some n → (text ≡ decimal n) × (n ≤ most)
 number_read most n text small e =
@@ -81,13 +80,7 @@ number_read most n text small e =
     (sym spelled ∙ ap decimal r.1, r.2)
 
 pub number_written : (most n : ℕ) → most < 2 ^ 32 → n ≤ most → number_of most (decimal n) ≡ Some n
-number_written most n small le =
-    let fits : n < 2 ^ 64 = omega arith in
-    let value : read_on 0 (decimal n) ≡ n = digits_value-decimal own n fits in
-    let front : begins_badly (decimal n) ≡ false = front_good (decimal n) (decimal_nonempty n fits) (λ is. short n fits is) in
-    ap (λ x. cond x None (number_after most 0 (decimal n))) front
-    ∙ after_gives most 0 (decimal n) (digits_decimal own n fits) (omega (arith, value))
-    ∙ ap Some value
+number_written most n small le = grind (arith, digits_value-decimal, own, front_good, decimal_nonempty, short, after_gives, digits_decimal)
 
 -- a number's text has digits alone
 pub decimal_digits : (n : ℕ) → n < 2 ^ 64 → all_digits (decimal n) ≡ true

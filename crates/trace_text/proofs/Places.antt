@@ -1,9 +1,8 @@
 -- The first of the places that a search gives.
 use Rattle.std.proofs.Common.{◌≡◌, ◌≢◌, ℕ, zero, suc, ◌+◌, ◌-◌, ◌<◌, ◌⊎◌, inl, inr, Bool, true, false, List, [], ◌∷◌, Option, Some, None}
-use Rattle.std.proofs.Common.{length, arith, refl, sym, ◌∙◌, ap}
+use Rattle.std.proofs.Common.{length, arith, refl, sym, ◌∙◌}
 use Rattle.std.specs.Prelude.{slice_index, if◌then◌else◌, IfSome, IfNone, ◌==◌}
 use Rattle.std.proofs.lemmas.Bool.{eqb-true}
-use Rattle.std.proofs.lemmas.Bool.Decides.{nat_tests}
 use Rattle.memchr.specs.Find.{places_from, places, is_byte, TakesFirst}
 use Rattle.trace_text.specs.Streams.{HasNoEnd}
 
@@ -20,15 +19,15 @@ here_or_later true y ys x rest e = inl (refl, cc)
 here_or_later false y ys x rest e = inr (refl, e)
 
 moved_on : (test : ℕ → Bool) (hay : List ℕ) (i j : ℕ) → Passes test hay (i + suc j) ≡ Passes test hay (i + 1 + j)
-moved_on test hay i j = let same : i + suc j ≡ i + 1 + j = omega arith in ap (Passes test hay) same
+moved_on test hay i j = grind arith
 
 stays : (test : ℕ → Bool) (hay : List ℕ) (i : ℕ) → Passes test hay (i + 0) ≡ Passes test hay i
-stays test hay i = let same : i + 0 ≡ i = omega arith in ap (Passes test hay) same
+stays test hay i = grind arith
 
 none_from : (test : ℕ → Bool) (hay : List ℕ) (n i j : ℕ) → places_from test hay i n ≡ [] → j < n → Passes test hay (i + j) ≡ false
 unfolding places_from
 none_from test hay zero i j e lt = absurd (omega arith)
-none_from test hay (suc n) i zero e lt = stays test hay i ∙ (passed_by (Passes test hay i) i (places_from test hay (i + 1) n) e).0
+none_from test hay (suc n) i zero e lt = grind arith
 none_from test hay (suc n) i (suc j) e lt =
     moved_on test hay i j ∙ none_from test hay n (i + 1) j (passed_by (Passes test hay i) i (places_from test hay (i + 1) n) e).1
     (omega arith)
@@ -44,7 +43,7 @@ record IsFirst (test : ℕ → Bool) (hay : List ℕ) (n i x : ℕ) : Type 0 whe
 before_too : (test : ℕ → Bool) (hay : List ℕ) (i off : ℕ) → Passes test hay i ≡ false
     → ((j : ℕ) → j < off → Passes test hay (i + 1 + j) ≡ false)
     → (j : ℕ) → j < suc off → Passes test hay (i + j) ≡ false
-before_too test hay i off first later zero lt = stays test hay i ∙ first
+before_too test hay i off first later zero lt = grind arith
 before_too test hay i off first later (suc j) lt = moved_on test hay i j ∙ later j (omega arith)
 
 first_from : (test : ℕ → Bool) (hay : List ℕ) (n i x : ℕ) (rest : List ℕ) → places_from test hay i n ≡ x ∷ rest → IsFirst test hay n i x
@@ -56,24 +55,24 @@ first_from test hay (suc n) i x rest e =
         off = 0;
         is = omega (arith, h.1);
         below = omega arith;
-        passes = ap (Passes test hay) (sym h.1) ∙ h.0;
-        before = λ j lt. absurd (omega (arith, lt));
+        passes = grind arith;
+        before = grind arith;
       }
       | inr h ↦ let later = first_from test hay n (i + 1) x rest h.1 in
           record {
             off = suc later.off;
             is = omega (arith, later.is);
-            below = omega (arith, later.below);
+            below = grind arith;
             passes = later.passes;
             before = before_too test hay i later.off h.0 later.before;
           }
     ]
 
 not_end : (b : ℕ) → (b == 10) ≡ false → b ≢ 10
-not_end b e is = let same : (b == 10) ≡ true = grind (arith, nat_tests) in cc
+not_end b e is = grind arith
 
 from_start : (bytes : List ℕ) (k : ℕ) → Passes (is_byte 10) bytes (0 + k) ≡ false → slice_index bytes k ≢ 10
-from_start bytes k e = let same : k ≡ 0 + k = omega arith in not_end (slice_index bytes k) (ap (Passes (is_byte 10) bytes) same ∙ e)
+from_start bytes k e = grind arith
 
 pub first_end : (bytes s t : List ℕ) (r : Option ℕ) → s ≡ places (is_byte 10) bytes → TakesFirst s r t
     → IfSome r (λ at. (at < length bytes) × (slice_index bytes at ≡ 10) × ((k : ℕ) → k < at → slice_index bytes k ≢ 10))

@@ -17,5 +17,4 @@ range_more n =
 -- what one number more adds
 pub flat_map_next : {A : Type 0} (f : ℕ → List A) (front : List A) (n : ℕ) → (front ++ flat_map f (range_with_len 0 n)) ++ f n ≡ front
     ++ flat_map f (range_with_len 0 (n + 1))
-flat_map_next f front n =
-    flat_map_more f front (range_with_len 0 n) n ∙ ap (λ l. front ++ flat_map f l) (sym (range_more n))
+flat_map_next f front n = grind (arith, flat_map_more, range_more)

@@ -15,7 +15,7 @@ use Rattle.trace_text.specs.declared.fault.TraceFault.TheVariants as fault
 use Rattle.trace_text.specs.Streams.{HasNoEnd, Came}
 use Rattle.trace_text.specs.Reading.{joined_texts, IsGood, Good, BeginsFaulty, ReadIntoWithin, ReadStopsWithin}
 use Rattle.trace_text.specs.Collecting.{Misses, ReadsWithin, Collected, AllCollected, Misread, Reading, Filled, BegunFault, AfterPause}
-use Rattle.trace_text.proofs.Serving.{moved_none, moved_more, all_then}
+use Rattle.trace_text.proofs.Serving.{moved_more, all_then}
 
 -- ---- the first LF
 
@@ -24,29 +24,25 @@ abbrev pub IsEnd : List ℕ → ℕ → Type 0
 IsEnd rest at = (at < length rest) × (get_or rest at 0 ≡ 10) × ((k : ℕ) → k < at → get_or rest k 0 ≢ 10)
 
 cut : (rest : List ℕ) (at : ℕ) → IsEnd rest at → drop at rest ≡ 10 ∷ drop (at + 1) rest
-cut rest at h = let lt : at < length rest = h.0 in rw (add-one, drop-cons rest at 0, h.1) refl
+cut rest at h = grind (arith, add-one, drop-cons)
 
 line_split : (rest : List ℕ) (at : ℕ) → IsEnd rest at → rest ≡ take at rest ++ (10 ∷ drop (at + 1) rest)
 line_split rest at h = sym (take-append-drop at rest) ∙ ap (λ l. take at rest ++ l) (cut rest at h)
 
 none_in_front : (rest : List ℕ) (at n : ℕ) → IsEnd rest at → n ≤ at → HasNoEnd (take n rest)
-none_in_front rest at n h le k lt e =
-    let below : k < n = omega (arith, length-take n rest) in
-    h.2 k (omega arith) (sym (get_or-take n rest k 0 below) ∙ e)
+none_in_front rest at n h le k lt e = grind (arith, length-take, get_or-take)
 
 front_has_none : (rest : List ℕ) (at : ℕ) → IsEnd rest at → HasNoEnd (take at rest)
-front_has_none rest at h = none_in_front rest at at h (omega arith)
+front_has_none rest at h = grind (arith, none_in_front)
 
 -- the line before the first LF
 good_front : (f : List ℕ → Option LineFault) (most : ℕ) (rest text : List ℕ) (at : ℕ) → IsEnd rest at → at ≤ most → text ≡ take at rest
     → f text ≡ None → IsGood f most text
-good_front f most rest text at h short same none =
-    (omega (arith, ap length same, length-take at rest), subst HasNoEnd (sym same) (front_has_none rest at h), none)
+good_front f most rest text at h short same none = grind (arith, length-take, front_has_none)
 
 whole_line : (rest text rest' : List ℕ) (at : ℕ) → IsEnd rest at → text ≡ take at rest → rest' ≡ drop (at + 1) rest
     → rest ≡ text ++ (10 ∷ rest')
-whole_line rest text rest' at h same behind =
-    line_split rest at h ∙ ap (λ l. take at rest ++ (10 ∷ l)) (sym behind) ∙ ap (λ l. l ++ (10 ∷ rest')) (sym same)
+whole_line rest text rest' at h same behind = grind (arith, line_split)
 
 -- ---- good lines
 
@@ -154,32 +150,14 @@ misread_halted {f = f} stopped {most = most} {d = d} {m = m} {rest = rest} {text
 pub filled_by : {R : Type 0} {gave : R → List ℕ → R → Type 0} {r r' : R} (old buf post : List ℕ) (filled given : ℕ)
     → gave r (take given buf) r' → filled < length old → given ≤ length buf → length buf ≡ length old - filled
     → Filled gave r r' old (take filled old ++ (buf ++ post)) filled given
-filled_by old buf post filled given gives lt le len =
-    let front : length (take filled old) ≡ filled = omega (arith, length-take filled old) in
-    record {
-      bytes = take given buf;
-      gives = gives;
-      count = omega (arith, length-take given buf);
-      within = omega arith;
-      front = ap (λ n. take (n + given) (take filled old ++ (buf ++ post))) (sym front)
-          ∙ take-append-add (take filled old) (buf ++ post) given
-          ∙ ap (λ l. take filled old ++ l) (take-append-le given buf post le);
-    }
+filled_by old buf post filled given gives lt le len = grind (arith, length-take, take-append-add, take-append-le)
 
 pub reading_start : {R C : Type 0} {gave : R → List ℕ → R → Type 0} {f : List ℕ → Option LineFault} {went : C → List (List ℕ) → C
     → Type 0} {most limit : ℕ} (r : R) (c : C)
     → went c [] c → Reading gave f went most limit r c [] r c 0
 reading_start r c none = record {
   texts = [];
-  so_far = record {
-    bytes = [];
-    read = moved_none r;
-    good = record { each = tt; split = refl };
-    short = omega arith;
-    unfinished = λ k lt e. omega arith;
-    within = omega arith;
-    room = λ some. omega arith;
-  };
+  so_far = grind arith;
   took = none;
   number = refl;
 }
@@ -189,7 +167,7 @@ pub reading_still : {R C : Type 0} {gave : R → List ℕ → R → Type 0} {f :
     → Type 0} {most limit : ℕ} {r r' : R} {c d e : C} {n : ℕ} {pending : List ℕ}
     → Reading gave f went most limit r c pending r' d n → ((start : C) (texts : List (List ℕ)) → went start texts d → went start texts e)
     → Reading gave f went most limit r c pending r' e n
-reading_still {c = c} p kept = record { texts = p.texts; so_far = p.so_far; took = kept c p.texts p.took; number = p.number }
+reading_still {c = c} p kept = grind arith
 
 -- the next piece came, and of its lines the first were taken
 pub record ReadOn {R C : Type 0} (gave : R → List ℕ → R → Type 0) (f : List ℕ → Option LineFault) (went : C → List (List ℕ) → C → Type 0)
@@ -256,11 +234,7 @@ progress (t ∷ ts) bytes rest e = inl (omega arith)
 pub all_progress : {C : Type 0} {f : List ℕ → Option LineFault} {went : C → List (List ℕ) → C
     → Type 0} {most limit : ℕ} {c d : C} {n m left : ℕ} {bytes : List ℕ}
     → AllCollected f went most limit c n bytes left d m → (n < m) ⊎ (left ≡ length bytes)
-all_progress {left = left} {bytes = bytes} p =
-    elim (progress p.collected.texts bytes _ p.collected.good.split) [
-      | inl h ↦ inl (omega (arith, p.collected.number, h))
-      | inr h ↦ inr (omega (arith, h, p.enough, length-drop (length bytes - left) bytes))
-    ]
+all_progress {left = left} {bytes = bytes} p = grind (arith, progress, p.collected.texts, length-drop)
 
 -- ---- ends
 
@@ -307,12 +281,9 @@ line_stops : {R C : Type 0} {gave : R → List ℕ → R → Type 0} (failed : R
     → List (List ℕ) → C → Type 0} {most limit : ℕ} {r r' : R} {c x : C} {rest : List ℕ} {k : ℕ} (n : ℕ) (e : LineFault)
     → (on : ReadOn gave f went most limit r c r' rest x k) → n ≡ k + 1 → k < limit → BeginsFaulty f most rest e
     → ReadStopsWithin gave failed f most limit r r' on.texts (fault.Line n e)
-line_stops failed {rest = rest} n Unknown on is lt begins =
-    (rest, on.into, omega (arith, is, on.number), omega (arith, lt, on.number), begins)
-line_stops failed {rest = rest} n Field on is lt begins =
-    (rest, on.into, omega (arith, is, on.number), omega (arith, lt, on.number), begins)
-line_stops failed {rest = rest} n TooLong on is lt begins =
-    (rest, on.into, omega (arith, is, on.number), omega (arith, lt, on.number), begins)
+line_stops failed {rest = rest} n Unknown on is lt begins = grind arith
+line_stops failed {rest = rest} n Field on is lt begins = grind arith
+line_stops failed {rest = rest} n TooLong on is lt begins = grind arith
 line_stops failed n NotEnded on is lt begins = absurd begins
 
 -- a fault in the piece that came last, told after a pause

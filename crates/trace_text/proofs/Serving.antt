@@ -26,7 +26,7 @@ concat_then [] ys = refl
 concat_then (x ∷ xs) ys = ap (λ l. x ++ l) (concat_then xs ys) ∙ sym (append_assoc x (concat xs) (concat ys))
 
 pub moved_none : {S : Type 0} {step : S → List ℕ → S → Type 0} (s : S) → Moves step s [] s
-moved_none s = record { pieces = []; steps = refl; whole = refl }
+moved_none s = grind arith
 
 pub moved_then : {S : Type 0} {step : S → List ℕ → S → Type 0} {r s t : S} {xs ys : List ℕ} → Moves step r xs s → Moves step s ys t
     → Moves step r (xs ++ ys) t
@@ -105,14 +105,7 @@ applied_none {took = took} w m c none = subst (Applied took w m [] w m) (sym non
   read = tt;
   whole = refl;
   number = omega arith;
-  within = record {
-    lines = omega arith;
-    accepted = omega arith;
-    moved = omega arith;
-    values = omega arith;
-    nothing = omega arith;
-    refused = omega arith;
-  };
+  within = grind arith;
   counts = refl;
   written = moved_none w;
   state = refl;
@@ -157,17 +150,7 @@ applied_line {took = took} {u = u} {v = v} {w = w} {k = k} {m = m} {n = n} {b = 
 pub applied_still : {W : Type 0} {took : W → List ℕ → W → Type 0} {u v w : W} {k m n : MachineState} {b c : Counts} {texts : List (List ℕ)}
     → Applied took u k texts v m b → took v [] w → n ≡ m → c ≡ b → Applied took u k texts w n c
 applied_still {took = took} {u = u} {w = w} {k = k} {n = n} {b = b} {texts = texts} p flush state counts =
-    subst (λ x. Applied took u k texts w n x) (sym counts) (subst (λ s. Applied took u k texts w s b) (sym state) (record {
-      lines = p.lines;
-      read = p.read;
-      whole = p.whole;
-      number = p.number;
-      within = p.within;
-      counts = p.counts;
-      written = moved_still p.written flush;
-      state = p.state;
-      runs = p.runs;
-    }))
+    grind (arith, moved_still, p.written)
 
 pub partly_more : {S : Type 0} {step : S → List ℕ → S → Type 0} {r s t : S} {bytes rest : List ℕ} (n : ℕ) (rest' : List ℕ)
     → Partly step r bytes rest s → step s (take n rest) t → rest' ≡ drop n rest → Partly step r bytes rest' t
@@ -181,5 +164,4 @@ partly_more {rest = rest} n rest' p q e = record {
 -- all that was left moved at once
 pub partly_all : {S : Type 0} {step : S → List ℕ → S → Type 0} {r s t : S} {bytes rest : List ℕ} (n : ℕ)
     → Partly step r bytes rest s → step s (take n rest) t → length rest ≤ n → Moves step r bytes t
-partly_all {step = step} {r = r} {s = s} {t = t} {rest = rest} n p q all =
-    subst (λ l. Moves step r l t) (sym p.whole) (moved_more p.moved (subst (λ l. step s l t) (take_all n rest all) q))
+partly_all {step = step} {r = r} {s = s} {t = t} {rest = rest} n p q all = grind (arith, moved_more, p.moved, take_all)

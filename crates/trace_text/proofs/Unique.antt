@@ -21,8 +21,8 @@ Same a b p q = (a ≡ b) × (p ≡ q)
 -- the front up to the first LF is one
 pub one_front : (a b p q : List ℕ) → HasNoEnd a → HasNoEnd b → a ++ (10 ∷ p) ≡ b ++ (10 ∷ q) → Same a b p q
 one_front [] [] p q ha hb e = (refl, cc)
-one_front [] (y ∷ b) p q ha hb e = let h : y ≡ 10 = cc in absurd (head_none y b hb h)
-one_front (x ∷ a) [] p q ha hb e = let h : x ≡ 10 = cc in absurd (head_none x a ha h)
+one_front [] (y ∷ b) p q ha hb e = grind (arith, head_none)
+one_front (x ∷ a) [] p q ha hb e = grind (arith, head_none)
 one_front (x ∷ a) (y ∷ b) p q ha hb e =
     let heads : x ≡ y = cc in
     let tails : a ++ (10 ∷ p) ≡ b ++ (10 ∷ q) = cc in

@@ -1,33 +1,24 @@
 -- The digits of a word and of a mask are read as that word and that mask.
-use Rattle.std.proofs.Common.{◌≡◌, ℕ, zero, suc, ◌+◌, ◌-◌, ◌*◌, ◌/◌, ◌%◌, ◌<◌, ◌≤◌, Bool, true, false, Some, Option, refl, ◌∙◌, ap, subst}
+use Rattle.std.proofs.Common.{◌≡◌, ℕ, zero, suc, ◌+◌, ◌-◌, ◌/◌, ◌%◌, ◌<◌, ◌≤◌, Bool, true, false, Some, Option, refl, subst}
 use Rattle.std.proofs.Common.{arith}
 use Rattle.std.specs.Prelude.{nat_lt}
 use Rattle.std.proofs.lemmas.Bool.Decides.{nat_tests}
 use Rattle.flat_model.specs.declared.Word.{Word}
 use Rattle.flat_model.specs.declared.Lanes.{Lanes}
 use Rattle.flat_model.specs.Words.{has}
-use Rattle.trace_text.specs.Fields.{nibble_of, hex_digit, byte_from, byte_of, word_from, word_of, word_text, lanes_of, lanes_text}
+use Rattle.trace_text.specs.Fields.{nibble_of, hex_digit, byte_of, word_of, word_text, lanes_of, lanes_text}
 
 nibble_read : (n : ℕ) → n < 16 → nibble_of (hex_digit n) ≡ Some n
-nibble_read n lt = grind (arith, nat_tests)
+nibble_read n lt = grind arith
 
 byte_read : (b : ℕ) → b < 256 → byte_of (hex_digit (b / 16)) (hex_digit (b % 16)) ≡ Some b
-byte_read b lt =
-    let high : b / 16 < 16 = omega arith in
-    let low : b % 16 < 16 = omega arith in
-    ap (λ x. byte_from x (nibble_of (hex_digit (b % 16)))) (nibble_read (b / 16) high)
-    ∙ ap (byte_from (Some (b / 16))) (nibble_read (b % 16) low)
-    ∙ ap Some (let e : b / 16 * 16 + b % 16 ≡ b = omega arith in e)
+byte_read b lt = grind (arith, nibble_read)
 
 abbrev digits : ℕ → Option ℕ
 digits b = byte_of (hex_digit (b / 16)) (hex_digit (b % 16))
 
 pub word_read : (w : Word) → w.b0 < 256 → w.b1 < 256 → w.b2 < 256 → w.b3 < 256 → word_of (word_text w) ≡ Some w
-word_read w l0 l1 l2 l3 =
-    ap (λ x. word_from x (digits w.b1) (digits w.b2) (digits w.b3)) (byte_read w.b0 l0)
-    ∙ ap (λ x. word_from (Some w.b0) x (digits w.b2) (digits w.b3)) (byte_read w.b1 l1)
-    ∙ ap (λ x. word_from (Some w.b0) (Some w.b1) x (digits w.b3)) (byte_read w.b2 l2)
-    ∙ ap (λ x. word_from (Some w.b0) (Some w.b1) (Some w.b2) x) (byte_read w.b3 l3)
+word_read w l0 l1 l2 l3 = grind (arith, byte_read)
 
 -- the masks below 8, and then those below 16
 low_mask : (n : ℕ) → n < 8 → lanes_of (lanes_text (record { 0 = n })) ≡ Some (record { 0 = n })
@@ -65,4 +56,4 @@ mask_number n lt false e =
     subst ReadsBack split (high_mask (n - 8) (omega arith))
 
 pub mask_read : (m : Lanes) → m.0 < 16 → lanes_of (lanes_text m) ≡ Some m
-mask_read m lt = mask_number m.0 lt (nat_lt m.0 8) refl
+mask_read m lt = grind (arith, mask_number)

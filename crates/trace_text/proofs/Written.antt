@@ -5,12 +5,11 @@ use Rattle.std.specs.Prelude.{cond, codes, nat_le, nat_lt, ◌==◌}
 use Rattle.std.specs.Option.{option_map}
 use Rattle.std.specs.List.{AllByRecursion}
 use Rattle.std.specs.Cmp.Lexicographic.{bytes_decides}
-use Rattle.std.proofs.lemmas.Bool.Decides.{nat_tests}
-use Rattle.std.proofs.lemmas.Bool.{and_parts, leb-true, ltb-true, eqb-true}
+use Rattle.std.proofs.lemmas.Bool.{and_parts, leb-true}
 use Rattle.flat_model.specs.declared.Word.{Word}
 use Rattle.flat_model.specs.declared.Lanes.{Lanes}
 use Rattle.flat_model.specs.declared.Event.TheVariants.{Load, Store, Prefetch, Evict, Drain, Serve, Arrive, Process, Take}
-use Rattle.flat_model.specs.Words.{has, Lane0, Lane1, Lane2, Lane3}
+use Rattle.flat_model.specs.Words.{has}
 use Rattle.trace_text.specs.Fields.{is_digit, number_of, bit_of, bit_text, lanes_from, lanes_of, lanes_text, nibble_of, hex_digit}
 use Rattle.trace_text.specs.Fields.{byte_from, byte_of, byte_text, word_from, word_of, word_text}
 use Rattle.trace_text.specs.Lines.{cut_of, same, name_of, command_named, number_in, one_number, bare, load_line, load_from, load_of}
@@ -29,33 +28,19 @@ use Rattle.trace_text.proofs.Cuts.{NoSpace, cut_front, cut_none, whole, cut_is, 
 -- ---- words and masks are what their digits say
 
 low_digit : (n : ℕ) → n < 10 → hex_digit n ≡ 48 + n
-low_digit n lt = let test : nat_lt n 10 ≡ true = grind (arith, nat_tests) in ap (λ t. cond t (48 + n) (87 + n)) test
+low_digit n lt = grind arith
 
 high_digit : (n : ℕ) → 10 ≤ n → hex_digit n ≡ 87 + n
-high_digit n le = let test : nat_lt n 10 ≡ false = grind (arith, nat_tests) in ap (λ t. cond t (48 + n) (87 + n)) test
+high_digit n le = grind arith
 
 nibble_cases : (b n : ℕ) (t u : Bool) → is_digit b ≡ t → (nat_le 97 b && nat_lt b 103) ≡ u
     → cond t (Some (b - 48)) (cond u (Some (b - 87)) None) ≡ Some n → (b ≡ hex_digit n) × (n < 16)
-nibble_cases b n true u et eu e =
-    let range = and_parts (nat_le 48 b) (nat_lt b 58) et in
-    let low = leb-true 48 b range.0 in
-    let high = ltb-true b 58 range.1 in
-    let is : b - 48 ≡ n = cc in
-    let small : n < 10 = omega (arith, low, high, is) in
-    let sum : b ≡ 48 + n = omega (arith, low, is) in
-    (sum ∙ sym (low_digit n small), omega (arith, small))
-nibble_cases b n false true et eu e =
-    let range = and_parts (nat_le 97 b) (nat_lt b 103) eu in
-    let low = leb-true 97 b range.0 in
-    let high = ltb-true b 103 range.1 in
-    let is : b - 87 ≡ n = cc in
-    let large : 10 ≤ n = omega (arith, low, is) in
-    let sum : b ≡ 87 + n = omega (arith, low, is) in
-    (sum ∙ sym (high_digit n large), omega (arith, low, high, is))
+nibble_cases b n true u et eu e = grind arith
+nibble_cases b n false true et eu e = grind arith
 nibble_cases b n false false et eu e = cc
 
 nibble_is : (b n : ℕ) → nibble_of b ≡ Some n → (b ≡ hex_digit n) × (n < 16)
-nibble_is b n e = nibble_cases b n (is_digit b) (nat_le 97 b && nat_lt b 103) refl refl e
+nibble_is b n e = grind arith
 
 byte_join : (high low n : ℕ) (o p : Option ℕ) → nibble_of high ≡ o → nibble_of low ≡ p → byte_from o p ≡ Some n
     → (high ∷ low ∷ [] ≡ byte_text n) × (n < 256)
@@ -114,19 +99,19 @@ data IsBit (b n : ℕ) : Type 0 where
   set : b ≡ 49 → n ≡ 1 → IsBit b n
 
 bit_cases : (b n : ℕ) (t u : Bool) → (b == 48) ≡ t → (b == 49) ≡ u → cond t (Some 0) (cond u (Some 1) None) ≡ Some n → IsBit b n
-bit_cases b n true u et eu e = let is : n ≡ 0 = cc in clear (eqb-true b 48 et) is
-bit_cases b n false true et eu e = let is : n ≡ 1 = cc in set (eqb-true b 49 eu) is
+bit_cases b n true u et eu e = grind arith
+bit_cases b n false true et eu e = grind arith
 bit_cases b n false false et eu e = cc
 
 bit_is : (b n : ℕ) → bit_of b ≡ Some n → IsBit b n
-bit_is b n e = bit_cases b n (b == 48) (b == 49) refl refl e
+bit_is b n e = grind arith
 
 abbrev mask : ℕ → ℕ → ℕ → ℕ → Lanes
 mask a b c d = record { 0 = a + 2 * b + 4 * c + 8 * d }
 
 below_two : (b n : ℕ) → IsBit b n → (b ≡ 48 + n) × (n < 2)
-below_two b n (clear x y) = (omega (arith, x, y), omega (arith, y))
-below_two b n (set x y) = (omega (arith, x, y), omega (arith, y))
+below_two b n (clear x y) = grind arith
+below_two b n (set x y) = grind arith
 
 mask_digits : (a b c d : ℕ) → a < 2 → b < 2 → c < 2 → d < 2 → (48 + a) ∷ (48 + b) ∷ (48 + c) ∷ (48 + d) ∷ [] ≡ lanes_text (mask a b c d)
 unfolding has
@@ -146,10 +131,10 @@ mask_digits zero zero (suc zero) (suc zero) la lb lc ld = refl
 mask_digits (suc zero) zero (suc zero) (suc zero) la lb lc ld = refl
 mask_digits zero (suc zero) (suc zero) (suc zero) la lb lc ld = refl
 mask_digits (suc zero) (suc zero) (suc zero) (suc zero) la lb lc ld = refl
-mask_digits (suc (suc a)) b c d la lb lc ld = absurd (omega (arith, la))
-mask_digits a (suc (suc b)) c d la lb lc ld = absurd (omega (arith, lb))
-mask_digits a b (suc (suc c)) d la lb lc ld = absurd (omega (arith, lc))
-mask_digits a b c (suc (suc d)) la lb lc ld = absurd (omega (arith, ld))
+mask_digits (suc (suc a)) b c d la lb lc ld = grind arith
+mask_digits a (suc (suc b)) c d la lb lc ld = grind arith
+mask_digits a b (suc (suc c)) d la lb lc ld = grind arith
+mask_digits a b c (suc (suc d)) la lb lc ld = grind arith
 
 mask_join : (a b c d : ℕ) (m : Lanes) (p q r s : Option ℕ) → bit_of a ≡ p → bit_of b ≡ q → bit_of c ≡ r → bit_of d ≡ s
     → lanes_from p q r s ≡ Some m
@@ -276,13 +261,11 @@ one_join make f None l eo e = cc
 one_is : (make : ℕ → Line) (name : List ℕ) (fields : Option (List ℕ)) (l : Line)
     → ((n : ℕ) → IsNumber n → IsRead name (Some (decimal n)) (make n)) → option_map make (one_number fields) ≡ Some l → IsRead name fields l
 one_is make name None l shape e = cc
-one_is make name (Some f) l shape e =
-    let one = one_join make f (number_in f) l refl e in
-    subst (IsRead name (Some f)) one.1 (subst (λ x. IsRead name (Some x) (make one.0)) (sym one.3) (shape one.0 one.2))
+one_is make name (Some f) l shape e = grind (arith, one_join)
 
 bare_is : (said : Line) (name : List ℕ) (fields : Option (List ℕ)) (l : Line) → IsRead name None said → bare said fields ≡ Some l
     → IsRead name fields l
-bare_is said name None l shape e = let is : said ≡ l = cc in subst (IsRead name None) is shape
+bare_is said name None l shape e = grind arith
 bare_is said name (Some f) l shape e = cc
 
 fields_are : (c : Command) (fields : Option (List ℕ)) (l : Line) → line_from c fields ≡ Some l → IsRead (name_of c) fields l
@@ -291,14 +274,14 @@ fields_are command.Load fields l e = load_is fields l e
 fields_are command.Store fields l e = store_is fields l e
 fields_are command.Prefetch fields l e = one_is (λ at. line.Event (Prefetch at)) (codes "prefetch") fields l (λ n fit. (fit, refl)) e
 fields_are command.Evict fields l e = one_is (λ block. line.Event (Evict block)) (codes "evict") fields l (λ n fit. (fit, refl)) e
-fields_are command.Drain fields l e = bare_is (line.Event Drain) (codes "drain") fields l (tt, refl) e
+fields_are command.Drain fields l e = grind arith
 fields_are command.Serve fields l e = one_is (λ bank. line.Event (Serve bank)) (codes "serve") fields l (λ n fit. (fit, refl)) e
 fields_are command.Arrive fields l e = arrive_is fields l e
 fields_are command.Process fields l e = one_is (λ place. line.Event (Process place)) (codes "process") fields l (λ n fit. (fit, refl)) e
 fields_are command.Take fields l e = one_is (λ place. line.Event (Take place)) (codes "take") fields l (λ n fit. (fit, refl)) e
 fields_are command.Register fields l e = one_is (λ slot. line.Register slot) (codes "reg") fields l (λ n fit. (fit, refl)) e
 fields_are command.Bank fields l e = one_is (λ at. line.Bank at) (codes "bank") fields l (λ n fit. (fit, refl)) e
-fields_are command.Settled fields l e = bare_is line.Settled (codes "settled") fields l (tt, refl) e
+fields_are command.Settled fields l e = grind arith
 
 -- ---- the command
 
@@ -307,7 +290,7 @@ same_is xs ys e = (bytes_decides xs ys).0 e
 
 pub chosen : {X : Type 0} (P : X → Type 0) (b : Bool) (x y : X) (o : Option X) → (b ≡ true → P x) → (o ≡ Some y → P y)
     → cond b (Some x) o ≡ Some y → P y
-chosen P true x y o here further e = let is : x ≡ y = cc in subst P is (here refl)
+chosen P true x y o here further e = grind arith
 chosen P false x y o here further e = further e
 
 pub named : (name : List ℕ) (c : Command) → command_named name ≡ Some c → name ≡ name_of c
@@ -365,75 +348,53 @@ digits_high (b ∷ bs) e =
     (leb-true 48 b (and_parts (nat_le 48 b) (nat_lt b 58) t.0).0, digits_high bs t.1)
 
 pub number_high : (n : ℕ) → n ≤ MAX_NUMBER → High (decimal n)
-number_high n le = digits_high (decimal n) (decimal_digits n (omega (arith, le)))
+number_high n le = grind (arith, digits_high, decimal_digits)
 
 hex_test : (n : ℕ) (t : Bool) → 48 ≤ cond t (48 + n) (87 + n)
 hex_test n true = omega arith
 hex_test n false = omega arith
 
 hex_high : (n : ℕ) → 48 ≤ hex_digit n
-hex_high n = hex_test n (nat_lt n 10)
+hex_high n = grind arith
 
 pub word_high : (w : Word) → High (word_text w)
-word_high w =
-    let h = λ (n : ℕ). hex_high n in (
-      h (w.b0 / 16),
-      (
-        h (w.b0 % 16),
-        (
-          h (w.b1 / 16),
-          (
-            h (w.b1 % 16),
-            (
-              h (w.b2 / 16),
-              (h (w.b2 % 16), (h (w.b3 / 16), (h (w.b3 % 16), tt))),
-            ),
-          ),
-        ),
-      ),
-    )
+word_high w = grind arith
 
 bit_high : (b : Bool) → 48 ≤ bit_text b
 bit_high true = omega arith
 bit_high false = omega arith
 
 pub mask_high : (m : Lanes) → High (lanes_text m)
-mask_high m = (bit_high (has m Lane0), (bit_high (has m Lane1), (bit_high (has m Lane2), (bit_high (has m Lane3), tt))))
+mask_high m = grind arith
 
 pub number_spaceless : (n : ℕ) → n ≤ MAX_NUMBER → NoSpace (decimal n)
 number_spaceless n le = high_spaceless (decimal n) (number_high n le)
 
 mask_spaceless : (m : Lanes) → NoSpace (lanes_text m)
-mask_spaceless m = high_spaceless (lanes_text m) (mask_high m)
+mask_spaceless m = grind arith
 
 -- ---- what is written is read
 
 pub number_back : (n : ℕ) → IsNumber n → number_in (decimal n) ≡ Some n
-number_back n fit = number_written MAX_NUMBER n (lit< tt) fit
+number_back n fit = grind (arith, number_written)
 
 pub tag_back : (n : ℕ) → IsTag n → number_of MAX_TAG (decimal n) ≡ Some n
 tag_back n fit = number_written MAX_TAG n (lit< tt) fit
 
 step : (name fields : List ℕ) → no_space name ≡ true → line_of (name ++ 32 ∷ fields) ≡ said_by (command_named name) (Some fields)
 unfolding line_of
-step name fields none = ap (λ p. said_by (command_named p.0) p.1) (cut_front name fields (no_space_in name none))
+step name fields none = grind (arith, cut_front, no_space_in)
 
 bare_step : (name : List ℕ) → no_space name ≡ true → line_of name ≡ said_by (command_named name) None
 unfolding line_of
-bare_step name none = ap (λ p. said_by (command_named p.0) p.1) (cut_none name (no_space_in name none))
+bare_step name none = grind (arith, cut_none, no_space_in)
 
 load_back : (tag at : ℕ) → IsTag tag → IsNumber at → load_of (Some (decimal tag ++ 32 ∷ decimal at)) ≡ Some (line.Event (Load tag at))
-load_back tag at ft fa =
-    ap load_from (cut_front (decimal tag) (decimal at) (number_spaceless tag (omega (arith, ft))))
-    ∙ ap (λ o. load_line o (number_in (decimal at))) (tag_back tag ft)
-    ∙ ap (load_line (Some tag)) (number_back at fa)
+load_back tag at ft fa = grind (arith, cut_front, number_spaceless, tag_back, number_back)
 
 arrive_back : (bank place : ℕ) → IsNumber bank → IsNumber place → arrive_of (Some (decimal bank ++ 32 ∷ decimal place))
     ≡ Some (line.Event (Arrive bank place))
-arrive_back bank place fb fp =
-    ap arrive_from (cut_front (decimal bank) (decimal place) (number_spaceless bank fb))
-    ∙ ap (λ o. arrive_line o (number_in (decimal place))) (number_back bank fb)
-    ∙ ap (arrive_line (Some bank)) (number_back place fp)
+arrive_back bank place fb fp = grind (arith, cut_front, number_spaceless, number_back)
 
 store_back : (at : ℕ) (w : Word) (m : Lanes) → IsNumber at → IsWord w → m.0 < 16
     → store_of (Some (decimal at ++ 32 ∷ (lanes_text m ++ 32 ∷ word_text w))) ≡ Some (line.Event (Store at w m))
