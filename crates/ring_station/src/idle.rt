@@ -60,25 +60,34 @@ pub(crate) fn turn_of(stepped: Option<Stepped>) -> Turn {
     }
 }
 
-/// What a turn of two parts that share a thread came to: a step of one is a step of both, and both are
-/// held only if each is. `None` is for a part whose run is over, so that there is nothing to wait for.
+impl Turn {
+    /// What a turn of two parts that share a thread came to: a step of one is a step of both, and both are
+    /// held only if each is.
+    fn with(self, other: Turn) -> Turn {
+        match (self, other) {
+            (Turn::Moved, _) | (_, Turn::Moved) => Turn::Moved,
+            (Turn::Idle, _) | (_, Turn::Idle) => Turn::Idle,
+            (Turn::Held, Turn::Held) => Turn::Held,
+        }
+    }
+}
+
+/// What a turn of two parts that share a thread came to. `None` is for a part whose run is over, so that
+/// there is nothing to wait for.
 pub(crate) fn turn_of_both(one: Option<Turn>, other: Option<Turn>) -> Option<Turn>
     ensures { result ≡ None → (one ≡ None) × (other ≡ None) }
 {
     match (one, other) {
         (None, turn) | (turn, None) => turn,
-        (Some(Turn::Moved), _) | (_, Some(Turn::Moved)) => Some(Turn::Moved),
-        (Some(Turn::Idle), _) | (_, Some(Turn::Idle)) => Some(Turn::Idle),
-        (Some(Turn::Held), Some(Turn::Held)) => Some(Turn::Held),
+        (Some(one), Some(other)) => Some(one.with(other)),
     }
 }
 
-/// What a turn came to, with that of the parts beside it that had one, if any had.
+/// What a turn came to, with that of the parts beside it, if they had one.
 pub(crate) fn turn_beside(one: Turn, other: Option<Turn>) -> Turn {
-    match (one, other) {
-        (Turn::Moved, _) | (_, Some(Turn::Moved)) => Turn::Moved,
-        (Turn::Held, None | Some(Turn::Held)) => Turn::Held,
-        (Turn::Idle, _) | (_, Some(Turn::Idle)) => Turn::Idle,
+    match other {
+        Some(other) => one.with(other),
+        None => one,
     }
 }
 
