@@ -1,5 +1,5 @@
 //! How many threads a run has, and what they have in hand.
-ghost use Rattle.std.specs.Prelude.{◌≡◌, ◌<◌, ◌≤◌, ◌+◌, ◌++◌, ◌∷◌, [], map, vec_len, vec_capacity};
+ghost use Rattle.std.specs.Prelude.{◌≡◌, ◌<◌, ◌≤◌, ◌+◌, ◌++◌, ◌∷◌, ◌==◌, if◌then◌else◌, [], map, vec_len, vec_capacity};
 ghost use Rattle.std.specs.List.{All};
 ghost use Rattle.ring_station.specs.Crew.{HasNotBegun};
 ghost use Rattle.ring_station.specs.Ends.{not_begun};
@@ -35,9 +35,10 @@ impl Crew {
         }
     }
 
-    /// How many of so many banks the cache side's thread serves: all or none.
+    /// How many of so many banks the cache side's thread serves: all if they have no thread, and else none.
     pub(crate) fn beside_cache(self, banks: usize) -> usize
-        ensures { result ≤ banks }
+        ensures within { result ≤ banks }
+        ensures exact { result ≡ (if self.bank_threads == 0 then banks else 0) }
     {
         if self.bank_threads == 0 { banks } else { 0 }
     }

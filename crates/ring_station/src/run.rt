@@ -123,10 +123,11 @@ pub fn run_threads<
 /// came to no end, which [`Run::fault`] tells.
 ///
 /// The crew says how many threads the ports and the banks have: as in `run_threads` with
-/// [`Crew::one_each`]. Parts that share a thread take their turns in rounds, one part after another; each
-/// has its own count of turns, and one whose run is over leaves the others to go on. Fewer threads are
-/// faster if there are fewer processors than threads, since each change of a processor from one thread to
-/// another takes as long as many turns.
+/// [`Crew::one_each`]. Ports that share a thread, or banks that do, take their turns in rounds, one after
+/// another. Banks beside the cache side have theirs when it comes to them on its round, and when it has found
+/// nothing. Each part has its own count of turns, and one whose run is over leaves the others to go on.
+/// Fewer threads are faster if there are fewer processors than threads, since each change of a processor from
+/// one thread to another takes as long as many turns.
 ///
 /// Want of memory before the threads begin leaves every part as it was.
 pub fn run_and_audit<

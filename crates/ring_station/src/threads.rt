@@ -20,8 +20,8 @@ use std::sync::atomic::AtomicBool;
 use std::thread::{Threads, for_each_chunk_mut, join_mut};
 
 /// Runs the cache side in a thread of its own, and the ports and the banks in those of the crew, and joins
-/// them all; the cache side's thread serves the banks if the crew has none for them. The result is how the run of the cache side
-/// ended; the ports and the banks note their own.
+/// them all; the cache side's thread serves the banks if the crew has none for them. The result is how the
+/// run of the cache side ended; the ports and the banks note their own.
 pub(crate) fn run_all<
     R: Clock + Threads + Sync,
     G: Gate,
