@@ -7,16 +7,21 @@ latency of memory.
 The latencies are 5, 20 and 80 rounds if none are given, and each bank begins a command every round. The numbers are
 those that `./kroft sweep` counts; both axes are logarithmic, so where twice as many registers take half of the rounds
 a line falls by one step for each step to the right. Needs nothing beside Python.
+
+What the program refuses is told in one line on standard error, with the program's status; the status is 2 if the trace
+can't be read.
 """
 
 import argparse
 import math
 import pathlib
 import subprocess
+import sys
+from xml.sax.saxutils import escape
 
 TOP = pathlib.Path(__file__).resolve().parent.parent.parent
 SWEEP = [TOP / "kroft", "sweep", "--busy", "1"]
-MISSES = "".join(f"load {block} {4 * block}\n" for block in range(64))
+MISSES = "".join(f"load {block} {4 * block}\n" for block in range(64)).encode()
 
 # Units of the picture: its size, and where the axes are.
 WIDTH, HEIGHT = 480, 400
@@ -24,11 +29,20 @@ LEFT, RIGHT, TOP_EDGE, BOTTOM = 70, 440, 40, 340
 COLOURS = ["#1b6ca8", "#c8553d", "#3a7d44", "#7b4b94", "#8a6d00"]
 
 
+class Fault(Exception):
+    """Why there is no picture, and the status to end with."""
+
+    def __init__(self, why, status):
+        super().__init__(why)
+        self.status = status
+
+
 def rounds_by_registers(trace, shape, latency):
     """The rounds that a sweep of the trace counts, by the number of registers."""
-    words = [*SWEEP, "--latency", str(latency), *shape]
-    told = subprocess.run(words, input=trace, stdout=subprocess.PIPE, text=True, check=True).stdout
-    rows = (line.split() for line in told.splitlines())
+    done = subprocess.run([*SWEEP, "--latency", str(latency), *shape], input=trace, capture_output=True)
+    if done.returncode != 0:
+        raise Fault((done.stderr.decode(errors="replace").splitlines() or ["./kroft sweep failed"])[0], done.returncode)
+    rows = (line.split() for line in done.stdout.decode().splitlines())
     return {int(row[1]): int(row[3]) for row in rows}
 
 
@@ -39,7 +53,8 @@ class Axes:
         self.registers = sorted({n for line in lines.values() for n in line})
         rounds = [r for line in lines.values() for r in line.values()]
         lowest, highest = math.floor(math.log2(min(rounds))), math.ceil(math.log2(max(rounds)))
-        self.ticks = [2**power for power in range(lowest, highest + 1)]
+        # (two at least, also if all rounds are one power of two)
+        self.ticks = [2**power for power in range(lowest, max(highest, lowest + 1) + 1)]
 
     @staticmethod
     def along(value, ends, begin, end):
@@ -54,7 +69,9 @@ class Axes:
 
 
 def text(x, y, words, anchor="middle", colour="#222"):
-    return f'<text x="{x:.1f}" y="{y:.1f}" text-anchor="{anchor}" fill="{colour}">{words}</text>'
+    # (a name may have in it what no picture may)
+    shown = escape("".join(it if it.isprintable() else "?" for it in str(words))).encode("ascii", "xmlcharrefreplace").decode()
+    return f'<text x="{x:.1f}" y="{y:.1f}" text-anchor="{anchor}" fill="{colour}">{shown}</text>'
 
 
 def grid(axes, counted):
@@ -91,7 +108,10 @@ def asked():
     if words.trace is None:
         return MISSES, "64 misses", ["--shape", TOP / "examples/misses.toml"], words.latency
     shape = ["--shape", words.shape] if words.shape else []
-    return words.trace.read_text(), words.trace.name, shape, words.latency
+    try:
+        return words.trace.read_bytes(), words.trace.name, shape, words.latency
+    except OSError as fault:
+        raise Fault(f"{words.trace}: {fault.strerror}", 2) from None
 
 
 def main():
@@ -107,4 +127,8 @@ def main():
 
 
 if __name__ == "__main__":
-    main()
+    try:
+        main()
+    except Fault as fault:
+        print(fault, file=sys.stderr)
+        sys.exit(fault.status)
