@@ -58,11 +58,12 @@ PICTURE_POLICY = ("default-src 'none'; script-src 'unsafe-inline'; style-src 'un
 
 
 class Refusal(Exception):
-    """A request that isn't served: its status, and why."""
+    """A request that isn't served: its status, and why; and the path to ask for instead, if there is one."""
 
-    def __init__(self, status, why):
+    def __init__(self, status, why, instead=None):
         super().__init__(why)
         self.status = status
+        self.instead = instead
 
 
 class Program:
@@ -264,9 +265,12 @@ class Handler(http.server.BaseHTTPRequestHandler):
         _, token, *rest = self.path.split("#")[0].split("/", 2) + [""]
         if not self.path.startswith("/") or not hmac.compare_digest(token.encode(), self.server.token.encode()):
             raise Refusal(404, "the page's address has a token: it was printed when ./kroft-page began")
+        if len(rest) == 1:
+            # (the page names its files by what stands behind the slash)
+            raise Refusal(308, "the page's address ends with a slash", f"/{self.server.token}/")
         return rest[0]
 
-    def reply(self, status, kind, body, policy=PAGE_POLICY):
+    def reply(self, status, kind, body, policy=PAGE_POLICY, instead=None):
         self.clock.cancel()
         self.begin_waiting()
         self.send_response(status)
@@ -276,6 +280,8 @@ class Handler(http.server.BaseHTTPRequestHandler):
             "Cross-Origin-Resource-Policy": "same-origin", "Cross-Origin-Opener-Policy": "same-origin",
         }.items():
             self.send_header(name, value)
+        if instead:
+            self.send_header("Location", instead)
         self.end_headers()
         if self.command != "HEAD":
             self.wfile.write(body)
@@ -285,7 +291,7 @@ class Handler(http.server.BaseHTTPRequestHandler):
             try:
                 serve(self.name_of())
             except Refusal as refusal:
-                self.reply(refusal.status, "text/plain", f"{refusal}\n".encode())
+                self.reply(refusal.status, "text/plain", f"{refusal}\n".encode(), instead=refusal.instead)
         except OSError:
             # The other side is gone.
             self.close_connection = True
