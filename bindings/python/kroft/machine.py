@@ -217,12 +217,15 @@ class Machine:
         self.shape = shape
         if any(not 0 <= number < 2**32 for number in shape):
             raise ValueError(f"a number of 32 bits is out of its range in {shape}")
-        data = bytes(4 * shape.words) if image is None else bytes_of(image)
+        data = b"" if image is None else bytes_of(image)
         if len(data) % 4:
             raise ValueError("an image has four bytes for each word")
         row = ShapeRow(*shape)
         self._handle = Handle(library(), "kroft_free")
-        status = self._handle.call("kroft_open", c.byref(row), c.c_char_p(data), len(data) // 4)
+        # (numbers are judged before any zeros are made for them)
+        status = self._open(row, data)
+        if status == ShapeFault.IMAGE and image is None:
+            status = self._open(row, bytes(4 * shape.words))
         if status != _DONE:
             raise BadShape(ShapeFault(status))
 
@@ -438,6 +441,9 @@ class Machine:
 
     def __reduce__(self) -> NoReturn:
         raise TypeError("a machine can't be copied")
+
+    def _open(self, row: ShapeRow, data: bytes) -> int:
+        return self._handle.call("kroft_open", c.byref(row), c.c_char_p(data), len(data) // 4)
 
     def _accept(self, event: Event) -> None:
         answer = self.apply(event)

@@ -5,6 +5,7 @@ import copy
 import gc
 import pickle
 import random
+import resource
 import sys
 import threading
 import unittest
@@ -186,6 +187,7 @@ class Machines(unittest.TestCase):
             (SMALL._replace(write_queue=3), None, faults.WRITE_QUEUE),
             (SMALL._replace(replies=65), None, faults.REPLIES),
             (SMALL, bytes(252), faults.IMAGE),
+            (SMALL, b"", faults.IMAGE),
         ]:
             with self.subTest(fault=fault), self.assertRaises(kroft.BadShape) as bad:
                 Machine(shape, image)
@@ -197,6 +199,25 @@ class Machines(unittest.TestCase):
             shape = Shape(ways, block_words, regs, depth, 64, 4, 4, 64, 64, 8)
             with self.subTest(shape=shape), Machine(shape):
                 pass
+
+    def test_numbers_are_judged_before_zeros_are_made_for_them(self) -> None:
+        """Also where there is too little memory for as many zeros as the words would be."""
+        faults = kroft.ShapeFault
+        most = 2**32 - 1
+        before = resource.getrlimit(resource.RLIMIT_AS)
+        resource.setrlimit(resource.RLIMIT_AS, (4_000_000 << 10, before[1]))
+        try:
+            for shape, fault in [
+                (Shape(ways=17, words=most), faults.NOT_LISTED),
+                (Shape(words=most), faults.WORDS),
+                (Shape(block_words=1, words=most, banks=17), faults.BANKS),
+                (Shape(block_words=3, words=most, replies=0), faults.REPLIES),
+            ]:
+                with self.subTest(shape=shape), self.assertRaises(kroft.BadShape) as bad:
+                    Machine(shape)
+                self.assertEqual(bad.exception.cause, fault)
+        finally:
+            resource.setrlimit(resource.RLIMIT_AS, before)
 
     def test_classes_below_those_of_events(self) -> None:
         class Traced(Load):
