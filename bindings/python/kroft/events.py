@@ -1,7 +1,8 @@
 """Events and answers. A word is four bytes, the first of the lowest address."""
 
 import struct
-from dataclasses import dataclass
+from dataclasses import dataclass, fields
+from operator import index
 from typing import Any, Callable, Dict, Tuple, Type, Union
 
 from .data import Buffer, bytes_of
@@ -111,6 +112,8 @@ Answer = Union[Accepted, Moved, Value, Nothing, Refusal]
 _EVENT = struct.Struct("=IHBxII4s")  # kind, tag, lanes, at, place, word
 _ANSWER = struct.Struct("=IIH4s2x")  # kind, cause, tag, word
 
+_MOST = {"tag": 2**16 - 1, "lanes": 2**8 - 1}  # the most that a member may be; any other one has 32 bits
+
 _Members = Dict[Type[Any], Callable[[Any], Tuple[object, ...]]]  # the members of a row, by the class that has them
 _EVENTS: _Members = {
     Load: lambda it: (0, it.tag, 0, it.at, 0, b""),
@@ -135,12 +138,12 @@ _ANSWERS: _Members = {
 def event_row(event: Event) -> bytes:
     """The row of kroft.h of an event, or of one of a class below an event's. ValueError if a number or a word isn't one;
     TypeError if it is no event."""
-    return _row(_EVENT, *_members(_EVENTS, event, "event"))
+    return _row(_EVENT, _EVENTS, event, "event")
 
 
 def answer_row(answer: Answer) -> bytes:
     """The row of kroft.h of an answer, as `event_row` has that of an event."""
-    return _row(_ANSWER, *_members(_ANSWERS, answer, "answer"))
+    return _row(_ANSWER, _ANSWERS, answer, "answer")
 
 
 def event_of(row: bytes) -> Event:
@@ -171,13 +174,6 @@ def answer_of(row: bytes) -> Answer:
     return plain[kind]
 
 
-def _members(forms: _Members, of: object, kind: str) -> Tuple[object, ...]:
-    form = next((forms[it] for it in type(of).__mro__ if it in forms), None)
-    if form is None:
-        raise TypeError(f"no {kind}: {of!r}")
-    return form(of)
-
-
 def _word(word: Buffer) -> bytes:
     data = bytes_of(word)
     if len(data) != 4:
@@ -185,8 +181,24 @@ def _word(word: Buffer) -> bytes:
     return data
 
 
-def _row(form: struct.Struct, *members: object) -> bytes:
+def _row(form: struct.Struct, members: _Members, of: object, kind: str) -> bytes:
+    known = next((it for it in type(of).__mro__ if it in members), None)
+    if known is None:
+        raise TypeError(f"no {kind}: {of!r}")
     try:
-        return form.pack(*members)
+        return form.pack(*members[known](of))
     except struct.error as error:
-        raise ValueError(str(error)) from None
+        raise ValueError(_misfit(known, of) or str(error)) from None
+
+
+def _misfit(known: Type[Any], of: object) -> str:
+    """Which member of an event or an answer has no room in its row; a word has."""
+    for name in (it.name for it in fields(known) if it.name != "word"):
+        member, most = getattr(of, name), _MOST.get(name, 2**32 - 1)
+        try:
+            fits = 0 <= index(member) <= most
+        except TypeError:
+            fits = False
+        if not fits:
+            return f"{name} is 0 to {most}, not {member!r}"
+    return ""

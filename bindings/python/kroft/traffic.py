@@ -52,8 +52,10 @@ class Traffic:
         partial: int = 64,
     ) -> None:
         numbers = (base, blocks, block_bytes, widest, sets, conflicts, burst, requesters, int(apart), stores, partial)
-        if not 0 <= seed < 2**64 or not 0 <= base < 2**64 or any(not 0 <= it < 2**32 for it in numbers[1:]):
-            raise ValueError("no plan of traffic: a number is too large")
+        for name, number in [("seed", seed), *zip((field[0] for field in PlanRow._fields_), numbers)]:
+            above = 2**64 if name in ("seed", "base") else 2**32
+            if not 0 <= number < above:
+                raise ValueError(f"no plan of traffic: {name} is 0 to {above - 1}, not {number}")
         self._library = library()
         self._plan = PlanRow(*numbers)
         self._seed = seed

@@ -9,7 +9,7 @@ import resource
 import sys
 import threading
 import unittest
-from typing import Callable, List
+from typing import Callable, List, Tuple
 from unittest import mock
 
 import kroft
@@ -237,6 +237,36 @@ class Machines(unittest.TestCase):
                 Machine(SMALL, 256)  # type: ignore[arg-type]
             with self.assertRaises(TypeError):
                 machine.store(1, 4)  # type: ignore[arg-type]
+
+    def test_a_member_that_is_out_of_its_range_is_named(self) -> None:
+        most = 2**32 - 1
+        wrong: List[Tuple[kroft.Event, str]] = [
+            (Load(65536, 0), "tag is 0 to 65535, not 65536"),
+            (Load(-1, 0), "tag is 0 to 65535, not -1"),
+            (Load(0, -1), f"at is 0 to {most}, not -1"),
+            (Store(5, b"abcd", 256), "lanes is 0 to 255, not 256"),
+            (Store(2**32, b"abcd"), f"at is 0 to {most}, not {2**32}"),
+            (Store(5, b"abc"), "a word is four bytes, not 3"),
+            (Prefetch(-5), f"at is 0 to {most}, not -5"),
+            (Evict(2**32), f"block is 0 to {most}, not {2**32}"),
+            (Serve(-1), f"bank is 0 to {most}, not -1"),
+            (Arrive(0, 2**64), f"place is 0 to {most}, not {2**64}"),
+            (Process(-1), f"place is 0 to {most}, not -1"),
+            (Load("7", 0), "tag is 0 to 65535, not '7'"),  # type: ignore[arg-type]
+        ]
+        judge = StepJudge(bytes(256))
+        with Machine(SMALL) as machine:
+            for event, said in wrong:
+                with self.subTest(event=event):
+                    with self.assertRaisesRegex(ValueError, f"^{said}$"):
+                        machine.apply(event)
+                    with self.assertRaisesRegex(ValueError, f"^{said}$"):
+                        machine.drive([Load(1, 1), event])  # type: ignore[list-item]
+                    with self.assertRaisesRegex(ValueError, f"^{said}$"):
+                        judge.step(event, Accepted())
+            with self.assertRaisesRegex(ValueError, "^tag is 0 to 65535, not 65536$"):
+                judge.step(kroft.Take(0), Value(65536, b"abcd"))
+            self.assertEqual(machine.apply(Load(65535, 0)), Accepted())
 
     def test_wide_items_are_counted_by_their_bytes(self) -> None:
         words = memoryview(array.array("I", [0x11111111] * SMALL.words))

@@ -111,6 +111,15 @@ class Accesses(unittest.TestCase):
             with self.subTest(change=change), self.assertRaises(ValueError):
                 kroft.Traffic(1, **{**LINES, **change})  # type: ignore[arg-type]
         kroft.Traffic(1, **{**LINES, "apart": True, "requesters": 64})  # type: ignore[arg-type]
+        for change, said in [
+            ({"seed": -1}, f"seed is 0 to {MASK}, not -1"),
+            ({"seed": 2**64}, f"seed is 0 to {MASK}, not {2**64}"),
+            ({"base": -64}, f"base is 0 to {MASK}, not -64"),
+            ({"stores": -1}, f"stores is 0 to {2**32 - 1}, not -1"),
+            ({"partial": 2**32}, f"partial is 0 to {2**32 - 1}, not {2**32}"),
+        ]:
+            with self.subTest(change=change), self.assertRaisesRegex(ValueError, f"^no plan of traffic: {said}$"):
+                kroft.Traffic(**{"seed": 1, **LINES, **change})  # type: ignore[arg-type]
         with self.assertRaises(IndexError):
             kroft.Traffic(1, **LINES)[2**64]  # type: ignore[arg-type]
 
