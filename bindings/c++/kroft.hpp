@@ -478,7 +478,7 @@ enum class Beyond : uint32_t { Zeros = KROFT_ZEROS, Unknown = KROFT_UNKNOWN };
 /// What an event is told: true if the history with it is one of the law.
 class HistoryVerdict {
 public:
-    explicit HistoryVerdict(uint32_t status) : status(status) {}
+    explicit HistoryVerdict(uint32_t number) : status(number) {}
 
     explicit operator bool() const { return status == KROFT_LAWFUL; }
 
@@ -635,12 +635,12 @@ struct TrafficAccess {
 class Traffic {
 public:
     /// std::invalid_argument: a number of the plan isn't as its description says.
-    Traffic(const kroft_plan &plan, uint64_t seed) : plan(plan), seed(seed) { (*this)(0); }
+    Traffic(const kroft_plan &plan, uint64_t seed) : drawn_by(plan), drawn_from(seed) { (*this)(0); }
 
     TrafficAccess operator()(uint64_t number) const {
         TrafficAccess made;
         kroft_access row{};
-        if (kroft_traffic(&plan, seed, number, &row, made.data.data(), made.data.size()) != KROFT_DRAWN)
+        if (kroft_traffic(&drawn_by, drawn_from, number, &row, made.data.data(), made.data.size()) != KROFT_DRAWN)
             throw std::invalid_argument("no plan of traffic");
         made.number = number;
         made.requester = row.requester;
@@ -653,8 +653,8 @@ public:
     }
 
 private:
-    kroft_plan plan;
-    uint64_t seed;
+    kroft_plan drawn_by;
+    uint64_t drawn_from;
 };
 
 // ---- the machine

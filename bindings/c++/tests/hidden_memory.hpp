@@ -19,7 +19,7 @@ enum class HiddenBug {
 
 class HiddenMemory {
 public:
-    explicit HiddenMemory(HiddenBug bug = HiddenBug::None) : bug(bug) {}
+    explicit HiddenMemory(HiddenBug planted = HiddenBug::None) : bug(planted) {}
 
     // Takes a request, or refuses it in this tick: no slot is free.
     bool accept(const Request &request) {

@@ -41,7 +41,7 @@ struct Answer {
 
 class Cache {
 public:
-    explicit Cache(Bug bug = Bug::None) : bug(bug) {}
+    explicit Cache(Bug planted = Bug::None) : bug(planted) {}
 
     // Takes a request, or refuses it in this cycle: a set is busy with another line, or no register is free.
     bool accept(const Request &request) {

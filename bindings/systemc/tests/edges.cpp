@@ -70,7 +70,7 @@ struct Bench : sc_core::sc_module {
     uint8_t data[300] = {};
     int wrong = 0;
 
-    Bench(sc_core::sc_module_name name, kroft::Watch watch) : sc_module(name), watch(std::move(watch)) {
+    Bench(sc_core::sc_module_name name, kroft::Watch given) : sc_module(name), watch(std::move(given)) {
         socket.bind(monitor.in);
         monitor.out.bind(memory.socket);
         socket.register_nb_transport_bw(this, &Bench::nb_transport_bw);

@@ -34,7 +34,7 @@ struct Target : sc_core::sc_module {
     tlm_utils::simple_target_socket<Target> socket{"socket"};
     SC_HAS_PROCESS(Target);
 
-    Target(sc_core::sc_module_name name, Design design) : sc_module(name), design(std::move(design)) {
+    Target(sc_core::sc_module_name name, Design given) : sc_module(name), design(std::move(given)) {
         socket.register_b_transport(this, &Target::b_transport);
         socket.register_nb_transport_fw(this, &Target::nb_transport_fw);
         SC_THREAD(run);
@@ -144,8 +144,8 @@ struct Initiator : sc_core::sc_module {
     uint64_t begun = 0, ended = 0;
     SC_HAS_PROCESS(Initiator);
 
-    Initiator(sc_core::sc_module_name name, bool blocking, uint64_t count, replay::Traffic traffic, size_t at_once)
-        : sc_module(name), traffic(std::move(traffic)), count(count), transactions(at_once) {
+    Initiator(sc_core::sc_module_name name, bool blocking, uint64_t wanted, replay::Traffic given, size_t at_once)
+        : sc_module(name), traffic(std::move(given)), count(wanted), transactions(at_once) {
         socket.register_nb_transport_bw(this, &Initiator::nb_transport_bw);
         if (blocking) {
             for (unsigned i = 0; i < 8; i++) sc_core::sc_spawn([this, i] { run_blocking(transactions[i]); });
