@@ -776,7 +776,7 @@ typedef struct {
     uint32_t apart;        /* not 0: each requester has bytes of its own in each block, accesses of one byte,
                               so that blocks are shared and bytes aren't: of at most `block_bytes` requesters       */
     uint32_t stores;       /* the share of stores among the accesses                                                */
-    uint32_t partial;      /* the share of stores that may leave bytes out                                          */
+    uint32_t partial;      /* the share of stores that may leave bytes out: one that leaves all out is a load       */
 } kroft_plan;
 
 /* An access: a load or a store of some bytes of one block. */

@@ -28,7 +28,7 @@ pub struct Plan {
     pub apart: u32,
     /// The share of stores among the accesses.
     pub stores: u32,
-    /// The share of stores that may leave bytes out.
+    /// The share of stores that may leave bytes out. One that would leave out all its bytes is a load.
     pub partial: u32,
 }
 
