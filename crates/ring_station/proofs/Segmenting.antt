@@ -1,14 +1,19 @@
 -- What a run makes of the ports with a renewal behind it.
-use Rattle.std.proofs.Common.{◌≡◌, ◌<◌, false, List, length, slice_index_or, sym, ◌∙◌, subst}
+use Rattle.std.proofs.Common.{◌≡◌, ◌<◌, ℕ, false, List, length, slice_index_or, sym, ◌∙◌, subst}
 use Rattle.std.specs.Global.{Vec}
 use Rattle.std.proofs.lemmas.List.Elements.{All-get_or}
 use Rattle.station_journal.specs.declared.asks.Ask.{Ask}
 use Rattle.station_journal.specs.declared.asks.Told.{Told}
 use Rattle.station_parts.specs.declared.port.Port.{Port}
-use Rattle.station_parts.specs.Renewed.{ResumesPorts}
+use Rattle.station_parts.specs.declared.bank.BankSide.{BankSide}
+use Rattle.station_parts.specs.declared.parts.CacheSide.{CacheSide}
+use Rattle.station_parts.specs.declared.renewal.RenewFault.{RenewFault}
+use Rattle.station_parts.specs.declared.renewal.RenewFault.TheVariants.{WornOut, OutOfMemory, NotClean}
+use Rattle.station_parts.specs.Renewed.{ResumesPorts, IsRefused}
 use Rattle.station_parts.specs.Words.{offered, offered_before, taken, has_ended}
+use Rattle.ring_station.specs.declared.fault.SegmentFault.TheVariants.{Renewal}
 use Rattle.ring_station.specs.PortRuns.{HasRun, HaveRun}
-use Rattle.ring_station.specs.Segments.{HasRunOn, HaveRunOn}
+use Rattle.ring_station.specs.Segments.{HasRunOn, HaveRunOn, ComesToRenewal}
 use Rattle.ring_station.proofs.Ending.{shown_alike, long_alike}
 
 has_run_on : (script : List Ask) (first ran new : Port) (list : List Told) → HasRun script first ran list → offered new ≡ offered ran
@@ -35,3 +40,28 @@ have_run_on scripts old ran new lists number run resumed =
           (shown_alike taken new ran resumed.taken p d) (All-get_or (λ x. offered_before x ≡ offered x) new p d there resumed.before)
           (All-get_or (λ x. has_ended x ≡ false) new p d there resumed.again);
     }
+
+-- ports that ran to their end have done so where their station wasn't renewed, too
+pub comes_to_renewal : {W B R D : ℕ} (scripts : List (Vec Ask)) (old ran new : List Port) (lists : List (Vec Told))
+    (cache cache' : CacheSide W B R D) (banks banks' : List BankSide) (fault : RenewFault) → HaveRun scripts old ran lists
+    → IsRefused fault cache cache' ran new banks banks' → ComesToRenewal scripts old new (Renewal fault)
+comes_to_renewal scripts old ran new lists cache cache' banks banks' WornOut run refused =
+    (lists, subst (λ ports. HaveRun scripts old ports lists) (sym refused.2) run)
+comes_to_renewal scripts old ran new lists cache cache' banks banks' OutOfMemory run refused =
+    (lists, subst (λ ports. HaveRun scripts old ports lists) (sym refused.2) run)
+comes_to_renewal scripts old ran new lists cache cache' banks banks' (NotClean found) run refused =
+    let leaves = refused.4 in (
+      lists,
+      record {
+        number = run.number;
+        each = λ p s d l less.
+            let h = run.each p s d l less in
+            record {
+              before = shown_alike offered_before new ran leaves.before p d ∙ h.before;
+              said = h.said;
+              offered_is = shown_alike offered new ran leaves.offered p d ∙ h.offered_is;
+              taken_is = shown_alike taken new ran leaves.taken p d ∙ h.taken_is;
+              converses = h.converses;
+            };
+      },
+    )

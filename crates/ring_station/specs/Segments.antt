@@ -1,5 +1,5 @@
 -- What a run and the renewal behind it make of a station, and what many of them make of it.
-use Rattle.std.specs.Prelude.{◌≡◌, ℕ, zero, suc, ◌+◌, ◌<◌, max, ◌⊎◌, ◌++◌, false, List, [], ◌∷◌, map, take, drop, length, slice_index_or}
+use Rattle.std.specs.Prelude.{◌≡◌, ◌≢◌, ℕ, zero, suc, ◌+◌, ◌<◌, ◌≤◌, max, ◌⊎◌, ◌++◌, false, List, [], ◌∷◌, map, take, drop, length, slice_index_or}
 use Rattle.std.specs.Global.{Vec}
 use Rattle.std.specs.Int.{div_ceil}
 use Rattle.std.specs.List.{All, fold, flat_map}
@@ -10,12 +10,19 @@ use Rattle.station_journal.specs.Conversation.{Converses}
 use Rattle.station_parts.specs.declared.port.Port.{Port}
 use Rattle.station_parts.specs.declared.parts.CacheSide.{CacheSide}
 use Rattle.station_parts.specs.declared.parts.Station.{Station}
+use Rattle.station_parts.specs.declared.make.TheConstants.{MAX_NOTED}
+use Rattle.station_parts.specs.declared.parts.Audit.TheVariants.{Clean}
+use Rattle.station_parts.specs.declared.renewal.RenewFault.{RenewFault}
+use Rattle.station_parts.specs.declared.renewal.RenewFault.TheVariants as unrenewed
+use Rattle.station_parts.specs.Audited.{audit_of}
+use Rattle.station_parts.specs.Renewed.{noted_after}
 use Rattle.station_parts.specs.Ids.{port_id}
 use Rattle.station_parts.specs.Words.{offered, offered_before, taken, has_ended, earlier_of, held_of}
 use Rattle.ring_station.specs.declared.fault.RunFault.TheVariants.{OutOfMemory}
 use Rattle.ring_station.specs.declared.fault.SegmentFault.{SegmentFault}
-use Rattle.ring_station.specs.declared.fault.SegmentFault.TheVariants.{Run}
+use Rattle.ring_station.specs.declared.fault.SegmentFault.TheVariants.{Run, Renewal}
 use Rattle.ring_station.specs.declared.segment.Segment.{Segment}
+use Rattle.ring_station.specs.PortRuns.{HaveRun}
 use Rattle.ring_station.specs.Within.{KeepsTo}
 
 -- ---- one run
@@ -39,6 +46,22 @@ pub record HaveRunOn (scripts : List (Vec Ask)) (old new : List Port) (lists : L
 pub record HandsOut {W B R D : ℕ} (old new : CacheSide W B R D) (segment : List Entry) : Type 0 where
   pub earlier : earlier_of new ≡ earlier_of old ++ segment
   pub held : held_of new ≡ []
+
+-- why a station isn't renewed, as it stands: it would note too many entries, memory was short, or an audit of it finds this
+abbrev pub IsNotRenewed : {W B R D : ℕ} → Station W B R D → RenewFault → Type 0
+IsNotRenewed station unrenewed.WornOut = MAX_NOTED < noted_after station.cache
+IsNotRenewed station unrenewed.OutOfMemory = noted_after station.cache ≤ MAX_NOTED
+IsNotRenewed station (unrenewed.NotClean found) =
+    (noted_after station.cache ≤ MAX_NOTED) × (found ≡ audit_of station.cache station.ports.items station.banks.items) × (found ≢ Clean)
+
+abbrev pub TellsRenewal : {W B R D : ℕ} → Station W B R D → SegmentFault → Type 0
+TellsRenewal station (Run fault) = Unit {0}
+TellsRenewal station (Renewal fault) = IsNotRenewed station fault
+
+-- a renewal's fault comes behind a run that came to its end: each port offered its whole script, then Done
+abbrev pub ComesToRenewal : List (Vec Ask) → List Port → List Port → SegmentFault → Type 0
+ComesToRenewal scripts old new (Run fault) = Unit {0}
+ComesToRenewal scripts old new (Renewal fault) = (lists : List (Vec Told)) × HaveRun scripts old new lists
 
 -- ---- one of many runs: of each script the next so many asks, behind those that were run before
 

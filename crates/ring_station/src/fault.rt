@@ -9,7 +9,8 @@ use std::fmt;
 /// audited.
 #[derive(Clone, Copy, PartialEq, Eq, Debug)]
 pub enum RunFault {
-    /// A thread used up its turns before it came to its end.
+    /// A thread used up its turns before it came to its end, or the cache side found its journal full, or
+    /// the audit isn't `Clean`: [`Run::stop`](crate::Run::stop) tells these apart.
     TurnLimit,
     /// There was too little memory. It goes before `TurnLimit`, where both hold.
     OutOfMemory,

@@ -9,7 +9,7 @@ ghost use Rattle.station_parts.specs.Renewed.{RenewsCache, ResumesPorts, IsRefus
 ghost use Rattle.station_parts.specs.Rest.{is_at_rest};
 ghost use Rattle.station_parts.specs.Station.{AreOneStation};
 ghost use Rattle.station_parts.specs.Words.{cache_in, earlier_of, journal_of, sizes_in};
-ghost use Rattle.ring_station.specs.Segments.{HaveRunOn, HandsOut};
+ghost use Rattle.ring_station.specs.Segments.{HaveRunOn, HandsOut, TellsRenewal, ComesToRenewal};
 ghost use Rattle.ring_station.specs.Within.{KeepsTo};
 
 use crate::crew::Crew;
@@ -36,8 +36,8 @@ pub struct Segment {
 /// out are, one behind the other, one journal of one station, and a run of flat memory.
 ///
 /// [`SegmentFault::Run`] says that the run came to no end, by the fault that `run_threads` has for it; and
-/// [`SegmentFault::Renewal`] that it did, and the station wasn't renewed. After either the station may be
-/// audited; after the latter it may also be renewed, if there is memory then, and it must not be run
+/// [`SegmentFault::Renewal`] that it did, and why the station wasn't renewed then. After either the station
+/// may be audited; after the latter it may also be renewed, if there is memory then, and it must not be run
 /// before, since its ports have ended. After neither was a journal handed out.
 ///
 /// There is one script for each port. A script with `Done` in it comes to no end.
@@ -73,6 +73,10 @@ pub fn run_and_renew<
         (λ run. HandsOut station.old.cache station.new.cache run.journal.items) }
     ensures unhanded { OnErr result (earlier_of station.new.cache ≡ earlier_of station.old.cache) }
     ensures rests { OnOk result (is_at_rest (cache_in station.new.cache) ≡ true) }
+
+    // A renewal's fault comes behind a run to its end, and says what kept the station from being renewed.
+    ensures ran { IfErr result (ComesToRenewal scripts.now station.old.ports.items station.new.ports.items) }
+    ensures renewal { IfErr result (TellsRenewal station.new) }
     ensures no_turn { turns ≡ 0 → IsErr result }
 
     // However it ends, no part did more than its turns let it, and each port took what it took behind what

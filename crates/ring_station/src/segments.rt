@@ -8,7 +8,7 @@ ghost use Rattle.station_parts.specs.Promises.{IsFlatRun, AreWhole, PaysLoads, H
 ghost use Rattle.station_parts.specs.Rest.{is_at_rest};
 ghost use Rattle.station_parts.specs.Station.{AreOneStation};
 ghost use Rattle.station_parts.specs.Words.{cache_in, journal_of, sizes_in};
-ghost use Rattle.ring_station.specs.Segments.{RunsInSegments, StopsBehind, RunsInTurns, StopsInTurns, RunsNext, StopsNext, longest_of, piece_behind, piece_count};
+ghost use Rattle.ring_station.specs.Segments.{RunsInSegments, StopsBehind, RunsInTurns, StopsInTurns, RunsNext, StopsNext, TellsRenewal, longest_of, piece_behind, piece_count};
 ghost use Rattle.ring_station.specs.Within.{KeepsTo};
 
 use crate::crew::Crew;
@@ -71,6 +71,7 @@ pub fn run_in_segments<
     ensures stops { IfErr result (StopsBehind (max asks 1) scripts.now station.old station.new
         (λ segments. K.kept keeper.old segments keeper.new)) }
     ensures rests { OnOk result (is_at_rest (cache_in station.new.cache) ≡ true) }
+    ensures renewal { IfErr result (TellsRenewal station.new) }
     ensures no_turn { turns ≡ 0 → IsErr result }
 
     // In each run no part did more than its turns let it, and each port took what it took behind what it had;
@@ -151,6 +152,7 @@ fn run_pieces<
     ensures stops { IfErr result (StopsNext begin asks scripts.now station.old station.new
         (λ segments. K.kept keeper.old segments keeper.new)) }
     ensures rests { OnOk result (is_at_rest (cache_in station.new.cache) ≡ true) }
+    ensures renewal { IfErr result (TellsRenewal station.new) }
     ensures no_turn { turns ≡ 0 → IsErr result }
     ensures within { KeepsTo turns station.old station.new }
     ensures seen { OnOk result (IsSeen station.new.cache station.new.ports.items station.new.banks.items) }

@@ -1,7 +1,8 @@
 use Rattle.std.proofs.Common.{sym, ◌∙◌}
+use Rattle.std.proofs.lemmas.Result.{err_from_is_err_and}
 use Rattle.ring_station.specs.Within.{KeepsTo}
 use Rattle.ring_station.proofs.Ending.{is_good, have_run}
-use Rattle.ring_station.proofs.Segmenting.{have_run_on}
+use Rattle.ring_station.proofs.Segmenting.{have_run_on, comes_to_renewal}
 use Rattle.ring_station.proofs.Within.{run_keeps, renewal_keeps}
 use Rattle.ring_station.proofs.segment.run_and_renew.Goals as goal
 
@@ -31,3 +32,11 @@ returns-clause-within g c =
     let within : KeepsTo c.args.turns c.args.station.now c.run_and_audit.new.station =
     run_keeps _ _ _ _ _ _ _ _ _ (c.requires.scripts ∙ c.args.station.now.ports.ok.0) ran.ports ran.cache ran.banks in
     renewal_keeps _ _ c.run_and_audit.new.station _ c.renew_station.result renewed.cache renewed.ports renewed.refused renewed.banks within
+
+pub returns-in_err-journal-clause-ran : goal.returns-in_err-journal-clause-ran
+returns-in_err-journal-clause-ran g c =
+    let good = is_good c.in_ok-run.run' (sym c.fault.ensures ∙ c.in_default.is) in
+    let ran = c.in_ok-run.ensures.ports in
+    let told = c.from_residual-in_err-journal in
+    let fault = err_from_is_err_and told.result told.ensures.1 in
+    rw fault.1 (rw fault.2 (comes_to_renewal _ _ _ _ _ _ _ _ _ _ (have_run _ _ _ _ _ _ ran good.ports) c.in_err-journal.ensures.refused))
