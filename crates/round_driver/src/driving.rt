@@ -211,6 +211,8 @@ pub fn summarize_with(
 
 /// Counts these requests as [`summarize_with`] does, with banks that have one command at a time, as
 /// [`drive`] has them.
+///
+/// `AllocError` says that there was too little memory; nothing has been asked then.
 pub fn summarize(
     alloc: Global,
     machine: &mut ShapedMachine,
@@ -226,6 +228,7 @@ pub fn summarize(
         (machine.new ≡ (whole_run (unpipelined latency) machine.old requests.now).state) }
     ensures over { OnOk result (RequestsEnd (unpipelined latency) machine.old requests.now) }
     ensures early { OnOk result (EndsInTime (unpipelined latency) machine.old requests.now) }
+    ensures unchanged { OnErr result (machine.new ≡ machine.old) }
 {
     summarize_with(alloc, machine, Timing::unpipelined(latency), requests)
 }
