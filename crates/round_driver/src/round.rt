@@ -16,7 +16,7 @@ use machine_core::{Lookup, ShapedMachine};
 
 /// The most that is told of a round: of each bank, one arrival, the stack, the replies, the write
 /// queue, and one request.
-pub(crate) const MOST_NOTES: usize = MAX_BANKS as usize + 8;
+pub(crate) const MOST_NOTES: usize = MAX_BANKS as usize + 5;
 
 // What is told of a round.
 pub(crate) type Notes = ArrayVec<Note, MOST_NOTES>;
