@@ -18,7 +18,7 @@ use Rattle.round_driver.specs.declared.table.Table.{Table}
 use Rattle.round_driver.specs.declared.timing.Timing.{Timing}
 use Rattle.round_driver.specs.Rounds.{Run, run_of, opening, after_round, is_over_at, rounds_until_over, start_of}
 use Rattle.round_driver.specs.Walks.{is_request}
-use Rattle.round_driver.specs.Tables.{Counting, counting, counted_all, nothing, with_rounds, total}
+use Rattle.round_driver.specs.Tables.{Counting, counted_all, nothing, with_rounds, total}
 
 -- ---- what stands beside the machine
 
