@@ -18,7 +18,7 @@ use Rattle.round_driver.specs.declared.timing.Timing.{Timing}
 use Rattle.round_driver.specs.Rounds.{Run, Course, asked, moves, course, next_round, after_round, is_over, rounds_until_over, start_of}
 use Rattle.round_driver.specs.Rounds.{most_rounds, whole_run}
 use Rattle.round_driver.specs.Walks.{is_request, IsOverInTime, RequestsEnd}
-use Rattle.round_driver.specs.Written.{run_text, BreaksOff}
+use Rattle.round_driver.specs.Written.{run_text, BreaksOff, rounds_made}
 use Rattle.round_driver.proofs.Ends.{requests_end}
 use Rattle.round_driver.proofs.Runs.{stays, goes, round_over, text_then}
 use Rattle.kroft_jobs.specs.Driving.{IsDriven, IsToldAndDriven}
@@ -161,13 +161,14 @@ module _ (timing : Timing) (s : MachineState) (requests : List Event) where
 
   module _ {W : Type 0} (took : W → List ℕ → W → Type 0) (refused : W → W → Type 0) (old new : W) where
     -- a driving, of a machine that is whole, ends in time even if its writing breaks off
-    pub run_driven : list_all is_request requests ≡ true → IsWholeState s → (result : Result ℕ TraceFault)
+    pub run_driven : list_all is_request requests ≡ true → IsWholeState s → (left : MachineState) (result : Result ℕ TraceFault)
         → IfOk result (λ n. n ≡ (whole_run timing s requests).schedule.round + 1)
         → OnOk result (RequestsEnd timing s requests) → OnOk result (Moves took old (whole_text timing s requests) new)
-        → IfErr result (λ fault. (n : ℕ) × BreaksOff took refused old (run_text (rounds_until_over n start).told) new fault)
+        → IfErr result (λ fault. (n : ℕ) × BreaksOff took refused old (run_text (rounds_until_over n start).told) new fault
+        × (left ≡ (rounds_until_over (rounds_made n fault) start).state))
         → IsDriven took refused timing s requests old new result
-    run_driven all whole (Ok n) count over written broken = (written, over all, count)
-    run_driven all whole (Err f) count over written broken = inr (broken.0, broken.1, requests_end timing s requests whole all)
+    run_driven all whole left (Ok n) count over written broken = (written, over all, count)
+    run_driven all whole left (Err f) count over written broken = inr (broken.0, broken.1, requests_end timing s requests whole all)
 
     -- a run that was kept is written, and not told of
     pub kept_driven : {E : Type 0} (noted : E → List ℕ → E → Type 0) (unnoted unsettled : E → E → Type 0) (errors : E)

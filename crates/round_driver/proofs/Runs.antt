@@ -1,6 +1,6 @@
 -- Rounds, one after another.
 use Rattle.std.proofs.Common.{◌≡◌, ℕ, zero, suc, ◌+◌, ◌≤◌, Bool, true, false, cond, List, [], ◌∷◌, ◌++◌, append_assoc, append-nil, take}
-use Rattle.std.proofs.Common.{length, get_or, ◌<◌, refl, sym, ap, ap₂, subst, ◌∙◌, arith}
+use Rattle.std.proofs.Common.{length, get_or, ◌<◌, Result, Ok, Err, IfErr, IsErrAnd, refl, sym, ap, ap₂, subst, ◌∙◌, arith}
 use Rattle.std.proofs.lemmas.List.{take_more}
 use Rattle.flat_model.specs.declared.Event.{Event}
 use Rattle.machine_core.specs.Machine.{MachineState}
@@ -13,7 +13,7 @@ use Rattle.round_driver.specs.declared.schedule.Schedule.{Schedule}
 use Rattle.round_driver.specs.declared.timing.Timing.{Timing}
 use Rattle.round_driver.specs.Rounds.{Run, run_of, after_round, is_over, is_over_at, rounds_until_over, opening, start_of}
 use Rattle.round_driver.specs.Tables.{Counting, counted, counted_all, nothing}
-use Rattle.round_driver.specs.Written.{note_line, run_text, BreaksOff}
+use Rattle.round_driver.specs.Written.{note_line, run_text, BreaksOff, rounds_made}
 
 once : (n : ℕ) (r : Run) → rounds_until_over (suc n) r ≡ cond (is_over r) r (rounds_until_over n (after_round r))
 unfolding rounds_until_over
@@ -135,6 +135,21 @@ module _ (i : ℕ) (start : Run) (s : MachineState) (p : Schedule) (left : List 
 
     pub run_next : run_of s' p' left' (rounds_until_over (i + 1) start).told ≡ rounds_until_over (i + 1) start
     run_next = ap (run_of s' p' left') told_next ∙ behind
+
+    pub state_next : s' ≡ (rounds_until_over (i + 1) start).state
+    state_next = ap (λ r. r.state) behind
+
+    -- for the lines of the round that was made there is no memory
+    pub lines_lack_memory : {W : Type 0} (took : W → List ℕ → W → Type 0) (refused : W → W → Type 0) (u v : W)
+        (result : Result ℕ TraceFault) → Moves took u (run_text (rounds_until_over i start).told) v
+        → IsErrAnd result (λ fault. fault ≡ OutOfMemory)
+        → IfErr result (λ fault. (n : ℕ) × BreaksOff took refused u (run_text (rounds_until_over n start).told) v fault
+        × (s' ≡ (rounds_until_over (rounds_made n fault) start).state))
+    lines_lack_memory took refused u v (Ok rounds) written told = tt
+    lines_lack_memory took refused u v (Err f) written told =
+        let Says : TraceFault → Type 0 = λ e. (n : ℕ) × BreaksOff took refused u (run_text (rounds_until_over n start).told) v e
+        × (s' ≡ (rounds_until_over (rounds_made n e) start).state) in
+        subst Says (sym told) (i, written, state_next)
 
     text : run_text (rounds_until_over (i + 1) start).told ≡ run_text (rounds_until_over i start).told ++ run_text notes
     text = ap run_text told_next ∙ text_then (rounds_until_over i start).told notes

@@ -1,5 +1,5 @@
 -- The text of a run.
-use Rattle.std.specs.Prelude.{ℕ, List, [], ◌∷◌, ◌++◌}
+use Rattle.std.specs.Prelude.{ℕ, ◌+◌, List, [], ◌∷◌, ◌++◌}
 use Rattle.trace_text.specs.Codes.{line_feed}
 use Rattle.trace_text.specs.Recorded.{recorded, pair_text}
 use Rattle.trace_text.specs.Streams.{Moves, Stopped}
@@ -22,3 +22,9 @@ abbrev pub BreaksOff : {W : Type 0} (took : W → List ℕ → W → Type 0) (re
 BreaksOff took refused old text new fault.Write = Stopped took refused old text new
 BreaksOff took refused old text new fault.OutOfMemory = Moves took old text new
 BreaksOff took refused old text new e = ⊥
+
+-- How many rounds were made when the writing broke off behind the text of n: no memory was found for the lines of one
+-- that was made already.
+abbrev pub rounds_made : ℕ → TraceFault → ℕ
+rounds_made n fault.OutOfMemory = n + 1
+rounds_made n e = n

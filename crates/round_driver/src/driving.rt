@@ -10,7 +10,7 @@ ghost use Rattle.round_driver.specs.Rounds.{run_of, start_of, rounds_until_over,
 ghost use Rattle.round_driver.specs.Tables.{table_of};
 ghost use Rattle.round_driver.specs.Timings.{unpipelined};
 ghost use Rattle.round_driver.specs.Walks.{RequestsEnd};
-ghost use Rattle.round_driver.specs.Written.{run_text, BreaksOff};
+ghost use Rattle.round_driver.specs.Written.{run_text, BreaksOff, rounds_made};
 
 use crate::machine::{keeps_whole, most_moves};
 use crate::round::{Notes, ask, moves};
@@ -94,7 +94,8 @@ pub(crate) fn most_rounds(machine: &ShapedMachine, latency: u64, requests: usize
 ///
 /// `TraceFault::Write` says that a write was refused or took no byte: a front of the run is written.
 /// `TraceFault::OutOfMemory` says that there was too little memory for the lines of a round: the run
-/// up to that round is written. No other fault comes.
+/// up to that round is written. No other fault comes. The machine is then as the round leaves it whose
+/// lines weren't all written.
 pub fn drive_with<W: Sink>(
     alloc: Global,
     machine: &mut ShapedMachine,
@@ -117,7 +118,9 @@ pub fn drive_with<W: Sink>(
     ensures fault { IfErr result
         (λ fault. (n : ℕ) × BreaksOff W.took W.refused writer.old
         (run_text (rounds_until_over n (start_of timing machine.old requests.now)).told)
-        writer.new fault) }
+        writer.new fault
+        × (machine.new
+        ≡ (rounds_until_over (rounds_made n fault) (start_of timing machine.old requests.now)).state)) }
 {
     keeps_whole(machine);
     let mut schedule = Schedule::new(timing);
@@ -163,7 +166,9 @@ pub fn drive<W: Sink>(
     ensures fault { IfErr result
         (λ fault. (n : ℕ) × BreaksOff W.took W.refused writer.old
         (run_text (rounds_until_over n (start_of (unpipelined latency) machine.old requests.now)).told)
-        writer.new fault) }
+        writer.new fault
+        × (machine.new
+        ≡ (rounds_until_over (rounds_made n fault) (start_of (unpipelined latency) machine.old requests.now)).state)) }
 {
     drive_with(
         alloc,

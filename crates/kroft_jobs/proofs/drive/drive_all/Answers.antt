@@ -11,5 +11,6 @@ returns g c =
     let of : MachineState → Type 0 = λ m. IsDriven g.O.Sink.took g.O.Sink.refused c.args.timing m c.args.requests.now output
     made.new.writer made.result in
     let driven = run_driven c.args.timing c.in-Ok.machine c.args.requests.now g.O.Sink.took g.O.Sink.refused output made.new.writer
-    c.requires.all c.keeps_whole.ensures made.result made.ensures.ok made.ensures.over made.ensures.written made.ensures.fault in
+    c.requires.all c.keeps_whole.ensures made.new.machine made.result made.ensures.ok made.ensures.over made.ensures.written
+    made.ensures.fault in
     subst of c.in-Ok.ensures.machine driven

@@ -3,7 +3,8 @@ use Rattle.trace_text.specs.Streams.{Moves, Stopped}
 use Rattle.trace_text.specs.declared.fault.TraceFault.TheVariants.{Write}
 use Rattle.round_driver.specs.Rounds.{start_of, rounds_until_over, is_over, whole_run}
 use Rattle.round_driver.specs.Written.{run_text}
-use Rattle.round_driver.proofs.Runs.{no_more, run_begins, text_begins, over_here, run_next, text_next, text_breaks}
+use Rattle.round_driver.proofs.Runs.{no_more, run_begins, text_begins, over_here, run_next, state_next, text_next, text_breaks}
+use Rattle.round_driver.proofs.Runs.{lines_lack_memory}
 use Rattle.round_driver.proofs.Ends.{requests_end}
 use Rattle.round_driver.proofs.driving.drive_with.Goals as goal
 
@@ -64,7 +65,18 @@ returns-in-Err-clause-fault g c =
       text_breaks c.loop-turn._turn start c.loop-turn.machine c.loop-turn.schedule c.loop-turn.left.now here
           c.round-left.new.machine c.round-left.new.schedule c.round-left.result.now c.round-left.new.notes.items made going g.W.Sink.took
           g.W.Sink.refused c.args.writer.now c.loop-turn.writer c.write_whole.new.writer Write c.loop-turn.invariant.written stops,
+      state_next c.loop-turn._turn start c.loop-turn.machine c.loop-turn.schedule c.loop-turn.left.now here c.round-left.new.machine
+          c.round-left.new.schedule c.round-left.result.now c.round-left.new.notes.items made going,
     )
+
+pub returns-in_err-text-clause-fault : goal.returns-in_err-text-clause-fault
+returns-in_err-text-clause-fault g c =
+    let start = start_of c.args.timing c.args.machine.now c.args.requests.now in
+    let here = c.loop-turn.invariant.run in
+    let going = sym c.is_over.ensures ∙ c.if-is_over.false in
+    lines_lack_memory c.loop-turn._turn start c.loop-turn.machine c.loop-turn.schedule c.loop-turn.left.now here c.round-left.new.machine
+    c.round-left.new.schedule c.round-left.result.now c.round-left.new.notes.items c.round-left.ensures.run going g.W.Sink.took
+    g.W.Sink.refused c.args.writer.now c.loop-turn.writer _ c.loop-turn.invariant.written c.from_residual.ensures.1
 
 pub returns-then-is_over-clause-early : goal.returns-then-is_over-clause-early
 returns-then-is_over-clause-early g c =
