@@ -4,6 +4,7 @@ ghost use Rattle.std.specs.Prelude.{◌≡◌, ℕ, ◌<◌, length, map, Option
 ghost use Rattle.std.specs.List.{All, list_any};
 ghost use Rattle.register_sweeps.specs.declared.sweeps.SweepFault.TheVariants.{OutOfMemory};
 ghost use Rattle.register_sweeps.specs.declared.threads.Stop.{Stop};
+ghost use Rattle.register_sweeps.specs.declared.threads.Stop.TheVariants as stops;
 ghost use Rattle.shape_files.specs.MachineFile.{bad_machine};
 ghost use Rattle.cache_unit.specs.declared.Sizes.{Sizes as SizesValue};
 ghost use Rattle.flat_model.specs.declared.ShapeField.{ShapeField as Field};
@@ -48,6 +49,8 @@ pub(crate) enum Stop {
 }
 
 impl From<AllocError> for Stop {
+    ghost from_gives = { λ e s. s ≡ stops.OutOfMemory };
+
     fn from(_fault: AllocError) -> Stop {
         Stop::OutOfMemory
     }
