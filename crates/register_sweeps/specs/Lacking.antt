@@ -12,7 +12,7 @@ use Rattle.cache_unit.specs.State.{Cache, is_present, block_of}
 use Rattle.cache_unit.specs.Causes.{first_cause, miss_causes}
 use Rattle.machine_core.specs.Machine.{MachineState}
 use Rattle.register_sweeps.specs.declared.row.Asked.{Asked}
-use Rattle.register_sweeps.specs.declared.row.Asked.TheVariants.{Ended, LacksRoom, Waits}
+use Rattle.register_sweeps.specs.declared.row.Asked.TheVariants.{Ended, LacksRoom}
 
 -- how a request stands once it was asked
 abbrev pub has_ended : Asked → Bool
