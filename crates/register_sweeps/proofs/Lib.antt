@@ -1,3 +1,4 @@
+pub mod Begun
 pub mod Turns
 pub mod Shapes
 pub mod Owing

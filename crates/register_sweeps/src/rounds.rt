@@ -1,11 +1,12 @@
 //! The rows of a sweep in rounds: a machine is driven with times of memory, and its table counted.
 
-ghost use Rattle.std.specs.Prelude.{◌≡◌, ◌≤◌, length, map, Some, None, IfOk, IfErr, OnOk};
+ghost use Rattle.std.specs.Prelude.{◌≡◌, ◌≢◌, ◌≤◌, ◌<◌, length, map, Some, None, Err, IfOk, IfErr, OnOk, true};
 ghost use Rattle.shape_files.specs.MachineFile.{bad_machine};
 ghost use Rattle.round_driver.specs.declared.driving.TheConstants.{MOST_LATENCY};
 ghost use Rattle.round_driver.specs.Rounds.{most_requests};
 ghost use Rattle.round_driver.specs.Tables.{table_of};
 ghost use Rattle.round_driver.specs.Walks.{RequestsEnd};
+ghost use Rattle.register_sweeps.specs.declared.sweeps.SweepFault.TheVariants.{TurnLimit};
 ghost use Rattle.register_sweeps.specs.Sweep.{FaultSays, bad_from, machine_over};
 ghost use Rattle.register_sweeps.specs.Rounds.{RunEnds, EachRunEnds, rounds_row_of, rounds_row_text};
 
@@ -108,6 +109,7 @@ pub fn sweep_rounds<R: Threads + Sync, G: SweepGate>(
     ensures over { OnOk result (EachRunEnds timing requests.now machines.now) }
     ensures good { OnOk result (bad_from bad_machine 0 machines.now ≡ None) }
     ensures fault { IfErr result (FaultSays bad_machine machines.now) }
+    ensures begins { G.is_open gate.now ≡ true → 0 < turns → result ≢ Err TurnLimit }
 {
     all_good(machines)?;
     let maker = RoundsRows { timing, requests };

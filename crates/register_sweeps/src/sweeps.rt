@@ -1,6 +1,6 @@
 //! Sweeps: one row for each machine, each by a thread of its own.
 
-ghost use Rattle.std.specs.Prelude.{⊤, ◌≡◌, ◌≢◌, ◌∷◌, [], ◌≤◌, length, map, Some, None, Err, IfOk, IfErr, OnOk, true};
+ghost use Rattle.std.specs.Prelude.{⊤, ◌≡◌, ◌≢◌, ◌∷◌, [], ◌≤◌, ◌<◌, Bool, length, map, Some, None, Err, IfOk, IfErr, OnOk, true, false};
 ghost use Rattle.std.specs.List.{list_all};
 ghost use Rattle.round_driver.specs.Rounds.{most_requests};
 ghost use Rattle.round_driver.specs.Walks.{is_request};
@@ -64,8 +64,12 @@ impl From<AllocError> for SweepFault {
 
 /// Says when the rows of a sweep may begin, and is told when they have ended.
 pub trait SweepGate: Sync {
+    /// Whether the gate lets every row begin, whenever it is asked.
+    ghost is_open: { Self → Bool } = { λ gate. false };
+
     /// Whether the thread of the row at this place may begin it. It asks once in each turn.
-    fn may(&self, place: usize) -> bool;
+    fn may(&self, place: usize) -> bool
+        ensures begins { is_open self.now ≡ true → result ≡ true };
 
     /// The row at this place has ended.
     fn ended(&self, place: usize);
@@ -76,6 +80,8 @@ pub trait SweepGate: Sync {
 pub struct OpenGate;
 
 impl SweepGate for OpenGate {
+    ghost is_open = { λ gate. true };
+
     fn may(&self, _place: usize) -> bool
         ensures { result ≡ true }
     {
@@ -157,8 +163,8 @@ fn machines_of(alloc: Global, shapes: &[ToolShape]) -> Result<Vec<Sizes>, AllocE
 ///
 /// `BadShape` names the first machine with a number out of its range, and the first such number, before
 /// any thread begins. `OutOfMemory` says that there was too little memory, and goes before
-/// `TurnLimit`, which says that a thread used up its turns before its gate let it begin. A fault
-/// gives no row, and all threads have ended then.
+/// `TurnLimit`, which says that a thread used up its turns before its gate let it begin: it never comes where
+/// the gate is open and there are turns at all. A fault gives no row, and all threads have ended then.
 pub fn sweep_machines<R: Threads + Sync, G: SweepGate>(
     rt: &R,
     alloc: Global,
@@ -173,6 +179,7 @@ pub fn sweep_machines<R: Threads + Sync, G: SweepGate>(
         (λ rows. list_all is_request events.now ≡ true → EachCountsAll events.now machines.now rows.items) }
     ensures good { OnOk result (bad_from bad_machine 0 machines.now ≡ None) }
     ensures fault { IfErr result (FaultSays bad_machine machines.now) }
+    ensures begins { G.is_open gate.now ≡ true → 0 < turns → result ≢ Err TurnLimit }
 {
     all_good(machines)?;
     rows_on_threads(rt, alloc, &PumpedRows { events }, machines, turns, gate)
@@ -195,6 +202,7 @@ pub fn sweep<R: Threads + Sync, G: SweepGate>(
         → EachCountsAll events.now (map sizes_of shapes.now) rows.items) }
     ensures good { OnOk result (bad_from bad_field 0 shapes.now ≡ None) }
     ensures fault { IfErr result (FaultSays bad_field shapes.now) }
+    ensures begins { G.is_open gate.now ≡ true → 0 < turns → result ≢ Err TurnLimit }
 {
     all_good(shapes)?;
     let machines = machines_of(alloc, shapes)?;

@@ -1,8 +1,8 @@
 //! A row for each machine, each by a thread of its own.
 
-ghost use Rattle.std.specs.Prelude.{◌≡◌, ℕ, ◌<◌, length, map, Option, Result, None, Ok, Err, IfOk, IfErr, OnOk, slice_index_or, true};
+ghost use Rattle.std.specs.Prelude.{◌≡◌, ◌≢◌, ℕ, ◌<◌, length, map, Option, Result, None, Ok, Err, IfOk, IfErr, OnOk, slice_index_or, true};
 ghost use Rattle.std.specs.List.{All, list_any};
-ghost use Rattle.register_sweeps.specs.declared.sweeps.SweepFault.TheVariants.{OutOfMemory};
+ghost use Rattle.register_sweeps.specs.declared.sweeps.SweepFault.TheVariants.{TurnLimit, OutOfMemory};
 ghost use Rattle.register_sweeps.specs.declared.threads.Stop.{Stop};
 ghost use Rattle.register_sweeps.specs.declared.threads.Stop.TheVariants as stops;
 ghost use Rattle.shape_files.specs.MachineFile.{bad_machine};
@@ -86,6 +86,7 @@ impl Ranged for Sizes {
 pub(crate) fn all_good<S: Ranged>(all: &[S]) -> Result<(), SweepFault>
     ensures good { OnOk result (bad_from S.bad 0 all.now ≡ None) }
     ensures fault { IfErr result (FaultSays S.bad all.now) }
+    ensures no_turns { result ≢ Err TurnLimit }
 {
     for (place, one) in all.iter().enumerate() {
         if let Some(field) = one.bad() {
@@ -106,8 +107,9 @@ fn row_in_turn<K: RowMaker, G: SweepGate>(
 ) -> Result<K::Row, Stop>
     requires can { K.can maker.now }
     requires sizes { bad_machine sizes.now ≡ None }
-    ensures { IfOk result
+    ensures row { IfOk result
         (λ row. (row ≡ K.gives maker.now sizes.now) × K.shows maker.now sizes.now) }
+    ensures begins { G.is_open gate.now ≡ true → 0 < turns → result ≢ Err stops.TurnLimit }
 {
     for _turn in 0..turns {
         if gate.may(place) {
@@ -136,6 +138,9 @@ fn all_answers<R: Threads + Sync, K: RowMaker, G: SweepGate>(
         → IfOk (slice_index_or v.items i d)
         (λ row. (row ≡ K.gives maker.now (slice_index_or machines.now i z))
         × K.shows maker.now (slice_index_or machines.now i z))) }
+    ensures begins { IfOk result
+        (λ v. G.is_open gate.now ≡ true → 0 < turns → (i : ℕ) (d : Result K.Row Stop) → i < length machines.now
+        → slice_index_or v.items i d ≢ Err stops.TurnLimit) }
 {
     thread::map_indices(
         rt,
@@ -143,10 +148,11 @@ fn all_answers<R: Threads + Sync, K: RowMaker, G: SweepGate>(
         machines.len(),
         &|place: usize| -> Result<K::Row, Stop>
             requires { (place < length machines.now) × K.can maker.now × AreGood machines.now }
-            ensures { (z : SizesValue)
+            ensures row { (z : SizesValue)
                 → IfOk result (λ row.
                 (row ≡ K.gives maker.entry.now (slice_index_or machines.entry.now place z))
                 × K.shows maker.entry.now (slice_index_or machines.entry.now place z)) }
+            ensures begins { G.is_open gate.entry.now ≡ true → 0 < turns → result ≢ Err stops.TurnLimit }
         { row_in_turn(alloc, maker, place, &machines[place], turns, gate) },
     )
 }
@@ -165,6 +171,7 @@ fn all_rows<A: Copy>(alloc: Global, answers: &[Result<A, Stop>]) -> Result<Vec<A
     ensures rows { IfOk result (λ rows. map Ok rows.items ≡ answers.now) }
     ensures fault { IfErr result IsStop }
     ensures memory { list_any lacks_memory answers.now ≡ true → result ≡ Err OutOfMemory }
+    ensures limit { All (λ a. a ≢ Err stops.TurnLimit) answers.now → result ≢ Err TurnLimit }
 {
     if one_lacks_memory(answers) {
         return Err(SweepFault::OutOfMemory);
@@ -195,6 +202,7 @@ pub(crate) fn rows_on_threads<R: Threads + Sync, K: RowMaker, G: SweepGate>(
     ensures rows { IfOk result (λ rows. rows.items ≡ map (K.gives maker.now) machines.now) }
     ensures shown { OnOk result (All (K.shows maker.now) machines.now) }
     ensures fault { IfErr result IsStop }
+    ensures begins { G.is_open gate.now ≡ true → 0 < turns → result ≢ Err TurnLimit }
 {
     let answers = all_answers(rt, alloc, maker, machines, turns, gate)?;
     all_rows(alloc, answers.as_slice())
