@@ -1,6 +1,6 @@
 -- Why a sweep has no rows, by the fault of its machines; and what is counted of requests that were read.
-use Rattle.std.proofs.Common.{◌≡◌, ℕ, ◌+◌, ◌<◌, true, List, [], ◌∷◌, ◌++◌, length, take, get_or, map, Result, Ok, Err}
-use Rattle.std.proofs.Common.{IfErr, IsErrAnd, sym, subst}
+use Rattle.std.proofs.Common.{◌≡◌, ◌≢◌, ℕ, ◌+◌, ◌<◌, true, List, [], ◌∷◌, ◌++◌, length, take, get_or, map, Result, Ok, Err}
+use Rattle.std.proofs.Common.{IfErr, IsErrAnd, refl, sym, subst}
 use Rattle.std.proofs.lemmas.List.{take_more}
 use Rattle.std.specs.List.{list_all}
 use Rattle.shape_files.specs.MachineFile.{bad_machine}
@@ -30,17 +30,18 @@ use Rattle.kroft_jobs.specs.Sweeping.{IsCounted, IsDetailed, AreCounted, AreSwep
 
 module _ {R : Type 0} (gave : R → List ℕ → R → Type 0) (failed : R → R → Type 0) (machines : List Sizes) (input input' : R)
     (texts : List (List ℕ)) (whole : ReadWhole gave trace_fault MAX_LINE input input' texts) where
-  fails : (fault : SweepFault) → FaultSays bad_machine machines fault → SweepFails gave failed machines input input' (of_sweep fault)
-  fails (sweep.BadShape place field) says = (texts, place, whole, says)
-  fails sweep.TurnLimit says = (texts, whole, says)
-  fails sweep.OutOfMemory says = tt
+  fails : (fault : SweepFault) → fault ≢ sweep.TurnLimit → FaultSays bad_machine machines fault
+      → SweepFails gave failed machines input input' (of_sweep fault)
+  fails (sweep.BadShape place field) begun says = (texts, place, whole, says)
+  fails sweep.TurnLimit begun says = absurd (begun refl)
+  fails sweep.OutOfMemory begun says = tt
 
-  pub unswept : {X : Type 0} (made : List Sizes) → made ≡ machines → (fault : SweepFault) → FaultSays bad_machine made fault
-      → (result : Result X JobFault) → IsErrAnd result (λ told. told ≡ of_sweep fault)
+  pub unswept : {X : Type 0} (made : List Sizes) → made ≡ machines → (fault : SweepFault) → fault ≢ sweep.TurnLimit
+      → FaultSays bad_machine made fault → (result : Result X JobFault) → IsErrAnd result (λ told. told ≡ of_sweep fault)
       → IfErr result (SweepFails gave failed machines input input')
-  unswept made same fault says (Ok rows) told = tt
-  unswept made same fault says (Err f) told =
-      let here = fails fault (subst (λ zs. FaultSays bad_machine zs fault) same says) in
+  unswept made same fault begun says (Ok rows) told = tt
+  unswept made same fault begun says (Err f) told =
+      let here = fails fault begun (subst (λ zs. FaultSays bad_machine zs fault) same says) in
       subst (SweepFails gave failed machines input input') (sym told) here
 
 -- ---- what is counted of requests that were read

@@ -1,5 +1,5 @@
 -- What becomes of the requests of a trace that are counted in rounds, and why a sweep has no rows.
-use Rattle.std.specs.Prelude.{⊤, ◌≡◌, ℕ, List, [], ◌∷◌, map, Option, Some, None}
+use Rattle.std.specs.Prelude.{⊤, ◌≡◌, ℕ, List, [], ◌∷◌, map, Option, Some}
 use Rattle.std.specs.List.{All}
 use Rattle.shape_files.specs.MachineFile.{bad_machine}
 use Rattle.cache_unit.specs.declared.Sizes.{Sizes}
@@ -23,7 +23,7 @@ use Rattle.access_logs.specs.declared.reading.AccessGroup.{AccessGroup}
 use Rattle.kroft_jobs.specs.Asking.{Asks, accesses_of}
 use Rattle.kroft_jobs.specs.declared.asked.RequestText.{RequestText}
 use Rattle.kroft_jobs.specs.declared.fault.JobFault.{JobFault}
-use Rattle.kroft_jobs.specs.declared.fault.JobFault.TheVariants.{Shape, Trace, TurnLimit, OutOfMemory}
+use Rattle.kroft_jobs.specs.declared.fault.JobFault.TheVariants.{Shape, Trace, OutOfMemory}
 use Rattle.kroft_jobs.specs.declared.rounds.LatencyRows.{LatencyRows}
 
 -- the table of these requests in rounds, in a run that is over in time
@@ -55,7 +55,7 @@ AreSwept (timing ∷ timings) machines requests (swept ∷ rest) =
     (swept.latency ≡ timing.latency) × AreCounted timing machines requests swept.rows.items × AreSwept timings machines requests rest
 
 -- Why a sweep over a trace has no rows. A fault of the trace goes before one of the machines, of which the first that has
--- one is told. Memory may be missing anywhere.
+-- one is told. Memory may be missing anywhere. No turn limit is met, as the gate of these sweeps is open.
 abbrev pub SweepFails : {R : Type 0} (gave : R → List ℕ → R → Type 0) (failed : R → R → Type 0) (machines : List Sizes) (input input' : R)
     → JobFault → Type 0
 SweepFails gave failed machines input input' (Trace fault) =
@@ -63,7 +63,5 @@ SweepFails gave failed machines input input' (Trace fault) =
 SweepFails gave failed machines input input' (Shape (shape.BadShape field)) =
     (texts : List (List ℕ)) × (place : ℕ) × ReadWhole gave trace_fault MAX_LINE input input' texts
     × (bad_from bad_machine 0 machines ≡ Some (place, field))
-SweepFails gave failed machines input input' TurnLimit =
-    (texts : List (List ℕ)) × ReadWhole gave trace_fault MAX_LINE input input' texts × (bad_from bad_machine 0 machines ≡ None)
 SweepFails gave failed machines input input' OutOfMemory = ⊤
 SweepFails gave failed machines input input' fault = ⊥

@@ -1,12 +1,13 @@
 //! What the program does with the requests of a trace or of a log in rounds.
 
-ghost use Rattle.std.specs.Prelude.{◌≡◌, ◌≤◌, ℕ, List, None, true, IfOk, IfErr, OnOk, length};
+ghost use Rattle.std.specs.Prelude.{◌≡◌, ◌≢◌, ◌≤◌, ℕ, List, None, Err, true, IfOk, IfErr, OnOk, length};
 ghost use Rattle.std.specs.List.{All, list_all};
 ghost use Rattle.trace_text.specs.declared.fault.TheConstants.{MAX_LINE};
 ghost use Rattle.trace_text.specs.Reading.{ReadWhole, ReadFails};
 ghost use Rattle.trace_text.specs.Serving.{trace_fault};
 ghost use Rattle.trace_text.specs.Requests.{requests_of};
 ghost use Rattle.shape_files.specs.MachineFile.{bad_machine};
+ghost use Rattle.register_sweeps.specs.declared.sweeps.SweepFault.TheVariants.{TurnLimit};
 ghost use Rattle.register_sweeps.specs.Sweep.{FaultSays, machine_over};
 ghost use Rattle.round_driver.specs.declared.driving.TheConstants.{MOST_LATENCY};
 ghost use Rattle.round_driver.specs.Details.{details_of};
@@ -164,6 +165,7 @@ fn sweep_each<R: Threads + Sync>(
     requires all { list_all is_request requests.now ≡ true }
     ensures rows { IfOk result (λ swept. AreSwept timings.now machines.now requests.now swept.items) }
     ensures fault { IfErr result (FaultSays bad_machine machines.now) }
+    ensures no_turns { result ≢ Err TurnLimit }
 {
     let mut swept = Vec::new(alloc);
     for timing in timings {

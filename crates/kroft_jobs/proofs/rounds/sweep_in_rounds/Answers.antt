@@ -1,4 +1,4 @@
-use Rattle.std.proofs.Common.{ap, ◌∙◌}
+use Rattle.std.proofs.Common.{Err, refl, ap, ◌∙◌, arith}
 use Rattle.std.specs.List.{list_all}
 use Rattle.round_driver.specs.Walks.{is_request}
 use Rattle.kroft_jobs.specs.Jobs.{swept}
@@ -12,7 +12,8 @@ returns-in_err-rows-clause-fault g c =
     let told = c.from_residual-in_err-rows in
     let made = c.as_slice-2.ensures.value ∙ c.in_ok-machines.ensures in
     unswept g.I.Source.gave g.I.Source.failed (swept c.args.sizes.now c.args.registers.now) c.args.input.now c.read_requests.new.reader
-    read.0 read.1 c.as_slice-2.result.now made c.in_err-rows.field-0.0 c.in_err-rows.ensures.fault told.result told.ensures.1
+    read.0 read.1 c.as_slice-2.result.now made c.in_err-rows.field-0.0
+    (λ limit. c.in_err-rows.ensures.begins refl (omega arith) (ap Err limit)) c.in_err-rows.ensures.fault told.result told.ensures.1
 
 pub returns-clause-rows : goal.returns-clause-rows
 returns-clause-rows g c =
