@@ -8,7 +8,7 @@ use Rattle.std.proofs.Math.Seq.{drop-length, take-length}
 use Rattle.std.proofs.lemmas.Bool.{cases_Bool, cases_lt, eqb-true}
 use Rattle.std.proofs.lemmas.List.{length-drop, get_or-set_same, get_or-set_other, get_or-replicate, get_or_past, drop-append-le}
 use Rattle.std.proofs.lemmas.List.{length-replicate}
-use Rattle.std.proofs.lemmas.List.Sums.{sum_by-le, get_or-le-sum_by}
+use Rattle.std.proofs.lemmas.List.Sums.{sum_by-le, sum_by-le-sum_by, get_or-le-sum_by}
 use Rattle.std.proofs.lemmas.List.Folds.{sum_by-replicate}
 use Rattle.flat_model.specs.declared.Word.{Word}
 use Rattle.std.proofs.lemmas.Bool.Decides.{nat_tests}
@@ -20,7 +20,7 @@ use Rattle.run_reasons.specs.declared.tags.LeftWord.{LeftWord}
 use Rattle.run_reasons.specs.declared.tags.TagSlot.{TagSlot}
 use Rattle.run_reasons.specs.Origins.{is_open_at, with_use, without_since, with_left}
 use Rattle.run_reasons.specs.TagSlots.{no_slot, slot_at, uses_in, words_at, is_left, words_behind, since_in, is_open, loads_in, loads_at}
-use Rattle.run_reasons.specs.TagSlots.{IsCounted}
+use Rattle.run_reasons.specs.TagSlots.{IsCounted, while_open}
 
 abbrev one_if : Bool → ℕ
 one_if b = if b then 1 else 0
@@ -52,6 +52,15 @@ pub since_set : (left : List LeftWord) (slots : List TagSlot) (tag : ℕ) (s : T
 since_set left slots tag s lt none =
     fun_ext (λ t. ap (λ (u : TagSlot). words_behind left u.before u.state) (slot_set slots tag t s (t == tag) lt refl)
     ∙ words_is left (t == tag) s (slot_at slots t) none)
+
+use_is : (b : Bool) (s u : TagSlot) → (cond b s u).state ≡ (if b then s.state else u.state)
+use_is true s u = refl
+use_is false s u = refl
+
+pub uses_set : (slots : List TagSlot) (tag : ℕ) (s : TagSlot) → tag < length slots
+    → uses_in (slice_set slots tag s) ≡ with_use (uses_in slots) tag s.state
+uses_set slots tag s lt =
+    fun_ext (λ t. ap (λ (u : TagSlot). u.state) (slot_set slots tag t s (t == tag) lt refl) ∙ use_is (t == tag) s (slot_at slots t))
 
 -- of two changes of one tag the second counts
 twice : {X : Type 0} (b : Bool) (x y z : X) → (if b then x else (if b then y else z)) ≡ (if b then x else z)
@@ -103,6 +112,15 @@ few_counted p slots =
     let most : sum_by (λ s. one_if (p s.state)) slots ≤ length slots * 1 = sum_by-le (λ s.
     one_if (p s.state)) 1 slots (λ k d l. at_most_one (p (get_or slots k d).state)) in
     omega (arith, most)
+
+-- a load that is open at a word is one of all that are open
+one_open : (at : ℕ) (state : TagUse) → one_if (is_open_at at state) ≤ one_if (is_open state)
+one_open at Never = omega arith
+one_open at (Loaded load) = at_most_one (load.at == at)
+one_open at (Taken n) = omega arith
+
+pub few_at : (at : ℕ) (slots : List TagSlot) → loads_at at slots ≤ loads_in slots
+few_at at slots = sum_by-le-sum_by (λ s. one_if (is_open_at at s.state)) (λ s. one_if (is_open s.state)) slots (λ s. one_open at s.state)
 
 no_longer : (state : TagUse) (P : Type 0) → is_open state ≡ false → is_open state ≡ true → P
 no_longer state P e h = absurd (not_true (sym e ∙ h))
@@ -159,6 +177,36 @@ pub since_passed : (slots : List TagSlot) (counts : List ℕ) (loads : ℕ) (lef
 since_passed slots counts loads left at word c zero = fun_ext (λ t.
     not_at (is_open_at at (uses_in slots t)) (since_in left slots t) (since_in left slots t ++ word ∷ [])
     (none_counted (is_open_at at) slots t refl (sym (c.each_word at) ∙ zero)))
+
+-- ---- words that are forgotten
+
+-- no word is told of a tag without a load
+pub none_behind : (left : List LeftWord) (before : ℕ) (state : TagUse) → is_open state ≡ false → words_behind left before state ≡ []
+none_behind left before Never h = refl
+none_behind left before (Loaded load) h = cc
+none_behind left before (Taken n) h = refl
+
+-- nobody misses the words that are forgotten
+pub since_forgotten : (slots : List TagSlot) (counts : List ℕ) (loads : ℕ) (left : List LeftWord)
+    → IsCounted slots counts loads left → since_in (while_open loads left) slots ≡ since_in left slots
+since_forgotten slots counts loads left c = elim (cases_Bool (loads == 0)) [
+  | inl e ↦
+      let none : (t : ℕ) → is_open (uses_in slots t) ≡ false = λ t. none_counted is_open slots t refl (sym c.all ∙ eqb-true loads 0 e) in
+      rw e (fun_ext (λ t. none_behind [] (slot_at slots t).before (uses_in slots t) (none t)
+      ∙ sym (none_behind left (slot_at slots t).before (uses_in slots t) (none t))))
+  | inr e ↦ rw e refl
+]
+
+pub counted_forgotten : (slots : List TagSlot) (counts : List ℕ) (loads : ℕ) (left : List LeftWord)
+    → IsCounted slots counts loads left → IsCounted slots counts loads (while_open loads left)
+counted_forgotten slots counts loads left c = record {
+  each_word = c.each_word;
+  all = c.all;
+  behind = λ t h. elim (cases_Bool (loads == 0)) [
+    | inl e ↦ no_longer (uses_in slots t) _ (none_counted is_open slots t refl (sym c.all ∙ eqb-true loads 0 e)) h
+    | inr e ↦ rw e (c.behind t h)
+  ];
+}
 
 -- ---- before any line
 

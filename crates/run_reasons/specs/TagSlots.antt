@@ -1,5 +1,5 @@
 -- What a `Tags` keeps: of each tag what became of it, and the words that its open load may have got since it was accepted.
-use Rattle.std.specs.Prelude.{◌≡◌, ℕ, ◌≤◌, Bool, true, false, ◌==◌, ◌&&◌, if◌then◌else◌, List, [], ◌∷◌, drop, length, slice_index_or}
+use Rattle.std.specs.Prelude.{◌≡◌, ℕ, ◌≤◌, Bool, true, false, ◌==◌, ◌&&◌, if◌then◌else◌, List, [], ◌∷◌, ◌++◌, drop, length, slice_index_or}
 use Rattle.std.specs.List.{sum_by}
 use Rattle.flat_model.specs.declared.Word.{Word}
 use Rattle.flat_model.specs.Flat.{same_word}
@@ -59,3 +59,13 @@ pub record IsCounted (slots : List TagSlot) (counts : List ℕ) (loads : ℕ) (l
   pub each_word : (at : ℕ) → slice_index_or counts at 0 ≡ loads_at at slots
   pub all : loads ≡ loads_in slots
   pub behind : (tag : ℕ) → is_open (uses_in slots tag) ≡ true → (slot_at slots tag).before ≤ length left
+
+-- ---- what is kept of the words that were left
+
+-- words that were left are kept while any load is open
+abbrev pub while_open : ℕ → List LeftWord → List LeftWord
+while_open loads left = if loads == 0 then [] else left
+
+-- a word more, left at an address: it is kept only if a load of that address is open
+abbrev pub with_left_word : List TagSlot → List LeftWord → ℕ → Word → List LeftWord
+with_left_word slots left at word = if loads_at at slots == 0 then left else left ++ record { at = at; word = word } ∷ []

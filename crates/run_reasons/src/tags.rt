@@ -3,7 +3,7 @@
 ghost use Rattle.std.specs.Prelude.{◌≡◌, ◌<◌, ◌≤◌, ◌+◌, false, [], vec_len, vec_capacity, replicate, IfOk, OnOk};
 ghost use Rattle.std.specs.List.{list_any};
 ghost use Rattle.flat_model.specs.Flat.{same_word};
-ghost use Rattle.run_reasons.specs.TagSlots.{IsCounted, is_left};
+ghost use Rattle.run_reasons.specs.TagSlots.{IsCounted, is_left, while_open, with_left_word};
 ghost use Rattle.run_reasons.specs.declared.tags.TheConstants.{TAGS};
 
 use crate::origins::{AcceptedLoad, TagUse};
@@ -38,6 +38,7 @@ pub(crate) struct Tags {
     pub(crate) left: Vec<LeftWord>,
     ghost all_tags: { vec_len slots ≡ TAGS },
     ghost counted: { IsCounted slots.items counts.items loads left.items },
+    ghost forgotten: { loads ≡ 0 → left.items ≡ [] },
 }
 
 // So many tags, of which no load has had one.
@@ -79,6 +80,15 @@ fn has_word(left: &[LeftWord], at: u32, word: Word) -> bool
     ensures { result ≡ list_any (is_left at word) left.now }
 {
     left.iter().any(|left| is_left(left, at, word))
+}
+
+// Forgets the words that were left, if no load is open.
+fn forget(left: &mut Vec<LeftWord>, loads: u32)
+    ensures { left.new.items ≡ while_open loads left.old.items }
+{
+    if loads == 0 {
+        left.clear();
+    }
 }
 
 impl Tags {
@@ -132,7 +142,7 @@ impl Tags {
         self.left.reserve(1)
     }
 
-    // A store leaves this word at an address.
+    // A store leaves this word at an address. It is kept only if a load of that address is open.
     pub(crate) fn leave(&mut self, at: u32, word: Word)
         requires room { vec_len self.old.left + 1 ≤ vec_capacity self.old.left }
         requires inside { at < vec_len self.old.counts }
@@ -140,6 +150,7 @@ impl Tags {
         ensures counts { self.new.counts ≡ self.old.counts }
         ensures since { since_in self.new.left.items self.new.slots.items
             ≡ with_left (uses_in self.old.slots.items) (since_in self.old.left.items self.old.slots.items) at word }
+        ensures left { self.new.left.items ≡ with_left_word self.old.slots.items self.old.left.items at word }
     {
         if self.counts[at as usize] > 0 {
             self.left.push_reserved(LeftWord { at, word });
@@ -195,10 +206,7 @@ impl Tags {
         ensures counts { vec_len self.new.counts ≡ vec_len self.old.counts }
     {
         match self.use_of(tag) {
-            TagUse::Loaded(load) => {
-                self.end_load(tag, load, state);
-                self.forget();
-            }
+            TagUse::Loaded(load) => self.end_load(tag, load, state),
             _ => self.set(tag, state),
         }
     }
@@ -215,7 +223,8 @@ impl Tags {
         self.slots[tag as usize] = TagSlot { state, before: 0 };
     }
 
-    // The load that is open under the tag is open no longer: the tag becomes this.
+    // The load that is open under the tag is open no longer: the tag becomes this. If it was the last one that was open, the
+    // words that were left are forgotten.
     fn end_load(&mut self, tag: u16, load: AcceptedLoad, state: TagUse)
         requires loaded { uses_in self.old.slots.items tag ≡ TagUse.Loaded load }
         requires closed { is_open state ≡ false }
@@ -223,22 +232,12 @@ impl Tags {
         ensures since { since_in self.new.left.items self.new.slots.items
             ≡ without_since (since_in self.old.left.items self.old.slots.items) tag }
         ensures counts { vec_len self.new.counts ≡ vec_len self.old.counts }
+        ensures left { self.new.left.items ≡ while_open self.new.loads self.old.left.items }
     {
         let at = load.at as usize;
         self.counts[at] -= 1;
         self.loads -= 1;
         self.slots[tag as usize] = TagSlot { state, before: 0 };
-    }
-
-    // Forgets the words that were left, if no load is open.
-    fn forget(&mut self)
-        ensures slots { self.new.slots ≡ self.old.slots }
-        ensures counts { self.new.counts ≡ self.old.counts }
-        ensures since { since_in self.new.left.items self.new.slots.items
-            ≡ since_in self.old.left.items self.old.slots.items }
-    {
-        if self.loads == 0 {
-            self.left.clear();
-        }
+        forget(&mut self.left, self.loads);
     }
 }
