@@ -56,6 +56,15 @@ Follows count n s [] d last = last ≡ d
 Follows count n s (asked ∷ rest) d last =
     (next : Drawing) × DrawsEvent count n s asked d next × Follows count (n + 1) (after_event s asked.event) rest next last
 
+-- the machine behind all this: what was recorded doesn't matter to it
+abbrev pub after_asked : MachineState → List Asked → MachineState
+after_asked s [] = s
+after_asked s (asked ∷ rest) = after_asked (after_event s asked.event) rest
+
+-- the machine behind some first ones of these
+abbrev pub IsWithin : MachineState → List Asked → MachineState → Type 0
+IsWithin s all s' = (front : List Asked) × (rest : List Asked) × (all ≡ front ++ rest) × (s' ≡ after_asked s front)
+
 -- all that is written of a drawing
 abbrev pub whole_text : Drawing → List ℕ
 whole_text (Page p) = string_bytes p.text ++ PAGE_END.now
@@ -78,3 +87,14 @@ Shows gave failed form image s r r' (Err (Trace fault)) = ReadFails gave failed 
 Shows gave failed form image s r r' (Err TooManyEvents) =
     (texts : List (List ℕ)) × ReadWhole gave said_fault MAX_PAIR r r' texts × (MOST_EVENTS < length (all_asked texts))
 Shows gave failed form image s r r' (Err OutOfMemory) = Unit {0}
+
+-- Where the machine is left: behind all events if they are drawn, and behind some first ones of them if there was too little
+-- memory to draw them all. Before all of them are read it isn't touched.
+abbrev pub Leaves : {R : Type 0} (gave : R → List ℕ → R → Type 0) → R → R → MachineState → MachineState
+    → Result (String Global) ShowFault → Type 0
+Leaves gave r r' s s' (Ok text) =
+    (texts : List (List ℕ)) × ReadWhole gave said_fault MAX_PAIR r r' texts × (s' ≡ after_asked s (all_asked texts))
+Leaves gave r r' s s' (Err (Trace fault)) = s' ≡ s
+Leaves gave r r' s s' (Err TooManyEvents) = s' ≡ s
+Leaves gave r r' s s' (Err OutOfMemory) =
+    (texts : List (List ℕ)) × ReadWhole gave said_fault MAX_PAIR r r' texts × IsWithin s (all_asked texts) s'

@@ -1,9 +1,9 @@
 //! The walk of a machine over events, drawn.
 
-ghost use Rattle.std.specs.Prelude.{◌≡◌, length, OnOk, IfOk};
+ghost use Rattle.std.specs.Prelude.{◌≡◌, length, OnOk, OnErr, IfOk};
 ghost use Rattle.std.specs.String.{string_bytes};
 ghost use Rattle.machine_core.specs.AnyMachine.{after_event};
-ghost use Rattle.run_pictures.specs.Drawn.{DrawsEvent, Follows, IsDrawn, is_whole};
+ghost use Rattle.run_pictures.specs.Drawn.{DrawsEvent, Follows, IsDrawn, IsWithin, after_asked, is_whole};
 
 use crate::asked::{Asked, other_answer};
 use crate::before::Before;
@@ -65,7 +65,9 @@ fn draw_events(
     all: &[Asked],
     drawing: &mut Drawing,
 ) -> Result<(), AllocError>
-    ensures { OnOk result (Follows (length all.now) 1 machine.old all.now drawing.old drawing.new) }
+    ensures follows { OnOk result (Follows (length all.now) 1 machine.old all.now drawing.old drawing.new) }
+    ensures behind { OnOk result (machine.new ≡ after_asked machine.old all.now) }
+    ensures within { OnErr result (IsWithin machine.old all.now machine.new) }
 {
     for (k, asked) in all.iter().enumerate() {
         draw_event(alloc, machine, all.len(), k + 1, *asked, drawing)?;
@@ -81,8 +83,10 @@ pub(crate) fn draw_run(
     form: Form,
     all: &[Asked],
 ) -> Result<String, AllocError>
-    ensures { IfOk result
+    ensures drawn { IfOk result
         (λ text. IsDrawn form image.now machine.old all.now (string_bytes text)) }
+    ensures behind { OnOk result (machine.new ≡ after_asked machine.old all.now) }
+    ensures within { OnErr result (IsWithin machine.old all.now machine.new) }
 {
     let mut drawing = Drawing::new(alloc, machine, image, form)?;
     draw_events(alloc, machine, all, &mut drawing)?;

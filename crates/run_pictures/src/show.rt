@@ -1,7 +1,7 @@
 //! A trace or a recorded run, drawn.
 
 ghost use Rattle.std.specs.Prelude.{Some};
-ghost use Rattle.run_pictures.specs.Drawn.{Shows};
+ghost use Rattle.run_pictures.specs.Drawn.{Leaves, Shows};
 ghost use Rattle.run_pictures.specs.Faults.{show_fault_text};
 
 use crate::asked::read_asked;
@@ -76,6 +76,10 @@ impl From<TraceFault> for ShowFault {
 /// faults: a line that is neither has the trace's fault, or, if it has more than 64 bytes, the recorded
 /// run's. `TooManyEvents` says that there are more than 10,000 events, and `OutOfMemory` that there was
 /// too little memory to draw.
+///
+/// The machine is left behind the last of the events, if they are drawn. If the trace has a fault or too many events it stands
+/// as it stood, since no event is applied before all are read; if there was too little memory to draw, it is left behind some
+/// first ones of them.
 pub fn show_text<R: Source>(
     alloc: Global,
     reader: &mut R,
@@ -83,7 +87,8 @@ pub fn show_text<R: Source>(
     image: &Image,
     form: Form,
 ) -> Result<String, ShowFault>
-    ensures { Shows R.gave R.failed form image.now machine.old reader.old reader.new result }
+    ensures shows { Shows R.gave R.failed form image.now machine.old reader.old reader.new result }
+    ensures machine { Leaves R.gave reader.old reader.new machine.old machine.new result }
 {
     let Some(all) = read_asked(alloc, reader)? else {
         return Err(ShowFault::TooManyEvents);
