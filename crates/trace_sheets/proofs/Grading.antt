@@ -1,18 +1,25 @@
 -- The lines of a sheet, graded one after another.
 use Rattle.std.proofs.Common.{◌≡◌, ℕ, ◌+◌, ◌≤◌, Option, Some, None, Result, Ok, Err, List, [], ◌∷◌, ◌++◌, map, length, length-append}
-use Rattle.std.proofs.Common.{append-nil, append_assoc, refl, sym, ◌∙◌, ap, arith}
+use Rattle.std.proofs.Common.{append-nil, append_assoc, refl, sym, ◌∙◌, ap, subst, inl, inr, arith}
 use Rattle.std.specs.List.{flat_map}
 use Rattle.std.proofs.lemmas.Grind.{flat_map-append}
 use Rattle.machine_core.specs.Machine.{MachineState}
 use Rattle.run_pictures.proofs.Words.{words_behind}
+use Rattle.trace_text.specs.Collecting.{Reads}
+use Rattle.trace_text.specs.Reading.{ReadStops}
 use Rattle.trace_text.specs.Texts.{after_line}
+use Rattle.trace_text.specs.declared.fault.TheConstants.{MAX_PAIR}
+use Rattle.trace_text.specs.declared.fault.TraceFault.{TraceFault}
+use Rattle.trace_text.specs.declared.fault.TraceFault.TheVariants.{OutOfMemory}
+use Rattle.trace_text.specs.declared.reading.Stop.{Stop}
+use Rattle.trace_text.specs.declared.reading.Stop.TheVariants.{Fault, Halted}
 use Rattle.trace_text.specs.declared.lines.Line.{Line}
 use Rattle.trace_text.specs.declared.lines.Line.TheVariants as line
 use Rattle.trace_text.specs.declared.lines.LineFault.{LineFault}
 use Rattle.named_fields.specs.declared.format.Format.{Format}
-use Rattle.trace_sheets.specs.Sheets.{sheet_line}
+use Rattle.trace_sheets.specs.Sheets.{sheet_fault, sheet_line}
 use Rattle.trace_sheets.specs.Grades.{Asked, Graded, GradesOne, came_of, why_of, why_behind, mark, mark_of, told_if, correction, after_said}
-use Rattle.trace_sheets.specs.Grades.{after_texts, asked, asked_of, asked_in, asked_from, no_score, with_mark, score_of}
+use Rattle.trace_sheets.specs.Grades.{LeavesBehind, after_texts, asked, asked_of, asked_in, asked_from, no_score, with_mark, score_of}
 use Rattle.trace_sheets.specs.Forms.{full_text, told, total}
 use Rattle.trace_sheets.specs.declared.came.Came.{Came}
 use Rattle.trace_sheets.specs.declared.score.Mark.{Mark}
@@ -163,3 +170,35 @@ module _ {format : Format} {m m' : MachineState} {texts : List (List ℕ)} {repo
             ∙ ap (λ k. score_of (map mark (asked m texts ++ a k ∷ []))) place
             ∙ ap (λ xs. score_of (map mark xs)) (sym (behind ∙ ap (λ s. asked m texts ++ last s) is));
       }
+
+-- ---- where a fault leaves the machine
+
+pub leaves_behind : {R C : Type 0} (gave : R → List ℕ → R → Type 0) (failed : R → R → Type 0) (went : C → List (List ℕ) → C → Type 0)
+    (state : C → MachineState) (r r' : R) (c c' : C) (stop : Stop) (e : TraceFault)
+    → ((texts : List (List ℕ)) (v : C) → went c texts v → state v ≡ after_texts (state c) texts)
+    → Reads gave failed sheet_fault went (λ s text t. state t ≡ after_said (state s) (sheet_line text)) (λ s t. t ≡ s) (λ s t. ⊥) MAX_PAIR
+    r r' c c' (Err stop)
+    → ((f : TraceFault) → stop ≡ Fault f → e ≡ f) → (stop ≡ Halted → e ≡ OutOfMemory)
+    → LeavesBehind gave failed r r' (state c) (state c') e
+leaves_behind gave failed went state r r' c c' (Fault f) e kept h same halted = inl (
+  h.0,
+  subst (ReadStops gave failed sheet_fault MAX_PAIR r r' h.0) (sym (same f refl)) h.2,
+  ap state h.4 ∙ kept h.0 h.1 h.3,
+)
+leaves_behind gave failed went state r r' c c' Halted e kept h same halted =
+    let texts = h.0 in
+    let stands = kept texts h.2 h.3 in
+    inr (
+      halted refl,
+      elim h.4 [
+        | inl paused ↦ absurd paused.1
+        | inr read ↦ elim read.1 [
+          | inl paused ↦ absurd paused
+          | inr line ↦
+              let first = line.1 in
+              let text = first.0 in
+              let made = first.4 ∙ ap (λ m. after_said m (sheet_line text)) stands ∙ sym (after_more (state c) texts text) in
+              inr (texts, h.1, read.0, (text, first.1, first.2, first.3, made))
+        ]
+      ],
+    )

@@ -1,5 +1,6 @@
 -- How a sheet is graded: each prediction beside the machine's own answer, by which the machine runs on.
-use Rattle.std.specs.Prelude.{◌≡◌, ℕ, ◌+◌, ◌==◌, Bool, ◌||◌, if◌then◌else◌, Option, Some, None, Result, Ok, Err, List, [], ◌∷◌, ◌++◌, map}
+use Rattle.std.specs.Prelude.{◌≡◌, ◌⊎◌, ℕ, ◌+◌, ◌==◌, Bool, ◌||◌, if◌then◌else◌, Option, Some, None, Result, Ok, Err, List, [], ◌∷◌}
+use Rattle.std.specs.Prelude.{◌++◌, map}
 use Rattle.std.specs.List.{flat_map}
 use Rattle.machine_core.specs.Machine.{MachineState}
 use Rattle.machine_core.specs.AnyMachine.{answered}
@@ -11,9 +12,10 @@ use Rattle.trace_text.specs.declared.lines.Line.TheVariants as line
 use Rattle.trace_text.specs.declared.lines.LineFault.{LineFault}
 use Rattle.named_fields.specs.declared.format.Format.{Format}
 use Rattle.run_pictures.specs.Words.{seen, words_by, step_words}
-use Rattle.trace_text.specs.Reading.{ReadWhole, ReadFails}
+use Rattle.trace_text.specs.Reading.{FirstLine, ReadInto, ReadWhole, ReadStops, ReadFails}
 use Rattle.trace_text.specs.declared.fault.TheConstants.{MAX_PAIR}
 use Rattle.trace_text.specs.declared.fault.TraceFault.{TraceFault}
+use Rattle.trace_text.specs.declared.fault.TraceFault.TheVariants.{OutOfMemory}
 use Rattle.trace_sheets.specs.Sheets.{is_open, sheet_line, sheet_fault}
 use Rattle.trace_sheets.specs.Forms.{full_answer, full_text, told, grade_head, score_in}
 use Rattle.trace_sheets.specs.declared.grade.Grade.{Grade}
@@ -126,6 +128,20 @@ abbrev pub SheetEnds : {R : Type 0} (gave : R → List ℕ → R → Type 0) (fa
 SheetEnds gave failed format r r' m m' (Ok grade) =
     (texts : List (List ℕ)) × ReadWhole gave sheet_fault MAX_PAIR r r' texts × Graded format m texts m' grade.report.items grade.score
 SheetEnds gave failed format r r' m m' (Err fault) = ReadFails gave failed sheet_fault MAX_PAIR r r' fault
+
+-- Where the machine is left if memory is missing: where it stood, with nothing read; or behind a line that was read, of which
+-- a wrong prediction isn't told.
+abbrev pub LacksMemory : {R : Type 0} (gave : R → List ℕ → R → Type 0) (r r' : R) (m m' : MachineState) → Type 0
+LacksMemory gave r r' m m' = ((r' ≡ r) × (m' ≡ m)) ⊎
+    ((texts : List (List ℕ)) × (rest : List ℕ) × ReadInto gave sheet_fault MAX_PAIR r r' texts rest ×
+    FirstLine sheet_fault MAX_PAIR (λ text. m' ≡ after_texts m (texts ++ text ∷ [])) rest)
+
+-- Where a fault leaves the machine: behind the good lines before it, or where want of memory leaves it.
+abbrev pub LeavesBehind : {R : Type 0} (gave : R → List ℕ → R → Type 0) (failed : R → R → Type 0) (r r' : R) (m m' : MachineState)
+    → TraceFault → Type 0
+LeavesBehind gave failed r r' m m' fault =
+    ((texts : List (List ℕ)) × ReadStops gave failed sheet_fault MAX_PAIR r r' texts fault × (m' ≡ after_texts m texts)) ⊎
+    ((fault ≡ OutOfMemory) × LacksMemory gave r r' m m')
 
 -- no prediction is wrong: what is open isn't
 abbrev pub score_status : Score → ℕ

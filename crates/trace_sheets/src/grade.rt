@@ -1,13 +1,14 @@
 //! A sheet is graded.
 
-ghost use Rattle.std.specs.Prelude.{◌≡◌, ◌<◌, ◌≤◌, ◌++◌, ◌∷◌, [], length, map, OnOk};
+ghost use Rattle.std.specs.Prelude.{◌≡◌, ◌<◌, ◌≤◌, ◌++◌, ◌∷◌, [], length, map, OnOk, IfErr};
 ghost use Rattle.std.specs.Option.{option_map};
 ghost use Rattle.named_fields.specs.Formats.{said as what_is_said};
 ghost use Rattle.trace_text.specs.declared.fault.TheConstants.{BUFFER_LEN, MAX_LINES, MAX_PAIR};
-ghost use Rattle.trace_sheets.specs.Sheets.{sheet_fault};
+ghost use Rattle.trace_sheets.specs.Sheets.{sheet_fault, sheet_line};
 ghost use Rattle.trace_text.specs.Codes.{line_feed};
 ghost use Rattle.trace_sheets.specs.Forms.{correction_text, correction_named, full_text, told, total, why_named, why_text};
-ghost use Rattle.trace_sheets.specs.Grades.{Graded, SheetEnds, mark_of, no_score, told_if, why_behind, with_mark};
+ghost use Rattle.trace_sheets.specs.Grades.{Graded, LeavesBehind, SheetEnds, after_said, mark_of, no_score, told_if, why_behind};
+ghost use Rattle.trace_sheets.specs.Grades.{with_mark};
 
 use crate::came::{Came, full_answer};
 use crate::score::{Mark, Score};
@@ -250,7 +251,7 @@ impl<'a> Collector for Grading<'a> {
 
     ghost went = { λ s texts t. (t.format ≡ s.format) × Graded s.format s.machine.now texts t.machine.now t.report.now.items t.score };
 
-    ghost stopped = { λ s text t. Unit {0} };
+    ghost stopped = { λ s text t. t.machine.now ≡ after_said s.machine.now (sheet_line text) };
 
     ghost paused = { λ s t. t ≡ s };
 
@@ -286,11 +287,12 @@ impl<'a> Collector for Grading<'a> {
 /// `accepted miss`, or `?`; of `reg`, `bank` and `settled` it is any text of printable bytes. A
 /// prediction is right if it is the machine's answer, with what the request found or without.
 ///
-/// A fault gives no grade, and leaves the machine behind lines before it. The first one in the order of the lines
+/// A fault gives no grade, and leaves the machine behind the lines before it. The first one in the order of the lines
 /// is answered, as by [`read_requests`](trace_text::read_requests): a line with a prediction that can't be one
 /// is a bad field. What is told of a wrong prediction is told in the format, and why it is wrong in the words that a picture of
-/// the run has for that step ([`words_by`]). [`TraceFault::OutOfMemory`] may come in place of any answer, and
-/// [`TraceFault::Write`] never comes.
+/// the run has for that step ([`words_by`]). [`TraceFault::OutOfMemory`] may come in place of any answer: the machine
+/// stands as it stood if it came before the first read, and else it was for what is told of a wrong prediction, whose line the
+/// machine has made already. [`TraceFault::Write`] never comes.
 ///
 /// One buffer of 4,096 bytes is allocated before the first read. The report takes more, and so do the words of a wrong
 /// prediction; a right or open one takes nothing.
@@ -300,8 +302,10 @@ pub fn grade_sheet<R: Source>(
     reader: &mut R,
     machine: &mut ShapedMachine,
 ) -> Result<Grade, TraceFault>
-    ensures { SheetEnds R.gave R.failed format reader.old reader.new machine.old machine.new
+    ensures ends { SheetEnds R.gave R.failed format reader.old reader.new machine.old machine.new
         result }
+    ensures fault { IfErr result
+        (LeavesBehind R.gave R.failed reader.old reader.new machine.old machine.new) }
 {
     let mut buffer = vec![in alloc; 0u8; BUFFER_LEN]?;
     let mut report = Vec::new(alloc);
@@ -330,6 +334,8 @@ fn grade_through<R: Source>(
     requires score { grading.old.score ≡ no_score }
     ensures ends { SheetEnds R.gave R.failed grading.old.format reader.old reader.new grading.old.machine.now
         grading.new.machine.now result }
+    ensures fault { IfErr result
+        (LeavesBehind R.gave R.failed reader.old reader.new grading.old.machine.now grading.new.machine.now) }
     ensures same_machine { grading.new.machine.ghost_name ≡ grading.old.machine.ghost_name }
     ensures same_report { grading.new.report.ghost_name ≡ grading.old.report.ghost_name }
 {

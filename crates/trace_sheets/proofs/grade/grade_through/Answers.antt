@@ -1,8 +1,8 @@
 use Rattle.std.proofs.Common.{◌≡◌, ◌∙◌, ap, sym, subst, refl}
-use Rattle.trace_sheets.specs.Sheets.{sheet_fault}
-use Rattle.trace_sheets.specs.Grades.{Graded}
+use Rattle.trace_sheets.specs.Sheets.{sheet_fault, sheet_line}
+use Rattle.trace_sheets.specs.Grades.{Graded, after_said}
 use Rattle.trace_text.proofs.Ends.{read_fails}
-use Rattle.trace_sheets.proofs.Grading.{graded_none}
+use Rattle.trace_sheets.proofs.Grading.{graded_none, leaves_behind}
 use Rattle.trace_sheets.proofs.grade.grade_through.Goals as goal
 
 pub read_lines-requires-clause-went : goal.read_lines-requires-clause-went
@@ -29,6 +29,13 @@ pub returns-in-Err-clause-ends : goal.returns-in-Err-clause-ends
 returns-in-Err-clause-ends g c =
     read_fails g.R.Source.gave g.R.Source.failed sheet_fault
     (λ s texts t. (t.format ≡ s.format) × Graded s.format s.machine.now texts t.machine.now t.report.now.items t.score)
-    (λ s text t. Unit {0}) (λ s t. t ≡ s) (λ s t. ⊥) 768 c.args.reader.now c.read_lines.new.reader c.args.grading.now
-    c.read_lines.new.collector
+    (λ s text t. t.machine.now ≡ after_said s.machine.now (sheet_line text)) (λ s t. t ≡ s) (λ s t. ⊥) 768
+    c.args.reader.now c.read_lines.new.reader c.args.grading.now c.read_lines.new.collector
     c.in-Err.stop c.fault_or.result c.in-Err.ensures.reads c.fault_or.ensures.fault c.fault_or.ensures.halted
+
+pub returns-in-Err-clause-fault : goal.returns-in-Err-clause-fault
+returns-in-Err-clause-fault g c =
+    leaves_behind g.R.Source.gave g.R.Source.failed
+    (λ s texts t. (t.format ≡ s.format) × Graded s.format s.machine.now texts t.machine.now t.report.now.items t.score)
+    (λ s. s.machine.now) c.args.reader.now c.read_lines.new.reader c.args.grading.now c.read_lines.new.collector c.in-Err.stop
+    c.fault_or.result (λ texts v went. went.1.state) c.in-Err.ensures.reads c.fault_or.ensures.fault c.fault_or.ensures.halted
