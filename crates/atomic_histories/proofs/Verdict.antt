@@ -22,6 +22,7 @@ use Rattle.atomic_histories.specs.Judge.{held, place_from, place_in, HasSameMemo
 use Rattle.atomic_histories.specs.Judge.{StepFaultIsBut}
 use Rattle.atomic_histories.proofs.Links.{open_load, none_is}
 use Rattle.atomic_histories.proofs.Whole.{stands_all_first, stands_all_after, atomic_after, refused_at, only_answers}
+use Rattle.atomic_histories.proofs.Wide.{wide_kept}
 
 -- Malformed events. ----
 
@@ -108,7 +109,8 @@ pub fault_law_but : (limit : ℕ) (h : Held) (event : HistoryEvent) (e : AtomicF
 fault_law_but limit h event (Refused cause) (inl f) lost history s = malformed lost h event cause f history s
 fault_law_but limit h event (Refused cause) (inr p) lost history s =
     subst (λ c. StepFaultIsBut lost limit h history event (Refused c)) (sym p.1.2) (wrong lost h event p.1.0 p.0 p.1.1 history s)
-fault_law_but limit h event (Undecided address) f lost history s = (ap (λ o. form_fault o event) (sym s.opened) ∙ f.0, f.1)
+fault_law_but limit h event (Undecided address) f lost history s =
+    (ap (λ o. form_fault o event) (sym s.opened) ∙ f.0, f.1, wide_kept limit h lost history event address s f.1)
 fault_law_but limit h event OutOfMemory f lost history s = ap (λ o. form_fault o event) (sym s.opened) ∙ f
 
 pub accepted_but : (r : Result (Unit {0}) AtomicFault) (h next : Held) (event : HistoryEvent) → OnOk r (IsTaken h event next)
@@ -156,7 +158,7 @@ step_fault_all : (limit : ℕ) (h : Held) (history : List HistoryEvent) (event :
     → StepFaultIsBut [] limit h history event e → StepFaultIs limit h history event e
 step_fault_all limit h history event (Refused cause) p =
     (fault_all h.image h.rest h.size history event cause p.0, λ a. p.1 (from_atomic h.image h.rest h.size (history ++ event ∷ []) a))
-step_fault_all limit h history event (Undecided address) p = p
+step_fault_all limit h history event (Undecided address) p = (p.0, p.1)
 step_fault_all limit h history event OutOfMemory p = p
 
 pub fault_law : (limit : ℕ) (h : Held) (event : HistoryEvent) (e : AtomicFault) → KeptFaultIs limit h event e

@@ -2,7 +2,8 @@
 use Rattle.std.proofs.Common.{◌≡◌, ℕ, zero, suc, ltb-true, ◌/◌, ◌<◌, ◌⊎◌, true, false, nat_lt, List, [], ◌∷◌, map, length}
 use Rattle.std.proofs.Common.{Option, Some, None, inl, inr, refl, sym, ap, ◌∙◌, subst, arith}
 use Rattle.std.specs.List.{find}
-use Rattle.std.proofs.lemmas.Bool.{or_cases}
+use Rattle.std.proofs.Math.Nat.{mul-div_cancel}
+use Rattle.std.proofs.lemmas.Bool.{or_cases, and_parts}
 use Rattle.memory_histories.specs.declared.events.HistoryEvent.{HistoryEvent}
 use Rattle.memory_histories.specs.declared.events.HistoryEvent.TheVariants.{LoadRequest, LoadResponse, StoreRequest, StoreResponse}
 use Rattle.memory_histories.specs.declared.events.Rest.{Rest}
@@ -12,9 +13,9 @@ use Rattle.atomic_histories.specs.declared.search.TheConstants.{MOST_WORDS}
 use Rattle.atomic_histories.specs.Law.{UnitMemory, HiddenStep, MayBe, steps, untouched, unit_at}
 use Rattle.atomic_histories.specs.Followed.{Pair, Ways, Aim, never, way_on, next_after, rounds, is_under, is_over, are_too_many}
 use Rattle.atomic_histories.specs.Followed.{needs_more, effect_aim, word_aim, pair_got, gathered, with_hope, load_needs_more}
-use Rattle.atomic_histories.specs.Followed.{is_too_wide}
+use Rattle.atomic_histories.specs.Followed.{has_way, has_many_words, is_too_wide}
 use Rattle.atomic_histories.specs.Stands.{Each, IsAsked, AreApart, StandsFor}
-use Rattle.atomic_histories.specs.Held.{Held, StandsBut}
+use Rattle.atomic_histories.specs.Held.{Held, IsWide, is_lost, StandsBut}
 use Rattle.atomic_histories.specs.May.{address_of, is_reach_over, is_reach_wide}
 use Rattle.atomic_histories.specs.Wide.{AllDiffer, MayBeMany, UndecidedIsMuch, NoSetsAreMuch}
 use Rattle.atomic_histories.proofs.Lists.{each_weaker, each_map, each_filter, each_both}
@@ -155,6 +156,20 @@ no_store : (limit number : ℕ) (loads : List WatchedLoad) (moment : ℕ) (es : 
     → needs_more limit loads moment (effect_aim number) [] es ≡ false
 no_store limit number loads moment es h = grind arith
 
+many_words : (words : ℕ) (u : Ways) → has_many_words words u ≡ true → MOST_WORDS < words
+many_words words u y = ltb-true MOST_WORDS words (and_parts (has_way u) (nat_lt MOST_WORDS words) y).1
+
+-- a forgotten unit has no way, so it needs too much for no event
+no_way_wide : (limit : ℕ) (unit : UnitPlace) (words : ℕ) (u : Ways) (event : HistoryEvent) → has_way u ≡ false
+    → is_too_wide limit unit words u event ≡ false
+no_way_wide limit unit words u (LoadRequest number address n) h = refl
+no_way_wide limit unit words u (LoadResponse number bytes) h =
+    let none = no_load limit unit bytes.now (find (is_under number) u.loads) u.loads u.moment u.pairs (no_pair u.pairs h) in
+    grind arith
+no_way_wide limit unit words u (StoreRequest number address bytes enables) h = refl
+no_way_wide limit unit words u (StoreResponse number) h =
+    let none = no_store limit number u.loads u.moment u.pairs (no_pair u.pairs h) in grind arith
+
 -- All units. ----
 
 module _ (limit : ℕ) (h : Held) (lost : List ℕ) (history : List HistoryEvent) (s : StandsBut h lost history) where
@@ -195,21 +210,32 @@ module _ (limit : ℕ) (h : Held) (lost : List ℕ) (history : List HistoryEvent
 
   wide_much : (k : ℕ) (event : HistoryEvent) → is_too_wide limit (unit_at h.size k) (h.words k) (h.units k) event ≡ true → Much k
   wide_much k (LoadRequest number address n) t = cc
-  wide_much k (LoadResponse number bytes) t = elim (or_cases _ _ t) [
-    | inl y ↦ inl (ltb-true MOST_WORDS (h.words k) y)
+  wide_much k (LoadResponse number bytes) t = elim (or_cases (has_many_words (h.words k) (h.units k)) _ t) [
+    | inl y ↦ inl (many_words (h.words k) (h.units k) y)
     | inr y ↦ by_load k number bytes.now y
   ]
   wide_much k (StoreRequest number address bytes enables) t = cc
-  wide_much k (StoreResponse number) t = elim (or_cases _ _ t) [
-    | inl y ↦ inl (ltb-true MOST_WORDS (h.words k) y)
+  wide_much k (StoreResponse number) t = elim (or_cases (has_many_words (h.words k) (h.units k)) _ t) [
+    | inl y ↦ inl (many_words (h.words k) (h.units k) y)
     | inr y ↦ by_store k number y
   ]
 
   reach_wide_much : (k : ℕ) → is_reach_wide limit (h.words k) (h.units k) ≡ true → Much k
-  reach_wide_much k t = elim (or_cases _ _ t) [
-    | inl y ↦ inl (ltb-true MOST_WORDS (h.words k) y)
+  reach_wide_much k t = elim (or_cases (has_many_words (h.words k) (h.units k)) _ t) [
+    | inl y ↦ inl (many_words (h.words k) (h.units k) y)
     | inr y ↦ by_reach k y
   ]
+
+-- the unit for whose sake an event is undecided was not forgotten
+pub wide_kept : (limit : ℕ) (h : Held) (lost : List ℕ) (history : List HistoryEvent) (event : HistoryEvent) (address : ℕ)
+    → StandsBut h lost history → IsWide limit h event address → is_lost (address / h.size) lost ≡ false
+wide_kept limit h lost history event address s w =
+    let number : address / h.size ≡ w.0 = ap (λ a. a / h.size) w.3 ∙ mul-div_cancel w.0 s.sized in
+    subst (λ k. is_lost k lost ≡ false) (sym number) (elim (s.units w.0) [
+      | inl a ↦ let none = no_way_wide limit (unit_at h.size w.0) (h.words w.0) (h.units w.0) event a.1 in
+          let wide = w.4 in cc
+      | inr a ↦ a.0
+    ])
 
 pub undecided_much : (limit : ℕ) (h : Held) (lost : List ℕ) (history : List HistoryEvent) (event : HistoryEvent) (address : ℕ)
     → UndecidedIsMuch limit h lost history event address

@@ -279,9 +279,13 @@ load_needs_more limit unit bytes (Some l) u =
     needs_more limit u.loads u.moment aim (gathered (pair_got unit bytes l) u.pairs)
     (with_hope aim (gathered (pair_missed unit bytes l) u.pairs))
 
+-- whether more words are kept for its ways than may be: for a forgotten unit, which has no way, none is needed
+abbrev pub has_many_words : ℕ → Ways → Bool
+has_many_words words u = has_way u && nat_lt MOST_WORDS words
+
 abbrev pub is_too_wide : ℕ → UnitPlace → ℕ → Ways → HistoryEvent → Bool
 is_too_wide limit unit words u (LoadResponse number bytes) =
-    nat_lt MOST_WORDS words || load_needs_more limit unit bytes.now (find (is_under number) u.loads) u
+    has_many_words words u || load_needs_more limit unit bytes.now (find (is_under number) u.loads) u
 is_too_wide limit unit words u (StoreResponse number) =
-    nat_lt MOST_WORDS words || needs_more limit u.loads u.moment (effect_aim number) [] u.pairs
+    has_many_words words u || needs_more limit u.loads u.moment (effect_aim number) [] u.pairs
 is_too_wide limit unit words u event = false

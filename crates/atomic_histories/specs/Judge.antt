@@ -1,5 +1,6 @@
 -- What an `AtomicMemory` keeps, and what the answers of its calls say.
-use Rattle.std.specs.Prelude.{ℕ, ◌≡◌, ◌+◌, ◌-◌, ◌*◌, ◌/◌, ◌⊎◌, ◌==◌, if◌then◌else◌, nat_eq, true, List, [], ◌∷◌, ◌++◌, Option, Some, None}
+use Rattle.std.specs.Prelude.{ℕ, ◌≡◌, ◌+◌, ◌-◌, ◌*◌, ◌/◌, ◌⊎◌, ◌==◌, if◌then◌else◌, nat_eq, true, false, List, [], ◌∷◌, ◌++◌}
+use Rattle.std.specs.Prelude.{Option, Some, None}
 use Rattle.std.specs.List.{find}
 use Rattle.std.specs.HashMap.{get}
 use Rattle.memory_histories.specs.declared.events.HistoryEvent.{HistoryEvent}
@@ -21,7 +22,7 @@ use Rattle.atomic_histories.specs.Followed.{Ways, no_ways, first_ways, ways_afte
 use Rattle.atomic_histories.specs.Law.{IsAtomic, FaultIs, unit_at}
 use Rattle.atomic_histories.specs.Lost.{IsAtomicBut, FaultIsBut}
 use Rattle.atomic_histories.specs.Held.{Held, covered, units_of, is_without, ways_from, stuck_from, IsWideFrom, unit_after, first_stuck}
-use Rattle.atomic_histories.specs.Held.{IsWide}
+use Rattle.atomic_histories.specs.Held.{IsWide, is_lost}
 use Rattle.atomic_histories.specs.Shown.{shown_unit, words_in}
 
 abbrev pub bytes_of : UnitSize → ℕ
@@ -138,10 +139,10 @@ StepFaultIs limit h history event (Refused cause) =
 StepFaultIs limit h history event (Undecided address) = (form_fault (opened_by history) event ≡ None) × IsWide limit h event address
 StepFaultIs limit h history event OutOfMemory = form_fault (opened_by history) event ≡ None
 
--- the same once units were forgotten
+-- the same once units were forgotten: no event is undecided for the sake of one of them
 abbrev pub StepFaultIsBut : List ℕ → ℕ → Held → List HistoryEvent → HistoryEvent → AtomicFault → Type 0
 StepFaultIsBut lost limit h history event (Refused cause) =
     FaultIsBut lost h.image h.rest h.size history event cause × ¬ (IsAtomicBut lost h.image h.rest h.size (history ++ event ∷ []))
 StepFaultIsBut lost limit h history event (Undecided address) =
-    (form_fault (opened_by history) event ≡ None) × IsWide limit h event address
+    (form_fault (opened_by history) event ≡ None) × IsWide limit h event address × (is_lost (address / h.size) lost ≡ false)
 StepFaultIsBut lost limit h history event OutOfMemory = form_fault (opened_by history) event ≡ None

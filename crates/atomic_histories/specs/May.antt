@@ -14,9 +14,8 @@ use Rattle.atomic_histories.specs.declared.memory.AtomicFault.TheVariants.{Refus
 use Rattle.atomic_histories.specs.Operations.{opened_by, has_number}
 use Rattle.atomic_histories.specs.Law.{OpenLoad, UnitMemory, MayBe, untouched, unit_at, is_load}
 use Rattle.atomic_histories.specs.declared.unit.WatchedLoad.{WatchedLoad}
-use Rattle.atomic_histories.specs.declared.search.TheConstants.{MOST_WORDS}
 use Rattle.atomic_histories.specs.Pasts.{shows}
-use Rattle.atomic_histories.specs.Followed.{Pair, Ways, never, next_after, rounds, are_too_many, has_way, is_under}
+use Rattle.atomic_histories.specs.Followed.{Pair, Ways, never, next_after, rounds, are_too_many, has_way, is_under, has_many_words}
 use Rattle.atomic_histories.specs.Held.{Held, is_lost}
 
 -- In the law's words. ----
@@ -100,7 +99,7 @@ is_reach_over limit loads moment (suc n) es =
     let next = next_after loads moment never es in are_too_many limit next || is_reach_over limit loads moment n next
 
 abbrev pub is_reach_wide : ℕ → ℕ → Ways → Bool
-is_reach_wide limit words u = nat_lt MOST_WORDS words || is_reach_over limit u.loads u.moment (rounds u.pairs) u.pairs
+is_reach_wide limit words u = has_many_words words u || is_reach_over limit u.loads u.moment (rounds u.pairs) u.pairs
 
 -- All bytes of a load. ----
 

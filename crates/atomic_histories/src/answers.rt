@@ -1,11 +1,10 @@
 //! The ways of a unit after an event.
 
-ghost use Rattle.std.specs.Prelude.{ℕ, ◌≡◌, ◌++◌, [], true, nat_lt, List, Some, IfOk, IfErr, OnOk};
+ghost use Rattle.std.specs.Prelude.{ℕ, ◌≡◌, ◌++◌, [], true, List, Some, IfOk, IfErr, OnOk};
 ghost use Rattle.std.specs.List.{filter, find};
 ghost use Rattle.atomic_histories.specs.declared.stretches.Stretch.{Stretch};
 ghost use Rattle.atomic_histories.specs.declared.unit.UnitPlace.{UnitPlace};
-ghost use Rattle.atomic_histories.specs.declared.search.TheConstants.{MOST_WORDS};
-ghost use Rattle.atomic_histories.specs.Followed.{Ways, is_under, cons_any, pair_on, gathered, pair_got, pair_missed, with_hope, word_aim, answered_load, answered_store, load_needs_more, needs_more, effect_aim, ways_without_load, ways_without_store, ways_after, is_too_wide};
+ghost use Rattle.atomic_histories.specs.Followed.{Ways, is_under, cons_any, pair_on, gathered, pair_got, pair_missed, with_hope, word_aim, answered_load, answered_store, load_needs_more, needs_more, effect_aim, ways_without_load, ways_without_store, ways_after, has_many_words, is_too_wide};
 ghost use Rattle.atomic_histories.specs.Shares.{past_any, IsInAny};
 ghost use Rattle.atomic_histories.specs.Parts.{IsPart, AreParts};
 ghost use Rattle.atomic_histories.specs.Shown.{pasts, shown, shown_all, shown_unit, AreIn, StopIs, words_in};
@@ -271,9 +270,10 @@ fn follow(
     }
 }
 
-// Whether an answer would need too many words, of the unit or of the copy without those that no way is left to.
+// Whether an answer would need too many words, of the unit or of the copy without those that no way is left to. The ways of a
+// forgotten unit need none.
 fn has_too_many_words(kept: &KeptUnit, copy: &KeptUnit, event: HistoryEvent) -> bool
-    ensures { result ≡ true → (limit : ℕ) (unit : UnitPlace) (u : Ways) → is_too_wide limit unit (words_in kept.now.stretches.items) u event.entry ≡ true }
+    ensures { result ≡ true → (limit : ℕ) (unit : UnitPlace) → is_too_wide limit unit (words_in kept.now.stretches.items) (shown_unit kept.now) event.entry ≡ true }
 {
     match event {
         HistoryEvent::LoadResponse {
@@ -286,9 +286,10 @@ fn has_too_many_words(kept: &KeptUnit, copy: &KeptUnit, event: HistoryEvent) -> 
 }
 
 fn have_too_many_words(kept: &KeptUnit, copy: &KeptUnit) -> bool
-    ensures { result ≡ true → nat_lt MOST_WORDS (words_in kept.now.stretches.items) ≡ true }
+    ensures { result ≡ true → has_many_words (words_in kept.now.stretches.items) (shown_unit kept.now) ≡ true }
 {
     copy.stretches.len() > MOST_WORDS
+        && !kept.pairs.is_empty()
         && words_in(kept.stretches.as_slice()) > MOST_WORDS
         && words_in(copy.stretches.as_slice()) > MOST_WORDS
 }
