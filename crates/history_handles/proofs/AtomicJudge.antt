@@ -16,6 +16,7 @@ use Rattle.atomic_histories.specs.May as may
 use Rattle.atomic_histories.specs.Judge.{held, limit_of, HasSameMemory, StepFaultIsBut}
 use Rattle.history_handles.specs.Atomic.{Atomic, opening, with_event, forgetting, IsLawful, IsRefused, IsFormed, IsHeld, followed}
 use Rattle.history_handles.specs.Atomic.{IsJudgeOf, IsUndecided, IsUndecidedByte}
+use Rattle.history_handles.specs.declared.judge.Judge.TheVariants as judge
 use Rattle.history_handles.specs.Faults.{of_atomic}
 use Rattle.history_handles.specs.Kept.{AtomicFaultIs, NoSetIs}
 
@@ -63,16 +64,18 @@ refused m a event cause k t = (
 )
 
 undecided : (m : AtomicMemory) (a : Atomic) (event : HistoryEvent) (address : ℕ) → IsJudgeOf m a
-    → StepFaultIsBut a.lost (limit_of m) (held m) a.events event (atomic.Undecided address) → IsUndecided a event address
+    → StepFaultIsBut a.lost (limit_of m) (held m) a.events event (atomic.Undecided address)
+    → IsUndecided (judge.Atomic m) a event address
 undecided m a event address k t = record {
   formed = t.0;
-  kept = held m;
+  memory = m;
+  is_judge = refl;
   is_kept = k.kept;
   wide = subst (λ n. IsWide n (held m) event address) k.limit t.1;
 }
 
 pub faulty : (m : AtomicMemory) (a : Atomic) (event : HistoryEvent) (f : AtomicFault) → IsJudgeOf m a
-    → StepFaultIsBut a.lost (limit_of m) (held m) a.events event f → AtomicFaultIs a event (of_atomic f)
+    → StepFaultIsBut a.lost (limit_of m) (held m) a.events event f → AtomicFaultIs (judge.Atomic m) a event (of_atomic f)
 faulty m a event (atomic.Refused cause) k t = refused m a event cause k t
 faulty m a event (atomic.Undecided address) k t = undecided m a event address k t
 faulty m a event atomic.OutOfMemory k t = t
@@ -84,15 +87,16 @@ pub set_found : (m : AtomicMemory) (a : Atomic) (number address : ℕ) (set : Op
 set_found m a number address set k t = moved (held m) a k.kept (λ i r s. may.IsSetOf a.lost i r s a.events number address set) t
 
 wide_byte : (m : AtomicMemory) (a : Atomic) (byte address : ℕ) → IsJudgeOf m a → may.IsWideByte (limit_of m) (held m) byte address
-    → IsUndecidedByte a byte address
+    → IsUndecidedByte (judge.Atomic m) a byte address
 wide_byte m a byte address k t = record {
-  kept = held m;
+  memory = m;
+  is_judge = refl;
   is_kept = k.kept;
   wide = subst (λ n. may.IsWideByte n (held m) byte address) k.limit t;
 }
 
 pub no_set : (m : AtomicMemory) (a : Atomic) (byte : ℕ) (f : AtomicFault) → IsJudgeOf m a
-    → may.IsNoVerdict (may.IsWideByte (limit_of m) (held m) byte) f → NoSetIs a byte (of_atomic f)
+    → may.IsNoVerdict (may.IsWideByte (limit_of m) (held m) byte) f → NoSetIs (judge.Atomic m) a byte (of_atomic f)
 no_set m a byte (atomic.Refused cause) k t = absurd t
 no_set m a byte (atomic.Undecided address) k t = wide_byte m a byte address k t
 no_set m a byte atomic.OutOfMemory k t = tt

@@ -9,6 +9,8 @@ use Rattle.atomic_histories.specs.Lost.{IsAtomicBut, FaultIsBut}
 use Rattle.atomic_histories.specs.Held.{Held, IsWide, StandsBut}
 use Rattle.atomic_histories.specs.May.{IsWideByte}
 use Rattle.atomic_histories.specs.Judge.{held, limit_of}
+use Rattle.history_handles.specs.declared.judge.Judge.{Judge}
+use Rattle.history_handles.specs.declared.judge.Judge.TheVariants as judge
 
 -- what memory had before the first event, the size of its units, the numbers of those that were forgotten, and the events
 pub record Atomic : Type 0 where
@@ -57,16 +59,18 @@ pub record IsJudgeOf (m : AtomicMemory) (a : Atomic) : Type 0 where
   pub kept : IsHeld (held m) a
   pub limit : limit_of m ≡ followed
 
--- the unit that begins at an address may have gone too many ways, of which each must be followed to tell what this event makes of the
--- history
-pub record IsUndecided (a : Atomic) (event : HistoryEvent) (address : ℕ) : Type 0 where
+-- by what this judge keeps, the unit that begins at an address may have gone too many ways, of which each must be followed to tell what
+-- this event makes of the history
+pub record IsUndecided (j : Judge) (a : Atomic) (event : HistoryEvent) (address : ℕ) : Type 0 where
   pub formed : IsFormed a event
-  pub kept : Held
-  pub is_kept : IsHeld kept a
-  pub wide : IsWide followed kept event address
+  pub memory : AtomicMemory
+  pub is_judge : j ≡ judge.Atomic memory
+  pub is_kept : IsHeld (held memory) a
+  pub wide : IsWide followed (held memory) event address
 
 -- or what an open load may return for the byte at an address
-pub record IsUndecidedByte (a : Atomic) (byte : ℕ) (address : ℕ) : Type 0 where
-  pub kept : Held
-  pub is_kept : IsHeld kept a
-  pub wide : IsWideByte followed kept byte address
+pub record IsUndecidedByte (j : Judge) (a : Atomic) (byte : ℕ) (address : ℕ) : Type 0 where
+  pub memory : AtomicMemory
+  pub is_judge : j ≡ judge.Atomic memory
+  pub is_kept : IsHeld (held memory) a
+  pub wide : IsWideByte followed (held memory) byte address

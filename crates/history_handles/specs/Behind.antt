@@ -5,10 +5,15 @@ use Rattle.history_handles.specs.Session.{Session}
 use Rattle.history_handles.specs.KeptSession.{IsKept}
 use Rattle.history_handles.specs.declared.history.OpenHistory.{OpenHistory}
 use Rattle.history_handles.specs.declared.handle.HistoryHandle.{HistoryHandle}
+use Rattle.history_handles.specs.declared.judge.Judge.{Judge}
 
 -- what is kept behind a handle: nothing, where it is closed
 abbrev pub behind : HistoryHandle → Option OpenHistory
 behind h = if nonzero h.open then Some h.history else None
+
+-- the judge of what is kept behind a handle that is open
+abbrev pub judge_behind : HistoryHandle → Judge
+judge_behind h = h.history.judge
 
 -- what is kept is of this session, or there is neither
 abbrev pub IsKeptOf : Option OpenHistory → Option Session → Type 0

@@ -10,8 +10,9 @@ use Rattle.memory_histories.specs.Sets.{has}
 use Rattle.history_handles.specs.declared.faults.JudgeFault.{JudgeFault}
 use Rattle.history_handles.specs.declared.faults.JudgeFault.TheVariants.{Refused}
 use Rattle.history_handles.specs.declared.handle.HistoryHandle.{HistoryHandle}
+use Rattle.history_handles.specs.declared.judge.Judge.{Judge}
 use Rattle.history_handles.specs.declared.rows.Operation.{Operation}
-use Rattle.history_handles.specs.Behind.{IsBehind}
+use Rattle.history_handles.specs.Behind.{judge_behind, IsBehind}
 use Rattle.history_handles.specs.History.{History, Passes, has_units}
 use Rattle.history_handles.specs.Kept.{JudgeFaultIs, IsFound, IsSetFound}
 use Rattle.history_handles.specs.Session.{Session, session_after, session_refusing, session_forgetting}
@@ -21,24 +22,24 @@ use Rattle.history_handles.specs.Status.{judge_number, said_number}
 -- Events. ----
 
 -- what is said of an event: it was taken, or it wasn't for a fault
-abbrev pub IsSaid : History → HistoryEvent → Option JudgeFault → Type 0
-IsSaid h event None = Passes h event
-IsSaid h event (Some found) = JudgeFaultIs h event found
+abbrev pub IsSaid : Judge → History → HistoryEvent → Option JudgeFault → Type 0
+IsSaid j h event None = Passes h event
+IsSaid j h event (Some found) = JudgeFaultIs j h event found
 
 abbrev pub left_by : Option JudgeFault → Session → HistoryEvent → Session
 left_by None s event = session_after s event
 left_by (Some found) s event = session_refusing s found
 
--- C is told by its number what is said of an event, and that is what the event leaves behind the handle
-pub record IsAnswered (status : ℕ) (h : HistoryHandle) (s : Session) (event : HistoryEvent) : Type 0 where
+-- C is told by its number what the judge behind a handle says of an event, and that is what the event leaves behind the handle
+pub record IsAnswered (status : ℕ) (before h : HistoryHandle) (s : Session) (event : HistoryEvent) : Type 0 where
   pub said : Option JudgeFault
   pub number : status ≡ said_number said
-  pub law : IsSaid s.history event said
+  pub law : IsSaid (judge_behind before) s.history event said
   pub left : IsBehind h (Some (left_by said s event))
 
-abbrev pub IsEventTold : ℕ → HistoryHandle → Option Session → HistoryEvent → Type 0
-IsEventTold status h None event = (status ≡ 3) × IsBehind h None
-IsEventTold status h (Some s) event = IsAnswered status h s event
+abbrev pub IsEventTold : ℕ → HistoryHandle → HistoryHandle → Option Session → HistoryEvent → Type 0
+IsEventTold status before h None event = (status ≡ 3) × IsBehind h None
+IsEventTold status before h (Some s) event = IsAnswered status before h s event
 
 -- What a load may return. ----
 
@@ -48,18 +49,19 @@ IsRowTold status row row' (Ok None) = (status ≡ 0) × (row' ≡ row)
 IsRowTold status row row' (Ok (Some set)) = (status ≡ 1) × IsOctets row' (has set)
 IsRowTold status row row' (Err found) = (status ≡ judge_number found) × (row' ≡ row)
 
-pub record IsSetAnswered (status : ℕ) (row : List ℕ) (row' : List ℕ) (s : Session) (number : ℕ) (address : ℕ) : Type 0 where
+pub record IsSetAnswered (status : ℕ) (h : HistoryHandle) (row : List ℕ) (row' : List ℕ) (s : Session) (number : ℕ)
+    (address : ℕ) : Type 0 where
   pub found : Result (Option ByteSet) JudgeFault
-  pub law : IsSetFound s.history number address found
+  pub law : IsSetFound (judge_behind h) s.history number address found
   pub told : IsRowTold status row row' found
 
-abbrev pub IsFittingSet : Bool → ℕ → List ℕ → List ℕ → Session → ℕ → ℕ → Type 0
-IsFittingSet false status row row' s number address = (status ≡ 2) × (row' ≡ row)
-IsFittingSet true status row row' s number address = IsSetAnswered status row row' s number address
+abbrev pub IsFittingSet : Bool → ℕ → HistoryHandle → List ℕ → List ℕ → Session → ℕ → ℕ → Type 0
+IsFittingSet false status h row row' s number address = (status ≡ 2) × (row' ≡ row)
+IsFittingSet true status h row row' s number address = IsSetAnswered status h row row' s number address
 
-abbrev pub IsSetTold : ℕ → List ℕ → List ℕ → Option Session → ℕ → ℕ → Type 0
-IsSetTold status row row' None number address = (status ≡ 3) × (row' ≡ row)
-IsSetTold status row row' (Some s) number address = IsFittingSet (length row == 32) status row row' s number address
+abbrev pub IsSetTold : ℕ → HistoryHandle → List ℕ → List ℕ → Option Session → ℕ → ℕ → Type 0
+IsSetTold status h row row' None number address = (status ≡ 3) × (row' ≡ row)
+IsSetTold status h row row' (Some s) number address = IsFittingSet (length row == 32) status h row row' s number address
 
 -- Where an answer is wrong. ----
 
@@ -73,14 +75,14 @@ IsFaultTold status place place' None = (status ≡ 0) × (place' ≡ place)
 IsFaultTold status place place' (Some (Refused cause)) = IsCauseTold status place place' cause
 IsFaultTold status place place' (Some found) = (status ≡ judge_number found) × (place' ≡ place)
 
-pub record IsPlaceAnswered (status : ℕ) (place : ℕ) (place' : ℕ) (s : Session) (event : HistoryEvent) : Type 0 where
+pub record IsPlaceAnswered (status : ℕ) (h : HistoryHandle) (place : ℕ) (place' : ℕ) (s : Session) (event : HistoryEvent) : Type 0 where
   pub found : Option JudgeFault
-  pub law : IsFound s.history event found
+  pub law : IsFound (judge_behind h) s.history event found
   pub told : IsFaultTold status place place' found
 
-abbrev pub IsPlaceTold : ℕ → ℕ → ℕ → Option Session → HistoryEvent → Type 0
-IsPlaceTold status place place' None event = (status ≡ 3) × (place' ≡ place)
-IsPlaceTold status place place' (Some s) event = IsPlaceAnswered status place place' s event
+abbrev pub IsPlaceTold : ℕ → HistoryHandle → ℕ → ℕ → Option Session → HistoryEvent → Type 0
+IsPlaceTold status h place place' None event = (status ≡ 3) × (place' ≡ place)
+IsPlaceTold status h place place' (Some s) event = IsPlaceAnswered status h place place' s event
 
 -- Units that are forgotten. ----
 

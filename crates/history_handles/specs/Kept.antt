@@ -36,31 +36,31 @@ ExactFaultIs found moment (Undecided address) = ⊥
 ExactFaultIs found moment TooLong = (found ≡ None) × (moment ≡ 18446744073709551615)
 ExactFaultIs found moment OutOfMemory = found ≡ None
 
--- by the atomic law
-abbrev pub AtomicFaultIs : Atomic → HistoryEvent → JudgeFault → Type 0
-AtomicFaultIs a event (Refused cause) = IsRefused a event cause
-AtomicFaultIs a event (Undecided address) = IsUndecided a event address
-AtomicFaultIs a event TooLong = ⊥
-AtomicFaultIs a event OutOfMemory = IsFormed a event
+-- by the atomic law, of which this judge keeps what it needs
+abbrev pub AtomicFaultIs : Judge → Atomic → HistoryEvent → JudgeFault → Type 0
+AtomicFaultIs j a event (Refused cause) = IsRefused a event cause
+AtomicFaultIs j a event (Undecided address) = IsUndecided j a event address
+AtomicFaultIs j a event TooLong = ⊥
+AtomicFaultIs j a event OutOfMemory = IsFormed a event
 
--- what each fault of a step says of the event
-abbrev pub JudgeFaultIs : History → HistoryEvent → JudgeFault → Type 0
-JudgeFaultIs (OfRegular w) event found = ExactFaultIs (fault w event) w.moment found
-JudgeFaultIs (OfFlat f) event found = ExactFaultIs (flat_fault f event) f.moment found
-JudgeFaultIs (OfAtomic a) event found = AtomicFaultIs a event found
+-- what each fault of a step of this judge says of the event
+abbrev pub JudgeFaultIs : Judge → History → HistoryEvent → JudgeFault → Type 0
+JudgeFaultIs j (OfRegular w) event found = ExactFaultIs (fault w event) w.moment found
+JudgeFaultIs j (OfFlat f) event found = ExactFaultIs (flat_fault f event) f.moment found
+JudgeFaultIs j (OfAtomic a) event found = AtomicFaultIs j a event found
 
 -- what a judge finds without taking the event
 abbrev pub IsExactlyFound : Option HistoryFault → Option JudgeFault → Type 0
 IsExactlyFound found told = told ≡ option_map (λ cause. Refused cause) found
 
-abbrev pub IsAtomicallyFound : Atomic → HistoryEvent → Option JudgeFault → Type 0
-IsAtomicallyFound a event None = IsLawful a event
-IsAtomicallyFound a event (Some found) = AtomicFaultIs a event found
+abbrev pub IsAtomicallyFound : Judge → Atomic → HistoryEvent → Option JudgeFault → Type 0
+IsAtomicallyFound j a event None = IsLawful a event
+IsAtomicallyFound j a event (Some found) = AtomicFaultIs j a event found
 
-abbrev pub IsFound : History → HistoryEvent → Option JudgeFault → Type 0
-IsFound (OfRegular w) event told = IsExactlyFound (fault w event) told
-IsFound (OfFlat f) event told = IsExactlyFound (flat_fault f event) told
-IsFound (OfAtomic a) event told = IsAtomicallyFound a event told
+abbrev pub IsFound : Judge → History → HistoryEvent → Option JudgeFault → Type 0
+IsFound j (OfRegular w) event told = IsExactlyFound (fault w event) told
+IsFound j (OfFlat f) event told = IsExactlyFound (flat_fault f event) told
+IsFound j (OfAtomic a) event told = IsAtomicallyFound j a event told
 
 -- Sets. ----
 
@@ -74,20 +74,20 @@ IsExactSet may (Ok set) = IsSetOf may set
 IsExactSet may (Err found) = ⊥
 
 -- by the atomic law a set is of its byte alone, and there may be no verdict
-abbrev pub NoSetIs : Atomic → ℕ → JudgeFault → Type 0
-NoSetIs a address (Refused cause) = ⊥
-NoSetIs a address (Undecided first) = IsUndecidedByte a address first
-NoSetIs a address TooLong = ⊥
-NoSetIs a address OutOfMemory = ⊤
+abbrev pub NoSetIs : Judge → Atomic → ℕ → JudgeFault → Type 0
+NoSetIs j a address (Refused cause) = ⊥
+NoSetIs j a address (Undecided first) = IsUndecidedByte j a address first
+NoSetIs j a address TooLong = ⊥
+NoSetIs j a address OutOfMemory = ⊤
 
-abbrev pub IsAtomicSet : Atomic → ℕ → ℕ → Result (Option ByteSet) JudgeFault → Type 0
-IsAtomicSet a number address (Ok set) = atomic.IsSetOf a.lost a.image a.rest a.size a.events number address set
-IsAtomicSet a number address (Err found) = NoSetIs a address found
+abbrev pub IsAtomicSet : Judge → Atomic → ℕ → ℕ → Result (Option ByteSet) JudgeFault → Type 0
+IsAtomicSet j a number address (Ok set) = atomic.IsSetOf a.lost a.image a.rest a.size a.events number address set
+IsAtomicSet j a number address (Err found) = NoSetIs j a address found
 
-abbrev pub IsSetFound : History → ℕ → ℕ → Result (Option ByteSet) JudgeFault → Type 0
-IsSetFound (OfRegular w) number address told = IsExactSet (may_by_regular w number address) told
-IsSetFound (OfFlat f) number address told = IsExactSet (may_by_flat f number address) told
-IsSetFound (OfAtomic a) number address told = IsAtomicSet a number address told
+abbrev pub IsSetFound : Judge → History → ℕ → ℕ → Result (Option ByteSet) JudgeFault → Type 0
+IsSetFound j (OfRegular w) number address told = IsExactSet (may_by_regular w number address) told
+IsSetFound j (OfFlat f) number address told = IsExactSet (may_by_flat f number address) told
+IsSetFound j (OfAtomic a) number address told = IsAtomicSet j a number address told
 
 -- Forgetting. ----
 

@@ -16,6 +16,8 @@ use Rattle.history_handles.specs.declared.faults.JudgeFault.{JudgeFault}
 use Rattle.history_handles.specs.declared.faults.JudgeFault.TheVariants.{Refused}
 use Rattle.history_handles.specs.declared.rows.Operation.{Operation}
 use Rattle.history_handles.specs.declared.rows.ReasonRow.{ReasonRow}
+use Rattle.history_handles.specs.declared.handle.HistoryHandle.{HistoryHandle}
+use Rattle.history_handles.specs.Behind.{judge_behind}
 use Rattle.history_handles.specs.Kept.{IsFound}
 use Rattle.history_handles.specs.Session.{Session}
 use Rattle.history_handles.specs.Status.{said_number}
@@ -77,16 +79,16 @@ abbrev pub IsRowTold : ℕ → ReasonRow → ReasonRow → Bool → Option Found
 IsRowTold status row row' together reason (Some (Refused (WrongByte place))) = (status ≡ 16) × (row' ≡ reason_row place together reason)
 IsRowTold status row row' together reason found = (status ≡ said_number found) × (row' ≡ row)
 
-pub record IsWhyAnswered (status : ℕ) (row : ReasonRow) (row' : ReasonRow) (s : Session) (number : ℕ) (bytes : List ℕ)
-    (event : HistoryEvent) : Type 0 where
+pub record IsWhyAnswered (status : ℕ) (h : HistoryHandle) (row : ReasonRow) (row' : ReasonRow) (s : Session) (number : ℕ)
+    (bytes : List ℕ) (event : HistoryEvent) : Type 0 where
   pub found : Option JudgeFault
   pub together : Bool
   pub reason : Option FoundReason
-  pub law : IsFound s.history event found
+  pub law : IsFound (judge_behind h) s.history event found
   pub whole : s.seen.moment < 18446744073709551616 → together ≡ is_together s
   pub why : s.seen.moment < 18446744073709551616 → reason ≡ reason_for s number bytes (place_of found)
   pub told : IsRowTold status row row' together reason found
 
-abbrev pub IsWhyTold : ℕ → ReasonRow → ReasonRow → Option Session → ℕ → List ℕ → HistoryEvent → Type 0
-IsWhyTold status row row' None number bytes event = (status ≡ 3) × (row' ≡ row)
-IsWhyTold status row row' (Some s) number bytes event = IsWhyAnswered status row row' s number bytes event
+abbrev pub IsWhyTold : ℕ → HistoryHandle → ReasonRow → ReasonRow → Option Session → ℕ → List ℕ → HistoryEvent → Type 0
+IsWhyTold status h row row' None number bytes event = (status ≡ 3) × (row' ≡ row)
+IsWhyTold status h row row' (Some s) number bytes event = IsWhyAnswered status h row row' s number bytes event

@@ -32,7 +32,7 @@ pub fn may_return(
 ) -> u32
     ensures set { (b : Option Session)
         → IsBehind handle.old b
-        → IsSetTold result set.old set.new b number address }
+        → IsSetTold result handle.old set.old set.new b number address }
     ensures same { behind handle.new ≡ behind handle.old }
 {
     let Some(history) = handle.take(alloc) else {
@@ -80,7 +80,7 @@ pub fn wrong_place(
 ) -> u32
     ensures place { (b : Option Session)
         → IsBehind handle.old b
-        → IsPlaceTold result place.old place.new b (LoadResponse number bytes.entry) }
+        → IsPlaceTold result handle.old place.old place.new b (LoadResponse number bytes.entry) }
     ensures same { behind handle.new ≡ behind handle.old }
 {
     let Some(history) = handle.take(alloc) else {

@@ -25,7 +25,7 @@ pub fn load_request(
 ) -> u32
     ensures { (b : Option Session)
         → IsBehind handle.old b
-        → IsEventTold result handle.new b (LoadRequest number address length) }
+        → IsEventTold result handle.old handle.new b (LoadRequest number address length) }
 {
     tell(
         alloc,
@@ -51,7 +51,7 @@ pub fn load_request(
 pub fn load_response(alloc: Global, handle: &mut HistoryHandle, number: u64, bytes: &[u8]) -> u32
     ensures { (b : Option Session)
         → IsBehind handle.old b
-        → IsEventTold result handle.new b (LoadResponse number bytes.entry) }
+        → IsEventTold result handle.old handle.new b (LoadResponse number bytes.entry) }
 {
     tell(alloc, handle, HistoryEvent::LoadResponse { number, bytes })
 }
@@ -72,7 +72,7 @@ pub fn store_request(
 ) -> u32
     ensures { (b : Option Session)
         → IsBehind handle.old b
-        → IsEventTold result handle.new b (StoreRequest number address bytes.entry enables) }
+        → IsEventTold result handle.old handle.new b (StoreRequest number address bytes.entry enables) }
 {
     tell(
         alloc,
@@ -93,7 +93,7 @@ pub fn store_request(
 pub fn store_response(alloc: Global, handle: &mut HistoryHandle, number: u64) -> u32
     ensures { (b : Option Session)
         → IsBehind handle.old b
-        → IsEventTold result handle.new b (StoreResponse number) }
+        → IsEventTold result handle.old handle.new b (StoreResponse number) }
 {
     tell(alloc, handle, HistoryEvent::StoreResponse { number })
 }
@@ -105,7 +105,7 @@ pub fn store_response(alloc: Global, handle: &mut HistoryHandle, number: u64) ->
 fn tell(alloc: Global, handle: &mut HistoryHandle, event: HistoryEvent) -> u32
     ensures { (b : Option Session)
         → IsBehind handle.old b
-        → IsEventTold result handle.new b event.entry }
+        → IsEventTold result handle.old handle.new b event.entry }
 {
     let Some(mut history) = handle.take(alloc) else {
         return CLOSED;

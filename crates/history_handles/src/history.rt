@@ -55,7 +55,7 @@ impl OpenHistory {
             → OnOk result (Passes s.history event.entry × IsKept self.new (session_after s event.entry)) }
         ensures fault { (s : Session)
             → IsKept self.old s
-            → IfErr result (JudgeFaultIs s.history event.entry) }
+            → IfErr result (JudgeFaultIs self.old.judge s.history event.entry) }
         ensures left { (s : Session)
             → IsKept self.old s
             → IfErr result (λ fault. IsKept self.new (session_refusing s fault)) }
@@ -77,7 +77,7 @@ impl OpenHistory {
             → OnOk result (Passes s.history event.entry × IsKept self.new (session_after s event.entry)) }
         ensures fault { (s : Session)
             → IsKept self.old s
-            → IfErr result (JudgeFaultIs s.history event.entry) }
+            → IfErr result (JudgeFaultIs self.old.judge s.history event.entry) }
         ensures unchanged { (s : Session) → IsKept self.old s → OnErr result (IsKept self.new s) }
     {
         if self.make_room().is_err() {
@@ -92,6 +92,7 @@ impl OpenHistory {
     // Makes room for what one event adds beside the judge.
     fn make_room(&mut self) -> Result<(), AllocError>
         ensures same { (s : Session) → IsKept self.old s → IsKept self.new s }
+        ensures judge { self.new.judge ≡ self.old.judge }
         ensures log { OnOk result (HasRoom self.new.log) }
     {
         self.log.make_room()
@@ -160,7 +161,7 @@ impl OpenHistory {
     fn fault_without_room(&self, event: HistoryEvent) -> JudgeFault
         ensures { (s : Session)
             → IsKept self.now s
-            → JudgeFaultIs s.history event.entry result }
+            → JudgeFaultIs self.now.judge s.history event.entry result }
     {
         match self.fault(event) {
             Some(fault) => fault,
@@ -181,7 +182,7 @@ impl OpenHistory {
 
     // What a step would say of an event, if there is room for it: `None` if it would be taken.
     pub(crate) fn fault(&self, event: HistoryEvent) -> Option<JudgeFault>
-        ensures { (s : Session) → IsKept self.now s → IsFound s.history event.entry result }
+        ensures { (s : Session) → IsKept self.now s → IsFound self.now.judge s.history event.entry result }
     {
         self.judge.fault(event)
     }
@@ -194,7 +195,7 @@ impl OpenHistory {
     ) -> Result<Option<ByteSet>, JudgeFault>
         ensures { (s : Session)
             → IsKept self.now s
-            → IsSetFound s.history number address result }
+            → IsSetFound self.now.judge s.history number address result }
     {
         self.judge.may_return(number, address)
     }

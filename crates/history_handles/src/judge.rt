@@ -57,7 +57,7 @@ impl Judge {
 
     // What a step would say of an event, if there is room for it: `None` if it would be taken.
     pub(crate) fn fault(&self, event: HistoryEvent) -> Option<JudgeFault>
-        ensures { (h : History) → IsOf self.now h → IsFound h event.entry result }
+        ensures { (h : History) → IsOf self.now h → IsFound self.now h event.entry result }
     {
         match self {
             Judge::Regular(memory) => found(memory.fault(event)),
@@ -72,7 +72,7 @@ impl Judge {
         number: u64,
         address: u64,
     ) -> Result<Option<ByteSet>, JudgeFault>
-        ensures { (h : History) → IsOf self.now h → IsSetFound h number address result }
+        ensures { (h : History) → IsOf self.now h → IsSetFound self.now h number address result }
     {
         match self {
             Judge::Regular(memory) => Ok(memory.may_return(number, address)),
@@ -89,7 +89,7 @@ impl Judge {
             → OnOk result (Passes h event.entry × IsOf self.new (history_after h event.entry)) }
         ensures fault { (h : History)
             → IsOf self.old h
-            → IfErr result (JudgeFaultIs h event.entry) }
+            → IfErr result (JudgeFaultIs self.old h event.entry) }
         ensures unchanged { (h : History) → IsOf self.old h → OnErr result (IsOf self.new h) }
     {
         match self {

@@ -36,7 +36,7 @@ pub fn why(
 ) -> u32
     ensures why { (b : Option Session)
         → IsBehind handle.old b
-        → IsWhyTold result row.old row.new b number bytes.now (LoadResponse number bytes.entry) }
+        → IsWhyTold result handle.old row.old row.new b number bytes.now (LoadResponse number bytes.entry) }
     ensures same { behind handle.new ≡ behind handle.old }
 {
     let Some(history) = handle.take(alloc) else {

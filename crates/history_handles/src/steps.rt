@@ -7,6 +7,7 @@ ghost use Rattle.memory_histories.specs.Kept.{StandsFor};
 ghost use Rattle.memory_histories.specs.Shown.{kept};
 ghost use Rattle.memory_histories.specs.FlatShown.{shown};
 ghost use Rattle.history_handles.specs.Atomic.{Atomic, with_event, forgetting, IsLawful, IsJudgeOf};
+ghost use Rattle.history_handles.specs.declared.judge.Judge.TheVariants as judge;
 ghost use Rattle.history_handles.specs.Kept.{ExactFaultIs, AtomicFaultIs, IsExactlyFound, IsAtomicallyFound, IsAtomicSet};
 
 use crate::faults::JudgeFault;
@@ -66,7 +67,7 @@ pub(crate) fn step_atomic(memory: &mut AtomicMemory, event: HistoryEvent) -> Res
         → OnOk result (IsLawful a event.entry × IsJudgeOf memory.new (with_event a event.entry)) }
     ensures fault { (a : Atomic)
         → IsJudgeOf memory.old a
-        → IfErr result (AtomicFaultIs a event.entry) }
+        → IfErr result (AtomicFaultIs (judge.Atomic memory.old) a event.entry) }
     ensures unchanged { (a : Atomic)
         → IsJudgeOf memory.old a
         → OnErr result (IsJudgeOf memory.new a) }
@@ -80,7 +81,7 @@ pub(crate) fn step_atomic(memory: &mut AtomicMemory, event: HistoryEvent) -> Res
 pub(crate) fn found_atomic(memory: &AtomicMemory, event: HistoryEvent) -> Option<JudgeFault>
     ensures { (a : Atomic)
         → IsJudgeOf memory.now a
-        → IsAtomicallyFound a event.entry result }
+        → IsAtomicallyFound (judge.Atomic memory.now) a event.entry result }
 {
     match memory.fault(event) {
         None => None,
@@ -96,7 +97,7 @@ pub(crate) fn set_atomic(
 ) -> Result<Option<ByteSet>, JudgeFault>
     ensures { (a : Atomic)
         → IsJudgeOf memory.now a
-        → IsAtomicSet a number address result }
+        → IsAtomicSet (judge.Atomic memory.now) a number address result }
 {
     let set = memory.byte_may_return(number, address)?;
     Ok(set)

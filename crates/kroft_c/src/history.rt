@@ -61,7 +61,7 @@ pub extern "C" fn kroft_load_request(
 ) -> u32
     ensures { (b : Option Session)
         → IsBehind handle.old b
-        → IsEventTold result handle.new b (LoadRequest number address length) }
+        → IsEventTold result handle.old handle.new b (LoadRequest number address length) }
 {
     history_handles::load_request(alloc, handle, number, address, length)
 }
@@ -83,7 +83,7 @@ pub extern "C" fn kroft_load_response(
 ) -> u32
     ensures { (b : Option Session)
         → IsBehind handle.old b
-        → IsEventTold result handle.new b (LoadResponse number bytes.entry) }
+        → IsEventTold result handle.old handle.new b (LoadResponse number bytes.entry) }
 {
     history_handles::load_response(alloc, handle, number, bytes)
 }
@@ -105,7 +105,7 @@ pub extern "C" fn kroft_store_request(
 ) -> u32
     ensures { (b : Option Session)
         → IsBehind handle.old b
-        → IsEventTold result handle.new b (StoreRequest number address bytes.entry enables) }
+        → IsEventTold result handle.old handle.new b (StoreRequest number address bytes.entry enables) }
 {
     history_handles::store_request(alloc, handle, number, address, bytes, enables)
 }
@@ -123,7 +123,7 @@ pub extern "C" fn kroft_store_response(
 ) -> u32
     ensures { (b : Option Session)
         → IsBehind handle.old b
-        → IsEventTold result handle.new b (StoreResponse number) }
+        → IsEventTold result handle.old handle.new b (StoreResponse number) }
 {
     history_handles::store_response(alloc, handle, number)
 }
@@ -146,7 +146,7 @@ pub extern "C" fn kroft_may_return(
 ) -> u32
     ensures set { (b : Option Session)
         → IsBehind handle.old b
-        → IsSetTold result set.old set.new b number address }
+        → IsSetTold result handle.old set.old set.new b number address }
     ensures same { behind handle.new ≡ behind handle.old }
 {
     history_handles::may_return(alloc, handle, number, address, set)
@@ -169,7 +169,7 @@ pub extern "C" fn kroft_wrong_place(
 ) -> u32
     ensures place { (b : Option Session)
         → IsBehind handle.old b
-        → IsPlaceTold result place.old place.new b (LoadResponse number bytes.entry) }
+        → IsPlaceTold result handle.old place.old place.new b (LoadResponse number bytes.entry) }
     ensures same { behind handle.new ≡ behind handle.old }
 {
     history_handles::wrong_place(alloc, handle, number, bytes, place)
@@ -199,7 +199,7 @@ pub extern "C" fn kroft_why(
 ) -> u32
     ensures why { (b : Option Session)
         → IsBehind handle.old b
-        → IsWhyTold result row.old row.new b number bytes.now (LoadResponse number bytes.entry) }
+        → IsWhyTold result handle.old row.old row.new b number bytes.now (LoadResponse number bytes.entry) }
     ensures same { behind handle.new ≡ behind handle.old }
 {
     history_handles::why(alloc, handle, number, bytes, row)

@@ -1,5 +1,6 @@
 use Rattle.std.specs.Prelude.{IfErr}
 use Rattle.history_handles.specs.Faults.{of_atomic}
+use Rattle.history_handles.specs.declared.judge.Judge.TheVariants as judge
 use Rattle.history_handles.specs.Kept.{AtomicFaultIs}
 use Rattle.history_handles.proofs.StepFaults.{passed_on}
 use Rattle.history_handles.proofs.AtomicJudge.{lawful, taken, faulty}
@@ -13,5 +14,5 @@ returns-clause-ok c a k =
 pub returns-in_err-step-clause-fault : goal.returns-in_err-step-clause-fault
 returns-in_err-step-clause-fault c a k =
     let f = c.in_err-step.field-0.0 in
-    passed_on c.from_residual.result (λ r. IfErr r (AtomicFaultIs a c.args.event)) (of_atomic f) c.from_residual.ensures.1
+    passed_on c.from_residual.result (λ r. IfErr r (AtomicFaultIs (judge.Atomic c.args.memory.now) a c.args.event)) (of_atomic f) c.from_residual.ensures.1
     (faulty c.args.memory.now a c.args.event f k (c.in_err-step.ensures.fault_but a.lost a.events k.kept.stands))

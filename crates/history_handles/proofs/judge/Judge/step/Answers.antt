@@ -1,4 +1,4 @@
-use Rattle.std.proofs.Common.{◌≡◌, subst}
+use Rattle.std.proofs.Common.{◌≡◌, sym, subst}
 use Rattle.std.specs.Prelude.{IfErr, Result}
 use Rattle.memory_histories.specs.declared.events.HistoryEvent.{HistoryEvent}
 use Rattle.memory_histories.specs.declared.flat.FlatHistory.{FlatHistory}
@@ -13,11 +13,12 @@ use Rattle.history_handles.proofs.judge.Judge.step.Goals as goal
 
 of_flat : {X : Type 0} (m : FlatHistory) (event : HistoryEvent) (r : Result X JudgeFault)
     → ((f : Flat) → shown m ≡ f → IfErr r (ExactFaultIs (flat_fault f event) f.moment)) → (h : History) → IsOf (judge.Flat m) h
-    → IfErr r (JudgeFaultIs h event)
+    → IfErr r (JudgeFaultIs (judge.Flat m) h event)
 of_flat m event r is (OfFlat f) k = is f k
 of_flat m event r is (OfRegular w) k = absurd k
 of_flat m event r is (OfAtomic a) k = absurd k
 
 pub returns-in-Flat-clause-fault : goal.returns-in-Flat-clause-fault
 returns-in-Flat-clause-fault c h k =
-    of_flat c.in-Flat.memory c.args.event c.step_flat.result c.step_flat.ensures.fault h (subst (λ (j : Judge). IsOf j h) c.in-Flat.is k)
+    subst (λ (j : Judge). IfErr c.step_flat.result (JudgeFaultIs j h c.args.event)) (sym c.in-Flat.is)
+    (of_flat c.in-Flat.memory c.args.event c.step_flat.result c.step_flat.ensures.fault h (subst (λ (j : Judge). IsOf j h) c.in-Flat.is k))
