@@ -21,8 +21,9 @@ use Rattle.atomic_histories.specs.Held.{Held, nothing_held, IsWide, StandsForAll
 use Rattle.atomic_histories.specs.May.{IsSetOf}
 use Rattle.atomic_histories.specs.Judge.{held, limit_of, HasSameMemory, StepFaultIs}
 use Rattle.history_text.specs.Lines.{plain}
-use Rattle.history_text.specs.Laws.{Law, JudgeFaultIs, of_atomic}
+use Rattle.history_text.specs.Laws.{Law, JudgeFaultIs, IfUndecided, of_atomic}
 use Rattle.history_text.specs.AtomicLaw.{Began, IsTooWide, IsRefused, IsToldSet, law_from, began, law_of, Took}
+use Rattle.history_text.specs.AtomicLaw.{Undecides, Tells}
 
 -- ---- events that are told apart by where their bytes lie alone
 
@@ -223,6 +224,13 @@ faulty m n events event (atomic.Refused cause) t here = refused m n events event
 faulty m n events event (atomic.Undecided address) t here = undecided m n events event address t here
 faulty m n events event atomic.OutOfMemory t here = tt
 
+-- and where it can't tell, that is for what it keeps
+pub undecided_here : (n : AtomicMemory) (events : List HistoryEvent) (event : HistoryEvent) (f : AtomicFault)
+    → StepFaultIs (limit_of n) (held n) events event f → IfUndecided (Undecides n (plain event)) (of_atomic f)
+undecided_here n events event (atomic.Refused cause) here = tt
+undecided_here n events event (atomic.Undecided address) here = plain_wide (limit_of n) (held n) event address here.1
+undecided_here n events event atomic.OutOfMemory here = tt
+
 -- ---- the sets of bytes
 
 told_here : (b : Began) (limit : ℕ) (events : List HistoryEvent) (number place : ℕ) (set : Option ByteSet)
@@ -238,6 +246,13 @@ told m n events number place set t is =
     let here = told_here (began (held n)) (limit_of n) events number place set (is [] events t.stands) in
     subst (λ l. IsToldSet (began (held m)) l events number place set) t.limit
     (subst (λ (b : Began). IsToldSet b (limit_of n) events number place set) (same_began (held n) (held m) t.memory) here)
+
+pub tells_set : (n : AtomicMemory) (events : List HistoryEvent) (number place : ℕ) (set : Option ByteSet) → StandsForAll (held n) events
+    → ((lost : List ℕ) (history : List HistoryEvent) → StandsBut (held n) lost history
+    → IsSetOf lost (held n).image (held n).rest (held n).size history number place set)
+    → Tells n events number place set
+tells_set n events number place (Some set) s is = tt
+tells_set n events number place None s is = inl (is [] events s)
 
 -- ---- a new judge
 

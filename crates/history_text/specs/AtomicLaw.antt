@@ -1,14 +1,15 @@
 -- The atomic law, and its judge.
-use Rattle.std.specs.Prelude.{◌≡◌, ℕ, ◌⊎◌, Option, Some, None, List, ◌++◌, ◌∷◌, []}
+use Rattle.std.specs.Prelude.{◌≡◌, ℕ, ◌⊎◌, false, Option, Some, None, List, ◌++◌, ◌∷◌, []}
+use Rattle.std.specs.List.{find}
 use Rattle.memory_histories.specs.declared.events.HistoryEvent.{HistoryEvent}
 use Rattle.memory_histories.specs.declared.events.HistoryFault.{HistoryFault}
 use Rattle.memory_histories.specs.declared.events.Rest.{Rest}
 use Rattle.memory_histories.specs.declared.sets.ByteSet.{ByteSet}
 use Rattle.atomic_histories.specs.declared.memory.AtomicMemory.{AtomicMemory}
-use Rattle.atomic_histories.specs.Operations.{opened_by, form_fault}
+use Rattle.atomic_histories.specs.Operations.{opened_by, has_number, form_fault}
 use Rattle.atomic_histories.specs.Law.{IsAtomic, FaultIs}
 use Rattle.atomic_histories.specs.Held.{Held, nothing_held, IsWide, StandsForAll}
-use Rattle.atomic_histories.specs.May.{IsSetOf, IsWideByte}
+use Rattle.atomic_histories.specs.May.{asks, IsSetOf, IsWideByte}
 use Rattle.atomic_histories.specs.Judge.{held, limit_of, HasSameMemory}
 use Rattle.history_text.specs.Laws.{Law}
 
@@ -72,6 +73,19 @@ pub record Took (m : AtomicMemory) (events : List HistoryEvent) (n : AtomicMemor
   pub memory : HasSameMemory (held n) (held m)
   pub limit : limit_of n ≡ limit_of m
   pub stands : StandsForAll (held n) events
+
+-- by what this judge keeps, the unit that begins at an address may have gone too many ways, of which each must be followed to tell what an
+-- event makes of the history
+abbrev pub Undecides : AtomicMemory → HistoryEvent → ℕ → Type 0
+Undecides m event address = IsWide (limit_of m) (held m) event address
+
+-- behind these events this judge tells a set of each byte, but of one that no load under the number asks for, or in whose unit it would
+-- have to follow too many ways
+abbrev pub Tells : AtomicMemory → List HistoryEvent → ℕ → ℕ → Option ByteSet → Type 0
+Tells m events number place (Some set) = Unit {0}
+Tells m events number place None =
+    (asks (find (has_number number) (opened_by events).loads) place ≡ false)
+    ⊎ ((address : ℕ) × IsWideByte (limit_of m) (held m) place address)
 
 -- the atomic law of a memory that began with an image and has units of this size
 abbrev pub atomic_law : List ℕ → Rest → ℕ → ℕ → Law

@@ -33,6 +33,13 @@ JudgeFaultIs law events event (Undecided address) = law.undecides events event a
 JudgeFaultIs law events event TooLong = length events ≡ 18446744073709551615
 JudgeFaultIs law events event OutOfMemory = Unit {0}
 
+-- if a judge can't tell, this is so of the unit for whose sake it says so
+abbrev pub IfUndecided : (ℕ → Type 0) → JudgeFault → Type 0
+IfUndecided Is (Refused cause) = Unit {0}
+IfUndecided Is (Undecided address) = Is address
+IfUndecided Is TooLong = Unit {0}
+IfUndecided Is OutOfMemory = Unit {0}
+
 -- why an event was not taken, by each law's judge, in the words of all of them
 abbrev pub of_step : StepFault → JudgeFault
 of_step (step.Refused cause) = Refused cause

@@ -1,6 +1,7 @@
 -- The regular law, and its judge.
-use Rattle.std.specs.Prelude.{◌≡◌, ℕ, Some, List}
+use Rattle.std.specs.Prelude.{◌≡◌, ℕ, Option, Some, List}
 use Rattle.memory_histories.specs.declared.events.HistoryEvent.{HistoryEvent}
+use Rattle.memory_histories.specs.declared.sets.ByteSet.{ByteSet}
 use Rattle.memory_histories.specs.declared.events.Rest.{Rest}
 use Rattle.memory_histories.specs.declared.regular.RegularMemory.{RegularMemory}
 use Rattle.memory_histories.specs.Windows.{Windows, opening}
@@ -30,3 +31,10 @@ law_of m = regular_law (kept m).image (kept m).rest
 -- from one state to the other, it took these events
 abbrev pub Took : RegularMemory → List HistoryEvent → RegularMemory → Type 0
 Took m events n = (w : Windows) × Leaves (kept m).image (kept m).rest events w × StandsFor (kept n) w
+
+-- this judge can always tell, and which set it tells of a byte its law says
+abbrev pub Undecides : RegularMemory → HistoryEvent → ℕ → Type 0
+Undecides m event address = ⊥
+
+abbrev pub Tells : RegularMemory → List HistoryEvent → ℕ → ℕ → Option ByteSet → Type 0
+Tells m events number place set = Unit {0}

@@ -1,9 +1,10 @@
 //! A judge of histories, event by event.
 
-ghost use Rattle.std.specs.Prelude.{◌++◌, ◌∷◌, [], List, OnOk, OnErr, IfOk, IfErr};
+ghost use Rattle.std.specs.Prelude.{ℕ, Option, ◌++◌, ◌∷◌, [], List, OnOk, OnErr, IfOk, IfErr};
 ghost use Rattle.memory_histories.specs.declared.events.HistoryEvent.{HistoryEvent as Event};
+ghost use Rattle.memory_histories.specs.declared.sets.ByteSet.{ByteSet as Set};
 ghost use Rattle.history_text.specs.Lines.{plain};
-ghost use Rattle.history_text.specs.Laws.{Law, JudgeFaultIs};
+ghost use Rattle.history_text.specs.Laws.{Law, JudgeFaultIs, IfUndecided};
 
 use atomic_histories::{AtomicFault, AtomicMemory};
 use memory_histories::{
@@ -62,6 +63,14 @@ pub trait HistoryJudge {
     // From one state to the other, it took these events, all of the law.
     ghost took: { Self → List Event → Self → Type 0 };
 
+    // In this state it can't tell what an event makes of the history, for the sake of the unit that begins at
+    // an address.
+    ghost undecides: { Self → Event → ℕ → Type 0 };
+
+    // In this state, behind these events, it tells this set of what the open load of a number may return for
+    // the byte at an address, or none.
+    ghost tells: { Self → List Event → ℕ → ℕ → Option Set → Type 0 };
+
     /// Takes the next event of a history. It is `Ok` only if the history with this event is one of the
     /// law. After each fault the judge has taken what it had taken before.
     fn judge(&mut self, event: HistoryEvent) -> Result<(), JudgeFault>
@@ -71,6 +80,9 @@ pub trait HistoryJudge {
         ensures fault { IfErr result (λ fault. (start : Self) (events : List Event)
             → took start events self.old
             → JudgeFaultIs (law start) events (plain event.entry) fault) }
+        ensures undecided { IfErr result (λ fault. (start : Self) (events : List Event)
+            → took start events self.old
+            → IfUndecided (undecides self.old (plain event.entry)) fault) }
         ensures unchanged { OnErr result ((start : Self) (events : List Event)
             → took start events self.old → took start events self.new) };
 
@@ -85,16 +97,22 @@ pub trait HistoryJudge {
     /// bytes, if it is answered now, or `None` if no such load asks for that byte, or the judge can't tell.
     /// `AllocError` says that there was too little memory.
     fn may_answer(&self, number: u64, address: u64) -> Result<Option<ByteSet>, AllocError>
-        ensures { IfOk result (λ set. (start : Self) (events : List Event)
-            → took start events self.now → (law start).returns events number address set) };
+        ensures returns { IfOk result (λ set. (start : Self) (events : List Event)
+            → took start events self.now → (law start).returns events number address set) }
+        ensures told { IfOk result (λ set. (start : Self) (events : List Event)
+            → took start events self.now → tells self.now events number address set) };
 }
 
 impl HistoryJudge for RegularMemory {
-    ghost use Rattle.history_text.specs.RegularLaw.{law_of, Took};
+    ghost use Rattle.history_text.specs.RegularLaw.{law_of, Took, Undecides, Tells};
 
     ghost law = { law_of };
 
     ghost took = { Took };
+
+    ghost undecides = { Undecides };
+
+    ghost tells = { Tells };
 
     fn judge(&mut self, event: HistoryEvent) -> Result<(), JudgeFault> {
         self.step(event)?;
@@ -111,11 +129,15 @@ impl HistoryJudge for RegularMemory {
 }
 
 impl HistoryJudge for FlatHistory {
-    ghost use Rattle.history_text.specs.FlatLaw.{law_of, Took};
+    ghost use Rattle.history_text.specs.FlatLaw.{law_of, Took, Undecides, Tells};
 
     ghost law = { law_of };
 
     ghost took = { Took };
+
+    ghost undecides = { Undecides };
+
+    ghost tells = { Tells };
 
     fn judge(&mut self, event: HistoryEvent) -> Result<(), JudgeFault> {
         self.step(event)?;
@@ -132,11 +154,15 @@ impl HistoryJudge for FlatHistory {
 }
 
 impl HistoryJudge for AtomicMemory {
-    ghost use Rattle.history_text.specs.AtomicLaw.{law_of, Took};
+    ghost use Rattle.history_text.specs.AtomicLaw.{law_of, Took, Undecides, Tells};
 
     ghost law = { law_of };
 
     ghost took = { Took };
+
+    ghost undecides = { Undecides };
+
+    ghost tells = { Tells };
 
     fn judge(&mut self, event: HistoryEvent) -> Result<(), JudgeFault> {
         self.step(event)?;

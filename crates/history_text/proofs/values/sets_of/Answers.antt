@@ -19,5 +19,5 @@ loop-place-preserved g c =
       sets = λ start events w s. subst (AreSetsFrom (law_begun j.law start) events load 0) (sym pushed)
           (sets_more (law_begun j.law start) events load 0 place sets set (c.loop-place.invariant.sets start events w s) same
           (subst (λ a. (j.law start.judge).returns events load.number a set) c.byte_address.ensures
-          (c.in_ok-set.ensures start.judge events s.taken)));
+          (c.in_ok-set.ensures.returns start.judge events s.taken)));
     }

@@ -3,9 +3,9 @@ use Rattle.memory_histories.specs.declared.events.HistoryEvent.{HistoryEvent}
 use Rattle.atomic_histories.specs.declared.memory.AtomicMemory.{AtomicMemory}
 use Rattle.history_text.specs.declared.judge.JudgeFault.{JudgeFault}
 use Rattle.history_text.specs.Lines.{plain}
-use Rattle.history_text.specs.Laws.{JudgeFaultIs, of_atomic}
-use Rattle.history_text.specs.AtomicLaw.{law_of, Took}
-use Rattle.history_text.proofs.AtomicRuns.{took_more, faulty}
+use Rattle.history_text.specs.Laws.{JudgeFaultIs, IfUndecided, of_atomic}
+use Rattle.history_text.specs.AtomicLaw.{law_of, Took, Undecides}
+use Rattle.history_text.proofs.AtomicRuns.{took_more, faulty, undecided_here}
 use Rattle.history_text.proofs.LinesRead.{passed_on}
 use Rattle.history_text.proofs.judge.AtomicMemoryHistoryJudge.judge.Goals as goal
 
@@ -22,3 +22,12 @@ returns-in_err-step-clause-fault c =
     λ f. (start : AtomicMemory) (events : List HistoryEvent) → Took start events n → JudgeFaultIs (law_of start) events event f in
     passed_on c.from_residual.result (of_atomic c.in_err-step.field-0.0) Says c.from_residual.ensures.1
     (λ start events took. faulty start n events c.args.event c.in_err-step.field-0.0 took (c.in_err-step.ensures.fault events took.stands))
+
+pub returns-in_err-step-clause-undecided : goal.returns-in_err-step-clause-undecided
+returns-in_err-step-clause-undecided c =
+    let n = c.args.self.now in
+    let event = c.args.event in
+    let Says : JudgeFault → Type 0 =
+    λ f. (start : AtomicMemory) (events : List HistoryEvent) → Took start events n → IfUndecided (Undecides n (plain event)) f in
+    passed_on c.from_residual.result (of_atomic c.in_err-step.field-0.0) Says c.from_residual.ensures.1
+    (λ start events took. undecided_here n events event c.in_err-step.field-0.0 (c.in_err-step.ensures.fault events took.stands))
