@@ -7,16 +7,12 @@ ghost use Rattle.trace_text.specs.Reading.{ReadWhole, ReadFails};
 ghost use Rattle.run_pictures.specs.Asked as all;
 
 use crate::drawn::MOST_EVENTS;
-use arrayvec::ArrayVec;
 use flat_model::{Answer, Event};
 use std::alloc::Global;
 use trace_text::{
     BUFFER_LEN, Collector, Failed, Line, LineFault, MAX_LINE, MAX_PAIR, Pair, Source, TraceFault,
-    Uncollected, answer_text, read_line, read_lines, read_pair,
+    Uncollected, answer_text, line_said, pair_said, read_lines,
 };
-
-// The bytes of a line, with its LF.
-const MAX_ENDED: usize = MAX_PAIR + 1;
 
 /// An event that a machine is asked, and the answer that was recorded with it, if one was.
 #[derive(Clone, Copy, PartialEq, Eq, Debug)]
@@ -25,43 +21,9 @@ pub struct Asked {
     pub recorded: Option<Answer>,
 }
 
-// A line with its LF, as the readers of lines take it.
-fn ended(text: &[u8]) -> ArrayVec<u8, MAX_ENDED>
-    requires { length text.now ≤ MAX_PAIR }
-    ensures { result.items ≡ text.now ++ 10 ∷ [] }
-{
-    let mut ended = ArrayVec::<u8, MAX_ENDED>::new();
-    if ended.try_extend_from_slice(text).is_err() {
-        return ended;
-    }
-    ended.push(b'\n');
-    ended
-}
-
-// What a line of a trace says, without its LF.
-fn line_said(text: &[u8]) -> Result<Line, LineFault>
-    requires { length text.now ≤ MAX_LINE }
-    ensures line { result ≡ line_of text.now }
-    ensures fault { IfErr result IsSaid }
-{
-    let ended = ended(text);
-    read_line(ended.as_slice())
-}
-
-// What a line of a recorded run says, without its LF.
-fn pair_said(text: &[u8]) -> Result<Pair, LineFault>
-    requires { length text.now ≤ MAX_PAIR }
-    ensures pair { result ≡ pair_of text.now }
-    ensures fault { IfErr result IsSaid }
-{
-    let ended = ended(text);
-    read_pair(ended.as_slice())
-}
-
 // What a line says, without its LF: it is one of a trace, or one of a recorded run.
 #[tactic(auto, unfolding(crate::specs::Asked::said_of))]
 fn said(text: &[u8]) -> Result<Pair, LineFault>
-    requires { length text.now ≤ MAX_PAIR }
     ensures pair { result ≡ all.said_of text.now }
     ensures fault { IfErr result IsSaid }
 {

@@ -11,15 +11,10 @@ ghost use Rattle.named_fields.specs.Texts.{is_printable};
 ghost use Rattle.trace_sheets.specs.Sheets as sheets;
 ghost use Rattle.trace_sheets.specs.Sheets.{front_of, is_prediction, sheet_line};
 
-use arrayvec::ArrayVec;
-use trace_text::{Line, LineFault, LineText, MAX_LINE, MAX_PAIR, read_line, read_pair};
-
-// The bytes of a line, with its LF.
-const MAX_ENDED: usize = MAX_PAIR + 1;
+use trace_text::{Line, LineFault, MAX_LINE, line_said, pair_said};
 
 // What a line of a sheet says, without its LF: a line of a trace, and the text that is predicted of it, if one is.
 pub(crate) fn sheet_said(text: &[u8]) -> Result<(Line, Option<&[u8]>), LineFault>
-    requires { length text.now ≤ MAX_PAIR }
     ensures ok { IfOk result
         (λ said. sheet_line text.now ≡ Ok (said.0, option_map (λ s. s.now) said.1)) }
     ensures fault { IfErr result (λ fault. (sheet_line text.now ≡ Err fault) × IsSaid fault) }
@@ -35,7 +30,6 @@ pub(crate) fn sheet_said(text: &[u8]) -> Result<(Line, Option<&[u8]>), LineFault
 
 // What a line says whose arrow stands at this place.
 fn predicted(text: &[u8], at: usize) -> Result<(Line, Option<&[u8]>), LineFault>
-    requires short { length text.now ≤ MAX_PAIR }
     requires arrow { arrow_in text.now ≡ Some at }
     requires bound { at + 4 ≤ length text.now }
     ensures ok { IfOk result
@@ -75,15 +69,11 @@ fn front(text: &[u8]) -> Result<Line, LineFault>
     if text.len() > MAX_LINE {
         return Err(LineFault::Field);
     }
-    let mut ended = LineText::new();
-    ended.push_bytes(text);
-    ended.push(b'\n');
-    read_line(ended.as_bytes())
+    line_said(text)
 }
 
 // Whether a text may be predicted of a line, behind which it stands.
 fn may_be_predicted(line: Line, text: &[u8], said: &[u8]) -> bool
-    requires short { length text.now ≤ MAX_PAIR }
     requires stands { (at : ℕ) × (arrow_in text.now ≡ Some at) × (front_of (take at text.now) ≡ Ok line)
         × (said.now ≡ drop (at + 4) text.now) }
     ensures { result ≡ is_prediction line said.now }
@@ -96,7 +86,6 @@ fn may_be_predicted(line: Line, text: &[u8], said: &[u8]) -> bool
 
 // Whether an answer, with what the request found or without, stands behind an event.
 fn is_answer(text: &[u8], said: &[u8]) -> bool
-    requires short { length text.now ≤ MAX_PAIR }
     requires stands { (at : ℕ) × (event : EventValue) × (arrow_in text.now ≡ Some at)
         × (front_of (take at text.now) ≡ Ok (Line.Event event)) × (said.now ≡ drop (at + 4) text.now) }
     ensures { result ≡ sheets.is_finding said.now || is_some (answer_of said.now) }
@@ -129,13 +118,7 @@ fn is_finding(said: &[u8]) -> bool
 
 // Whether the line is one of a recorded run.
 fn is_recorded(text: &[u8]) -> bool
-    requires { length text.now ≤ MAX_PAIR }
     ensures { result ≡ is_ok (pair_of text.now) }
 {
-    let mut ended = ArrayVec::<u8, MAX_ENDED>::new();
-    if ended.try_extend_from_slice(text).is_err() {
-        return false;
-    }
-    ended.push(b'\n');
-    read_pair(ended.as_slice()).is_ok()
+    pair_said(text).is_ok()
 }

@@ -257,10 +257,11 @@ fn line_from(command: Command, fields: Option<&[u8]>) -> Option<Line>
     }
 }
 
-// What a line says, without its LF.
+/// What a line says that has ended, without its LF: as [`read_line`] reads it, but of any length, so that
+/// only [`LineFault::Unknown`] and [`LineFault::Field`] come.
 #[inline(always)]
 #[tactic(auto, unfolding(crate::specs::Lines::line_of))]
-pub(crate) fn line_said(text: &[u8]) -> Result<Line, LineFault>
+pub fn line_said(text: &[u8]) -> Result<Line, LineFault>
     ensures said { result ≡ line_of text.now }
     ensures fault { IfErr result IsSaid }
 {

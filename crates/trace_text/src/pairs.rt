@@ -152,12 +152,13 @@ fn answered(line: Line, answer: Answer) -> Pair
     }
 }
 
-// What a line with its answer says, without its LF. A line that can be read has no hyphen, so an arrow right behind
-// it is the first one, and needs no search.
-pub(crate) fn pair_said(text: &[u8]) -> Result<Pair, LineFault>
+/// What a line of a served trace says that has ended, without its LF: as [`read_pair`] reads it, but of any
+/// length, so that only [`LineFault::Unknown`] and [`LineFault::Field`] come.
+pub fn pair_said(text: &[u8]) -> Result<Pair, LineFault>
     ensures pair { result ≡ pair_of text.now }
     ensures fault { IfErr result IsSaid }
 {
+    // A line that can be read has no hyphen, so an arrow right behind it is the first one, and needs no search.
     if let Some((front, answer)) = usual_answer(text) {
         if let Ok(line) = line_said(front) {
             return Ok(answered(line, answer));
