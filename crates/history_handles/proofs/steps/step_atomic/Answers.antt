@@ -14,5 +14,6 @@ returns-clause-ok c a k =
 pub returns-in_err-step-clause-fault : goal.returns-in_err-step-clause-fault
 returns-in_err-step-clause-fault c a k =
     let f = c.in_err-step.field-0.0 in
-    passed_on c.from_residual.result (λ r. IfErr r (AtomicFaultIs (judge.Atomic c.args.memory.now) a c.args.event)) (of_atomic f) c.from_residual.ensures.1
+    passed_on c.from_residual.result (λ r. IfErr r (AtomicFaultIs (judge.Atomic c.args.memory.now) a c.args.event)) (of_atomic f)
+    c.from_residual.ensures.1
     (faulty c.args.memory.now a c.args.event f k (c.in_err-step.ensures.fault_but a.lost a.events k.kept.stands))
