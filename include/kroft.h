@@ -430,7 +430,7 @@ uint32_t kroft_find(kroft_handle *handle, uint32_t at, uint32_t *lookup);
 
 /* What a run in rounds counted. */
 typedef struct {
-    uint64_t rounds;            /* rounds, the last one counted, in which nothing moves                             */
+    uint64_t rounds;            /* rounds; of kroft_drive the last one, too, in which nothing moves                 */
     uint64_t accepted;          /* requests that were accepted                                                      */
     uint64_t denied;            /* requests that were refused for what no move changes                              */
     uint64_t hits;              /* accepted loads, stores and prefetches, by what they found                        */

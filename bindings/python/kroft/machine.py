@@ -155,7 +155,7 @@ Request = Union[Load, Store, Prefetch, Evict]
 class Counts(NamedTuple):
     """What a run in rounds counted. A round is a step of a schedule, and no time of any hardware."""
 
-    rounds: int  #: rounds, the last one counted, in which nothing moves
+    rounds: int  #: rounds; of `drive` the last one, too, in which nothing moves
     accepted: int
     denied: int  #: requests that were refused for what no move changes
     hits: int  #: accepted loads, stores and prefetches, by what they found
