@@ -430,7 +430,7 @@ uint32_t kroft_find(kroft_handle *handle, uint32_t at, uint32_t *lookup);
 
 /* What a run in rounds counted. */
 typedef struct {
-    uint64_t rounds;            /* rounds, the last one counted, in which nothing moves                             */
+    uint64_t rounds;            /* rounds; of kroft_drive the last one, too, in which nothing moves                 */
     uint64_t accepted;          /* requests that were accepted                                                      */
     uint64_t denied;            /* requests that were refused for what no move changes                              */
     uint64_t hits;              /* accepted loads, stores and prefetches, by what they found                        */
@@ -601,7 +601,7 @@ enum {
  */
 enum {
     KROFT_LAWFUL = 0,          /* the event was taken: the history with it is one of the law                */
-    KROFT_NO_ROOM = 2,         /* the row of a set hasn't KROFT_SET_BYTES bytes                             */
+    KROFT_NO_ROOM = 2,         /* the row of a set hasn't KROFT_SET_BYTES bytes, exactly                    */
     KROFT_BAD_RANGE = 11,      /* the operation has no byte or more than 64, or runs beyond the last address */
     KROFT_NO_BYTE_ENABLED = 12, /* no byte of the store is enabled                                          */
     KROFT_NUMBER_IN_USE = 13,  /* a load, or a store, is open under the number                              */
@@ -658,11 +658,11 @@ uint32_t kroft_store_response(kroft_history *handle, uint64_t number);
 #define KROFT_SET_BYTES 32
 
 /*
- * What the load that is open under a number may return for the byte at an address, if it is answered now. Returns
- * KROFT_FOUND, and `set` is it; KROFT_NONE: no such load asks for that byte; KROFT_NO_ROOM; or KROFT_CLOSED. By the
- * atomic law it is the set of this byte alone (two bytes may be allowed that aren't allowed together), and these are
- * returned too: KROFT_UNDECIDED, and KROFT_OUT_OF_MEMORY. After each but KROFT_FOUND `set` is as it was. The history
- * is as it was after each.
+ * What the load that is open under a number may return for the byte at an address, if it is answered now. Returns the
+ * first of these that holds: KROFT_CLOSED; KROFT_NO_ROOM; KROFT_NONE: no such load asks for that byte; KROFT_FOUND, and
+ * `set` is it. By the atomic law it is the set of this byte alone (two bytes may be allowed that aren't allowed
+ * together), and before KROFT_FOUND these may come: KROFT_UNDECIDED, and KROFT_OUT_OF_MEMORY. After each but
+ * KROFT_FOUND `set` is as it was. The history is as it was after each.
  */
 uint32_t kroft_may_return(kroft_history *handle, uint64_t number, uint64_t address, uint8_t *set, size_t nset);
 
@@ -776,7 +776,7 @@ typedef struct {
     uint32_t apart;        /* not 0: each requester has bytes of its own in each block, accesses of one byte,
                               so that blocks are shared and bytes aren't: of at most `block_bytes` requesters       */
     uint32_t stores;       /* the share of stores among the accesses                                                */
-    uint32_t partial;      /* the share of stores that may leave bytes out                                          */
+    uint32_t partial;      /* the share of stores that may leave bytes out: one that leaves all out is a load       */
 } kroft_plan;
 
 /* An access: a load or a store of some bytes of one block. */
