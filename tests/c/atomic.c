@@ -127,6 +127,9 @@ static void undecided_store(void) {
     CHECK(kroft_unanswered(&h, &loads, &stores) == KROFT_DONE && loads == 2 && stores == STORES);
     memset(row, 0x33, sizeof row);
     CHECK(kroft_may_return(&h, 1, UNIT + 1, row, sizeof row) == KROFT_UNDECIDED && row[0] == 0x33 && row[31] == 0x33);
+    /* of a load that isn't open, or doesn't ask for the byte, that is told whatever stands at the unit */
+    CHECK(kroft_may_return(&h, 3, UNIT + 1, row, sizeof row) == KROFT_NONE && row[0] == 0x33 && row[31] == 0x33);
+    CHECK(kroft_may_return(&h, 1, UNIT + 2, row, sizeof row) == KROFT_NONE && row[0] == 0x33 && row[31] == 0x33);
     CHECK(kroft_may_return(&h, 2, 0, row, sizeof row) == KROFT_FOUND && is_set(row, zero, 1));
     CHECK(kroft_store_response(&h, 99) == KROFT_NOT_OPEN);
     CHECK(kroft_undecided(&h, &address) == KROFT_FOUND && address == UNIT);
