@@ -4,7 +4,7 @@ use Rattle.std.proofs.Common.{List, [], ◌∷◌, length, take, get_or, Option,
 use Rattle.std.proofs.Common.{inl, inr, refl, sym, ap, ap₂, ◌∙◌, subst, arith}
 use Rattle.std.specs.List.{find, list_all, range_with_len}
 use Rattle.std.proofs.lemmas.List.{length-take-le, take-take, get_or-take}
-use Rattle.std.proofs.lemmas.Bool.{cases_Bool, cases_eq, cases_lt, and_parts, and_from, lt-ltb, le-ltb, lt-leb, le-leb, eq-eqb, ne_eqb}
+use Rattle.std.proofs.lemmas.Bool.{cases_Bool, and_parts, and_from}
 use Rattle.std.proofs.lemmas.Bool.{or_left, or_right}
 use Rattle.memory_histories.specs.declared.events.HistoryEvent.{HistoryEvent}
 use Rattle.memory_histories.specs.declared.events.Rest.{Rest}
@@ -28,7 +28,7 @@ use Rattle.atomic_histories.specs.Followed.{Pair, Ways, Aim, first_ways, has_way
 use Rattle.atomic_histories.specs.Followed.{out_after, met, found}
 use Rattle.atomic_histories.specs.Followed.{is_under, loads_without, moment_with, pair_missed, gathered}
 use Rattle.atomic_histories.specs.Followed.{with_hope, answered_load, answered_store, ways_without_load}
-use Rattle.atomic_histories.specs.Held.{Held, covered, units_of, is_among}
+use Rattle.atomic_histories.specs.Held.{Held, covered, units_of}
 use Rattle.atomic_histories.specs.Judge.{bytes_of, kept_or, kept_at, words_of, IsTaken}
 use Rattle.atomic_histories.specs.Shown.{past_at, past_of, pasts}
 use Rattle.atomic_histories.proofs.Shares.{stands}
@@ -242,17 +242,6 @@ number_fits One a h = omega arith
 number_fits Two a h = omega arith
 number_fits Four a h = omega arith
 number_fits Eight a h = omega arith
-
--- the units among which one lies are that one
-among_one : (size : ℕ) (p : ℕ × ℕ) (number k : ℕ) → number ≡ p.0 / size → units_of size p.0 p.1 ≡ 1
-    → is_among size p k ≡ (number == k)
-among_one size p number k e one = elim (cases_eq number k) [
-  | inl same ↦ rw (one, ← e, eq-eqb number k same, le-leb number k (omega arith), lt-ltb k (number + 1) (omega arith)) refl
-  | inr other ↦ elim (cases_lt k number) [
-    | inl below ↦ rw (one, ← e, ne_eqb number k other, lt-leb number k below) refl
-    | inr above ↦ rw (one, ← e, ne_eqb number k other, le-leb number k above, le-ltb k (number + 1) (omega arith)) refl
-  ]
-]
 
 -- the one unit that an event touches took it
 one_taken : (h next : Held) (event : HistoryEvent) (number : ℕ) → number ≡ (covered h.opened event).0 / h.size

@@ -440,11 +440,6 @@ some_state start unit u e es is history s =
     let r = state_on _ in
     (p.0, r.0, r.1, sound.0 p.0 p.1 r.0 r.1)
 
-pub no_state : (start : UnitMemory) (unit : UnitPlace) (u : Ways) → u.pairs ≡ [] → (history : List HistoryEvent)
-    → StandsFor start unit u history
-    → ¬ ((m : UnitMemory) × MayBe unit start history m)
-no_state start unit u is history s h = grind arith
-
 -- Whole histories. ----
 
 abbrev pub AlwaysAlone : UnitPlace → Ways → List HistoryEvent → Type 0

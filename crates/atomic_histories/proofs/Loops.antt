@@ -121,10 +121,6 @@ next_met ls moment aim next e h = rw h refl
 pub out_unmet : (goal : Pair → Bool) (out : List Pair) (e : Pair) → goal e ≡ false → out ≡ out_of goal out e
 out_unmet goal out e h = rw h refl
 
-or_behind : (a b : Bool) → a ≡ false → (a || b) ≡ b
-or_behind true b h = cc
-or_behind false b h = refl
-
 -- the rounds of a search
 pub over_go : (limit : ℕ) (ls : List WatchedLoad) (moment n : ℕ) (aim : Aim) (out es : List Pair)
     → (are_too_many limit es || are_too_many limit out) ≡ false → 0 < n

@@ -75,9 +75,6 @@ one_set_more h number a i sets set r s = grind (arith, sets_pushed)
 
 -- No verdict. ----
 
-unit_start : (a m : ℕ) → a - a % m ≡ a / m * m
-unit_start a m = grind arith
-
 -- a search that was stopped at the unit in which a byte lies
 pub stopped_set : (limit : ℕ) (h : Held) (a : ℕ) (stop : Stop)
     → StopIs (is_reach_wide limit (h.words (a / h.size)) (h.units (a / h.size))) stop

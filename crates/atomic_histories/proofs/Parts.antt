@@ -1,6 +1,6 @@
 -- The pairs on whose ways a load may have got its answer, and the others: what is gathered of them one by one.
-use Rattle.std.proofs.Common.{◌≡◌, ℕ, zero, suc, ◌+◌, ◌<◌, Result, Ok, Err, IfOk, IfErr, IsErrAnd, Bool, true, false, List, [], ◌∷◌, ◌++◌}
-use Rattle.std.proofs.Common.{filter, length, drop, get_or, Option, Some, None, refl, sym, ap, ◌∙◌, subst, append_assoc, add-one, drop-cons}
+use Rattle.std.proofs.Common.{◌≡◌, ℕ, zero, suc, ◌+◌, ◌<◌, Result, Ok, Err, IfOk, IfErr, IsErrAnd, true, false, List, [], ◌∷◌, ◌++◌}
+use Rattle.std.proofs.Common.{filter, length, drop, get_or, Option, refl, sym, ap, ◌∙◌, subst, append_assoc, add-one, drop-cons}
 use Rattle.std.proofs.Common.{arith}
 use Rattle.atomic_histories.specs.declared.unit.UnitPlace.{UnitPlace}
 use Rattle.atomic_histories.specs.declared.unit.WatchedLoad.{WatchedLoad}
@@ -10,7 +10,7 @@ use Rattle.atomic_histories.specs.declared.pairs.FollowedPair.{FollowedPair}
 use Rattle.atomic_histories.specs.declared.splits.Split.{Split}
 use Rattle.atomic_histories.specs.declared.search.Stop.{Stop}
 use Rattle.atomic_histories.specs.Words.{is_word_of}
-use Rattle.atomic_histories.specs.Pasts.{Past, got, missed}
+use Rattle.atomic_histories.specs.Pasts.{got, missed}
 use Rattle.atomic_histories.specs.Branches.{may_come}
 use Rattle.atomic_histories.specs.Followed.{Pair, Aim, found, needs_more, word_aim, is_answer, cons_any, pair_on, pair_missed, gathered}
 use Rattle.atomic_histories.specs.Followed.{with_hope}
@@ -49,22 +49,6 @@ pub missed_step : (aim : Aim) (f : Pair → Option Pair) (e : Pair) (es : List P
 missed_step aim f e es = grind arith
 
 -- One pair. ----
-
-hoped : (hope : Pair → Bool) (e : Pair) (x : Option Past)
-    → ((p : Past) → hope (record { word = e.word; stores = e.stores; past = p }) ≡ true)
-    → cons_any (pair_on e x) [] ≡ filter hope (cons_any (pair_on e x) [])
-hoped hope e None t = refl
-hoped hope e (Some p) t = rw (t p) refl
-
-unhoped : (hope : Pair → Bool) (e : Pair) (x : Option Past)
-    → ((p : Past) → hope (record { word = e.word; stores = e.stores; past = p }) ≡ false)
-    → [] ≡ filter hope (cons_any (pair_on e x) [])
-unhoped hope e None n = refl
-unhoped hope e (Some p) n = rw (n p) refl
-
-not_got : (unit : UnitPlace) (bytes : List ℕ) (l : WatchedLoad) (e : Pair) → is_word_of unit.first e.word l.address bytes ≡ false
-    → pair_missed unit bytes l e ≡ pair_on e (missed (is_answer unit l.address l.since bytes) e.past)
-not_got unit bytes l e n = rw n refl
 
 pub missed_part : (unit : UnitPlace) (bytes : List ℕ) (l : WatchedLoad) (ss : List Stretch) (s : Split) (p : FollowedPair)
     (r : Option Before)

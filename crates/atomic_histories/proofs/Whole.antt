@@ -399,19 +399,6 @@ module _ (h : Held) (lost : List ℕ) (history : List HistoryEvent) (event : His
 
 -- A unit is forgotten. ----
 
-pub stands_forgotten : (h next : Held) (number : ℕ) → IsForgotten h number next → (lost : List ℕ) (history : List HistoryEvent)
-    → StandsBut h lost history → StandsBut next (number ∷ lost) history
-stands_forgotten h next number t lost history s = record {
-  sized = grind arith;
-  formed = s.formed;
-  opened = t.opened ∙ s.opened;
-  units = grind arith;
-}
-  where
-    same : (k : ℕ) → Stands h.image h.rest history (unit_at h.size k) (next.units k)
-        → Stands next.image next.rest history (unit_at next.size k) (next.units k)
-    same k a = grind arith
-
 pub forgotten_law : {E : Type 0} (r : Result (Unit {0}) E) (h next : Held) (number : ℕ) → OnOk r (IsForgotten h number next)
     → (lost : List ℕ) (history : List HistoryEvent) → StandsBut h lost history
     → OnOk r (StandsBut next (number ∷ lost) history)

@@ -142,10 +142,6 @@ module _ (image : List ℕ) (rest : Rest) (unit : UnitPlace) (history : List His
 few : (limit : ℕ) → nat_lt limit 0 ≡ false
 few limit = grind arith
 
-no_over : (limit : ℕ) (loads : List WatchedLoad) (moment n : ℕ) (aim : Aim) → is_over limit loads moment n aim [] [] ≡ false
-no_over limit loads moment zero aim = refl
-no_over limit loads moment (suc n) aim = rw (few limit) (no_over limit loads moment n aim)
-
 no_load : (limit : ℕ) (unit : UnitPlace) (bytes : List ℕ) (load : Option WatchedLoad) (loads : List WatchedLoad) (moment : ℕ)
     (es : List Pair)
     → es ≡ [] → load_needs_more limit unit bytes load (record { loads = loads; moment = moment; pairs = es }) ≡ false

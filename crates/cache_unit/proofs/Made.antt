@@ -1,5 +1,5 @@
 -- A unit that holds nothing is sound.
-use Rattle.std.proofs.Common.{◌≡◌, ℕ, Bool, true, List, [], replicate, get_or, arith}
+use Rattle.std.proofs.Common.{◌≡◌, ℕ, Bool, List, [], replicate, get_or, arith}
 use Rattle.std.proofs.lemmas.List.{get_or-replicate, get_or_past, length-replicate}
 use Rattle.std.proofs.lemmas.List.Folds.{sum_by-replicate}
 use Rattle.std.proofs.lemmas.Bool.{false≢true, cases_lt}

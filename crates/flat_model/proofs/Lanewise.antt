@@ -93,9 +93,6 @@ merged-none u o = same_word_from _ _ (λ l. byte-merged u o no_lanes l ∙ ap (�
 pub merged_no_lane : (u o : Word) (m : Lanes) → has_any m ≡ false → merged u o m ≡ u
 merged_no_lane u o m h = same_word_from _ _ (λ l. byte-merged u o m l ∙ ap (λ b. cond b (byte o l) (byte u l)) (none_from_any m h l))
 
-pub merged-all : (u o : Word) (m : Lanes) → has_all m ≡ true → merged u o m ≡ o
-merged-all u o m h = same_word_from _ _ (λ l. byte-merged u o m l ∙ ap (λ b. cond b (byte o l) (byte u l)) (all_from_all m h l))
-
 -- the bytes that stand outside the lanes don't count
 pub merged_held : (u v o : Word) (m : Lanes) → merged u (merged v o m) m ≡ merged u o m
 merged_held u v o m = same_word_from _ _ (λ l. byte-merged u (merged v o m) m l ∙ ap (λ b. cond (has m l) b (byte u l))

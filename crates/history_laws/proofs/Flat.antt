@@ -1,17 +1,15 @@
 -- A flat history is an atomic one: each operation takes effect right behind its request.
-use Rattle.std.proofs.Common.{◌≡◌, ℕ, zero, suc, ◌+◌, ◌-◌, ◌/◌, ◌%◌, ◌<◌, ◌≤◌, Bool, true, false, ◌&&◌, ◌||◌, not, ◌==◌, cond}
+use Rattle.std.proofs.Common.{◌≡◌, ℕ, zero, suc, ◌+◌, ◌-◌, ◌/◌, ◌%◌, ◌<◌, ◌≤◌, Bool, true, false, ◌&&◌, ◌||◌, not, ◌==◌}
 use Rattle.std.proofs.Common.{if◌then◌else◌, nat_lt, List, [], ◌∷◌, ◌++◌, map, length, Option, Some, None, slice_get, inl, inr}
 use Rattle.std.proofs.Common.{refl, sym, ap, ◌∙◌, subst, append-nil, append_assoc, eq-eqb, eqb-true, arith}
-use Rattle.std.specs.Prelude.{is_none, is_some, IsTrue}
+use Rattle.std.specs.Prelude.{is_some, IsTrue}
 use Rattle.std.specs.Borrow.{Bor}
 use Rattle.std.specs.List.{filter, find, list_any, range_with_len, zip, position, prefix_len}
-use Rattle.std.specs.Option.{option_and_then}
 use Rattle.std.proofs.lemmas.Bool.{cases_Bool, cases_lt, cases_eq, lt-ltb, ltb-true, lt-leb, leb-true, ne_eqb}
 use Rattle.std.proofs.Math.Path.{fun_ext}
 use Rattle.std.proofs.Math.Bool.{or_assoc}
 use Rattle.memory_histories.specs.declared.events.HistoryEvent.{HistoryEvent}
 use Rattle.memory_histories.specs.declared.events.HistoryEvent.TheVariants.{LoadRequest, LoadResponse, StoreRequest, StoreResponse}
-use Rattle.memory_histories.specs.declared.events.HistoryFault.{HistoryFault}
 use Rattle.memory_histories.specs.declared.events.Rest.{Rest}
 use Rattle.memory_histories.specs.declared.events.Rest.TheVariants.{Zeros, Unknown}
 use Rattle.memory_histories.specs.declared.reasons.Owed.{Owed}
@@ -84,9 +82,6 @@ first_value : (t : Bool) (value : ℕ → Owed) (at : ℕ → Owed) (a b x : ℕ
     → (if t then with_value at a (value b) else at) x ≡ chosen value (if t then Some b else None) (at x)
 first_value true value at a b x h = rw h refl
 first_value false value at a b x h = refl
-
-nothing_enabled : (e k : ℕ) → enabled_byte [] e k ≡ None
-nothing_enabled e k = grind arith
 
 nothing_stored : (a x e : ℕ) → stored_byte a [] e x ≡ None
 nothing_stored a x e = grind arith
@@ -171,10 +166,6 @@ no_place may (p ∷ ps) h = elim (cases_Bool _) [
       let f = (rw e at h) in
       absurd (false_true (nat_lt 0 (suc (length ps))) f (lt-ltb 0 (suc (length ps)) (omega arith)))
 ]
-
-unconditional : (t : Bool) (k : ℕ) → cond t (Some k) None ≡ None → t ≡ false
-unconditional true k h = cc
-unconditional false k h = refl
 
 place_none : {L : Type 0} (may : L → ℕ → Bool) (ps : List (L × ℕ)) → position (λ p. not (may p.0 p.1)) ps ≡ None → nat_lt (prefix_len (λ p.
     not (not (may p.0 p.1))) ps) (length ps) ≡ false
@@ -376,12 +367,6 @@ get_within : (bs : List ℕ) (i b : ℕ) → slice_get bs i ≡ Some b → i < l
 get_within [] i b h = cc
 get_within (c ∷ bs) zero b h = omega arith
 get_within (c ∷ bs) (suc i) b h = let l = get_within bs i b h in omega arith
-
-run_cases : (o : Option HistoryFault) → {p : Option HistoryFault} → p ≡ o → (g : Flat) (events : List HistoryEvent)
-    → IsTrue (is_some (option_and_then (λ x. flat_run x events) (if is_none p then Some g else None))) → (p ≡ None)
-    × IsTrue (is_some (flat_run g events))
-run_cases None e g events t = (e, rw e at t)
-run_cases (Some c) e g events t = grind arith
 
 run_parts : (f : Flat) (event : HistoryEvent) (events : List HistoryEvent) → IsTrue (is_some (flat_run f (event ∷ events)))
     → (flat_fault f event ≡ None) × IsTrue (is_some (flat_run (flat_after f event) events))

@@ -63,9 +63,6 @@ lane_word first (w ∷ ws) a bs h =
 
 -- The bytes of a store. ----
 
-enabled_none : (e k : ℕ) → enabled_byte [] e k ≡ None
-enabled_none e k = grind arith
-
 pub enabled_first : (b : ℕ) (bs : List ℕ) (e : ℕ) → enabled_byte (b ∷ bs) e 0 ≡ (if e % 2 == 1 then Some b else None)
 enabled_first b bs e = grind arith
 
@@ -144,11 +141,6 @@ IsNewByte n a bs e t s = (s.number ≡ n) × ((s.ended ≡ None) × ((s.began �
 
 pub each_new : (n a : ℕ) (bs : List ℕ) (e t : ℕ) → Each (IsNewByte n a bs e t) (store_bytes n a bs e t)
 each_new n a bs e t = grind (arith, each_weaker, stored_inside, each_enabled)
-
-and_false_or : (x y : Bool) → (x || (y && x)) ≡ x
-and_false_or true y = refl
-and_false_or false true = refl
-and_false_or false false = refl
 
 any_new_if : (c r x : Bool) (n m : ℕ) (s : StoreByte) (ss : List StoreByte) → is_open m s ≡ x → list_any (is_open m) ss ≡ (r && x)
     → list_any (is_open m) (cons_if c s ss) ≡ ((c || r) && x)

@@ -196,13 +196,6 @@ ends_more {bytes = bytes} why more p = record {
   ends = p.ends;
 }
 
-pub ends_too_many : {J : Type 0} {took : J → List HistoryEvent → J → Type 0} {law : J
-    → Law} {start : Begin J} {judged : Judged J} {bytes pending : List ℕ} {texts : List (List ℕ)}
-    {count : ℕ} (b : ℕ)
-    → HasRead took law start bytes texts judged pending count → count ≡ most_lines
-    → EndsAt (law_begun law start) texts (pending ++ b ∷ []) (stop.Fault fault.TooManyLines)
-ends_too_many {pending = pending} {texts = texts} b h full = (sym h.number ∙ full, omega (arith, length-append pending (b ∷ [])))
-
 pub ends_long : {J : Type 0} {took : J → List HistoryEvent → J → Type 0} {law : J
     → Law} {start : Begin J} {judged : Judged J} {bytes pending : List ℕ} {texts : List (List ℕ)}
     {count : ℕ} (b number : ℕ)

@@ -1,5 +1,5 @@
 -- Sets of bytes as their tests.
-use Rattle.std.proofs.Common.{◌≡◌, ◌≢◌, ℕ, zero, suc, ◌-◌, ◌/◌, ◌^◌, ◌<◌, ◌≤◌, ◌%◌, ◌||◌, ◌==◌, Bool, false, nat_lt, List, [], ◌∷◌}
+use Rattle.std.proofs.Common.{◌≡◌, ◌≢◌, ℕ, zero, suc, ◌-◌, ◌/◌, ◌^◌, ◌<◌, ◌≤◌, ◌%◌, ◌||◌, ◌==◌, Bool, false, nat_lt, [], ◌∷◌}
 use Rattle.std.proofs.Common.{get_or, set, max, inl, inr, refl, sym, ap, ◌∙◌, arith}
 use Rattle.std.specs.Prelude.{bit_or}
 use Rattle.std.specs.Int.{bit_at}
@@ -29,14 +29,6 @@ bit_joined n k i = elim (cases_eq k i) [
       ∙ (ap (λ x. max (bit_at n i) x) (bit_at-pow_other k i other) ∙ max_zero _) in
       ap (λ x. x == 1) same ∙ sym (ap (λ x. (bit_at n i == 1) || x) (ne_eqb k i ne) ∙ or_false _)
 ]
-
--- a word of four
-at_four : (ws : List ℕ) (k : ℕ) → k < 4 → get_or (four ws) k 0 ≡ get_or ws k 0
-at_four ws zero h = refl
-at_four ws (suc zero) h = refl
-at_four ws (suc (suc zero)) h = refl
-at_four ws (suc (suc (suc zero))) h = refl
-at_four ws (suc (suc (suc (suc k)))) h = omega arith
 
 few_words : (b : ℕ) → word_of b < 4
 few_words b = omega arith

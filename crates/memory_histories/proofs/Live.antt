@@ -46,10 +46,6 @@ before_now : (t b : ℕ) (o : Option ℕ) → EndsBefore t b o → is_before o t
 before_now t b None h = refl
 before_now t b (Some e) h = lt-ltb e t h.1
 
-before_began : (t b m : ℕ) (o : Option ℕ) → EndsBefore t b o → is_before o m ≡ true → b < m
-before_began t b m None h k = absurd (false≢true k)
-before_began t b m (Some e) h k = grind arith
-
 pub overwritten_now : (t : ℕ) (stores : List StoreByte) → All (IsTimely t) stores → (s : StoreByte)
     → is_overwritten stores s t ≡ is_past stores s
 overwritten_now t stores a s = grind (arith, list_any-agree, s.ended, before_now)
@@ -230,11 +226,6 @@ past_after n t stores timely s =
     ∙ ap (λ x. is_past stores s || x) (sym (list_any-filter _ (λ e. (e.address == s.address) && is_before s.ended e.began)
     stores)))
 
--- what overwrites a byte lies in its unit
-dropped_test : (x u y : Bool) → (x ≡ true → u ≡ true) → (x && (u && y)) ≡ (x && y)
-dropped_test true u y h = rw (h refl) refl
-dropped_test false u y h = refl
-
 dropped_in : (u : ℕ) (ending : List StoreByte) (s : StoreByte) → is_in u s ≡ true → is_dropped u ending s ≡ list_any (drops s) ending
 dropped_in u ending s h = grind arith
 
@@ -329,10 +320,6 @@ still_open n t s = elim (cases_Bool _) [
   | inl h ↦ ap is_unanswered (ended_now n t s h) ∙ sym (cc (h, and_false _))
   | inr h ↦ ap is_unanswered (not_ended_now n t s h) ∙ sym (cc (h, and_true _))
 ]
-
-false_from_not : (x : Bool) → not x ≡ true → x ≡ false
-false_from_not true h = cc
-false_from_not false h = refl
 
 still_same : (n t : ℕ) (s : StoreByte) → (is_unanswered s && not (is_open n s)) ≡ true → after_response n t s ≡ s
 still_same n t s h = grind arith

@@ -21,7 +21,7 @@ use Rattle.memory_histories.specs.Windows.{Windows, store_bytes, load_bytes, is_
 use Rattle.memory_histories.specs.Windows as windows
 use Rattle.memory_histories.specs.Regular.{fault, may_return, load_response_fault}
 use Rattle.memory_histories.specs.Kept.{Kept, opened_at, after_stores, answered_after, unit_of, is_open_of}
-use Rattle.memory_histories.specs.Kept.{is_open_at, may_have, kept_fault, kept_after, kept_step, EndsBefore, IsTimely, IsExact, StandsFor}
+use Rattle.memory_histories.specs.Kept.{is_open_at, may_have, kept_fault, kept_after, kept_step, IsTimely, IsExact, StandsFor}
 use Rattle.memory_histories.specs.Kept as keeps
 use Rattle.memory_histories.specs.Shown.{KeptFaultIs, StepFaultIs, IsSetOf}
 use Rattle.memory_histories.proofs.Lists.{list_any-map, filter-map, map-map, find-map, find-All, position-zip}
@@ -58,10 +58,6 @@ fault_same k w (StoreRequest n a bytes e) s = grind (arith, bytes.now, any_open)
 fault_same k w (StoreResponse n) s = grind (arith, any_open)
 
 -- Steps. ----
-
-ends_later : (t b : ℕ) (o : Option ℕ) → EndsBefore t b o → EndsBefore (t + 1) b o
-ends_later t b None h = tt
-ends_later t b (Some e) h = grind arith
 
 timely_later : (t : ℕ) (s : StoreByte) → IsTimely t s → IsTimely (t + 1) s
 timely_later t s h = grind arith

@@ -1,20 +1,10 @@
 -- The lines of a trace or of a recorded run, and what is asked in them.
-use Rattle.std.proofs.Common.{◌≡◌, ℕ, ◌+◌, ◌-◌, ◌<◌, ◌≤◌, Bool, true, false, cond, Option, Some, None, Result, Ok, Err, List, [], ◌∷◌, ◌++◌}
-use Rattle.std.proofs.Common.{length, take, get_or, length-append, append-nil, sym, refl, ◌∙◌, ap, subst, arith}
-use Rattle.std.specs.Prelude.{◌==◌, ◌&&◌, nat_lt, slice_index, IfErr}
+use Rattle.std.proofs.Common.{◌≡◌, ℕ, ◌+◌, ◌-◌, ◌<◌, ◌≤◌, Option, Some, None, Ok, List, [], ◌∷◌, ◌++◌}
+use Rattle.std.proofs.Common.{length, length-append, append-nil, sym, ◌∙◌, ap, arith}
+use Rattle.std.specs.Prelude.{◌==◌, ◌&&◌}
 use Rattle.std.specs.Option.{option_to_list}
-use Rattle.std.proofs.Math.Seq.{get_or-append_seam, take-append_seam}
-use Rattle.std.proofs.lemmas.Bool.Decides.{nat_tests}
 use Rattle.std.proofs.lemmas.Grind.{flat_map-append}
-use Rattle.flat_model.specs.declared.Answer.{Answer}
-use Rattle.trace_text.specs.Lines.{IsSaid, cut_of, command_named, is_ended, without_end, said_by, or_field, line_of, line_from}
-use Rattle.trace_text.specs.Lines.{ended_line_of}
-use Rattle.trace_text.specs.Pairs.{pair_of, pair_cut, pair_from, pair_with, answered_pair, answer_of, arrow_in, ended_pair_of}
-use Rattle.trace_text.specs.declared.fault.TheConstants.{MAX_LINE, MAX_PAIR}
-use Rattle.trace_text.specs.declared.lines.Line.{Line}
 use Rattle.trace_text.specs.declared.lines.Line.TheVariants as line
-use Rattle.trace_text.specs.declared.lines.LineFault.{LineFault}
-use Rattle.trace_text.specs.declared.lines.LineFault.TheVariants.{Unknown, Field, TooLong, NotEnded}
 use Rattle.trace_text.specs.declared.pairs.Pair.{Pair}
 use Rattle.run_pictures.specs.declared.asked.Asked.{Asked}
 use Rattle.run_pictures.specs.declared.asked.AskedSoFar.{AskedSoFar}

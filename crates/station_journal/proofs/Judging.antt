@@ -1,6 +1,6 @@
 -- What a port asked and was told by a journal, counted: each ask but Done has one verdict, and values
 -- go to the ports of their loads.
-use Rattle.std.proofs.Common.{◌≡◌, ℕ, ◌+◌, ◌-◌, ◌*◌, ◌/◌, Bool, true, false, cond, not, ◌==◌, List, [], ◌∷◌, ◌++◌, length, Some}
+use Rattle.std.proofs.Common.{◌≡◌, ℕ, ◌+◌, ◌-◌, ◌*◌, ◌/◌, Bool, true, cond, not, ◌==◌, List, [], ◌∷◌, ◌++◌, length, Some}
 use Rattle.std.proofs.Common.{ap, arith, length-append}
 use Rattle.std.proofs.lemmas.Bool.{and_parts}
 use Rattle.std.proofs.lemmas.List.Elements.{filter-append}
@@ -19,7 +19,7 @@ use Rattle.station_journal.specs.declared.asks.Ask.{Ask}
 use Rattle.station_journal.specs.declared.asks.Ask.TheVariants.{Load, Store, Prefetch, Evict, Done}
 use Rattle.station_journal.specs.declared.asks.Told.{Told}
 use Rattle.station_journal.specs.Journal.{events_of, answers_of}
-use Rattle.station_journal.specs.Parts.{asked_by, asks_of, verdict, value_for, told_by, told_of, is_event_of, is_entry_of, IsOfPorts}
+use Rattle.station_journal.specs.Parts.{asked_by, asks_of, told_by, told_of, is_event_of, is_entry_of, IsOfPorts}
 use Rattle.station_journal.specs.Conversation.{is_value, verdicts_in, value_count, is_request, requests_in, accepted_loads}
 use Rattle.station_journal.proofs.Paying.{first_of_run}
 use Rattle.station_journal.proofs.OpenTags.{load_by, value_by, loads_in, values_in}
@@ -72,57 +72,6 @@ tallies-append xs ys us vs a b c d h k =
 
 -- ---- one entry
 
-other_port : (p port tag : ℕ) → (port == p) ≡ false → (tag / 256 == port) ≡ true → is_of p tag ≡ false
-other_port p port tag apart same = grind arith
-
-same_port : (p port tag : ℕ) → (port == p) ≡ true → (tag / 256 == port) ≡ true → is_of p tag ≡ true
-same_port p port tag here same = grind arith
-
--- what a load of a port's ring adds to port p
-load_tallies : (p port tag at : ℕ) (answer : Answer) (f : Flat) → (tag / 256 == port) ≡ true
-    → may_answer f (events.Load tag at) answer ≡ true → (t : Bool) → (port == p) ≡ t
-    → Tallies (cond t (Load (tag - p * 256) at ∷ []) []) (cond t (verdict answer) []) (load_by (is_of p) (events.Load tag at) answer) 0
-load_tallies p port tag at answers.Accepted f same may true e = grind arith
-load_tallies p port tag at answers.Accepted f same may false e = grind arith
-load_tallies p port tag at (answers.Refused cause) f same may true e = grind arith
-load_tallies p port tag at (answers.Refused cause) f same may false e = no_tallies
-load_tallies p port tag at answers.Moved f same may t e = cc
-load_tallies p port tag at (answers.Value v w) f same may t e = cc
-load_tallies p port tag at answers.Nothing f same may t e = cc
-
--- what another ask adds
-store_tallies : (f : Flat) (at : ℕ) (word : Word) (lanes : _) (answer : Answer) → may_answer f (events.Store at word lanes) answer ≡ true
-    → (t : Bool) → Tallies (cond t (Store at word lanes ∷ []) []) (cond t (verdict answer) []) 0 0
-store_tallies f at word lanes answer may false = no_tallies
-store_tallies f at word lanes answers.Accepted may true = grind arith
-store_tallies f at word lanes (answers.Refused cause) may true = grind arith
-store_tallies f at word lanes answers.Moved may true = cc
-store_tallies f at word lanes (answers.Value v w) may true = cc
-store_tallies f at word lanes answers.Nothing may true = cc
-
-prefetch_tallies : (f : Flat) (at : ℕ) (answer : Answer) → may_answer f (events.Prefetch at) answer ≡ true → (t : Bool)
-    → Tallies (cond t (Prefetch at ∷ []) []) (cond t (verdict answer) []) 0 0
-prefetch_tallies f at answer may false = no_tallies
-prefetch_tallies f at answers.Accepted may true = grind arith
-prefetch_tallies f at (answers.Refused cause) may true = grind arith
-prefetch_tallies f at answers.Moved may true = cc
-prefetch_tallies f at (answers.Value v w) may true = cc
-prefetch_tallies f at answers.Nothing may true = cc
-
-evict_tallies : (f : Flat) (block : ℕ) (answer : Answer) → may_answer f (events.Evict block) answer ≡ true → (t : Bool)
-    → Tallies (cond t (Evict block ∷ []) []) (cond t (verdict answer) []) 0 0
-evict_tallies f block answer may false = no_tallies
-evict_tallies f block answers.Accepted may true = grind arith
-evict_tallies f block (answers.Refused cause) may true = grind arith
-evict_tallies f block answers.Moved may true = cc
-evict_tallies f block (answers.Value v w) may true = cc
-evict_tallies f block answers.Nothing may true = cc
-
--- what a taken value adds
-value_tallies : (p place : ℕ) (answer : Answer) → Tallies [] (value_for p answer) 0 (value_by (is_of p) (events.Take place) answer)
-value_tallies p place (answers.Value tag word) = grind arith
-value_tallies p place answer = no_tallies
-
 entry_tallies : (p ports : ℕ) (source : Source) (event : Event) (answer : Answer) (f : Flat) → is_event_of ports source event ≡ true
     → may_answer f event answer ≡ true
     → Tallies (asked_by p source event) (told_by p source answer) (load_by (is_of p) event answer) (value_by (is_of p) event answer)
@@ -141,9 +90,6 @@ entry_tallies p ports (sources.Reply place) (events.Take k) answer f of may = gr
 entry_tallies p ports (sources.Reply place) event answer f of may = cc
 
 -- ---- a whole journal
-
-zero_more : (n : ℕ) → 0 + n ≡ n
-zero_more n = omega arith
 
 pub first_of : (ports : ℕ) (e : Entry) (rest : List Entry) → IsOfPorts ports (e ∷ rest) → is_entry_of ports e ≡ true
 first_of ports e rest h = (and_parts _ _ h).0

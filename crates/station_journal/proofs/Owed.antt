@@ -1,5 +1,5 @@
 -- What a unit owes, and its tags.
-use Rattle.std.proofs.Common.{◌≡◌, ℕ, false, ◌||◌, ◌==◌, not, List, [], ◌∷◌, length, Option, Some, None, option_map, is_none, refl}
+use Rattle.std.proofs.Common.{◌≡◌, ℕ, false, ◌||◌, ◌==◌, not, List, [], ◌∷◌, length, Option, None, option_map, is_none, refl}
 use Rattle.std.proofs.Common.{sym, ap, ◌∙◌, eq-eqb}
 use Rattle.std.specs.List.{list_any}
 use Rattle.std.proofs.lemmas.List.{nil_from_length}
@@ -9,10 +9,6 @@ use Rattle.cache_unit.specs.State.{Cache, tags}
 use Rattle.cache_unit.specs.Forms.{Form, owed, filled_by}
 use Rattle.machine_core.specs.Machine.{Machine}
 use Rattle.machine_core.proofs.Requests.{flat_in_use}
-
-pub unmapped : {X Y : Type 0} (f : X → Y) (o : Option X) → option_map f o ≡ None → o ≡ None
-unmapped f None e = refl
-unmapped f (Some x) e = cc
 
 -- a machine with this unit
 with_unit : Cache → Machine

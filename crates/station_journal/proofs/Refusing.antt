@@ -8,14 +8,13 @@ use Rattle.flat_model.specs.declared.Cause.{Cause}
 use Rattle.flat_model.specs.declared.Cause.TheVariants.{BankFull}
 use Rattle.flat_model.specs.declared.Event.{Event}
 use Rattle.flat_model.specs.declared.Event.TheVariants.{Load, Store, Prefetch, Evict, Drain, Serve, Arrive, Process, Take}
-use Rattle.flat_model.specs.declared.Answer.{Answer}
 use Rattle.flat_model.specs.declared.Answer.TheVariants.{Accepted, Refused}
 use Rattle.flat_model.specs.Flat.{Flat, flat_step, flat_after, load_refusals, store_refusals, prefetch_refusals}
 use Rattle.cache_unit.specs.declared.Sizes.{Sizes}
 use Rattle.cache_unit.specs.State.{is_present, block_of, place_in, cell_of}
 use Rattle.cache_unit.specs.Causes.{found, load_cause, store_cause, prefetch_cause}
 use Rattle.cache_unit.specs.Steps.{unless, load_step, store_step, prefetch_step, fetched, fetches, loaded, written}
-use Rattle.station_journal.specs.Journal.{Stand, ample, true_word, step, may_be_full, is_full}
+use Rattle.station_journal.specs.Journal.{Stand, ample, true_word, step, may_be_full}
 
 -- ---- flat memory lists the refusal wherever it lists the acceptance
 
@@ -100,7 +99,3 @@ module _ (z : Sizes) (s : Stand) where
   full_ok f g (Arrive bank place) may run = cc
   full_ok f g (Process place) may run = cc
   full_ok f g (Take place) may run = cc
-
-pub is_full-refused : (answer : Answer) → is_full answer ≡ true → answer ≡ Refused BankFull
-is_full-refused (Refused BankFull) e = refl
-is_full-refused answer e = cc

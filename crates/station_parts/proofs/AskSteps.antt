@@ -1,6 +1,5 @@
 -- What an ask makes of the unit, and what its port is told.
-use Rattle.std.proofs.Common.{◌≡◌, ◌≢◌, ℕ, ◌+◌, ◌*◌, List, [], ◌∷◌, ◌++◌, Option, Some, None, refl, sym, ap, ◌∙◌, subst, arith}
-use Rattle.flat_model.specs.declared.Cause.{Cause}
+use Rattle.std.proofs.Common.{◌≡◌, ◌≢◌, ℕ, ◌+◌, ◌*◌, List, [], ◌∷◌, ◌++◌, Option, None, refl, sym, ap, ◌∙◌, subst, arith}
 use Rattle.flat_model.specs.declared.Event.{Event}
 use Rattle.flat_model.specs.declared.Answer.{Answer}
 use Rattle.flat_model.specs.declared.Answer.TheVariants as answers
@@ -10,7 +9,7 @@ use Rattle.memory_banks.specs.Banks.{commands_for}
 use Rattle.cache_unit.specs.declared.Request.TheVariants as requests
 use Rattle.cache_unit.specs.declared.Sizes.{Sizes}
 use Rattle.cache_unit.specs.State.{Cache, UnitState}
-use Rattle.cache_unit.specs.Steps.{Stepped, unless, load_step, store_step, prefetch_step, evict_step}
+use Rattle.cache_unit.specs.Steps.{load_step, store_step, prefetch_step, evict_step}
 use Rattle.station_journal.specs.declared.journal.Source.TheVariants as sources
 use Rattle.station_journal.specs.declared.journal.Entry.{Entry}
 use Rattle.station_journal.specs.declared.journal.Entry.TheVariants.{Step, Ended}
@@ -20,7 +19,7 @@ use Rattle.station_journal.specs.declared.asks.Ask.TheVariants.{Load, Store, Pre
 use Rattle.station_journal.specs.declared.asks.Told.{Told}
 use Rattle.station_journal.specs.Journal.{Stand, Brings, come_word}
 use Rattle.station_parts.specs.Asking.{event_for, asked_step}
-use Rattle.station_journal.specs.Parts.{ask_of, verdict, is_verdict, IsVerdict, asks_of, told_of}
+use Rattle.station_journal.specs.Parts.{verdict, IsVerdict, asks_of, told_of}
 use Rattle.station_parts.specs.Rows.{only}
 use Rattle.station_journal.specs.Side.{SideTells}
 use Rattle.station_journal.proofs.Recording.{Recorded, request_recorded, evict_recorded}
@@ -36,10 +35,6 @@ asked_recorded z brings s room port (Store at word lanes) n = request_recorded z
 asked_recorded z brings s room port (Prefetch at) n = request_recorded z brings s room (requests.Prefetch at)
 asked_recorded z brings s room port (Evict block) n = evict_recorded z brings s block
 asked_recorded z brings s room port Done n = absurd (n refl)
-
-verdict_unless : (o : Option Cause) (c : Cache) (d : Stepped) → d.answer ≡ answers.Accepted → IsVerdict (unless o c d).answer
-verdict_unless None c d e = ap is_verdict e
-verdict_unless (Some cause) c d e = refl
 
 pub asked_verdict : (z : Sizes) (room : ℕ → ℕ) (port : ℕ) (c : Cache) (ask : Ask) → ask ≢ Done
     → IsVerdict (asked_step z room port c ask).answer
@@ -69,13 +64,6 @@ pub side_ended : (u : UnitState) (sent : ℕ → List Command) (popped : ℕ →
 side_ended u sent popped fault entries entries' port is h = grind (arith, u.sizes, u.cache, tells_ended)
 
 -- ---- the ports
-
-ask_back : (port : ℕ) (ask : Ask) → ask ≢ Done → ask_of port (event_for port ask) ≡ ask ∷ []
-ask_back port (Load tag at) n = grind arith
-ask_back port (Store at word lanes) n = refl
-ask_back port (Prefetch at) n = refl
-ask_back port (Evict block) n = refl
-ask_back port Done n = absurd (n refl)
 
 -- the entry of an ask tells what was popped, and that nothing else was
 pub only_asked : (port : ℕ) (ask : Ask) (event : Event) (answer : Answer) → ask ≢ Done → event ≡ event_for port ask → (p : ℕ)

@@ -17,7 +17,7 @@ use Rattle.station_journal.specs.declared.journal.Entry.TheVariants.{Step}
 use Rattle.station_journal.specs.declared.journal.SideFault.{SideFault}
 use Rattle.station_journal.specs.declared.asks.Told.{Told}
 use Rattle.station_journal.specs.declared.asks.Told.TheVariants.{Value}
-use Rattle.station_journal.specs.Parts.{value_for, told_of}
+use Rattle.station_journal.specs.Parts.{told_of}
 use Rattle.station_parts.specs.Rows.{only}
 use Rattle.station_journal.specs.Side.{SideTells}
 use Rattle.station_journal.proofs.Recording.{take_recorded}
@@ -36,12 +36,6 @@ pub side_replied : (u v : UnitState) (sent : ℕ → List Command) (popped : ℕ
 side_replied u v sent popped fault entries entries' place answer sound h v_is answer_is entries_is =
     silent_step u v sent popped fault entries entries' (sources.Reply place) _ (λ c. take_step c place) answer sound h
     (λ come s. take_recorded u.sizes _ s place) (take_silent u.cache place) v_is answer_is entries_is
-
-value_mine : (tag port : ℕ) (word : Word) → port ≡ tag / 256 → value_for port (answers.Value tag word) ≡ Value (tag % 256) word ∷ []
-value_mine tag port word e = grind arith
-
-value_other : (tag port p : ℕ) (word : Word) → port ≡ tag / 256 → p ≢ port → value_for p (answers.Value tag word) ≡ []
-value_other tag port p word e d = grind arith
 
 -- the entry of a value tells it to the port of its tag, and to no other
 pub only_value : (place tag port : ℕ) (word : Word) (answer : Answer) (told : Told) → port ≡ tag / 256 → answer ≡ answers.Value tag word

@@ -1,20 +1,17 @@
 -- What stands in front of an arrow, and behind it.
-use Rattle.std.proofs.Common.{◌≡◌, ℕ, ◌+◌, ◌-◌, ◌<◌, ◌≤◌, Bool, true, false, cond, Option, Some, None, Result, Ok, Err, IfErr, List, []}
-use Rattle.std.proofs.Common.{◌∷◌, ◌++◌, length, take, drop, get_or, length-append, refl, sym, ◌∙◌, ap, subst, arith}
-use Rattle.std.specs.Prelude.{◌==◌, ◌&&◌, nat_lt, slice_index, is_ok}
+use Rattle.std.proofs.Common.{◌≡◌, ℕ, ◌+◌, ◌-◌, ◌<◌, ◌≤◌, Bool, true, false, cond, Option, Some, None, Result, Ok, Err, List, []}
+use Rattle.std.proofs.Common.{◌∷◌, ◌++◌, length, take, drop, refl, sym, ◌∙◌, ap}
+use Rattle.std.specs.Prelude.{◌==◌, ◌&&◌, nat_lt, is_ok}
 use Rattle.std.specs.Option.{is_some}
-use Rattle.std.proofs.Math.Seq.{get_or-append_seam, take-append_seam}
-use Rattle.std.proofs.lemmas.Bool.Decides.{nat_tests}
 use Rattle.flat_model.specs.declared.Answer.{Answer}
 use Rattle.flat_model.specs.declared.Event.{Event}
-use Rattle.trace_text.specs.Lines.{IsSaid, cut_of, command_named, is_ended, without_end, said_by, or_field, line_of, line_from}
-use Rattle.trace_text.specs.Lines.{ended_line_of}
+use Rattle.trace_text.specs.Lines.{line_of}
 use Rattle.trace_text.specs.Pairs.{pair_of, pair_cut, pair_from, answered_pair, answer_of, arrow_in}
 use Rattle.trace_text.specs.declared.fault.TheConstants.{MAX_LINE}
 use Rattle.trace_text.specs.declared.lines.Line.{Line}
 use Rattle.trace_text.specs.declared.lines.Line.TheVariants as line
 use Rattle.trace_text.specs.declared.lines.LineFault.{LineFault}
-use Rattle.trace_text.specs.declared.lines.LineFault.TheVariants.{Unknown, Field, TooLong, NotEnded}
+use Rattle.trace_text.specs.declared.lines.LineFault.TheVariants.{Field}
 use Rattle.trace_sheets.specs.Sheets.{front_of, unasked, predicted, sheet_cut, sheet_line, is_prediction}
 
 front_line : (text : List ℕ) (l : Line) → front_of text ≡ Ok l → line_of text ≡ Ok l

@@ -58,10 +58,6 @@ and_false false = refl
 alone : (x : ℕ) → arrow_in (x ∷ []) ≡ None
 alone x = grind arith
 
-and_none : (a b c : Bool) → b ≡ false → (a && (b && c)) ≡ false
-and_none true b c e = ap (λ t. t && c) e
-and_none false b c e = refl
-
 -- an arrow's second byte is a hyphen
 second_is : (x y : ℕ) (rest : List ℕ) → y ≢ 45 → starts_with nat_eq (x ∷ y ∷ rest) (codes " -> ") ≡ false
 second_is x y rest ne = grind arith

@@ -7,7 +7,7 @@ use Rattle.std.proofs.lemmas.Bool.Decides.{nat_tests}
 use Rattle.trace_text.specs.Lines.{cut_of, name_of, command_named, command_told, BeginsNoCommand}
 use Rattle.trace_text.specs.declared.lines.Command.{Command}
 use Rattle.trace_text.specs.declared.lines.Command.TheVariants as command
-use Rattle.trace_text.proofs.Cuts.{NoSpace, cut_front, cut_none, whole, cut_is, no_space}
+use Rattle.trace_text.proofs.Cuts.{NoSpace, cut_front, cut_none, whole, cut_is}
 use Rattle.trace_text.proofs.Written.{named}
 
 -- ---- names
@@ -26,20 +26,6 @@ own_command command.Take = refl
 own_command command.Register = refl
 own_command command.Bank = refl
 own_command command.Settled = refl
-
-spaceless : (c : Command) → no_space (name_of c) ≡ true
-spaceless command.Load = refl
-spaceless command.Store = refl
-spaceless command.Prefetch = refl
-spaceless command.Evict = refl
-spaceless command.Drain = refl
-spaceless command.Serve = refl
-spaceless command.Arrive = refl
-spaceless command.Process = refl
-spaceless command.Take = refl
-spaceless command.Register = refl
-spaceless command.Bank = refl
-spaceless command.Settled = refl
 
 -- no command's name goes on behind another's
 goes_on : (c : Command) (b : ℕ) (bs : List ℕ) → command_named (name_of c ++ b ∷ bs) ≡ None
@@ -119,12 +105,6 @@ begins_whole c text None is none = none c [] (is ∙ sym (append-nil (name_of c)
 begins_whole c text (Some rest) is none = none c (32 ∷ rest) is
 
 -- ---- what stands up to the first space
-
-pub bare_command : (c : Command) → cut_of (name_of c) ≡ (name_of c, None)
-bare_command c = grind arith
-
-pub command_before : (c : Command) (fields : List ℕ) → cut_of (name_of c ++ 32 ∷ fields) ≡ (name_of c, Some fields)
-command_before c fields = grind arith
 
 pub command_is : (c : Command) (text : List ℕ) (rest : Option (List ℕ)) → cut_of text ≡ (name_of c, rest)
     → Some c ≡ command_named (cut_of text).0

@@ -68,9 +68,6 @@ first_from test hay (suc n) i x rest e =
           }
     ]
 
-not_end : (b : ℕ) → (b == 10) ≡ false → b ≢ 10
-not_end b e is = grind arith
-
 from_start : (bytes : List ℕ) (k : ℕ) → Passes (is_byte 10) bytes (0 + k) ≡ false → slice_index bytes k ≢ 10
 from_start bytes k e = grind arith
 

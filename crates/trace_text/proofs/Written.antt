@@ -10,7 +10,7 @@ use Rattle.flat_model.specs.declared.Word.{Word}
 use Rattle.flat_model.specs.declared.Lanes.{Lanes}
 use Rattle.flat_model.specs.declared.Event.TheVariants.{Load, Store, Prefetch, Evict, Drain, Serve, Arrive, Process, Take}
 use Rattle.flat_model.specs.Words.{has}
-use Rattle.trace_text.specs.Fields.{is_digit, number_of, bit_of, bit_text, lanes_from, lanes_of, lanes_text, nibble_of, hex_digit}
+use Rattle.trace_text.specs.Fields.{is_digit, number_of, bit_of, lanes_from, lanes_of, lanes_text, nibble_of, hex_digit}
 use Rattle.trace_text.specs.Fields.{byte_from, byte_of, byte_text, word_from, word_of, word_text}
 use Rattle.trace_text.specs.Lines.{cut_of, same, name_of, command_named, number_in, one_number, bare, load_line, load_from, load_of}
 use Rattle.trace_text.specs.Lines.{store_line, store_behind, store_from, store_of, arrive_line, arrive_from, arrive_of, line_from, or_field}
@@ -26,18 +26,6 @@ use Rattle.trace_text.proofs.Words.{word_read, mask_read}
 use Rattle.trace_text.proofs.Cuts.{NoSpace, cut_front, cut_none, whole, cut_is, no_space, no_space_in}
 
 -- ---- words and masks are what their digits say
-
-low_digit : (n : ℕ) → n < 10 → hex_digit n ≡ 48 + n
-low_digit n lt = grind arith
-
-high_digit : (n : ℕ) → 10 ≤ n → hex_digit n ≡ 87 + n
-high_digit n le = grind arith
-
-nibble_cases : (b n : ℕ) (t u : Bool) → is_digit b ≡ t → (nat_le 97 b && nat_lt b 103) ≡ u
-    → cond t (Some (b - 48)) (cond u (Some (b - 87)) None) ≡ Some n → (b ≡ hex_digit n) × (n < 16)
-nibble_cases b n true u et eu e = grind arith
-nibble_cases b n false true et eu e = grind arith
-nibble_cases b n false false et eu e = cc
 
 nibble_is : (b n : ℕ) → nibble_of b ≡ Some n → (b ≡ hex_digit n) × (n < 16)
 nibble_is b n e = grind arith
@@ -97,11 +85,6 @@ word_is [] w all = cc
 data IsBit (b n : ℕ) : Type 0 where
   clear : b ≡ 48 → n ≡ 0 → IsBit b n
   set : b ≡ 49 → n ≡ 1 → IsBit b n
-
-bit_cases : (b n : ℕ) (t u : Bool) → (b == 48) ≡ t → (b == 49) ≡ u → cond t (Some 0) (cond u (Some 1) None) ≡ Some n → IsBit b n
-bit_cases b n true u et eu e = grind arith
-bit_cases b n false true et eu e = grind arith
-bit_cases b n false false et eu e = cc
 
 bit_is : (b n : ℕ) → bit_of b ≡ Some n → IsBit b n
 bit_is b n e = grind arith
@@ -350,19 +333,8 @@ digits_high (b ∷ bs) e =
 pub number_high : (n : ℕ) → n ≤ MAX_NUMBER → High (decimal n)
 number_high n le = grind (arith, digits_high, decimal_digits)
 
-hex_test : (n : ℕ) (t : Bool) → 48 ≤ cond t (48 + n) (87 + n)
-hex_test n true = omega arith
-hex_test n false = omega arith
-
-hex_high : (n : ℕ) → 48 ≤ hex_digit n
-hex_high n = grind arith
-
 pub word_high : (w : Word) → High (word_text w)
 word_high w = grind arith
-
-bit_high : (b : Bool) → 48 ≤ bit_text b
-bit_high true = omega arith
-bit_high false = omega arith
 
 pub mask_high : (m : Lanes) → High (lanes_text m)
 mask_high m = grind arith
