@@ -1,8 +1,8 @@
 //! A handle: what a caller in C holds of a history.
 //!
-//! The history lies in memory of its own, and the handle says where. Three functions follow the
-//! pointer, each proved by hand, and what is said of them names none: the history is taken out as a
-//! box, and a box is kept.
+//! The history lies in memory of its own, and the handle says where. Two functions touch the pointer, `taken` and `keep`, and one
+//! reads the mark; each is proved by hand, and what is said of them names no pointer: the history is taken out as a box, and a box
+//! is kept.
 ghost use Rattle.std.specs.Prelude.{◌≡◌, ◌≢◌, IfSome, IsNone, None, Some, is_some};
 ghost use Rattle.history_handles.specs.declared.history.OpenHistory.{OpenHistory};
 ghost use Rattle.history_handles.specs.contracts.history.OpenHistory.{the_row};

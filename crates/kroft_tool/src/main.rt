@@ -1,4 +1,4 @@
-//! Reads a trace of a cache with several misses at a time, and writes what the machine answers.
+//! The program: hands its words and its three streams to [`tool`], and ends with the status that this gives.
 #![tactic(auto)]
 
 use kroft_command::{OneTryWriter, tool};

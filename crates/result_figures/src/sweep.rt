@@ -442,9 +442,9 @@ impl<'a> fmt::Display for Drawn<'a> {
     }
 }
 
-/// The figure of a sweep as an SVG text: rounds by the number of registers, a line for each latency, in
-/// the colours and with the marks of eight, and tied to its name; and below the plot a table of the rounds. The names
-/// of lines don't cross if no latency has fewer rounds at its end than the one before it.
+/// The figure of a sweep as an SVG text: rounds by the number of registers, a line for each latency, tied to its name; and below the
+/// plot a table of the rounds. Eight lines differ in colour and marks; from the ninth on these come again. The names of lines don't
+/// cross if no latency has fewer rounds at its end than the one before it.
 ///
 /// The rows of each latency are those of 1, 2, 4 and 8 registers, in this order. Numbers of up to 12 digits stand
 /// side by side.

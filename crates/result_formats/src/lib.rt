@@ -1,8 +1,7 @@
 //! What the program counts, for other programs to read: figures with names, as a table (CSV) and as objects (JSON).
 //!
 //! [`TableIn`], [`RoundsIn`], [`LatencyIn`] and [`PumpsIn`] write a table of rounds and the rows of a sweep in a
-//! [`Format`](named_fields::Format). The names are those of
-//! the text.
+//! [`Format`](named_fields::Format), and [`DetailsIn`] the details of a run. The names are those of the text.
 #![tactic(auto)]
 
 mod counts;

@@ -1,6 +1,6 @@
 //! A station on threads of its own: ports, a cache side and banks, joined by rings alone, with no
 //! lock between them, and an audit that finds with all parts in hand whether the cache side's journal
-//! is a run of flat memory and each port told and was told just what stands in it.
+//! is a run of flat memory, and each port has asked and was told just what stands in it.
 #![tactic(auto)]
 
 mod bank_thread;

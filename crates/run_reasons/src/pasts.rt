@@ -14,7 +14,7 @@ use std::collections::HashMap;
 /// A value that stood in a byte until a store overwrote it.
 #[derive(Clone, Copy, PartialEq, Eq, Debug)]
 pub struct Overwritten {
-    /// The line that had put it there: 0 for a zero that memory began with.
+    /// The line that had put it there: 0 for a byte that memory began with.
     pub put: u64,
     /// The line of the next store to the byte.
     pub by: u64,

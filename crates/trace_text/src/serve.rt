@@ -39,8 +39,8 @@ pub struct Counts {
 
 /// Writes all bytes, in as many writes as it takes. [`Failed`] says that a write was refused, or took
 /// no byte: a front of the bytes may be written.
-// It is inlined, as is all that is called for each line: the program serves machines of eight shapes, so that a
-// compiler would keep one copy of each such function and call it.
+// It is inlined, as is all that is called for each line: left to itself a compiler would keep one copy of each such function for
+// all its callers, and call it.
 #[inline(always)]
 pub fn write_whole<W: Sink>(writer: &mut W, bytes: &[u8]) -> Result<(), Failed>
     ensures ok { OnOk result (Moves W.took writer.old bytes.now writer.new) }
