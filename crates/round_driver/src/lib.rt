@@ -1,9 +1,9 @@
 //! Requests driven through a machine in rounds.
 //!
 //! A machine has no clock: who drives it chooses the order of the steps. [`drive`] and
-//! [`summarize`] choose rounds, and [`detail_with`] counts more of them. A round makes, in this order: each bank, by number, begins a command
-//! if one waits that it hasn't begun and it isn't busy, and serves its first one if it began that
-//! `latency` rounds before; one answer arrives, from the next bank with one behind the bank that was
+//! [`summarize`] choose rounds, and [`detail_with`] counts more of them. A round makes, in this order: each bank, by
+//! number, begins a command if one waits that it hasn't begun and it isn't busy, and serves its first one if it began
+//! that `latency` rounds before; one answer arrives, from the next bank with one behind the bank that was
 //! last, if the input stack has room; the stack's first word is processed, the first reply taken and
 //! the write queue's front drained, each if possible; and the request at hand is asked once. If it
 //! was accepted, or refused with 1, 2 or 11, the next one follows; otherwise it is asked again in the

@@ -24,8 +24,9 @@ pub enum Form {
     /// shown, and of memory only the words that a step changed.
     Screens,
     /// A waveform, as a value change dump (VCD), with one unit of time a step: its event and answer, and
-    /// whether another answer was recorded; which registers stand for blocks, which of these are obsolete, their blocks, and how many words, commands, answers
-    /// and values stand in the input stack, the write queue, the banks and the ready replies.
+    /// whether another answer was recorded; which registers stand for blocks, which of these are obsolete, their
+    /// blocks, and how many words, commands, answers and values stand in the input stack, the write queue, the banks
+    /// and the ready replies.
     Waveform,
 }
 
