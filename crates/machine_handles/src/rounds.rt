@@ -108,8 +108,8 @@ impl From<AllocError> for RoundsFault {
 /// room; the stack's first word is processed, the first reply taken and the write queue's front
 /// drained, each if possible; and the request at hand is asked once. If it was accepted, or refused
 /// with 1, 2 or 11, the next one follows; otherwise it is asked again in the next round. With `busy`
-/// below `latency` a bank begins a command each `busy` rounds at most while others are on their way
-/// through it; otherwise it has one command at a time.
+/// below `latency` a bank begins a command each `busy` rounds at most (0 counts as 1) while others are on
+/// their way through it; otherwise it has one command at a time.
 ///
 /// 0: `counts` is what was counted, the requests are used up and nothing is on its way. 3: the handle
 /// is closed. 107: rounds are under way. 105: `latency` is higher than 1,000. 104: there are more than 16,777,216 requests. 2: a
