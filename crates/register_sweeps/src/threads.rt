@@ -82,7 +82,7 @@ impl Ranged for Sizes {
     }
 }
 
-// Sees that no number of these is out of its range. The first that is is told, with its place.
+// Sees that none of these has a number out of its range. The first one that has such a number is told, with its place.
 pub(crate) fn all_good<S: Ranged>(all: &[S]) -> Result<(), SweepFault>
     ensures good { OnOk result (bad_from S.bad 0 all.now ≡ None) }
     ensures fault { IfErr result (FaultSays S.bad all.now) }
