@@ -1,4 +1,5 @@
 pub mod Scripts
+pub mod Asked
 pub mod Drawn
 pub mod Checks
 pub mod Texts

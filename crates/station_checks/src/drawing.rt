@@ -1,7 +1,11 @@
 //! The scripts of a plan, drawn part by part.
-ghost use Rattle.std.specs.Prelude.{◌≡◌, ◌≤◌, ◌<◌, ◌+◌, ◌^◌, length, IfOk, vec_len};
+ghost use Rattle.std.specs.Prelude.{◌≡◌, ℕ, ◌≤◌, ◌<◌, ◌+◌, ◌^◌, length, IfOk, OnOk, slice_index_or, vec_len};
 ghost use Rattle.std.specs.List.{All};
+ghost use Rattle.rand_pcg.specs.Lcg.{started, increment_of};
+ghost use Rattle.rand_pcg.specs.Pcg.{multiplier_64};
 ghost use Rattle.station_parts.specs.declared.make.TheConstants.{MAX_PORTS};
+ghost use Rattle.station_parts.specs.Runs.{list_in};
+ghost use Rattle.station_checks.specs.Asked.{asks_drawn, drawn_past, no_random, own_word};
 ghost use Rattle.station_checks.specs.Scripts.{AreRequests};
 
 use crate::plan::{Plan, own_ask};
@@ -23,13 +27,16 @@ pub struct ScriptParts {
 }
 
 impl ScriptParts {
-    ghost use Rattle.std.specs.Prelude.{◌-◌, min};
-    ghost use Rattle.station_checks.specs.Drawn.{ports_of, left_of};
+    ghost use Rattle.std.specs.Prelude.{◌-◌, min, take, drop};
+    ghost use Rattle.station_checks.specs.Asked.{script_of};
+    ghost use Rattle.station_checks.specs.Drawn.{ports_of, left_of, script_left};
 
     /// The scripts of a plan, of which nothing is drawn. `AllocError`: too little memory.
     pub fn new(alloc: Global, plan: &Plan) -> Result<ScriptParts, AllocError>
         ensures ports { IfOk result (λ parts. ports_of parts ≡ plan.now.ports) }
         ensures left { IfOk result (λ parts. left_of parts ≡ plan.now.asks) }
+        ensures scripts { IfOk result (λ parts. (port : ℕ) → port < plan.now.ports
+            → script_left parts port ≡ script_of plan.now.seed plan.now.asks port) }
     {
         Ok(ScriptParts {
             randoms: draw_of_each(alloc, plan.ports, plan.seed)?,
@@ -45,8 +52,8 @@ impl ScriptParts {
         self.asks - self.drawn
     }
 
-    /// The next asks of each port, in the order of their numbers: so many, or as many as are left.
-    /// `AllocError` says that there was too little memory; then these are lost.
+    /// The next asks of each port, in the order of their numbers: so many, or as many as are left. What is left
+    /// goes on behind them. `AllocError` says that there was too little memory; then these are lost.
     pub fn next(&mut self, alloc: Global, most: u32) -> Result<Vec<Vec<Ask>>, AllocError>
         ensures ports { ports_of self.new ≡ ports_of self.old }
         ensures left { left_of self.new ≡ left_of self.old - most }
@@ -54,6 +61,10 @@ impl ScriptParts {
         ensures requests { IfOk result (λ scripts. All (λ s. AreRequests s.items) scripts.items) }
         ensures lengths { IfOk result (λ scripts.
             All (λ s. length s.items ≡ min most (left_of self.old)) scripts.items) }
+        ensures asks { IfOk result (λ scripts. (port : ℕ) → port < ports_of self.old
+            → list_in scripts.items port ≡ take most (script_left self.old port)) }
+        ensures rest { OnOk result ((port : ℕ) → port < ports_of self.old
+            → script_left self.new port ≡ drop most (script_left self.old port)) }
     {
         let begun = self.drawn;
         let count = most.min(self.asks - begun);
@@ -64,7 +75,9 @@ impl ScriptParts {
 
 // What draws the asks of each of so many ports.
 fn draw_of_each(alloc: Global, ports: u32, seed: u64) -> Result<Vec<Pcg32>, AllocError>
-    ensures { IfOk result (λ randoms. length randoms.items ≡ ports) }
+    ensures number { IfOk result (λ randoms. length randoms.items ≡ ports) }
+    ensures each { IfOk result (λ randoms. (port : ℕ) → port < ports
+        → slice_index_or randoms.items port no_random ≡ started 64 multiplier_64 seed (increment_of 64 port)) }
 {
     let mut randoms = Vec::new(alloc);
     for port in 0..ports {
@@ -86,6 +99,12 @@ fn draw_scripts(
     ensures number { IfOk result (λ scripts. vec_len scripts ≡ length randoms.old.items) }
     ensures requests { IfOk result (λ scripts. All (λ s. AreRequests s.items) scripts.items) }
     ensures lengths { IfOk result (λ scripts. All (λ s. length s.items ≡ count) scripts.items) }
+    ensures asks { IfOk result (λ scripts. (port : ℕ) → port < length randoms.old.items
+        → list_in scripts.items port
+        ≡ asks_drawn (own_word port) (slice_index_or randoms.old.items port no_random) begun count) }
+    ensures rest { OnOk result ((port : ℕ) → port < length randoms.old.items
+        → slice_index_or randoms.new.items port no_random
+        ≡ drawn_past count (slice_index_or randoms.old.items port no_random)) }
 {
     let mut scripts = Vec::new(alloc);
     for port in 0..randoms.len() {
@@ -105,6 +124,8 @@ fn draw_script(
     requires fits { begun + count < 2 ^ 32 }
     ensures requests { IfOk result (λ script. AreRequests script.items) }
     ensures length { IfOk result (λ script. length script.items ≡ count) }
+    ensures asks { IfOk result (λ script. script.items ≡ asks_drawn (own_word port) random.old begun count) }
+    ensures rest { OnOk result (random.new ≡ drawn_past count random.old) }
 {
     let mut asks = Vec::new(alloc);
     for place in 0..count {

@@ -1,5 +1,7 @@
 //! What the ports of a tour ask, made from a seed.
-ghost use Rattle.std.specs.Prelude.{◌≡◌, ◌≤◌, ◌<◌, true};
+ghost use Rattle.std.specs.Prelude.{◌≡◌, ◌≤◌, ◌<◌, max, min, true};
+ghost use Rattle.memory_images.specs.Images.{number_word};
+ghost use Rattle.station_checks.specs.Asked.{ask_picked, ask_drawn, drawn_on, own_word};
 ghost use Rattle.station_journal.specs.Conversation.{is_request};
 ghost use Rattle.station_parts.specs.declared.make.TheConstants.{MAX_PORTS};
 
@@ -35,7 +37,9 @@ pub const ENTRIES: u32 = MAX_ENTRIES;
 const OWN_WORDS: u32 = WORDS / MOST_PORTS;
 
 /// The numbers of the tour's station, which are those that `kroft` has without a shape file.
-pub fn shape() -> Shape {
+pub fn shape() -> Shape
+    ensures { result ≡ record { words = WORDS; sets = 4; banks = 4; bank_queue = 8; write_queue = 8; replies = 8 } }
+{
     Shape {
         words: WORDS,
         sets: 4,
@@ -61,7 +65,11 @@ pub struct Plan {
 
 impl Plan {
     /// A plan; fewer ports than 1 count as 1, and more than 16 as 16.
-    pub fn new(ports: u32, asks: u32, seed: u64) -> Plan {
+    pub fn new(ports: u32, asks: u32, seed: u64) -> Plan
+        ensures ports { result.ports ≡ max 1 (min ports MOST_PORTS) }
+        ensures asks { result.asks ≡ asks }
+        ensures seed { result.seed ≡ seed }
+    {
         Plan {
             ports: ports.clamp(1, MOST_PORTS),
             asks,
@@ -74,7 +82,9 @@ impl Plan {
 /// blocks it shares with them.
 pub(crate) fn own_ask(random: &mut Pcg32, port: u32, number: u32) -> Ask
     requires { port < MAX_PORTS }
-    ensures { is_request result ≡ true }
+    ensures request { is_request result ≡ true }
+    ensures asked { result ≡ ask_drawn (own_word port) random.old number }
+    ensures rest { random.new ≡ drawn_on random.old }
 {
     let pick = random.next_word();
     let at = pick / 8 % OWN_WORDS * MOST_PORTS + port;
@@ -87,7 +97,8 @@ pub(crate) fn own_ask(random: &mut Pcg32, port: u32, number: u32) -> Ask
 /// and evictions.
 pub fn ask_by(pick: u32, tag: u8, at: u32, word: Word, block_words: u32) -> Ask
     requires { 1 ≤ block_words }
-    ensures { is_request result ≡ true }
+    ensures request { is_request result ≡ true }
+    ensures asked { result ≡ ask_picked pick tag at word block_words }
 {
     match pick % 8 {
         0..=3 => Ask::Load { tag, at },
@@ -109,7 +120,9 @@ pub fn ask_by(pick: u32, tag: u8, at: u32, word: Word, block_words: u32) -> Ask
 }
 
 /// The word whose bytes these are, the lowest first.
-pub fn bytes_of(number: u32) -> Word {
+pub fn bytes_of(number: u32) -> Word
+    ensures { result ≡ number_word number }
+{
     let [b0, b1, b2, b3] = number.to_le_bytes();
     Word { b0, b1, b2, b3 }
 }
