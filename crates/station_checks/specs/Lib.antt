@@ -2,4 +2,5 @@ pub mod Scripts
 pub mod Asked
 pub mod Drawn
 pub mod Checks
+pub mod Counts
 pub mod Texts

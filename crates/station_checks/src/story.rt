@@ -1,5 +1,7 @@
 //! What a run is told by: what came of each ask, and what was found.
-ghost use Rattle.std.specs.Prelude.{◌≡◌, ◌+◌, length, min};
+ghost use Rattle.std.specs.Prelude.{◌≡◌, ◌<◌, ◌+◌, ◌*◌, ◌/◌, length, min};
+ghost use Rattle.std.specs.Duration.{as_nanos};
+ghost use Rattle.station_checks.specs.Counts.{again_in, is_asked_again};
 
 use crate::findings::Findings;
 use crate::lines::{AskText, EntryText, ToldText};
@@ -133,6 +135,7 @@ impl Tally {
         ensures segments { self.new.segments ≡ min (self.old.segments + 1) u64.MAX }
         ensures asks { self.new.asks ≡ min (self.old.asks + asks) u64.MAX }
         ensures entries { self.new.entries ≡ min (self.old.entries + length journal.now) u64.MAX }
+        ensures again { self.new.again ≡ min (self.old.again + again_in lists.now) u64.MAX }
     {
         self.segments = self.segments.saturating_add(1);
         self.asks = self.asks.saturating_add(asks);
@@ -174,7 +177,9 @@ pub fn tell_run<W: Write>(
 }
 
 // How many of the tellings are refusals behind which the port offered its ask again.
-fn offered_again(lists: &[Vec<Told>]) -> u64 {
+fn offered_again(lists: &[Vec<Told>]) -> u64
+    ensures { result ≡ min (again_in lists.now) u64.MAX }
+{
     let mut again: u64 = 0;
     for list in lists {
         let refused = list.iter().filter(|told| asks_again(**told)).count();
@@ -183,7 +188,9 @@ fn offered_again(lists: &[Vec<Told>]) -> u64 {
     again
 }
 
-fn asks_again(told: Told) -> bool {
+fn asks_again(told: Told) -> bool
+    ensures { result ≡ is_asked_again told }
+{
     match told {
         Told::Refused(cause) => cause.passes(),
         Told::Accepted | Told::Value { .. } => false,
@@ -191,7 +198,10 @@ fn asks_again(told: Told) -> bool {
 }
 
 /// How many a second, rounded down; 0 if no time passed.
-pub fn per_second(count: u64, took: Duration) -> u128 {
+pub fn per_second(count: u64, took: Duration) -> u128
+    ensures none { as_nanos took ≡ 0 → result ≡ 0 }
+    ensures rate { 0 < as_nanos took → result ≡ count * 1_000_000_000 / as_nanos took }
+{
     let nanos = took.as_nanos();
     if nanos == 0 {
         return 0;
