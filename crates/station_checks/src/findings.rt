@@ -1,5 +1,5 @@
 //! What is found of a station behind its run, and what it comes to.
-ghost use Rattle.std.specs.Prelude.{◌≡◌, ◌≢◌, ◌↔◌, true, is_some, Some, None, IfOk};
+ghost use Rattle.std.specs.Prelude.{◌≡◌, ◌≢◌, ◌↔◌, true, false, is_some, Some, None, IfOk, OnErr};
 ghost use Rattle.flat_model.specs.Memory.{shown};
 ghost use Rattle.std.specs.Option.{option_map};
 ghost use Rattle.station_checks.specs.Checks.{flat_after, is_flat, FindsTold};
@@ -59,8 +59,8 @@ impl Findings {
     }
 
     /// What is found of a journal that goes on from this memory, and of the lists that the ports took
-    /// meanwhile, beside what the audit found. The memory is then as the journal leaves it, if it is flat.
-    /// `AllocError` says that there was too little memory.
+    /// meanwhile, beside what the audit found. The memory is then as the journal leaves it, if it is flat; else
+    /// it is as it was. `AllocError` says that there was too little memory, and then it is as it was too.
     pub fn of_segment(
         alloc: Global,
         audit: Audit,
@@ -73,6 +73,8 @@ impl Findings {
             (λ found. found.is_flat ≡ is_some (flat_after (shown memory.old) journal.now)) }
         ensures moved { IfOk result (λ found. found.is_flat ≡ true
             → flat_after (shown memory.old) journal.now ≡ Some (shown memory.new)) }
+        ensures kept { IfOk result (λ found. found.is_flat ≡ false → shown memory.new ≡ shown memory.old) }
+        ensures unmoved { OnErr result (shown memory.new ≡ shown memory.old) }
         ensures told { IfOk result (λ found. FindsTold journal.now (Some lists.now) found.are_told) }
     {
         let are_told = are_told(alloc, journal, lists)?;
