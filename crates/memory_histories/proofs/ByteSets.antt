@@ -1,13 +1,13 @@
 -- Sets of bytes as their tests.
-use Rattle.std.proofs.Common.{◌≡◌, ◌≢◌, ℕ, zero, suc, ◌-◌, ◌/◌, ◌^◌, ◌<◌, ◌≤◌, ◌%◌, ◌||◌, ◌==◌, Bool, false, nat_lt, [], ◌∷◌}
+use Rattle.std.proofs.Common.{◌≡◌, ◌≢◌, ℕ, zero, suc, ◌/◌, ◌^◌, ◌<◌, ◌≤◌, ◌%◌, ◌||◌, ◌==◌, Bool, false, nat_lt, [], ◌∷◌}
 use Rattle.std.proofs.Common.{get_or, set, max, inl, inr, refl, sym, ap, ◌∙◌, arith}
 use Rattle.std.specs.Prelude.{bit_or}
 use Rattle.std.specs.Int.{bit_at}
 use Rattle.std.proofs.lemmas.Bool.{cases_eq, cases_lt, eq-eqb, ne_eqb, lt-ltb, le-ltb, or_right}
 use Rattle.std.proofs.lemmas.Nat.Bits.{bit_at_or, bit_at-pow_same, bit_at-pow_other, bit_at-lt, bit_at_ones, bit_at_ones_above}
+use Rattle.std.proofs.Math.Bool.{or-false}
 use Rattle.memory_histories.specs.declared.sets.ByteSet.{ByteSet}
 use Rattle.memory_histories.specs.Sets.{has, with_byte, union, word_with, no_bytes, all_bytes, word_of, bit_of, four}
-use Rattle.memory_histories.proofs.Lists.{or_false}
 
 max_one : (x : ℕ) → x < 2 → max x 1 ≡ 1
 max_one x h = omega arith
@@ -27,7 +27,7 @@ bit_joined n k i = elim (cases_eq k i) [
       let other : i ≢ k = λ e. ne (sym e) in
       let same = bit_at_or n _ i
       ∙ (ap (λ x. max (bit_at n i) x) (bit_at-pow_other k i other) ∙ max_zero _) in
-      ap (λ x. x == 1) same ∙ sym (ap (λ x. (bit_at n i == 1) || x) (ne_eqb k i ne) ∙ or_false _)
+      ap (λ x. x == 1) same ∙ sym (ap (λ x. (bit_at n i == 1) || x) (ne_eqb k i ne) ∙ or-false _)
 ]
 
 few_words : (b : ℕ) → word_of b < 4

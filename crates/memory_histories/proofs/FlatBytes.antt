@@ -40,10 +40,6 @@ with_bytes-more at value a bs i e h =
 -- Memory. ----
 
 module _ (image : List ℕ) (rest : Rest) where
-  standing-value : (w : ℕ → Option Owed) (a : ℕ) (o : Owed) (q : ℕ)
-      → standing image rest (with_value w a (Some o)) q ≡ with_value (standing image rest w) a o q
-  standing-value w a o q = grind arith
-
   standing-if : (t : Bool) (w : ℕ → Option Owed) (a : ℕ) (o : Owed)
       → standing image rest (if t then with_value w a (Some o) else w)
       ≡ (if t then with_value (standing image rest w) a o else standing image rest w)

@@ -8,13 +8,13 @@ use Rattle.std.specs.List.{filter, list_any, range_with_len}
 use Rattle.std.proofs.lemmas.Bool.{cases_Bool, cases_lt, cases_eq, eqb-true, eq-eqb, ne_eqb, le-leb, lt-leb, le-ltb}
 use Rattle.std.proofs.lemmas.Bool.{leb-true}
 use Rattle.std.proofs.lemmas.Nat.Bits.{bit_at_lowest, bit_at-suc}
+use Rattle.std.proofs.Math.Bool.{or-false, and-false}
 use Rattle.memory_histories.specs.declared.windows.StoreByte.{StoreByte}
 use Rattle.memory_histories.specs.declared.sets.ByteSet.{ByteSet}
 use Rattle.memory_histories.specs.Sets.{with_byte}
 use Rattle.memory_histories.specs.Windows.{store_bytes, is_open}
 use Rattle.memory_histories.specs.Kept.{with_stores, is_covered_by, unit_of, is_in, answered_at}
 use Rattle.memory_histories.specs.Parts.{lane_bytes, lanes_of, lane_at, with_known, cleared, cleared_lanes}
-use Rattle.memory_histories.proofs.Lists.{and_false, or_false}
 
 -- Where there is a lane. ----
 
@@ -95,7 +95,7 @@ module _ (n t : ℕ) (o : Option ℕ) where
 
   pub any_lane : (k a : ℕ) (ls : List (Option ℕ)) → list_any (is_open k) (lane_bytes n a ls t o)
       ≡ ((is_none o && (n == k)) && list_any is_some ls)
-  any_lane k a [] = sym (and_false (is_none o && (n == k)))
+  any_lane k a [] = sym (and-false (is_none o && (n == k)))
   any_lane k a (None ∷ ls) = any_lane k _ ls
   any_lane k a (Some b ∷ ls) = ap (λ x. (is_none o && (n == k)) || x) (any_lane k (a + 1) ls)
       ∙ or_and_true _ _
@@ -230,7 +230,7 @@ module _ (n t : ℕ) (o : Option ℕ) where
         | inl e ↦
             let none =
             more ∙ ap (λ l. is_some l && c) (lane_once a ls y e) in
-            rw e (ap₂ (λ p q. p || q) here none ∙ or_false c)
+            rw e (ap₂ (λ p q. p || q) here none ∙ or-false c)
         | inr e ↦ rw e more
       ]
 

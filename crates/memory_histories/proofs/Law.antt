@@ -39,7 +39,7 @@ left stores l b =
 covered : (stores : List StoreByte) (l : LoadByte) → Decides (is_covered stores l) (IsCovered stores l)
 covered stores l = Any-decides _ _ (λ s. Decides-and _ _ (Decides-eqb _ _) (before s.ended l.began)) stores
 
-initial : (o : Option ℕ) (r : Rest) (b : ℕ) → Decides (is_initial o r b) (IsInitial o r b)
+pub initial : (o : Option ℕ) (r : Rest) (b : ℕ) → Decides (is_initial o r b) (IsInitial o r b)
 initial None Zeros b = Decides-eqb b 0
 initial None Unknown b = Decides-ltb b 256
 initial (Some i) r b = Decides-eqb i b

@@ -5,16 +5,9 @@ use Rattle.std.specs.List.{All, filter, find, list_any, zip, prefix_len, positio
 use Rattle.std.specs.Option.{option_map}
 use Rattle.std.proofs.lemmas.Bool.{cases_Bool}
 use Rattle.std.proofs.lemmas.List.Elements.{All-nil, All-cons, All-head, All-tail}
+use Rattle.std.proofs.Math.Bool.{and-false}
 
 -- Bool. ----
-
-pub or_false : (x : Bool) → (x || false) ≡ x
-or_false true = refl
-or_false false = refl
-
-pub and_false : (x : Bool) → (x && false) ≡ false
-and_false true = refl
-and_false false = refl
 
 pub or_swap : (a b c d : Bool) → ((a || b) || (c || d)) ≡ ((a || c) || (b || d))
 or_swap true b c d = refl
@@ -102,7 +95,7 @@ map_kept f q h (x ∷ xs) = elim (cases_Bool (q x)) [
 -- what passes is kept
 and_kept : (k q : Bool) → (q ≡ true → k ≡ true) → (k && q) ≡ q
 and_kept k true h = rw (h refl) refl
-and_kept k false h = and_false k
+and_kept k false h = and-false k
 
 pub list_any-kept : {X : Type 0} (keep q : X → Bool) → ((x : X) → q x ≡ true → keep x ≡ true) → (xs : List X)
     → list_any q (filter keep xs) ≡ list_any q xs

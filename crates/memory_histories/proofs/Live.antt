@@ -3,30 +3,27 @@ use Rattle.std.proofs.Common.{◌≡◌, ℕ, suc, ◌+◌, ◌<◌, ◌≤◌, 
 use Rattle.std.proofs.Common.{refl, sym, ap, ap₂, ◌∙◌, inl, inr, arith}
 use Rattle.std.specs.Prelude.{zero, is_none, is_some}
 use Rattle.std.specs.List.{All, Contains, filter, list_any}
-use Rattle.std.proofs.lemmas.Bool.{false≢true, cases_Bool, and_parts, and_from, lt-ltb, le-ltb, not_from_false}
+use Rattle.std.proofs.lemmas.Bool.{cases_Bool, and_parts, and_from, lt-ltb, le-ltb, not_from_false}
 use Rattle.std.proofs.lemmas.List.Elements.{All-contains}
 use Rattle.std.proofs.lemmas.List.Folds.{Any-from_list_any, list_any-from_Any, list_any-append}
+use Rattle.std.proofs.Math.Bool.{and-true, and-false}
 use Rattle.memory_histories.specs.declared.windows.StoreByte.{StoreByte}
 use Rattle.memory_histories.specs.declared.windows.LoadByte.{LoadByte}
 use Rattle.memory_histories.specs.Windows.{is_open, after_response}
 use Rattle.memory_histories.specs.Regular.{is_before, is_overwritten, is_left, is_covered}
 use Rattle.memory_histories.specs.Kept.{is_past, is_live, is_in, unit_of, is_dropped, answered_at, answered_after, is_unanswered}
 use Rattle.memory_histories.specs.Kept.{is_seen, EndsBefore, IsTimely}
-use Rattle.memory_histories.proofs.Lists.{and_false, list_any-agree, list_any-same, list_any-never, list_any-map, list_any-filter}
+use Rattle.memory_histories.proofs.Lists.{list_any-agree, list_any-same, list_any-never, list_any-map, list_any-filter}
 use Rattle.memory_histories.proofs.Lists.{list_any-or, filter-agree, filter-filter, filter-map, map_kept, list_any-kept, filter-kept}
 
 -- Open stores. ----
-
-none_from : (o : Option ℕ) → is_none o ≡ true → o ≡ None
-none_from None h = refl
-none_from (Some e) h = cc
 
 open_none : (n : ℕ) (s : StoreByte) → is_open n s ≡ true → s.ended ≡ None
 open_none n s h = grind arith
 
 -- an open byte is not overwritten
 pub never_past : (stores : List StoreByte) (s : StoreByte) → s.ended ≡ None → is_past stores s ≡ false
-never_past stores s e = grind (arith, list_any-never, s.ended, and_false)
+never_past stores s e = grind (arith, list_any-never, s.ended, and-false)
 
 open_unanswered : (n : ℕ) (s : StoreByte) → is_open n s ≡ true → is_unanswered s ≡ true
 open_unanswered n s h = (and_parts _ _ h).0
@@ -230,7 +227,7 @@ dropped_in : (u : ℕ) (ending : List StoreByte) (s : StoreByte) → is_in u s �
 dropped_in u ending s h = grind arith
 
 open_never_dropped : (ending : List StoreByte) (s : StoreByte) → s.ended ≡ None → list_any (drops s) ending ≡ false
-open_never_dropped ending s e = grind (arith, list_any-never, and_false)
+open_never_dropped ending s e = grind (arith, list_any-never, and-false)
 
 stayed_test : (x u e p d t : Bool) → (u ≡ true → x ≡ d) → ((u && (e && not (p || d))) && t)
     ≡ (((u && (e && not p)) && (not x && t)) || false)
@@ -310,15 +307,10 @@ answered_seen n t u stores answered timely same test =
     ∙ (sym (list_any-map f (λ s. is_seen u _ s && test s) stores)
     ∙ sym (list_any-filter (is_seen u (map f stores)) test (map f stores))))))
 
--- the open stores after an answer
-and_true : (x : Bool) → (x && true) ≡ x
-and_true true = refl
-and_true false = refl
-
 still_open : (n t : ℕ) (s : StoreByte) → is_unanswered (after_response n t s) ≡ (is_unanswered s && not (is_open n s))
 still_open n t s = elim (cases_Bool _) [
-  | inl h ↦ ap is_unanswered (ended_now n t s h) ∙ sym (cc (h, and_false _))
-  | inr h ↦ ap is_unanswered (not_ended_now n t s h) ∙ sym (cc (h, and_true _))
+  | inl h ↦ ap is_unanswered (ended_now n t s h) ∙ sym (cc (h, and-false _))
+  | inr h ↦ ap is_unanswered (not_ended_now n t s h) ∙ sym (cc (h, and-true _))
 ]
 
 still_same : (n t : ℕ) (s : StoreByte) → (is_unanswered s && not (is_open n s)) ≡ true → after_response n t s ≡ s

@@ -5,13 +5,14 @@ use Rattle.std.specs.List.{All, filter, list_any, position}
 use Rattle.std.proofs.lemmas.Bool.{cases_Bool}
 use Rattle.std.proofs.lemmas.List.Elements.{All-cons}
 use Rattle.std.proofs.lemmas.List.Quantifiers.{position-Some}
+use Rattle.std.proofs.Math.Bool.{or-false}
 use Rattle.memory_histories.specs.declared.parts.StorePart.{StorePart}
 use Rattle.memory_histories.specs.declared.loads.OpenLoad.{OpenLoad}
 use Rattle.memory_histories.specs.Windows.{is_open}
 use Rattle.memory_histories.specs.Parts.{part_bytes, parts_bytes, is_open_part, has_lane, IsOnly}
 use Rattle.memory_histories.specs.Kept.{is_open_of}
 use Rattle.memory_histories.specs.Loads.{load_open, loads_open, is_load_of, IsOnlyLoad}
-use Rattle.memory_histories.proofs.Lists.{filter-always, filter-never, or_false}
+use Rattle.memory_histories.proofs.Lists.{filter-always, filter-never}
 use Rattle.memory_histories.proofs.Pieces.{filter_open, filter_others, any_open}
 use Rattle.memory_histories.proofs.Opened.{filter_loads, filter_ended}
 
@@ -74,7 +75,7 @@ pub only_open : (n : ℕ) (ps : List StorePart) (k : ℕ) (d : StorePart) → Is
 only_open n ps k d h =
     let one = ap (take 1) (drop-cons ps k d h.0) in
     any_open n ps
-    ∙ (any_both _ has_lane ps ∙ (ap (list_any has_lane) (h.1.0 ∙ one) ∙ or_false _))
+    ∙ (any_both _ has_lane ps ∙ (ap (list_any has_lane) (h.1.0 ∙ one) ∙ or-false _))
 
 -- the bytes of the load, and those of the others
 pub only_load_bytes : (n : ℕ) (os : List OpenLoad) (k : ℕ) (d : OpenLoad) → IsOnlyLoad n os k

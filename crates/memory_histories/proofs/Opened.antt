@@ -12,6 +12,7 @@ use Rattle.std.proofs.lemmas.List.{map-append, take_more_set}
 use Rattle.std.proofs.lemmas.List.Elements.{filter-append}
 use Rattle.std.proofs.lemmas.List.Folds.{list_any-append}
 use Rattle.std.proofs.lemmas.Iterator.Adapters.{position_from-zero}
+use Rattle.std.proofs.Math.Bool.{and-false}
 use Rattle.memory_histories.specs.declared.loads.OpenLoad.{OpenLoad}
 use Rattle.memory_histories.specs.declared.kept.OpenByte.{OpenByte}
 use Rattle.memory_histories.specs.declared.parts.StorePart.{StorePart}
@@ -26,7 +27,7 @@ use Rattle.memory_histories.specs.Kept.{opened_at, after_stores, is_open_of, is_
 use Rattle.memory_histories.specs.Parts.{part_bytes, parts_bytes, eight}
 use Rattle.memory_histories.specs.Loads.{set_bytes, load_open, loads_open, is_load_of, counted, shown_sets, is_near, or_next, first_set_at}
 use Rattle.memory_histories.specs.Loads.{wrong_in, behind, response_fault}
-use Rattle.memory_histories.proofs.Lists.{and_false, position-zip}
+use Rattle.memory_histories.proofs.Lists.{position-zip}
 use Rattle.memory_histories.proofs.Lanes.{lane_before, lane_past}
 use Rattle.memory_histories.proofs.Pieces.{take_most, with_part, all_shown_more}
 
@@ -37,7 +38,7 @@ or_and_true true x = refl
 or_and_true false x = refl
 
 any_set : (k n a t : ℕ) (ss : List ByteSet) → list_any (is_open_of k) (set_bytes n a t ss) ≡ ((n == k) && nat_lt 0 (length ss))
-any_set k n a t [] = sym (and_false (n == k))
+any_set k n a t [] = sym (and-false (n == k))
 any_set k n a t (s ∷ ss) =
     ap (λ x. (n == k) || x) (any_set k n (a + 1) t ss)
     ∙ (or_and_true _ _ ∙ ap (λ x. (n == k) && x) (sym (lt-ltb 0 (suc (length ss)) (omega arith))))

@@ -8,6 +8,7 @@ use Rattle.std.proofs.lemmas.Bool.{cases_Bool, cases_lt, eq-eqb, eqb-true, eqb-f
 use Rattle.std.proofs.lemmas.List.{map-append}
 use Rattle.std.proofs.lemmas.List.Elements.{filter-append}
 use Rattle.std.proofs.lemmas.List.Folds.{list_any-append}
+use Rattle.std.proofs.Math.Bool.{and-true, and-false}
 use Rattle.memory_histories.specs.declared.windows.StoreByte.{StoreByte}
 use Rattle.memory_histories.specs.declared.parts.StorePart.{StorePart}
 use Rattle.memory_histories.specs.declared.sets.ByteSet.{ByteSet}
@@ -19,7 +20,7 @@ use Rattle.memory_histories.specs.Kept.{with_stores, is_covered_by, is_in, is_dr
 use Rattle.memory_histories.specs.Parts.{lane_at, eight, part_bytes, parts_bytes, is_open_part, has_lane, is_open_with, part_at}
 use Rattle.memory_histories.specs.Parts.{with_known, cleared, cleared_lanes, without_part, without_parts, answered_part, is_part_in}
 use Rattle.memory_histories.specs.Parts.{joined_parts}
-use Rattle.memory_histories.proofs.Lists.{and_false, filter-agree, filter-filter}
+use Rattle.memory_histories.proofs.Lists.{filter-agree, filter-filter}
 use Rattle.memory_histories.proofs.Lanes.{byte_at, lane_before, lane_past, set_lanes, covered_lanes, answered_lanes, any_lane, all_pass}
 use Rattle.memory_histories.proofs.Lanes.{none_passes, same_pass, any_at, clear_lanes, no_lane}
 
@@ -144,10 +145,6 @@ take_cleared (suc n) [] ls = refl
 take_cleared (suc n) (e ∷ es) [] = refl
 take_cleared (suc n) (e ∷ es) (l ∷ ls) = ap (λ xs. cleared e l ∷ xs) (take_cleared n es ls)
 
-and_true : (x : Bool) → (x && true) ≡ x
-and_true true = refl
-and_true false = refl
-
 -- a part of another unit has no byte there
 elsewhere : (e p : StorePart) (x : ℕ) → (p.unit == e.unit) ≡ false → 8 * p.unit ≤ x → x < 8 * p.unit + length (eight p) → part_at e x ≡ None
 elsewhere e p x ne l m =
@@ -171,18 +168,18 @@ drop_part u e p =
     (λ x b l m. ap not (dropped_by u e (byte_at n t o x b))) in
     tests ∙ elim (cases_Bool (e.unit == u)) [
       | inr f ↦ rw f (all_pass n t o (λ s. not (is_some (part_at e s.address) && false)) a (eight p)
-          (λ x b l m. ap not (and_false (is_some (part_at e x)))))
+          (λ x b l m. ap not (and-false (is_some (part_at e x)))))
       | inl v ↦ rw v (elim (cases_Bool (p.unit == e.unit)) [
         | inr f ↦ rw f (all_pass n t o (λ s. not (is_some (part_at e s.address) && is_before o e.began)) a (eight p)
             (λ x b l m. ap (λ q. not (is_some q && is_before o e.began)) (elsewhere e p x f l m)))
         | inl w ↦ rw w (elim (cases_Bool (is_before o e.began)) [
           | inr f ↦ rw f (all_pass n t o (λ s. not (is_some (part_at e s.address) && false)) a (eight p)
-              (λ x b l m. ap not (and_false (is_some (part_at e x)))))
+              (λ x b l m. ap not (and-false (is_some (part_at e x)))))
           | inl y ↦
               let same = eqb-true p.unit e.unit w in
               rw y (same_pass n t o (λ s. not (is_some (part_at e s.address) && true)) (λ s. not (is_some (lane_at a (eight e) s.address)))
               a (eight p)
-              (λ x b l m. ap not (and_true (is_some (part_at e x))) ∙ ap (λ v. not (is_some (lane_at (8 * v) (eight e) x))) (sym same))
+              (λ x b l m. ap not (and-true (is_some (part_at e x))) ∙ ap (λ v. not (is_some (lane_at (8 * v) (eight e) x))) (sym same))
               ∙ (cc (clear_lanes n t o a (eight e) (eight p), take_cleared 8 e.lanes p.lanes)))
         ])
       ])

@@ -3,7 +3,7 @@ use Rattle.std.proofs.Common.{◌≡◌, ℕ, ◌+◌, ◌%◌, Bool, true, fals
 use Rattle.std.proofs.Common.{get_or, slice_get, refl, sym, ap, ap₂, ◌∙◌, inl, inr, append-nil}
 use Rattle.std.specs.Prelude.{is_none, is_some}
 use Rattle.std.specs.List.{All, filter, list_any}
-use Rattle.std.proofs.Math.Bool.{or_assoc}
+use Rattle.std.proofs.Math.Bool.{or_assoc, and-true, or-false, and-false, or_comm}
 use Rattle.std.proofs.lemmas.Bool.{cases_Bool, cases_eq, eq-eqb, ne_eqb}
 use Rattle.std.proofs.lemmas.List.Elements.{All-nil, All-cons, filter-append}
 use Rattle.std.proofs.lemmas.List.Folds.{list_any-append, list_any_none}
@@ -17,20 +17,10 @@ use Rattle.memory_histories.specs.Windows.{store_bytes}
 use Rattle.memory_histories.specs.Regular.{is_before, is_overwritten, is_left, is_covered, is_initial, may_return_byte}
 use Rattle.memory_histories.specs.Kept.{initial_set, with_stores, first_set, opened, unit_of, is_in, is_past, is_live}
 use Rattle.memory_histories.specs.Kept.{is_unanswered, is_seen, IsTimely}
-use Rattle.memory_histories.proofs.Lists.{or_false, and_false, list_any-agree, list_any-same, list_any-never, filter-agree, filter-always}
+use Rattle.memory_histories.proofs.Lists.{list_any-agree, list_any-same, list_any-never, filter-agree, filter-always}
 use Rattle.memory_histories.proofs.Lists.{filter-never}
 use Rattle.memory_histories.proofs.ByteSets.{has-with_byte, has-no_bytes, has-all_bytes}
 use Rattle.memory_histories.proofs.Live.{covered_now, left_now, puts}
-
-and_true : (x : Bool) → (x && true) ≡ x
-and_true true = refl
-and_true false = refl
-
-or_comm : (x y : Bool) → (x || y) ≡ (y || x)
-or_comm true true = refl
-or_comm true false = refl
-or_comm false true = refl
-or_comm false false = refl
 
 eqb_comm : (x y : ℕ) → (x == y) ≡ (y == x)
 eqb_comm x y = elim (cases_eq x y) [
@@ -58,22 +48,22 @@ store_bytes-new n a (b ∷ bs) e t =
 any_before : (p : StoreByte → Bool) → ((s : StoreByte) → s.ended ≡ None → p s ≡ false) → (t : ℕ) (stores added : List StoreByte)
     → All (IsNew t) added → list_any p (stores ++ added) ≡ list_any p stores
 any_before p h t stores added new =
-    list_any-append p stores added ∙ (cc (list_any_none p added (λ k d l. h _ (new k d l).1), or_false _))
+    list_any-append p stores added ∙ (cc (list_any_none p added (λ k d l. h _ (new k d l).1), or-false _))
 
 past_before : (t : ℕ) (stores added : List StoreByte) → All (IsNew t) added → (s : StoreByte)
     → is_past (stores ++ added) s ≡ is_past stores s
 past_before t stores added new s =
     any_before (λ o. (o.address == s.address) && (is_before s.ended o.began && is_some o.ended))
-    (λ o e. rw (e, and_false _) (and_false (o.address == s.address))) t stores added new
+    (λ o e. rw (e, and-false _) (and-false (o.address == s.address))) t stores added new
 
 overwritten_before : (m t : ℕ) (stores added : List StoreByte) → All (IsNew t) added → (s : StoreByte)
     → is_overwritten (stores ++ added) s m ≡ is_overwritten stores s m
 overwritten_before m t stores added new s =
-    any_before _ (λ o e. rw (e, and_false _) (and_false (o.address == s.address))) t stores added
+    any_before _ (λ o e. rw (e, and-false _) (and-false (o.address == s.address))) t stores added
     new
 
 never_overwritten : (stores : List StoreByte) (s : StoreByte) (m : ℕ) → s.ended ≡ None → is_overwritten stores s m ≡ false
-never_overwritten stores s m e = list_any-never _ (λ o. rw e (and_false (o.address == s.address))) stores
+never_overwritten stores s m e = list_any-never _ (λ o. rw e (and-false (o.address == s.address))) stores
 
 pub unanswered_requested : (t : ℕ) (stores added : List StoreByte) → All (IsNew t) added → filter is_unanswered (stores ++ added)
     ≡ filter is_unanswered stores ++ added
@@ -88,7 +78,7 @@ seen_requested t u stores added new =
     (λ k d l. let s = get_or stores k d in ap (λ x. is_in u s && (is_some s.ended && not x)) (past_before t stores added new s)) in
     let none = filter-never p added
     (λ k d l. let s = get_or added k d in ap (λ o. is_in u s && (is_some o && is_live (stores ++ added) s)) (new k d l).1
-    ∙ and_false _) in
+    ∙ and-false _) in
     filter-append p stores added ∙ (ap₂ (λ xs ys. xs ++ ys) before none ∙ append-nil _)
 
 pub left_requested : (t : ℕ) (stores added : List StoreByte) → All (IsNew t) added → (l : LoadByte) (b : ℕ)
@@ -99,19 +89,19 @@ left_requested t stores added new l b =
     (λ s. ap (λ x. (s.address == l.address) && ((s.byte == b) && not x)) (overwritten_before l.began t stores added new s)) stores in
     let behind = list_any-agree p (λ s. (s.address == l.address) && (s.byte == b)) added
     (λ k d i. let s = get_or added k d in ap (λ x. (s.address == l.address) && ((s.byte == b) && not x))
-    (never_overwritten (stores ++ added) s l.began (new k d i).1) ∙ ap (λ x. (s.address == l.address) && x) (and_true (s.byte == b))) in
+    (never_overwritten (stores ++ added) s l.began (new k d i).1) ∙ ap (λ x. (s.address == l.address) && x) (and-true (s.byte == b))) in
     list_any-append p stores added ∙ (ap (λ x. x || list_any p added) before ∙ ap (λ x. is_left stores l b || x) behind)
 
 pub covered_requested : (t : ℕ) (stores added : List StoreByte) → All (IsNew t) added → (l : LoadByte)
     → is_covered (stores ++ added) l ≡ is_covered stores l
 covered_requested t stores added new l = any_before (λ s. (s.address == l.address) && is_before s.ended l.began)
-    (λ s e. rw e (and_false (s.address == l.address))) t stores added new
+    (λ s e. rw e (and-false (s.address == l.address))) t stores added new
 
 -- Sets. ----
 
 pub has-with_stores : (stores : List StoreByte) (a : ℕ) (set : ByteSet) (b : ℕ)
     → has (with_stores stores a set) b ≡ (has set b || list_any (λ s. (s.address == a) && (s.byte == b)) stores)
-has-with_stores [] a set b = sym (or_false (has set b))
+has-with_stores [] a set b = sym (or-false (has set b))
 has-with_stores (s ∷ ss) a set b = elim (cases_Bool (s.address == a)) [
   | inl e ↦ rw e (has-with_stores ss a _ b
       ∙ (cc (has-with_byte set s.byte b, or_assoc _ _ (list_any (λ o. (o.address == a) && (o.byte == b)) ss))))
@@ -119,8 +109,8 @@ has-with_stores (s ∷ ss) a set b = elim (cases_Bool (s.address == a)) [
 ]
 
 has-first : (c : Bool) (set : ByteSet) (b : ℕ) → has (first_set c set) b ≡ (has set b && not c)
-has-first true set b = has-no_bytes b ∙ sym (and_false (has set b))
-has-first false set b = sym (and_true (has set b))
+has-first true set b = has-no_bytes b ∙ sym (and-false (has set b))
+has-first false set b = sym (and-true (has set b))
 
 pub has-only : (i b : ℕ) → has (with_byte no_bytes i) b ≡ (i == b)
 has-only i b = cc (has-with_byte no_bytes i b, has-no_bytes b)
@@ -132,7 +122,7 @@ has-initial None Unknown b = has-all_bytes b
 
 opened_test : (i l a o : Bool) → l ≡ (a || o) → ((i || a) || o) ≡ (l || i)
 opened_test true l a o e = sym (or_comm l true)
-opened_test false l a o e = sym e ∙ sym (or_false l)
+opened_test false l a o e = sym e ∙ sym (or-false l)
 
 -- the set of a load that is requested now
 pub opened_exact : (image : List ℕ) (r : Rest) (t : ℕ) (stores answered : List StoreByte) → All (IsTimely t) stores → (l : LoadByte)

@@ -12,9 +12,6 @@ answered : (o : Option ℕ) (m : ℕ) → IsBefore o m → (e : ℕ) × ((o ≡ 
 answered None m h = absurd h
 answered (Some e) m h = (e, (refl, h))
 
-no_end : {e : ℕ} → None ≡ Some e → ⊥
-no_end h = cc
-
 -- a store that was answered took effect, within its window
 placed : (time : ℕ → ℕ) (s : StoreByte) (o : Option ℕ) (e : ℕ) → IsWithin time s o → s.ended ≡ Some e → (m : ℕ) ×
     ((o ≡ Some m) × ((time s.began < m) × (m < time e)))

@@ -1,17 +1,18 @@
 -- Units that change when a store is answered.
-use Rattle.std.proofs.Common.{◌≡◌, ℕ, Bool, ◌||◌, true, false, if◌then◌else◌, ◌==◌, not, List, [], ◌∷◌, ◌++◌, get_or, refl, sym, subst, ap}
+use Rattle.std.proofs.Common.{◌≡◌, ℕ, ◌||◌, true, false, if◌then◌else◌, ◌==◌, not, List, [], ◌∷◌, ◌++◌, get_or, refl, sym, subst, ap}
 use Rattle.std.proofs.Common.{◌∙◌, inl, inr, append-nil}
 use Rattle.std.specs.List.{All, filter, list_any}
 use Rattle.std.proofs.lemmas.Bool.{false≢true, cases_Bool, eqb-true, eq-eqb}
 use Rattle.std.proofs.lemmas.List.Elements.{All-head, All-tail, All-weaker}
 use Rattle.std.proofs.lemmas.List.Folds.{list_any-append}
+use Rattle.std.proofs.Math.Bool.{or-true, or-false, and-false}
 use Rattle.memory_histories.specs.declared.windows.StoreByte.{StoreByte}
 use Rattle.memory_histories.specs.declared.answered.UnitChange.{UnitChange}
 use Rattle.memory_histories.specs.declared.parts.StorePart.{StorePart}
 use Rattle.memory_histories.specs.Kept.{is_in, is_dropped, answered_after}
 use Rattle.memory_histories.specs.Parts.{part_bytes, parts_bytes, is_part_in}
 use Rattle.memory_histories.specs.Shown.{is_of_unit, put_units, IsAfter, HasUnit}
-use Rattle.memory_histories.proofs.Lists.{and_false, or_false, filter-always, filter-never, none_pass}
+use Rattle.memory_histories.proofs.Lists.{filter-always, filter-never, none_pass}
 use Rattle.memory_histories.proofs.Pieces.{filter_in}
 
 -- the last of the changes goes first into the map
@@ -25,7 +26,7 @@ not_in : (ending : List StoreByte) (unit : ℕ) → All (λ s. is_in unit s ≡ 
 not_in [] unit a s = refl
 not_in (e ∷ es) unit a s =
     let here = All-head (λ x. is_in unit x ≡ false) e es a in
-    rw (here, not_in es unit (All-tail (λ x. is_in unit x ≡ false) e es a) s, and_false _) refl
+    rw (here, not_in es unit (All-tail (λ x. is_in unit x ≡ false) e es a) s, and-false _) refl
 
 untouched : (t : ℕ) (ending answered : List StoreByte) (unit : ℕ) → All (λ s. is_in unit s ≡ false) ending
     → answered_after t ending unit answered ≡ answered
@@ -84,13 +85,9 @@ pub has_at : (cs : List UnitChange) (s : StorePart) (unit : ℕ) → unit ≡ s.
     → HasUnit cs s
 has_at cs s unit e h = cc (e, h)
 
-or_true : (x : Bool) → (x || true) ≡ true
-or_true true = refl
-or_true false = refl
-
 any_more : (cs : List UnitChange) (c : UnitChange) (unit : ℕ) → list_any (is_of_unit unit) (cs ++ c ∷ [])
     ≡ (list_any (is_of_unit unit) cs || is_of_unit unit c)
-any_more cs c unit = cc (list_any-append _ cs _, or_false (is_of_unit unit c))
+any_more cs c unit = cc (list_any-append _ cs _, or-false (is_of_unit unit c))
 
 pub still_whole : (cs : List UnitChange) (c : UnitChange) (bytes : List StorePart) → All (HasUnit cs) bytes
     → All (HasUnit (cs ++ c ∷ [])) bytes
@@ -100,4 +97,4 @@ still_whole cs c bytes a =
 
 pub has_last : (cs : List UnitChange) (c : UnitChange) (s : StorePart) → c.unit ≡ s.unit → HasUnit (cs ++ c ∷ []) s
 has_last cs c s e =
-    any_more cs c s.unit ∙ (cc (eq-eqb c.unit s.unit e, or_true _))
+    any_more cs c s.unit ∙ (cc (eq-eqb c.unit s.unit e, or-true _))

@@ -1,7 +1,7 @@
 //! The memory of sets that answered loads leave for later ones: most loads are then requested and answered without an
 //! allocation.
 
-ghost use Rattle.std.specs.Prelude.{◌≡◌, ◌≤◌, [], IfOk, vec_capacity};
+ghost use Rattle.std.specs.Prelude.{◌≡◌, ◌≤◌, ◌<◌, [], ◌∷◌, ◌++◌, IfOk, vec_len, vec_capacity};
 
 use crate::sets::ByteSet;
 use std::alloc::{AllocError, Global};
@@ -53,7 +53,11 @@ fn new_room(
 }
 
 // Keeps what an answered load leaves, if there is room for it.
-pub(crate) fn keep_spare(spares: &mut Vec<Vec<ByteSet>>, sets: Vec<ByteSet>) {
+pub(crate) fn keep_spare(spares: &mut Vec<Vec<ByteSet>>, sets: Vec<ByteSet>)
+    ensures kept { vec_len spares.old < vec_capacity spares.old → spares.new.items ≡ spares.old.items ++ sets ∷ [] }
+    ensures full { vec_capacity spares.old ≤ vec_len spares.old → spares.new.items ≡ spares.old.items }
+    ensures room { vec_capacity spares.new ≡ vec_capacity spares.old }
+{
     if spares.len() < spares.capacity() {
         spares.push_reserved(sets);
     }
