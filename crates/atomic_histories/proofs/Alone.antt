@@ -3,6 +3,8 @@ use Rattle.std.proofs.Common.{◌≡◌, ℕ, ◌⊎◌, Bool, true, false, ◌|
 use Rattle.std.proofs.Common.{refl, sym, ap, ◌∙◌, subst, eqb-true}
 use Rattle.std.specs.List.{list_any, find}
 use Rattle.std.proofs.lemmas.Bool.{cases_Bool, and_parts, or_parts}
+use Rattle.std.proofs.lemmas.Option.{same_Some}
+use Rattle.memory_histories.proofs.Lists.{list_any-map}
 use Rattle.atomic_histories.specs.declared.unit.Operation.{Operation}
 use Rattle.atomic_histories.specs.declared.unit.UnitPlace.{UnitPlace}
 use Rattle.atomic_histories.specs.Operations.{Opened, has_number}
@@ -50,27 +52,20 @@ alone_filtered p q (x ∷ xs) a = elim (cases_Bool (q x)) [
   | inr f ↦ rw f (alone_filtered p q xs a.1)
 ]
 
-any_mapped : {X Y : Type 0} (f : X → Y) (p : Y → Bool) (xs : List X) → list_any p (map f xs) ≡ list_any (λ x. p (f x)) xs
-any_mapped f p [] = refl
-any_mapped f p (x ∷ xs) = ap (λ b. p (f x) || b) (any_mapped f p xs)
-
 alone_mapped : {X Y : Type 0} (f : X → Y) (p : Y → Bool) (xs : List X) → IsAlone (λ x. p (f x)) xs → IsAlone p (map f xs)
 alone_mapped f p [] a = tt
-alone_mapped f p (x ∷ xs) a = (λ t. any_mapped f p xs ∙ a.0 t, alone_mapped f p xs a.1)
+alone_mapped f p (x ∷ xs) a = (λ t. list_any-map f p xs ∙ a.0 t, alone_mapped f p xs a.1)
 
 alone_unmapped : {X Y : Type 0} (f : X → Y) (p : Y → Bool) (xs : List X) → IsAlone p (map f xs) → IsAlone (λ x. p (f x)) xs
 alone_unmapped f p [] a = tt
-alone_unmapped f p (x ∷ xs) a = (λ t. sym (any_mapped f p xs) ∙ a.0 t, alone_unmapped f p xs a.1)
-
-some_same : {X : Type 0} (x y : X) → Some x ≡ Some y → x ≡ y
-some_same x y h = cc
+alone_unmapped f p (x ∷ xs) a = (λ t. sym (list_any-map f p xs) ∙ a.0 t, alone_unmapped f p xs a.1)
 
 -- of the elements that pass a test, each is the one that is found
 pub found_each : {X : Type 0} (p : X → Bool) (xs : List X) (o : X) → IsAlone p xs → find p xs ≡ Some o
     → Each (λ x. p x ≡ true → x ≡ o) xs
 found_each p [] o a e = tt
 found_each p (x ∷ xs) o a e = elim (cases_Bool (p x)) [
-  | inl t ↦ (λ u. some_same x o (rw t at e), each_none (λ y. y ≡ o) p xs (a.0 t))
+  | inl t ↦ (λ u. same_Some x o (rw t at e), each_none (λ y. y ≡ o) p xs (a.0 t))
   | inr f ↦ (λ u. let y = sym u ∙ f in cc, found_each p xs o a.1 (rw f at e))
 ]
 
@@ -78,7 +73,7 @@ found_one : (number : ℕ) (os : List Operation) (o : Operation) → find (has_n
     → One (λ x. (x ≡ o) × (has_number number x ≡ true)) os
 found_one number [] o e = cc
 found_one number (x ∷ xs) o e = elim (cases_Bool _) [
-  | inl t ↦ inl (some_same x o (rw t at e), t)
+  | inl t ↦ inl (same_Some x o (rw t at e), t)
   | inr f ↦ inr (found_one number xs o (rw f at e))
 ]
 

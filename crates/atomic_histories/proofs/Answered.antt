@@ -3,6 +3,7 @@ use Rattle.std.proofs.Common.{◌≡◌, ℕ, ◌⊎◌, Bool, true, false, ◌|
 use Rattle.std.proofs.Common.{None, inl, inr, refl, sym, ap, ◌∙◌, subst}
 use Rattle.std.specs.List.{list_all, list_any, find}
 use Rattle.std.proofs.lemmas.Bool.{cases_Bool, and_from, or_left, or_right}
+use Rattle.std.proofs.lemmas.Option.{same_Some}
 use Rattle.atomic_histories.specs.declared.unit.OpenStore.{OpenStore}
 use Rattle.atomic_histories.specs.declared.unit.UnitPlace.{UnitPlace}
 use Rattle.atomic_histories.specs.declared.unit.WatchedLoad.{WatchedLoad}
@@ -25,14 +26,11 @@ Word = List (Option ℕ)
 
 -- The load under a number. ----
 
-some_same : {X : Type 0} (x y : X) → Some x ≡ Some y → x ≡ y
-some_same x y h = cc
-
 pub find_mapped : {X Y : Type 0} (f : X → Y) (p : Y → Bool) (xs : List X) (x : X) → find (λ y. p (f y)) xs ≡ Some x
     → find p (map f xs) ≡ Some (f x)
 find_mapped f p [] x h = cc
 find_mapped f p (y ∷ ys) x h = elim (cases_Bool (p (f y))) [
-  | inl t ↦ rw t (ap (λ z. Some (f z)) (some_same y x (rw t at h)))
+  | inl t ↦ rw t (ap (λ z. Some (f z)) (same_Some y x (rw t at h)))
   | inr n ↦ rw n (find_mapped f p ys x (rw n at h))
 ]
 
@@ -179,7 +177,7 @@ module _ (loads : List WatchedLoad) (moment : ℕ) (asked : Each (IsAsked moment
 
   late_path : (e : Pair) (path : List Stood) → list_any is path ≡ false → Late (way_on loads e path)
   late_path e path h k f =
-      let same : watched path l ≡ k = some_same (watched path l) k (sym (find_watched number path loads l open_) ∙ f) in
+      let same : watched path l ≡ k = same_Some (watched path l) k (sym (find_watched number path loads l open_) ∙ f) in
       subst (λ (x : Watched). list_any (λ w. is_word_of unit.first w x.address bytes) x.words ≡ false) same
       (sym (seen_answer unit l.address l.since bytes path) ∙ h)
 
@@ -190,7 +188,7 @@ module _ (loads : List WatchedLoad) (moment : ℕ) (asked : Each (IsAsked moment
       let there : find (is_watched number) (map (with_word e.word) (map (watched path) loads)) ≡ Some (with_word e.word (watched path l)) =
       find_mapped (with_word e.word) (is_watched number) (map (watched path) loads) (watched path l)
       (find_watched number path loads l open_) in
-      let same : with_word e.word (watched path l) ≡ k = some_same (with_word e.word (watched path l)) k (sym there ∙ f) in
+      let same : with_word e.word (watched path l) ≡ k = same_Some (with_word e.word (watched path l)) k (sym there ∙ f) in
       let none : (is_word_of unit.first e.word l.address bytes
       || list_any (λ w. is_word_of unit.first w l.address bytes) (seen_since l.since path)) ≡ false =
       rw off (late (watched path l) (find_watched number path loads l open_)) in

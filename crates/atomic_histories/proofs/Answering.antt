@@ -2,7 +2,7 @@
 use Rattle.std.proofs.Common.{◌≡◌, ℕ, Bool, true, false, ◌||◌, not, ◌==◌, List, [], ◌∷◌, map, filter, Option, Some, None, inl, inr}
 use Rattle.std.proofs.Common.{refl, sym, ap, ◌∙◌, subst}
 use Rattle.std.specs.List.{list_all, list_any}
-use Rattle.std.proofs.lemmas.Bool.{cases_Bool, and_parts, and_from}
+use Rattle.std.proofs.lemmas.Bool.{cases_Bool, and_parts, and_from, or_right, or_left}
 use Rattle.atomic_histories.specs.declared.unit.UnitPlace.{UnitPlace}
 use Rattle.atomic_histories.specs.Words.{is_word_of}
 use Rattle.atomic_histories.specs.Law.{OpenLoad, UnitMemory, is_load, is_got, may_answer_load, without_load}
@@ -48,7 +48,7 @@ leads_without_load number {e} {m} (later before s after split open_ r) =
 
 -- What the load may have got. ----
 
-any_found : (p : Word → Bool) (xs : List Word) → list_any p xs ≡ true → (v : Word) × (p v ≡ true) × One (λ y. v ≡ y) xs
+pub any_found : (p : Word → Bool) (xs : List Word) → list_any p xs ≡ true → (v : Word) × (p v ≡ true) × One (λ y. v ≡ y) xs
 any_found p [] h = cc
 any_found p (x ∷ xs) h = elim (cases_Bool (p x)) [
   | inl t ↦ (x, t, inl refl)
@@ -63,14 +63,6 @@ any_true p v (x ∷ xs) t (inr h) = elim (cases_Bool (p x)) [
   | inr u ↦ rw u (any_true p v xs t h)
 ]
 
-or_right_true : (a b : Bool) → b ≡ true → (a || b) ≡ true
-or_right_true true b h = refl
-or_right_true false b h = h
-
-or_left_true : (a b : Bool) → a ≡ true → (a || b) ≡ true
-or_left_true true b h = refl
-or_left_true false b h = cc
-
 -- a word that a load may have got, with the bytes of its answer
 have_word : (unit : UnitPlace) (bytes : List ℕ) (e : Branch) (l : Watched) → may_have unit bytes e l ≡ true
     → (v : Word) × (is_word_of unit.first v l.address bytes ≡ true) × MayHaveGot e.word l.words (Some v)
@@ -83,9 +75,9 @@ got_have : (unit : UnitPlace) (bytes : List ℕ) (e : Branch) (l : Watched) (g :
     → MayHaveGot e.word l.words g → may_have unit bytes e l ≡ true
 got_have unit bytes e l None t h = cc
 got_have unit bytes e l (Some v) t (inl same) =
-    or_left_true _ _ (ap (λ w. is_word_of unit.first w l.address bytes) (sym same) ∙ t)
+    or_left _ _ (ap (λ w. is_word_of unit.first w l.address bytes) (sym same) ∙ t)
 got_have unit bytes e l (Some v) t (inr past) =
-    or_right_true _ _
+    or_right _ _
     (any_true (λ w. is_word_of unit.first w l.address bytes) v l.words t past)
 
 -- whether one load stands in the way of an answer
@@ -112,7 +104,7 @@ from_law unit number bytes e (l ∷ ls) (m ∷ ms) h t =
           let have =
           got_have unit bytes e l m.got (cc (h.0.1, got)) h.0.2 in
           and_from (judge unit number bytes e l) (list_all (judge unit number bytes e) ls)
-          (or_right_true (not (is_watched number l)) (may_have unit bytes e l) have) rest
+          (or_right (not (is_watched number l)) (may_have unit bytes e l) have) rest
     ]
 
 pub answer_on : (unit : UnitPlace) (number : ℕ) (bytes : List ℕ) (m : UnitMemory) → may_answer_load unit number bytes m.loads ≡ true
@@ -141,7 +133,7 @@ with_answers unit number bytes e (l ∷ ls) ns t h =
             m ∷ r.0,
             ((refl, refl, v.2), r.1),
             and_from (law unit number bytes m) (list_all (law unit number bytes) r.0)
-                (or_right_true (not (is_load number m)) (is_word_of unit.first v.0 l.address bytes) v.1) r.2,
+                (or_right (not (is_load number m)) (is_word_of unit.first v.0 l.address bytes) v.1) r.2,
             filter_drops number m r.0 ns u r.3,
           )
       | inr f ↦ other unit number bytes e l ls ns f (rw f at h) (λ ks k. with_answers unit number bytes e ls ks p.1 k)

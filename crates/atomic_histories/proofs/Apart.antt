@@ -14,7 +14,7 @@ use Rattle.atomic_histories.specs.declared.unit.UnitPlace.{UnitPlace}
 use Rattle.atomic_histories.specs.declared.unit.WatchedLoad.{WatchedLoad}
 use Rattle.atomic_histories.specs.Words.{at_unit, stored_byte, is_word_of}
 use Rattle.atomic_histories.specs.Law.{is_store, may_answer_store}
-use Rattle.atomic_histories.specs.Pasts.{Past, missed, oldest}
+use Rattle.atomic_histories.specs.Pasts.{Past, oldest}
 use Rattle.atomic_histories.specs.Followed.{Pair, Ways, Aim, is_same_word, is_same_store, is_same_pair, with_pair, with_pairs}
 use Rattle.atomic_histories.specs.Followed.{effect_aim, word_aim, next_of, out_after, met, rounds, is_under, pair_on}
 use Rattle.atomic_histories.specs.Followed.{pair_got, pair_missed, cons_any, gathered, with_hope, answered_load, answered_store}

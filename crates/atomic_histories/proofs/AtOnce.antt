@@ -1,10 +1,10 @@
 -- Events that a unit takes where it stands: what the search would find, and what is kept of the units.
-use Rattle.std.proofs.Common.{◌≡◌, ◌≢◌, ℕ, zero, suc, ◌+◌, ◌*◌, ◌/◌, ◌<◌, ◌≤◌, Bool, true, false, ◌&&◌, ◌||◌, not, ◌==◌}
+use Rattle.std.proofs.Common.{◌≡◌, ◌≢◌, ℕ, zero, suc, ◌+◌, ◌*◌, ◌/◌, ◌<◌, ◌≤◌, Bool, true, false, ◌&&◌, ◌||◌, not}
 use Rattle.std.proofs.Common.{List, [], ◌∷◌, length, take, get_or, Option, Some, None, Result, Ok, Err, IfOk, OnErr}
 use Rattle.std.proofs.Common.{inl, inr, refl, sym, ap, ap₂, ◌∙◌, subst, arith}
-use Rattle.std.specs.List.{find, list_all, range_with_len}
+use Rattle.std.specs.List.{find, range_with_len}
 use Rattle.std.proofs.lemmas.List.{length-take-le, take-take, get_or-take}
-use Rattle.std.proofs.lemmas.Bool.{cases_Bool, and_parts, and_from}
+use Rattle.std.proofs.lemmas.Bool.{cases_Bool}
 use Rattle.std.proofs.lemmas.Bool.{or_left, or_right}
 use Rattle.memory_histories.specs.declared.events.HistoryEvent.{HistoryEvent}
 use Rattle.memory_histories.specs.declared.events.Rest.{Rest}
@@ -32,7 +32,9 @@ use Rattle.atomic_histories.specs.Held.{Held, covered, units_of}
 use Rattle.atomic_histories.specs.Judge.{bytes_of, kept_or, kept_at, words_of, IsTaken}
 use Rattle.atomic_histories.specs.Shown.{past_at, past_of, pasts}
 use Rattle.atomic_histories.proofs.Shares.{stands}
-use Rattle.atomic_histories.proofs.Moving.{same_at}
+use Rattle.atomic_histories.proofs.Lists.{always_all}
+use Rattle.atomic_histories.proofs.Lanes.{word_lane, none_asked}
+use Rattle.atomic_histories.proofs.Loops.{same_default}
 use Rattle.atomic_histories.proofs.KeptUnits.{some_oldest}
 use Rattle.atomic_histories.specs.AtOnce.{IsUnitTaken, AreTaken, AreTakenOrSame}
 
@@ -62,19 +64,6 @@ found_next loads moment aim e s one open_ f t hope = grind arith
 
 -- Hope for the word that a store makes. ----
 
-word_lane : (first : ℕ) (w : Word) (a : ℕ) (bs : List ℕ) (j : ℕ) → is_word_of first w a bs ≡ true
-    → is_as_it_stood (get_or w j None) (byte_for a bs (first + j)) ≡ true
-unfolding is_word_of
-word_lane first [] a bs j h = refl
-word_lane first (x ∷ w) a bs zero h = subst (λ p. is_as_it_stood x (byte_for a bs p) ≡ true) (omega arith) (and_parts _ _ h).0
-word_lane first (x ∷ w) a bs (suc j) h =
-    subst (λ p. is_as_it_stood (get_or w j None) (byte_for a bs p) ≡ true) (omega arith)
-    (word_lane (first + 1) w a bs j (and_parts _ _ h).1)
-
-none_asked : (x : Option ℕ) → is_as_it_stood x None ≡ true
-none_asked None = refl
-none_asked (Some b) = refl
-
 -- what a store makes stand in a lane stood there, or the store gives it
 lane_comes : (bs ws : Word) (k : ℕ) (answer : Option ℕ) → is_as_it_stood (get_or (written bs ws) k None) answer ≡ true
     → (is_as_it_stood (get_or ws k None) answer || gives (get_or bs k None) answer) ≡ true
@@ -86,20 +75,16 @@ lane_comes (Some b ∷ bs) (w ∷ ws) zero None h = or_left _ _ (none_asked w)
 lane_comes (Some b ∷ bs) (w ∷ ws) zero (Some c) h = or_right _ _ h
 lane_comes (x ∷ bs) (w ∷ ws) (suc k) answer h = lane_comes bs ws k answer h
 
-all_true : {X : Type 0} (p : X → Bool) → ((x : X) → p x ≡ true) → (xs : List X) → list_all p xs ≡ true
-all_true p f [] = refl
-all_true p f (x ∷ xs) = and_from (p x) _ (f x) (all_true p f xs)
-
 -- a word that is an answer's hopes for it
 pub word_hope : (unit : UnitPlace) (address : ℕ) (bytes : List ℕ) (word : Word) (stores : List OpenStore)
     → is_word_of unit.first word address bytes ≡ true → may_come unit address bytes word stores ≡ true
-word_hope unit address bytes word stores h = grind (arith, all_true, or_left, word_lane, unit.first)
+word_hope unit address bytes word stores h = grind (arith, always_all, or_left, word_lane, unit.first)
 
 -- so does one of which a store makes it
 pub next_hope : (unit : UnitPlace) (address : ℕ) (bytes : List ℕ) (word : Word) (s : OpenStore) → s.is_done ≡ false
     → is_word_of unit.first (written s.bytes word) address bytes ≡ true → may_come unit address bytes word (s ∷ []) ≡ true
 next_hope unit address bytes word s open_ h =
-    all_true (λ k. may_come_in k word (s ∷ []) _) each (range_with_len 0 8)
+    always_all (λ k. may_come_in k word (s ∷ []) _) each (range_with_len 0 8)
   where
     last : (a b d : Bool) → d ≡ false → (a || b) ≡ true → (a || ((not d && b) || false)) ≡ true
     last true b d e t = refl
@@ -126,7 +111,7 @@ pub stood_at : (ss : List Stretch) (end i : ℕ) (d : Stretch) (b earlier : Befo
 stood_at ss end i d b earlier word moment l le is at_ =
     let s = Overwritten word moment earlier in
     ap (past_at (pasts (take end ss))) at_
-    ∙ stands_in ss end i s l le (sym is ∙ same_at ss i d s (omega (arith, l, le)))
+    ∙ stands_in ss end i s l le (sym is ∙ same_default ss i d s (omega (arith, l, le)))
 
 pub got_here : (is : Stood → Bool) (p q : Past) (word : Word) (moment : ℕ) → p ≡ after word moment q → is (stood word moment) ≡ true
     → got is p ≡ Some p

@@ -6,6 +6,7 @@ use Rattle.std.proofs.lemmas.Bool.{and_parts, and_from}
 use Rattle.std.proofs.lemmas.List.{map-append}
 use Rattle.std.proofs.lemmas.List.Elements.{filter-append}
 use Rattle.std.proofs.lemmas.List.Folds.{list_all-append}
+use Rattle.std.proofs.Math.Bool.{or-true}
 use Rattle.atomic_histories.specs.declared.unit.OpenStore.{OpenStore}
 use Rattle.atomic_histories.specs.Law.{OpenLoad, UnitMemory, HiddenStep, done_store, is_store, may_answer_store, with_load}
 use Rattle.atomic_histories.specs.Law.{with_store, without_store}
@@ -112,10 +113,6 @@ sound_with_store number bytes P Q seen e sound n o =
 
 -- A store is answered. ----
 
-or_true : (b : Bool) → (b || true) ≡ true
-or_true true = refl
-or_true false = refl
-
 or_false_left : (a b : Bool) → b ≡ false → (not a || b) ≡ true → a ≡ false
 or_false_left true false e h = cc
 or_false_left true true e h = cc
@@ -141,7 +138,7 @@ leads_without_store_at number {e} {m} g (later before s after split open_ r) =
     let again : may_answer_store number (before ++ done_store s ∷ after) ≡ true =
     list_all-append may before (done_store s ∷ after)
     ∙ and_from (list_all may before) (may (done_store s) && list_all may after) p.0
-    (and_from (may (done_store s)) (list_all may after) (or_true (not (is_store number s))) q.1) in
+    (and_from (may (done_store s)) (list_all may after) (or-true (not (is_store number s))) q.1) in
     let rest : Leads (branch_without_store number d) (without_store number m) = leads_without_store_at number again r in
     later (filter keep before) s (filter keep after) kept open_
     (rw kept_done at rest)

@@ -415,11 +415,10 @@ stands_passed start unit u history event pass s = record {
 
 -- The verdict. ----
 
-not_yet : Watched → OpenLoad
+abbrev pub not_yet : Watched → OpenLoad
 not_yet l = record { number = l.number; address = l.address; got = None }
 
-watched_not_yet : (w : List (Option ℕ)) (ls : List Watched) → AreWatched w ls (map not_yet ls)
-unfolding not_yet
+pub watched_not_yet : (w : List (Option ℕ)) (ls : List Watched) → AreWatched w ls (map not_yet ls)
 watched_not_yet w [] = tt
 watched_not_yet w (l ∷ ls) = ((refl, refl, tt), watched_not_yet w ls)
 

@@ -4,6 +4,7 @@ use Rattle.std.proofs.Common.{Some, None, inl, inr, refl, sym, ◌∙◌, subst,
 use Rattle.std.proofs.lemmas.Bool.{cases_lt, and_parts, and_from, lt-ltb, le-ltb}
 use Rattle.std.proofs.lemmas.List.{get_or_past}
 use Rattle.std.proofs.lemmas.List.FromFn.{get_or-map-range_with_len}
+use Rattle.std.proofs.lemmas.Option.{same_Some}
 use Rattle.memory_histories.specs.declared.events.HistoryEvent.{HistoryEvent}
 use Rattle.memory_histories.specs.declared.events.HistoryEvent.TheVariants.{LoadRequest, LoadResponse, StoreRequest, StoreResponse}
 use Rattle.atomic_histories.specs.declared.unit.UnitPlace.{UnitPlace}
@@ -18,6 +19,11 @@ abbrev Word : Type 0
 Word = List (Option ℕ)
 
 -- A word and an answer. ----
+
+-- of a byte that isn't asked for nothing is said
+pub none_asked : (x : Option ℕ) → is_as_it_stood x None ≡ true
+none_asked None = refl
+none_asked (Some b) = refl
 
 pub word_lane : (first : ℕ) (w : Word) (a : ℕ) (bs : List ℕ) (j : ℕ) → is_word_of first w a bs ≡ true
     → is_as_it_stood (lane_of j w) (byte_for a bs (first + j)) ≡ true
@@ -98,9 +104,6 @@ module _ (P : ℕ → ℕ → Type 0) where
         loads = each_replace (λ x. HasGot x.got) before l _ after (λ p. h.word) each;
       })
 
-  some_same : {X : Type 0} (x y : X) → Some x ≡ Some y → x ≡ y
-  some_same x y h = cc
-
   some_if : {X : Type 0} (b : Bool) (x n : X) → (if b then Some x else None) ≡ Some n → x ≡ n
   some_if true x n h = cc
   some_if false x n h = cc
@@ -124,9 +127,9 @@ module _ (P : ℕ → ℕ → Type 0) where
 
   holds_seen : (unit : UnitPlace) (m n : UnitMemory) (event : HistoryEvent) → Writes unit event → Holds m → seen unit m event ≡ Some n
       → Holds n
-  holds_seen unit m n (LoadRequest number address k) w h e = grind (arith, some_same, holds_requested)
+  holds_seen unit m n (LoadRequest number address k) w h e = grind (arith, same_Some, holds_requested)
   holds_seen unit m n (LoadResponse number bytes) w h e = grind (arith, some_if, bytes.now, each_filter)
-  holds_seen unit m n (StoreRequest number address bytes enables) w h e = grind (arith, bytes.now, some_same, holds_stored)
+  holds_seen unit m n (StoreRequest number address bytes enables) w h e = grind (arith, bytes.now, same_Some, holds_stored)
   holds_seen unit m n (StoreResponse number) w h e = grind (arith, some_if, each_filter)
 
   pub holds : (unit : UnitPlace) (start : UnitMemory) → Holds start → {history : List HistoryEvent} {m : UnitMemory}

@@ -5,11 +5,11 @@ use Rattle.std.proofs.Common.{inl, inr, refl, sym, ap, ◌∙◌, subst, append-
 use Rattle.std.proofs.Common.{arith}
 use Rattle.std.specs.List.{list_any, find, range_with_len}
 use Rattle.std.specs.Int.{bit_at}
-use Rattle.std.proofs.lemmas.Bool.{cases_Bool, cases_lt, and_parts, and_from, lt-ltb, le-ltb, le-leb, lt-leb, or_parts}
+use Rattle.std.proofs.lemmas.Bool.{cases_Bool, cases_lt, and_parts, and_from, lt-ltb, le-ltb, le-leb, lt-leb, or_parts, or_from}
 use Rattle.std.proofs.lemmas.List.{map-append}
 use Rattle.std.proofs.lemmas.List.Elements.{filter-append}
 use Rattle.std.proofs.lemmas.List.Folds.{list_any-append}
-use Rattle.std.proofs.lemmas.Option.{slice_get_past}
+use Rattle.std.proofs.lemmas.Option.{slice_get_past, same_Some}
 use Rattle.memory_histories.specs.declared.events.HistoryEvent.{HistoryEvent}
 use Rattle.memory_histories.specs.declared.events.HistoryEvent.TheVariants.{LoadRequest, LoadResponse, StoreRequest, StoreResponse}
 use Rattle.memory_histories.specs.declared.events.Rest.{Rest}
@@ -86,15 +86,8 @@ pub record IsFit (o : Opened) : Type 0 where
   pub loads : AreFit o.loads
   pub stores : AreFit o.stores
 
-or_false : (a b : Bool) → a ≡ false → b ≡ false → (a || b) ≡ false
-or_false true b h i = h
-or_false false b h i = i
-
-eq_false_sym : (a b : ℕ) → (a == b) ≡ false → (b == a) ≡ false
-eq_false_sym a b h = elim (cases_Bool _) [
-  | inl t ↦ let x = eq-eqb a b (sym (eqb-true b a t)) in let y = sym x ∙ h in cc
-  | inr f ↦ f
-]
+pub eq_false_sym : (a b : ℕ) → (a == b) ≡ false → (b == a) ≡ false
+eq_false_sym a b h = grind arith
 
 distinct_push : (os : List Operation) (o : Operation) → AreDistinct os → list_any (has_number o.number) os ≡ false
     → AreDistinct (os ++ o ∷ [])
@@ -102,8 +95,8 @@ distinct_push [] o d n = (refl, tt)
 distinct_push (x ∷ xs) o d n =
     let p = or_parts _ _ n in
     let first =
-    list_any-append (has_number x.number) xs (o ∷ []) ∙ or_false (list_any (has_number x.number) xs) ((o.number == x.number) || false) d.0
-    (or_false (o.number == x.number) false (eq_false_sym x.number o.number p.0) refl) in
+    list_any-append (has_number x.number) xs (o ∷ []) ∙ or_from (list_any (has_number x.number) xs) ((o.number == x.number) || false) d.0
+    (or_from (o.number == x.number) false (eq_false_sym x.number o.number p.0) refl) in
     (first, distinct_push xs o d.1 p.1)
 
 none_filtered : (number m : ℕ) (os : List Operation) → list_any (has_number m) os ≡ false
@@ -113,7 +106,7 @@ none_filtered number m (x ∷ xs) h =
     let p = or_parts _ _ h in
     elim (cases_Bool (has_number number x)) [
       | inl t ↦ rw t (none_filtered number m xs p.1)
-      | inr f ↦ rw f (or_false (x.number == m) (list_any (has_number m) (without_number number xs)) p.0 (none_filtered number m xs p.1))
+      | inr f ↦ rw f (or_from (x.number == m) (list_any (has_number m) (without_number number xs)) p.0 (none_filtered number m xs p.1))
     ]
 
 distinct_filtered : (number : ℕ) (os : List Operation) → AreDistinct os → AreDistinct (without_number number os)
@@ -130,16 +123,17 @@ inside_filtered number (x ∷ xs) a = elim (cases_Bool (has_number number x)) [
   | inr f ↦ rw f (a.0, inside_filtered number xs a.1)
 ]
 
-load_allowed : (inside used : Bool) → load_request_fault inside used ≡ None → (inside ≡ true) × (used ≡ false)
+pub load_allowed : (inside used : Bool) → load_request_fault inside used ≡ None → (inside ≡ true) × (used ≡ false)
 load_allowed false used h = cc
 load_allowed true true h = cc
 load_allowed true false h = (refl, refl)
 
-store_allowed : (inside any used : Bool) → store_request_fault inside any used ≡ None → (inside ≡ true) × (used ≡ false)
+pub store_allowed : (inside any used : Bool) → store_request_fault inside any used ≡ None
+    → (inside ≡ true) × ((any ≡ true) × (used ≡ false))
 store_allowed false any used h = cc
 store_allowed true false used h = cc
 store_allowed true true true h = cc
-store_allowed true true false h = (refl, refl)
+store_allowed true true false h = (refl, (refl, refl))
 
 fit_push : (os : List Operation) (o : Operation) → AreFit os → IsInside o → list_any (has_number o.number) os ≡ false
     → AreFit (os ++ o ∷ [])
@@ -167,12 +161,9 @@ fit_by history h = grind (arith, fit_from)
 pub found_fit : (number : ℕ) (os : List Operation) (o : Operation) → Each IsInside os → find (has_number number) os ≡ Some o → IsInside o
 found_fit number [] o a e = cc
 found_fit number (x ∷ xs) o a e = elim (cases_Bool (has_number number x)) [
-  | inl t ↦ let same = some_same x o (rw t at e) in subst IsInside same a.0
+  | inl t ↦ let same = same_Some x o (rw t at e) in subst IsInside same a.0
   | inr f ↦ found_fit number xs o a.1 (rw f at e)
 ]
-  where
-    some_same : (x o : Operation) → Some x ≡ Some o → x ≡ o
-    some_same x o e = cc
 
 -- of the operations under a number there is one
 pub only : (P : Operation → Type 0) (number : ℕ) (os : List Operation) (o : Operation) → AreDistinct os
@@ -181,7 +172,7 @@ pub only : (P : Operation → Type 0) (number : ℕ) (os : List Operation) (o : 
 only P number [] o d e h = absurd h
 only P number (x ∷ xs) o d e h = elim (cases_Bool _) [
   | inl t ↦
-      let same = some_same x o (rw t at e) in
+      let same = same_Some x o (rw t at e) in
       elim h [
         | inl p ↦ subst P same p.1
         | inr r ↦
@@ -195,9 +186,6 @@ only P number (x ∷ xs) o d e h = elim (cases_Bool _) [
   ]
 ]
   where
-    some_same : (x o : Operation) → Some x ≡ Some o → x ≡ o
-    some_same x o e = cc
-
     no_one : (xs : List Operation) → list_any (has_number number) xs ≡ false → One (λ x. (x.number ≡ number) × P x) xs → ⊥
     no_one [] n r = r
     no_one (y ∷ ys) n (inl p) = grind arith
@@ -458,9 +446,9 @@ is_answered : (used : Bool) → store_response_fault used ≡ None → used ≡ 
 is_answered true h = refl
 is_answered false h = cc
 
-if_some : {X : Type 0} (b : Bool) (x : X) → b ≡ true → (if b then Some x else None) ≡ Some x
-if_some true x h = refl
-if_some false x h = cc
+pub then_some : {X : Type 0} (b : Bool) (x : X) → b ≡ true → (if b then Some x else None) ≡ Some x
+then_some true x h = refl
+then_some false x h = cc
 
 if_other : {X : Type 0} (b : Bool) (x y : X) → b ≡ false → (if b then x else y) ≡ y
 if_other true x y h = cc
@@ -484,7 +472,7 @@ passes size k m o (LoadResponse number bytes) pos fit link f out =
     let none =
     any_key number m.loads ∙ no_key unit number o.loads x fit.loads.0 r.1 no (map load_key m.loads) link.loads in
     let q = loads_pass unit number bytes.now m.loads none in
-    if_some (may_answer_load unit number bytes.now m.loads) (without_load number m) q.0
+    then_some (may_answer_load unit number bytes.now m.loads) (without_load number m) q.0
     ∙ ap (λ ls. Some (record { word = m.word; stores = m.stores; loads = ls })) q.1
 passes size k m o (StoreRequest number address bytes enables) pos fit link f out =
     let unit = unit_at size k in
@@ -506,5 +494,5 @@ passes size k m o (StoreResponse number) pos fit link f out =
     not_at size x.address x.length k pos (inside_end x.address x.length (found_fit number o.stores x fit.stores.1 r.1))
     (rw r.1 at out) in
     let q = stores_pass number m.stores (no_store unit number o.stores x fit.stores.0 r.1 no m.stores link.stores) in
-    if_some (may_answer_store number m.stores) (without_store number m) q.0
+    then_some (may_answer_store number m.stores) (without_store number m) q.0
     ∙ ap (λ ss. Some (record { word = m.word; stores = ss; loads = m.loads })) q.1

@@ -1,7 +1,8 @@
 -- What holds of each element of a list, or of one of them.
 use Rattle.std.proofs.Common.{◌≡◌, ◌⊎◌, Bool, true, List, [], ◌∷◌, ◌++◌, map, filter, inl, inr, refl}
-use Rattle.std.specs.List.{list_all, list_any}
+use Rattle.std.specs.List.{All, list_all, list_any}
 use Rattle.std.proofs.lemmas.Bool.{cases_Bool, and_parts, and_from}
+use Rattle.std.proofs.lemmas.List.Elements.{All-head, All-tail}
 use Rattle.atomic_histories.specs.Stands.{Each, One}
 
 pub one_weaker : {X : Type 0} (P Q : X → Type 0) → ((x : X) → P x → Q x) → (xs : List X) → One P xs → One Q xs
@@ -105,7 +106,15 @@ one_elim P Q [] h f = absurd h
 one_elim P Q (x ∷ xs) (inl p) f = f x p
 one_elim P Q (x ∷ xs) (inr h) f = one_elim P Q xs h f
 
+pub each_from_all : {X : Type 0} (P : X → Type 0) (xs : List X) → All P xs → Each P xs
+each_from_all P [] h = tt
+each_from_all P (x ∷ xs) h = (All-head P x xs h, each_from_all P xs (All-tail P x xs h))
+
 -- What a test says of each element. ----
+
+pub always_all : {X : Type 0} (p : X → Bool) → ((x : X) → p x ≡ true) → (xs : List X) → list_all p xs ≡ true
+always_all p f [] = refl
+always_all p f (x ∷ xs) = and_from (p x) _ (f x) (always_all p f xs)
 
 pub all_each : {X : Type 0} (p : X → Bool) (xs : List X) → list_all p xs ≡ true → Each (λ x. p x ≡ true) xs
 all_each p [] h = tt

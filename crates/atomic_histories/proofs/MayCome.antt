@@ -12,7 +12,8 @@ use Rattle.atomic_histories.specs.Branches.{Watched, Branch, with_word, effect_o
 use Rattle.atomic_histories.specs.Branches.{has_answer}
 use Rattle.atomic_histories.specs.Stands.{IsOn, Leads, now, later}
 use Rattle.atomic_histories.proofs.Answering.{answer_on}
-use Rattle.atomic_histories.proofs.Lanes.{word_lane}
+use Rattle.atomic_histories.proofs.Lanes.{word_lane, none_asked}
+use Rattle.atomic_histories.proofs.Lists.{always_all}
 
 abbrev Word : Type 0
 Word = List (Option ℕ)
@@ -37,10 +38,6 @@ lane_written (x ∷ bs) [] k = inl refl
 lane_written (None ∷ bs) (w ∷ ws) zero = inl refl
 lane_written (Some b ∷ bs) (w ∷ ws) zero = inr (b, refl, refl)
 lane_written (x ∷ bs) (w ∷ ws) (suc k) = lane_written bs ws k
-
-none_asked : (x : Option ℕ) → is_as_it_stood x None ≡ true
-none_asked None = refl
-none_asked (Some b) = refl
 
 any_between : (p : OpenStore → Bool) (before : List OpenStore) (s : OpenStore) (after : List OpenStore)
     → (list_any p before || (p s || list_any p after)) ≡ true → list_any p (before ++ s ∷ after) ≡ true
@@ -117,16 +114,12 @@ module _ (unit : UnitPlace) (number : ℕ) (bytes : List ℕ) (e : Branch) (befo
 
   -- the word of an answer that an effect makes may come before it
   word_comes : (l : Watched) → is_word_of unit.first on.word l.address bytes ≡ true → comes unit bytes e l ≡ true
-  word_comes l h = all_from (range_with_len 0 8)
+  word_comes l h = always_all _ lane (range_with_len 0 8)
     where
       lane : (k : ℕ) → may_come_in k e.word e.stores (byte_for l.address bytes (unit.first + k)) ≡ true
       lane k =
           come l k (or_left (is_as_it_stood (get_or on.word k None) (byte_for l.address bytes (unit.first + k))) _
           (word_lane unit.first on.word l.address bytes k h))
-
-      all_from : (ks : List ℕ) → list_all (λ k. may_come_in k e.word e.stores (byte_for l.address bytes (unit.first + k))) ks ≡ true
-      all_from [] = refl
-      all_from (k ∷ ks) = and_from _ _ (lane k) (all_from ks)
 
   hopes_before : (l : Watched) → hopes unit number bytes on (with_word e.word l) ≡ true → hopes unit number bytes e l ≡ true
   hopes_before l h =
@@ -178,14 +171,10 @@ hope_leads unit number bytes {e} {m} g (later before s after split open_ r) =
 -- the word that stands there may come to be one of an answer if it is one
 pub word_may_come : (unit : UnitPlace) (address : ℕ) (bytes : List ℕ) (word : Word) (stores : List OpenStore)
     → is_word_of unit.first word address bytes ≡ true → may_come unit address bytes word stores ≡ true
-word_may_come unit address bytes word stores h = all_from (range_with_len 0 8)
-  where
-    all_from : (ks : List ℕ) → list_all (λ k. may_come_in k word stores (byte_for address bytes (unit.first + k))) ks ≡ true
-    all_from [] = refl
-    all_from (k ∷ ks) =
-        and_from _ _
-        (or_left (is_as_it_stood (get_or word k None) (byte_for address bytes (unit.first + k))) _
-        (word_lane unit.first word address bytes k h)) (all_from ks)
+word_may_come unit address bytes word stores h =
+    always_all (λ k. may_come_in k word stores (byte_for address bytes (unit.first + k)))
+    (λ k. or_left (is_as_it_stood (get_or word k None) (byte_for address bytes (unit.first + k))) _
+    (word_lane unit.first word address bytes k h)) (range_with_len 0 8)
 
 all_found : (p q : Watched → Bool) (ls : List Watched) (l : Watched) → list_all p ls ≡ true → find q ls ≡ Some l
     → (p l ≡ true) × (q l ≡ true)

@@ -5,7 +5,7 @@ use Rattle.std.proofs.Common.{subst, leb-true, ltb-true, eqb-true, eq-eqb, arith
 use Rattle.std.specs.Borrow.{Bor}
 use Rattle.std.specs.List.{All, find, list_any, range_with_len}
 use Rattle.std.proofs.lemmas.Nat.{div-mul-add, mod-mul-add, div-add-mod'}
-use Rattle.std.proofs.lemmas.Bool.{cases_Bool, cases_lt, and_parts, and_from, lt-ltb, lt-leb, le-leb}
+use Rattle.std.proofs.lemmas.Bool.{cases_Bool, cases_lt, and_parts, and_from, lt-ltb, lt-leb, le-leb, or_right}
 use Rattle.std.proofs.lemmas.List.{same_from_push}
 use Rattle.std.proofs.lemmas.List.Elements.{All-head, All-tail, All-map}
 use Rattle.std.proofs.lemmas.List.FromFn.{get_or-map-range_with_len, length-map-range_with_len}
@@ -26,9 +26,9 @@ use Rattle.atomic_histories.specs.May.{lane_of, may_show, got_byte, MayGet, MayR
 use Rattle.atomic_histories.specs.MayLaws.{IsByte, StoresBytes, IsOfLaw, MayAnswer, HasAnswer, HasAnswerFor, SetsAreOfAnswers}
 use Rattle.atomic_histories.specs.MayLaws.{SetIsOfAnswers, AreSameIn, HasAnswerIn, UnitsChooseAlone}
 use Rattle.atomic_histories.proofs.Lists.{one_elim, one_each, one_any, one_weaker, each_weaker, each_both, each_at, all_each, each_all}
-use Rattle.atomic_histories.proofs.Lists.{no_snoc}
-use Rattle.atomic_histories.proofs.Links.{AreDistinct, is_of, fit_by, linked}
-use Rattle.atomic_histories.proofs.Whole.{formed_more, then_some}
+use Rattle.atomic_histories.proofs.Lists.{each_from_all, no_snoc}
+use Rattle.atomic_histories.proofs.Links.{AreDistinct, is_of, fit_by, linked, then_some}
+use Rattle.atomic_histories.proofs.Whole.{formed_more}
 use Rattle.atomic_histories.proofs.Verdict.{formed_last}
 use Rattle.atomic_histories.proofs.Lanes.{AreLanes, HasGot, Holds, Writes, holds, word_lane, lane_word, unit_lane}
 use Rattle.atomic_histories.proofs.Alone.{IsAlone, alone, has_address, is_there, HaveGot, each_none, shown_word, the_load, got_between}
@@ -41,16 +41,12 @@ Word = List (Option ℕ)
 all_from : {X : Type 0} (P : X → Type 0) → ((x : X) → P x) → (xs : List X) → All P xs
 all_from P f xs = λ k d l. f _
 
-all_each_of : {X : Type 0} (P : X → Type 0) (xs : List X) → All P xs → Each P xs
-all_each_of P [] h = tt
-all_each_of P (x ∷ xs) h = (All-head P x xs h, all_each_of P xs (All-tail P x xs h))
-
 byte_of_all : (P : ℕ → Type 0) (xs : List ℕ) (i b : ℕ) → All P xs → slice_get xs i ≡ Some b → P b
 byte_of_all P [] i b h e = cc
 byte_of_all P (x ∷ xs) zero b h e = let same : x ≡ b = cc in subst P same (All-head P x xs h)
 byte_of_all P (x ∷ xs) (suc i) b h e = byte_of_all P xs i b (All-tail P x xs h) e
 
-then_it : {X : Type 0} (c : Bool) (o : Option X) (x : X) → (if c then o else None) ≡ Some x → (c ≡ true) × (o ≡ Some x)
+pub then_it : {X : Type 0} (c : Bool) (o : Option X) (x : X) → (if c then o else None) ≡ Some x → (c ≡ true) × (o ≡ Some x)
 then_it true o x h = (refl, h)
 then_it false o x h = cc
 
@@ -89,7 +85,7 @@ holds_first image rest unit h = record {
 -- Answers at a unit. ----
 
 -- the unit before the last event
-seen_last : (start : UnitMemory) (unit : UnitPlace) (history : List HistoryEvent) (event : HistoryEvent) (xs : List HistoryEvent)
+pub seen_last : (start : UnitMemory) (unit : UnitPlace) (history : List HistoryEvent) (event : HistoryEvent) (xs : List HistoryEvent)
     (m : UnitMemory) → MayBe unit start xs m → xs ≡ history ++ event ∷ []
     → (k : UnitMemory) × ((n : UnitMemory) × (MayBe unit start history k × (seen unit k event ≡ Some n)))
 seen_last start unit history event xs m starts h = absurd (no_snoc history event (sym h))
@@ -124,10 +120,6 @@ from_lets image rest history unit number answer h =
           (then_some (may_answer_load unit number answer.now h.0.loads) (without_load number h.0) may),
     )
 
-or_right_true : (a b : Bool) → b ≡ true → (a || b) ≡ true
-or_right_true true b h = refl
-or_right_true false b h = h
-
 got_some : (unit : UnitPlace) (address : ℕ) (bytes : List ℕ) (g : Option Word) → is_got unit address bytes g ≡ true
     → (w : Word) × (g ≡ Some w) × (is_word_of unit.first w address bytes ≡ true)
 got_some unit address bytes None h = cc
@@ -152,7 +144,7 @@ same_lets unit number a bs cs same l at lanes h = elim (cases_Bool _) [
   | inr f ↦ rw f refl
   | inl t ↦
       let got : is_got unit l.address bs l.got ≡ true = (rw t at h) in
-      or_right_true _ _ (other l.got lanes (rw (at t) at got) (at t))
+      or_right _ _ (other l.got lanes (rw (at t) at got) (at t))
 ]
   where
     other : (g : Option Word) → HasGot (IsOf unit) g → is_got unit a bs g ≡ true → l.address ≡ a → is_got unit l.address cs g ≡ true
@@ -172,7 +164,7 @@ same_for size k address bs cs same j l = elim (cases_lt _ address) [
       rw (le-leb address (k * size + j) above) e
 ]
 
-byte_inside : (a : ℕ) (bs : List ℕ) (i : ℕ) → byte_for a bs (a + i) ≡ slice_get bs i
+pub byte_inside : (a : ℕ) (bs : List ℕ) (i : ℕ) → byte_for a bs (a + i) ≡ slice_get bs i
 byte_inside a bs i = grind arith
 
 -- a byte that answers for an address is one of the answer's
@@ -221,7 +213,7 @@ module _ (lost : List ℕ) (image : List ℕ) (rest : Rest) (size : ℕ) (histor
   holds_at k m r =
       holds _ _ _ (holds_first image rest (unit k) law.first_bytes) r
       (each_weaker StoresBytes (Writes (IsOf (unit k)) (unit k)) (writes_bytes (unit k)) history
-      (all_each_of StoresBytes history law.stored_bytes))
+      (each_from_all StoresBytes history law.stored_bytes))
 
   addresses : (k : ℕ) (m : UnitMemory) → Comes k m → Each (λ l. is_load number l ≡ true → l.address ≡ o.address) m.loads
   addresses k m r = has_address _ number m _ (linked image rest (unit k) r) distinct o found
@@ -480,7 +472,7 @@ module _ (lost : List ℕ) (image : List ℕ) (rest : Rest) (size : ℕ) (histor
           lane_word _ (chosen k).0 o.address answer (λ j. stands k j _ refl) in
           let there =
           ap (is_got (unit k) l.address answer) (got t) ∙ (cc (at t, word)) in
-          or_right_true _ _ there
+          or_right _ _ there
     ]
 
     given_at : (k : ℕ) → is_lost k lost ≡ false → IsAtomicAt image rest (unit k) (more given)

@@ -1,5 +1,5 @@
 -- Where stretches went.
-use Rattle.std.proofs.Common.{◌≡◌, ℕ, zero, suc, ◌+◌, ◌<◌, ◌≤◌, Bool, true, List, [], ◌∷◌, ◌++◌, length, get_or}
+use Rattle.std.proofs.Common.{◌≡◌, ℕ, ◌+◌, ◌<◌, ◌≤◌, Bool, true, List, [], ◌∷◌, ◌++◌, length, get_or}
 use Rattle.std.proofs.Common.{take, drop, length-append, refl, subst, sym, ap, ◌∙◌, add-one, take-suc, arith, inl, inr}
 use Rattle.std.proofs.lemmas.List.{get_or_append_left, get_or_past}
 use Rattle.std.proofs.lemmas.Bool.{cases_order, cases_lt}
@@ -123,11 +123,6 @@ below_used used end (Behind k) l u = elim (cases_lt k end) [
 pub stays_used : (old new : List Bool) (b : Before) → StayUsed old new → is_used old b ≡ true → is_used new b ≡ true
 stays_used old new Nothing s u = refl
 stays_used old new (Behind k) s u = s k u
-
-pub same_at : {X : Type 0} (xs : List X) (k : ℕ) (d e : X) → k < length xs → get_or xs k d ≡ get_or xs k e
-same_at [] k d e h = absurd (omega (arith, h))
-same_at (x ∷ xs) zero d e h = refl
-same_at (x ∷ xs) (suc k) d e h = same_at xs k d e (omega (arith, h))
 
 pub pairs_stay : (old new : List Bool) (ps : List FollowedPair) → StayUsed old new → Each (λ p. is_used old p.past ≡ true) ps
     → Each (λ p. is_used new p.past ≡ true) ps

@@ -122,10 +122,6 @@ put_shown h event f d (suc n) from (u ∷ us) e k =
           rw none (cc (r, more))
     ]
 
-length_from : (h : Held) (event : HistoryEvent) (k n : ℕ) → length (ways_from h event k n) ≡ n
-length_from h event k zero = refl
-length_from h event k (suc n) = ap suc (length_from h event (k + 1) n)
-
 -- there are numbers for so many units
 pub numbers_fit : (from count size : ℕ) → (from + count) * size ≤ 18446744073709551616 → 1 ≤ size → from + count ≤ 18446744073709551616
 numbers_fit from count size h pos = grind arith

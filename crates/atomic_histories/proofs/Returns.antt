@@ -3,7 +3,7 @@ use Rattle.std.proofs.Common.{◌≡◌, ℕ, zero, suc, ◌+◌, ◌/◌, ◌<�
 use Rattle.std.proofs.Common.{◌∷◌, ◌++◌, map, filter, length, Option, Some, None, Result, Ok, Err, IfOk, slice_get, inl, inr, refl, sym, ap}
 use Rattle.std.proofs.Common.{◌∙◌, subst, arith}
 use Rattle.std.specs.List.{list_any, find}
-use Rattle.std.proofs.lemmas.Bool.{cases_Bool, and_parts, and_from, or_cases}
+use Rattle.std.proofs.lemmas.Bool.{cases_Bool, and_parts, and_from, or_cases, or_right, or_left}
 use Rattle.std.proofs.lemmas.List.Folds.{list_any-append}
 use Rattle.memory_histories.specs.declared.events.HistoryEvent.{HistoryEvent}
 use Rattle.memory_histories.specs.declared.events.Rest.{Rest}
@@ -25,7 +25,8 @@ use Rattle.atomic_histories.specs.May.{reached, shows_byte, is_shown, IsSet, may
 use Rattle.atomic_histories.proofs.Lists.{one_weaker, one_none, one_or, one_elim, each_both}
 use Rattle.atomic_histories.proofs.Alone.{IsAlone, found_each}
 use Rattle.atomic_histories.proofs.Answered.{find_watched}
-use Rattle.atomic_histories.proofs.Exact.{SoundOn}
+use Rattle.atomic_histories.proofs.Exact.{SoundOn, not_yet, watched_not_yet}
+use Rattle.atomic_histories.proofs.Answering.{any_found}
 use Rattle.atomic_histories.proofs.Found.{leads_split, sound_joint, sound_kept, next_sound, next_finds, one_taken, undone, one_rounds}
 use Rattle.atomic_histories.proofs.Found.{LeadsWithin}
 use Rattle.atomic_histories.proofs.Links.{fit_by, found_fit, inside_end}
@@ -33,14 +34,6 @@ use Rattle.atomic_histories.proofs.Whole.{alone_under}
 
 abbrev Word : Type 0
 Word = List (Option ℕ)
-
-or_left_true : (a b : Bool) → a ≡ true → (a || b) ≡ true
-or_left_true true b h = refl
-or_left_true false b h = cc
-
-or_right_true : (a b : Bool) → b ≡ true → (a || b) ≡ true
-or_right_true true b h = refl
-or_right_true false b h = h
 
 -- One way. ----
 
@@ -51,26 +44,12 @@ shows_load number k b e l =
 
 -- What is shown may be got. ----
 
-abbrev not_yet : Watched → OpenLoad
-not_yet l = record { number = l.number; address = l.address; got = None }
-
-watched_not_yet : (w : Word) (ls : List Watched) → AreWatched w ls (map not_yet ls)
-watched_not_yet w [] = tt
-watched_not_yet w (l ∷ ls) = ((refl, refl, tt), watched_not_yet w ls)
-
-past_word : (p : Word → Bool) (xs : List Word) → list_any p xs ≡ true → (v : Word) × (p v ≡ true) × One (λ y. v ≡ y) xs
-past_word p [] h = cc
-past_word p (x ∷ xs) h = elim (cases_Bool (p x)) [
-  | inl t ↦ (x, t, inl refl)
-  | inr f ↦ let r = past_word p xs (rw f at h) in (r.0, r.1, inr r.2)
-]
-
 shown_word : (k b : ℕ) (e : Branch) (l : Watched)
     → (may_show (lane_of k e.word) b || list_any (λ w. may_show (lane_of k w) b) l.words) ≡ true
     → (v : Word) × (may_show (lane_of k v) b ≡ true) × MayHaveGot e.word l.words (Some v)
 shown_word k b e l h = elim (cases_Bool _) [
   | inl t ↦ (e.word, t, inl refl)
-  | inr f ↦ let r = past_word (λ w. may_show _ b) l.words (rw f at h) in (r.0, r.1, inr r.2)
+  | inr f ↦ let r = any_found (λ w. may_show _ b) l.words (rw f at h) in (r.0, r.1, inr r.2)
 ]
 
 with_got : (number k b : ℕ) (e : Branch) (ls : List Watched) → list_any (shows_load number k b e) ls ≡ true
@@ -85,12 +64,12 @@ with_got number k b e (l ∷ ls) h = elim (cases_Bool _) [
       let got : got_byte number k b m ≡ true = and_from _ _ p.0 v.1 in (
         m ∷ map not_yet ls,
         ((refl, refl, v.2), watched_not_yet e.word ls),
-        or_left_true _
+        or_left _
             _ got,
       )
   | inr f ↦
       let r = with_got number k b e ls (rw f at h) in
-      (not_yet l ∷ r.0, (first, r.1), or_right_true _ _ r.2)
+      (not_yet l ∷ r.0, (first, r.1), or_right _ _ r.2)
 ]
   where
     first : IsWatched e.word l (not_yet l)
@@ -105,17 +84,17 @@ shown_got number k b P e s h =
 
 past_shown : (p : Word → Bool) (v : Word) (xs : List Word) → p v ≡ true → One (λ y. v ≡ y) xs → list_any p xs ≡ true
 past_shown p v [] t h = absurd h
-past_shown p v (x ∷ xs) t (inl e) = or_left_true (p x) _ (ap p (sym e) ∙ t)
-past_shown p v (x ∷ xs) t (inr h) = or_right_true (p x) _ (past_shown p v xs t h)
+past_shown p v (x ∷ xs) t (inl e) = or_left (p x) _ (ap p (sym e) ∙ t)
+past_shown p v (x ∷ xs) t (inr h) = or_right (p x) _ (past_shown p v xs t h)
 
 got_shown : (k b : ℕ) (e : Branch) (l : Watched) (g : Option Word) → has_got k b g ≡ true → MayHaveGot e.word l.words g
     → (may_show (lane_of k e.word) b || list_any (λ w. may_show (lane_of k w) b) l.words) ≡ true
 got_shown k b e l None t h = cc
 got_shown k b e l (Some v) t (inl same) =
-    or_left_true _ (list_any (λ w. may_show _ b) l.words)
+    or_left _ (list_any (λ w. may_show _ b) l.words)
     (cc (same, t))
 got_shown k b e l (Some v) t (inr past) =
-    or_right_true _ (list_any (λ w. may_show _ b) l.words)
+    or_right _ (list_any (λ w. may_show _ b) l.words)
     (past_shown (λ w. may_show _ b) v l.words t past)
 
 loads_show : (number k b : ℕ) (e : Branch) (ls : List Watched) (ms : List OpenLoad) → AreWatched e.word ls ms
@@ -128,11 +107,11 @@ loads_show number k b e (l ∷ ls) (m ∷ ms) a h = elim (cases_Bool _) [
   | inl t ↦
       let p = and_parts _ _ t in
       let there = ap (λ i. i == number) a.0.0 ∙ p.0 in
-      or_left_true _ _
+      or_left _ _
       (and_from _
       (may_show _ b || list_any (λ w. may_show _ b) l.words) there
       (got_shown k b e l m.got p.1 a.0.2))
-  | inr f ↦ or_right_true _ _
+  | inr f ↦ or_right _ _
       (loads_show number k b e ls ms a.1 (rw f at h))
 ]
 
@@ -145,7 +124,7 @@ past_shows is since (after w t p) h = elim (or_cases _ _ h) [
   | inl y ↦
       let q = and_parts (nat_le since t) (is w) y in
       let r = some_way p in
-      (stood w t ∷ r.0, (r.0, refl, r.1), rw q.0 (or_left_true (is w) (list_any is (seen_since since r.0)) q.1))
+      (stood w t ∷ r.0, (r.0, refl, r.1), rw q.0 (or_left (is w) (list_any is (seen_since since r.0)) q.1))
   | inr n ↦ let r = past_shows is since p n in (stood w t ∷ r.0, (r.0, refl, r.1), more r.0 r.2)
 ]
   where
@@ -156,7 +135,7 @@ past_shows is since (after w t p) h = elim (or_cases _ _ h) [
 
     more : (path : List Stood) → list_any is (seen_since since path) ≡ true → list_any is (seen_since since (stood w t ∷ path)) ≡ true
     more path y = elim (cases_Bool (nat_le since t)) [
-      | inl s ↦ rw s (or_right_true (is w) (list_any is (seen_since since path)) y)
+      | inl s ↦ rw s (or_right (is w) (list_any is (seen_since since path)) y)
       | inr s ↦ rw s y
     ]
 past_shows is since (either p q) h = elim (or_cases (shows is since p) (shows is since q) h) [
@@ -172,13 +151,13 @@ shows_past is since (after w t p) path has h =
     let there = ap (λ q. list_any is (seen_since since q)) (sym has.1) ∙ h in
     elim (cases_Bool (nat_le since t)) [
       | inl s ↦ elim (or_cases (is w) _ (rw s at there)) [
-        | inl y ↦ rw s (or_left_true (is w) (shows is since p) y)
-        | inr y ↦ or_right_true _ _ (shows_past is since p has.0 has.2 y)
+        | inl y ↦ rw s (or_left (is w) (shows is since p) y)
+        | inr y ↦ or_right _ _ (shows_past is since p has.0 has.2 y)
       ]
-      | inr s ↦ or_right_true _ _ (shows_past is since p has.0 has.2 (rw s at there))
+      | inr s ↦ or_right _ _ (shows_past is since p has.0 has.2 (rw s at there))
     ]
-shows_past is since (either p q) path (inl has) h = or_left_true _ _ (shows_past is since p path has h)
-shows_past is since (either p q) path (inr has) h = or_right_true _ _ (shows_past is since q path has h)
+shows_past is since (either p q) path (inl has) h = or_left _ _ (shows_past is since p path has h)
+shows_past is since (either p q) path (inr has) h = or_right _ _ (shows_past is since q path has h)
 
 found_any : (p : Watched → Bool) (ls : List Watched) (l : Watched) → (q : Watched → Bool) → find q ls ≡ Some l → p l ≡ true
     → list_any p ls ≡ true
@@ -187,8 +166,8 @@ found_any p (x ∷ xs) l q f h = elim (cases_Bool (q x)) [
   | inl t ↦
       let e : Some x ≡ Some l = rw t at f in
       let is : x ≡ l = cc in
-      or_left_true (p x) _ (ap p is ∙ h)
-  | inr n ↦ or_right_true (p x) _ (found_any p xs l q (rw n at f) h)
+      or_left (p x) _ (ap p is ∙ h)
+  | inr n ↦ or_right (p x) _ (found_any p xs l q (rw n at f) h)
 ]
 
 found_is : (q : WatchedLoad → Bool) (ls : List WatchedLoad) (l : WatchedLoad) → find q ls ≡ Some l → q l ≡ true
@@ -220,7 +199,7 @@ module _ (loads : List WatchedLoad) (moment : ℕ) (asked : Each (IsAsked moment
           found_any _ _ _ (is_watched number)
               (find_watched number r.0 loads l open_)
               (and_from (is_watched number (watched r.0 l)) _ (found_is (is_under number) loads l open_)
-              (or_left_true (is e.word) (list_any is (seen_since l.since r.0)) y)),
+              (or_left (is e.word) (list_any is (seen_since l.since r.0)) y)),
         )
     | inr y ↦
         let r = past_shows is l.since e.past y in (
@@ -229,7 +208,7 @@ module _ (loads : List WatchedLoad) (moment : ℕ) (asked : Each (IsAsked moment
           found_any (shows_load number k b (way_on loads e r.0)) (map (watched r.0) loads) (watched r.0 l) (is_watched number)
               (find_watched number r.0 loads l open_)
               (and_from (is_watched number (watched r.0 l)) _ (found_is (is_under number) loads l open_)
-              (or_right_true (is e.word) (list_any is (seen_since l.since r.0)) r.2)),
+              (or_right (is e.word) (list_any is (seen_since l.since r.0)) r.2)),
         )
   ]
     where
@@ -282,8 +261,8 @@ module _ (loads : List WatchedLoad) (moment : ℕ) (asked : Each (IsAsked moment
               let there =
               ap (λ y. is e.word || list_any is (seen_since y.since path)) (sym same) ∙ p.1 in
               elim (or_cases _ (list_any is (seen_since l.since path)) there) [
-                | inl y ↦ or_left_true (is e.word) (shows is l.since e.past) y
-                | inr y ↦ or_right_true (is e.word) (shows is l.since e.past) (shows_past is l.since e.past path has y)
+                | inl y ↦ or_left (is e.word) (shows is l.since e.past) y
+                | inr y ↦ or_right (is e.word) (shows is l.since e.past) (shows_past is l.since e.past path has y)
               ]
         ]
 
@@ -302,8 +281,8 @@ module _ (loads : List WatchedLoad) (moment : ℕ) (asked : Each (IsAsked moment
 
       one_any : (es : List Pair) → One (λ e. shown e ≡ true) es → list_any shown es ≡ true
       one_any [] h = absurd h
-      one_any (e ∷ es) (inl t) = or_left_true _ _ t
-      one_any (e ∷ es) (inr h) = or_right_true _ _ (one_any es h)
+      one_any (e ∷ es) (inl t) = or_left _ _ t
+      one_any (e ∷ es) (inr h) = or_right _ _ (one_any es h)
 
       none_there : (e : Pair) → There zero e → ⊥
       none_there e w = grind arith
@@ -325,7 +304,7 @@ module _ (loads : List WatchedLoad) (moment : ℕ) (asked : Each (IsAsked moment
       comes_there : (n : ℕ) (es : List Pair) → One (There (suc n)) es
           → (list_any shown es || list_any shown (reached_in loads moment n es)) ≡ true
       comes_there zero es h =
-          or_left_true _ false
+          or_left _ false
           (one_any es (one_weaker _ (λ e. shown e ≡ true)
           (λ e w. elim (keep_there zero e w) [
             | inl t ↦ t
@@ -341,11 +320,11 @@ module _ (loads : List WatchedLoad) (moment : ℕ) (asked : Each (IsAsked moment
             | inr o ↦ inr (refl, all_hope _ _ o)
           ]) es h in
           elim (one_or (λ e. shown e ≡ true) More es either) [
-            | inl a ↦ or_left_true _ _ (one_any es a)
+            | inl a ↦ or_left _ _ (one_any es a)
             | inr a ↦
                 let rest = comes_there n next (next_finds loads moment asked (There (suc n))
                 (one_taken loads (LeadsWithin loads moment asked m (suc n))) never [] es a) in
-                or_right_true _ _
+                or_right _ _
                 (list_any-append shown next _ ∙ rest)
           ]
 

@@ -3,6 +3,7 @@ use Rattle.std.proofs.Common.{◌≡◌, ℕ, zero, suc, ◌<◌, Bool, true, fa
 use Rattle.std.proofs.Common.{None, inl, inr, refl, sym, ap, ◌∙◌}
 use Rattle.std.specs.List.{list_any}
 use Rattle.std.proofs.lemmas.Bool.{cases_Bool, lt-ltb}
+use Rattle.std.proofs.Math.Bool.{or-false, or_comm, or-true}
 use Rattle.memory_histories.specs.declared.sets.ByteSet.{ByteSet}
 use Rattle.memory_histories.specs.Sets.{has, no_bytes}
 use Rattle.memory_histories.proofs.ByteSets.{has-with_byte, has-union, has-no_bytes, has-all_bytes}
@@ -16,27 +17,13 @@ use Rattle.atomic_histories.specs.May.{lane_of, may_show, shows_byte, IsSet}
 use Rattle.atomic_histories.specs.MaySets.{with_lane, set_of, stretch_set, stretch_sets, with_pair_bytes, with_pairs_bytes}
 use Rattle.atomic_histories.specs.Shown.{past_at, past_of, pasts, shown, shown_all}
 
-or_true : (a : Bool) → (a || true) ≡ true
-or_true true = refl
-or_true false = refl
-
-or_none : (a : Bool) → (a || false) ≡ a
-or_none true = refl
-or_none false = refl
-
-or_swap : (a b : Bool) → (a || b) ≡ (b || a)
-or_swap true true = refl
-or_swap true false = refl
-or_swap false true = refl
-or_swap false false = refl
-
 or_assoc : (a b c : Bool) → ((a || b) || c) ≡ (a || (b || c))
 or_assoc true b c = refl
 or_assoc false b c = refl
 
 has_lane : (set : ByteSet) (x : Option ℕ) (b : ℕ) → b < 256 → has (with_lane set x) b ≡ (has set b || may_show x b)
 has_lane set (Some c) b l = has-with_byte set c b
-has_lane set None b l = has-all_bytes b ∙ (lt-ltb b 256 l ∙ sym (or_true (has set b)))
+has_lane set None b l = has-all_bytes b ∙ (lt-ltb b 256 l ∙ sym (or-true (has set b)))
 
 module _ (since k b : ℕ) (l : b < 256) where
   abbrev is : List (Option ℕ) → Bool
@@ -72,7 +59,7 @@ module _ (since k b : ℕ) (l : b < 256) where
       → has (stretch_set since k sets s) b ≡ shows is since (past_of ps s)
   one_agrees sets ps a (Overwritten word moment before) = elim (cases_Bool (nat_le since moment)) [
     | inl t ↦ rw t (has_lane _ _ b l
-        ∙ (cc (agree_of sets ps a before, or_swap _ (is word))))
+        ∙ (cc (agree_of sets ps a before, or_comm _ (is word))))
     | inr f ↦ rw f (agree_of sets ps a before)
   ]
   one_agrees sets ps a (Either one other) =
@@ -96,12 +83,12 @@ module _ (since k b : ℕ) (l : b < 256) where
       has_lane _ _ b l
       ∙ (cc (
         has-union set _ b ∙ ap (λ x. has set b || x) (agree_of (stretch_sets since k ss) (pasts ss) (sets_agree ss) p.past),
-        (or_assoc _ before _ ∙ ap (λ x. has set b || x) (or_swap before (is p.word))),
+        (or_assoc _ before _ ∙ ap (λ x. has set b || x) (or_comm before (is p.word))),
       ))
 
   pairs_bytes : (ss : List Stretch) (set : ByteSet) (ps : List FollowedPair)
       → has (with_pairs_bytes k (stretch_sets since k ss) set ps) b ≡ (has set b || list_any (shows_byte since k b) (shown_all ss ps))
-  pairs_bytes ss set [] = sym (or_none (has set b))
+  pairs_bytes ss set [] = sym (or-false (has set b))
   pairs_bytes ss set (p ∷ ps) =
       pairs_bytes ss (with_pair_bytes k (stretch_sets since k ss) set p) ps
       ∙ (cc (pair_bytes ss set p, or_assoc _ (shows_byte since k b (shown ss p)) (list_any (shows_byte since k b) (shown_all ss ps))))

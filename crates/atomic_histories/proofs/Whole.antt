@@ -1,9 +1,9 @@
 -- All units together: what is kept after an event is of the history with it, and an event is refused exactly if it is none of the law.
-use Rattle.std.proofs.Common.{◌≡◌, ℕ, zero, suc, ◌+◌, ◌/◌, ◌<◌, ◌≤◌, Bool, true, false, ◌||◌, not, ◌==◌, if◌then◌else◌}
+use Rattle.std.proofs.Common.{◌≡◌, ℕ, zero, suc, ◌+◌, ◌/◌, ◌<◌, ◌≤◌, Bool, true, false, not, ◌==◌, if◌then◌else◌}
 use Rattle.std.proofs.Common.{List, [], ◌∷◌, ◌++◌, map, fold, Option, Some, None, is_some, Result, Ok, Err, OnOk}
 use Rattle.std.proofs.Common.{inl, inr, refl, sym, ap, ◌∙◌, subst, append_assoc, append-nil, arith}
 use Rattle.std.specs.List.{list_any, list_all, find}
-use Rattle.std.proofs.lemmas.Bool.{cases_Bool, cases_lt, and_parts, and_from, or_parts}
+use Rattle.std.proofs.lemmas.Bool.{cases_Bool, cases_lt, and_parts, and_from, or_parts, or_right}
 use Rattle.std.proofs.lemmas.List.Folds.{list_all-append}
 use Rattle.memory_histories.specs.declared.events.HistoryEvent.{HistoryEvent}
 use Rattle.memory_histories.specs.declared.events.HistoryEvent.TheVariants.{LoadRequest, LoadResponse, StoreRequest, StoreResponse}
@@ -27,7 +27,7 @@ use Rattle.atomic_histories.specs.Lost.{IsAtomicBut}
 use Rattle.atomic_histories.specs.Judge.{IsTaken, IsForgotten}
 use Rattle.atomic_histories.proofs.Alone.{IsAlone, alone}
 use Rattle.atomic_histories.proofs.Exact.{IsAloneFor, stands_first, stands_after, stands_passed, some_state}
-use Rattle.atomic_histories.proofs.Links.{fit_by, linked, open_load, opened_more, passes}
+use Rattle.atomic_histories.proofs.Links.{fit_by, linked, open_load, opened_more, passes, then_some}
 
 -- Ways that are left. ----
 
@@ -133,25 +133,17 @@ finish P closed loads before (s ∷ after) w d p = elim (cases_Bool s.is_done) [
       (rw (sym (append_assoc before (done_store s ∷ []) after)) at q)
 ]
 
-or_true_right : (a b : Bool) → b ≡ true → (a || b) ≡ true
-or_true_right true b h = refl
-or_true_right false b h = h
-
 done_answer : (number : ℕ) (ss : List OpenStore) → all_done ss ≡ true → may_answer_store number ss ≡ true
 unfolding all_done
 done_answer number [] h = refl
 done_answer number (s ∷ ss) h =
     let p = and_parts s.is_done (list_all (λ x. x.is_done) ss) h in
-    and_from _ _ (or_true_right (not (is_store number s)) s.is_done p.0)
+    and_from _ _ (or_right (not (is_store number s)) s.is_done p.0)
     (done_answer number ss p.1)
 
 none_done : all_done [] ≡ true
 unfolding all_done
 none_done = refl
-
-pub then_some : {X : Type 0} (b : Bool) (x : X) → b ≡ true → (if b then Some x else None) ≡ Some x
-then_some true x h = refl
-then_some false x h = cc
 
 store_answered : (start : UnitMemory) (unit : UnitPlace) (history : List HistoryEvent) (number : ℕ)
     → (m : UnitMemory) × MayBe unit start history m → (n : UnitMemory) × MayBe unit start (history ++ StoreResponse number ∷ []) n

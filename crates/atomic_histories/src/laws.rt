@@ -30,15 +30,16 @@ pub fn units_choose_alone()
     ensures { (lost : List ℕ) (image : List ℕ) (rest : Rest) (size : ℕ) (history : List HistoryEvent) (number : ℕ) → UnitsChooseAlone lost image rest size history number }
 {}
 
-/// [`Undecided`](crate::AtomicFault::Undecided) says something of the history, whoever judges it. If
-/// [`step`](crate::AtomicMemory::step) answers so, then the unit may be in more states than the limit, each with another
-/// word or with other stores in effect, before the event that wasn't taken; or more words are kept there than
+/// If [`step`](crate::AtomicMemory::step) answers [`Undecided`](crate::AtomicFault::Undecided), then the unit may be in
+/// more states than the limit before the event that wasn't taken, each with another word or with other stores in effect:
+/// that is so whoever judges the history. Or this judge keeps more words of what stood there before than
 /// [`MOST_WORDS`](crate::MOST_WORDS).
 pub fn undecided_is_much()
     ensures { (limit : ℕ) (h : Held) (lost : List ℕ) (history : List HistoryEvent) (event : HistoryEvent) (address : ℕ) → UndecidedIsMuch limit h lost history event address }
 {}
 
-/// So it does where there are no sets of what a load [`may_return`](crate::AtomicMemory::may_return).
+/// The same where [`may_return`](crate::AtomicMemory::may_return) answers `Undecided`: so it is at a unit in which one of the
+/// load's bytes lies.
 pub fn no_sets_are_much()
     ensures { (limit : ℕ) (h : Held) (lost : List ℕ) (history : List HistoryEvent) (a n address : ℕ) → NoSetsAreMuch limit h lost history a n address }
 {}

@@ -1,6 +1,6 @@
 //! The judge of the atomic law.
 
-ghost use Rattle.std.specs.Prelude.{◌≡◌, ◌+◌, ◌*◌, ◌/◌, ◌^◌, ◌<◌, ◌≤◌, List, ◌++◌, ◌∷◌, [], ℕ, false, map, length, None, IfOk, IfErr, IfSome, IfNone, OnOk, OnErr};
+ghost use Rattle.std.specs.Prelude.{◌≡◌, ◌+◌, ◌*◌, ◌/◌, ◌^◌, ◌<◌, ◌≤◌, List, ◌++◌, ◌∷◌, [], ℕ, true, false, map, length, None, IfOk, IfErr, IfSome, IfNone, OnOk, OnErr};
 ghost use Rattle.std.specs.HashMap.{spare};
 ghost use Rattle.std.specs.Vec.{vec_len, vec_capacity};
 ghost use Rattle.std.specs.List.{find};
@@ -173,7 +173,8 @@ impl AtomicMemory {
     }
 
     /// What [`step`](AtomicMemory::step) would answer, with nothing changed: `None` if it would take the
-    /// event.
+    /// event. `OutOfMemory` says that there was too little memory to tell; `step` may need less, since it takes
+    /// many an event with no search.
     pub fn fault(&self, event: HistoryEvent) -> Option<AtomicFault>
         ensures none { (history : List HistoryEvent) → StandsForAll (held self.now) history → IfNone result (IsAtomic (held self.now).image (held self.now).rest (held self.now).size (history ++ event.entry ∷ [])) }
         ensures some { (history : List HistoryEvent) → StandsForAll (held self.now) history → IfSome result (StepFaultIs (limit_of self.now) (held self.now) history event.entry) }
@@ -203,11 +204,12 @@ impl AtomicMemory {
     }
 
     /// The same of one byte: what the load that is open under this number may return for the byte at an
-    /// address if it ended now, or `None` if no such load asks for that byte. `Undecided` and `OutOfMemory`
-    /// are as there, and `Refused` never comes.
+    /// address if it ended now, or `None` if no such load asks for that byte, however its unit stands. `Undecided`
+    /// and `OutOfMemory` are as there, of a byte that the load asks for, and `Refused` never comes.
     pub fn byte_may_return(&self, number: u64, address: u64) -> Result<Option<ByteSet>, AtomicFault>
         ensures ok { (lost : List ℕ) → (history : List HistoryEvent) → StandsBut (held self.now) lost history → IfOk result (IsSetOf lost (held self.now).image (held self.now).rest (held self.now).size history number address) }
         ensures fault { IfErr result (IsNoVerdict (IsWideByte (limit_of self.now) (held self.now) address)) }
+        ensures asked { OnErr result (asks (find (has_number number) (held self.now).opened.loads) address ≡ true) }
     {
         self.kept_byte(number, address)
     }
@@ -215,6 +217,7 @@ impl AtomicMemory {
     fn kept_byte(&self, number: u64, address: u64) -> Result<Option<ByteSet>, AtomicFault>
         ensures ok { IfOk result (IsByteOf (held self.now) number address) }
         ensures fault { IfErr result (IsNoVerdict (IsWideByte (limit_of self.now) (held self.now) address)) }
+        ensures asked { OnErr result (asks (find (has_number number) (held self.now).opened.loads) address ≡ true) }
     {
         if !asks(open_under(self.loads.as_slice(), number), address) {
             return Ok(None);

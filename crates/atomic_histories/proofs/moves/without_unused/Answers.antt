@@ -2,7 +2,8 @@ use Rattle.std.proofs.Common.{◌≡◌, ◌<◌, ◌++◌, ◌∷◌, [], true,
 use Rattle.atomic_histories.specs.declared.stretches.Before.TheVariants.{Nothing}
 use Rattle.atomic_histories.specs.declared.stretches.Stretch.TheVariants.{Overwritten}
 use Rattle.atomic_histories.specs.Shares.{is_used}
-use Rattle.atomic_histories.proofs.Moving.{moved_more, moved_all, kept_law, same_at, pairs_moved}
+use Rattle.atomic_histories.proofs.Moving.{moved_more, moved_all, kept_law, pairs_moved}
+use Rattle.atomic_histories.proofs.Loops.{same_default}
 use Rattle.atomic_histories.proofs.moves.without_unused.Goals as goal
 
 pub loop-place-preserved : goal.loop-place-preserved
@@ -17,11 +18,11 @@ loop-place-preserved c =
     let here = c.loop-place-test.true in
     let flag = c.index.result.now in
     let within : i < length used = omega (arith, here, c.in_ok-used.ensures.count) in
-    let stands = same_at ss i none s here in
+    let stands = same_default ss i none s here in
     moved_more (is_used used) (λ p. p) i ss s old (record { stretches = c.keep.new.self.stretches; places = c.push.new.self })
     c.in_ok-moved_to.moved_to here stands refl c.loop-place.invariant went.grows
     (c.in_ok-push.ensures.items ∙ ap (λ xs. xs ++ c.in_ok-moved_to.moved_to ∷ []) went.places) went.is_in
-    (λ u. went.past (c.index.ensures ∙ same_at used i flag true within ∙ u)
+    (λ u. went.past (c.index.ensures ∙ same_default used i flag true within ∙ u)
     ∙ kept_law used i ss s old (omega (arith, here)) c.loop-place.invariant (c.in_ok-used.ensures.closed i s (omega arith) here u stands))
 
 pub returns-clause-same : goal.returns-clause-same
