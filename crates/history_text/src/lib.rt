@@ -2,7 +2,7 @@
 //!
 //! A line of a history is an event, as `load-request 7 0x1000 4`, and [`read_history_line`] reads one.
 //! [`judge_history`] reads a whole history, has each event judged by a [`HistoryJudge`], and says what
-//! became of it: a [`HistoryEnd`], whose text and status a [`HistoryVerdict`] has.
+//! became of it: a [`HistoryEnd`], which has a program's status, and whose text under a law is a [`HistoryVerdict`].
 #![tactic(auto)]
 
 mod answers;
