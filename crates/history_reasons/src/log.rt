@@ -92,16 +92,18 @@ impl StoreLog {
     {
         self.note_bytes(event);
         self.forget();
-        self.count();
+        self.count()
     }
 
     /// A moment passes without an event: it is counted. So a log may number its moments by the lines of a text, of
     /// which some are no events.
+    #[tactic(auto, using(crate::proofs::Logs::idled, crate::proofs::OpenLemmas::same_open))]
     pub fn pass(&mut self)
-        ensures { (w : Windows)
+        ensures counted { (w : Windows)
             → w.moment < 18446744073709551615
             → IsLogOf self.old w
             → IsLogOf self.new (idle w) }
+        ensures open { HasSameOpen self.old self.new }
     {
         self.count();
     }
