@@ -20,7 +20,7 @@ use trace_text::{
 /// How many words of memory a log's pages are mapped to at most.
 pub const MAX_WORDS: u32 = flat_model::MAX_WORDS;
 
-/// Lines of a log: as many as a line's number can count.
+/// How many lines a log has at most: as many as a line's number can count.
 pub const MOST_LOG_LINES: u64 = u64::MAX;
 
 // The writing of a log's requests.
@@ -165,8 +165,8 @@ fn write_through<R: Source, W: Sink, F: LogFormat>(
 /// have room in it whole.
 ///
 /// [`LogFault::Trace`] names the first line with a fault, as [`LogFormat::access_said`] finds it, or says
-/// that the reader or the writer failed, or that line 16,777,217 begins. A line is too long if it has
-/// more than 768 bytes before its LF. [`LogFault::NoRoom`] names the first line that touches a page for
+/// that the reader or the writer failed, or that a line begins behind [`MOST_LOG_LINES`]. A line is too
+/// long if it has more than 768 bytes before its LF. [`LogFault::NoRoom`] names the first line that touches a page for
 /// which there is no room; nothing is written of it. Whatever the fault, the requests of all lines before
 /// are written, and flushed unless a write or a flush was refused. `OutOfMemory` comes before anything is
 /// read or written. An error isn't tried again.

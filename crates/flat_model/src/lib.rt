@@ -302,7 +302,8 @@ pub enum ShapeField {
     Regs,
     /// Places of the input stack: 1 to 16 as a const argument, 1 to 64 at run time.
     Depth,
-    /// Words of memory: 1 to 1,048,576, and a multiple of the words of a block.
+    /// Words of memory, a multiple of the words of a block: 1 to 1,048,576, and 1 to 4,294,967,295 of a machine whose
+    /// numbers are all given at run time.
     Words,
     /// Sets of the cache: 1 to 1024.
     Sets,

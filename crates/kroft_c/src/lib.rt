@@ -1,9 +1,9 @@
 //! Kroft for C: the judge of one step of flat memory, the history behind a handle, the machine behind
 //! one, and traffic for a bench.
 //!
-//! Each export but `kroft_version` is the call of its name in `flat_judge`, `history_handles`, `machine_handles` or
-//! `memory_traffic`, and states its contract again. Every export is total: each number, each row and each length that C may pass has
-//! an answer.
+//! Each export but `kroft_version` is one call of `flat_judge`, `history_handles`, `machine_handles` or `memory_traffic`, and
+//! states the contract of that call again. Every export is total: each number, each row and each length that C may pass has an
+//! answer.
 #![tactic(auto)]
 
 mod history;

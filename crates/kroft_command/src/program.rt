@@ -26,11 +26,12 @@ use std::rt::Files;
 use std::thread::Threads;
 use trace_text::{Sink, Source};
 
-/// Does what the words behind the program's name ask for, and gives the status that the program
-/// ends with: 0 done, 1 a mismatch or a wrong prediction was found, 2 the words were refused, 3 a fault of the shape
-/// or machine file, 4 a fault of the trace or a failed write of the output, 5 want of memory or the turn limit
-/// of a sweep, 6 a history of which it can't be told. A fault is told in one line on `errors`; so is, before
-/// anything else, that a run which is to be written has more lines than a check reads.
+/// Does what the words behind the program's name ask for, and gives the status that the program ends with: 0 done; 1 a run
+/// that isn't flat, a history that its law doesn't allow, a wrong prediction, or a load or an operation that is open where
+/// none may be; 2 the words were refused; 3 a fault of the shape or machine file; 4 a fault of the input or of the image, a
+/// page of a log for which there is no room, or a failed read or write; 5 want of memory, or the turn limit of a sweep; 6 a
+/// history of which it can't be told. A fault is told in one line on `errors`; so is, before anything else, that a run which
+/// is to be written has more lines than a check reads.
 pub fn tool<R: AllocGlobal + Files + Threads + Sync, I: Source, O: Sink, E: Sink>(
     rt: &R,
     words: &[&str],

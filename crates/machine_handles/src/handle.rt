@@ -1,8 +1,8 @@
 //! A handle: what a caller in C holds of a machine.
 //!
-//! The machine lies in memory of its own, with the rounds that were begun with it, and the handle says where. Three functions follow the
-//! pointer, each proved by hand, and what is said of them names none: the machine is taken out as a
-//! box, and a box is kept.
+//! The machine lies in memory of its own, with the rounds that were begun with it, and the handle says where. `keep` makes the
+//! pointer of a box and `taken` a box of the pointer; both, and `mark`, which tells whether there is one, are proved by hand.
+//! What is said of them names no pointer: a machine is taken out as a box, and a box is kept.
 ghost use Rattle.std.specs.Prelude.{◌≡◌, ◌≢◌, IfSome, IsNone, None, Some, is_some};
 ghost use Rattle.machine_handles.specs.declared.kept.Kept.{Kept};
 

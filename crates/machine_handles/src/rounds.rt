@@ -29,7 +29,7 @@ const BAD_LATENCY: u32 = 105;
 #[repr(C)]
 #[derive(Clone, Copy)]
 pub struct CountsRow {
-    /// Rounds, the last one counted, in which nothing moves.
+    /// Rounds that were made; of [`drive`] also the one behind them, in which nothing moves.
     pub rounds: u64,
     /// Requests that were accepted.
     pub accepted: u64,

@@ -42,8 +42,9 @@ pub enum Figure<'a> {
     Missing,
 }
 
-/// As a cell of a table. A list has spaces between its items, a [`Figure::Quoted`] text stands in quotes with each quote in
-/// it doubled, and nothing stands where the field doesn't apply.
+/// As a cell of a table. A list has spaces between its items. A [`Figure::Quoted`] text stands in quotes, with each quote in it
+/// doubled, and a byte that isn't printable ASCII as `\u00` and its two hexadecimal digits. Nothing stands where the field
+/// doesn't apply.
 impl<'a> fmt::Display for Figure<'a> {
     ghost output = { λ figure. Some (formats.cell_text figure) };
 

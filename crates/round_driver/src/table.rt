@@ -14,7 +14,7 @@ use std::alloc::{AllocError, Global};
 /// What a run of rounds counted. A round is a step of the schedule, and no time of any hardware.
 #[derive(Clone, Copy, PartialEq, Eq, Debug, Default)]
 pub struct Table {
-    /// Rounds, the last one counted, in which nothing moves.
+    /// Rounds that were made; of a run of a list also the one behind them, in which nothing moves.
     pub rounds: u64,
     /// Requests that were accepted.
     pub accepted: u64,

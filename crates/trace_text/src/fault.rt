@@ -35,7 +35,7 @@ pub enum TraceFault {
     Write,
     /// There was too little memory.
     OutOfMemory,
-    /// Line 16,777,217 begins.
+    /// A line begins behind as many as are read: behind [`MAX_LINES`], unless the call that reads names another number.
     TooManyLines,
 }
 

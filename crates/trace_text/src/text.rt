@@ -24,7 +24,7 @@ const MAX_FIELDS_TEXT: usize = MAX_BLOCK_WORDS * MAX_FIELD_TEXT;
 /// How many bytes the text of a register has at most.
 pub(crate) const MAX_REGISTER_TEXT: usize = MAX_HEAD_TEXT + MAX_FIELDS_TEXT;
 
-/// A text of at most 768 bytes, all of them ASCII.
+/// A text of at most 768 bytes.
 #[derive(Drop)]
 pub struct LineText {
     // The text is the first `len` of them. Those behind are what earlier texts left: a text is cleared for
