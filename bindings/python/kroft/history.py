@@ -2,6 +2,7 @@
 
 import ctypes as c
 import enum
+from operator import index
 from types import TracebackType
 from typing import FrozenSet, List, NamedTuple, NoReturn, Optional, Type
 
@@ -100,7 +101,7 @@ class History:
 
     def __init__(self, law: Law = Law.REGULAR, image: Buffer = b"", *, unit: Optional[int] = None, unknown: bool = False) -> None:
         self.law = Law(law)
-        self.unit = unit if unit is not None else 8 if self.law == Law.ATOMIC else 1
+        self.unit = index(unit) if unit is not None else 8 if self.law == Law.ATOMIC else 1
         if self.unit not in ((1, 2, 4, 8) if self.law == Law.ATOMIC else (1,)):
             raise ValueError(f"no unit of the {self.law.name.lower()} law: {self.unit}")
         data = bytes_of(image)
@@ -112,11 +113,12 @@ class History:
 
     def load_request(self, number: int, address: int, length: int) -> None:
         """A load of `length` bytes from `address` on is requested."""
+        number, address, length = _word(number), _word(address), _word(length)
         self._tell(f"load {number} of {length} bytes at {address:#x}", "kroft_load_request", number, address, length)
 
     def load_response(self, number: int, data: Buffer) -> None:
         """The load that is open under the number is answered with these bytes."""
-        got = bytes_of(data)
+        number, got = _word(number), bytes_of(data)
         event = f"load {number} returns {got.hex()}"
         with self._handle.lock:
             try:
@@ -128,20 +130,22 @@ class History:
 
     def store_request(self, number: int, address: int, data: Buffer, enables: Optional[int] = None) -> None:
         """A store of the bytes whose enable is set is requested: bit `k` of `enables` is that of byte `k`; none: all are."""
-        stored = bytes_of(data)
-        mask = 2**64 - 1 if enables is None else enables
+        number, address, stored = _word(number), _word(address), bytes_of(data)
+        mask = 2**64 - 1 if enables is None else _word(enables)
         event = f"store {number} of {len(stored)} bytes at {address:#x}"
         self._tell(event, "kroft_store_request", number, address, c.c_char_p(stored), len(stored), mask)
 
     def store_response(self, number: int) -> None:
         """The store that is open under the number is answered."""
+        number = _word(number)
         self._tell(f"store {number} is answered", "kroft_store_response", number)
 
     def may_return(self, number: int, address: int) -> Optional[FrozenSet[int]]:
         """What the load that is open under a number may return for the byte at an address, if it is answered now; None if no
         such load asks for that byte. By the atomic law it is said of this byte alone, and may be `Undecided`."""
+        number, address = _word(number), _word(address)
         row = c.create_string_buffer(_SET_BYTES)
-        status = self._call("kroft_may_return", _word(number), _word(address), row, _SET_BYTES)
+        status = self._call("kroft_may_return", number, address, row, _SET_BYTES)
         if status == _OUT_OF_MEMORY:
             raise MemoryError(f"load {number} at {address:#x}")
         if status == _UNDECIDED:
@@ -154,7 +158,8 @@ class History:
     def forget(self, address: int) -> None:
         """Forgets the unit in which the byte at an address lies, of a history by the atomic law. From there on its bytes are
         unknown: whatever a load returns there is allowed. The other units are judged on."""
-        status = self._call("kroft_forget", _word(address))
+        address = _word(address)
+        status = self._call("kroft_forget", address)
         if status == _OUT_OF_MEMORY:
             raise MemoryError(f"the unit with {address:#x} was not forgotten")
         if status == _NO_LAW:
@@ -196,7 +201,7 @@ class History:
     def _tell(self, event: str, name: str, *arguments: object) -> None:
         first = c.c_uint64()
         with self._handle.lock:
-            status = self._call(name, *(_word(it) if isinstance(it, int) else it for it in arguments))
+            status = self._call(name, *arguments)
             if status == _UNDECIDED:
                 self._call("kroft_undecided", c.byref(first))
                 raise Undecided(event, first.value)
@@ -207,7 +212,7 @@ class History:
 
     def _with_place(self, number: int, got: bytes, event: str) -> NotLawful:
         row = ReasonRow()
-        if self._call("kroft_why", _word(number), c.c_char_p(got), len(got), c.byref(row)) != _WRONG_BYTE:
+        if self._call("kroft_why", number, c.c_char_p(got), len(got), c.byref(row)) != _WRONG_BYTE:
             return NotLawful(HistoryFault.WRONG_BYTE, event)  # there was too little memory to say where
         load = next(it for it in self.open_loads() if it.number == number)
         try:
@@ -234,8 +239,9 @@ def _access(kind: str, operation: Operation) -> Access:
     return Access(kind, operation.number, operation.address, operation.length, 2**operation.length - 1, 0)
 
 
-def _word(number: int) -> c.c_uint64:
-    """A number of 64 bits: ctypes would cut another one off."""
-    if not 0 <= number < 2**64:
-        raise ValueError(f"not a number of 64 bits: {number}")
-    return c.c_uint64(number)
+def _word(number: int) -> int:
+    """A number of 64 bits, of whatever class: ctypes would cut another one off. TypeError if it is no whole number."""
+    whole = index(number)
+    if not 0 <= whole < 2**64:
+        raise ValueError(f"not a number of 64 bits: {whole}")
+    return whole

@@ -6,6 +6,7 @@ under tags, as the library does.
 
 import ctypes as c
 import struct
+from operator import index
 from types import TracebackType
 from typing import Callable, Container, Dict, Iterator, List, NamedTuple, Optional, Tuple, Type
 
@@ -62,10 +63,11 @@ class StepJudge:
 
     def owed(self, tag: int) -> Optional[bytes]:
         """The word that a tag is owed. None if it is owed nothing."""
-        if not 0 <= tag < TAGS:
+        number = index(tag)
+        if not 0 <= number < TAGS:
             return None
         word = Word()
-        found = self._library.kroft_flat_owed(self._due, TAGS, tag, c.byref(word))
+        found = self._library.kroft_flat_owed(self._due, TAGS, number, c.byref(word))
         return bytes(word) if found else None
 
     def open_count(self) -> int:
@@ -196,8 +198,11 @@ class FlatJudge:
         return sorted(waiting, key=lambda access: access.call)
 
     def memory(self, address: int, size: int) -> bytes:
-        """The bytes that memory holds now."""
-        return bytes(self._page(at // PAGE_BYTES).data[at % PAGE_BYTES] for at in range(address, address + size))
+        """The bytes that memory holds now. IndexError if some of them are outside of memory."""
+        places = range(index(address), index(address) + index(size))
+        if places and (places[0] < self._first or places[-1] > self._last):
+            raise IndexError("bytes outside of memory")
+        return bytes(self._page(at // PAGE_BYTES).data[at % PAGE_BYTES] for at in places)
 
     def __enter__(self) -> "FlatJudge":
         return self
@@ -208,9 +213,12 @@ class FlatJudge:
             raise Unanswered(waiting)
 
     def _request(self, kind: str, id: object, address: int, size: int, enables: Optional[int]) -> Access:
-        self.calls += 1
+        # (a number of a class with few bits would lose some of them below)
+        address, size = index(address), index(size)
         every = (1 << max(size, 0)) - 1
-        return Access(kind, id, address, size, every if enables is None else enables & every, self.calls)
+        mask = every if enables is None else index(enables) & every
+        self.calls += 1
+        return Access(kind, id, address, size, mask, self.calls)
 
     def _stray(self, kind: str, id: object) -> Access:
         return Access(kind, id, 0, 0, 0, self.calls)

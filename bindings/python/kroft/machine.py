@@ -2,6 +2,7 @@
 
 import ctypes as c
 import enum
+from operator import index
 from types import TracebackType
 from typing import Dict, Iterable, Iterator, List, NamedTuple, NoReturn, Optional, Tuple, Type, TypeVar, Union
 
@@ -214,18 +215,18 @@ class Machine:
     """
 
     def __init__(self, shape: Shape = Shape(), image: Optional[Buffer] = None) -> None:
-        self.shape = shape
-        if any(not 0 <= number < 2**32 for number in shape):
+        self.shape = Shape(*map(index, shape))
+        if any(not 0 <= number < 2**32 for number in self.shape):
             raise ValueError(f"a number of 32 bits is out of its range in {shape}")
         data = b"" if image is None else bytes_of(image)
         if len(data) % 4:
             raise ValueError("an image has four bytes for each word")
-        row = ShapeRow(*shape)
+        row = ShapeRow(*self.shape)
         self._handle = Handle(library(), "kroft_free")
         # (numbers are judged before any zeros are made for them)
         status = self._open(row, data)
         if status == ShapeFault.IMAGE and image is None:
-            status = self._open(row, bytes(4 * shape.words))
+            status = self._open(row, bytes(4 * self.shape.words))
         if status != _DONE:
             raise BadShape(ShapeFault(status))
 
@@ -275,11 +276,8 @@ class Machine:
         more than 16777216 requests, or if one is an event but no load, store, prefetch or eviction, and TypeError if it is
         no event; nothing was asked then."""
         rows = b"".join(map(event_row, requests))
-        busy = latency if busy is None else busy
-        if not (0 <= latency < 2**32 and 0 <= busy < 2**32):
-            raise ValueError("a number of rounds is out of its range")
         row = CountsRow()
-        status = self._call("kroft_drive", latency, busy, rows, len(rows) // _EVENT_BYTES, c.byref(row))
+        status = self._call("kroft_drive", *_rounds(latency, busy), rows, len(rows) // _EVENT_BYTES, c.byref(row))
         if status == _OUT_OF_MEMORY:
             raise MemoryError("too little memory to drive these requests")
         if status != _DONE:
@@ -291,10 +289,7 @@ class Machine:
 
         Rounds that were begun before end. Until `end_rounds` they alone make the machine's events: all else that makes one
         raises InRounds. ValueError if the latency isn't 0 to 1000, with everything as it was."""
-        busy = latency if busy is None else busy
-        if not (0 <= latency < 2**32 and 0 <= busy < 2**32):
-            raise ValueError("a number of rounds is out of its range")
-        status = self._call("kroft_rounds_begin", latency, busy)
+        status = self._call("kroft_rounds_begin", *_rounds(latency, busy))
         if status == _OUT_OF_MEMORY:
             raise MemoryError("too little memory to begin rounds")
         if status != _DONE:
@@ -337,7 +332,7 @@ class Machine:
     def bank_word(self, at: int) -> bytes:
         """The word of memory at `at`, as it stands in its bank. IndexError if there is none."""
         word = Word()
-        self._find("kroft_bank_word", at, c.byref(word))
+        self._find("kroft_bank_word", c.byref(word), at)
         return bytes(word)
 
     def memory(self) -> bytes:
@@ -348,7 +343,7 @@ class Machine:
     def register(self, slot: int) -> Register:
         """A miss register. IndexError if there is none."""
         row = RegisterRow()
-        self._find("kroft_register", slot, c.byref(row))
+        self._find("kroft_register", c.byref(row), slot)
         return Register(bool(row.valid), bool(row.obsolete), row.block, row.frame, row.processed)
 
     def registers(self) -> List[Register]:
@@ -359,7 +354,7 @@ class Machine:
     def field(self, slot: int, i: int) -> Field:
         """Word `i` of the block of a register. IndexError if there is none."""
         row = FieldRow()
-        self._find("kroft_field", slot, i, c.byref(row))
+        self._find("kroft_field", c.byref(row), slot, i)
         marks = bool(row.send), bool(row.in_stack), bool(row.processed)
         return Field(*marks, row.targets, row.tag, row.code, row.held_lanes, bytes(row.held))
 
@@ -369,21 +364,21 @@ class Machine:
         row, targets = TargetRow(), []
         with self._handle.lock:
             for place in range(self.field(slot, i).targets):
-                self._find("kroft_target", slot, i, place, c.byref(row))
+                self._find("kroft_target", c.byref(row), slot, i, place)
                 targets.append(Target(row.tag, row.lanes, bytes(row.held)))
         return targets
 
     def find(self, at: int) -> Lookup:
         """What a request for the word at `at` would find now. Nothing is asked. IndexError if there is no such word."""
         lookup = c.c_uint32()
-        self._find("kroft_find", at, c.byref(lookup))
+        self._find("kroft_find", c.byref(lookup), at)
         return Lookup(lookup.value)
 
     def frame(self, frame: int) -> Optional[int]:
         """The block that a frame holds, None if it is free. Set `s` has the frames from `s * ways` on. IndexError if there
         is no such frame."""
         row = FrameRow()
-        self._find("kroft_frame", frame, c.byref(row))
+        self._find("kroft_frame", c.byref(row), frame)
         return row.block if row.valid else None
 
     def frames(self) -> List[Optional[int]]:
@@ -394,7 +389,7 @@ class Machine:
     def frame_word(self, frame: int, i: int) -> FrameWord:
         """Word `i` of the block that a frame holds. IndexError if there is no such frame or word, or the frame is free."""
         row = FrameWordRow()
-        self._find("kroft_frame_word", frame, i, c.byref(row))
+        self._find("kroft_frame_word", c.byref(row), frame, i)
         return FrameWord(bytes(row.word), row.dirty)
 
     def stack(self) -> List[Arrival]:
@@ -453,9 +448,10 @@ class Machine:
             raise KroftError(f"{event} was answered by {answer}")
 
     def _bank(self, bank: int) -> int:
-        if not 0 <= bank < self.shape.banks:
+        number = index(bank)
+        if not 0 <= number < self.shape.banks:
             raise IndexError("there is none")
-        return bank
+        return number
 
     def _places(self, row: Type[_Row], name: str, *arguments: int) -> List[_Row]:
         """What a view shows at place 0, 1 and so on, until there is nothing."""
@@ -477,11 +473,19 @@ class Machine:
             raise NoRounds("no rounds were begun")
         return status
 
-    def _find(self, name: str, *arguments: object) -> None:
-        if any(isinstance(argument, int) and not 0 <= argument < 2**32 for argument in arguments):
+    def _find(self, name: str, row: object, *places: int) -> None:
+        """What a view shows at these places goes into the row. (ctypes would cut a number of more bits off.)"""
+        numbers = [index(place) for place in places]
+        if any(not 0 <= number < 2**32 for number in numbers) or self._call(name, *numbers, row) == _NONE:
             raise IndexError("there is none")
-        if self._call(name, *arguments) == _NONE:
-            raise IndexError("there is none")
+
+
+def _rounds(latency: int, busy: Optional[int]) -> Tuple[int, int]:
+    """The numbers of rounds, for the library."""
+    numbers = index(latency), index(latency if busy is None else busy)
+    if any(not 0 <= number < 2**32 for number in numbers):
+        raise ValueError("a number of rounds is out of its range")
+    return numbers
 
 
 def _counts(row: CountsRow) -> Counts:

@@ -1,6 +1,7 @@
 """Random loads and stores that caches find hard, from a seed."""
 
 import ctypes as c
+from operator import index
 from typing import Iterator, NamedTuple
 
 from .library import AccessRow, PlanRow, library
@@ -51,7 +52,8 @@ class Traffic:
         stores: int = 128,
         partial: int = 64,
     ) -> None:
-        numbers = (base, blocks, block_bytes, widest, sets, conflicts, burst, requesters, int(apart), stores, partial)
+        given = (base, blocks, block_bytes, widest, sets, conflicts, burst, requesters, int(apart), stores, partial)
+        seed, numbers = index(seed), [index(number) for number in given]
         for name, number in [("seed", seed), *zip((field[0] for field in PlanRow._fields_), numbers)]:
             above = 2**64 if name in ("seed", "base") else 2**32
             if not 0 <= number < above:
@@ -62,6 +64,7 @@ class Traffic:
         self[0]
 
     def __getitem__(self, number: int) -> TrafficAccess:
+        number = index(number)
         if not 0 <= number < 2**64:
             raise IndexError(number)
         row, data = AccessRow(), c.create_string_buffer(_WIDEST)

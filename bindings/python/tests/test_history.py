@@ -6,9 +6,10 @@ import pickle
 import random
 import threading
 import unittest
-from typing import Callable, Dict, List, Optional, Tuple
+from typing import Any, Callable, Dict, List, Optional, Tuple, Type
 
 from kroft import Closed, History, HistoryFault, Law, NotLawful, Operation, SeenStore, Unanswered, Undecided
+from whole import whole
 
 
 class Histories(unittest.TestCase):
@@ -71,6 +72,31 @@ class Histories(unittest.TestCase):
                         history.store_request(1, 0, data)  # type: ignore[arg-type]
             self.assertEqual((len(history.open_loads()), history.open_stores()), (1, []))
             history.load_response(1, bytes(4))
+
+    def test_whole_numbers_of_any_class(self) -> None:
+        with History() as history:
+            history.load_request(whole(1), whole(2**64 - 1), whole(1))
+            history.store_request(whole(2), whole(2**64 - 1), b"\x01", whole(1))
+            self.assertEqual(history.open_loads(), [Operation(1, 2**64 - 1, 1)])
+            self.assertEqual(history.may_return(whole(1), whole(2**64 - 1)), {0, 1})
+            wrong: List[Tuple[Any, Type[Exception]]] = [(it, ValueError) for it in (whole(-1), whole(2**64), -1, 2**64)]
+            wrong += [(it, TypeError) for it in ("7", 1.0, b"7", None)]
+            for number, kind in wrong:
+                for words in ((number, 0, 1), (5, number, 1), (5, 0, number)):
+                    with self.subTest(words=words), self.assertRaises(kind):
+                        history.load_request(*words)
+                with self.assertRaises(kind):
+                    history.store_request(number, 0, b"\x01")
+                with self.assertRaises(kind):
+                    history.load_response(number, b"")
+                with self.assertRaises(kind):
+                    history.may_return(number, 0)
+            with self.assertRaises(ValueError):
+                history.store_request(6, 0, b"\x01", whole(2**64))
+            with self.assertRaises(TypeError):
+                History(Law.ATOMIC, unit=8.0)  # type: ignore[arg-type]
+            history.load_response(whole(1), b"\x01")
+            history.store_response(whole(2))
 
     def test_what_is_lost_is_told_at_the_end(self) -> None:
         with self.assertRaises(Unanswered) as lost:

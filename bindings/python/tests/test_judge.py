@@ -10,6 +10,7 @@ from typing import Any, Iterator, List, Optional, Tuple
 import kroft
 from kroft import Accepted, FlatJudge, Load, NotFlat, Reason, Store, StepJudge, Take, Value
 from replay_memory import BUGS, Cache, Request, traffic
+from whole import whole
 
 
 class Causes(unittest.TestCase):
@@ -134,6 +135,25 @@ class Accesses(Causes):
                 judge.value(1, bytes(5))
             self.assertEqual((judge.calls, len(judge.unanswered())), (1, 1))
             judge.value(1, bytes(4))
+
+    def test_whole_numbers_of_any_class(self) -> None:
+        with FlatJudge() as judge:
+            judge.store(1, whole(0x101), b"abc", whole(0b101))
+            judge.load(2, whole(0x100), whole(4))
+            self.assertEqual(judge.memory(whole(0x100), whole(4)), b"\0a\0c")
+            self.assertEqual([(it.address, it.size, it.enables) for it in judge.unanswered()], [(0x101, 3, 0b101), (0x100, 4, 0b1111)])
+            judge.value(2, b"\0a\0c")
+            judge.stored(1)
+        self.assertIsNone(StepJudge(b"").owed(whole(5)))
+        with self.assertRaises(TypeError):
+            StepJudge(b"").owed(5.0)  # type: ignore[arg-type]
+
+    def test_memory_has_no_other_bytes(self) -> None:
+        judge = FlatJudge(first=0x100, last=0x1FF)
+        self.assertEqual(judge.memory(0x100, 0x100), bytes(0x100))
+        for address, size in ((0xFF, 1), (0x1FF, 2), (-1, 1)):
+            with self.assertRaises(IndexError):
+                judge.memory(address, size)
 
     def test_wide_items_are_counted_by_their_bytes(self) -> None:
         ones = memoryview(array.array("I", [0x11111111] * 4))

@@ -9,7 +9,7 @@ import resource
 import sys
 import threading
 import unittest
-from typing import Callable, List, Tuple
+from typing import Any, Callable, List, Tuple
 from unittest import mock
 
 import kroft
@@ -37,6 +37,7 @@ from kroft import (
     Value,
     Write,
 )
+from whole import whole
 
 SMALL = Shape(ways=2, block_words=4, regs=8, depth=4, words=64, sets=4, banks=4, bank_queue=8, write_queue=8, replies=8)
 
@@ -267,6 +268,30 @@ class Machines(unittest.TestCase):
             with self.assertRaisesRegex(ValueError, "^tag is 0 to 65535, not 65536$"):
                 judge.step(kroft.Take(0), Value(65536, b"abcd"))
             self.assertEqual(machine.apply(Load(65535, 0)), Accepted())
+
+    def test_whole_numbers_of_any_class(self) -> None:
+        with Machine(kroft.Shape(words=whole(64))) as machine:
+            self.assertEqual(machine.shape.words, 64)
+            machine.load(whole(1), whole(4))
+            self.assertEqual(machine.find(whole(4)), kroft.Lookup.JOIN)
+            views: List[Callable[[Any], object]] = [machine.find, machine.bank_word, machine.register, machine.frame]
+            views += [machine.bank_commands, machine.bank_answers, lambda it: machine.field(it, 0), lambda it: machine.field(0, it)]
+            for number in (2**32, 2**32 + 4, -(2**32), -1):
+                for view in views:
+                    for it in (number, whole(number)):
+                        with self.assertRaises(IndexError):
+                            view(it)
+                with self.assertRaises(ValueError):
+                    machine.begin_rounds(whole(number))
+                with self.assertRaises(ValueError):
+                    machine.drive([], 10, whole(number))
+            for view in views:
+                for given in ("7", 1.0, None):
+                    with self.assertRaises(TypeError):
+                        view(given)
+            with self.assertRaises(TypeError):
+                machine.begin_rounds(10.0)  # type: ignore[arg-type]
+            machine.begin_rounds(whole(2), whole(1))
 
     def test_wide_items_are_counted_by_their_bytes(self) -> None:
         words = memoryview(array.array("I", [0x11111111] * SMALL.words))

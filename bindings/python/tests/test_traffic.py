@@ -6,6 +6,7 @@ from typing import Dict, List, Tuple
 
 import kroft
 from kroft.library import version
+from whole import whole
 
 MASK = 2**64 - 1
 
@@ -122,6 +123,12 @@ class Accesses(unittest.TestCase):
                 kroft.Traffic(**{"seed": 1, **LINES, **change})  # type: ignore[arg-type]
         with self.assertRaises(IndexError):
             kroft.Traffic(1, **LINES)[2**64]  # type: ignore[arg-type]
+        for number in (whole(2**64 + 1), whole(-1)):
+            with self.assertRaises(ValueError):
+                kroft.Traffic(number, **LINES)  # type: ignore[arg-type]
+            with self.assertRaises(IndexError):
+                kroft.Traffic(1, **LINES)[number]  # type: ignore[arg-type]
+        self.assertEqual(kroft.Traffic(whole(1), **LINES)[whole(2)], kroft.Traffic(1, **LINES)[2])  # type: ignore[arg-type]
 
 
 class Versions(unittest.TestCase):
