@@ -230,7 +230,7 @@ def is_running(number):
 
 
 def clean_ends(folder):
-    for number in (signal.SIGINT, signal.SIGTERM):
+    for number in (signal.SIGINT, signal.SIGTERM, signal.SIGHUP):
         room = folder / f"end{number}"
         room.mkdir()
         served = Served(room)
@@ -246,6 +246,8 @@ def clean_ends(folder):
         time.sleep(0.3)
         same("processes that are left", [it for it in running if is_running(it)], [])
         same("files that are left", list(room.iterdir()), [])
+    closed = subprocess.run(["sh", "-c", 'exec "$0" >&-', TOP / "kroft-page"], capture_output=True, text=True, timeout=20)
+    same("a closed standard output", (closed.returncode, closed.stderr.count("\n")), (1, 1))
     taken = socket.create_server(("127.0.0.1", 0))
     said = subprocess.run([TOP / "kroft-page", "--port", str(taken.getsockname()[1])], capture_output=True, text=True, timeout=20)
     same("a port that is taken", (said.returncode, said.stdout, said.stderr.count("\n")), (1, "", 1))

@@ -396,8 +396,13 @@ def main():
     parser = argparse.ArgumentParser(prog="kroft-page", description=__doc__, formatter_class=argparse.RawDescriptionHelpFormatter)
     parser.add_argument("--port", type=int, default=0, metavar="N", help="the port; any free one if none is given")
     words = parser.parse_args()
+    if sys.stdout is None:
+        sys.exit("kroft-page: standard output is closed, so that the page's address can't be told")
+    # (a terminal that is closed ends the page too, but under `nohup`)
+    for number in (signal.SIGTERM, signal.SIGHUP):
+        if signal.getsignal(number) != signal.SIG_IGN:
+            signal.signal(number, interrupted)
     folder = tempfile.mkdtemp(prefix="kroft-page-")
-    signal.signal(signal.SIGTERM, interrupted)
     program = None
     try:
         program = Program(find_program(), folder)

@@ -110,6 +110,9 @@ async function settled(ask, trace, banks) {
   return text;
 }
 
+// The blocks whose first word a line may name: its number is below 2^32.
+const BLOCKS = 2 ** 30;
+
 // Until no register waits for words of the block.
 async function broughtIn(ask, trace, block, banks, regs) {
   const registers = Array.from({ length: regs }, (_, slot) => slot);

@@ -157,7 +157,10 @@ const shown = {
     // (up to the line that can't be read, if there is one)
     const drawn = faultLine > 0 ? linesOf(text).slice(0, faultLine - 1).join('\n') : text;
     const answer = await ask('show', kind === 'sheet' ? traceOfSheet(drawn) : drawn);
-    if (edit === edits && answer.picture) putPicture(answer.picture);
+    if (edit !== edits) return;
+    // (a picture of another text would be taken for one of this)
+    if (answer.picture) putPicture(answer.picture);
+    else putTexts('picture', answer.told);
   },
   async grade(edit, text) {
     const answer = await ask('grade', text);
@@ -308,7 +311,11 @@ async function write(made) {
   else putTrace(await made(text));
 }
 find('settle').onclick = () => write((text) => settled(ask, text, numberOf('banks')));
-find('bring').onclick = () => write((text) => broughtIn(ask, text, Number(find('block').value), numberOf('banks'), numberOf('regs')));
+find('bring').onclick = () => {
+  const block = Number(find('block').value || NaN);
+  if (!(Number.isInteger(block) && block >= 0 && block < BLOCKS)) tell(`a block is a whole number below ${BLOCKS}`, true);
+  else write((text) => broughtIn(ask, text, block, numberOf('banks'), numberOf('regs')));
+};
 find('example').onchange = () => {
   const chosen = examples.find((it) => it.name === find('example').value);
   if (!chosen) return;
