@@ -106,6 +106,8 @@ def asked():
     parser.add_argument("latency", type=int, nargs="*", default=[5, 20, 80], help="rounds of memory, 1 to 1000")
     words = parser.parse_args()
     if words.trace is None:
+        if words.shape:
+            parser.error("--shape is for a trace: it needs --trace")
         return MISSES, "64 misses", ["--shape", TOP / "examples/misses.toml"], words.latency
     shape = ["--shape", words.shape] if words.shape else []
     try:
