@@ -81,7 +81,7 @@ def read_screens(text):
             raise BadScreens(f"step {number} begins with {head}")
         step = Step(named[1], named[2], "", None) if number else Step()
         if number and lines[0].startswith("  recorded: "):
-            step.recorded = lines.pop(0).removeprefix("  recorded: ")
+            step.recorded = lines.pop(0)[len("  recorded: ") :]
         if number:
             step.words = lines.pop(0)[2:]
         texts, step.changed = read_lines(lines)

@@ -18,7 +18,7 @@ def is_of(schema, value, top):
     """Whether a value is of a schema."""
     assert set(schema) <= KNOWN, f"the schema has {set(schema) - KNOWN}, which isn't known here"
     if "$ref" in schema:
-        return is_of(top["$defs"][schema["$ref"].removeprefix("#/$defs/")], value, top)
+        return is_of(top["$defs"][schema["$ref"][len("#/$defs/") :]], value, top)
     if "oneOf" in schema and sum(is_of(it, value, top) for it in schema["oneOf"]) != 1:
         return False
     kinds = [schema["type"]] if isinstance(schema.get("type"), str) else schema.get("type")
