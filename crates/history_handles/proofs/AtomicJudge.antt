@@ -1,6 +1,6 @@
 -- What the judge of the atomic law says is said of the history that it keeps.
-use Rattle.std.proofs.Common.{◌≡◌, ℕ, Bool, true, false, ◌&&◌, refl, sym, ◌∙◌, subst, List, [], ◌∷◌, ◌++◌, fold, Option, Some, None, ◌/◌}
-use Rattle.std.specs.Prelude.{is_none}
+use Rattle.std.proofs.Common.{◌≡◌, ℕ, true, refl, sym, ◌∙◌, subst, List, [], ◌∷◌, ◌++◌, Option, ◌/◌}
+use Rattle.std.specs.List.{find}
 use Rattle.memory_histories.specs.declared.events.HistoryEvent.{HistoryEvent}
 use Rattle.memory_histories.specs.declared.events.HistoryFault.{HistoryFault}
 use Rattle.memory_histories.specs.declared.events.Rest.{Rest}
@@ -8,14 +8,14 @@ use Rattle.memory_histories.specs.declared.sets.ByteSet.{ByteSet}
 use Rattle.atomic_histories.specs.declared.memory.AtomicMemory.{AtomicMemory}
 use Rattle.atomic_histories.specs.declared.memory.AtomicFault.{AtomicFault}
 use Rattle.atomic_histories.specs.declared.memory.AtomicFault.TheVariants as atomic
-use Rattle.atomic_histories.specs.Operations.{Opened, none_opened, opened_after, form_fault}
-use Rattle.atomic_histories.specs.Law.{is_formed}
+use Rattle.atomic_histories.specs.Operations.{Opened, none_opened, has_number}
 use Rattle.atomic_histories.specs.Lost.{IsAtomicBut, FaultIsBut}
 use Rattle.atomic_histories.specs.Held.{Held, nothing_held, IsWide, StandsBut}
 use Rattle.atomic_histories.specs.May as may
 use Rattle.atomic_histories.specs.Judge.{held, limit_of, HasSameMemory, StepFaultIsBut}
-use Rattle.history_handles.specs.Atomic.{Atomic, opening, with_event, forgetting, IsLawful, IsRefused, IsFormed, IsHeld, followed}
-use Rattle.history_handles.specs.Atomic.{IsJudgeOf, IsUndecided, IsUndecidedByte}
+use Rattle.atomic_histories.proofs.Verdict.{formed_last}
+use Rattle.history_handles.specs.Atomic.{Atomic, opening, with_event, forgetting, IsLawful, IsRefused, IsFormed, IsAskedFor}
+use Rattle.history_handles.specs.Atomic.{IsHeld, followed, IsJudgeOf, IsUndecided, IsUndecidedByte}
 use Rattle.history_handles.specs.declared.judge.Judge.TheVariants as judge
 use Rattle.history_handles.specs.Faults.{of_atomic}
 use Rattle.history_handles.specs.Kept.{AtomicFaultIs, NoSetIs}
@@ -95,11 +95,16 @@ wide_byte m a byte address k t = record {
   wide = subst (λ n. may.IsWideByte n (held m) byte address) k.limit t;
 }
 
-pub no_set : (m : AtomicMemory) (a : Atomic) (byte : ℕ) (f : AtomicFault) → IsJudgeOf m a
-    → may.IsNoVerdict (may.IsWideByte (limit_of m) (held m) byte) f → NoSetIs (judge.Atomic m) a byte (of_atomic f)
-no_set m a byte (atomic.Refused cause) k t = absurd t
-no_set m a byte (atomic.Undecided address) k t = wide_byte m a byte address k t
-no_set m a byte atomic.OutOfMemory k t = tt
+asked_for : (m : AtomicMemory) (a : Atomic) (number byte : ℕ) → IsJudgeOf m a
+    → may.asks (find (has_number number) (held m).opened.loads) byte ≡ true → IsAskedFor a number byte
+asked_for m a number byte k t = subst (λ (o : Opened). may.asks (find (has_number number) o.loads) byte ≡ true) k.kept.stands.opened t
+
+pub no_set : (m : AtomicMemory) (a : Atomic) (number byte : ℕ) (f : AtomicFault) → IsJudgeOf m a
+    → may.asks (find (has_number number) (held m).opened.loads) byte ≡ true
+    → may.IsNoVerdict (may.IsWideByte (limit_of m) (held m) byte) f → NoSetIs (judge.Atomic m) a number byte (of_atomic f)
+no_set m a number byte (atomic.Refused cause) k t w = absurd w
+no_set m a number byte (atomic.Undecided address) k t w = (asked_for m a number byte k t, wide_byte m a byte address k w)
+no_set m a number byte atomic.OutOfMemory k t w = asked_for m a number byte k t
 
 -- a unit is forgotten
 pub forgot : (m n : AtomicMemory) (a : Atomic) (address : ℕ) → IsJudgeOf m a → HasSameMemory (held n) (held m) → limit_of n ≡ limit_of m
@@ -115,21 +120,6 @@ forgot m n a address k same limit stands = record {
 }
 
 -- ---- an event of the law has a form
-
-and_parts : (a b : Bool) → (a && b) ≡ true → (a ≡ true) × (b ≡ true)
-and_parts true true h = (refl, refl)
-and_parts true false h = cc
-and_parts false b h = cc
-
-none_is : {X : Type 0} (o : Option X) → is_none o ≡ true → o ≡ None
-none_is None h = refl
-none_is (Some x) h = cc
-
-formed_last : (o : Opened) (events : List HistoryEvent) (event : HistoryEvent) → is_formed o (events ++ event ∷ []) ≡ true
-    → form_fault (fold opened_after o events) event ≡ None
-formed_last o [] event h = none_is (form_fault o event) (and_parts (is_none (form_fault o event)) true h).0
-formed_last o (x ∷ xs) event h =
-    formed_last (opened_after o x) xs event (and_parts (is_none (form_fault o x)) (is_formed (opened_after o x) (xs ++ event ∷ [])) h).1
 
 pub formed : (a : Atomic) (event : HistoryEvent) → IsLawful a event → IsFormed a event
 formed a event h = formed_last none_opened a.events event h.formed

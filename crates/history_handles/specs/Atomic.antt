@@ -1,13 +1,14 @@
 -- A history by the atomic law, of which units may have been forgotten.
-use Rattle.std.specs.Prelude.{ℕ, ◌≡◌, ◌/◌, List, [], ◌∷◌, ◌++◌, None}
+use Rattle.std.specs.Prelude.{ℕ, ◌≡◌, ◌/◌, true, List, [], ◌∷◌, ◌++◌, None}
+use Rattle.std.specs.List.{find}
 use Rattle.memory_histories.specs.declared.events.HistoryEvent.{HistoryEvent}
 use Rattle.memory_histories.specs.declared.events.HistoryFault.{HistoryFault}
 use Rattle.memory_histories.specs.declared.events.Rest.{Rest}
 use Rattle.atomic_histories.specs.declared.memory.AtomicMemory.{AtomicMemory}
-use Rattle.atomic_histories.specs.Operations.{opened_by, form_fault}
+use Rattle.atomic_histories.specs.Operations.{opened_by, form_fault, has_number}
 use Rattle.atomic_histories.specs.Lost.{IsAtomicBut, FaultIsBut}
 use Rattle.atomic_histories.specs.Held.{Held, IsWide, StandsBut}
-use Rattle.atomic_histories.specs.May.{IsWideByte}
+use Rattle.atomic_histories.specs.May.{asks, IsWideByte}
 use Rattle.atomic_histories.specs.Judge.{held, limit_of}
 use Rattle.history_handles.specs.declared.judge.Judge.{Judge}
 use Rattle.history_handles.specs.declared.judge.Judge.TheVariants as judge
@@ -42,6 +43,10 @@ IsRefused a event cause = FaultIsBut a.lost a.image a.rest a.size a.events event
 -- an event has the form that the operations which are open ask for
 abbrev pub IsFormed : Atomic → HistoryEvent → Type 0
 IsFormed a event = form_fault (opened_by a.events) event ≡ None
+
+-- a load that is open under a number asks for the byte at an address
+abbrev pub IsAskedFor : Atomic → ℕ → ℕ → Type 0
+IsAskedFor a number address = asks (find (has_number number) (opened_by a.events).loads) address ≡ true
 
 -- this is what a judge keeps of the history
 pub record IsHeld (kept : Held) (a : Atomic) : Type 0 where

@@ -1,5 +1,5 @@
 -- Of which history a judge keeps what it needs, and what its answers say of that history.
-use Rattle.std.specs.Prelude.{⊤, ℕ, ◌≡◌, Bool, true, false, Option, Some, None, Result, Ok, Err}
+use Rattle.std.specs.Prelude.{ℕ, ◌≡◌, Bool, true, false, Option, Some, None, Result, Ok, Err}
 use Rattle.std.specs.Option.{option_map}
 use Rattle.memory_histories.specs.declared.events.HistoryEvent.{HistoryEvent}
 use Rattle.memory_histories.specs.declared.events.HistoryFault.{HistoryFault}
@@ -17,7 +17,8 @@ use Rattle.history_handles.specs.declared.faults.JudgeFault.{JudgeFault}
 use Rattle.history_handles.specs.declared.faults.JudgeFault.TheVariants.{Refused, Undecided, TooLong, OutOfMemory}
 use Rattle.history_handles.specs.declared.faults.ForgetFault.{ForgetFault}
 use Rattle.history_handles.specs.declared.faults.ForgetFault.TheVariants as forget
-use Rattle.history_handles.specs.Atomic.{Atomic, IsLawful, IsRefused, IsFormed, IsJudgeOf, IsUndecided, IsUndecidedByte}
+use Rattle.history_handles.specs.Atomic.{Atomic, IsLawful, IsRefused, IsFormed, IsAskedFor, IsJudgeOf, IsUndecided}
+use Rattle.history_handles.specs.Atomic.{IsUndecidedByte}
 use Rattle.history_handles.specs.History.{History, OfRegular, OfFlat, OfAtomic, has_units, may_by_regular, may_by_flat}
 
 -- what a judge keeps is of this history
@@ -73,16 +74,16 @@ abbrev pub IsExactSet : Option (ℕ → Bool) → Result (Option ByteSet) JudgeF
 IsExactSet may (Ok set) = IsSetOf may set
 IsExactSet may (Err found) = ⊥
 
--- by the atomic law a set is of its byte alone, and there may be no verdict
-abbrev pub NoSetIs : Judge → Atomic → ℕ → JudgeFault → Type 0
-NoSetIs j a address (Refused cause) = ⊥
-NoSetIs j a address (Undecided first) = IsUndecidedByte j a address first
-NoSetIs j a address TooLong = ⊥
-NoSetIs j a address OutOfMemory = ⊤
+-- by the atomic law a set is of its byte alone, and there may be no verdict of a byte that the load asks for
+abbrev pub NoSetIs : Judge → Atomic → ℕ → ℕ → JudgeFault → Type 0
+NoSetIs j a number address (Refused cause) = ⊥
+NoSetIs j a number address (Undecided first) = IsAskedFor a number address × IsUndecidedByte j a address first
+NoSetIs j a number address TooLong = ⊥
+NoSetIs j a number address OutOfMemory = IsAskedFor a number address
 
 abbrev pub IsAtomicSet : Judge → Atomic → ℕ → ℕ → Result (Option ByteSet) JudgeFault → Type 0
 IsAtomicSet j a number address (Ok set) = atomic.IsSetOf a.lost a.image a.rest a.size a.events number address set
-IsAtomicSet j a number address (Err found) = NoSetIs j a address found
+IsAtomicSet j a number address (Err found) = NoSetIs j a number address found
 
 abbrev pub IsSetFound : Judge → History → ℕ → ℕ → Result (Option ByteSet) JudgeFault → Type 0
 IsSetFound j (OfRegular w) number address told = IsExactSet (may_by_regular w number address) told

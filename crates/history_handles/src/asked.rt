@@ -18,10 +18,10 @@ use std::alloc::Global;
 /// now: bit `k` of byte `n` of `set` says whether it may return byte `8n + k`.
 ///
 /// 1: `set` is it. 0: no such load asks for that byte. 2: `set` hasn't 32 bytes. 3: the handle is
-/// closed. By the atomic law it is the set of this byte alone, and there may be no verdict: 105 says
-/// that too many ways would have to be followed at its unit, or that more than 65,536 words are kept of
-/// what stood there before, and 101 that there was too little memory. After each but 1 `set` is as it
-/// was; the history is so after each.
+/// closed. By the atomic law it is the set of this byte alone, and of a byte that the load asks for there may
+/// be no verdict: 105 says that too many ways would have to be followed at its unit, or that more than 65,536
+/// words are kept of what stood there before, and 101 that there was too little memory. After each but 1 `set`
+/// is as it was; the history is so after each.
 #[tactic(auto, using(crate::proofs::Telling::is_set))]
 pub fn may_return(
     alloc: Global,

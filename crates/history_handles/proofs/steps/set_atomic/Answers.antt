@@ -14,4 +14,4 @@ returns-in_err-set c a k =
     let f = c.in_err-set.field-0.0 in
     passed_on c.from_residual.result (IsAtomicSet (judge.Atomic c.args.memory.now) a c.args.number c.args.address) (of_atomic f)
     c.from_residual.ensures.1
-    (no_set c.args.memory.now a c.args.address f k c.in_err-set.ensures.fault)
+    (no_set c.args.memory.now a c.args.number c.args.address f k c.in_err-set.ensures.asked c.in_err-set.ensures.fault)
