@@ -3,7 +3,7 @@ use Rattle.std.proofs.Common.{◌≡◌, ℕ, Bool, true, false, ◌&&◌, ◌||
 use Rattle.std.proofs.Common.{refl, sym, ap, ◌∙◌, subst, eqb-true}
 use Rattle.std.specs.Prelude.{is_none}
 use Rattle.std.specs.List.{list_any}
-use Rattle.std.proofs.lemmas.Bool.{cases_Bool, and_parts, and_from, eq-eqb}
+use Rattle.std.proofs.lemmas.Bool.{cases_Bool, and_parts, and_from, eq-eqb, false_from_ne_true, both_ways}
 use Rattle.std.proofs.lemmas.List.Folds.{list_any-append}
 use Rattle.memory_histories.specs.declared.events.HistoryEvent.{HistoryEvent}
 use Rattle.memory_histories.specs.declared.events.HistoryEvent.TheVariants.{LoadRequest, LoadResponse, StoreRequest, StoreResponse}
@@ -11,16 +11,16 @@ use Rattle.memory_histories.specs.declared.windows.StoreByte.{StoreByte}
 use Rattle.memory_histories.specs.declared.windows.LoadByte.{LoadByte}
 use Rattle.memory_histories.specs.Windows.{Windows, store_bytes, is_open, after_response, windows_after}
 use Rattle.memory_histories.specs.Regular.{has_enabled}
-use Rattle.memory_histories.proofs.Lists.{list_any-map, list_any-filter, list_any-kept}
+use Rattle.memory_histories.proofs.Lists.{list_any-map, list_any-filter, list_any-kept, list_any-same}
 use Rattle.atomic_histories.specs.declared.unit.Operation.{Operation}
 use Rattle.atomic_histories.specs.Operations.{Opened, opened_after, has_number, without_number, form_fault}
 use Rattle.atomic_histories.specs.Law.{is_formed}
-use Rattle.history_laws.proofs.Lists.{any_none, any_agree, each_always, false_if}
-use Rattle.history_laws.proofs.Pieces.{Marked, false_true}
-use Rattle.history_laws.proofs.Open.{Loads, loads_more, loads_fewer, load_formed, store_formed, inside_some, marked_after}
+use Rattle.history_laws.proofs.Lists.{any_none, each_always}
+use Rattle.history_laws.proofs.Pieces.{Marked}
+use Rattle.history_laws.proofs.Open.{Loads, loads_more, loads_fewer, inside_some, marked_after}
 use Rattle.history_laws.proofs.Words.{any_new}
 use Rattle.history_laws.proofs.Fits.{after_cases}
-use Rattle.atomic_histories.proofs.Links.{none_is}
+use Rattle.atomic_histories.proofs.Links.{none_is, load_allowed, store_allowed}
 
 -- Prefixes of a history that isn't malformed. ----
 
@@ -31,13 +31,6 @@ formed_parts o (x ∷ xs) event h =
     let p = and_parts _ _ h in
     let r = formed_parts (opened_after o x) xs event p.1 in
     (and_from _ _ p.0 r.0, r.1)
-
-pub formed_more : (o : Opened) (history : List HistoryEvent) (event : HistoryEvent) → is_formed o history ≡ true
-    → form_fault (fold opened_after o history) event ≡ None → is_formed o (history ++ event ∷ []) ≡ true
-formed_more o [] event h f = rw f refl
-formed_more o (x ∷ xs) event h f =
-    let p = and_parts _ _ h in
-    and_from _ _ p.0 (formed_more (opened_after o x) xs event p.1 f)
 
 -- The open loads and stores of the regular law. ----
 
@@ -54,14 +47,14 @@ pub record Agrees (o : Opened) (w : Windows) (ks : List (Marked ℕ)) : Type 0 w
   pub loads : Loads load_byte number_of its_number ks w.loads o.loads
   pub stores : (n : ℕ) → list_any (is_open n) w.stores ≡ list_any (has_number n) o.stores
 
-or_last : (b c : Bool) → (b || (c || false)) ≡ (b || c)
-or_last true c = refl
-or_last false true = refl
-or_last false false = refl
+or_behind : (b c : Bool) → (b || (c || false)) ≡ (b || c)
+or_behind true c = refl
+or_behind false true = refl
+or_behind false false = refl
 
 any_more : (n : ℕ) (os : List Operation) (x : Operation) → list_any (has_number n) (os
     ++ x ∷ []) ≡ (list_any (has_number n) os || has_number n x)
-any_more n os x = list_any-append _ os _ ∙ or_last _ _
+any_more n os x = list_any-append _ os _ ∙ or_behind _ _
 
 -- once a store is requested
 stores_more : (stores : List StoreByte) (os : List Operation) (n a : ℕ) (bs : List ℕ) (e t : ℕ) (x : Operation) → x.number ≡ n
@@ -81,8 +74,8 @@ closed n t s = elim (after_cases n t s) [
 other_open : (n m t : ℕ) (s : StoreByte) → (n == m) ≡ false → is_open m (after_response n t s) ≡ is_open m s
 other_open n m t s h = elim (after_cases n t s) [
   | inl c ↦
-      let f = false_if _ (λ e.
-      false_true _ h (eq-eqb n m (sym c.1.0 ∙ eqb-true s.number m (and_parts (is_none s.ended) (s.number == m) e).1))) in
+      let f = false_from_ne_true _ (λ e.
+      both_ways _ h (eq-eqb n m (sym c.1.0 ∙ eqb-true s.number m (and_parts (is_none s.ended) (s.number == m) e).1))) in
       ap (is_open m) c.1.1 ∙ sym f
   | inr c ↦ ap (is_open m) c.1
 ]
@@ -92,8 +85,8 @@ not_itself true = refl
 not_itself false = refl
 
 kept_other : (n m : ℕ) (o : Operation) → (n == m) ≡ false → has_number m o ≡ true → not (has_number n o) ≡ true
-kept_other n m o h e = ap not (false_if _ (λ f.
-    false_true _ h (eq-eqb n m (sym (eqb-true o.number n f) ∙ eqb-true o.number m e))))
+kept_other n m o h e = ap not (false_from_ne_true _ (λ f.
+    both_ways _ h (eq-eqb n m (sym (eqb-true o.number n f) ∙ eqb-true o.number m e))))
 
 stores_fewer : (stores : List StoreByte) (os : List Operation) (n t : ℕ) → ((m : ℕ)
     → list_any (is_open m) stores ≡ list_any (has_number m) os)
@@ -110,14 +103,14 @@ stores_fewer stores os n t h m = elim (cases_Bool _) [
       not_itself (has_number n o)) os))))
   | inr e ↦
       list_any-map _ _ stores
-      ∙ (any_agree (λ s. is_open m (after_response n t s)) _ (λ s. other_open n m t s e) stores
+      ∙ (list_any-same (λ s. is_open m (after_response n t s)) _ (λ s. other_open n m t s e) stores
       ∙ (h m ∙ sym (list_any-kept (λ o. not _) _ (λ o f. kept_other n m o e f) os)))
 ]
 
 pub agrees_after : (o : Opened) (w : Windows) (ks : List (Marked ℕ)) (event : HistoryEvent) → Agrees o w ks → form_fault o event ≡ None
     → Agrees (opened_after o event) (windows_after w event) (marked_after w.moment ks event)
 agrees_after o w ks (LoadRequest n a len) g f =
-    let p = load_formed _ _ f in
+    let p = load_allowed _ _ f in
     record {
       loads = loads_more load_byte number_of its_number ks w.loads o.loads g.loads (record {
         operation = record {
@@ -134,7 +127,7 @@ agrees_after o w ks (LoadResponse n bytes) g f = record {
   stores = g.stores;
 }
 agrees_after o w ks (StoreRequest n a bytes e) g f =
-    let p = store_formed _ _ _ f in
+    let p = store_allowed _ _ _ f in
     record {
       loads = g.loads;
       stores = λ m.

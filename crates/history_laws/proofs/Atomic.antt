@@ -8,6 +8,9 @@ use Rattle.std.specs.List.{All, find, list_any}
 use Rattle.std.proofs.lemmas.Bool.{cases_Bool, and_parts}
 use Rattle.std.proofs.lemmas.List.Sums.{fold-append}
 use Rattle.std.proofs.lemmas.List.{same_from_push}
+use Rattle.std.proofs.lemmas.Option.{same_Some, cond_some}
+use Rattle.atomic_histories.proofs.Whole.{formed_more}
+use Rattle.atomic_histories.proofs.MayLaws.{byte_inside, seen_last}
 use Rattle.memory_histories.specs.declared.events.HistoryEvent.{HistoryEvent}
 use Rattle.memory_histories.specs.declared.events.HistoryEvent.TheVariants.{LoadRequest, LoadResponse, StoreRequest, StoreResponse}
 use Rattle.memory_histories.specs.declared.events.Rest.{Rest}
@@ -26,28 +29,19 @@ use Rattle.atomic_histories.specs.Law.{OpenLoad, UnitMemory, HiddenStep, MayBe, 
 use Rattle.atomic_histories.specs.Law.{with_load, with_store, seen, unit_at}
 use Rattle.atomic_histories.specs.Law.{is_formed, IsAtomicAt}
 use Rattle.atomic_histories.specs.Stands.{Each}
-use Rattle.atomic_histories.proofs.Lists.{one_each, no_snoc, all_each, one_elim}
-use Rattle.atomic_histories.proofs.Links.{none_is}
+use Rattle.atomic_histories.proofs.Lists.{one_each, no_snoc, all_each, one_elim, each_from_all}
+use Rattle.atomic_histories.proofs.Links.{none_is, store_allowed}
 use Rattle.history_laws.specs.Laws.{IsByte, ReturnsBytes, IsUnitSize, AtomicIsRegular}
-use Rattle.history_laws.proofs.Lists.{each_all, each_find, each_get}
+use Rattle.history_laws.proofs.Lists.{each_find, each_get}
 use Rattle.history_laws.proofs.Pieces.{Marked, is_number, IsSome}
-use Rattle.history_laws.proofs.Open.{loads_any, loads_under, no_fault, store_formed, answer_formed, marked_after}
-use Rattle.history_laws.proofs.Words.{lane, lane_unit, word_lane, byte_inside}
+use Rattle.history_laws.proofs.Open.{loads_any, loads_under, no_fault, answer_formed, marked_after}
+use Rattle.history_laws.proofs.Words.{lane, lane_unit, word_lane}
 use Rattle.history_laws.proofs.Fits.{Fits, IsAllowed, fits_store, fits_load, fits_requested, fits_answered, fits_store_requested}
 use Rattle.history_laws.proofs.Fits.{fits_store_answered, IsLoad}
-use Rattle.history_laws.proofs.Agrees.{formed_parts, formed_more, load_byte, number_of, its_number, Agrees, marks_from, marks_more}
+use Rattle.history_laws.proofs.Agrees.{formed_parts, load_byte, number_of, its_number, Agrees, marks_from, marks_more}
 use Rattle.history_laws.proofs.Agrees.{agrees_from}
 
 -- The event before which a unit was so. ----
-
-pub seen_last : (start : UnitMemory) (unit : UnitPlace) (history : List HistoryEvent) (event : HistoryEvent) (xs : List HistoryEvent) (m :
-    UnitMemory) → MayBe unit start xs m → xs ≡ history ++ event ∷ []
-    → (k : UnitMemory) × ((n : UnitMemory) × (MayBe unit start history k × (seen unit k event ≡ Some n)))
-seen_last start unit history event xs m starts h = absurd (no_snoc history event (sym h))
-seen_last start unit history event xs m (steps hs k n r step) h = seen_last start unit history event hs k r h
-seen_last start unit history event xs m (sees hs last k n r e) h =
-    let p = same_from_push hs history last event h in
-    (k, (n, (subst (λ x. MayBe unit start x k) p.0 r, subst (λ x. seen unit k x ≡ Some n) p.1 e)))
 
 pub moments_before : (image : List ℕ) (rest : Rest) (unit : UnitPlace) (past future : List HistoryEvent) → IsAtomicAt image rest unit (past
     ++ future) → IsAtomicAt image rest unit past
@@ -95,34 +89,27 @@ windows_more w history event = fold-append windows_after w history _
 
 -- What a unit may be fits the windows. ----
 
-some_same : {X : Type 0} (x y : X) → Some x ≡ Some y → x ≡ y
-some_same x y h = cc
-
-then_parts : {X : Type 0} (b : Bool) (x y : X) → (if b then Some x else None) ≡ Some y → (b ≡ true) × (x ≡ y)
-then_parts true x y h = (refl, cc)
-then_parts false x y h = cc
-
 module _ (image : List ℕ) (rest : Rest) (unit : UnitPlace) (j : ℕ) (within : j < unit.size) (lane_of : j < 8) where
   fits_event : (o : Opened) (w : Windows) (ks : List (Marked ℕ)) (m n : UnitMemory) (event : HistoryEvent) → Agrees o w ks
       → form_fault o event ≡ None → All (IsTimely w.moment) w.stores
       → Fits image rest unit j w.stores w.moment ks m → seen unit m event ≡ Some n
       → Fits image rest unit j (windows_after w event).stores (w.moment + 1) (marked_after w.moment ks event) n
   fits_event o w ks m n (LoadRequest k a len) g f t fits e =
-      subst (Fits image rest unit j w.stores (w.moment + 1) (marked_after w.moment ks (LoadRequest k a len))) (some_same (if is_at unit a
+      subst (Fits image rest unit j w.stores (w.moment + 1) (marked_after w.moment ks (LoadRequest k a len))) (same_Some (if is_at unit a
       len then with_load k a m else m) n e)
       (fits_requested image rest unit j w.stores w.moment ks m k a len within fits (is_at unit a len) refl)
   fits_event o w ks m n (LoadResponse k bytes) g f t fits e =
-      let p = then_parts _ _ n e in
+      let p = cond_some _ _ n e in
       subst (Fits image rest unit j w.stores (w.moment + 1) (marked_after w.moment ks (LoadResponse k bytes))) p.1 (fits_answered image rest
       unit j w.stores w.moment ks m k fits)
   fits_event o w ks m n (StoreRequest k a bytes es) g f t fits e =
-      let p = store_formed _ _ _ f in
+      let p = store_allowed _ _ _ f in
       let word = at_unit unit (stored_byte a bytes.now es) in
-      subst (Fits image rest unit j (windows_after w (StoreRequest k a bytes es)).stores (w.moment + 1) ks) (some_same (if list_any is_some
+      subst (Fits image rest unit j (windows_after w (StoreRequest k a bytes es)).stores (w.moment + 1) ks) (same_Some (if list_any is_some
       word then with_store k word m else m) n e)
       (fits_store_requested image rest unit j w.stores w.moment ks m k a bytes.now es within lane_of (g.stores k ∙ p.1.1) fits _ refl)
   fits_event o w ks m n (StoreResponse k) g f t fits e =
-      let p = then_parts _ _ n e in
+      let p = cond_some _ _ n e in
       subst (Fits image rest unit j (windows_after w (StoreResponse k)).stores (w.moment + 1) ks) p.1 (fits_store_answered image rest unit j
       w.stores w.moment ks m k t p.0 fits)
 
@@ -197,7 +184,7 @@ module _ (image : List ℕ) (rest : Rest) (unit : UnitPlace) (j : ℕ) (within :
       let s = seen_last _ unit past _ _ a.0 a.1 refl in
       let m = s.0 in
       let here = fits past m s.1.1.0 f in
-      let may = then_parts _ _ s.1.0 s.1.1.1 in
+      let may = cond_some _ _ s.1.0 s.1.1.1 in
       let has = each_find _ _ _ k here.has_loads
       found in
       one_elim (λ l. IsLoad image rest unit j w.stores k l
@@ -271,7 +258,7 @@ module _ (image : List ℕ) (rest : Rest) (size : ℕ) (sized : IsUnitSize size)
       (λ i b e l. rw (
         same.0,
         same.1,
-      ) (allowed_at past n bytes m f k u.1.0 named i b e l (each_get (IsByte rest) bytes.now i b (each_all (IsByte rest) bytes.now
+      ) (allowed_at past n bytes m f k u.1.0 named i b e l (each_get (IsByte rest) bytes.now i b (each_from_all (IsByte rest) bytes.now
       r) e)))
 
   regular_from : (past future : List HistoryEvent) → ((k : ℕ) → IsAtomicAt image rest (unit_at size k) (past ++ future))
@@ -293,4 +280,4 @@ module _ (image : List ℕ) (rest : Rest) (size : ℕ) (sized : IsUnitSize size)
 
 pub atomic_is_regular : (image : List ℕ) (rest : Rest) (size : ℕ) (history : List HistoryEvent) → AtomicIsRegular image rest size history
 atomic_is_regular image rest size history = λ sized returned atomic.
-    regular_from image rest size sized [] history atomic.moments refl atomic.formed (each_all (ReturnsBytes rest) history returned)
+    regular_from image rest size sized [] history atomic.moments refl atomic.formed (each_from_all (ReturnsBytes rest) history returned)

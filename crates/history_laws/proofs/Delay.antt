@@ -4,8 +4,9 @@ use Rattle.std.proofs.Common.{◌≡◌, ◌⊎◌, ℕ, ◌==◌, Bool, true, f
 use Rattle.std.proofs.Common.{inl, inr, refl, sym, ap, ◌∙◌, subst, eq-eqb, eqb-true, append-nil, append_assoc}
 use Rattle.std.specs.Prelude.{is_some}
 use Rattle.std.specs.List.{list_any}
-use Rattle.std.proofs.lemmas.Bool.{cases_Bool}
+use Rattle.std.proofs.lemmas.Bool.{cases_Bool, false_from_ne_true, both_ways}
 use Rattle.std.proofs.lemmas.List.{map-append}
+use Rattle.std.proofs.lemmas.Option.{same_Some, cond_some}
 use Rattle.memory_histories.specs.declared.events.HistoryEvent.{HistoryEvent}
 use Rattle.memory_histories.specs.declared.events.HistoryEvent.TheVariants.{LoadRequest, LoadResponse, StoreRequest, StoreResponse}
 use Rattle.memory_histories.proofs.Lists.{filter-map}
@@ -15,16 +16,8 @@ use Rattle.atomic_histories.specs.Words.{at_unit, stored_byte, is_at, is_word_of
 use Rattle.atomic_histories.specs.Law.{OpenLoad, UnitMemory, HiddenStep, MayBe, starts, steps, sees, done_load, is_load, is_got}
 use Rattle.atomic_histories.specs.Law.{may_answer_load, may_answer_store, with_load, with_store, without_store, seen}
 use Rattle.atomic_histories.specs.Stands.{Each}
-use Rattle.atomic_histories.proofs.Lists.{each_weaker, each_map, each_split, all_each}
-use Rattle.history_laws.proofs.Lists.{each_passes, each_always, false_if}
-use Rattle.history_laws.proofs.Pieces.{false_true}
-
-some_same : {X : Type 0} (x y : X) → Some x ≡ Some y → x ≡ y
-some_same x y h = cc
-
-then_parts : {X : Type 0} (b : Bool) (x y : X) → (if b then Some x else None) ≡ Some y → (b ≡ true) × (x ≡ y)
-then_parts true x y h = (refl, cc)
-then_parts false x y h = cc
+use Rattle.atomic_histories.proofs.Lists.{each_weaker, each_map, each_split, all_each, each_all}
+use Rattle.history_laws.proofs.Lists.{each_always}
 
 module _ (unit : UnitPlace) where
   -- what the unit may be after some events, if it was this before them
@@ -127,7 +120,7 @@ module _ (unit : UnitPlace) where
         → (not (is_load n l) || is_got unit (late_load got l).address bytes (late_load got l).got) ≡ true
     other_answer got n bytes ne l h = elim (cases_Bool _) [
       | inl e ↦
-          let no = false_if _ (λ q. false_true _ ne (eq-eqb n tag (sym (eqb-true l.number n q) ∙
+          let no = false_from_ne_true _ (λ q. both_ways _ ne (eq-eqb n tag (sym (eqb-true l.number n q) ∙
           eqb-true l.number tag e))) in
           rw no refl
       | inr e ↦ rw e h
@@ -136,7 +129,7 @@ module _ (unit : UnitPlace) where
     answers_other : (got : Option (List (Option ℕ))) (m : UnitMemory) (n : ℕ) (bytes : List ℕ) → (n == tag) ≡ false
         → may_answer_load unit n bytes m.loads ≡ true → may_answer_load unit n bytes (late got m).loads ≡ true
     answers_other got m n bytes ne h =
-        each_passes (λ l. not _ || is_got unit l.address bytes l.got) _
+        each_all (λ l. not _ || is_got unit l.address bytes l.got) _
         (each_map _ (λ l. (not _ || is_got unit l.address bytes l.got) ≡ true) _
         (each_weaker (λ l. (not (is_load n l) || is_got unit l.address bytes l.got) ≡ true) (λ l.
         (not (is_load n l) || is_got unit (late_load got l).address bytes (late_load got l).got) ≡ true) (other_answer got n bytes ne)
@@ -150,19 +143,19 @@ module _ (unit : UnitPlace) where
     sees_late : (got : Option (List (Option ℕ))) (m k : UnitMemory) (event : HistoryEvent) → Suits got event → seen unit m event ≡ Some k
         → seen unit (late got m) event ≡ Some (late got k)
     sees_late got m k (LoadRequest n a len) s e =
-        ap Some (sees_load got m n a _ s ∙ ap (late got) (some_same (if is_at unit a len then with_load n a m else m) k e))
+        ap Some (sees_load got m n a _ s ∙ ap (late got) (same_Some (if is_at unit a len then with_load n a m else m) k e))
     sees_late got m k (LoadResponse n bytes) s e =
-        let p = then_parts _ _ k e in
+        let p = cond_some _ _ k e in
         let may = answers_other got m n bytes.now s p.0 in
         let left =
         ap (λ ls. record { word = m.word; stores = m.stores; loads = ls }) (filter-map _ (λ l. not (is_load n l)) m.loads) in
         rw may (ap Some (left ∙ ap (late got) p.1))
     sees_late got m k (StoreRequest n a bytes es) s e =
         let word = at_unit unit (stored_byte a bytes.now es) in
-        ap Some (sees_store got m n word (list_any is_some word) ∙ ap (late got) (some_same (if list_any is_some word then with_store n
+        ap Some (sees_store got m n word (list_any is_some word) ∙ ap (late got) (same_Some (if list_any is_some word then with_store n
         word m else m) k e))
     sees_late got m k (StoreResponse n) s e =
-        let p = then_parts (may_answer_store n m.stores) (without_store n m) k e in
+        let p = cond_some (may_answer_store n m.stores) (without_store n m) k e in
         rw p.0 (ap Some (ap (late got) p.1))
 
     -- what the unit may be while the load of the tag is open, if that load got this
@@ -223,7 +216,7 @@ module _ (unit : UnitPlace) where
     pub answers_late : (m : UnitMemory) (word : List (Option ℕ)) (bytes : List ℕ) → is_word_of unit.first word address bytes ≡ true
         → may_answer_load unit tag bytes (late (Some word) m).loads ≡ true
     answers_late m word bytes h =
-        each_passes (λ l. not _ || is_got unit l.address bytes l.got) _
+        each_all (λ l. not _ || is_got unit l.address bytes l.got) _
         (each_map _ (λ l. (not (is_load tag l) || is_got unit l.address bytes l.got) ≡ true) m.loads
         (each_always (λ l. (not (is_load tag l) || is_got unit (late_load (Some word) l).address bytes (late_load (Some word) l).got) ≡
         true) (its_answer word bytes h) m.loads))

@@ -4,7 +4,9 @@ use Rattle.std.proofs.Common.{[], ◌∷◌, ◌++◌, map, length, Option, Some
 use Rattle.std.proofs.Common.{eqb-true}
 use Rattle.std.specs.Prelude.{is_none, is_some}
 use Rattle.std.specs.List.{All, filter, list_any}
-use Rattle.std.proofs.lemmas.Bool.{cases_Bool, and_parts, and_from, lt-ltb, eq-eqb}
+use Rattle.std.proofs.lemmas.Bool.{cases_Bool, and_parts, and_from, lt-ltb, eq-eqb, false_from_ne_true, both_ways}
+use Rattle.std.proofs.Math.Bool.{or-true}
+use Rattle.atomic_histories.proofs.Links.{none_is}
 use Rattle.memory_histories.specs.declared.events.Rest.{Rest}
 use Rattle.memory_histories.specs.declared.events.Rest.TheVariants.{Zeros, Unknown}
 use Rattle.memory_histories.specs.declared.windows.StoreByte.{StoreByte}
@@ -21,16 +23,12 @@ use Rattle.atomic_histories.specs.Law.{OpenLoad, UnitMemory, done_store, done_lo
 use Rattle.atomic_histories.specs.Law.{with_store, without_load, without_store}
 use Rattle.atomic_histories.specs.Stands.{Each, One}
 use Rattle.atomic_histories.proofs.Lists.{each_weaker, each_append, each_map, each_both, one_weaker, one_left, one_last, one_map, one_each}
-use Rattle.atomic_histories.proofs.Lists.{one_filter, each_replace, each_at, all_each}
+use Rattle.atomic_histories.proofs.Lists.{one_filter, each_replace, each_at, all_each, each_from_all, one_any}
 use Rattle.history_laws.specs.Laws.{IsByte}
-use Rattle.history_laws.proofs.Lists.{each_all, each_passing, one_unfilter, one_split, one_right, one_replace, one_replaced, one_at}
-use Rattle.history_laws.proofs.Lists.{one_never, or_more, each_always, any_one, any_none, false_if, or_true}
-use Rattle.history_laws.proofs.Pieces.{Marked, is_number, false_true}
+use Rattle.history_laws.proofs.Lists.{each_passing, one_unfilter, one_split, one_right, one_replace, one_replaced, one_at}
+use Rattle.history_laws.proofs.Lists.{one_never, or_more, each_always, any_none}
+use Rattle.history_laws.proofs.Pieces.{Marked, is_number}
 use Rattle.history_laws.proofs.Words.{lane, lane_written, length_written, lane_unit, stored_new, each_new, new_byte}
-
-none_from : (o : Option ℕ) → is_none o ≡ true → o ≡ None
-none_from None h = refl
-none_from (Some e) h = cc
 
 before_some : (o : Option ℕ) (t : ℕ) → is_before o t ≡ true → is_some o ≡ true
 before_some None t h = cc
@@ -43,14 +41,14 @@ open_answered (Some x) e h = cc
 any_lane : (ws : List (Option ℕ)) (j b : ℕ) → lane ws j ≡ Some b → list_any is_some ws ≡ true
 any_lane [] j b h = cc
 any_lane (w ∷ ws) zero b h = rw h refl
-any_lane (w ∷ ws) (suc j) b h = rw (any_lane ws j b h) (or_true (is_some w))
+any_lane (w ∷ ws) (suc j) b h = rw (any_lane ws j b h) (or-true (is_some w))
 
 -- a byte after the response of the store under a number: it is of this store, or it stays
 pub after_cases : (n t : ℕ) (s : StoreByte) → ((s.ended ≡ None) × ((s.number ≡ n)
     × (after_response n t s ≡ record { number = s.number; address = s.address; byte = s.byte; began = s.began; ended = Some t })))
     ⊎ ((is_open n s ≡ false) × (after_response n t s ≡ s))
 after_cases n t s = elim (cases_Bool _) [
-  | inl e ↦ let p = and_parts _ _ e in inl (none_from s.ended p.0, (eqb-true s.number n p.1, rw e refl))
+  | inl e ↦ let p = and_parts _ _ e in inl (none_is s.ended p.0, (eqb-true s.number n p.1, rw e refl))
   | inr e ↦ inr (e, rw e refl)
 ]
 
@@ -72,7 +70,7 @@ initial_allowed None Zeros b l h = grind arith
 initial_allowed None Unknown b l h = lt-ltb b 256 l
 
 right_of : (x y z : Bool) → y ≡ true → z ≡ false → (x || (y && not z)) ≡ true
-right_of x y z h k = rw (h, k) (or_true x)
+right_of x y z h k = rw (h, k) (or-true x)
 
 module _ (image : List ℕ) (rest : Rest) (unit : UnitPlace) (j : ℕ) where
   abbrev pub here : ℕ
@@ -136,7 +134,7 @@ module _ (image : List ℕ) (rest : Rest) (unit : UnitPlace) (j : ℕ) where
 
   uncovered : (os : List OpenStore) (stores : List StoreByte) (n t : ℕ) → Each (λ s. s.address ≡ here → IsDone os s → ⊥) stores
       → is_covered stores (record { number = n; address = here; began = t }) ≡ false
-  uncovered os stores n t h = grind (arith, any_none, each_weaker, false_if, and_parts, eqb-true, before_some)
+  uncovered os stores n t h = grind (arith, any_none, each_weaker, false_from_ne_true, and_parts, eqb-true, before_some)
 
   not_overwritten : (os : List OpenStore) (stores : List StoreByte) (s : StoreByte) (t : ℕ) → s.address ≡ here → Each (λ o. o.address ≡ here
       → IsDone os o → is_before s.ended o.began ≡ false) stores
@@ -144,15 +142,15 @@ module _ (image : List ℕ) (rest : Rest) (unit : UnitPlace) (j : ℕ) where
   not_overwritten os stores s t a h =
       any_none _ stores
       (each_weaker (λ o. o.address ≡ here → IsDone os o → is_before s.ended o.began ≡ false) (λ o. overwrites s t o ≡ false)
-      (λ o f. false_if _ (λ e.
+      (λ o f. false_from_ne_true _ (λ e.
       let p = and_parts _ _ e in
       let q = and_parts _ _ p.1 in
-      false_true _ (f (eqb-true o.address s.address p.0 ∙ a) (inl (before_some o.ended t q.1))) q.0)) stores h)
+      both_ways _ (f (eqb-true o.address s.address p.0 ∙ a) (inl (before_some o.ended t q.1))) q.0)) stores h)
 
   pub may_now : (os : List OpenStore) (stores : List StoreByte) (x : Option ℕ) → Stands os stores x → (n t b : ℕ) → IsByte rest b
       → is_as_it_stood x (Some b) ≡ true → may stores n t b ≡ true
   may_now os stores x (inl f) n t b l h = grind (arith, right_of, initial_allowed, uncovered)
-  may_now os stores x (inr o) n t b l h = grind (arith, any_one, one_weaker, and_from, eq-eqb, not_overwritten)
+  may_now os stores x (inr o) n t b l h = grind (arith, one_any, one_weaker, and_from, eq-eqb, not_overwritten)
 
   -- A store takes effect. ----
 
@@ -287,7 +285,7 @@ module _ (image : List ℕ) (rest : Rest) (unit : UnitPlace) (j : ℕ) where
               (
                 omega arith,
                 λ p q.
-                    absurd (false_true (is_at unit a len) e
+                    absurd (both_ways (is_at unit a len) e
                     (and_from (nat_lt a (unit.first + unit.size)) (nat_lt unit.first (a + len)) (lt-ltb
                     a (unit.first + unit.size) (omega arith)) (lt-ltb unit.first (a + len) (omega arith)))),
               ),
@@ -352,7 +350,7 @@ module _ (image : List ℕ) (rest : Rest) (unit : UnitPlace) (j : ℕ) where
   done_old os o s e (inl d) = inl d
   done_old os o s e (inr p) = elim (one_split (λ x. IsOf s x × (x.is_done ≡ true)) os _ p.1) [
     | inl a ↦ inr (p.0, a)
-    | inr (inl q) ↦ absurd (false_true o.is_done e q.1)
+    | inr (inl q) ↦ absurd (both_ways o.is_done e q.1)
     | inr (inr q) ↦ absurd q
   ]
 
@@ -362,8 +360,8 @@ module _ (image : List ℕ) (rest : Rest) (unit : UnitPlace) (j : ℕ) where
   none_under os stores n free has s e o (inl d) = absurd (open_answered s.ended o d)
   none_under os stores n free has s e o (inr p) =
       one_never (λ x. IsOf s x × (x.is_done ≡ true)) _ os p.1 has
-      (λ x q h. false_true _ free
-      (any_one _ stores (one_weaker _ (λ y. is_open n y ≡ true)
+      (λ x q h. both_ways _ free
+      (one_any _ stores (one_weaker _ (λ y. is_open n y ≡ true)
       (λ y r. rw r.1.0 (eq-eqb y.number n (r.1.1.0 ∙ (q.0.0 ∙ e)))) stores (h s.byte q.0.1))))
 
   done_with : (os more : List OpenStore) (s : StoreByte) → IsDone os s → IsDone (os ++ more) s
@@ -423,7 +421,7 @@ module _ (image : List ℕ) (rest : Rest) (unit : UnitPlace) (j : ℕ) where
             none_under _ stores n free f.has_bytes s h.0 h.1.0 d) added (each_new n a bs e moment)) f.word;
         has_stores = each_append _ stores added f.has_stores
             (each_weaker _ _ (λ s h p q.
-            absurd (false_true _ c (any_lane word j s.byte (lane_here ∙ (ap (stored_byte a bs e) (sym p) ∙
+            absurd (both_ways _ c (any_lane word j s.byte (lane_here ∙ (ap (stored_byte a bs e) (sym p) ∙
             h.1.1.1))))) added (each_new n a bs e moment));
         has_bytes = each_weaker _ _ (λ y h b p.
             one_left _ stores added (h b p)) _ f.has_bytes;
@@ -533,7 +531,7 @@ module _ (image : List ℕ) (rest : Rest) (unit : UnitPlace) (j : ℕ) where
       let ds = filter (λ o. not _) m.stores in
       record {
         wide = f.wide;
-        word = stands_answered m.stores stores n moment (lane m.word j) may_end f.has_stores (each_all (IsTimely moment) stores timely)
+        word = stands_answered m.stores stores n moment (lane m.word j) may_end f.has_stores (each_from_all (IsTimely moment) stores timely)
             f.word;
         has_stores = each_map after (HasStore ds) stores (each_weaker (HasStore m.stores) (λ s. HasStore ds (after s))
             (λ s h a e. elim (after_cases n moment s) [

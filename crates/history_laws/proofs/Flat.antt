@@ -1,15 +1,23 @@
 -- A flat history is an atomic one: each operation takes effect right behind its request.
-use Rattle.std.proofs.Common.{◌≡◌, ℕ, zero, suc, ◌+◌, ◌-◌, ◌/◌, ◌%◌, ◌<◌, ◌≤◌, Bool, true, false, ◌&&◌, ◌||◌, not, ◌==◌}
+use Rattle.std.proofs.Common.{◌≡◌, ℕ, zero, suc, ◌+◌, ◌-◌, ◌/◌, ◌%◌, ◌<◌, ◌≤◌, Bool, true, false, ◌&&◌, ◌||◌, not, ◌==◌, cond}
 use Rattle.std.proofs.Common.{if◌then◌else◌, nat_lt, List, [], ◌∷◌, ◌++◌, map, length, Option, Some, None, slice_get, inl, inr}
 use Rattle.std.proofs.Common.{refl, sym, ap, ◌∙◌, subst, append-nil, append_assoc, eq-eqb, eqb-true, arith}
-use Rattle.std.specs.Prelude.{is_some, IsTrue}
+use Rattle.std.specs.Prelude.{is_none, is_some, IsTrue}
 use Rattle.std.specs.Borrow.{Bor}
 use Rattle.std.specs.List.{filter, find, list_any, range_with_len, zip, position, prefix_len}
-use Rattle.std.proofs.lemmas.Bool.{cases_Bool, cases_lt, cases_eq, lt-ltb, ltb-true, lt-leb, leb-true, ne_eqb}
+use Rattle.std.specs.Option.{option_and_then}
+use Rattle.std.proofs.lemmas.Bool.{cases_Bool, cases_lt, cases_eq, lt-ltb, ltb-true, lt-leb, leb-true, ne_eqb, false_from_ne_true}
 use Rattle.std.proofs.Math.Path.{fun_ext}
-use Rattle.std.proofs.Math.Bool.{or_assoc}
+use Rattle.std.proofs.Math.Bool.{or_assoc, or-true, or-false}
+use Rattle.std.proofs.lemmas.Bool.{both_ways}
+use Rattle.atomic_histories.proofs.Lanes.{none_asked}
+use Rattle.atomic_histories.proofs.Bits.{stored_from_first}
+use Rattle.atomic_histories.proofs.Links.{load_allowed}
+use Rattle.atomic_histories.proofs.MayLaws.{then_it}
+use Rattle.atomic_histories.proofs.Lists.{one_any}
 use Rattle.memory_histories.specs.declared.events.HistoryEvent.{HistoryEvent}
 use Rattle.memory_histories.specs.declared.events.HistoryEvent.TheVariants.{LoadRequest, LoadResponse, StoreRequest, StoreResponse}
+use Rattle.memory_histories.specs.declared.events.HistoryFault.{HistoryFault}
 use Rattle.memory_histories.specs.declared.events.Rest.{Rest}
 use Rattle.memory_histories.specs.declared.events.Rest.TheVariants.{Zeros, Unknown}
 use Rattle.memory_histories.specs.declared.reasons.Owed.{Owed}
@@ -32,14 +40,14 @@ use Rattle.atomic_histories.specs.Law.{OpenLoad, UnitMemory, MayBe, starts, step
 use Rattle.atomic_histories.specs.Law.{is_load, is_got, may_answer_load, may_answer_store, with_load, with_store, without_load}
 use Rattle.atomic_histories.specs.Law.{without_store, unit_at, is_formed}
 use Rattle.atomic_histories.specs.Stands.{Each, One}
-use Rattle.atomic_histories.proofs.Lists.{each_weaker, each_append, one_weaker, one_left, one_last, each_filter, one_filter}
+use Rattle.atomic_histories.proofs.Lists.{each_weaker, each_append, one_weaker, one_left, one_last, each_filter, one_filter, each_all}
 use Rattle.history_laws.specs.Laws.{FlatIsAtomic, FlatIsRegular}
 use Rattle.history_laws.proofs.Atomic.{atomic_is_regular}
-use Rattle.history_laws.proofs.Lists.{each_passing, each_passes, any_one, any_none, each_always, false_if, or_true}
-use Rattle.history_laws.proofs.Pieces.{Marked, is_number, AreDifferent, bytes_of, piece, false_true}
-use Rattle.history_laws.proofs.Open.{Loads, loads_any, loads_more, loads_fewer, loads_under, length_bytes, load_formed}
+use Rattle.history_laws.proofs.Lists.{each_passing, any_none, each_always}
+use Rattle.history_laws.proofs.Pieces.{Marked, is_number, AreDifferent, bytes_of, piece}
+use Rattle.history_laws.proofs.Open.{Loads, loads_any, loads_more, loads_fewer, loads_under, length_bytes}
 use Rattle.history_laws.proofs.Open.{inside_some, marked_after}
-use Rattle.history_laws.proofs.Words.{lane_map, zero_plus, lane_word, stored_inside, enabled_first, enabled_next}
+use Rattle.history_laws.proofs.Words.{lane_map, zero_plus, lane_word, enabled_first, enabled_next, enabled_none}
 
 -- What stands at an address. ----
 
@@ -58,10 +66,6 @@ paid_stood : (o : Owed) (b : ℕ) → is_paid_by o b ≡ true → is_as_it_stood
 paid_stood owed.Unknown b h = refl
 paid_stood (owed.Initial byte) b h = h
 paid_stood (owed.Stored byte store) b h = h
-
-stood_none : (o : Option ℕ) → is_as_it_stood o None ≡ true
-stood_none None = refl
-stood_none (Some b) = refl
 
 -- a byte that a store writes, or what was there
 abbrev pub chosen : (ℕ → Owed) → Option ℕ → Owed → Owed
@@ -98,7 +102,7 @@ written_at value a x b bs e at = elim (cases_lt x a) [
     | inl same ↦
         let m : x < a + 1 = omega arith in
         let at_first : stored_byte a (b ∷ bs) e x ≡ enabled_byte (b ∷ bs) e 0 = subst (λ y.
-        stored_byte a (b ∷ bs) e y ≡ enabled_byte (b ∷ bs) e 0) (zero_behind a ∙ same) (stored_inside a (b ∷ bs) e 0) in
+        stored_byte a (b ∷ bs) e y ≡ enabled_byte (b ∷ bs) e 0) (zero_behind a ∙ same) (stored_from_first a (b ∷ bs) e 0) in
         rw (not_below _ x bs _ m, at_first, enabled_first b bs e) (first_value (e % 2 == 1) value at a b x (eq-eqb a x same))
     | inr other ↦
         let k : ℕ = x - (a + 1) in
@@ -106,9 +110,9 @@ written_at value a x b bs e at = elim (cases_lt x a) [
         let p : a + 1 + k ≡ x = omega arith in
         let q : a + suc k ≡ x = omega arith in
         let next : stored_byte _ bs _ x ≡ enabled_byte bs _ k = subst (λ y.
-        stored_byte (a + 1) bs (e / 2) y ≡ enabled_byte bs (e / 2) k) p (stored_inside (a + 1) bs (e / 2) k) in
+        stored_byte (a + 1) bs (e / 2) y ≡ enabled_byte bs (e / 2) k) p (stored_from_first (a + 1) bs (e / 2) k) in
         let here : stored_byte a (b ∷ bs) e x ≡ enabled_byte bs _ k = subst (λ y.
-        stored_byte a (b ∷ bs) e y ≡ enabled_byte bs (e / 2) k) q (stored_inside a (b ∷ bs) e _ ∙ enabled_next b bs e k) in
+        stored_byte a (b ∷ bs) e y ≡ enabled_byte bs (e / 2) k) q (stored_from_first a (b ∷ bs) e _ ∙ enabled_next b bs e k) in
         rw (next, here) (ap (chosen value (enabled_byte bs (e / 2) k)) (value_at (e % 2 == 1) at a (value b) x (ne_eqb a x other)))
   ]
 ]
@@ -157,14 +161,14 @@ no_place may [] h = tt
 no_place may (p ∷ ps) h = elim (cases_Bool _) [
   | inl e ↦ (
     e,
-    no_place may ps (false_if (nat_lt (prefix_len (λ q. not _) ps) _) (λ t.
+    no_place may ps (false_from_ne_true (nat_lt (prefix_len (λ q. not _) ps) _) (λ t.
         let l = ltb-true _ _ t in
         let f = (rw e at h) in
-        false_true (nat_lt (1 + prefix_len (λ q. not _) ps) _) f (lt-ltb _ _ (omega arith)))),
+        both_ways (nat_lt (1 + prefix_len (λ q. not _) ps) _) f (lt-ltb _ _ (omega arith)))),
   )
   | inr e ↦
       let f = (rw e at h) in
-      absurd (false_true (nat_lt 0 (suc (length ps))) f (lt-ltb 0 (suc (length ps)) (omega arith)))
+      absurd (both_ways (nat_lt 0 (suc (length ps))) f (lt-ltb 0 (suc (length ps)) (omega arith)))
 ]
 
 place_none : {L : Type 0} (may : L → ℕ → Bool) (ps : List (L × ℕ)) → position (λ p. not (may p.0 p.1)) ps ≡ None → nat_lt (prefix_len (λ p.
@@ -211,12 +215,8 @@ pub record Agrees (o : Opened) (f : Flat) (ks : List (Marked (ℕ → Owed))) : 
   pub loads : Loads owed_byte owed_number owed_named ks f.loads o.loads
   pub stores : (n : ℕ) → list_any (is_open n) f.stores ≡ list_any (has_number n) o.stores
 
-or_last : (b : Bool) → (b || false) ≡ b
-or_last true = refl
-or_last false = refl
-
 any_snoc : {X : Type 0} (p : X → Bool) (xs : List X) (x : X) → list_any p (xs ++ x ∷ []) ≡ (list_any p xs || p x)
-any_snoc p [] x = or_last (p x)
+any_snoc p [] x = or-false (p x)
 any_snoc p (y ∷ xs) x = cc (any_snoc p xs x, or_assoc (p y) (list_any p xs) (p x))
 
 kept_other : {X : Type 0} (number : X → ℕ) (n m : ℕ) (x : X) → (n == m) ≡ false → (number x == m) ≡ true → not (number x == n) ≡ true
@@ -243,7 +243,7 @@ pub agrees_after : (o : Opened) (f : Flat) (ks : List (Marked (ℕ → Owed))) (
     → form_fault o event ≡ None
     → Agrees (opened_after o event) (flat_after f event) (marked_after f.memory ks event)
 agrees_after o f ks (LoadRequest n a len) g h =
-    let p = load_formed _ _ h in
+    let p = load_allowed _ _ h in
     record {
       loads = loads_more owed_byte owed_number owed_named ks f.loads o.loads g.loads (record {
         operation = record {
@@ -336,7 +336,7 @@ formed_after o f ks (StoreResponse n) g h = ap store_response_fault (sym (g.stor
 
 pub no_other : (ks : List (Marked (ℕ → Owed))) (n : ℕ) (Q : Marked (ℕ → Owed) → Type 0) → One (λ x. (x.operation.number ≡ n) × Q x) ks
     → list_any (is_number n) ks ≡ false → ⊥
-no_other ks n Q o h = grind (arith, false_true, any_one, one_weaker, is_number, eq-eqb)
+no_other ks n Q o h = grind (arith, both_ways, one_any, one_weaker, is_number, eq-eqb)
 
 same_load : (ks : List (Marked (ℕ → Owed))) (n : ℕ) (k : Marked (ℕ → Owed)) (Q : Marked (ℕ → Owed) → Type 0) → AreDifferent ks
     → find (is_number n) ks ≡ Some k → One (λ x. (x.operation.number ≡ n) × Q x) ks → Q k
@@ -350,7 +350,7 @@ same_load (x ∷ ks) n k Q d h o = elim (cases_Bool _) [
         | inr r ↦ absurd (no_other ks n Q r (rw (eqb-true x.operation.number n e) at d.0))
       ]
   | inr e ↦ elim o [
-    | inl q ↦ absurd (false_true (is_number n x) e (eq-eqb x.operation.number n q.0))
+    | inl q ↦ absurd (both_ways (is_number n x) e (eq-eqb x.operation.number n q.0))
     | inr r ↦ same_load ks n k Q d.1 (rw e at h) r
   ]
 ]
@@ -358,10 +358,6 @@ same_load (x ∷ ks) n k Q d h o = elim (cases_Bool _) [
 lane_stood : (t : Bool) (o : Option ℕ) (b : ℕ) → is_as_it_stood o (Some b) ≡ true → is_as_it_stood (if t then o else None) (Some b) ≡ true
 lane_stood true o b h = h
 lane_stood false o b h = refl
-
-below : (c : Bool) (o : Option ℕ) (b : ℕ) → (if c then o else None) ≡ Some b → (c ≡ true) × (o ≡ Some b)
-below true o b h = (refl, h)
-below false o b h = cc
 
 get_within : (bs : List ℕ) (i b : ℕ) → slice_get bs i ≡ Some b → i < length bs
 get_within [] i b h = cc
@@ -396,9 +392,9 @@ module _ (unit : UnitPlace) where
       → i < k.operation.length → is_paid_by (k.mark (k.operation.address + i)) b ≡ true)
       → (j : ℕ) (o : Option ℕ) → byte_for k.operation.address bs (unit.first + j) ≡ o → is_as_it_stood (at_lane unit (λ a.
       known (k.mark a)) j) (byte_for k.operation.address bs (unit.first + j)) ≡ true
-  lane_paid k bs long paid j None e = rw e (stood_none (at_lane unit (λ a. known (k.mark a)) j))
+  lane_paid k bs long paid j None e = rw e (none_asked (at_lane unit (λ a. known (k.mark a)) j))
   lane_paid k bs long paid j (Some b) e =
-      let p = below _ _ b e in
+      let p = then_it _ _ b e in
       let i = unit.first + j - k.operation.address in
       let low = leb-true k.operation.address _ p.0 in
       let place : k.operation.address + i ≡ unit.first + j = omega arith in
@@ -478,7 +474,7 @@ module _ (unit : UnitPlace) where
       × Holds (flat_after f (LoadResponse n bytes)) (marked_after f.memory ks (LoadResponse n bytes)) k)
   answered start past o f ks m n bytes r h d a =
       let may : may_answer_load unit n bytes.now _ ≡ true =
-      each_passes (λ l. not _ || is_got unit l.address bytes.now l.got) _
+      each_all (λ l. not _ || is_got unit l.address bytes.now l.got) _
       (each_weaker (λ l. One _ ks) (λ l. (not _ || is_got unit l.address bytes.now l.got) ≡ true) (λ l q.
       bound_got ks n bytes.now d a.load a.found_load (got_paid a.load bytes.now a.long a.paid) l q) _ h.bound) in (
         without_load n m,
@@ -536,8 +532,8 @@ module _ (unit : UnitPlace) where
       → (k : UnitMemory) × (MayBe unit start (past ++ StoreResponse n ∷ []) k × Holds (flat_after f (StoreResponse n)) ks k)
   store_answered start past f ks m n r h =
       let may : may_answer_store n _ ≡ true =
-      each_passes (λ s. not _ || s.is_done) _ (each_weaker (λ s. s.is_done ≡ true) (λ s.
-      (not _ || s.is_done) ≡ true) (λ s q. rw q (or_true (not (is_store n s)))) _ h.done) in (
+      each_all (λ s. not _ || s.is_done) _ (each_weaker (λ s. s.is_done ≡ true) (λ s.
+      (not _ || s.is_done) ≡ true) (λ s q. rw q (or-true (not (is_store n s)))) _ h.done) in (
         without_store n m,
         (
           sees past _ m _ r (rw may refl),

@@ -6,7 +6,8 @@ use Rattle.std.specs.Prelude.{is_none, is_some, IsTrue}
 use Rattle.std.specs.Borrow.{Bor}
 use Rattle.std.specs.List.{list_any}
 use Rattle.std.specs.Option.{option_and_then}
-use Rattle.std.proofs.lemmas.Bool.{and_parts, ltb-true}
+use Rattle.std.proofs.lemmas.Bool.{and_parts, ltb-true, not-true, false_from_ne_true}
+use Rattle.atomic_histories.proofs.Links.{load_allowed}
 use Rattle.memory_histories.specs.declared.events.HistoryEvent.{HistoryEvent}
 use Rattle.memory_histories.specs.declared.events.HistoryEvent.TheVariants.{LoadRequest, LoadResponse, StoreRequest, StoreResponse}
 use Rattle.memory_histories.specs.declared.events.HistoryFault.{HistoryFault}
@@ -31,9 +32,8 @@ use Rattle.flat_model.specs.Flat.{word_at, same_word, may_answer}
 use Rattle.flat_model.specs.Flat as model
 use Rattle.history_laws.specs.Told.{word_bytes, image_bytes, seen_bytes, told_events, told_history}
 use Rattle.history_laws.specs.Late.{is_value_of, has_no_value, HasStood, LateIsAtomic}
-use Rattle.history_laws.proofs.Lists.{false_if}
 use Rattle.history_laws.proofs.Pieces.{Marked, is_number}
-use Rattle.history_laws.proofs.Open.{any_operation, load_formed, marked_after}
+use Rattle.history_laws.proofs.Open.{any_operation, marked_after}
 use Rattle.history_laws.proofs.Flat.{owed_byte, owed_number, owed_named, IsBound, Holds, got_paid, next, Agrees, agrees_after}
 use Rattle.history_laws.proofs.Flat.{formed_after, formed_from, first_agrees, first_holds, no_other}
 use Rattle.history_laws.proofs.Told.{Tells, eqb_swap, known_paid, value_taken, told_step, run_append, first_tells}
@@ -71,7 +71,7 @@ abbrev Keeps : ℕ → Word → List HistoryEvent → model.Flat → Type 0
 Keeps tag v told s = Each (Spares tag) told × (s.due tag ≡ Some v)
 
 not_free : (s : model.Flat) (tag t : ℕ) (v : Word) → s.due tag ≡ Some v → is_none (s.due t) ≡ true → (t == tag) ≡ false
-not_free s tag t v h free = false_if _ (λ q. let none = subst (λ x.
+not_free s tag t v h free = false_from_ne_true _ (λ q. let none = subst (λ x.
     is_none (s.due x) ≡ true) (eqb-true t tag q) free in let some = subst (λ o. is_none o ≡ true) h none in cc)
 
 other_due : (s : model.Flat) (tag t : ℕ) (v : Word) (o : Option Word) → s.due tag ≡ Some v → (t == tag) ≡ false
@@ -106,10 +106,6 @@ keeps_step s tag v (Take p) (Value t w) h may still = ((still, tt), other_due s 
 keeps_step s tag v (Take p) Nothing h may still = (tt, h)
 keeps_step s tag v (Take p) (Refused c) h may still = (tt, h)
 
-not_true : (b : Bool) → not b ≡ true → b ≡ false
-not_true true h = cc
-not_true false h = refl
-
 keeps_run : (s g : model.Flat) (tag : ℕ) (v : Word) (events : List Event) (answers : List Answer) → s.due tag ≡ Some v
     → model.flat_run s events answers ≡ Some g → has_no_value tag events answers ≡ true → Keeps tag v (told_history events answers) g
 keeps_run s g tag v [] [] h r still = let same : s ≡ g = cc in (tt, subst (λ x. x.due tag ≡ Some v) same h)
@@ -118,7 +114,7 @@ keeps_run s g tag v (event ∷ events) [] h r still = cc
 keeps_run s g tag v (event ∷ events) (answer ∷ answers) h r still =
     let p = step_parts _ _ g events answers r in
     let q = and_parts _ _ still in
-    let one = keeps_step s tag v event answer h p.0 (not_true (is_value_of tag event answer) q.0) in
+    let one = keeps_step s tag v event answer h p.0 (not-true (is_value_of tag event answer) q.0) in
     let more = keeps_run (model.flat_after s event answer) g tag v events answers one.1 p.1 q.1 in
     (each_append _ _ _ one.0 more.0, more.1)
 
@@ -201,11 +197,11 @@ module _ (unit : UnitPlace) where
       → flat_fault f (LoadRequest tag address len) ≡ None → list_any (is_number tag) ks ≡ false
   no_mark o f ks tag address len a e =
       sym (any_operation owed_byte owed_number owed_named ks o.loads tag a.loads.operations)
-      ∙ (load_formed _ _ (formed_after o f ks (LoadRequest tag address len) a e)).1
+      ∙ (load_allowed _ _ (formed_after o f ks (LoadRequest tag address len) a e)).1
 
   other_number : (ks : List (Marked (ℕ → Owed))) (tag : ℕ) → list_any (is_number tag) ks ≡ false → (l : OpenLoad)
       → One (IsBound unit l) ks → is_load tag l ≡ false
-  other_number ks tag none l b = false_if _ (λ q. no_other ks tag (λ k. (l.address ≡ k.operation.address)
+  other_number ks tag none l b = false_from_ne_true _ (λ q. no_other ks tag (λ k. (l.address ≡ k.operation.address)
       × (l.got ≡ Some _)) (one_weaker _ (λ k. (k.operation.number ≡ tag)
       × ((l.address ≡ k.operation.address) × (l.got ≡ Some _))) (λ k c. (c.0 ∙ eqb-true l.number tag q, c.1)) ks b)
       none)

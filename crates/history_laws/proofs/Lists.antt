@@ -8,10 +8,6 @@ use Rattle.atomic_histories.proofs.Lists.{one_weaker}
 
 -- Each and one. ----
 
-pub each_all : {X : Type 0} (P : X → Type 0) (xs : List X) → All P xs → Each P xs
-each_all P [] h = tt
-each_all P (x ∷ xs) h = (All-head P x xs h, each_all P xs (All-tail P x xs h))
-
 -- what holds of those that pass
 pub each_passing : {X : Type 0} (P : X → Type 0) (p : X → Bool) (xs : List X) → Each (λ x. p x ≡ true → P x) xs → Each P (filter p xs)
 each_passing P p [] h = tt
@@ -38,26 +34,9 @@ one_unfilter P p (x ∷ xs) h = elim (cases_Bool (p x)) [
 
 -- Tests. ----
 
-pub or_true : (x : Bool) → (x || true) ≡ true
-or_true true = refl
-or_true false = refl
-
-pub false_if : (b : Bool) → (b ≡ true → ⊥) → b ≡ false
-false_if true h = absurd (h refl)
-false_if false h = refl
-
-pub any_one : {X : Type 0} (p : X → Bool) (xs : List X) → One (λ x. p x ≡ true) xs → list_any p xs ≡ true
-any_one p [] h = absurd h
-any_one p (x ∷ xs) (inl e) = rw e refl
-any_one p (x ∷ xs) (inr h) = rw (any_one p xs h) (or_true (p x))
-
 pub any_none : {X : Type 0} (p : X → Bool) (xs : List X) → Each (λ x. p x ≡ false) xs → list_any p xs ≡ false
 any_none p [] h = refl
 any_none p (x ∷ xs) h = rw (h.0, any_none p xs h.1) refl
-
-pub each_passes : {X : Type 0} (p : X → Bool) (xs : List X) → Each (λ x. p x ≡ true) xs → list_all p xs ≡ true
-each_passes p [] h = refl
-each_passes p (x ∷ xs) h = rw (h.0, each_passes p xs h.1) refl
 
 pub filter_all : {X : Type 0} (p : X → Bool) (xs : List X) → Each (λ x. p x ≡ true) xs → filter p xs ≡ xs
 filter_all p [] h = refl
@@ -113,6 +92,3 @@ each_get P [] i x h e = cc
 each_get P (y ∷ ys) zero x h e = let same : y ≡ x = cc in subst P same h.0
 each_get P (y ∷ ys) (suc i) x h e = each_get P ys i x h.1 e
 
-pub any_agree : {X : Type 0} (p q : X → Bool) → ((x : X) → p x ≡ q x) → (xs : List X) → list_any p xs ≡ list_any q xs
-any_agree p q f [] = refl
-any_agree p q f (x ∷ xs) = rw (f x, any_agree p q f xs) refl

@@ -5,6 +5,7 @@ use Rattle.std.specs.List.{filter, find, list_any, range_with_len, zip}
 use Rattle.std.specs.Option.{option_map}
 use Rattle.std.proofs.lemmas.Bool.{eq-eqb, ne_eqb}
 use Rattle.std.proofs.lemmas.List.{length-map, map-append}
+use Rattle.std.proofs.lemmas.List.FromFn.{length-range_with_len}
 use Rattle.memory_histories.specs.declared.events.HistoryEvent.{HistoryEvent}
 use Rattle.memory_histories.specs.declared.events.HistoryEvent.TheVariants.{LoadRequest, LoadResponse}
 use Rattle.memory_histories.specs.declared.events.HistoryFault.TheVariants.{WrongLength}
@@ -18,21 +19,6 @@ use Rattle.history_laws.proofs.Pieces.{Marked, operation_of, is_number, AreDiffe
 use Rattle.history_laws.proofs.Pieces.{bytes_without, bytes_more, each_paid, different_more, different_fewer, no_wrong_place}
 
 -- Events that aren't malformed. ----
-
-pub load_formed : (inside used : Bool) → load_request_fault inside used ≡ None → (inside ≡ true) × (used ≡ false)
-load_formed false used h = cc
-load_formed true true h = cc
-load_formed true false h = (refl, refl)
-
-pub store_formed : (inside any used : Bool) → store_request_fault inside any used ≡ None → (inside ≡ true) × ((any ≡ true) × (used ≡ false))
-store_formed false any used h = cc
-store_formed true false used h = cc
-store_formed true true true h = cc
-store_formed true true false h = (refl, (refl, refl))
-
-same_length : (b : Bool) → (if b then None else Some WrongLength) ≡ None → b ≡ true
-same_length true h = refl
-same_length false h = cc
 
 pub answer_formed : (o : Option Operation) (n : ℕ) → answer_fault o n ≡ None → (x : Operation) × ((o ≡ Some x) × (x.length ≡ n))
 answer_formed None n h = cc
@@ -101,12 +87,8 @@ module _ {X L : Type 0} (make : ℕ → ℕ → X → L) (number : L → ℕ) (n
       h.operations) ∙ e)) in
       (s.0, (s.1.0, (s.1.1, ap (filter (λ l. number l == n)) h.bytes ∙ bytes_under make number named ks n s.0 h.different s.1.0)))
 
-  length_range : (n a : ℕ) → length (range_with_len a n) ≡ n
-  length_range zero a = refl
-  length_range (suc n) a = ap suc (length_range n (a + 1))
-
   pub length_bytes : (k : Marked X) → length (bytes_of make number named k) ≡ k.operation.length
-  length_bytes k = grind (arith, length-map, k.operation.number, length_range, k.operation.length)
+  length_bytes k = grind (arith, length-map, k.operation.number, length-range_with_len, k.operation.length)
 
   -- an answer of which each byte may be returned has no fault
   pub no_fault : (may : L → ℕ → Bool) (k : Marked X) (bs : List ℕ) → IsSome k → length bs ≡ k.operation.length

@@ -2,10 +2,11 @@
 use Rattle.std.proofs.Common.{◌≡◌, ℕ, zero, suc, ◌+◌, ◌<◌, ◌≤◌, Bool, true, false, ◌||◌, not, ◌==◌, List, [], ◌∷◌, ◌++◌, map, length, Some}
 use Rattle.std.proofs.Common.{None, slice_get, inl, inr, append_assoc, append-nil, eqb-true, refl, sym, ap, ◌∙◌, subst, arith}
 use Rattle.std.specs.List.{filter, find, list_any, range_with_len, zip, position, prefix_len}
-use Rattle.std.proofs.lemmas.Bool.{cases_Bool, le-ltb}
-use Rattle.std.proofs.Math.Bool.{or_assoc}
+use Rattle.std.proofs.lemmas.Bool.{cases_Bool, le-ltb, both_ways}
+use Rattle.std.proofs.Math.Bool.{or_assoc, or-false}
 use Rattle.std.proofs.lemmas.List.Elements.{filter-append}
 use Rattle.std.proofs.lemmas.List.Folds.{list_any-append}
+use Rattle.atomic_histories.proofs.Links.{eq_false_sym}
 use Rattle.atomic_histories.specs.declared.unit.Operation.{Operation}
 use Rattle.atomic_histories.specs.Stands.{Each}
 use Rattle.atomic_histories.proofs.Lists.{each_weaker}
@@ -29,10 +30,6 @@ AreDifferent (k ∷ ks) = (list_any (is_number k.operation.number) ks ≡ false)
 
 abbrev pub IsSome : {X : Type 0} → Marked X → Type 0
 IsSome k = 1 ≤ k.operation.length
-
-pub false_true : (b : Bool) → b ≡ false → b ≡ true → ⊥
-false_true true h k = cc
-false_true false h k = cc
 
 module _ {X L : Type 0} (make : ℕ → ℕ → X → L) (number : L → ℕ) (named : (n a : ℕ) (x : X) → number (make n a x) ≡ n) where
   abbrev pub piece : ℕ → X → ℕ → ℕ → List L
@@ -73,7 +70,7 @@ module _ {X L : Type 0} (make : ℕ → ℕ → X → L) (number : L → ℕ) (n
   none_of : (ks : List (Marked X)) (n : ℕ) → list_any (is_number n) ks ≡ false → filter (is_it n) (all_bytes ks) ≡ []
   none_of [] n h = refl
   none_of (k ∷ ks) n h = elim (cases_Bool (is_number n k)) [
-    | inl e ↦ absurd (false_true (is_number n k || list_any (is_number n) ks) h (rw e refl))
+    | inl e ↦ absurd (both_ways (is_number n k || list_any (is_number n) ks) h (rw e refl))
     | inr e ↦ let r = (rw e at h) in
         filter-append (is_it n) (bytes_of k) (all_bytes ks) ∙ rw (
           filter_none (is_it n) (bytes_of k) (each_is k n false e),
@@ -141,32 +138,25 @@ module _ {X L : Type 0} (make : ℕ → ℕ → X → L) (number : L → ℕ) (n
 
 -- Different numbers. ----
 
-or_last : (b : Bool) → (b || false) ≡ b
-or_last true = refl
-or_last false = refl
-
 any_snoc : {X : Type 0} (n : ℕ) (ks : List (Marked X)) (k : Marked X) → list_any (is_number n) (ks
     ++ k ∷ []) ≡ (list_any (is_number n) ks || is_number n k)
-any_snoc n [] k = or_last _
+any_snoc n [] k = or-false _
 any_snoc n (j ∷ ks) k = cc (any_snoc n ks k, or_assoc (is_number n j) (list_any (is_number n) ks) (is_number n k))
-
-eqb_flip : (x y : ℕ) → (x == y) ≡ false → (y == x) ≡ false
-eqb_flip x y h = grind arith
 
 pub different_more : {X : Type 0} (ks : List (Marked X)) (k : Marked X) → AreDifferent ks
     → list_any (is_number k.operation.number) ks ≡ false → AreDifferent (ks ++ k ∷ [])
 different_more [] k d h = (refl, tt)
 different_more (j ∷ ks) k d h = elim (cases_Bool (is_number k.operation.number j)) [
-  | inl e ↦ absurd (false_true (is_number k.operation.number j || list_any (is_number k.operation.number) ks) h (rw e refl))
+  | inl e ↦ absurd (both_ways (is_number k.operation.number j || list_any (is_number k.operation.number) ks) h (rw e refl))
   | inr e ↦
       let r = (rw e at h) in
-      (any_snoc j.operation.number ks k ∙ rw (d.0, eqb_flip j.operation.number k.operation.number e) refl, different_more ks k d.1 r)
+      (any_snoc j.operation.number ks k ∙ rw (d.0, eq_false_sym j.operation.number k.operation.number e) refl, different_more ks k d.1 r)
 ]
 
 any_fewer : {X : Type 0} (p q : Marked X → Bool) (ks : List (Marked X)) → list_any p ks ≡ false → list_any p (filter q ks) ≡ false
 any_fewer p q [] h = refl
 any_fewer p q (k ∷ ks) h = elim (cases_Bool (p k)) [
-  | inl e ↦ absurd (false_true (p k || list_any p ks) h (rw e refl))
+  | inl e ↦ absurd (both_ways (p k || list_any p ks) h (rw e refl))
   | inr e ↦
       let r = (rw e at h) in
       elim (cases_Bool (q k)) [ inl f ↦ rw (f, e) (any_fewer p q ks r) | inr f ↦ rw f (any_fewer p q ks r) ]

@@ -2,7 +2,7 @@
 use Rattle.std.proofs.Common.{◌≡◌, ℕ, ◌+◌, Bool, true, false, not, ◌==◌, if◌then◌else◌, nat_lt, List, [], ◌∷◌, ◌++◌, length, Option}
 use Rattle.std.proofs.Common.{Some, None, inl, inr, refl, sym, ap, ◌∙◌, subst, eqb-true, append-nil, append_assoc}
 use Rattle.std.specs.List.{list_any}
-use Rattle.std.proofs.lemmas.Bool.{cases_Bool, and_parts, and_from, ltb-true}
+use Rattle.std.proofs.lemmas.Bool.{cases_Bool, and_parts, and_from, ltb-true, both_ways}
 use Rattle.std.proofs.lemmas.List.{get_or-set_same}
 use Rattle.flat_model.specs.declared.Word.{Word}
 use Rattle.flat_model.specs.declared.Lanes.{Lanes}
@@ -31,7 +31,6 @@ use Rattle.atomic_histories.proofs.Lists.{each_weaker, each_append, one_each, on
 use Rattle.history_laws.specs.Told.{image_bytes, told_history}
 use Rattle.history_laws.specs.Late.{is_value_of, has_no_value, HasStood}
 use Rattle.history_laws.specs.Since.{has_stood_since, ToldLateIsAtomic}
-use Rattle.history_laws.proofs.Pieces.{false_true}
 use Rattle.history_laws.proofs.Told.{eqb_swap}
 use Rattle.history_laws.proofs.Late.{step_parts, nested, same_itself, late_is_atomic}
 
@@ -382,18 +381,18 @@ value_here : (o : Origins) (event : Event) (answer : Answer) → has_stood_since
     → IsLateValue o event answer
 value_here o (Load tag at) answer h =
     let f = place_stood o at answer (tag_reason tag (o.tags tag)) (tag_stood tag (o.tags tag)) in
-    absurd (false_true (has_stood_since (place_reason o at answer (tag_reason tag (o.tags tag)))) f h)
+    absurd (both_ways (has_stood_since (place_reason o at answer (tag_reason tag (o.tags tag)))) f h)
 value_here o (Store at word lanes) answer h =
     let other = if has_any lanes then HasLanes else NoLanes in
-    absurd (false_true (has_stood_since (place_reason o at answer other)) (place_stood o at answer other (lanes_stood (has_any lanes))) h)
+    absurd (both_ways (has_stood_since (place_reason o at answer other)) (place_stood o at answer other (lanes_stood (has_any lanes))) h)
 value_here o (Prefetch at) answer h =
-    absurd (false_true (has_stood_since (place_reason o at answer (never answer))) (place_stood o at answer (never answer) (never_stood
+    absurd (both_ways (has_stood_since (place_reason o at answer (never answer))) (place_stood o at answer (never answer) (never_stood
     answer)) h)
-value_here o (Evict block) answer h = absurd (false_true (has_stood_since (never answer)) (never_stood answer) h)
-value_here o Drain answer h = absurd (false_true (has_stood_since (never answer)) (never_stood answer) h)
-value_here o (Serve bank) answer h = absurd (false_true (has_stood_since (never answer)) (never_stood answer) h)
-value_here o (Arrive bank p) answer h = absurd (false_true (has_stood_since (never answer)) (never_stood answer) h)
-value_here o (Process p) answer h = absurd (false_true (has_stood_since (never answer)) (never_stood answer) h)
+value_here o (Evict block) answer h = absurd (both_ways (has_stood_since (never answer)) (never_stood answer) h)
+value_here o Drain answer h = absurd (both_ways (has_stood_since (never answer)) (never_stood answer) h)
+value_here o (Serve bank) answer h = absurd (both_ways (has_stood_since (never answer)) (never_stood answer) h)
+value_here o (Arrive bank p) answer h = absurd (both_ways (has_stood_since (never answer)) (never_stood answer) h)
+value_here o (Process p) answer h = absurd (both_ways (has_stood_since (never answer)) (never_stood answer) h)
 value_here o (Take p) Accepted h = cc
 value_here o (Take p) Moved h = cc
 value_here o (Take p) (Value tag word) h = value_case o p tag word (o.tags tag) refl h
@@ -404,7 +403,7 @@ late_value : (o : Origins) (event : Event) (answer : Answer) → has_stood_since
     → IsLateValue o event answer
 late_value o event answer h = elim (cases_Bool (is_ever event answer)) [
   | inl q ↦ value_here o event answer (rw q at h)
-  | inr q ↦ absurd (false_true (has_stood_since (never answer)) (never_stood answer) (rw q at h))
+  | inr q ↦ absurd (both_ways (has_stood_since (never answer)) (never_stood answer) (rw q at h))
 ]
 
 -- The law. ----

@@ -6,11 +6,12 @@ use Rattle.std.specs.Prelude.{is_none, is_some, IsTrue}
 use Rattle.std.specs.Int.{bit_at}
 use Rattle.std.specs.List.{filter, list_any}
 use Rattle.std.specs.Option.{option_and_then}
-use Rattle.std.proofs.lemmas.Bool.{cases_Bool, cases_eq, cases_lt, and_parts, ne_eqb, ltb-true}
+use Rattle.std.proofs.lemmas.Bool.{cases_Bool, cases_eq, cases_lt, and_parts, ne_eqb, ltb-true, false_from_ne_true, both_ways}
 use Rattle.std.proofs.lemmas.Nat.Bits.{bit_at-suc, bit_at-lt, and_pow}
 use Rattle.std.proofs.lemmas.List.{get_or-set_same, get_or-set_other, length-set}
 use Rattle.std.proofs.lemmas.List.Elements.{filter-append}
 use Rattle.std.proofs.lemmas.Option.{slice_get_past}
+use Rattle.atomic_histories.proofs.Bits.{stored_from_first}
 use Rattle.memory_histories.specs.declared.events.HistoryEvent.{HistoryEvent}
 use Rattle.memory_histories.specs.declared.events.HistoryEvent.TheVariants.{LoadRequest, LoadResponse, StoreRequest, StoreResponse}
 use Rattle.memory_histories.specs.declared.events.Rest.{Rest}
@@ -40,9 +41,6 @@ use Rattle.machine_core.proofs.Walking.{walk_is_flat}
 use Rattle.history_laws.specs.Laws.{IsFlat, ReturnsBytes}
 use Rattle.history_laws.specs.Told.{word_bytes, image_bytes, seen_bytes, told_events, told_history, IsAddressable, RunIsLawful}
 use Rattle.history_laws.specs.Told.{MachineIsLawful}
-use Rattle.history_laws.proofs.Lists.{false_if}
-use Rattle.history_laws.proofs.Pieces.{false_true}
-use Rattle.history_laws.proofs.Words.{stored_inside}
 use Rattle.history_laws.proofs.Flat.{flat_is_atomic, flat_is_regular, known, not_below, chosen, bytes_at, known_chosen}
 
 -- Lanes. ----
@@ -231,7 +229,7 @@ module _ (n : ℕ) (fits : n ≤ 4611686018427387904) where
   at_lane memory store at word m l old h =
       ap known (bytes_at (λ b. owed.Stored b store) (word_bytes word) _ _ m.0 memory)
       ∙ (known_chosen store _ (memory (4 * at + place l))
-      ∙ rw (stored_inside (4 * at) (word_bytes word) m.0 (place l), enabled_lane word m l, h) (lane_left (has m l) (byte word l) old))
+      ∙ rw (stored_from_first (4 * at) (word_bytes word) m.0 (place l), enabled_lane word m l, h) (lane_left (has m l) (byte word l) old))
 
   not_enabled : (bs : List ℕ) (e k : ℕ) → length bs ≤ k → enabled_byte bs e k ≡ None
   not_enabled bs e k h = grind (arith, cases_Bool, slice_get_past)
@@ -245,7 +243,7 @@ module _ (n : ℕ) (fits : n ≤ 4611686018427387904) where
         let far : 4 ≤ 4 * other + place l - 4 * at = omega arith in
         let whole : 4 * at + (4 * other + place l - 4 * at) ≡ 4 * other + place l = omega arith in
         subst (λ a. stored_byte (4 * at) (word_bytes word) e a ≡ None) whole
-        (stored_inside _ (word_bytes word) e _ ∙ not_enabled (word_bytes word) e _ far)
+        (stored_from_first _ (word_bytes word) e _ ∙ not_enabled (word_bytes word) e _ far)
   ]
 
   words_with : (s : model.Flat) (f : Flat) → Tells n s f → (store : StoreName) (at : ℕ) (word : Word) (m : Lanes) → at < n
@@ -322,15 +320,15 @@ module _ (n : ℕ) (fits : n ≤ 4611686018427387904) where
         k,
       ) more
       | inr k ↦
-          let ne = false_if _ (λ q.
-          false_true _ k (eq-eqb t tag (sym (eqb-true l.number t q) ∙ eqb-true l.number tag e))) in
+          let ne = false_from_ne_true _ (λ q.
+          both_ways _ k (eq-eqb t tag (sym (eqb-true l.number t q) ∙ eqb-true l.number tag e))) in
           let more = (rw k at (others ls tag t)) in
           rw (e, k, ne) more
     ]
     | inr e ↦ elim (cases_Bool _) [
       | inl k ↦
-          let ne = false_if _ (λ q.
-          false_true _ e (eq-eqb l.number tag (eqb-true l.number t q ∙ eqb-true t tag k))) in
+          let ne = false_from_ne_true _ (λ q.
+          both_ways _ e (eq-eqb l.number tag (eqb-true l.number t q ∙ eqb-true t tag k))) in
           let more = (rw k at (others ls tag t)) in
           rw (e, k, ne) more
       | inr k ↦

@@ -4,6 +4,8 @@ use Rattle.std.proofs.Common.{List, [], ◌∷◌, map, length, Option, Some, No
 use Rattle.std.specs.List.{list_any, range_with_len}
 use Rattle.std.proofs.lemmas.Bool.{and_parts, and_from, lt-ltb, leb-true}
 use Rattle.std.proofs.lemmas.Nat.Bits.{bit_at-suc}
+use Rattle.atomic_histories.proofs.Bits.{stored_from_first}
+use Rattle.atomic_histories.proofs.MayLaws.{then_it}
 use Rattle.memory_histories.specs.declared.windows.StoreByte.{StoreByte}
 use Rattle.memory_histories.specs.Windows.{store_bytes, cons_if, is_open}
 use Rattle.memory_histories.specs.Regular.{has_enabled}
@@ -63,6 +65,9 @@ lane_word first (w ∷ ws) a bs h =
 
 -- The bytes of a store. ----
 
+pub enabled_none : (e k : ℕ) → enabled_byte [] e k ≡ None
+enabled_none e k = grind arith
+
 pub enabled_first : (b : ℕ) (bs : List ℕ) (e : ℕ) → enabled_byte (b ∷ bs) e 0 ≡ (if e % 2 == 1 then Some b else None)
 enabled_first b bs e = grind arith
 
@@ -81,10 +86,6 @@ each_cons_if : (P : StoreByte → Type 0) (c : Bool) (s : StoreByte) (ss : List 
     → Each P (cons_if c s ss)
 each_cons_if P true s ss p h = (p refl, h)
 each_cons_if P false s ss p h = h
-
-chosen : (c : Bool) (x b : ℕ) → (if c then Some x else None) ≡ Some b → (c ≡ true) × (x ≡ b)
-chosen true x b h = (refl, cc)
-chosen false x b h = cc
 
 enabled_new : (n a : ℕ) (bs : List ℕ) (e t k b : ℕ) → enabled_byte bs e k ≡ Some b → One (λ s.
     s ≡ new_byte n (a + k) b t) (store_bytes n a bs e t)
@@ -123,24 +124,17 @@ each_enabled n a (x ∷ bs) e t =
       ),
     )) _ (each_enabled n (a + 1) bs (e / 2) t))
 
-pub stored_inside : (a : ℕ) (bs : List ℕ) (e k : ℕ) → stored_byte a bs e (a + k) ≡ enabled_byte bs e k
-stored_inside a bs e k = grind arith
-
-below : (c : Bool) (o : Option ℕ) (b : ℕ) → (if c then o else None) ≡ Some b → (c ≡ true) × (o ≡ Some b)
-below true o b h = (refl, h)
-below false o b h = cc
-
 -- a byte that a store writes at an address is one of its bytes
 pub stored_new : (n a : ℕ) (bs : List ℕ) (e t at b : ℕ) → stored_byte a bs e at ≡ Some b → One (λ s.
     s ≡ new_byte n at b t) (store_bytes n a bs e t)
-stored_new n a bs e t at b h = grind (arith, below, leb-true, enabled_new)
+stored_new n a bs e t at b h = grind (arith, then_it, leb-true, enabled_new)
 
 -- and each of its bytes is one that it writes
 abbrev pub IsNewByte : ℕ → ℕ → List ℕ → ℕ → ℕ → StoreByte → Type 0
 IsNewByte n a bs e t s = (s.number ≡ n) × ((s.ended ≡ None) × ((s.began ≡ t) × (stored_byte a bs e s.address ≡ Some s.byte)))
 
 pub each_new : (n a : ℕ) (bs : List ℕ) (e t : ℕ) → Each (IsNewByte n a bs e t) (store_bytes n a bs e t)
-each_new n a bs e t = grind (arith, each_weaker, stored_inside, each_enabled)
+each_new n a bs e t = grind (arith, each_weaker, stored_from_first, each_enabled)
 
 any_new_if : (c r x : Bool) (n m : ℕ) (s : StoreByte) (ss : List StoreByte) → is_open m s ≡ x → list_any (is_open m) ss ≡ (r && x)
     → list_any (is_open m) (cons_if c s ss) ≡ ((c || r) && x)
@@ -153,5 +147,3 @@ any_new n a (x ∷ bs) e t m =
     any_new_if _ _ (n == m) n m (new_byte n a x t) (store_bytes n (a + 1) bs (e / 2) t) refl (any_new n (a
     + 1) bs (e / 2) t m)
 
-pub byte_inside : (a : ℕ) (bs : List ℕ) (i : ℕ) → byte_for a bs (a + i) ≡ slice_get bs i
-byte_inside a bs i = grind arith
