@@ -1,5 +1,5 @@
 -- An atomic history is a regular one.
-use Rattle.std.proofs.Common.{◌≡◌, ℕ, ◌+◌, ◌*◌, ◌/◌, ◌%◌, ◌<◌, ◌≤◌, Bool, true, false, ◌||◌, not, if◌then◌else◌, List, [], ◌∷◌, ◌++◌}
+use Rattle.std.proofs.Common.{◌≡◌, ℕ, ◌+◌, ◌*◌, ◌/◌, ◌%◌, ◌<◌, ◌≤◌, true, ◌||◌, not, if◌then◌else◌, List, [], ◌∷◌, ◌++◌}
 use Rattle.std.proofs.Common.{length, fold, Option, Some, None, slice_get, inl, inr, refl, sym, ap, ◌∙◌, subst, append-nil, append_assoc}
 use Rattle.std.proofs.Common.{div-add-mod', mod-lt, eq-eqb, eqb-true, arith}
 use Rattle.std.specs.Prelude.{is_some, IsTrue}
@@ -7,7 +7,6 @@ use Rattle.std.specs.Borrow.{Bor}
 use Rattle.std.specs.List.{All, find, list_any}
 use Rattle.std.proofs.lemmas.Bool.{cases_Bool, and_parts}
 use Rattle.std.proofs.lemmas.List.Sums.{fold-append}
-use Rattle.std.proofs.lemmas.List.{same_from_push}
 use Rattle.std.proofs.lemmas.Option.{same_Some, cond_some}
 use Rattle.atomic_histories.proofs.Whole.{formed_more}
 use Rattle.atomic_histories.proofs.MayLaws.{byte_inside, seen_last}
@@ -29,7 +28,7 @@ use Rattle.atomic_histories.specs.Law.{OpenLoad, UnitMemory, HiddenStep, MayBe, 
 use Rattle.atomic_histories.specs.Law.{with_load, with_store, seen, unit_at}
 use Rattle.atomic_histories.specs.Law.{is_formed, IsAtomicAt}
 use Rattle.atomic_histories.specs.Stands.{Each}
-use Rattle.atomic_histories.proofs.Lists.{one_each, no_snoc, all_each, one_elim, each_from_all}
+use Rattle.atomic_histories.proofs.Lists.{one_each, all_each, one_elim, each_from_all}
 use Rattle.atomic_histories.proofs.Links.{none_is, store_allowed}
 use Rattle.history_laws.specs.Laws.{IsByte, ReturnsBytes, IsUnitSize, AtomicIsRegular}
 use Rattle.history_laws.proofs.Lists.{each_find, each_get}

@@ -1,11 +1,10 @@
 -- A flat history is an atomic one: each operation takes effect right behind its request.
-use Rattle.std.proofs.Common.{◌≡◌, ℕ, zero, suc, ◌+◌, ◌-◌, ◌/◌, ◌%◌, ◌<◌, ◌≤◌, Bool, true, false, ◌&&◌, ◌||◌, not, ◌==◌, cond}
+use Rattle.std.proofs.Common.{◌≡◌, ℕ, zero, suc, ◌+◌, ◌-◌, ◌/◌, ◌%◌, ◌<◌, ◌≤◌, Bool, true, false, ◌&&◌, ◌||◌, not, ◌==◌}
 use Rattle.std.proofs.Common.{if◌then◌else◌, nat_lt, List, [], ◌∷◌, ◌++◌, map, length, Option, Some, None, slice_get, inl, inr}
 use Rattle.std.proofs.Common.{refl, sym, ap, ◌∙◌, subst, append-nil, append_assoc, eq-eqb, eqb-true, arith}
-use Rattle.std.specs.Prelude.{is_none, is_some, IsTrue}
+use Rattle.std.specs.Prelude.{is_some, IsTrue}
 use Rattle.std.specs.Borrow.{Bor}
 use Rattle.std.specs.List.{filter, find, list_any, range_with_len, zip, position, prefix_len}
-use Rattle.std.specs.Option.{option_and_then}
 use Rattle.std.proofs.lemmas.Bool.{cases_Bool, cases_lt, cases_eq, lt-ltb, ltb-true, lt-leb, leb-true, ne_eqb, false_from_ne_true}
 use Rattle.std.proofs.Math.Path.{fun_ext}
 use Rattle.std.proofs.Math.Bool.{or_assoc, or-true, or-false}
@@ -17,7 +16,6 @@ use Rattle.atomic_histories.proofs.MayLaws.{then_it}
 use Rattle.atomic_histories.proofs.Lists.{one_any}
 use Rattle.memory_histories.specs.declared.events.HistoryEvent.{HistoryEvent}
 use Rattle.memory_histories.specs.declared.events.HistoryEvent.TheVariants.{LoadRequest, LoadResponse, StoreRequest, StoreResponse}
-use Rattle.memory_histories.specs.declared.events.HistoryFault.{HistoryFault}
 use Rattle.memory_histories.specs.declared.events.Rest.{Rest}
 use Rattle.memory_histories.specs.declared.events.Rest.TheVariants.{Zeros, Unknown}
 use Rattle.memory_histories.specs.declared.reasons.Owed.{Owed}
@@ -47,7 +45,7 @@ use Rattle.history_laws.proofs.Lists.{each_passing, any_none, each_always}
 use Rattle.history_laws.proofs.Pieces.{Marked, is_number, AreDifferent, bytes_of, piece}
 use Rattle.history_laws.proofs.Open.{Loads, loads_any, loads_more, loads_fewer, loads_under, length_bytes}
 use Rattle.history_laws.proofs.Open.{inside_some, marked_after}
-use Rattle.history_laws.proofs.Words.{lane_map, zero_plus, lane_word, enabled_first, enabled_next, enabled_none}
+use Rattle.history_laws.proofs.Words.{lane_map, zero_plus, lane_word, enabled_first, enabled_next}
 
 -- What stands at an address. ----
 

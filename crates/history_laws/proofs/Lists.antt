@@ -1,8 +1,7 @@
 -- What holds of each element of a list or of one of them, and tests.
 use Rattle.std.proofs.Common.{◌≡◌, ℕ, zero, suc, Some, slice_get, Bool, true, false, ◌||◌, ◌⊎◌, List, [], ◌∷◌, ◌++◌, inl, inr, refl, subst}
-use Rattle.std.specs.List.{All, filter, find, list_any, list_all}
+use Rattle.std.specs.List.{filter, find, list_any}
 use Rattle.std.proofs.lemmas.Bool.{cases_Bool}
-use Rattle.std.proofs.lemmas.List.Elements.{All-head, All-tail}
 use Rattle.atomic_histories.specs.Stands.{Each, One}
 use Rattle.atomic_histories.proofs.Lists.{one_weaker}
 

@@ -1,15 +1,14 @@
 -- The loads that are open, as the atomic law has them and as a law of single bytes has them; and events that aren't malformed.
-use Rattle.std.proofs.Common.{◌≡◌, ℕ, zero, suc, ◌+◌, ◌<◌, ◌≤◌, Bool, true, false, not, ◌==◌, if◌then◌else◌, List, [], ◌∷◌, ◌++◌, map}
+use Rattle.std.proofs.Common.{◌≡◌, ℕ, ◌+◌, ◌<◌, ◌≤◌, Bool, true, false, not, ◌==◌, if◌then◌else◌, List, [], ◌∷◌, ◌++◌, map}
 use Rattle.std.proofs.Common.{length, Option, Some, None, slice_get, refl, sym, ap, ◌∙◌, arith}
-use Rattle.std.specs.List.{filter, find, list_any, range_with_len, zip}
+use Rattle.std.specs.List.{filter, find, list_any, zip}
 use Rattle.std.specs.Option.{option_map}
 use Rattle.std.proofs.lemmas.Bool.{eq-eqb, ne_eqb}
 use Rattle.std.proofs.lemmas.List.{length-map, map-append}
 use Rattle.std.proofs.lemmas.List.FromFn.{length-range_with_len}
 use Rattle.memory_histories.specs.declared.events.HistoryEvent.{HistoryEvent}
 use Rattle.memory_histories.specs.declared.events.HistoryEvent.TheVariants.{LoadRequest, LoadResponse}
-use Rattle.memory_histories.specs.declared.events.HistoryFault.TheVariants.{WrongLength}
-use Rattle.memory_histories.specs.Regular.{is_inside, load_request_fault, load_response_fault, store_request_fault}
+use Rattle.memory_histories.specs.Regular.{is_inside, load_response_fault}
 use Rattle.memory_histories.proofs.Lists.{list_any-map, filter-map, find-map}
 use Rattle.atomic_histories.specs.declared.unit.Operation.{Operation}
 use Rattle.atomic_histories.specs.Stands.{Each}

@@ -1,6 +1,6 @@
 -- The places of a word, and the bytes of a store.
 use Rattle.std.proofs.Common.{◌≡◌, ℕ, zero, suc, ◌+◌, ◌-◌, ◌/◌, ◌%◌, ◌<◌, Bool, true, false, ◌&&◌, ◌||◌, ◌==◌, if◌then◌else◌}
-use Rattle.std.proofs.Common.{List, [], ◌∷◌, map, length, Option, Some, None, slice_get, inr, refl, sym, ap, ◌∙◌, subst, arith}
+use Rattle.std.proofs.Common.{List, [], ◌∷◌, map, length, Option, Some, None, inr, refl, sym, ap, ◌∙◌, subst, arith}
 use Rattle.std.specs.List.{list_any, range_with_len}
 use Rattle.std.proofs.lemmas.Bool.{and_parts, and_from, lt-ltb, leb-true}
 use Rattle.std.proofs.lemmas.Nat.Bits.{bit_at-suc}
@@ -64,9 +64,6 @@ lane_word first (w ∷ ws) a bs h =
     is_as_it_stood (lane ws j) (byte_for a bs x) ≡ true) (omega arith) (h (suc j) (omega arith))))
 
 -- The bytes of a store. ----
-
-pub enabled_none : (e k : ℕ) → enabled_byte [] e k ≡ None
-enabled_none e k = grind arith
 
 pub enabled_first : (b : ℕ) (bs : List ℕ) (e : ℕ) → enabled_byte (b ∷ bs) e 0 ≡ (if e % 2 == 1 then Some b else None)
 enabled_first b bs e = grind arith
@@ -146,4 +143,3 @@ any_new n a [] e t m = refl
 any_new n a (x ∷ bs) e t m =
     any_new_if _ _ (n == m) n m (new_byte n a x t) (store_bytes n (a + 1) bs (e / 2) t) refl (any_new n (a
     + 1) bs (e / 2) t m)
-

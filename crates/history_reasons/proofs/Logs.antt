@@ -54,10 +54,6 @@ few n h = grind arith
 pub many : (n : ℕ) → 8192 ≤ n → 1 ≤ forgotten n
 many n h = grind arith
 
-and_true : (b : Bool) → (b && true) ≡ b
-and_true true = refl
-and_true false = refl
-
 -- few stores are all left
 pub not_shortened : (g : StoreLog) → g.byte_count < 8192 → IsShortened g g
 not_shortened g h = grind (arith, g.byte_count, few, not_moved, g.places.items)

@@ -51,10 +51,6 @@ no_arrow_at text at lt ne = grind (arith, add-one, drop-cons, first_is)
 
 -- ---- where no hyphen stands
 
-and_false : (b : Bool) → (b && false) ≡ false
-and_false true = refl
-and_false false = refl
-
 alone : (x : ℕ) → arrow_in (x ∷ []) ≡ None
 alone x = grind arith
 
