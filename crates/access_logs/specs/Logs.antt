@@ -122,7 +122,12 @@ Ends gave failed took refused unflushed access_in room r r' w w' (Err (log.Trace
 -- a flush was refused, before a read or before a fault, or a write of the requests of a line
 Ends {R} {W} gave failed took refused unflushed access_in room r r' w w' (Err (log.Trace fault.Write)) =
     (texts : List (List ℕ)) × (rest : List ℕ) × (v : W) × (s : LogState) × Requested took access_in room w texts v s ×
-    ((ReadSoFarWithin gave (fault_by access_in) MAX_PAIR MOST_LOG_LINES r r' texts rest × unflushed v w') ⊎ (ReadIntoWithin gave (fault_by access_in) MAX_PAIR MOST_LOG_LINES r r' texts rest × (unflushed v w' ⊎ ((length texts < MOST_LOG_LINES) × FirstLine (fault_by access_in) MAX_PAIR (λ text. HaltsAt took refused unflushed access_in room v s text w' None) rest))))
+    ((ReadSoFarWithin gave (fault_by access_in) MAX_PAIR MOST_LOG_LINES r r' texts rest × unflushed v w')
+    ⊎ (ReadIntoWithin gave (fault_by access_in) MAX_PAIR MOST_LOG_LINES r r' texts rest
+    × (unflushed v w'
+    ⊎ ((length texts < MOST_LOG_LINES)
+    × FirstLine (fault_by access_in) MAX_PAIR
+    (λ text. HaltsAt took refused unflushed access_in room v s text w' None) rest))))
 -- there is no room for a page of the next line
 Ends {R} {W} gave failed took refused unflushed access_in room r r' w w' (Err (log.NoRoom n)) =
     (texts : List (List ℕ)) × (rest : List ℕ) × (v : W) × (s : LogState) × Requested took access_in room w texts v s ×

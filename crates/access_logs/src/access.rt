@@ -1,7 +1,8 @@
 //! Accesses, and the words that they touch.
 ghost use Rattle.std.specs.Prelude.{◌≡◌, ◌<◌, ◌≤◌, ◌*◌, ◌^◌, ℕ, List, length};
 ghost use Rattle.access_logs.specs.declared.access.TheConstants.{MAX_TOUCHED};
-ghost use Rattle.access_logs.specs.Accesses.{IsWithin, first_word_of, last_word_of, word_count_of, is_touched, lanes_at, word_at, byte_at, bit_at};
+ghost use Rattle.access_logs.specs.Accesses.{IsWithin, first_word_of, last_word_of, word_count_of, is_touched, lanes_at, word_at, byte_at};
+ghost use Rattle.access_logs.specs.Accesses.{bit_at};
 ghost use Rattle.access_logs.specs.Requests.{count_by, request_count_of, requests_of};
 
 use flat_model::{Lanes, Word};

@@ -6,7 +6,10 @@ ghost use Rattle.trace_text.specs.Lines.{IsSaid};
 ghost use Rattle.trace_text.specs.declared.lines.LineFault.{LineFault};
 ghost use Rattle.access_logs.specs.declared.access.Access.{Access};
 ghost use Rattle.access_logs.specs.Accesses.{IsWithin};
-ghost use Rattle.access_logs.specs.Formats.{with_digit as digit_more, address_of, extent_of as extent_in, word_extent_of, access_by as access_made, said_as as said, is_remark as is_remark_text, kind_of, is_name_end as ends_name, behind_space as space_then, data_from as data_said, fetch_from as fetch_said, lackey_from as lackey_said, lackey_access, label_of, din_access};
+ghost use Rattle.access_logs.specs.Formats.{with_digit as digit_more, address_of, extent_of as extent_in, word_extent_of};
+ghost use Rattle.access_logs.specs.Formats.{access_by as access_made, said_as as said, is_remark as is_remark_text, kind_of};
+ghost use Rattle.access_logs.specs.Formats.{is_name_end as ends_name, behind_space as space_then, data_from as data_said};
+ghost use Rattle.access_logs.specs.Formats.{fetch_from as fetch_said, lackey_from as lackey_said, lackey_access, label_of, din_access};
 
 use crate::access::{Access, AccessKind, MAX_SIZE};
 use trace_text::{LineFault, cut, nibble, number};

@@ -206,7 +206,9 @@ impl<'a, F: LogFormat> Collector for LogReading<'a, F> {
 
     ghost most_lines = { MOST_LOG_LINES };
 
-    ghost went = { λ s texts t. Kept F.access_in t.room texts (state_with t.pages t.tag t.lines) t.requests.items t.groups.items × (t.room ≡ s.room) × (t.room ≤ MAX_PAGES) × (t.fault ≡ None) };
+    ghost went = { λ s texts t. Kept F.access_in t.room texts (state_with t.pages t.tag t.lines)
+        t.requests.items t.groups.items
+        × (t.room ≡ s.room) × (t.room ≤ MAX_PAGES) × (t.fault ≡ None) };
 
     ghost stopped = { λ s text t. HaltsAt F.access_in s.room (state_with s.pages s.tag s.lines) (length s.requests.items) text t.fault };
 

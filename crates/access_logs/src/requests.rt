@@ -4,7 +4,8 @@ ghost use Rattle.trace_text.specs.Streams.{Moves, Stopped};
 ghost use Rattle.flat_model.specs.declared.Event.TheVariants as event;
 ghost use Rattle.access_logs.specs.declared.access.TheConstants.{MAX_TOUCHED};
 ghost use Rattle.access_logs.specs.Accesses.{IsWithin};
-ghost use Rattle.access_logs.specs.Requests.{tag_behind, loads_of, stores_of, load_of, store_of, requests_of, request_text, requests_text, tag_after as next_tag};
+ghost use Rattle.access_logs.specs.Requests.{tag_behind, loads_of, stores_of, load_of, store_of, requests_of, request_text, requests_text};
+ghost use Rattle.access_logs.specs.Requests.{tag_after as next_tag};
 
 use crate::access::{Access, AccessKind};
 use crate::pages::Pages;

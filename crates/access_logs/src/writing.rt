@@ -100,9 +100,12 @@ impl<'a, W: Sink, F: LogFormat> Collector for Writing<'a, W, F> {
 
     ghost most_lines = { MOST_LOG_LINES };
 
-    ghost went = { λ s texts t. Requested W.took F.access_in t.room s.writer.now texts t.writer.now (state_with t.pages t.tag t.lines) × (t.room ≡ s.room) × (t.room ≤ MAX_PAGES) × (t.no_room ≡ None) };
+    ghost went = { λ s texts t. Requested W.took F.access_in t.room s.writer.now texts t.writer.now
+        (state_with t.pages t.tag t.lines)
+        × (t.room ≡ s.room) × (t.room ≤ MAX_PAGES) × (t.no_room ≡ None) };
 
-    ghost stopped = { λ s text t. HaltsAt W.took W.refused W.unflushed F.access_in s.room s.writer.now (state_with s.pages s.tag s.lines) text t.writer.now t.no_room };
+    ghost stopped = { λ s text t. HaltsAt W.took W.refused W.unflushed F.access_in s.room s.writer.now
+        (state_with s.pages s.tag s.lines) text t.writer.now t.no_room };
 
     ghost paused = { λ s t. W.took s.writer.now [] t.writer.now };
 

@@ -1,4 +1,5 @@
--- What is left of stretches on the ways on which a load may have got its answer, and on the others; and where stretches went that were copied.
+-- What is left of stretches on the ways on which a load may have got its answer, and on the others; and where stretches
+-- went that were copied.
 use Rattle.std.specs.Prelude.{ℕ, ◌≡◌, ◌<◌, ◌≤◌, Bool, true, if◌then◌else◌, nat_lt, List, length, take, get_or, Option, Some, None}
 use Rattle.atomic_histories.specs.declared.stretches.Before.{Before}
 use Rattle.atomic_histories.specs.declared.stretches.Before.TheVariants.{Nothing, Behind}

@@ -4,7 +4,9 @@ ghost use Rattle.std.specs.Prelude.{ℕ, ◌≡◌, ◌++◌, [], true, List, So
 ghost use Rattle.std.specs.List.{filter, find};
 ghost use Rattle.atomic_histories.specs.declared.stretches.Stretch.{Stretch};
 ghost use Rattle.atomic_histories.specs.declared.unit.UnitPlace.{UnitPlace};
-ghost use Rattle.atomic_histories.specs.Followed.{Ways, is_under, cons_any, pair_on, gathered, pair_got, pair_missed, with_hope, word_aim, answered_load, answered_store, load_needs_more, needs_more, effect_aim, ways_without_load, ways_without_store, ways_after, has_many_words, is_too_wide};
+ghost use Rattle.atomic_histories.specs.Followed.{Ways, is_under, cons_any, pair_on, gathered, pair_got, pair_missed, with_hope, word_aim};
+ghost use Rattle.atomic_histories.specs.Followed.{answered_load, answered_store, load_needs_more, needs_more, effect_aim};
+ghost use Rattle.atomic_histories.specs.Followed.{ways_without_load, ways_without_store, ways_after, has_many_words, is_too_wide};
 ghost use Rattle.atomic_histories.specs.Shares.{past_any, IsInAny};
 ghost use Rattle.atomic_histories.specs.Parts.{IsPart, AreParts};
 ghost use Rattle.atomic_histories.specs.Shown.{pasts, shown, shown_all, shown_unit, AreIn, StopIs, words_in};
@@ -28,7 +30,9 @@ fn past_got(
     split: &Split,
     pair: &FollowedPair,
 ) -> Option<Before>
-    ensures pair { (ss : List Stretch) → IsPart unit bytes.now load.now ss split.now pair.now → pair_on (shown ss pair.now) (past_any (pasts ss) result) ≡ pair_got unit bytes.now load.now (shown ss pair.now) }
+    ensures pair { (ss : List Stretch) → IsPart unit bytes.now load.now ss split.now pair.now
+        → pair_on (shown ss pair.now) (past_any (pasts ss) result)
+        ≡ pair_got unit bytes.now load.now (shown ss pair.now) }
     ensures is_in { (ss : List Stretch) → IsPart unit bytes.now load.now ss split.now pair.now → IsInAny ss result }
 {
     if is_word_of(unit.first, &pair.word, load.address, bytes) {
@@ -46,7 +50,10 @@ fn past_missed(
     split: &Split,
     pair: &FollowedPair,
 ) -> Option<Before>
-    ensures pair { (ss : List Stretch) → IsPart unit bytes.now load.now ss split.now pair.now → cons_any (pair_on (shown ss pair.now) (past_any (pasts ss) result)) [] ≡ filter (word_aim unit load.now.address bytes.now).hope (cons_any (pair_missed unit bytes.now load.now (shown ss pair.now)) []) }
+    ensures pair { (ss : List Stretch) → IsPart unit bytes.now load.now ss split.now pair.now
+        → cons_any (pair_on (shown ss pair.now) (past_any (pasts ss) result)) []
+        ≡ filter (word_aim unit load.now.address bytes.now).hope
+        (cons_any (pair_missed unit bytes.now load.now (shown ss pair.now)) []) }
     ensures is_in { (ss : List Stretch) → IsPart unit bytes.now load.now ss split.now pair.now → IsInAny ss result }
 {
     let address = load.address;
@@ -72,7 +79,11 @@ fn add_part(
     pair: &FollowedPair,
     past: Option<Before>,
 ) -> Result<(), AllocError>
-    ensures shown { OnOk result ((ss : List Stretch) → shown_all ss parts.new.items ≡ shown_all ss parts.old.items ++ cons_any (pair_on (shown ss pair.now) (past_any (pasts ss) past)) []) }
+    ensures shown { OnOk result
+        ((ss : List Stretch)
+        → shown_all ss parts.new.items
+        ≡ shown_all ss parts.old.items
+        ++ cons_any (pair_on (shown ss pair.now) (past_any (pasts ss) past)) []) }
     ensures are_in { OnOk result ((ss : List Stretch) → AreIn ss parts.old.items → IsInAny ss past → AreIn ss parts.new.items) }
 {
     match past {
@@ -94,7 +105,9 @@ fn pairs_got(
     split: &Split,
     pairs: &[FollowedPair],
 ) -> Result<Vec<FollowedPair>, AllocError>
-    ensures shown { IfOk result (λ ps. (ss : List Stretch) → AreParts unit bytes.now load.now ss split.now pairs.now → shown_all ss ps.items ≡ gathered (pair_got unit bytes.now load.now) (shown_all ss pairs.now)) }
+    ensures shown { IfOk result
+        (λ ps. (ss : List Stretch) → AreParts unit bytes.now load.now ss split.now pairs.now
+        → shown_all ss ps.items ≡ gathered (pair_got unit bytes.now load.now) (shown_all ss pairs.now)) }
     ensures are_in { IfOk result (λ ps. (ss : List Stretch) → AreParts unit bytes.now load.now ss split.now pairs.now → AreIn ss ps.items) }
 {
     let mut parts = Vec::new(alloc);
@@ -114,7 +127,11 @@ fn pairs_missed(
     split: &Split,
     pairs: &[FollowedPair],
 ) -> Result<Vec<FollowedPair>, AllocError>
-    ensures shown { IfOk result (λ ps. (ss : List Stretch) → AreParts unit bytes.now load.now ss split.now pairs.now → shown_all ss ps.items ≡ with_hope (word_aim unit load.now.address bytes.now) (gathered (pair_missed unit bytes.now load.now) (shown_all ss pairs.now))) }
+    ensures shown { IfOk result
+        (λ ps. (ss : List Stretch) → AreParts unit bytes.now load.now ss split.now pairs.now
+        → shown_all ss ps.items
+        ≡ with_hope (word_aim unit load.now.address bytes.now)
+        (gathered (pair_missed unit bytes.now load.now) (shown_all ss pairs.now))) }
     ensures are_in { IfOk result (λ ps. (ss : List Stretch) → AreParts unit bytes.now load.now ss split.now pairs.now → AreIn ss ps.items) }
 {
     let mut parts = Vec::new(alloc);
@@ -135,7 +152,9 @@ fn pairs_answering(
     limit: usize,
 ) -> Result<Vec<FollowedPair>, Stop>
     requires { AreIn kept.old.stretches.items kept.old.pairs.items }
-    ensures found { IfOk result (λ ps. shown_all kept.new.stretches.items ps.items ≡ answered_load unit bytes.now (Some load.now) (shown_unit kept.old)) }
+    ensures found { IfOk result
+        (λ ps. shown_all kept.new.stretches.items ps.items
+        ≡ answered_load unit bytes.now (Some load.now) (shown_unit kept.old)) }
     ensures loads { kept.new.loads ≡ kept.old.loads }
     ensures moment { kept.new.moment ≡ kept.old.moment }
     ensures stop { IfErr result (StopIs (load_needs_more limit unit bytes.now (Some load.now) (shown_unit kept.old))) }
@@ -173,7 +192,13 @@ fn follow_load(
     limit: usize,
 ) -> Result<(), Stop>
     requires { AreIn kept.old.stretches.items kept.old.pairs.items }
-    ensures after { OnOk result (shown_unit kept.new ≡ record { loads = (shown_unit kept.old).loads; moment = kept.old.moment; pairs = answered_load unit bytes.now load (shown_unit kept.old) }) }
+    ensures after { OnOk result
+        (shown_unit kept.new
+        ≡ record {
+          loads = (shown_unit kept.old).loads;
+          moment = kept.old.moment;
+          pairs = answered_load unit bytes.now load (shown_unit kept.old);
+        }) }
     ensures stop { IfErr result (StopIs (load_needs_more limit unit bytes.now load (shown_unit kept.old))) }
 {
     match load {
@@ -195,8 +220,14 @@ fn answer_load(
     limit: usize,
 ) -> Result<(), Stop>
     requires { AreIn kept.old.stretches.items kept.old.pairs.items }
-    ensures after { OnOk result (shown_unit kept.new ≡ ways_without_load number (shown_unit kept.old) (answered_load unit bytes.now (find (is_under number) (shown_unit kept.old).loads) (shown_unit kept.old))) }
-    ensures stop { IfErr result (StopIs (load_needs_more limit unit bytes.now (find (is_under number) (shown_unit kept.old).loads) (shown_unit kept.old))) }
+    ensures after { OnOk result
+        (shown_unit kept.new
+        ≡ ways_without_load number (shown_unit kept.old)
+        (answered_load unit bytes.now (find (is_under number) (shown_unit kept.old).loads)
+        (shown_unit kept.old))) }
+    ensures stop { IfErr result
+        (StopIs (load_needs_more limit unit bytes.now (find (is_under number) (shown_unit kept.old).loads)
+        (shown_unit kept.old))) }
 {
     let load = find_load(kept.loads.as_slice(), number);
     follow_load(alloc, unit, kept, load, bytes, limit)?;
@@ -207,8 +238,13 @@ fn answer_load(
 // A store is answered.
 fn answer_store(alloc: Global, kept: &mut KeptUnit, number: u64, limit: usize) -> Result<(), Stop>
     requires { AreIn kept.old.stretches.items kept.old.pairs.items }
-    ensures after { OnOk result (shown_unit kept.new ≡ ways_without_store number (shown_unit kept.old) (answered_store number (shown_unit kept.old))) }
-    ensures stop { IfErr result (StopIs (needs_more limit (shown_unit kept.old).loads (shown_unit kept.old).moment (effect_aim number) [] (shown_unit kept.old).pairs)) }
+    ensures after { OnOk result
+        (shown_unit kept.new
+        ≡ ways_without_store number (shown_unit kept.old) (answered_store number (shown_unit kept.old))) }
+    ensures stop { IfErr result
+        (StopIs
+        (needs_more limit (shown_unit kept.old).loads (shown_unit kept.old).moment (effect_aim number) []
+        (shown_unit kept.old).pairs)) }
 {
     let pairs = std::mem::replace(&mut kept.pairs, Vec::new(alloc));
     let asked = Asked {
@@ -273,7 +309,9 @@ fn follow(
 // Whether an answer would need too many words, of the unit or of the copy without those that no way is left to. The ways of a
 // forgotten unit need none.
 fn has_too_many_words(kept: &KeptUnit, copy: &KeptUnit, event: HistoryEvent) -> bool
-    ensures { result ≡ true → (limit : ℕ) (unit : UnitPlace) → is_too_wide limit unit (words_in kept.now.stretches.items) (shown_unit kept.now) event.entry ≡ true }
+    ensures { result ≡ true → (limit : ℕ) (unit : UnitPlace)
+        → is_too_wide limit unit (words_in kept.now.stretches.items) (shown_unit kept.now) event.entry
+        ≡ true }
 {
     match event {
         HistoryEvent::LoadResponse {

@@ -8,7 +8,8 @@ ghost use Rattle.atomic_histories.specs.declared.pairs.FollowedPair.{FollowedPai
 ghost use Rattle.atomic_histories.specs.AtOnce.{IsUnitTaken};
 ghost use Rattle.atomic_histories.specs.Pasts.{begins, cut_for, got, missed, oldest, overwritten};
 ghost use Rattle.atomic_histories.specs.Law.{done_store, may_answer_store};
-ghost use Rattle.atomic_histories.specs.Followed.{Ways, is_answer, is_under, loads_without, moment_with, answered_load, answered_store, ways_without_load, ways_without_store};
+ghost use Rattle.atomic_histories.specs.Followed.{Ways, is_answer, is_under, loads_without, moment_with, answered_load, answered_store};
+ghost use Rattle.atomic_histories.specs.Followed.{ways_without_load, ways_without_store};
 ghost use Rattle.atomic_histories.specs.Judge.{kept_or, words_of};
 ghost use Rattle.atomic_histories.specs.Shown.{past_at, pasts, shown, shown_unit};
 ghost use Rattle.atomic_histories.specs.Taken.{IsUnitKept, IsTakenTo, IsNextWord};
@@ -42,8 +43,14 @@ fn has_stood(
     stretches: &[Stretch],
     past: Before,
 ) -> bool
-    ensures got { result ≡ true → got (is_answer place load.now.address load.now.since bytes.now) (past_at (pasts stretches.now) past) ≡ Some (past_at (pasts stretches.now) past) }
-    ensures missed { result ≡ true → missed (is_answer place load.now.address load.now.since bytes.now) (past_at (pasts stretches.now) past) ≡ None }
+    ensures got { result ≡ true
+        → got (is_answer place load.now.address load.now.since bytes.now)
+        (past_at (pasts stretches.now) past)
+        ≡ Some (past_at (pasts stretches.now) past) }
+    ensures missed { result ≡ true
+        → missed (is_answer place load.now.address load.now.since bytes.now)
+        (past_at (pasts stretches.now) past)
+        ≡ None }
 {
     let mut before = past;
     let mut end = stretches.len();
@@ -80,14 +87,16 @@ fn has_answer(
     stretches: &[Stretch],
     pair: &FollowedPair,
 ) -> bool
-    ensures { result ≡ true → (u : Ways) → u.pairs ≡ shown stretches.now pair.now ∷ [] → answered_load place bytes.now (Some load.now) u ≡ u.pairs }
+    ensures { result ≡ true → (u : Ways) → u.pairs ≡ shown stretches.now pair.now ∷ []
+        → answered_load place bytes.now (Some load.now) u ≡ u.pairs }
 {
     is_word_of(place.first, &pair.word, load.address, bytes)
         || has_stood(place, load, bytes, stretches, pair.past)
 }
 
-// What stood there before, once the word of now is overwritten behind a load's answer, where nothing stood there before: only a load that is left may ask for the word.
-// `None` is for a load that is left and was requested behind the last moment, which never comes.
+// What stood there before, once the word of now is overwritten behind a load's answer, where nothing stood there
+// before: only a load that is left may ask for the word. `None` is for a load that is left and was requested behind
+// the last moment, which never comes.
 fn past_behind(
     stretches: &mut Vec<Stretch>,
     loads: &[WatchedLoad],
@@ -95,8 +104,15 @@ fn past_behind(
     moment: u64,
     word: Word,
 ) -> Result<Option<Before>, AllocError>
-    ensures some { IfOk result (λ past. IfSome past (λ b. past_at (pasts stretches.new.items) b ≡ overwritten (loads_without number loads.now) moment word begins)) }
-    ensures cut { IfOk result (λ past. IfSome past (λ b. cut_for (oldest (loads_without number loads.now)) (overwritten (loads_without number loads.now) moment word begins) ≡ overwritten (loads_without number loads.now) moment word begins)) }
+    ensures some { IfOk result
+        (λ past. IfSome past
+        (λ b. past_at (pasts stretches.new.items) b
+        ≡ overwritten (loads_without number loads.now) moment word begins)) }
+    ensures cut { IfOk result
+        (λ past. IfSome past
+        (λ b. cut_for (oldest (loads_without number loads.now))
+        (overwritten (loads_without number loads.now) moment word begins)
+        ≡ overwritten (loads_without number loads.now) moment word begins)) }
     ensures none { IfOk result (λ past. past ≡ None → stretches.new.items ≡ stretches.old.items) }
     ensures err { OnErr result (stretches.new.items ≡ stretches.old.items) }
 {
@@ -170,7 +186,11 @@ impl KeptUnit {
         bytes: &[u8],
     ) -> Result<bool, AllocError>
         requires { length self.old.pairs.items ≡ 1 }
-        ensures ok { IfOk result (IsTakenTo (ways_without_load number (shown_unit self.old) (answered_load place bytes.now (find (is_under number) (shown_unit self.old).loads) (shown_unit self.old))) self.old self.new) }
+        ensures ok { IfOk result
+            (IsTakenTo (ways_without_load number (shown_unit self.old)
+            (answered_load place bytes.now (find (is_under number) (shown_unit self.old).loads)
+            (shown_unit self.old)))
+            self.old self.new) }
         ensures err { OnErr result (IsUnitKept self.old self.new) }
     {
         match find_load(self.loads.as_slice(), number) {
@@ -196,7 +216,10 @@ impl KeptUnit {
     ) -> Result<bool, AllocError>
         requires one { length self.old.pairs.items ≡ 1 }
         requires load { find (is_under number) self.old.loads.items ≡ Some load }
-        ensures ok { IfOk result (IsTakenTo (ways_without_load number (shown_unit self.old) (answered_load place bytes.now (Some load) (shown_unit self.old))) self.old self.new) }
+        ensures ok { IfOk result
+            (IsTakenTo (ways_without_load number (shown_unit self.old)
+            (answered_load place bytes.now (Some load) (shown_unit self.old)))
+            self.old self.new) }
         ensures err { OnErr result (IsUnitKept self.old self.new) }
     {
         let word = match next_word(place, &self.pairs[0], load.address, bytes) {
@@ -217,7 +240,10 @@ impl KeptUnit {
     // A store is answered, if it has taken effect, or if it takes effect now and no other store is open.
     fn answer_store_at_once(&mut self, number: u64) -> Result<bool, AllocError>
         requires { length self.old.pairs.items ≡ 1 }
-        ensures ok { IfOk result (IsTakenTo (ways_without_store number (shown_unit self.old) (answered_store number (shown_unit self.old))) self.old self.new) }
+        ensures ok { IfOk result
+            (IsTakenTo
+            (ways_without_store number (shown_unit self.old) (answered_store number (shown_unit self.old)))
+            self.old self.new) }
         ensures err { OnErr result (IsUnitKept self.old self.new) }
     {
         if self.pairs[0].has_effect(number) {
@@ -235,7 +261,10 @@ impl KeptUnit {
         requires one { length self.old.pairs.items ≡ 1 }
         requires last { (d : FollowedPair) → length (slice_index_or self.old.pairs.items 0 d).stores.items ≡ 1 }
         requires waits { (d : FollowedPair) → may_answer_store number (slice_index_or self.old.pairs.items 0 d).stores.items ≡ false }
-        ensures ok { IfOk result (IsTakenTo (ways_without_store number (shown_unit self.old) (answered_store number (shown_unit self.old))) self.old self.new) }
+        ensures ok { IfOk result
+            (IsTakenTo
+            (ways_without_store number (shown_unit self.old) (answered_store number (shown_unit self.old)))
+            self.old self.new) }
         ensures err { OnErr result (IsUnitKept self.old self.new) }
     {
         let now = self.pairs[0].word;
@@ -311,10 +340,15 @@ pub(crate) fn take_at(
     event: HistoryEvent,
     limit: usize,
 ) -> Result<bool, AllocError>
-    ensures ok { IfOk result (λ taken. (first : Ways) → IsUnitTaken place event.entry (kept_or (get nat_eq units.old number) first) (kept_or (get nat_eq units.new number) first) taken) }
+    ensures ok { IfOk result
+        (λ taken. (first : Ways)
+        → IsUnitTaken place event.entry (kept_or (get nat_eq units.old number) first)
+        (kept_or (get nat_eq units.new number) first) taken) }
     ensures same { IfOk result (λ taken. taken ≡ false → words_of (get nat_eq units.new number) ≡ words_of (get nat_eq units.old number)) }
     ensures others { (k : ℕ) → k ≢ number → get nat_eq units.new k ≡ get nat_eq units.old k }
-    ensures err { OnErr result ((first : Ways) → kept_or (get nat_eq units.new number) first ≡ kept_or (get nat_eq units.old number) first) }
+    ensures err { OnErr result
+        ((first : Ways)
+        → kept_or (get nat_eq units.new number) first ≡ kept_or (get nat_eq units.old number) first) }
     ensures err_words { OnErr result (words_of (get nat_eq units.new number) ≡ words_of (get nat_eq units.old number)) }
 {
     match units.get_mut(&number) {

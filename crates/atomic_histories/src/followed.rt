@@ -119,7 +119,10 @@ impl Followed {
         requires followed { IsFollowed self.old }
         requires pairs { AreIn stretches.old.items self.old.pairs.items }
         requires pair { IsIn stretches.old.items pair.past }
-        ensures pairs { OnOk result (shown_all stretches.new.items self.new.pairs.items ≡ with_pair (shown_all stretches.old.items self.old.pairs.items) (shown stretches.old.items pair)) }
+        ensures pairs { OnOk result
+            (shown_all stretches.new.items self.new.pairs.items
+            ≡ with_pair (shown_all stretches.old.items self.old.pairs.items)
+            (shown stretches.old.items pair)) }
         ensures are_in { OnOk result (AreIn stretches.new.items self.new.pairs.items) }
         ensures grows { OnOk result (Grows stretches.old.items stretches.new.items) }
         ensures followed { OnOk result (IsFollowed self.new) }
@@ -143,7 +146,12 @@ impl Followed {
         requires followed { IsFollowed self.old }
         requires pairs { AreIn stretches.old.items self.old.pairs.items }
         requires past { IsIn stretches.old.items past }
-        ensures pairs { OnOk result ((e : Pair) → e.past ≡ past_at (pasts stretches.old.items) past → shown_all stretches.new.items self.new.pairs.items ≡ take place (shown_all stretches.old.items self.old.pairs.items) ++ merged_pair (slice_index_or (shown_all stretches.old.items self.old.pairs.items) place e) e ∷ drop (place + 1) (shown_all stretches.old.items self.old.pairs.items)) }
+        ensures pairs { OnOk result
+            ((e : Pair) → e.past ≡ past_at (pasts stretches.old.items) past
+            → shown_all stretches.new.items self.new.pairs.items
+            ≡ take place (shown_all stretches.old.items self.old.pairs.items)
+            ++ merged_pair (slice_index_or (shown_all stretches.old.items self.old.pairs.items) place e) e
+            ∷ drop (place + 1) (shown_all stretches.old.items self.old.pairs.items)) }
         ensures are_in { OnOk result (AreIn stretches.new.items self.new.pairs.items) }
         ensures grows { OnOk result (Grows stretches.old.items stretches.new.items) }
         ensures followed { OnOk result (IsFollowed self.new) }
@@ -162,7 +170,10 @@ impl Followed {
         requires few { length self.old.pairs.items < MARKED }
         requires pairs { AreIn stretches.old.items self.old.pairs.items }
         requires pair { IsIn stretches.old.items pair.past }
-        ensures pairs { OnOk result (shown_all stretches.new.items self.new.pairs.items ≡ with_pair (shown_all stretches.old.items self.old.pairs.items) (shown stretches.old.items pair)) }
+        ensures pairs { OnOk result
+            (shown_all stretches.new.items self.new.pairs.items
+            ≡ with_pair (shown_all stretches.old.items self.old.pairs.items)
+            (shown stretches.old.items pair)) }
         ensures are_in { OnOk result (AreIn stretches.new.items self.new.pairs.items) }
         ensures grows { OnOk result (Grows stretches.old.items stretches.new.items) }
         ensures followed { OnOk result (IsFollowed self.new) }
@@ -185,7 +196,10 @@ impl Followed {
         requires marks { self.old.marks.items ≡ map pair_mark self.old.pairs.items }
         requires pairs { AreIn stretches.old.items self.old.pairs.items }
         requires pair { IsIn stretches.old.items pair.past }
-        ensures pairs { OnOk result (shown_all stretches.new.items self.new.pairs.items ≡ with_pair (shown_all stretches.old.items self.old.pairs.items) (shown stretches.old.items pair)) }
+        ensures pairs { OnOk result
+            (shown_all stretches.new.items self.new.pairs.items
+            ≡ with_pair (shown_all stretches.old.items self.old.pairs.items)
+            (shown stretches.old.items pair)) }
         ensures are_in { OnOk result (AreIn stretches.new.items self.new.pairs.items) }
         ensures grows { OnOk result (Grows stretches.old.items stretches.new.items) }
         ensures followed { OnOk result (IsFollowed self.new) }

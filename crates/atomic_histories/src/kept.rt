@@ -7,7 +7,8 @@ ghost use Rattle.atomic_histories.specs.declared.stretches.Before.TheVariants.{N
 ghost use Rattle.atomic_histories.specs.declared.stretches.Stretch.{Stretch};
 ghost use Rattle.atomic_histories.specs.declared.pairs.FollowedPair.{FollowedPair};
 ghost use Rattle.atomic_histories.specs.Pasts.{begins, oldest};
-ghost use Rattle.atomic_histories.specs.Followed.{loads_without, moment_with, no_ways, pair_cut, pair_with_store, pair_without_store, ways_with_load, ways_with_store, ways_without_load, ways_without_store};
+ghost use Rattle.atomic_histories.specs.Followed.{loads_without, moment_with, no_ways, pair_cut, pair_with_store, pair_without_store};
+ghost use Rattle.atomic_histories.specs.Followed.{ways_with_load, ways_with_store, ways_without_load, ways_without_store};
 ghost use Rattle.atomic_histories.specs.Shares.{moved_to};
 ghost use Rattle.atomic_histories.specs.Taken.{is_late};
 ghost use Rattle.atomic_histories.specs.Shown.{shown, shown_all, shown_unit, IsIn, AreIn};
@@ -74,7 +75,12 @@ fn moved_pairs(
     moved: &Moved,
     pairs: &[FollowedPair],
 ) -> Result<Vec<FollowedPair>, AllocError>
-    ensures shown { IfOk result (λ ps. (ss : List Stretch) → shown_all ss ps.items ≡ map (λ (p : FollowedPair). shown ss (record { word = p.word; stores = p.stores; past = moved_to moved.now p.past })) pairs.now) }
+    ensures shown { IfOk result
+        (λ ps. (ss : List Stretch)
+        → shown_all ss ps.items
+        ≡ map (λ (p : FollowedPair). shown ss
+        (record { word = p.word; stores = p.stores; past = moved_to moved.now p.past }))
+        pairs.now) }
     ensures are_in { IfOk result (λ ps. (ss : List Stretch) → ((b : Before) → IsIn ss (moved_to moved.now b)) → AreIn ss ps.items) }
 {
     let mut copied = Vec::with_capacity(alloc, pairs.len())?;
@@ -87,7 +93,10 @@ fn moved_pairs(
 
 // The stretches have moved that the pairs refer to.
 fn move_pairs(moved: &Moved, pairs: &mut [FollowedPair])
-    ensures { pairs.new ≡ map (λ (p : FollowedPair). record { word = p.word; stores = p.stores; past = moved_to moved.now p.past }) pairs.old }
+    ensures { pairs.new
+        ≡ map (λ (p : FollowedPair).
+        record { word = p.word; stores = p.stores; past = moved_to moved.now p.past })
+        pairs.old }
 {
     for pair in pairs.iter_mut() {
         pair.past = moved.place(pair.past);
@@ -140,7 +149,13 @@ fn end_stores(pairs: &mut [FollowedPair], number: u64)
 impl KeptUnit {
     // A unit in which this word stands, and that no operation has touched.
     pub(crate) fn untouched(alloc: Global, word: Word) -> Result<KeptUnit, AllocError>
-        ensures shown { IfOk result (λ u. shown_unit u ≡ record { loads = []; moment = 0; pairs = record { word = word; stores = []; past = begins } ∷ [] }) }
+        ensures shown { IfOk result
+            (λ u. shown_unit u
+            ≡ record {
+              loads = [];
+              moment = 0;
+              pairs = record { word = word; stores = []; past = begins } ∷ [];
+            }) }
         ensures stretches { IfOk result (λ u. u.stretches.items ≡ []) }
     {
         let mut pairs = Vec::new(alloc);
@@ -230,7 +245,14 @@ impl KeptUnit {
 
     // What the first load alone may ask for is gone, which has this number.
     fn leave_past(&mut self, alloc: Global, number: u64) -> Result<(), AllocError>
-        ensures ok { OnOk result (shown_unit self.new ≡ record { loads = (shown_unit self.old).loads; moment = moment_with self.old.moment (loads_without number (shown_unit self.old).loads); pairs = map (pair_cut (oldest (loads_without number (shown_unit self.old).loads))) (shown_unit self.old).pairs }) }
+        ensures ok { OnOk result
+            (shown_unit self.new
+            ≡ record {
+              loads = (shown_unit self.old).loads;
+              moment = moment_with self.old.moment (loads_without number (shown_unit self.old).loads);
+              pairs = map (pair_cut (oldest (loads_without number (shown_unit self.old).loads)))
+                  (shown_unit self.old).pairs;
+            }) }
         ensures err { OnErr result (shown_unit self.new ≡ shown_unit self.old) }
         ensures err_stretches { OnErr result (self.new.stretches ≡ self.old.stretches) }
     {
@@ -245,7 +267,12 @@ impl KeptUnit {
 
     // No load is left that may ask for what stood there before.
     fn drop_past(&mut self)
-        ensures { shown_unit self.new ≡ record { loads = (shown_unit self.old).loads; moment = 0; pairs = map (pair_cut None) (shown_unit self.old).pairs } }
+        ensures { shown_unit self.new
+            ≡ record {
+              loads = (shown_unit self.old).loads;
+              moment = 0;
+              pairs = map (pair_cut None) (shown_unit self.old).pairs;
+            } }
     {
         drop_pasts(self.pairs.as_mut_slice());
         self.stretches.clear();
@@ -254,7 +281,13 @@ impl KeptUnit {
 
     // No load is left that may ask for what was overwritten before a moment.
     fn cut_past(&mut self, alloc: Global, since: u64) -> Result<(), AllocError>
-        ensures ok { OnOk result (shown_unit self.new ≡ record { loads = (shown_unit self.old).loads; moment = self.old.moment; pairs = map (pair_cut (Some since)) (shown_unit self.old).pairs }) }
+        ensures ok { OnOk result
+            (shown_unit self.new
+            ≡ record {
+              loads = (shown_unit self.old).loads;
+              moment = self.old.moment;
+              pairs = map (pair_cut (Some since)) (shown_unit self.old).pairs;
+            }) }
         ensures err { OnErr result (shown_unit self.new ≡ shown_unit self.old) }
         ensures err_stretches { OnErr result (self.new.stretches ≡ self.old.stretches) }
     {

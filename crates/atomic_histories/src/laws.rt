@@ -14,20 +14,26 @@ ghost use Rattle.atomic_histories.specs.Wide.{NoSetsAreMuch, UndecidedIsMuch};
 /// [`step`](crate::AtomicMemory::step) would take now, since the history with this answer is one of the
 /// law. In a unit that was forgotten each byte is.
 pub fn sets_are_of_answers()
-    ensures { (lost : List ℕ) (image : List ℕ) (rest : Rest) (size : ℕ) (history : List HistoryEvent) (number : ℕ) → SetsAreOfAnswers lost image rest size history number }
+    ensures { (lost : List ℕ) (image : List ℕ) (rest : Rest) (size : ℕ) (history : List HistoryEvent)
+        (number : ℕ)
+        → SetsAreOfAnswers lost image rest size history number }
 {}
 
 /// The same of [`byte_may_return`](crate::AtomicMemory::byte_may_return): a byte is in the set exactly if
 /// such an answer has it for the address. If there is no set, no answer has a byte for the address.
 pub fn set_is_of_answers()
-    ensures { (lost : List ℕ) (image : List ℕ) (rest : Rest) (size : ℕ) (history : List HistoryEvent) (number : ℕ) → SetIsOfAnswers lost image rest size history number }
+    ensures { (lost : List ℕ) (image : List ℕ) (rest : Rest) (size : ℕ) (history : List HistoryEvent)
+        (number : ℕ)
+        → SetIsOfAnswers lost image rest size history number }
 {}
 
 /// What a load gets in one unit says nothing of what it gets in another: an answer of the load's length
 /// would be taken exactly if of each unit there is one that would be taken and has the same bytes in this
 /// unit. Within a unit the bytes are of one word.
 pub fn units_choose_alone()
-    ensures { (lost : List ℕ) (image : List ℕ) (rest : Rest) (size : ℕ) (history : List HistoryEvent) (number : ℕ) → UnitsChooseAlone lost image rest size history number }
+    ensures { (lost : List ℕ) (image : List ℕ) (rest : Rest) (size : ℕ) (history : List HistoryEvent)
+        (number : ℕ)
+        → UnitsChooseAlone lost image rest size history number }
 {}
 
 /// If [`step`](crate::AtomicMemory::step) answers [`Undecided`](crate::AtomicFault::Undecided), then the unit may be in
@@ -35,11 +41,14 @@ pub fn units_choose_alone()
 /// that is so whoever judges the history. Or this judge keeps more words of what stood there before than
 /// [`MOST_WORDS`](crate::MOST_WORDS).
 pub fn undecided_is_much()
-    ensures { (limit : ℕ) (h : Held) (lost : List ℕ) (history : List HistoryEvent) (event : HistoryEvent) (address : ℕ) → UndecidedIsMuch limit h lost history event address }
+    ensures { (limit : ℕ) (h : Held) (lost : List ℕ) (history : List HistoryEvent)
+        (event : HistoryEvent) (address : ℕ)
+        → UndecidedIsMuch limit h lost history event address }
 {}
 
 /// The same where [`may_return`](crate::AtomicMemory::may_return) answers `Undecided`: so it is at a unit in which one of the
 /// load's bytes lies.
 pub fn no_sets_are_much()
-    ensures { (limit : ℕ) (h : Held) (lost : List ℕ) (history : List HistoryEvent) (a n address : ℕ) → NoSetsAreMuch limit h lost history a n address }
+    ensures { (limit : ℕ) (h : Held) (lost : List ℕ) (history : List HistoryEvent) (a n address : ℕ)
+        → NoSetsAreMuch limit h lost history a n address }
 {}

@@ -46,7 +46,9 @@ fn load_set(
 ) -> Result<ByteSet, Stop>
     requires { lane < 8 }
     ensures set { IfOk result (IsSet (λ b. is_shown (Some load) lane b (reached (shown_unit kept.now)))) }
-    ensures stop { IfErr result (StopIs (is_reach_over limit (shown_unit kept.now).loads (shown_unit kept.now).moment (rounds (shown_unit kept.now).pairs) (shown_unit kept.now).pairs)) }
+    ensures stop { IfErr result
+        (StopIs (is_reach_over limit (shown_unit kept.now).loads (shown_unit kept.now).moment
+        (rounds (shown_unit kept.now).pairs) (shown_unit kept.now).pairs)) }
 {
     let mut unit = kept.copied(alloc)?;
     let asked = Asked {

@@ -1,6 +1,7 @@
 //! The judge of the atomic law.
 
-ghost use Rattle.std.specs.Prelude.{◌≡◌, ◌+◌, ◌*◌, ◌/◌, ◌^◌, ◌<◌, ◌≤◌, List, ◌++◌, ◌∷◌, [], ℕ, true, false, map, length, None, IfOk, IfErr, IfSome, IfNone, OnOk, OnErr};
+ghost use Rattle.std.specs.Prelude.{◌≡◌, ◌+◌, ◌*◌, ◌/◌, ◌^◌, ◌<◌, ◌≤◌, List, ◌++◌, ◌∷◌, [], ℕ, true, false, map, length, None, IfOk, IfErr};
+ghost use Rattle.std.specs.Prelude.{IfSome, IfNone, OnOk, OnErr};
 ghost use Rattle.std.specs.HashMap.{spare};
 ghost use Rattle.std.specs.Vec.{vec_len, vec_capacity};
 ghost use Rattle.std.specs.List.{find};
@@ -10,8 +11,10 @@ ghost use Rattle.atomic_histories.specs.Law.{IsAtomic, unit_at};
 ghost use Rattle.atomic_histories.specs.AtOnce.{AreTaken, AreTakenOrSame};
 ghost use Rattle.atomic_histories.specs.Lost.{IsAtomicBut};
 ghost use Rattle.atomic_histories.specs.Held.{nothing_held, covered, changed, ways_from, is_stuck, stuck_from, StandsForAll, StandsBut};
-ghost use Rattle.atomic_histories.specs.May.{asks, AreSetsOf, IsSetOf, HasSets, IsByteOf, IsSet, may_get_at, AreSetsFrom, address_of, LoadFaultIs, IsNoVerdict, IsWideByte, IsWideLoad};
-ghost use Rattle.atomic_histories.specs.Judge.{bytes_of, fault_of, held, limit_of, HasSameMemory, IsTaken, IsForgotten, IsLeft, UnitFaultIs, ChangeFaultIs, KeptFaultIs, StepFaultIs, StepFaultIsBut};
+ghost use Rattle.atomic_histories.specs.May.{asks, AreSetsOf, IsSetOf, HasSets, IsByteOf, IsSet, may_get_at, AreSetsFrom, address_of};
+ghost use Rattle.atomic_histories.specs.May.{LoadFaultIs, IsNoVerdict, IsWideByte, IsWideLoad};
+ghost use Rattle.atomic_histories.specs.Judge.{bytes_of, fault_of, held, limit_of, HasSameMemory, IsTaken, IsForgotten, IsLeft};
+ghost use Rattle.atomic_histories.specs.Judge.{UnitFaultIs, ChangeFaultIs, KeptFaultIs, StepFaultIs, StepFaultIsBut};
 ghost use Rattle.atomic_histories.specs.Shown.{shown_unit};
 
 use crate::at_once::take_at;
@@ -161,10 +164,22 @@ impl AtomicMemory {
     /// [`HistoryFault`]; its `WrongByte` has the place of the answer's first byte in the lowest unit at
     /// which there are no moments. What is seen of a unit that was forgotten counts for nothing.
     pub fn step(&mut self, event: HistoryEvent) -> Result<(), AtomicFault>
-        ensures ok { (history : List HistoryEvent) → StandsForAll (held self.old) history → OnOk result (IsAtomic (held self.old).image (held self.old).rest (held self.old).size (history ++ event.entry ∷ []) × StandsForAll (held self.new) (history ++ event.entry ∷ [])) }
-        ensures fault { (history : List HistoryEvent) → StandsForAll (held self.old) history → IfErr result (StepFaultIs (limit_of self.old) (held self.old) history event.entry) }
-        ensures ok_but { (lost : List ℕ) → (history : List HistoryEvent) → StandsBut (held self.old) lost history → OnOk result (IsAtomicBut lost (held self.old).image (held self.old).rest (held self.old).size (history ++ event.entry ∷ []) × StandsBut (held self.new) lost (history ++ event.entry ∷ [])) }
-        ensures fault_but { (lost : List ℕ) → (history : List HistoryEvent) → StandsBut (held self.old) lost history → IfErr result (StepFaultIsBut lost (limit_of self.old) (held self.old) history event.entry) }
+        ensures ok { (history : List HistoryEvent) → StandsForAll (held self.old) history
+            → OnOk result
+            (IsAtomic (held self.old).image (held self.old).rest (held self.old).size
+            (history ++ event.entry ∷ [])
+            × StandsForAll (held self.new) (history ++ event.entry ∷ [])) }
+        ensures fault { (history : List HistoryEvent) → StandsForAll (held self.old) history
+            → IfErr result (StepFaultIs (limit_of self.old) (held self.old) history event.entry) }
+        ensures ok_but { (lost : List ℕ) → (history : List HistoryEvent)
+            → StandsBut (held self.old) lost history
+            → OnOk result
+            (IsAtomicBut lost (held self.old).image (held self.old).rest (held self.old).size
+            (history ++ event.entry ∷ [])
+            × StandsBut (held self.new) lost (history ++ event.entry ∷ [])) }
+        ensures fault_but { (lost : List ℕ) → (history : List HistoryEvent)
+            → StandsBut (held self.old) lost history
+            → IfErr result (StepFaultIsBut lost (limit_of self.old) (held self.old) history event.entry) }
         ensures unchanged { OnErr result (held self.new ≡ held self.old) }
         ensures memory { HasSameMemory (held self.new) (held self.old) }
         ensures limit { limit_of self.new ≡ limit_of self.old }
@@ -176,10 +191,20 @@ impl AtomicMemory {
     /// event. `OutOfMemory` says that there was too little memory to tell; `step` may need less, since it takes
     /// many an event with no search.
     pub fn fault(&self, event: HistoryEvent) -> Option<AtomicFault>
-        ensures none { (history : List HistoryEvent) → StandsForAll (held self.now) history → IfNone result (IsAtomic (held self.now).image (held self.now).rest (held self.now).size (history ++ event.entry ∷ [])) }
-        ensures some { (history : List HistoryEvent) → StandsForAll (held self.now) history → IfSome result (StepFaultIs (limit_of self.now) (held self.now) history event.entry) }
-        ensures none_but { (lost : List ℕ) → (history : List HistoryEvent) → StandsBut (held self.now) lost history → IfNone result (IsAtomicBut lost (held self.now).image (held self.now).rest (held self.now).size (history ++ event.entry ∷ [])) }
-        ensures some_but { (lost : List ℕ) → (history : List HistoryEvent) → StandsBut (held self.now) lost history → IfSome result (StepFaultIsBut lost (limit_of self.now) (held self.now) history event.entry) }
+        ensures none { (history : List HistoryEvent) → StandsForAll (held self.now) history
+            → IfNone result
+            (IsAtomic (held self.now).image (held self.now).rest (held self.now).size
+            (history ++ event.entry ∷ [])) }
+        ensures some { (history : List HistoryEvent) → StandsForAll (held self.now) history
+            → IfSome result (StepFaultIs (limit_of self.now) (held self.now) history event.entry) }
+        ensures none_but { (lost : List ℕ) → (history : List HistoryEvent)
+            → StandsBut (held self.now) lost history
+            → IfNone result
+            (IsAtomicBut lost (held self.now).image (held self.now).rest (held self.now).size
+            (history ++ event.entry ∷ [])) }
+        ensures some_but { (lost : List ℕ) → (history : List HistoryEvent)
+            → StandsBut (held self.now) lost history
+            → IfSome result (StepFaultIsBut lost (limit_of self.now) (held self.now) history event.entry) }
     {
         match self.changes(event) {
             Ok(_changes) => None,
@@ -197,8 +222,14 @@ impl AtomicMemory {
     /// unit that begins at its address lead to too many at a time, and nothing is known of the sets.
     /// `OutOfMemory`: there was too little memory to find them.
     pub fn may_return(&self, number: u64) -> Result<Vec<ByteSet>, AtomicFault>
-        ensures ok { (lost : List ℕ) → (history : List HistoryEvent) → StandsBut (held self.now) lost history → IfOk result (λ sets. AreSetsOf lost (held self.now).image (held self.now).rest (held self.now).size history number sets.items) }
-        ensures fault { IfErr result (LoadFaultIs (limit_of self.now) (held self.now) (find (has_number number) (held self.now).opened.loads)) }
+        ensures ok { (lost : List ℕ) → (history : List HistoryEvent)
+            → StandsBut (held self.now) lost history
+            → IfOk result
+            (λ sets. AreSetsOf lost (held self.now).image (held self.now).rest (held self.now).size history
+            number sets.items) }
+        ensures fault { IfErr result
+            (LoadFaultIs (limit_of self.now) (held self.now)
+            (find (has_number number) (held self.now).opened.loads)) }
     {
         self.kept_sets(number)
     }
@@ -207,7 +238,11 @@ impl AtomicMemory {
     /// address if it ended now, or `None` if no such load asks for that byte, however its unit stands. `Undecided`
     /// and `OutOfMemory` are as there, of a byte that the load asks for, and `Refused` never comes.
     pub fn byte_may_return(&self, number: u64, address: u64) -> Result<Option<ByteSet>, AtomicFault>
-        ensures ok { (lost : List ℕ) → (history : List HistoryEvent) → StandsBut (held self.now) lost history → IfOk result (IsSetOf lost (held self.now).image (held self.now).rest (held self.now).size history number address) }
+        ensures ok { (lost : List ℕ) → (history : List HistoryEvent)
+            → StandsBut (held self.now) lost history
+            → IfOk result
+            (IsSetOf lost (held self.now).image (held self.now).rest (held self.now).size history number
+            address) }
         ensures fault { IfErr result (IsNoVerdict (IsWideByte (limit_of self.now) (held self.now) address)) }
         ensures asked { OnErr result (asks (find (has_number number) (held self.now).opened.loads) address ≡ true) }
     {
@@ -228,7 +263,9 @@ impl AtomicMemory {
 
     fn kept_sets(&self, number: u64) -> Result<Vec<ByteSet>, AtomicFault>
         ensures ok { IfOk result (λ sets. HasSets (held self.now) number sets.items) }
-        ensures fault { IfErr result (LoadFaultIs (limit_of self.now) (held self.now) (find (has_number number) (held self.now).opened.loads)) }
+        ensures fault { IfErr result
+            (LoadFaultIs (limit_of self.now) (held self.now)
+            (find (has_number number) (held self.now).opened.loads)) }
     {
         match open_under(self.loads.as_slice(), number) {
             None => Err(AtomicFault::Refused(HistoryFault::NotOpen)),
@@ -280,7 +317,9 @@ impl AtomicMemory {
     /// moments at each unit that wasn't forgotten. `AllocError` says that there was too little memory:
     /// everything is as it was.
     pub fn forget(&mut self, address: u64) -> Result<(), AllocError>
-        ensures ok { (lost : List ℕ) → (history : List HistoryEvent) → StandsBut (held self.old) lost history → OnOk result (StandsBut (held self.new) (address / (held self.old).size ∷ lost) history) }
+        ensures ok { (lost : List ℕ) → (history : List HistoryEvent)
+            → StandsBut (held self.old) lost history
+            → OnOk result (StandsBut (held self.new) (address / (held self.old).size ∷ lost) history) }
         ensures unchanged { OnErr result (held self.new ≡ held self.old) }
         ensures memory { HasSameMemory (held self.new) (held self.old) }
         ensures limit { limit_of self.new ≡ limit_of self.old }
@@ -400,7 +439,9 @@ impl AtomicMemory {
     // The ways of the units that an event touches, once it has come.
     fn changes(&self, event: HistoryEvent) -> Result<Vec<KeptUnit>, AtomicFault>
         ensures ok { IfOk result (λ us. IsLeft (held self.now) event.entry (map shown_unit us.items)) }
-        ensures fits { IfOk result (λ us. (covered (held self.now).opened event.entry).0 / (held self.now).size + length us.items ≤ 2 ^ 64) }
+        ensures fits { IfOk result
+            (λ us. (covered (held self.now).opened event.entry).0 / (held self.now).size + length us.items
+            ≤ 2 ^ 64) }
         ensures fault { IfErr result (KeptFaultIs (limit_of self.now) (held self.now) event.entry) }
     {
         if let Some(fault) = self.form_fault(event) {
@@ -480,7 +521,15 @@ impl AtomicMemory {
     fn open_or_close(&mut self, event: HistoryEvent)
         requires loads { vec_len self.old.loads < vec_capacity self.old.loads }
         requires stores { vec_len self.old.stores < vec_capacity self.old.stores }
-        ensures held { held self.new ≡ record { image = (held self.old).image; rest = (held self.old).rest; size = (held self.old).size; opened = opened_after (held self.old).opened event.entry; units = (held self.old).units; words = (held self.old).words } }
+        ensures held { held self.new
+            ≡ record {
+              image = (held self.old).image;
+              rest = (held self.old).rest;
+              size = (held self.old).size;
+              opened = opened_after (held self.old).opened event.entry;
+              units = (held self.old).units;
+              words = (held self.old).words;
+            } }
         ensures limit { limit_of self.new ≡ limit_of self.old }
     {
         match event {

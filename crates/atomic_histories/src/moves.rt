@@ -5,7 +5,8 @@ ghost use Rattle.atomic_histories.specs.declared.stretches.Before.{Before};
 ghost use Rattle.atomic_histories.specs.Pasts.{cut};
 ghost use Rattle.atomic_histories.specs.Stands.{Each};
 ghost use Rattle.atomic_histories.specs.Shown.{past_at, past_of, pasts, IsIn, Grows};
-ghost use Rattle.atomic_histories.specs.Shares.{moved_to, moved_stretch, cut_of, is_used, IsUsedBelow, RefersToUsed, AreClosed, StayUsed, AreSameFrom};
+ghost use Rattle.atomic_histories.specs.Shares.{moved_to, moved_stretch, cut_of, is_used, IsUsedBelow, RefersToUsed, AreClosed, StayUsed};
+ghost use Rattle.atomic_histories.specs.Shares.{AreSameFrom};
 
 use crate::pairs::FollowedPair;
 use crate::stretches::{Before, Stretch, merge, overwrite, push};
@@ -66,7 +67,10 @@ impl Moved {
 
     // One stretch more, if it is used.
     fn keep(&mut self, stretch: &Stretch, is_used: bool) -> Result<Before, AllocError>
-        ensures past { is_used ≡ true → IfOk result (λ b. past_at (pasts self.new.stretches.items) b ≡ past_of (pasts self.old.stretches.items) (moved_stretch self.old stretch.now)) }
+        ensures past { is_used ≡ true
+            → IfOk result
+            (λ b. past_at (pasts self.new.stretches.items) b
+            ≡ past_of (pasts self.old.stretches.items) (moved_stretch self.old stretch.now)) }
         ensures is_in { IfOk result (λ b. IsIn self.new.stretches.items b) }
         ensures grows { OnOk result (Grows self.old.stretches.items self.new.stretches.items) }
         ensures places { OnOk result (self.new.places.items ≡ self.old.places.items) }
@@ -82,7 +86,10 @@ impl Moved {
     // One stretch more, without what was overwritten before a moment.
     fn cut(&mut self, stretch: &Stretch, since: u64) -> Result<Before, AllocError>
         requires { (b : Before) → IsIn self.old.stretches.items (moved_to self.old b) }
-        ensures past { IfOk result (λ b. past_at (pasts self.new.stretches.items) b ≡ cut_of since (λ old. past_at (pasts self.old.stretches.items) (moved_to self.old old)) stretch.now) }
+        ensures past { IfOk result
+            (λ b. past_at (pasts self.new.stretches.items) b
+            ≡ cut_of since (λ old. past_at (pasts self.old.stretches.items) (moved_to self.old old))
+            stretch.now) }
         ensures is_in { IfOk result (λ b. IsIn self.new.stretches.items b) }
         ensures grows { OnOk result (Grows self.old.stretches.items self.new.stretches.items) }
         ensures places { OnOk result (self.new.places.items ≡ self.old.places.items) }
@@ -115,7 +122,9 @@ pub(crate) fn cut_before(
     stretches: &[Stretch],
     since: u64,
 ) -> Result<Moved, AllocError>
-    ensures same { IfOk result (λ m. (b : Before) → past_at (pasts m.stretches.items) (moved_to m b) ≡ cut since (past_at (pasts stretches.now) b)) }
+    ensures same { IfOk result
+        (λ m. (b : Before)
+        → past_at (pasts m.stretches.items) (moved_to m b) ≡ cut since (past_at (pasts stretches.now) b)) }
     ensures is_in { IfOk result (λ m. (b : Before) → IsIn m.stretches.items (moved_to m b)) }
 {
     let mut moved = Moved::with_room(alloc, stretches.len())?;
@@ -214,7 +223,10 @@ pub(crate) fn without_unused(
     stretches: &[Stretch],
     pairs: &[FollowedPair],
 ) -> Result<Moved, AllocError>
-    ensures same { IfOk result (λ m. Each (λ p. past_at (pasts m.stretches.items) (moved_to m p.past) ≡ past_at (pasts stretches.now) p.past) pairs.now) }
+    ensures same { IfOk result
+        (λ m. Each
+        (λ p. past_at (pasts m.stretches.items) (moved_to m p.past) ≡ past_at (pasts stretches.now) p.past)
+        pairs.now) }
     ensures is_in { IfOk result (λ m. (b : Before) → IsIn m.stretches.items (moved_to m b)) }
 {
     let used = used_by(alloc, stretches, pairs)?;

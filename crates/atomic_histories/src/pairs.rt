@@ -149,7 +149,11 @@ impl FollowedPair {
         past: Before,
     ) -> Result<FollowedPair, AllocError>
         requires { i < length self.now.stores.items }
-        ensures shown { IfOk result (λ p. (ss : List Stretch) (d : OpenStore) → shown ss p ≡ pair_after (past_at (pasts ss) past) (shown ss self.now) (take i self.now.stores.items) (slice_index_or self.now.stores.items i d) (drop (i + 1) self.now.stores.items)) }
+        ensures shown { IfOk result
+            (λ p. (ss : List Stretch) (d : OpenStore)
+            → shown ss p
+            ≡ pair_after (past_at (pasts ss) past) (shown ss self.now) (take i self.now.stores.items)
+            (slice_index_or self.now.stores.items i d) (drop (i + 1) self.now.stores.items)) }
         ensures past { IfOk result (λ p. p.past ≡ past) }
     {
         let mut word = self.word;

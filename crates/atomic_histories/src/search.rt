@@ -4,7 +4,8 @@ ghost use Rattle.std.specs.Prelude.{◌≡◌, ◌+◌, ◌<◌, ◌++◌, ◌||
 ghost use Rattle.std.specs.List.{filter};
 ghost use Rattle.atomic_histories.specs.declared.unit.OpenStore.{OpenStore};
 ghost use Rattle.atomic_histories.specs.declared.stretches.Stretch.{Stretch};
-ghost use Rattle.atomic_histories.specs.Followed.{pair_after, cons_effect, effects, effects_from, with_pairs, out_of, next_of, out_after, next_after, rounds, found as found_pairs, are_too_many, needs_more, never};
+ghost use Rattle.atomic_histories.specs.Followed.{pair_after, cons_effect, effects, effects_from, with_pairs, out_of, next_of, out_after};
+ghost use Rattle.atomic_histories.specs.Followed.{next_after, rounds, found as found_pairs, are_too_many, needs_more, never};
 ghost use Rattle.atomic_histories.specs.May.{reached_in, is_reach_over};
 ghost use Rattle.atomic_histories.specs.Marks.{IsFollowed};
 ghost use Rattle.atomic_histories.specs.Shown.{past_at, pasts, shown, shown_all, IsIn, AreIn, Grows, aim_of, StopIs};
@@ -62,7 +63,16 @@ fn add_effect(
     requires followed { IsFollowed next.old }
     requires pairs { AreIn stretches.old.items next.old.pairs.items }
     requires past { IsIn stretches.old.items past }
-    ensures pairs { OnOk result ((d : OpenStore) → shown_all stretches.new.items next.new.pairs.items ≡ with_pairs (shown_all stretches.old.items next.old.pairs.items) (filter (aim_of wanted.entry).hope (cons_effect (slice_index_or pair.now.stores.items i d).is_done (pair_after (past_at (pasts stretches.old.items) past) (shown stretches.old.items pair.now) (take i pair.now.stores.items) (slice_index_or pair.now.stores.items i d) (drop (i + 1) pair.now.stores.items)) []))) }
+    ensures pairs { OnOk result
+        ((d : OpenStore)
+        → shown_all stretches.new.items next.new.pairs.items
+        ≡ with_pairs (shown_all stretches.old.items next.old.pairs.items)
+        (filter (aim_of wanted.entry).hope
+        (cons_effect (slice_index_or pair.now.stores.items i d).is_done
+        (pair_after (past_at (pasts stretches.old.items) past) (shown stretches.old.items pair.now)
+        (take i pair.now.stores.items) (slice_index_or pair.now.stores.items i d)
+        (drop (i + 1) pair.now.stores.items))
+        []))) }
     ensures are_in { OnOk result (AreIn stretches.new.items next.new.pairs.items) }
     ensures grows { OnOk result (Grows stretches.old.items stretches.new.items) }
     ensures followed { OnOk result (IsFollowed next.new) }
@@ -90,7 +100,12 @@ fn add_effects_after(
     requires followed { IsFollowed next.old }
     requires pairs { AreIn stretches.old.items next.old.pairs.items }
     requires past { IsIn stretches.old.items past }
-    ensures pairs { OnOk result (shown_all stretches.new.items next.new.pairs.items ≡ with_pairs (shown_all stretches.old.items next.old.pairs.items) (filter (aim_of wanted.entry).hope (effects_from (past_at (pasts stretches.old.items) past) (shown stretches.old.items pair.now) [] pair.now.stores.items))) }
+    ensures pairs { OnOk result
+        (shown_all stretches.new.items next.new.pairs.items
+        ≡ with_pairs (shown_all stretches.old.items next.old.pairs.items)
+        (filter (aim_of wanted.entry).hope
+        (effects_from (past_at (pasts stretches.old.items) past) (shown stretches.old.items pair.now) []
+        pair.now.stores.items))) }
     ensures are_in { OnOk result (AreIn stretches.new.items next.new.pairs.items) }
     ensures grows { OnOk result (Grows stretches.old.items stretches.new.items) }
     ensures followed { OnOk result (IsFollowed next.new) }
@@ -114,7 +129,11 @@ fn add_effects(
     requires pair { IsIn stretches.old.items pair.now.past }
     requires followed { IsFollowed next.old }
     requires pairs { AreIn stretches.old.items next.old.pairs.items }
-    ensures pairs { OnOk result (shown_all stretches.new.items next.new.pairs.items ≡ with_pairs (shown_all stretches.old.items next.old.pairs.items) (filter (aim_of wanted.entry).hope (effects asked.entry.loads.now asked.entry.moment (shown stretches.old.items pair.now)))) }
+    ensures pairs { OnOk result
+        (shown_all stretches.new.items next.new.pairs.items
+        ≡ with_pairs (shown_all stretches.old.items next.old.pairs.items)
+        (filter (aim_of wanted.entry).hope
+        (effects asked.entry.loads.now asked.entry.moment (shown stretches.old.items pair.now)))) }
     ensures are_in { OnOk result (AreIn stretches.new.items next.new.pairs.items) }
     ensures grows { OnOk result (Grows stretches.old.items stretches.new.items) }
     ensures followed { OnOk result (IsFollowed next.new) }
@@ -141,8 +160,14 @@ fn follow(
     requires next_followed { IsFollowed next.old }
     requires out_in { AreIn stretches.old.items out.old.pairs.items }
     requires next_in { AreIn stretches.old.items next.old.pairs.items }
-    ensures out { OnOk result (shown_all stretches.new.items out.new.pairs.items ≡ out_of (aim_of wanted.entry).goal (shown_all stretches.old.items out.old.pairs.items) (shown stretches.old.items pair)) }
-    ensures next { OnOk result (shown_all stretches.new.items next.new.pairs.items ≡ next_of asked.entry.loads.now asked.entry.moment (aim_of wanted.entry) (shown_all stretches.old.items next.old.pairs.items) (shown stretches.old.items pair)) }
+    ensures out { OnOk result
+        (shown_all stretches.new.items out.new.pairs.items
+        ≡ out_of (aim_of wanted.entry).goal (shown_all stretches.old.items out.old.pairs.items)
+        (shown stretches.old.items pair)) }
+    ensures next { OnOk result
+        (shown_all stretches.new.items next.new.pairs.items
+        ≡ next_of asked.entry.loads.now asked.entry.moment (aim_of wanted.entry)
+        (shown_all stretches.old.items next.old.pairs.items) (shown stretches.old.items pair)) }
     ensures out_in { OnOk result (AreIn stretches.new.items out.new.pairs.items) }
     ensures next_in { OnOk result (AreIn stretches.new.items next.new.pairs.items) }
     ensures grows { OnOk result (Grows stretches.old.items stretches.new.items) }
@@ -169,8 +194,14 @@ fn round(
     requires pairs { AreIn stretches.old.items pairs.items }
     requires followed { IsFollowed out.old }
     requires out_in { AreIn stretches.old.items out.old.pairs.items }
-    ensures out { OnOk result (shown_all stretches.new.items out.new.pairs.items ≡ out_after (aim_of wanted.entry).goal (shown_all stretches.old.items out.old.pairs.items) (shown_all stretches.old.items pairs.items)) }
-    ensures next { IfOk result (λ next. shown_all stretches.new.items next.items ≡ next_after asked.entry.loads.now asked.entry.moment (aim_of wanted.entry) (shown_all stretches.old.items pairs.items)) }
+    ensures out { OnOk result
+        (shown_all stretches.new.items out.new.pairs.items
+        ≡ out_after (aim_of wanted.entry).goal (shown_all stretches.old.items out.old.pairs.items)
+        (shown_all stretches.old.items pairs.items)) }
+    ensures next { IfOk result
+        (λ next. shown_all stretches.new.items next.items
+        ≡ next_after asked.entry.loads.now asked.entry.moment (aim_of wanted.entry)
+        (shown_all stretches.old.items pairs.items)) }
     ensures out_in { OnOk result (AreIn stretches.new.items out.new.pairs.items) }
     ensures next_in { IfOk result (λ next. AreIn stretches.new.items next.items) }
     ensures grows { OnOk result (Grows stretches.old.items stretches.new.items) }
@@ -213,10 +244,15 @@ pub(crate) fn search(
 ) -> Result<Vec<FollowedPair>, Stop>
     requires found { AreIn stretches.old.items found.items }
     requires pairs { AreIn stretches.old.items pairs.items }
-    ensures found { IfOk result (λ f. shown_all stretches.new.items f.items ≡ found_pairs asked.entry.loads.now asked.entry.moment (aim_of wanted.entry) (shown_all stretches.old.items found.items) (shown_all stretches.old.items pairs.items)) }
+    ensures found { IfOk result
+        (λ f. shown_all stretches.new.items f.items
+        ≡ found_pairs asked.entry.loads.now asked.entry.moment (aim_of wanted.entry)
+        (shown_all stretches.old.items found.items) (shown_all stretches.old.items pairs.items)) }
     ensures are_in { IfOk result (λ f. AreIn stretches.new.items f.items) }
     ensures grows { OnOk result (Grows stretches.old.items stretches.new.items) }
-    ensures stop { IfErr result (StopIs (needs_more limit asked.entry.loads.now asked.entry.moment (aim_of wanted.entry) (shown_all stretches.old.items found.items) (shown_all stretches.old.items pairs.items))) }
+    ensures stop { IfErr result
+        (StopIs (needs_more limit asked.entry.loads.now asked.entry.moment (aim_of wanted.entry)
+        (shown_all stretches.old.items found.items) (shown_all stretches.old.items pairs.items))) }
 {
     let mut left = rounds(pairs.as_slice());
     let mut out = Followed::of(alloc, found)?;
@@ -252,7 +288,10 @@ fn reach(
     pairs: &[FollowedPair],
 ) -> Result<Vec<FollowedPair>, AllocError>
     requires { AreIn stretches.old.items pairs.now }
-    ensures next { IfOk result (λ next. shown_all stretches.new.items next.items ≡ next_after asked.entry.loads.now asked.entry.moment never (shown_all stretches.old.items pairs.now)) }
+    ensures next { IfOk result
+        (λ next. shown_all stretches.new.items next.items
+        ≡ next_after asked.entry.loads.now asked.entry.moment never
+        (shown_all stretches.old.items pairs.now)) }
     ensures are_in { IfOk result (λ next. AreIn stretches.new.items next.items) }
     ensures grows { OnOk result (Grows stretches.old.items stretches.new.items) }
 {
@@ -272,10 +311,16 @@ pub(crate) fn reached(
     limit: usize,
 ) -> Result<Vec<FollowedPair>, Stop>
     requires { AreIn stretches.old.items pairs.now }
-    ensures reached { IfOk result (λ r. shown_all stretches.new.items r.items ≡ shown_all stretches.old.items pairs.now ++ reached_in asked.entry.loads.now asked.entry.moment (rounds (shown_all stretches.old.items pairs.now)) (shown_all stretches.old.items pairs.now)) }
+    ensures reached { IfOk result
+        (λ r. shown_all stretches.new.items r.items
+        ≡ shown_all stretches.old.items pairs.now
+        ++ reached_in asked.entry.loads.now asked.entry.moment
+        (rounds (shown_all stretches.old.items pairs.now)) (shown_all stretches.old.items pairs.now)) }
     ensures are_in { IfOk result (λ r. AreIn stretches.new.items r.items) }
     ensures grows { OnOk result (Grows stretches.old.items stretches.new.items) }
-    ensures stop { IfErr result (StopIs (is_reach_over limit asked.entry.loads.now asked.entry.moment (rounds (shown_all stretches.old.items pairs.now)) (shown_all stretches.old.items pairs.now))) }
+    ensures stop { IfErr result
+        (StopIs (is_reach_over limit asked.entry.loads.now asked.entry.moment
+        (rounds (shown_all stretches.old.items pairs.now)) (shown_all stretches.old.items pairs.now))) }
 {
     let mut all = copied(alloc, pairs)?;
     let mut from = 0;

@@ -45,8 +45,12 @@ fn left_of_word(
 ) -> Result<Option<Before>, AllocError>
     requires place { place < length stretches.old.items }
     requires left { IsInAny stretches.old.items left }
-    requires same { left ≡ Some before → past_at (pasts stretches.old.items) (Behind place) ≡ after word moment (past_at (pasts stretches.old.items) before) }
-    ensures share { IfOk result (λ share. IsShare stretches.new.items share (after_any word moment (past_any (pasts stretches.old.items) left))) }
+    requires same { left ≡ Some before
+        → past_at (pasts stretches.old.items) (Behind place)
+        ≡ after word moment (past_at (pasts stretches.old.items) before) }
+    ensures share { IfOk result
+        (λ share. IsShare stretches.new.items share
+        (after_any word moment (past_any (pasts stretches.old.items) left))) }
     ensures grows { OnOk result (Grows stretches.old.items stretches.new.items) }
 {
     match left {
@@ -68,8 +72,13 @@ fn merge_left(
     requires place { place < length stretches.old.items }
     requires one { IsIn stretches.old.items one_left }
     requires other { IsIn stretches.old.items other_left }
-    requires same { one_left ≡ one → other_left ≡ other → past_at (pasts stretches.old.items) (Behind place) ≡ either (past_at (pasts stretches.old.items) one) (past_at (pasts stretches.old.items) other) }
-    ensures past { IfOk result (λ b. past_at (pasts stretches.new.items) b ≡ merged (past_at (pasts stretches.old.items) one_left) (past_at (pasts stretches.old.items) other_left)) }
+    requires same { one_left ≡ one → other_left ≡ other
+        → past_at (pasts stretches.old.items) (Behind place)
+        ≡ either (past_at (pasts stretches.old.items) one) (past_at (pasts stretches.old.items) other) }
+    ensures past { IfOk result
+        (λ b. past_at (pasts stretches.new.items) b
+        ≡ merged (past_at (pasts stretches.old.items) one_left)
+        (past_at (pasts stretches.old.items) other_left)) }
     ensures is_in { IfOk result (λ b. IsIn stretches.new.items b) }
     ensures grows { OnOk result (Grows stretches.old.items stretches.new.items) }
 {
@@ -92,8 +101,13 @@ fn left_of_two(
     requires place { place < length stretches.old.items }
     requires one { IsInAny stretches.old.items one_left }
     requires other { IsInAny stretches.old.items other_left }
-    requires same { one_left ≡ Some one → other_left ≡ Some other → past_at (pasts stretches.old.items) (Behind place) ≡ either (past_at (pasts stretches.old.items) one) (past_at (pasts stretches.old.items) other) }
-    ensures share { IfOk result (λ share. IsShare stretches.new.items share (merged_any (past_any (pasts stretches.old.items) one_left) (past_any (pasts stretches.old.items) other_left))) }
+    requires same { one_left ≡ Some one → other_left ≡ Some other
+        → past_at (pasts stretches.old.items) (Behind place)
+        ≡ either (past_at (pasts stretches.old.items) one) (past_at (pasts stretches.old.items) other) }
+    ensures share { IfOk result
+        (λ share. IsShare stretches.new.items share
+        (merged_any (past_any (pasts stretches.old.items) one_left)
+        (past_any (pasts stretches.old.items) other_left))) }
     ensures grows { OnOk result (Grows stretches.old.items stretches.new.items) }
 {
     match (one_left, other_left) {
@@ -149,7 +163,9 @@ impl Split {
     ) -> Result<(), AllocError>
         requires place { place < length stretches.old.items }
         requires split { IsSplit (is_answer unit load.now.address load.now.since bytes.now) place stretches.old.items self.old }
-        ensures split { OnOk result (IsSplit (is_answer unit load.now.address load.now.since bytes.now) (place + 1) stretches.new.items self.new) }
+        ensures split { OnOk result
+            (IsSplit (is_answer unit load.now.address load.now.since bytes.now) (place + 1)
+            stretches.new.items self.new) }
         ensures grows { OnOk result (Grows stretches.old.items stretches.new.items) }
     {
         match stretches[place] {
@@ -186,8 +202,16 @@ pub(crate) fn split_stretches(
     load: &WatchedLoad,
     bytes: &[u8],
 ) -> Result<Split, AllocError>
-    ensures got { IfOk result (λ s. (b : Before) → IsIn stretches.old.items b → IsShare stretches.new.items (got_of s b) (got (is_answer unit load.now.address load.now.since bytes.now) (past_at (pasts stretches.old.items) b))) }
-    ensures missed { IfOk result (λ s. (b : Before) → IsIn stretches.old.items b → IsShare stretches.new.items (missed_of s b) (missed (is_answer unit load.now.address load.now.since bytes.now) (past_at (pasts stretches.old.items) b))) }
+    ensures got { IfOk result
+        (λ s. (b : Before) → IsIn stretches.old.items b
+        → IsShare stretches.new.items (got_of s b)
+        (got (is_answer unit load.now.address load.now.since bytes.now)
+        (past_at (pasts stretches.old.items) b))) }
+    ensures missed { IfOk result
+        (λ s. (b : Before) → IsIn stretches.old.items b
+        → IsShare stretches.new.items (missed_of s b)
+        (missed (is_answer unit load.now.address load.now.since bytes.now)
+        (past_at (pasts stretches.old.items) b))) }
     ensures grows { OnOk result (Grows stretches.old.items stretches.new.items) }
 {
     let count = stretches.len();

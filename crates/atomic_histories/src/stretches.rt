@@ -58,7 +58,9 @@ pub(crate) fn overwrite(
     moment: u64,
     before: Before,
 ) -> Result<Before, AllocError>
-    ensures past { IfOk result (λ b. past_at (pasts stretches.new.items) b ≡ after word moment (past_at (pasts stretches.old.items) before)) }
+    ensures past { IfOk result
+        (λ b. past_at (pasts stretches.new.items) b
+        ≡ after word moment (past_at (pasts stretches.old.items) before)) }
     ensures is_in { IfOk result (λ b. IsIn stretches.new.items b) }
     ensures grows { OnOk result (Grows stretches.old.items stretches.new.items) }
     ensures err { OnErr result (stretches.new.items ≡ stretches.old.items) }
@@ -81,7 +83,9 @@ pub(crate) fn past_on(
     word: Word,
     past: Before,
 ) -> Result<Before, AllocError>
-    ensures past { IfOk result (λ b. past_at (pasts stretches.new.items) b ≡ overwritten loads.now moment word (past_at (pasts stretches.old.items) past)) }
+    ensures past { IfOk result
+        (λ b. past_at (pasts stretches.new.items) b
+        ≡ overwritten loads.now moment word (past_at (pasts stretches.old.items) past)) }
     ensures is_in { IfOk result (λ b. IsIn stretches.new.items b) }
     ensures grows { OnOk result (Grows stretches.old.items stretches.new.items) }
     ensures err { OnErr result (stretches.new.items ≡ stretches.old.items) }
@@ -100,7 +104,9 @@ pub(crate) fn merge(
 ) -> Result<Before, AllocError>
     requires one { IsIn stretches.old.items one }
     requires other { IsIn stretches.old.items other }
-    ensures past { IfOk result (λ b. past_at (pasts stretches.new.items) b ≡ merged (past_at (pasts stretches.old.items) one) (past_at (pasts stretches.old.items) other)) }
+    ensures past { IfOk result
+        (λ b. past_at (pasts stretches.new.items) b
+        ≡ merged (past_at (pasts stretches.old.items) one) (past_at (pasts stretches.old.items) other)) }
     ensures is_in { IfOk result (λ b. IsIn stretches.new.items b) }
     ensures grows { OnOk result (Grows stretches.old.items stretches.new.items) }
     ensures err { OnErr result (stretches.new.items ≡ stretches.old.items) }

@@ -95,7 +95,9 @@ pub(crate) fn changed_unit(
 ) -> Result<KeptUnit, AtomicFault>
     ensures unit { IfOk result (λ u. shown_unit u ≡ ways_after place (shown_unit unit.now) event.entry) }
     ensures left { OnOk result (is_without (shown_unit unit.now) (ways_after place (shown_unit unit.now) event.entry) ≡ false) }
-    ensures fault { IfErr result (ChangedFaultIs limit place (words_in unit.now.stretches.items) (shown_unit unit.now) event.entry loads.now) }
+    ensures fault { IfErr result
+        (ChangedFaultIs limit place (words_in unit.now.stretches.items) (shown_unit unit.now) event.entry
+        loads.now) }
 {
     let after = match ways_after(alloc, place, unit, event, limit) {
         Ok(after) => after,

@@ -4,7 +4,8 @@ ghost use Rattle.std.specs.Prelude.{◌≡◌, ◌==◌, ◌<◌, None, get_or, 
 ghost use Rattle.std.specs.Option.{option_eq};
 ghost use Rattle.atomic_histories.specs.Followed.{is_same_word, are_same_lanes};
 ghost use Rattle.std.specs.List.{list_any};
-ghost use Rattle.atomic_histories.specs.Words.{at_unit, first_byte, initial_byte, byte_for, enabled_byte, stored_byte, at_lane, is_at, written_byte, written, is_as_it_stood, is_word_of};
+ghost use Rattle.atomic_histories.specs.Words.{at_unit, first_byte, initial_byte, byte_for, enabled_byte, stored_byte, at_lane, is_at};
+ghost use Rattle.atomic_histories.specs.Words.{written_byte, written, is_as_it_stood, is_word_of};
 
 use crate::unit::{UnitPlace, Word};
 use memory_histories::Rest;

@@ -22,4 +22,10 @@ begun_frame words entries block =
 
 abbrev pub begun_register : ℕ → List Queued → ℕ → ℕ → Register
 begun_register words entries block frame =
-    record { valid = true; obsolete = false; block = block; frame = frame; fields = map (begun_field entries) (range_with_len (block * words) words) }
+    record {
+      valid = true;
+      obsolete = false;
+      block = block;
+      frame = frame;
+      fields = map (begun_field entries) (range_with_len (block * words) words);
+    }

@@ -34,7 +34,8 @@ ways_of z block = range_with_len (block % z.sets * z.ways) z.ways
 -- the free way of lowest number, else the resident way that was allocated longest ago
 unfoldable pub choose : Sizes → Cache → ℕ → Option ℕ
 choose z c block =
-    option_or (find (λ f. is_none (frame_at c f).block) (ways_of z block)) (find (λ f. is_resident_block c (frame_at c f).block) (order_of c.directory (block % z.sets)))
+    option_or (find (λ f. is_none (frame_at c f).block) (ways_of z block))
+    (find (λ f. is_resident_block c (frame_at c f).block) (order_of c.directory (block % z.sets)))
 
 -- ---- the words that a frame owes to memory
 
@@ -43,7 +44,8 @@ abbrev pub dirty_from : ℕ → ℕ → List Cell → List Queued
 dirty_from block at [] = []
 dirty_from block at (cell ∷ rest) =
     if has_any cell.dirty
-    then record { block = block; at = at; word = merged zero_word cell.word cell.dirty; lanes = cell.dirty } ∷ dirty_from block (at + 1) rest
+    then record { block = block; at = at; word = merged zero_word cell.word cell.dirty; lanes = cell.dirty }
+    ∷ dirty_from block (at + 1) rest
     else dirty_from block (at + 1) rest
 
 -- those of the block that stands here, of blocks of so many words
@@ -70,7 +72,9 @@ lacks_places z c f = nat_lt (z.write_queue - length c.queue) (length (dirty_word
 
 abbrev pub miss_causes : Sizes → (ℕ → ℕ) → Cache → ℕ → List (Bool × Cause)
 miss_causes z room c block =
-    (length (filter (λ r. r.valid) c.registers) == z.regs, NoRegister) ∷ (list_all (is_pending c) (ways_of z block), SetPending) ∷ (lacks_places z c (choose z c block), QueueFull) ∷ (lacks_room z room block, BankFull) ∷ []
+    (length (filter (λ r. r.valid) c.registers) == z.regs, NoRegister)
+    ∷ (list_all (is_pending c) (ways_of z block), SetPending)
+    ∷ (lacks_places z c (choose z c block), QueueFull) ∷ (lacks_room z room block, BankFull) ∷ []
 
 -- a load of a present block finds the word, or finds that it is on its way to a register
 pub data Found : Type 0 where
@@ -102,14 +106,16 @@ is_in_use c tag = list_any (λ t. t == tag) (tags c)
 unfoldable pub load_cause : Sizes → (ℕ → ℕ) → Cache → ℕ → ℕ → Option Cause
 load_cause z room c tag at =
     first_cause
-    ((not (nat_lt at z.words), OutOfRange) ∷ (is_in_use c tag, TagInUse) ∷ (nat_le z.replies (length (tags c)), RepliesFull) ∷ (if is_present c (block_of z at)
+    ((not (nat_lt at z.words), OutOfRange) ∷ (is_in_use c tag, TagInUse)
+    ∷ (nat_le z.replies (length (tags c)), RepliesFull) ∷ (if is_present c (block_of z at)
     then (targets_full c (place_in z at) (found c (block_of z at) (place_in z at)), TargetsFull) ∷ []
     else miss_causes z room c (block_of z at)))
 
 unfoldable pub store_cause : Sizes → (ℕ → ℕ) → Cache → ℕ → Lanes → Option Cause
 store_cause z room c at lanes =
     first_cause
-    ((not (nat_lt at z.words), OutOfRange) ∷ (not (has_any lanes), NoLanes) ∷ (if is_present c (block_of z at) then [] else miss_causes z room c (block_of z at)))
+    ((not (nat_lt at z.words), OutOfRange) ∷ (not (has_any lanes), NoLanes)
+    ∷ (if is_present c (block_of z at) then [] else miss_causes z room c (block_of z at)))
 
 unfoldable pub prefetch_cause : Sizes → (ℕ → ℕ) → Cache → ℕ → Option Cause
 prefetch_cause z room c at =

@@ -68,12 +68,22 @@ fetched_words z c block = if is_present c block then form_at z c else missed_wor
 -- the tag is owed the form of the word
 pub record LoadForms (z : Sizes) (c : Cache) (tag at : ℕ) (d : Cache) : Type 0 where
   pub present : is_present d (block_of z at) ≡ true
-  pub after : forms z d ≡ record { words = fetched_words z c (block_of z at); owing = but_at (owed c) tag (fetched_words z c (block_of z at) at) }
+  pub after : forms z d
+      ≡ record {
+        words = fetched_words z c (block_of z at);
+        owing = but_at (owed c) tag (fetched_words z c (block_of z at) at);
+      }
 
 -- the lanes of the word's form are the stored bytes
 pub record StoreForms (z : Sizes) (c : Cache) (at : ℕ) (word : Word) (lanes : Lanes) (d : Cache) : Type 0 where
   pub present : is_present d (block_of z at) ≡ true
-  pub after : forms z d ≡ record { words = but_at (fetched_words z c (block_of z at)) at (option_map (over_form lanes word) (fetched_words z c (block_of z at) at)); owing = owed c }
+  pub after : forms z d
+      ≡ record {
+        words =
+            but_at (fetched_words z c (block_of z at)) at
+            (option_map (over_form lanes word) (fetched_words z c (block_of z at) at));
+        owing = owed c;
+      }
 
 pub record PrefetchForms (z : Sizes) (c : Cache) (at : ℕ) (d : Cache) : Type 0 where
   pub present : is_present d (block_of z at) ≡ true
@@ -106,7 +116,10 @@ filled_form slot i w form l = fill slot i w (form l)
 -- a word that arrives fills all forms
 unfoldable pub ArriveForms : Sizes → Cache → ℕ → ℕ → Word → Answer → Cache → Type 0
 ArriveForms z c slot i w Moved d =
-    forms z d ≡ record { words = λ at. option_map (filled_form slot i w) (form_at z c at); owing = λ tag. option_map (filled_form slot i w) (owed c tag) }
+    forms z d ≡ record {
+      words = λ at. option_map (filled_form slot i w) (form_at z c at);
+      owing = λ tag. option_map (filled_form slot i w) (owed c tag);
+    }
 ArriveForms z c slot i w (Refused cause) d = forms z d ≡ forms z c
 ArriveForms z c slot i w answer d = ⊥
 

@@ -49,7 +49,8 @@ target_form c t = over_form t.load.lanes t.load.held (coming_form c t.slot t.i)
 -- the owed list: the form that each tag is owed
 abbrev pub owed : Cache → ℕ → Option Form
 owed c tag =
-    option_or (option_map (λ r. bytes_of r.word) (find (λ r. r.tag == tag) c.ready)) (option_map (target_form c) (find (λ t. t.load.tag == tag) (targets c.registers)))
+    option_or (option_map (λ r. bytes_of r.word) (find (λ r. r.tag == tag) c.ready))
+    (option_map (target_form c) (find (λ t. t.load.tag == tag) (targets c.registers)))
 
 -- ---- filling
 

@@ -71,12 +71,18 @@ pub(crate) fn bring_in<L: Lines>(
         ≤ queue.old.limit }
     requires some_banks { 0 < sizes.now.banks }
     requires bank_room { (b : ℕ)
-        → length (commands_for b (block_reads places.slot (block * sizes.now.block_words) sizes.now.block_words sizes.now.banks sizes.now.block_words))
+        → length (commands_for b
+        (block_reads places.slot (block * sizes.now.block_words) sizes.now.block_words sizes.now.banks
+        sizes.now.block_words))
         ≤ L.room_of lines.old b }
     ensures directory { directory.new
-        ≡ missed_frames sizes.now.ways sizes.now.block_words directory.old (queue.old.entries ++ owed_words sizes.now.block_words directory.old places.frame) places.frame block }
+        ≡ missed_frames sizes.now.ways sizes.now.block_words directory.old
+        (queue.old.entries ++ owed_words sizes.now.block_words directory.old places.frame) places.frame
+        block }
     ensures registers { registers.new
-        ≡ missed_registers sizes.now.block_words registers.old (queue.old.entries ++ owed_words sizes.now.block_words directory.old places.frame) places.frame places.slot block }
+        ≡ missed_registers sizes.now.block_words registers.old
+        (queue.old.entries ++ owed_words sizes.now.block_words directory.old places.frame) places.frame
+        places.slot block }
     ensures queue { queue.new
         ≡ queue_of (queue.old.entries ++ owed_words sizes.now.block_words directory.old places.frame)
         queue.old.limit }

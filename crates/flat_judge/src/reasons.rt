@@ -6,7 +6,8 @@ ghost use Rattle.flat_model.specs.declared.Event.TheVariants.{Take};
 ghost use Rattle.flat_judge.specs.Rows.{event_of, answer_of};
 ghost use Rattle.flat_judge.specs.Judge.{flat, judged, status_of};
 ghost use Rattle.flat_judge.specs.Table.{owed_or};
-ghost use Rattle.flat_judge.specs.Reasons.{against as against_answer, why as why_step, why_not as why_pair, number_of, status_by, owed_instead};
+ghost use Rattle.flat_judge.specs.Reasons.{against as against_answer, why as why_step, why_not as why_pair, number_of, status_by};
+ghost use Rattle.flat_judge.specs.Reasons.{owed_instead};
 
 use crate::judge::{Found, find};
 use crate::rows::{AnswerRow, EventRow};

@@ -1,6 +1,7 @@
 //! Flat memory as a value, and the replay of a run of events and answers over it.
 
-ghost use Rattle.std.specs.Prelude.{◌≡◌, ◌≢◌, Err, ◌+◌, true, length, replicate, None, Some, nat_lt, slice_get, IfOk, IfErr, OnOk, OnErr, ◌<◌, ◌≤◌};
+ghost use Rattle.std.specs.Prelude.{◌≡◌, ◌≢◌, Err, ◌+◌, true, length, replicate, None, Some, nat_lt, slice_get, IfOk, IfErr, OnOk, OnErr};
+ghost use Rattle.std.specs.Prelude.{◌<◌, ◌≤◌};
 ghost use Rattle.std.specs.List.{count_by};
 ghost use Rattle.std.specs.HashMap.{spare};
 ghost use Rattle.flat_model.specs.Flat.{Flat, opening, word_at, stored, with_due, may_answer, flat_after, flat_run, flat_step};

@@ -13,10 +13,14 @@ weight_in is_in byte weight = if is_in byte then weight else 0
 
 -- which of the four bytes from the first on are in a set, as the lower and as the upper half of an octet
 abbrev pub low_half : (ℕ → Bool) → ℕ → ℕ
-low_half is_in first = weight_in is_in first 1 + weight_in is_in (first + 1) 2 + weight_in is_in (first + 2) 4 + weight_in is_in (first + 3) 8
+low_half is_in first =
+    weight_in is_in first 1 + weight_in is_in (first + 1) 2 + weight_in is_in (first + 2) 4
+    + weight_in is_in (first + 3) 8
 
 abbrev pub high_half : (ℕ → Bool) → ℕ → ℕ
-high_half is_in first = weight_in is_in (first + 4) 16 + weight_in is_in (first + 5) 32 + weight_in is_in (first + 6) 64 + weight_in is_in (first + 7) 128
+high_half is_in first =
+    weight_in is_in (first + 4) 16 + weight_in is_in (first + 5) 32 + weight_in is_in (first + 6) 64
+    + weight_in is_in (first + 7) 128
 
 -- which of the eight bytes from the first on are in a set: bit `k` is the one of byte `first + k`
 unfoldable pub octet : (ℕ → Bool) → ℕ → ℕ

@@ -12,9 +12,10 @@ use Rattle.history_handles.specs.declared.faults.JudgeFault.TheVariants.{Refused
 use Rattle.history_handles.specs.declared.rows.Operation.{Operation}
 use Rattle.history_handles.specs.History.{History, opening, history_after, history_forgetting}
 
--- the law is the one by which the history is judged. The loads and the stores that are open stand in the order of their requests. `undecided` is where the unit begins for whose sake an
--- answer was undecided, if none was taken and no unit was forgotten since. `seen` has the bytes of all stores so far and of the open
--- loads, whatever the law, with the events that requested and answered them
+-- the law is the one by which the history is judged. The loads and the stores that are open stand in the order of their
+-- requests. `undecided` is where the unit begins for whose sake an answer was undecided, if none was taken and no unit was
+-- forgotten since. `seen` has the bytes of all stores so far and of the open loads, whatever the law, with the events that
+-- requested and answered them
 pub record Session : Type 0 where
   pub law : Law
   pub history : History

@@ -3,7 +3,8 @@ ghost use Rattle.std.specs.Prelude.{◌≡◌, None, Option, Some, length};
 ghost use Rattle.memory_histories.specs.declared.events.HistoryEvent.TheVariants.{LoadResponse};
 ghost use Rattle.history_handles.specs.Session.{Session};
 ghost use Rattle.history_handles.specs.Behind.{behind, IsBehind};
-ghost use Rattle.history_handles.specs.Calls.{IsSetTold, IsRowTold, IsPlaceTold, IsFaultTold, IsCauseTold, IsCounted, IsOperationTold, load_asked, store_asked};
+ghost use Rattle.history_handles.specs.Calls.{IsSetTold, IsRowTold, IsPlaceTold, IsFaultTold, IsCauseTold, IsCounted, IsOperationTold};
+ghost use Rattle.history_handles.specs.Calls.{load_asked, store_asked};
 
 use crate::faults::JudgeFault;
 use crate::handle::HistoryHandle;

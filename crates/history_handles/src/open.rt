@@ -1,7 +1,8 @@
 //! A history is opened and freed.
 ghost use Rattle.std.specs.Prelude.{◌≡◌, ◌≢◌, None, IfErr, OnOk, OnErr};
 ghost use Rattle.history_handles.specs.Behind.{behind};
-ghost use Rattle.history_handles.specs.Opening.{chosen, law_of, unit_of, of_bytes, rest_of, open_fault, open_number, fault_or_memory, IsTold, IsOpened, told_status};
+ghost use Rattle.history_handles.specs.Opening.{chosen, law_of, unit_of, of_bytes, rest_of, open_fault, open_number, fault_or_memory};
+ghost use Rattle.history_handles.specs.Opening.{IsTold, IsOpened, told_status};
 
 use crate::handle::HistoryHandle;
 use crate::history::OpenHistory;

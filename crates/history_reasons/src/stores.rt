@@ -1,11 +1,13 @@
 //! The stores of a log: each with all its bytes, since most answers are right, and no byte of theirs is looked at.
 
-ghost use Rattle.std.specs.Prelude.{◌≡◌, ◌≤◌, ◌<◌, ◌==◌, ◌+◌, if◌then◌else◌, None, length, get_or, slice_get, take, vec_len, vec_capacity, count_ones};
+ghost use Rattle.std.specs.Prelude.{◌≡◌, ◌≤◌, ◌<◌, ◌==◌, ◌+◌, if◌then◌else◌, None, length, get_or, slice_get, take, vec_len, vec_capacity};
+ghost use Rattle.std.specs.Prelude.{count_ones};
 ghost use Rattle.std.specs.Int.{bit_at};
 ghost use Rattle.std.specs.Int.Count.{ones_in};
 ghost use Rattle.memory_histories.specs.Parts.{lane_at};
 ghost use Rattle.memory_histories.specs.Windows.{store_bytes};
-ghost use Rattle.history_reasons.specs.Stores.{bytes_in, all_lanes, lanes_in, first_in, bytes_of, stored_at, with_store, after_answer, without_first, cut, gone_stores, gone_bytes};
+ghost use Rattle.history_reasons.specs.Stores.{bytes_in, all_lanes, lanes_in, first_in, bytes_of, stored_at, with_store, after_answer};
+ghost use Rattle.history_reasons.specs.Stores.{without_first, cut, gone_stores, gone_bytes};
 
 use memory_histories::{MAX_LENGTH, StoreByte};
 

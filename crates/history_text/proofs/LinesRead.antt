@@ -126,7 +126,8 @@ pub closed : {J : Type 0} {took : J → List HistoryEvent → J → Type 0} {law
     {bytes pending left : List ℕ} {texts : List (List ℕ)} {count next : ℕ}
     → HasRead took law start bytes texts judged pending count → after ≡ judged → left ≡ pending
     → next ≡ count → HasRead took law start bytes texts after left next
-closed {took = took} {law = law} {start = start} {judged = judged} {after = after} {bytes = bytes} {pending = pending} {left = left} {texts = texts} {count = count} {next = next} h a b c =
+closed {took = took} {law = law} {start = start} {judged = judged} {after = after} {bytes = bytes} {pending = pending} {left = left}
+    {texts = texts} {count = count} {next = next} h a b c =
     let one = subst (λ x. HasRead took law start bytes texts x pending count) (sym a) h in
     let two = subst (λ x. HasRead took law start bytes texts after x count) (sym b) one in
     subst (λ x. HasRead took law start bytes texts after left x) (sym c) two
@@ -268,7 +269,8 @@ pub within_line : {J : Type 0} {took : J → List HistoryEvent → J → Type 0}
     → Law} {start : Begin J} {judged : Judged J} {bytes pending : List ℕ} {texts : List (List ℕ)}
     {count : ℕ} (b : ℕ) (left : List ℕ) → b ≢ 10
     → HasRead took law start bytes texts judged pending count → HasRead took law start bytes (texts_with b texts left) judged pending count
-within_line {took = took} {law = law} {start = start} {judged = judged} {bytes = bytes} {pending = pending} {texts = texts} {count = count} b left ne h =
+within_line {took = took} {law = law} {start = start} {judged = judged} {bytes = bytes} {pending = pending} {texts = texts}
+    {count = count} b left ne h =
     subst (λ t. HasRead took law start bytes t judged pending count) (texts_same b texts left ne) h
 
 -- one byte more of a piece, and all of them

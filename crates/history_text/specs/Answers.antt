@@ -69,7 +69,9 @@ overwritten_text (Some o) = codes "; " ++ (byte_text o.byte ++ (codes " was over
 abbrev pub overwritten_there_text : Option OverwrittenByte → List ℕ
 overwritten_there_text None = []
 overwritten_there_text (Some o) =
-    codes "; " ++ (byte_text o.byte ++ (codes " at " ++ (address_text o.address ++ (codes " was overwritten by store " ++ decimal o.number))))
+    codes "; " ++ (byte_text o.byte
+    ++ (codes " at "
+    ++ (address_text o.address ++ (codes " was overwritten by store " ++ decimal o.number))))
 
 -- why an operation is none of the law
 abbrev pub cause_text : RefusalCause → List ℕ
@@ -99,7 +101,11 @@ end_text law (OfLaw events open_count) = codes "history of "
     ++ (decimal events ++ (codes " events is " ++ (law_text law ++ open_text open_count)))
 end_text law (Refused refusal) = refusal_text refusal
 end_text law (Undecided line address) =
-    codes "line " ++ (decimal line ++ (codes ": undecided: there are too many orders in which the open operations may have taken effect in the unit with " ++ address_text address))
+    codes "line "
+    ++ (decimal line
+    ++ (codes
+    ": undecided: there are too many orders in which the open operations may have taken effect in the unit with "
+    ++ address_text address))
 
 abbrev pub verdict_text : HistoryVerdict → List ℕ
 verdict_text v = end_text v.law v.end.now

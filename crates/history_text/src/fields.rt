@@ -2,7 +2,8 @@
 ghost use Rattle.std.specs.Prelude.{◌≡◌, ◌+◌, ◌^◌, ◌<◌, ◌≤◌, ◌∷◌, length, IfSome, IfNone};
 ghost use Rattle.std.specs.Option.{option_map};
 ghost use Rattle.trace_text.specs.Fields.{begins_badly as starts_badly, number_of, nibble_of, bit_of, byte_of};
-ghost use Rattle.history_text.specs.Fields.{most_number, with_digit as digit_more, hex_of, value_of, bytes_in, bytes_of, enables_in, enables_of};
+ghost use Rattle.history_text.specs.Fields.{most_number, with_digit as digit_more, hex_of, value_of, bytes_in, bytes_of, enables_in};
+ghost use Rattle.history_text.specs.Fields.{enables_of};
 
 use crate::events::OperationBytes;
 use arrayvec::ArrayVec;

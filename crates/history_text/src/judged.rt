@@ -4,8 +4,10 @@ ghost use Rattle.std.specs.Prelude.{◌≡◌, ◌+◌, ◌<◌, ◌^◌, ◌++�
 ghost use Rattle.std.specs.List.{filter};
 ghost use Rattle.memory_histories.specs.declared.events.HistoryEvent.{HistoryEvent as Event};
 ghost use Rattle.history_text.specs.Lines.{seen};
-ghost use Rattle.history_text.specs.Operations.{with_request, with_response, open_in, counted as counted_event, loads_then, load_in as load_of, open_loads, byte_address as address_at};
-ghost use Rattle.history_text.specs.Refusals.{kind_of as kind_seen, number_of as number_seen, request_cause as cause_of_request, IsAnswerCause, IsResponseCause, IsCause, IsRefusal};
+ghost use Rattle.history_text.specs.Operations.{with_request, with_response, open_in, counted as counted_event, loads_then};
+ghost use Rattle.history_text.specs.Operations.{load_in as load_of, open_loads, byte_address as address_at};
+ghost use Rattle.history_text.specs.Refusals.{kind_of as kind_seen, number_of as number_seen, request_cause as cause_of_request};
+ghost use Rattle.history_text.specs.Refusals.{IsAnswerCause, IsResponseCause, IsCause, IsRefusal};
 ghost use Rattle.memory_histories.specs.Windows.{Windows};
 ghost use Rattle.history_reasons.specs.Log.{HasRoom};
 ghost use Rattle.history_text.specs.Notes.{line_then};

@@ -2,7 +2,9 @@
 ghost use Rattle.std.specs.Prelude.{◌≡◌, ◌==◌, IfErr};
 ghost use Rattle.std.specs.Option.{option_map};
 ghost use Rattle.trace_text.specs.Lines.{IsSaid};
-ghost use Rattle.history_text.specs.Lines.{seen_by, seen_in, load_request_of, load_response_of, store_request_of, store_response_of, event_from as event_made, command_named as command_of, is_comment as begins_comment, is_blank as is_all_blank, is_passed_over as is_skipped, line_of};
+ghost use Rattle.history_text.specs.Lines.{seen_by, seen_in, load_request_of, load_response_of, store_request_of, store_response_of};
+ghost use Rattle.history_text.specs.Lines.{event_from as event_made, command_named as command_of, is_comment as begins_comment};
+ghost use Rattle.history_text.specs.Lines.{is_blank as is_all_blank, is_passed_over as is_skipped, line_of};
 
 use crate::events::OwnedEvent;
 use crate::fields::{bytes, enables, value};

@@ -7,7 +7,9 @@ ghost use Rattle.history_reasons.specs.Log.{HasRoom};
 ghost use Rattle.history_text.specs.Lines.{seen};
 ghost use Rattle.history_text.specs.Answers.{bytes_in_set as set_bytes};
 ghost use Rattle.history_text.specs.Refusals.{IsWrong};
-ghost use Rattle.history_text.specs.Notes.{Telling, telling_of, AreNotesOf, opening_windows, line_then, line_number, source_named, named_with, alternatives_for, sources_of, sources_under, alternatives_of, overwriter_of, overwritten_by, overwritten_of, overwritten_in};
+ghost use Rattle.history_text.specs.Notes.{Telling, telling_of, AreNotesOf, opening_windows, line_then, line_number, source_named};
+ghost use Rattle.history_text.specs.Notes.{named_with, alternatives_for, sources_of, sources_under, alternatives_of, overwriter_of};
+ghost use Rattle.history_text.specs.Notes.{overwritten_by, overwritten_of, overwritten_in};
 
 use crate::answers::{AllowedByte, ByteSource, OverwrittenByte, RefusalCause, bytes_in_set};
 use crate::events::OwnedEvent;

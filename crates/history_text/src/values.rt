@@ -11,7 +11,8 @@ ghost use Rattle.history_text.specs.Judged.{Stands};
 ghost use Rattle.history_text.specs.Notes.{Telling, AreNotesOf, opening_windows};
 ghost use Rattle.history_text.specs.Told.{Begin, law_begun, told_by};
 ghost use Rattle.history_text.specs.Histories.{HasRead, texts_with, bytes_left};
-ghost use Rattle.history_text.specs.Values.{any_text, set_text, sets_text, values_text, AreSetsFrom, AreValues, IsTold, Told, TellStops, ByteStops, ToldIn, Writes};
+ghost use Rattle.history_text.specs.Values.{any_text, set_text, sets_text, values_text, AreSetsFrom, AreValues, IsTold, Told, TellStops};
+ghost use Rattle.history_text.specs.Values.{ByteStops, ToldIn, Writes};
 
 use crate::answers::{HistoryEnd, bytes_in_set, write_joined};
 use crate::events::OwnedEvent;

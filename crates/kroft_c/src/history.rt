@@ -5,7 +5,8 @@ ghost use Rattle.history_handles.specs.Session.{Session};
 ghost use Rattle.history_handles.specs.Behind.{behind, IsBehind};
 ghost use Rattle.history_handles.specs.Opening.{chosen, open_fault, IsTold, IsOpened, told_status};
 ghost use Rattle.history_handles.specs.Why.{IsWhyTold};
-ghost use Rattle.history_handles.specs.Calls.{IsEventTold, IsSetTold, IsPlaceTold, IsForgetStatus, forgotten_by, IsAddressTold, IsCounted, IsOperationTold, load_asked, store_asked};
+ghost use Rattle.history_handles.specs.Calls.{IsEventTold, IsSetTold, IsPlaceTold, IsForgetStatus, forgotten_by, IsAddressTold, IsCounted};
+ghost use Rattle.history_handles.specs.Calls.{IsOperationTold, load_asked, store_asked};
 
 use history_handles::{HistoryHandle, Operation, ReasonRow};
 use std::alloc::Global;

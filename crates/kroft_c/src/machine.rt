@@ -7,7 +7,8 @@ ghost use Rattle.machine_handles.specs.Behind.{standing, behind, idle, alone};
 ghost use Rattle.machine_handles.specs.Made as made;
 ghost use Rattle.machine_handles.specs.Rows.{sizes_of};
 ghost use Rattle.machine_handles.specs.Opening.{open_fault, IsTold};
-ghost use Rattle.machine_handles.specs.Calls.{apply_status, apply_row, applied, IsFlat, pump_status, pumped, told_status, test_status, found_row, pumped_event, pumped_answer};
+ghost use Rattle.machine_handles.specs.Calls.{apply_status, apply_row, applied, IsFlat, pump_status, pumped, told_status, test_status};
+ghost use Rattle.machine_handles.specs.Calls.{found_row, pumped_event, pumped_answer};
 
 use flat_judge::{AnswerRow, EventRow};
 use flat_model::Word;

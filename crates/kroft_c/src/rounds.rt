@@ -3,7 +3,8 @@ ghost use Rattle.std.specs.Prelude.{◌≡◌, ◌≢◌, Some};
 ghost use Rattle.std.specs.Option.{option_map, unwrap_or};
 ghost use Rattle.machine_handles.specs.Behind.{standing, behind, alone};
 ghost use Rattle.machine_handles.specs.Rounds.{rounds_fault, counted, driven, IsDriven, IsToldOfRounds};
-ghost use Rattle.machine_handles.specs.Stepping.{begin_fault, begun, ended, round_fault, made, after_round, round_row, counts_in, absent, fault_status};
+ghost use Rattle.machine_handles.specs.Stepping.{begin_fault, begun, ended, round_fault, made, after_round, round_row, counts_in, absent};
+ghost use Rattle.machine_handles.specs.Stepping.{fault_status};
 
 use flat_judge::EventRow;
 use machine_handles::{CountsRow, Handle, RoundRow};

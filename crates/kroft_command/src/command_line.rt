@@ -5,7 +5,8 @@ ghost use Rattle.std.specs.Option.{option_or};
 ghost use Rattle.std.specs.List.{All, AllByRecursion};
 ghost use Rattle.access_logs.specs.declared.writing.TheConstants.{MAX_WORDS};
 ghost use Rattle.round_driver.specs.declared.driving.TheConstants.{MOST_LATENCY};
-ghost use Rattle.kroft_command.specs.Tool.{IsInRange, IsTimely, latency_or_usual, machine_named, registers_in, timing_with, timings_in, words_or_most};
+ghost use Rattle.kroft_command.specs.Tool.{IsInRange, IsTimely, latency_or_usual, machine_named, registers_in, timing_with, timings_in};
+ghost use Rattle.kroft_command.specs.Tool.{words_or_most};
 
 use crate::commands::{
     BUSY, FILE, LATENCY, LOG, MACHINE, REGISTERS, SVG, Subcommand, program, shown,

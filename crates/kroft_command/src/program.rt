@@ -10,7 +10,8 @@ ghost use Rattle.kroft_command.specs.declared.fault.ToolFault.TheVariants as fau
 ghost use Rattle.kroft_command.specs.Tool.{IsInRange};
 ghost use Rattle.kroft_command.specs.Told.{EndsBy};
 ghost use Rattle.kroft_command.specs.Program.{Works, TellsWords, Performs, IsDone};
-ghost use Rattle.kroft_command.specs.Program.{IsMachineOf, IsUnread, ShapeTextFails, MachineTextFails, MachineFails, IsImageOf, ImageFails, HasRoom, LacksRoom};
+ghost use Rattle.kroft_command.specs.Program.{IsMachineOf, IsUnread, ShapeTextFails, MachineTextFails, MachineFails, IsImageOf, ImageFails};
+ghost use Rattle.kroft_command.specs.Program.{HasRoom, LacksRoom};
 
 use crate::command_line::{CommandLine, ImageName, MachineName, Task, read_words};
 use crate::fault::{LongImage, ToolFault};

@@ -13,9 +13,11 @@ ghost use Rattle.round_driver.specs.declared.driving.TheConstants.{MOST_LATENCY}
 ghost use Rattle.kroft_jobs.specs.Jobs.{swept};
 ghost use Rattle.kroft_jobs.specs.Writing.{IsPut, IsCut};
 ghost use Rattle.kroft_command.specs.Tool.{IsTimely, timings_in, registers_in, line, write_fault};
-ghost use Rattle.kroft_command.specs.Program.{Runs, Checks, ChecksAnswered, checks_by, ExplainsRun, Grades, Draws, WritesRequests, access_in};
+ghost use Rattle.kroft_command.specs.Program.{Runs, Checks, ChecksAnswered, checks_by, ExplainsRun, Grades, Draws, WritesRequests};
+ghost use Rattle.kroft_command.specs.Program.{access_in};
 ghost use Rattle.kroft_command.specs.Program.{Drives, WritesRun, PutsCounts, PutsDetails, DrawsCounts, counts_by};
-ghost use Rattle.kroft_command.specs.Program.{Sweeps, SweepsRegisters, SweepsRounds, SweepsLatencies, DrawsSweep, sweeps_lines, latency_lines, swept_rows};
+ghost use Rattle.kroft_command.specs.Program.{Sweeps, SweepsRegisters, SweepsRounds, SweepsLatencies, DrawsSweep, sweeps_lines};
+ghost use Rattle.kroft_command.specs.Program.{latency_lines, swept_rows};
 ghost use Rattle.kroft_command.specs.Program.{FollowsHistory, JudgesHistory, WritesHistory, PutsVerdict};
 
 use crate::command_line::{CountForm, HistoryTask, LogName, Registers, Timings};
@@ -216,7 +218,8 @@ fn put_counts<I: Source, O: Sink>(
     requires sizes { bad_machine sizes.now ≡ None }
     requires latency { timing.latency ≤ MOST_LATENCY }
     ensures few { IfOk result (λ status. status ≤ 1) }
-    ensures ends { PutsCounts I.gave I.failed O.took O.refused O.unflushed from timing format sizes.now image.now input.old input.new output.old
+    ensures ends { PutsCounts I.gave I.failed O.took O.refused O.unflushed from timing format sizes.now
+        image.now input.old input.new output.old
         output.new result }
 {
     let table = summarize_requests(alloc, sizes, image, timing, from, input)?;
@@ -238,7 +241,8 @@ fn put_details<I: Source, O: Sink>(
     requires sizes { bad_machine sizes.now ≡ None }
     requires latency { timing.latency ≤ MOST_LATENCY }
     ensures few { IfOk result (λ status. status ≤ 1) }
-    ensures ends { PutsDetails I.gave I.failed O.took O.refused O.unflushed from timing format sizes.now image.now input.old input.new output.old
+    ensures ends { PutsDetails I.gave I.failed O.took O.refused O.unflushed from timing format sizes.now
+        image.now input.old input.new output.old
         output.new result }
 {
     let run = detail_requests(alloc, sizes, image, timing, from, input)?;
@@ -489,7 +493,8 @@ fn put_registers<R: AllocGlobal + Threads + Sync, I: Source, O: Sink>(
     output: &mut O,
 ) -> Result<u8, ToolFault>
     ensures few { IfOk result (λ status. status ≤ 1) }
-    ensures ends { SweepsRegisters I.gave I.failed O.took O.refused O.unflushed format (swept sizes.now registers.now) input.old input.new output.old
+    ensures ends { SweepsRegisters I.gave I.failed O.took O.refused O.unflushed format
+        (swept sizes.now registers.now) input.old input.new output.old
         output.new result }
 {
     let rows = sweep_registers(rt, rt.alloc(), sizes, registers, input)?;
@@ -510,7 +515,8 @@ fn put_rounds<R: AllocGlobal + Threads + Sync, I: Source, O: Sink>(
 ) -> Result<u8, ToolFault>
     requires { timing.latency ≤ MOST_LATENCY }
     ensures few { IfOk result (λ status. status ≤ 1) }
-    ensures ends { SweepsRounds I.gave I.failed O.took O.refused O.unflushed timing format (swept sizes.now registers.now) input.old input.new output.old
+    ensures ends { SweepsRounds I.gave I.failed O.took O.refused O.unflushed timing format
+        (swept sizes.now registers.now) input.old input.new output.old
         output.new result }
 {
     let rows = sweep_in_rounds(rt, rt.alloc(), sizes, registers, timing, input)?;
@@ -562,7 +568,8 @@ fn put_latencies<R: AllocGlobal + Threads + Sync, I: Source, O: Sink>(
 ) -> Result<u8, ToolFault>
     requires { All IsTimely timings.now }
     ensures few { IfOk result (λ status. status ≤ 1) }
-    ensures ends { SweepsLatencies I.gave I.failed O.took O.refused O.unflushed timings.now format (swept sizes.now registers.now) input.old input.new
+    ensures ends { SweepsLatencies I.gave I.failed O.took O.refused O.unflushed timings.now format
+        (swept sizes.now registers.now) input.old input.new
         output.old output.new result }
 {
     let rows = sweep_latencies(rt, rt.alloc(), sizes, registers, timings, input)?;
@@ -600,7 +607,8 @@ fn draw_sweep<R: AllocGlobal + Threads + Sync, I: Source, O: Sink>(
 ) -> Result<u8, ToolFault>
     requires { All IsTimely timings.now }
     ensures few { IfOk result (λ status. status ≤ 1) }
-    ensures ends { DrawsSweep I.gave I.failed O.took O.refused O.unflushed timings.now (swept sizes.now registers.now) input.old input.new output.old
+    ensures ends { DrawsSweep I.gave I.failed O.took O.refused O.unflushed timings.now
+        (swept sizes.now registers.now) input.old input.new output.old
         output.new result }
 {
     let rows = sweep_latencies(rt, rt.alloc(), sizes, registers, timings, input)?;
@@ -621,7 +629,8 @@ fn put_sweep<R: AllocGlobal + Threads + Sync, I: Source, O: Sink>(
 ) -> Result<u8, ToolFault>
     requires { All IsTimely timings.now }
     ensures few { IfOk result (λ status. status ≤ 1) }
-    ensures ends { sweeps_lines I.gave I.failed O.took O.refused O.unflushed timings.now format (swept sizes.now registers.now) input.old input.new
+    ensures ends { sweeps_lines I.gave I.failed O.took O.refused O.unflushed timings.now format
+        (swept sizes.now registers.now) input.old input.new
         output.old output.new result }
 {
     match timings {
@@ -644,7 +653,8 @@ fn sweep_by<R: AllocGlobal + Threads + Sync, I: Source, O: Sink>(
 ) -> Result<u8, ToolFault>
     requires timely { All IsTimely timings.now }
     ensures few { IfOk result (λ status. status ≤ 1) }
-    ensures ends { Sweeps I.gave I.failed O.took O.refused O.unflushed timings.now form (swept sizes.now registers.now) input.old input.new output.old
+    ensures ends { Sweeps I.gave I.failed O.took O.refused O.unflushed timings.now form
+        (swept sizes.now registers.now) input.old input.new output.old
         output.new result }
 {
     match form {

@@ -20,4 +20,6 @@ GradesAll gave failed took refused unflushed format m input input' output output
     Graded format m texts after report score × IsWritten took refused unflushed (grade_text format report score) output output' (Ok score)
 GradesAll gave failed took refused unflushed format m input input' output output' (Err e) =
     (ReadFails gave failed sheet_fault MAX_PAIR input input' e × (output' ≡ output)) ⊎
-    ((texts : List (List ℕ)) × (after : MachineState) × (report : List ℕ) × (score : Score) × ReadWhole gave sheet_fault MAX_PAIR input input' texts × Graded format m texts after report score × IsWritten {X = Score} took refused unflushed (grade_text format report score) output output' (Err e))
+    ((texts : List (List ℕ)) × (after : MachineState) × (report : List ℕ) × (score : Score)
+    × ReadWhole gave sheet_fault MAX_PAIR input input' texts × Graded format m texts after report score
+    × IsWritten {X = Score} took refused unflushed (grade_text format report score) output output' (Err e))

@@ -1,5 +1,6 @@
 //! A machine whose ways, words of a block, registers and places of the stack stand in its type.
-ghost use Rattle.std.specs.Prelude.{◌≡◌, ◌≢◌, ℕ, ◌<◌, ◌≤◌, ◌↔◌, length, IfOk, IfErr, IfSome, OnOk, OnErr, IsTrue, IsNone, None, Some, slice_get};
+ghost use Rattle.std.specs.Prelude.{◌≡◌, ◌≢◌, ℕ, ◌<◌, ◌≤◌, ◌↔◌, length, IfOk, IfErr, IfSome, OnOk, OnErr, IsTrue, IsNone, None, Some};
+ghost use Rattle.std.specs.Prelude.{slice_get};
 ghost use Rattle.std.specs.Option.{option_map};
 ghost use Rattle.flat_model.specs.Flat.{flat_step, flat_run, word_at};
 ghost use Rattle.flat_model.specs.declared.Cause.TheVariants.{StrayWord};

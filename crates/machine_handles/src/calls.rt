@@ -1,11 +1,13 @@
 //! The calls of a machine behind a handle.
 ghost use Rattle.std.specs.Prelude.{◌≡◌, Some};
 ghost use Rattle.std.specs.Option.{option_map, unwrap_or};
-ghost use Rattle.machine_core.specs.AnyMachine.{weight_of, is_settled, bank_shown, register_shown, field_shown, target_shown, pump_tells, pump_leaves};
+ghost use Rattle.machine_core.specs.AnyMachine.{weight_of, is_settled, bank_shown, register_shown, field_shown, target_shown, pump_tells};
+ghost use Rattle.machine_core.specs.AnyMachine.{pump_leaves};
 ghost use Rattle.machine_handles.specs.Behind.{standing, standing_of, behind, idle, idle_in};
 ghost use Rattle.flat_judge.specs.Rows.{event_of};
 ghost use Rattle.machine_handles.specs.Rows as rows;
-ghost use Rattle.machine_handles.specs.Calls.{apply_status, apply_row, applied, IsFlat, pump_status, pumped, told_status, test_status, found_status, found_row, pumped_event, pumped_answer, same_word};
+ghost use Rattle.machine_handles.specs.Calls.{apply_status, apply_row, applied, IsFlat, pump_status, pumped, told_status, test_status};
+ghost use Rattle.machine_handles.specs.Calls.{found_status, found_row, pumped_event, pumped_answer, same_word};
 
 use crate::handle::Handle;
 use crate::kept::Kept;

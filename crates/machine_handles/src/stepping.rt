@@ -4,7 +4,8 @@ ghost use Rattle.std.specs.Option.{option_map, unwrap_or};
 ghost use Rattle.machine_handles.specs.Behind.{standing, standing_of};
 ghost use Rattle.machine_handles.specs.Rounds.{IsToldOfRounds, why_not};
 ghost use Rattle.machine_handles.specs.Stepping as stepping;
-ghost use Rattle.machine_handles.specs.Stepping.{begin_fault, begun, ended, request_in, round_fault, made, after_round, round_row, counts_in, absent, fault_status};
+ghost use Rattle.machine_handles.specs.Stepping.{begin_fault, begun, ended, request_in, round_fault, made, after_round, round_row};
+ghost use Rattle.machine_handles.specs.Stepping.{counts_in, absent, fault_status};
 
 use crate::handle::Handle;
 use crate::kept::Kept;

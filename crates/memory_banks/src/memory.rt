@@ -4,7 +4,8 @@ ghost use Rattle.std.specs.List.{count_by, list_all};
 ghost use Rattle.flat_model.specs.declared.limits.TheConstants.{MAX_BANKS, MAX_BANK_QUEUE, MAX_MEMORY};
 ghost use Rattle.memory_banks.specs.declared.bank.TheConstants.{MAX_ANSWERS};
 ghost use Rattle.memory_banks.specs.Banks.{bank_at, words_after, pending, opening_banks, room_in};
-ghost use Rattle.memory_banks.specs.Memory.{with_banks, IsMemory, word_in, is_read, is_idle, serve_in, without_answer, SameButQueues, bad_field, fault_of};
+ghost use Rattle.memory_banks.specs.Memory.{with_banks, IsMemory, word_in, is_read, is_idle, serve_in, without_answer, SameButQueues};
+ghost use Rattle.memory_banks.specs.Memory.{bad_field, fault_of};
 
 use crate::{BankAnswer, Command, Lines, MemoryBank};
 use flat_model::{MAX_BANK_QUEUE, MAX_BANKS, MAX_WORDS, MakeFault, Shape, ShapeField, Word};

@@ -32,7 +32,9 @@ load number length xs = LoadRequest number 4096 length ∷ LoadResponse number (
 
 -- two stores of a word of two bytes that overlap
 abbrev pub two_stores : List HistoryEvent
-two_stores = StoreRequest 1 4096 (bytes (17 ∷ 17 ∷ [])) 3 ∷ StoreRequest 2 4096 (bytes (34 ∷ 34 ∷ [])) 3 ∷ StoreResponse 1 ∷ StoreResponse 2 ∷ []
+two_stores =
+    StoreRequest 1 4096 (bytes (17 ∷ 17 ∷ [])) 3 ∷ StoreRequest 2 4096 (bytes (34 ∷ 34 ∷ [])) 3
+    ∷ StoreResponse 1 ∷ StoreResponse 2 ∷ []
 
 -- new then old: while a store is open, one load sees it, and a later one doesn't
 pub new_then_old : Passes (StoreRequest 1 4096 (bytes (90 ∷ [])) 1 ∷ [] ++ load 1 1 (90 ∷ []) ++ load 2 1 (0 ∷ []))

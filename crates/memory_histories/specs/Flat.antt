@@ -95,7 +95,13 @@ loads_after f (LoadResponse number bytes) = filter (λ l. not (is_of number l)) 
 loads_after f event = f.loads
 
 abbrev pub flat_after : Flat → HistoryEvent → Flat
-flat_after f event = record { memory = memory_after f event; moment = f.moment + 1; stores = stores_after f event; loads = loads_after f event }
+flat_after f event =
+    record {
+      memory = memory_after f event;
+      moment = f.moment + 1;
+      stores = stores_after f event;
+      loads = loads_after f event;
+    }
 
 -- one event, where it is one of the law
 abbrev pub flat_step : Flat → HistoryEvent → Option Flat

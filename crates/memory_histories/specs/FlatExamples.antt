@@ -44,5 +44,7 @@ pub a_torn_word : Stops (two_stores ++ LoadRequest 1 4096 2 ∷ []) (LoadRespons
 a_torn_word = refl
 
 -- a load that is requested before a store doesn't see it
-pub a_load_before : Passes (LoadRequest 1 4096 1 ∷ StoreRequest 1 4096 (bytes (90 ∷ [])) 1 ∷ StoreResponse 1 ∷ LoadResponse 1 (bytes (0 ∷ [])) ∷ [])
+pub a_load_before : Passes
+    (LoadRequest 1 4096 1 ∷ StoreRequest 1 4096 (bytes (90 ∷ [])) 1 ∷ StoreResponse 1
+    ∷ LoadResponse 1 (bytes (0 ∷ [])) ∷ [])
 a_load_before = refl

@@ -23,7 +23,12 @@ standing image rest written a = standing_or (written a) (initial (slice_get imag
 
 -- memory with what was stored and loaded in it
 unfoldable pub shown : FlatHistory → Flat
-shown m = record { memory = standing m.image.items m.rest (get nat_eq m.written); moment = m.moment; stores = m.stores.items; loads = m.loads.items }
+shown m = record {
+  memory = standing m.image.items m.rest (get nat_eq m.written);
+  moment = m.moment;
+  stores = m.stores.items;
+  loads = m.loads.items;
+}
 
 -- what each fault of a step says of the event
 abbrev pub FlatFaultIs : Flat → HistoryEvent → StepFault → Type 0

@@ -19,7 +19,10 @@ IsWithin time s (Some moment) = (time s.began < moment) × IsAnsweredAfter time 
 -- of the stores to its byte that took effect before the moment, this one was the last
 abbrev pub IsLatest : (StoreByte → Option ℕ) → ℕ → List StoreByte → StoreByte → Type 0
 IsLatest effect moment stores s =
-    (m : ℕ) × ((effect s ≡ Some m) × ((m < moment) × ((other : StoreByte) → Contains stores other → other.address ≡ s.address → (n : ℕ) → effect other ≡ Some n → n < moment → n ≤ m)))
+    (m : ℕ) × ((effect s ≡ Some m)
+    × ((m < moment)
+    × ((other : StoreByte) → Contains stores other → other.address ≡ s.address → (n : ℕ)
+    → effect other ≡ Some n → n < moment → n ≤ m)))
 
 -- no store to the byte took effect before the moment
 abbrev pub NoneBefore : (StoreByte → Option ℕ) → ℕ → List StoreByte → ℕ → Type 0

@@ -64,4 +64,11 @@ loads_after w event = w.loads
 
 -- the windows after an event
 abbrev pub windows_after : Windows → HistoryEvent → Windows
-windows_after w event = record { image = w.image; rest = w.rest; moment = w.moment + 1; stores = stores_after w event; loads = loads_after w event }
+windows_after w event =
+    record {
+      image = w.image;
+      rest = w.rest;
+      moment = w.moment + 1;
+      stores = stores_after w event;
+      loads = loads_after w event;
+    }

@@ -1,6 +1,7 @@
 //! The bytes of answered stores that a load may still see, by unit of eight aligned addresses.
 
-ghost use Rattle.std.specs.Prelude.{◌≡◌, ◌+◌, ◌≤◌, ◌<◌, ◌++◌, ◌∷◌, [], ℕ, IfOk, OnOk, OnErr, None, map, nat_eq, length, vec_len, vec_capacity};
+ghost use Rattle.std.specs.Prelude.{◌≡◌, ◌+◌, ◌≤◌, ◌<◌, ◌++◌, ◌∷◌, [], ℕ, IfOk, OnOk, OnErr, None, map, nat_eq, length, vec_len};
+ghost use Rattle.std.specs.Prelude.{vec_capacity};
 ghost use Rattle.std.specs.HashMap.{get, spare};
 ghost use Rattle.std.specs.List.{All, filter, list_any};
 ghost use Rattle.memory_histories.specs.Kept.{answered_after};
@@ -114,7 +115,9 @@ fn after_answer(
     ending: &[StorePart],
     moment: u64,
 ) -> Result<KeptUnit, AllocError>
-    ensures { IfOk result (λ u. parts_bytes u.parts.items ≡ answered_after moment (parts_bytes ending.now) unit (parts_bytes answered.now)) }
+    ensures { IfOk result
+        (λ u. parts_bytes u.parts.items
+        ≡ answered_after moment (parts_bytes ending.now) unit (parts_bytes answered.now)) }
 {
     let mut parts = Vec::with_capacity(alloc, answered.len().saturating_add(ending.len()))?;
     parts.extend_from_slice(answered)?;
@@ -126,7 +129,9 @@ fn after_answer(
 // What is kept of a unit once this part of a store is answered, which lies in it and is its only one.
 #[tactic(auto, using(crate::proofs::Pieces::after_part))]
 fn join_part(parts: &mut Vec<StorePart>, part: &StorePart, moment: u64) -> Result<(), AllocError>
-    ensures ok { OnOk result (parts_bytes parts.new.items ≡ answered_after moment (part_bytes part.now) part.now.unit (parts_bytes parts.old.items)) }
+    ensures ok { OnOk result
+        (parts_bytes parts.new.items
+        ≡ answered_after moment (part_bytes part.now) part.now.unit (parts_bytes parts.old.items)) }
     ensures err { OnErr result (parts.new.items ≡ parts.old.items) }
 {
     parts.reserve(1)?;
@@ -143,7 +148,9 @@ fn add_unit(
     moment: u64,
 ) -> Result<(), AllocError>
     requires { get nat_eq units.old part.now.unit ≡ None }
-    ensures ok { OnOk result ((unit : ℕ) → answered_in (get nat_eq units.new) unit ≡ answered_after moment (part_bytes part.now) unit (answered_in (get nat_eq units.old) unit)) }
+    ensures ok { OnOk result
+        ((unit : ℕ) → answered_in (get nat_eq units.new) unit
+        ≡ answered_after moment (part_bytes part.now) unit (answered_in (get nat_eq units.old) unit)) }
     ensures err { OnErr result ((unit : ℕ) → answered_in (get nat_eq units.new) unit ≡ answered_in (get nat_eq units.old) unit) }
 {
     units.reserve(1)?;
@@ -167,7 +174,9 @@ pub(crate) fn answer_part(
     part: &StorePart,
     moment: u64,
 ) -> Result<(), AllocError>
-    ensures ok { OnOk result ((unit : ℕ) → answered_in (get nat_eq units.new) unit ≡ answered_after moment (part_bytes part.now) unit (answered_in (get nat_eq units.old) unit)) }
+    ensures ok { OnOk result
+        ((unit : ℕ) → answered_in (get nat_eq units.new) unit
+        ≡ answered_after moment (part_bytes part.now) unit (answered_in (get nat_eq units.old) unit)) }
     ensures err { OnErr result ((unit : ℕ) → answered_in (get nat_eq units.new) unit ≡ answered_in (get nat_eq units.old) unit) }
 {
     match units.get_mut(&part.unit) {

@@ -1,11 +1,13 @@
 //! The judge of the flat law.
 
-ghost use Rattle.std.specs.Prelude.{◌≡◌, ◌+◌, ◌<◌, ◌≤◌, ◌^◌, ◌++◌, [], ◌∷◌, true, length, None, Some, not, IfOk, IfErr, OnOk, OnErr, vec_len, vec_capacity, nat_eq};
+ghost use Rattle.std.specs.Prelude.{◌≡◌, ◌+◌, ◌<◌, ◌≤◌, ◌^◌, ◌++◌, [], ◌∷◌, true, length, None, Some, not, IfOk, IfErr, OnOk, OnErr};
+ghost use Rattle.std.specs.Prelude.{vec_len, vec_capacity, nat_eq};
 ghost use Rattle.std.specs.List.{filter, find, list_any};
 ghost use Rattle.std.specs.HashMap.{get, spare};
 ghost use Rattle.std.specs.Option.{option_map};
 ghost use Rattle.memory_histories.specs.Regular.{is_inside, load_response_fault, wrong_place};
-ghost use Rattle.memory_histories.specs.Flat.{opening, initial, is_of, is_at, is_open, is_paid_by, may_return, owed_bytes, stored, with_value, with_bytes, flat_fault, flat_step, flat_after};
+ghost use Rattle.memory_histories.specs.Flat.{opening, initial, is_of, is_at, is_open, is_paid_by, may_return, owed_bytes, stored};
+ghost use Rattle.memory_histories.specs.Flat.{with_value, with_bytes, flat_fault, flat_step, flat_after};
 ghost use Rattle.memory_histories.specs.FlatShown.{shown, standing, owed_set, FlatFaultIs, IsOwedSet};
 
 use crate::events::{HistoryEvent, HistoryFault, MAX_LENGTH, Rest, StepFault};
@@ -193,7 +195,12 @@ impl FlatHistory {
     // A load is open under this number from now on.
     fn request_load(&mut self, number: u64, address: u64, length: usize) -> Result<(), AllocError>
         requires { is_inside address length ≡ true }
-        ensures ok { OnOk result (shown self.new ≡ record (shown self.old) { loads = (shown self.old).loads ++ owed_bytes (shown self.old).memory number address length }) }
+        ensures ok { OnOk result
+            (shown self.new
+            ≡ record (shown self.old) {
+              loads =
+                  (shown self.old).loads ++ owed_bytes (shown self.old).memory number address length;
+            }) }
         ensures err { OnErr result (shown self.new ≡ shown self.old) }
     {
         self.loads.reserve(length)?;
@@ -211,7 +218,14 @@ impl FlatHistory {
         enables: u64,
     ) -> Result<(), AllocError>
         requires { is_inside address (length bytes.now) ≡ true }
-        ensures ok { OnOk result (shown self.new ≡ record (shown self.old) { memory = stored (shown self.old).memory (record { number = number; requested = (shown self.old).moment }) address bytes.now enables; stores = (shown self.old).stores ++ number ∷ [] }) }
+        ensures ok { OnOk result
+            (shown self.new
+            ≡ record (shown self.old) {
+              memory =
+                  stored (shown self.old).memory (record { number = number; requested = (shown self.old).moment })
+                  address bytes.now enables;
+              stores = (shown self.old).stores ++ number ∷ [];
+            }) }
         ensures err { OnErr result (shown self.new ≡ shown self.old) }
     {
         self.stores.reserve(1)?;
@@ -326,7 +340,10 @@ fn add_load(
 )
     requires room { vec_len loads.old + length ≤ vec_capacity loads.old }
     requires inside { address + length ≤ 2 ^ 64 }
-    ensures { loads.new.items ≡ loads.old.items ++ owed_bytes (standing memory.entry.0.now memory.entry.1 (get nat_eq memory.entry.2.now)) number address length }
+    ensures { loads.new.items
+        ≡ loads.old.items
+        ++ owed_bytes (standing memory.entry.0.now memory.entry.1 (get nat_eq memory.entry.2.now)) number
+        address length }
 {
     let (image, rest, written) = memory;
     for k in 0..length {

@@ -1,6 +1,7 @@
 //! What a request and an answer change of the loads and the stores that are open.
 
-ghost use Rattle.std.specs.Prelude.{◌≡◌, ◌+◌, ◌*◌, ◌≤◌, ◌<◌, [], ◌∷◌, ◌++◌, ◌^◌, IfOk, IfSome, is_some, length, map, take, drop, replicate, not, vec_len, vec_capacity, slice_get, nat_eq};
+ghost use Rattle.std.specs.Prelude.{◌≡◌, ◌+◌, ◌*◌, ◌≤◌, ◌<◌, [], ◌∷◌, ◌++◌, ◌^◌, IfOk, IfSome, is_some, length, map, take, drop, replicate};
+ghost use Rattle.std.specs.Prelude.{not, vec_len, vec_capacity, slice_get, nat_eq};
 ghost use Rattle.std.specs.HashMap.{get};
 ghost use Rattle.std.specs.List.{filter, list_any, position, range_with_len};
 ghost use Rattle.memory_histories.specs.Sets.{no_bytes};
@@ -245,7 +246,9 @@ fn add_sets(
     requires some { 1 ≤ length }
     requires inside { address + length ≤ 2 ^ 64 }
     ensures { sets.new.items ≡ sets.old.items
-        ++ map (λ l. (opened_at memory.entry.0.now memory.entry.1 [] (answered_in (get nat_eq memory.entry.2.now)) l).may) (load_bytes number address length moment) }
+        ++ map
+        (λ l. (opened_at memory.entry.0.now memory.entry.1 [] (answered_in (get nat_eq memory.entry.2.now))
+        l).may) (load_bytes number address length moment) }
 {
     let (image, rest, units) = memory;
     if address % 8 + length as u64 <= 8 {
@@ -269,7 +272,9 @@ fn add_pieces(
     requires some { 1 ≤ length }
     requires inside { address + length ≤ 2 ^ 64 }
     ensures { sets.new.items ≡ sets.old.items
-        ++ map (λ l. (opened_at memory.entry.0.now memory.entry.1 [] (answered_in (get nat_eq memory.entry.2.now)) l).may) (load_bytes number address length moment) }
+        ++ map
+        (λ l. (opened_at memory.entry.0.now memory.entry.1 [] (answered_in (get nat_eq memory.entry.2.now))
+        l).may) (load_bytes number address length moment) }
 {
     let (image, rest, units) = memory;
     let first = unit_of(address);
@@ -296,7 +301,8 @@ fn settled_load(
     requires some { 1 ≤ length }
     requires inside { address + length ≤ 2 ^ 64 }
     ensures { load_open result
-        ≡ map (opened_at memory.entry.0.now memory.entry.1 [] (answered_in (get nat_eq memory.entry.2.now))) (load_bytes number address length moment) }
+        ≡ map (opened_at memory.entry.0.now memory.entry.1 [] (answered_in (get nat_eq memory.entry.2.now)))
+        (load_bytes number address length moment) }
 {
     let mut sets = sets;
     add_sets(&mut sets, memory, number, address, length, moment);
@@ -322,7 +328,9 @@ pub(crate) fn open_load(
     requires some { 1 ≤ length }
     requires inside { address + length ≤ 2 ^ 64 }
     ensures { load_open result
-        ≡ map (opened_at memory.entry.0.now memory.entry.1 (parts_bytes memory.entry.2.now) (answered_in (get nat_eq memory.entry.3.now))) (load_bytes number address length moment) }
+        ≡ map (opened_at memory.entry.0.now memory.entry.1 (parts_bytes memory.entry.2.now)
+        (answered_in (get nat_eq memory.entry.3.now)))
+        (load_bytes number address length moment) }
 {
     let (image, rest, stores, units) = memory;
     let mut load = settled_load(room, (image, rest, units), number, address, length, moment);

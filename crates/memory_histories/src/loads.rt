@@ -7,7 +7,8 @@ ghost use Rattle.memory_histories.specs.Sets.{has};
 ghost use Rattle.memory_histories.specs.Regular.{wrong_place, load_response_fault};
 ghost use Rattle.memory_histories.specs.Kept.{after_stores, is_open_of, is_open_at, may_have};
 ghost use Rattle.memory_histories.specs.Parts.{part_bytes, parts_bytes, with_known};
-ghost use Rattle.memory_histories.specs.Loads.{load_open, loads_open, is_load_of, IsOnlyLoad, counted, shown_sets, all_shown_sets, shown_lanes, is_near, response_fault, wrong_in, behind, set_at, first_set_at};
+ghost use Rattle.memory_histories.specs.Loads.{load_open, loads_open, is_load_of, IsOnlyLoad, counted, shown_sets, all_shown_sets};
+ghost use Rattle.memory_histories.specs.Loads.{shown_lanes, is_near, response_fault, wrong_in, behind, set_at, first_set_at};
 
 use crate::events::HistoryFault;
 use crate::parts::{StorePart, lanes_from, unit_of};

@@ -1,11 +1,13 @@
 //! Stores by unit of eight aligned addresses: a byte of a unit is its lane.
 
-ghost use Rattle.std.specs.Prelude.{◌≡◌, ◌*◌, ◌≤◌, ◌<◌, ◌==◌, if◌then◌else◌, true, None, Some, is_some, length, map, take, drop, slice_get, slice_set, slice_index_or};
+ghost use Rattle.std.specs.Prelude.{◌≡◌, ◌*◌, ◌≤◌, ◌<◌, ◌==◌, if◌then◌else◌, true, None, Some, is_some, length, map, take, drop, slice_get};
+ghost use Rattle.std.specs.Prelude.{slice_set, slice_index_or};
 ghost use Rattle.std.specs.Int.{bit_at};
 ghost use Rattle.std.specs.List.{list_any, range_with_len};
 ghost use Rattle.memory_histories.specs.Windows.{is_open};
 ghost use Rattle.memory_histories.specs.Kept.{unit_of};
-ghost use Rattle.memory_histories.specs.Parts.{lane_at, lanes_of, unit_lanes, nothing, empty_part, with_lanes, eight, parts_bytes, part_at, has_lane, is_open_part, is_open_with, cleared, cleared_lanes, without_part, without_parts};
+ghost use Rattle.memory_histories.specs.Parts.{lane_at, lanes_of, unit_lanes, nothing, empty_part, with_lanes, eight, parts_bytes, part_at};
+ghost use Rattle.memory_histories.specs.Parts.{has_lane, is_open_part, is_open_with, cleared, cleared_lanes, without_part, without_parts};
 
 use crate::windows::is_before;
 
@@ -131,7 +133,9 @@ pub(crate) fn write_part(
     requires unit { unit < 2305843009213693952 }
     requires few { length bytes.now ≤ 64 }
     ensures { parts.new
-        ≡ slice_set parts.old place (with_lanes (unit_lanes unit (lane_at from (lanes_of bytes.now enables))) (slice_index_or parts.old place nothing)) }
+        ≡ slice_set parts.old place
+        (with_lanes (unit_lanes unit (lane_at from (lanes_of bytes.now enables)))
+        (slice_index_or parts.old place nothing)) }
 {
     if is_whole(unit, from, bytes.len()) {
         write_whole(&mut parts[place].lanes, bytes, enables);

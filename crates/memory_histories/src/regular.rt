@@ -6,7 +6,8 @@ ghost use Rattle.std.specs.Option.{option_map};
 ghost use Rattle.memory_histories.specs.declared.events.HistoryEvent.TheVariants.{LoadRequest, LoadResponse, StoreRequest, StoreResponse};
 ghost use Rattle.memory_histories.specs.Windows.{Windows, opening, is_open, store_bytes, load_bytes, windows_after};
 ghost use Rattle.memory_histories.specs.Regular.{fault, is_inside, wrong_byte};
-ghost use Rattle.memory_histories.specs.Kept.{opened_at, after_stores, answered_after, kept_fault, kept_step, is_open_of, is_open_at, StandsFor};
+ghost use Rattle.memory_histories.specs.Kept.{opened_at, after_stores, answered_after, kept_fault, kept_step, is_open_of, is_open_at};
+ghost use Rattle.memory_histories.specs.Kept.{StandsFor};
 ghost use Rattle.memory_histories.specs.Shown.{kept, FaultIs, KeptFaultIs, StepFaultIs, IsSetOf};
 ghost use Rattle.memory_histories.specs.Parts.{IsOnly};
 ghost use Rattle.memory_histories.specs.Loads.{IsOnlyLoad};
@@ -83,7 +84,9 @@ impl RegularMemory {
     /// was, and a refusal names the first fault in the order of [`HistoryFault`].
     #[inline(always)]
     pub fn step(&mut self, event: HistoryEvent) -> Result<(), StepFault>
-        ensures ok { (w : Windows) → StandsFor (kept self.old) w → OnOk result ((fault w event.entry ≡ None) × StandsFor (kept self.new) (windows_after w event.entry)) }
+        ensures ok { (w : Windows) → StandsFor (kept self.old) w
+            → OnOk result
+            ((fault w event.entry ≡ None) × StandsFor (kept self.new) (windows_after w event.entry)) }
         ensures fault { (w : Windows) → StandsFor (kept self.old) w → IfErr result (StepFaultIs w event.entry) }
         ensures unchanged { OnErr result (kept self.new ≡ kept self.old) }
     {
@@ -309,7 +312,15 @@ impl RegularMemory {
     // A load is open under this number from now on.
     fn request_load(&mut self, number: u64, address: u64, length: usize) -> Result<(), AllocError>
         requires { is_inside address length ≡ true }
-        ensures ok { OnOk result (kept self.new ≡ record (kept self.old) { open_bytes = (kept self.old).open_bytes ++ map (opened_at (kept self.old).image (kept self.old).rest (kept self.old).stores (kept self.old).answered) (load_bytes number address length (kept self.old).moment) }) }
+        ensures ok { OnOk result
+            (kept self.new
+            ≡ record (kept self.old) {
+              open_bytes =
+                  (kept self.old).open_bytes
+                  ++ map (opened_at (kept self.old).image (kept self.old).rest (kept self.old).stores
+                  (kept self.old).answered)
+                  (load_bytes number address length (kept self.old).moment);
+            }) }
         ensures err { OnErr result (kept self.new ≡ kept self.old) }
     {
         let alloc = *self.stores.allocator();
@@ -335,7 +346,13 @@ impl RegularMemory {
         enables: u64,
     ) -> Result<(), AllocError>
         requires { is_inside address (length bytes.now) ≡ true }
-        ensures ok { OnOk result (let added = store_bytes number address bytes.now enables (kept self.old).moment in kept self.new ≡ record (kept self.old) { stores = (kept self.old).stores ++ added; open_bytes = map (after_stores added) (kept self.old).open_bytes }) }
+        ensures ok { OnOk result
+            (let added = store_bytes number address bytes.now enables (kept self.old).moment in
+            kept self.new
+            ≡ record (kept self.old) {
+              stores = (kept self.old).stores ++ added;
+              open_bytes = map (after_stores added) (kept self.old).open_bytes;
+            }) }
         ensures err { OnErr result (kept self.new ≡ kept self.old) }
     {
         self.stores.reserve(MAX_PARTS)?;
@@ -354,7 +371,14 @@ impl RegularMemory {
     // The store that is open under this number is answered. Its only part stands at this place, if it has one alone.
     fn answer_store(&mut self, number: u64, place: Option<usize>) -> Result<(), AllocError>
         requires { IfSome place (IsOnly number self.old.stores.items) }
-        ensures ok { OnOk result (let ending = filter (is_open number) (kept self.old).stores in kept self.new ≡ record (kept self.old) { stores = filter (λ s. not (is_open number s)) (kept self.old).stores; answered = λ unit. answered_after (kept self.old).moment ending unit ((kept self.old).answered unit) }) }
+        ensures ok { OnOk result
+            (let ending = filter (is_open number) (kept self.old).stores in
+            kept self.new
+            ≡ record (kept self.old) {
+              stores = filter (λ s. not (is_open number s)) (kept self.old).stores;
+              answered =
+                  λ unit. answered_after (kept self.old).moment ending unit ((kept self.old).answered unit);
+            }) }
         ensures err { OnErr result (kept self.new ≡ kept self.old) }
     {
         match place {
@@ -366,7 +390,14 @@ impl RegularMemory {
     // The same, if its only part stands at this place.
     fn answer_part(&mut self, number: u64, place: usize) -> Result<(), AllocError>
         requires { IsOnly number self.old.stores.items place }
-        ensures ok { OnOk result (let ending = filter (is_open number) (kept self.old).stores in kept self.new ≡ record (kept self.old) { stores = filter (λ s. not (is_open number s)) (kept self.old).stores; answered = λ unit. answered_after (kept self.old).moment ending unit ((kept self.old).answered unit) }) }
+        ensures ok { OnOk result
+            (let ending = filter (is_open number) (kept self.old).stores in
+            kept self.new
+            ≡ record (kept self.old) {
+              stores = filter (λ s. not (is_open number s)) (kept self.old).stores;
+              answered =
+                  λ unit. answered_after (kept self.old).moment ending unit ((kept self.old).answered unit);
+            }) }
         ensures err { OnErr result (kept self.new ≡ kept self.old) }
     {
         let alloc = *self.stores.allocator();
@@ -377,7 +408,14 @@ impl RegularMemory {
 
     // The same, however many parts it has.
     fn answer_parts(&mut self, number: u64) -> Result<(), AllocError>
-        ensures ok { OnOk result (let ending = filter (is_open number) (kept self.old).stores in kept self.new ≡ record (kept self.old) { stores = filter (λ s. not (is_open number s)) (kept self.old).stores; answered = λ unit. answered_after (kept self.old).moment ending unit ((kept self.old).answered unit) }) }
+        ensures ok { OnOk result
+            (let ending = filter (is_open number) (kept self.old).stores in
+            kept self.new
+            ≡ record (kept self.old) {
+              stores = filter (λ s. not (is_open number s)) (kept self.old).stores;
+              answered =
+                  λ unit. answered_after (kept self.old).moment ending unit ((kept self.old).answered unit);
+            }) }
         ensures err { OnErr result (kept self.new ≡ kept self.old) }
     {
         let alloc = *self.stores.allocator();

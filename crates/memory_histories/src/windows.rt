@@ -3,7 +3,8 @@
 ghost use Rattle.std.specs.Prelude.{◌≡◌, ◌+◌, ◌≤◌, ◌↔◌, ◌++◌, ◌^◌, IsTrue, length, vec_len, vec_capacity, slice_get};
 ghost use Rattle.memory_histories.specs.Windows.{store_bytes, is_of, is_at};
 ghost use Rattle.memory_histories.specs.Hidden.{Explains};
-ghost use Rattle.memory_histories.specs.Regular.{is_initial, is_rest, is_before, is_overwritten, is_left, is_covered, may_return_byte, MayReturn};
+ghost use Rattle.memory_histories.specs.Regular.{is_initial, is_rest, is_before, is_overwritten, is_left, is_covered, may_return_byte};
+ghost use Rattle.memory_histories.specs.Regular.{MayReturn};
 
 use crate::events::Rest;
 

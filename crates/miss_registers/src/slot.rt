@@ -1,5 +1,6 @@
 //! One register.
-ghost use Rattle.std.specs.Prelude.{◌≡◌, ◌<◌, ◌≤◌, ◌&&◌, ◌==◌, length, slice_get, slice_set, not, if◌then◌else◌, map, replicate, None, Some};
+ghost use Rattle.std.specs.Prelude.{◌≡◌, ◌<◌, ◌≤◌, ◌&&◌, ◌==◌, length, slice_get, slice_set, not, if◌then◌else◌, map, replicate, None};
+ghost use Rattle.std.specs.Prelude.{Some};
 ghost use Rattle.std.specs.List.{list_any, count_by};
 ghost use Rattle.miss_registers.specs.declared.TheConstants.{MAX_WAITING};
 ghost use Rattle.flat_model.specs.declared.limits.TheConstants.{MAX_BLOCK_WORDS};

@@ -22,7 +22,9 @@ details_named d =
     ∷ count (codes "store_joins") d.kinds.stores.joins ∷ count (codes "store_misses") d.kinds.stores.misses
     ∷ count (codes "prefetches") d.kinds.prefetches.accepted ∷ count (codes "prefetch_hits") d.kinds.prefetches.hits
     ∷ count (codes "prefetch_joins") d.kinds.prefetches.joins ∷ count (codes "prefetch_misses") d.kinds.prefetches.misses
-    ∷ named (codes "mean_from_asking") (Hundredths (mean_of d.waits_from_asking.rounds d.waits_from_asking.loads).0 (mean_of d.waits_from_asking.rounds d.waits_from_asking.loads).1)
+    ∷ named (codes "mean_from_asking")
+    (Hundredths (mean_of d.waits_from_asking.rounds d.waits_from_asking.loads).0
+    (mean_of d.waits_from_asking.rounds d.waits_from_asking.loads).1)
     ∷ count (codes "longest_from_asking") d.waits_from_asking.longest ∷ []
 
 -- the loads by the bucket of their wait, up to that of the longest one
@@ -32,9 +34,11 @@ buckets_of w = take (bucket_of w.longest + 1) w.buckets
 -- the series
 unfoldable pub series_named : Details → List Listed
 series_named d =
-    listed (codes "set_hits") Number d.sets.hits ∷ listed (codes "set_joins") Number d.sets.joins ∷ listed (codes "set_misses") Number d.sets.misses
+    listed (codes "set_hits") Number d.sets.hits ∷ listed (codes "set_joins") Number d.sets.joins
+    ∷ listed (codes "set_misses") Number d.sets.misses
     ∷ listed (codes "rounds_by_registers") Number d.registers ∷ listed (codes "rounds_by_owed") Number d.owed
-    ∷ listed (codes "waits") Doubling (buckets_of d.waits) ∷ listed (codes "waits_from_asking") Doubling (buckets_of d.waits_from_asking) ∷ []
+    ∷ listed (codes "waits") Doubling (buckets_of d.waits)
+    ∷ listed (codes "waits_from_asking") Doubling (buckets_of d.waits_from_asking) ∷ []
 
 -- ---- accesses
 
@@ -62,6 +66,10 @@ accesses_in format (Some c) = all_fields format (accesses_named c)
 unfoldable pub details_in : Format → Details → Option AccessCounts → List ℕ
 details_in Text d c = table_text d.table ++ (all_fields Text (details_named d) ++ (accesses_in Text c ++ all_series Text (series_named d)))
 details_in Csv d c =
-    codes "name,index,value" ++ (all_fields Csv (table_named d.table) ++ (all_fields Csv (details_named d) ++ (accesses_in Csv c ++ all_series Csv (series_named d))))
+    codes "name,index,value"
+    ++ (all_fields Csv (table_named d.table)
+    ++ (all_fields Csv (details_named d) ++ (accesses_in Csv c ++ all_series Csv (series_named d))))
 details_in Json d c =
-    codes "{" ++ (joined member_text (table_named d.table) ++ (all_fields Json (details_named d) ++ (accesses_in Json c ++ (all_series Json (series_named d) ++ codes "}"))))
+    codes "{" ++ (joined member_text (table_named d.table)
+    ++ (all_fields Json (details_named d)
+    ++ (accesses_in Json c ++ (all_series Json (series_named d) ++ codes "}"))))

@@ -8,7 +8,8 @@ ghost use Rattle.station_parts.specs.Promises.{IsFlatRun, AreWhole, PaysLoads, H
 ghost use Rattle.station_parts.specs.Rest.{is_at_rest};
 ghost use Rattle.station_parts.specs.Station.{AreOneStation};
 ghost use Rattle.station_parts.specs.Words.{cache_in, journal_of, sizes_in};
-ghost use Rattle.ring_station.specs.Segments.{RunsInSegments, StopsBehind, RunsInTurns, StopsInTurns, RunsNext, StopsNext, TellsRenewal, longest_of, piece_behind, piece_count};
+ghost use Rattle.ring_station.specs.Segments.{RunsInSegments, StopsBehind, RunsInTurns, StopsInTurns, RunsNext, StopsNext, TellsRenewal};
+ghost use Rattle.ring_station.specs.Segments.{longest_of, piece_behind, piece_count};
 ghost use Rattle.ring_station.specs.Within.{KeepsTo};
 
 use crate::crew::Crew;

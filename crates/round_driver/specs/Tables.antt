@@ -43,7 +43,10 @@ with_lost l BankFull = record l { bank_full = l.bank_full + 1 }
 with_lost l cause = l
 
 abbrev pub lost_total : LostRounds → ℕ
-lost_total l = l.tag_in_use + (l.replies_full + (l.targets_full + (l.block_queued + (l.no_register + (l.set_pending + (l.queue_full + l.bank_full))))))
+lost_total l =
+    l.tag_in_use
+    + (l.replies_full
+    + (l.targets_full + (l.block_queued + (l.no_register + (l.set_pending + (l.queue_full + l.bank_full))))))
 
 -- ---- one event
 
@@ -112,7 +115,16 @@ counted c n = counted_as c n n.answer
 
 abbrev pub no_lost : LostRounds
 no_lost =
-    record { tag_in_use = 0; replies_full = 0; targets_full = 0; block_queued = 0; no_register = 0; set_pending = 0; queue_full = 0; bank_full = 0 }
+    record {
+      tag_in_use = 0;
+      replies_full = 0;
+      targets_full = 0;
+      block_queued = 0;
+      no_register = 0;
+      set_pending = 0;
+      queue_full = 0;
+      bank_full = 0;
+    }
 
 abbrev pub empty_table : Table
 empty_table =

@@ -33,7 +33,9 @@ use Rattle.run_pictures.specs.declared.place.Place.TheVariants.{Register, Line, 
 abbrev pub used_text : RegisterView → List ℕ
 used_text r =
     if r.obsolete then codes "obsolete, block " ++ (decimal r.block ++ (codes ", words came: " ++ decimal r.processed))
-    else codes "valid, block " ++ (decimal r.block ++ (codes ", frame " ++ (decimal r.frame ++ (codes ", words came: " ++ decimal r.processed))))
+    else codes "valid, block "
+    ++ (decimal r.block
+    ++ (codes ", frame " ++ (decimal r.frame ++ (codes ", words came: " ++ decimal r.processed))))
 
 abbrev pub register_text : RegisterView → List ℕ
 register_text r = if r.valid then used_text r else codes "free"
@@ -71,7 +73,10 @@ field_at s slot i = if not (is_used s slot) then [] else field_seen (field_shown
 abbrev pub owed_text : Owed → Word → List ℕ
 owed_text load word =
     if has_any load.lanes
-    then codes "tag " ++ (decimal load.tag ++ (codes " is owed " ++ (digits word ++ (codes ", holds " ++ (mask load.lanes ++ (codes " " ++ digits load.held))))))
+    then codes "tag "
+    ++ (decimal load.tag
+    ++ (codes " is owed "
+    ++ (digits word ++ (codes ", holds " ++ (mask load.lanes ++ (codes " " ++ digits load.held))))))
     else codes "tag " ++ (decimal load.tag ++ (codes " is owed " ++ digits word))
 
 abbrev pub load_text : Owed → Option Word → List ℕ

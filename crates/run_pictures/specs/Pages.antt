@@ -30,7 +30,10 @@ changes_text before after = flat_map (change_text before after) (range_with_len 
 -- the event, its answer, its words, and the recorded answer if that is another
 abbrev pub event_line : Made → List ℕ → List ℕ
 event_line made words =
-    codes "[\"" ++ (event_text made.event ++ (codes "\",\"" ++ (answer_text made.answer ++ (codes "\",\"" ++ (words ++ (codes "\",\"" ++ (other_text made.other ++ codes "\",[")))))))
+    codes "[\"" ++ (event_text made.event
+    ++ (codes "\",\""
+    ++ (answer_text made.answer
+    ++ (codes "\",\"" ++ (words ++ (codes "\",\"" ++ (other_text made.other ++ codes "\",[")))))))
 
 -- a step of a page, with these words
 abbrev pub step_text : Made → List ℕ → Texts → Texts → List ℕ

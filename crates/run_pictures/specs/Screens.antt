@@ -147,7 +147,13 @@ recorded_text (Some answer) = codes "  recorded: " ++ (answer_text answer ++ cod
 -- which step it is, and what it did
 abbrev pub head_text : ℕ → Made → List ℕ → List ℕ
 head_text n made words =
-    codes "\nstep " ++ (decimal n ++ (codes ": " ++ (event_text made.event ++ (codes " -> " ++ (answer_text made.answer ++ (codes "\n" ++ (recorded_text made.other ++ (codes "  " ++ (words ++ codes "\n")))))))))
+    codes "\nstep "
+    ++ (decimal n
+    ++ (codes ": "
+    ++ (event_text made.event
+    ++ (codes " -> "
+    ++ (answer_text made.answer
+    ++ (codes "\n" ++ (recorded_text made.other ++ (codes "  " ++ (words ++ codes "\n")))))))))
 
 -- ---- screens
 

@@ -201,7 +201,11 @@ signals_in z =
 abbrev pub declaration_text : ℕ → Option Signal → List ℕ
 declaration_text k None = []
 declaration_text k (Some signal) =
-    codes "$var " ++ (type_text signal ++ (codes " " ++ (decimal (width_of signal) ++ (codes " s" ++ (decimal k ++ (codes " " ++ (name_text signal ++ codes " $end\n")))))))
+    codes "$var "
+    ++ (type_text signal
+    ++ (codes " "
+    ++ (decimal (width_of signal)
+    ++ (codes " s" ++ (decimal k ++ (codes " " ++ (name_text signal ++ codes " $end\n")))))))
 
 -- the declaration of the signal of this number
 unfoldable pub declaration_at : List Signal → ℕ → List ℕ

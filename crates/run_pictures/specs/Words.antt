@@ -113,7 +113,10 @@ served_words bank = codes "bank " ++ (decimal bank ++ codes " serves its first c
 
 abbrev pub arrived_text : ℕ → ℕ → ℕ → List ℕ
 arrived_text bank i slot =
-    codes "bank " ++ (decimal bank ++ (codes " gives word " ++ (decimal i ++ (codes " of register " ++ (decimal slot ++ codes "'s block")))))
+    codes "bank "
+    ++ (decimal bank
+    ++ (codes " gives word "
+    ++ (decimal i ++ (codes " of register " ++ (decimal slot ++ codes "'s block")))))
 
 abbrev pub arrived_words : ℕ → Option BankAnswer → List ℕ
 arrived_words bank None = []
@@ -267,7 +270,10 @@ short_bank s block = find (λ bank. is_short s block bank) (range_with_len 0 s.s
 
 abbrev pub shortage_text : ℕ → ℕ → ℕ → List ℕ
 shortage_text bank room reads =
-    codes "bank " ++ (decimal bank ++ (codes " has room for " ++ (decimal room ++ (codes " commands, and is to be sent " ++ decimal reads))))
+    codes "bank "
+    ++ (decimal bank
+    ++ (codes " has room for "
+    ++ (decimal room ++ (codes " commands, and is to be sent " ++ decimal reads))))
 
 abbrev pub shortage_words : MachineState → ℕ → ℕ → List ℕ
 shortage_words s block bank = shortage_text bank (room_at s bank) (reads_in s.sizes block bank)

@@ -141,7 +141,10 @@ fn push_frame(places: &mut Vec<Place>, sizes: &Sizes, frame: u32) -> Result<(), 
 }
 
 fn push_frames(places: &mut Vec<Place>, sizes: &Sizes) -> Result<(), AllocError>
-    ensures { OnOk result (places.new.items ≡ places.old.items ++ spots.of_each (spots.frame_places sizes.now) (fitted (sizes.now.sets * sizes.now.ways))) }
+    ensures { OnOk result
+        (places.new.items
+        ≡ places.old.items
+        ++ spots.of_each (spots.frame_places sizes.now) (fitted (sizes.now.sets * sizes.now.ways))) }
 {
     for frame in 0..frames_in(sizes) {
         push_frame(places, sizes, frame)?;
@@ -179,7 +182,10 @@ fn push_commands(places: &mut Vec<Place>, sizes: &Sizes, bank: u32) -> Result<()
 
 // The answers that may stand in a bank.
 fn push_answers(places: &mut Vec<Place>, sizes: &Sizes, bank: u32) -> Result<(), AllocError>
-    ensures { OnOk result (places.new.items ≡ places.old.items ++ spots.of_each (spots.answer_place bank) (fitted (sizes.now.regs * sizes.now.block_words))) }
+    ensures { OnOk result
+        (places.new.items
+        ≡ places.old.items
+        ++ spots.of_each (spots.answer_place bank) (fitted (sizes.now.regs * sizes.now.block_words))) }
 {
     for place in 0..answers_in(sizes) {
         places.push(Place::Answer { bank, place })?;

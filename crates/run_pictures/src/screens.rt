@@ -216,7 +216,10 @@ fn push_line(
     is_changed: bool,
 ) -> Result<(), AllocError>
     ensures { OnOk result
-        (string_bytes screen.new ≡ string_bytes screen.old ++ screens.line_text part.now.is_whole part.now.registers.items part.now.frames.items place text.now is_changed) }
+        (string_bytes screen.new
+        ≡ string_bytes screen.old
+        ++ screens.line_text part.now.is_whole part.now.registers.items part.now.frames.items place text.now
+        is_changed) }
 {
     if !is_shown(place, text, is_changed) || !part.has(place, is_changed) {
         return Ok(());
@@ -249,7 +252,10 @@ fn push_line_at(
     k: usize,
 ) -> Result<(), AllocError>
     ensures { OnOk result
-        (string_bytes screen.new ≡ string_bytes screen.old ++ screens.line_at part.now.is_whole part.now.registers.items part.now.frames.items places.now before.now after.now k) }
+        (string_bytes screen.new
+        ≡ string_bytes screen.old
+        ++ screens.line_at part.now.is_whole part.now.registers.items part.now.frames.items places.now
+        before.now after.now k) }
 {
     let text = text_at(after, k);
     let changed = is_changed(before, after, k);
@@ -269,7 +275,10 @@ fn push_lines(
     after: &[String],
 ) -> Result<(), AllocError>
     ensures { OnOk result
-        (string_bytes screen.new ≡ string_bytes screen.old ++ screens.lines_text part.now.is_whole part.now.registers.items part.now.frames.items places.now before.now after.now) }
+        (string_bytes screen.new
+        ≡ string_bytes screen.old
+        ++ screens.lines_text part.now.is_whole part.now.registers.items part.now.frames.items places.now
+        before.now after.now) }
 {
     for k in 0..places.len() {
         push_line_at(alloc, screen, part, places, before, after, k)?;
@@ -319,7 +328,9 @@ impl fmt::Display for RecordedLine {
 // The lines above a picture: which step it is, and what it did.
 fn push_head(screen: &mut String, step: &Step) -> Result<(), AllocError>
     ensures { OnOk result
-        (string_bytes screen.new ≡ string_bytes screen.old ++ screens.head_text step.now.number step.now.made (string_bytes step.now.words)) }
+        (string_bytes screen.new
+        ≡ string_bytes screen.old
+        ++ screens.head_text step.now.number step.now.made (string_bytes step.now.words)) }
 {
     let number = step.number;
     let event = step.made.event;
@@ -371,7 +382,8 @@ impl Screens {
         step: &Step,
     ) -> Result<(), AllocError>
         ensures { OnOk result
-            (screens.ScreensGoOn step.now.number step.now.is_whole machine.now step.now.made (string_bytes step.now.words) self.old self.new) }
+            (screens.ScreensGoOn step.now.number step.now.is_whole machine.now step.now.made
+            (string_bytes step.now.words) self.old self.new) }
     {
         let before = self
             .film

@@ -38,7 +38,9 @@ fn push_declaration(wave: &mut String, signals: &[Signal], k: usize) -> Result<(
 
 fn push_each_declaration(wave: &mut String, signals: &[Signal]) -> Result<(), AllocError>
     ensures { OnOk result
-        (string_bytes wave.new ≡ string_bytes wave.old ++ flat_map (waves.declaration_at signals.now) (range_with_len 0 (length signals.now))) }
+        (string_bytes wave.new
+        ≡ string_bytes wave.old
+        ++ flat_map (waves.declaration_at signals.now) (range_with_len 0 (length signals.now))) }
 {
     for k in 0..signals.len() {
         push_declaration(wave, signals, k)?;
@@ -129,7 +131,10 @@ fn push_changes(wave: &mut String, before: &[String], values: &[String]) -> Resu
 
 // The text before the first event: the declarations, and the values.
 fn opening_text(alloc: Global, signals: &[Signal], values: &[String]) -> Result<String, AllocError>
-    ensures { IfOk result (λ text. string_bytes text ≡ waves.declarations_text signals.now ++ (codes "#0\n$dumpvars\n" ++ (waves.changes_text [] values.now ++ codes "$end\n"))) }
+    ensures { IfOk result
+        (λ text. string_bytes text
+        ≡ waves.declarations_text signals.now
+        ++ (codes "#0\n$dumpvars\n" ++ (waves.changes_text [] values.now ++ codes "$end\n"))) }
 {
     let mut text = declarations(alloc, signals)?;
     text.push_str("#0\n$dumpvars\n")?;

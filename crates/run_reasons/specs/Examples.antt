@@ -49,7 +49,12 @@ stale_word : reason_of stored_again (Take 0) (Value 7 (word 10 0 0 0)) ≡ Wrong
   load = record { line = 3; at = 1; word = word 11 0 0 13; stores = record { b0 = 2; b1 = 0; b2 = 0; b3 = 1 } };
   got = word 10 0 0 0;
   later = record { b0 = 0; b1 = 0; b2 = 0; b3 = 0 };
-  past = record { b0 = Some (record { put = 1; by = 2 }); b1 = Some (record { put = 0; by = 4 }); b2 = None; b3 = Some (record { put = 0; by = 1 }) };
+  past = record {
+    b0 = Some (record { put = 1; by = 2 });
+    b1 = Some (record { put = 0; by = 4 });
+    b2 = None;
+    b3 = Some (record { put = 0; by = 1 });
+  };
   stood_since = false;
 })
 unfolding has merged stored_in overwritten_at overwritten_in pasts_of
@@ -58,7 +63,8 @@ stale_word = refl
 -- Word 1 of a memory in which each word holds its own address: byte 0 is loaded before line 2 stores another one, and line 3
 -- tells that byte too early. The byte that is owed is no store's.
 abbrev addressed : Origins
-addressed = after 1 (beginning (zero_word ∷ word 1 0 0 0 ∷ [])) ((Load 7 1, Accepted) ∷ (Store 1 (word 9 0 0 0) (record { 0 = 1 }), Accepted) ∷ [])
+addressed = after 1 (beginning (zero_word ∷ word 1 0 0 0 ∷ []))
+    ((Load 7 1, Accepted) ∷ (Store 1 (word 9 0 0 0) (record { 0 = 1 }), Accepted) ∷ [])
 
 of_the_image : reason_of addressed (Take 0) (Value 7 (word 9 0 0 0)) ≡ WrongWord (record {
   tag = 7;

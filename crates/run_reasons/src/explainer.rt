@@ -1,6 +1,7 @@
 //! A recorded run, explained line by line.
 
-ghost use Rattle.std.specs.Prelude.{◌≡◌, ◌<◌, ◌≤◌, ◌+◌, ℕ, true, length, vec_len, vec_capacity, replicate, slice_set, Some, IfOk, IfErr, OnOk, OnErr};
+ghost use Rattle.std.specs.Prelude.{◌≡◌, ◌<◌, ◌≤◌, ◌+◌, ℕ, true, length, vec_len, vec_capacity, replicate, slice_set, Some, IfOk, IfErr};
+ghost use Rattle.std.specs.Prelude.{OnOk, OnErr};
 ghost use Rattle.std.specs.HashMap.{spare};
 ghost use Rattle.flat_model.specs.Flat.{Flat, word_at, may_answer, flat_step};
 ghost use Rattle.flat_model.specs.Memory as memory;
@@ -60,7 +61,8 @@ fn no_stores(alloc: Global, words: u32) -> Result<Vec<Stores>, AllocError>
 
 #[tactic(auto, unfolding(crate::specs::Shown::shown))]
 impl Explainer {
-    ghost use Rattle.run_reasons.specs.Origins.{stores_at, stored_in, accepted_load, stores_after, tags_after, since_over, word_under, past_over, origins_after, beginning};
+    ghost use Rattle.run_reasons.specs.Origins.{stores_at, stored_in, accepted_load, stores_after, tags_after, since_over, word_under};
+    ghost use Rattle.run_reasons.specs.Origins.{past_over, origins_after, beginning};
     ghost use Rattle.run_reasons.specs.Pasts.{overwritten_in};
     ghost use Rattle.run_reasons.specs.Reasons.{reason_of, reason_here, place_reason, value_reason};
     ghost use Rattle.run_reasons.specs.Shown.{shown, more_overwritten, more_left, ReadFaultIs};

@@ -3,7 +3,8 @@
 ghost use Rattle.std.specs.Prelude.{◌≡◌, ◌<◌, Some};
 ghost use Rattle.std.specs.Fmt.{WritesOnOk};
 ghost use Rattle.flat_model.specs.Texts.{byte_text, hex_digit};
-ghost use Rattle.run_reasons.specs.Texts.{kind_text, answers_text, initial_text, owed_from_text, overwritten_text, past_text, got_from_text, byte_line, since_line, wrong_word_text, reason_text, mismatch_text};
+ghost use Rattle.run_reasons.specs.Texts.{kind_text, answers_text, initial_text, owed_from_text, overwritten_text, past_text};
+ghost use Rattle.run_reasons.specs.Texts.{got_from_text, byte_line, since_line, wrong_word_text, reason_text, mismatch_text};
 
 use crate::origins::AcceptedLoad;
 use crate::pasts::{Overwritten, Pasts};

@@ -55,7 +55,17 @@ numbers_of ms =
     and_then (whole BankQueue DEFAULT_SHAPE.shape.bank_queue (integer_at (codes "bank_queue") ms)) (λ bank_queue.
     and_then (whole WriteQueue DEFAULT_SHAPE.shape.write_queue (integer_at (codes "write_queue") ms)) (λ write_queue.
     and_then (whole Replies DEFAULT_SHAPE.shape.replies (integer_at (codes "replies") ms)) (λ replies.
-    Ok (record { ways = ways; regs = regs; words = words; sets = sets; banks = banks; bank_queue = bank_queue; write_queue = write_queue; replies = replies })))))))))
+    Ok
+    (record {
+      ways = ways;
+      regs = regs;
+      words = words;
+      sets = sets;
+      banks = banks;
+      bank_queue = bank_queue;
+      write_queue = write_queue;
+      replies = replies;
+    })))))))))
 
 -- the numbers of registers that there may be
 abbrev pub is_register_count : ℕ → Bool
@@ -79,7 +89,19 @@ fitted (negsuc n) = 2 ^ 32 - 1
 -- the shape that the numbers say
 abbrev pub shape_said : Numbers → ToolShape
 shape_said n =
-    record { shape = record { words = fitted n.words; sets = fitted n.sets; banks = fitted n.banks; bank_queue = fitted n.bank_queue; write_queue = fitted n.write_queue; replies = fitted n.replies }; ways = fitted n.ways; regs = fitted n.regs }
+    record {
+      shape =
+          record {
+            words = fitted n.words;
+            sets = fitted n.sets;
+            banks = fitted n.banks;
+            bank_queue = fitted n.bank_queue;
+            write_queue = fitted n.write_queue;
+            replies = fitted n.replies;
+          };
+      ways = fitted n.ways;
+      regs = fitted n.regs;
+    }
 
 -- a shape without a bad field
 abbrev pub or_bad : ToolShape → Option ShapeField → Result ToolShape ShapeFault

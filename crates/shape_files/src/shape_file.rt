@@ -7,7 +7,8 @@ ghost use Rattle.toml.specs.Errors.{IsBlank};
 ghost use Rattle.toml.specs.Parse.{parse_document};
 ghost use Rattle.toml.specs.View.{table_view};
 ghost use Rattle.shape_files.specs.declared.shape_file.ShapeFault.TheVariants.{OutOfMemory};
-ghost use Rattle.shape_files.specs.ShapeFile.{is_key, key_of, has_other_key, integer_at, whole, numbers_of, is_register_count, bad_field, fitted, shape_of, sizes_of, table_says, text_says};
+ghost use Rattle.shape_files.specs.ShapeFile.{is_key, key_of, has_other_key, integer_at, whole, numbers_of, is_register_count, bad_field};
+ghost use Rattle.shape_files.specs.ShapeFile.{fitted, shape_of, sizes_of, table_says, text_says};
 
 use cache_unit::Sizes;
 use flat_model::{Shape, ShapeField};

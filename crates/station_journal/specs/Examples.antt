@@ -56,7 +56,8 @@ replied tag value = Step (sources.Reply 0) (Take 0) (Value tag value) ∷ []
 
 -- what the examples compute with
 unfoldable pub all_steps : ℕ
-unfolding has joined merged stack_word dir.frame_of dir.settled dir.released regs.live_for regs.free_slot regs.made_obsolete regs.marked regs.finished targets with_cell with_field choose load_cause store_cause
+unfolding has joined merged stack_word dir.frame_of dir.settled dir.released regs.live_for regs.free_slot
+    regs.made_obsolete regs.marked regs.finished targets with_cell with_field choose load_cause store_cause
     prefetch_cause evict_cause arrive_cause released evicted installed fetched fetches load_step store_step prefetch_step evict_step
     drain_step arrive_step arrived processed process_step take_step
 all_steps = zero

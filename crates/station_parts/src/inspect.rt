@@ -17,8 +17,10 @@ ghost use Rattle.station_parts.specs.Rings.{pushes_to, pops_from};
 ghost use Rattle.station_parts.specs.Ids.{PortId, BankId, port_id, bank_id, cache_id, line_ring};
 ghost use Rattle.station_parts.specs.Station.{AreOneStation};
 ghost use Rattle.station_parts.specs.Rows.{come_to, sent_over, brought_by};
-ghost use Rattle.station_parts.specs.Words.{journal_of, sizes_in, cache_in, told_in_all, commanded, offered, offered_before, taken, known_tellings, known_places, answer_places, received_by, sent_by, words_of, known_commands};
-ghost use Rattle.station_parts.specs.Audited.{IsSeen, AreAtMost, line_places, LeavesCache, LeavesPorts, LeavesBanks, holds_item, first_ring, first_left, audit_of};
+ghost use Rattle.station_parts.specs.Words.{journal_of, sizes_in, cache_in, told_in_all, commanded, offered, offered_before, taken};
+ghost use Rattle.station_parts.specs.Words.{known_tellings, known_places, answer_places, received_by, sent_by, words_of, known_commands};
+ghost use Rattle.station_parts.specs.Audited.{IsSeen, AreAtMost, line_places, LeavesCache, LeavesPorts, LeavesBanks, holds_item};
+ghost use Rattle.station_parts.specs.Audited.{first_ring, first_left, audit_of};
 
 use crate::bank::BankSide;
 use crate::parts::{Audit, CacheSide, Ring};

@@ -28,7 +28,8 @@ pub struct Port {
 }
 
 impl Port {
-    ghost use Rattle.std.specs.Prelude.{◌≡◌, ◌<◌, ◌≤◌, ◌+◌, ◌++◌, ◌∷◌, [], true, false, length, OnOk, OnErr, IfErr, IsOk, IsErr, IfSome, IfNone, IsSome, slice_get};
+    ghost use Rattle.std.specs.Prelude.{◌≡◌, ◌<◌, ◌≤◌, ◌+◌, ◌++◌, ◌∷◌, [], true, false, length, OnOk, OnErr, IfErr, IsOk, IsErr, IfSome};
+    ghost use Rattle.std.specs.Prelude.{IfNone, IsSome, slice_get};
     ghost use mathlib.Core.List.{IsPrefix};
     ghost use Rattle.station_parts.specs.Ids.{port_id};
     ghost use Rattle.station_parts.specs.Words.{offered, offered_before, taken, has_ended, known_places, known_tellings};

@@ -10,7 +10,8 @@ ghost use Rattle.station_parts.specs.Ids.{port_id, bank_id, cache_id};
 ghost use Rattle.station_parts.specs.Promises.{IsFlatRun, AreWhole, PaysLoads, HoldFlat};
 ghost use Rattle.station_parts.specs.Renewed.{noted_after, GoesOn, RenewsCache, ResumesPorts, IsRefused};
 ghost use Rattle.station_parts.specs.Station.{AreOneStation};
-ghost use Rattle.station_parts.specs.Words.{offered, offered_before, taken, has_ended, known_places, known_tellings, told_in_all, journal_of, earlier_of, held_of, cache_in, sizes_in};
+ghost use Rattle.station_parts.specs.Words.{offered, offered_before, taken, has_ended, known_places, known_tellings, told_in_all};
+ghost use Rattle.station_parts.specs.Words.{journal_of, earlier_of, held_of, cache_in, sizes_in};
 
 use crate::bank::BankSide;
 use crate::inspect::audit;

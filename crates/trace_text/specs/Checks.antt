@@ -61,14 +61,16 @@ IsJudgedFrom start texts (FlatRun steps) last =
     (steps ≡ length (events_in texts)) × (flat_run start (events_in texts) (answers_in texts) ≡ Some last)
 IsJudgedFrom start texts (Mismatch n) last =
     (flat_run start (events_in texts) (answers_in texts) ≡ None) ×
-    ((place : ℕ) × (first_fault start (events_in texts) (answers_in texts) ≡ Some place) × (slice_get (numbers_from 1 texts) place ≡ Some n))
+    ((place : ℕ) × (first_fault start (events_in texts) (answers_in texts) ≡ Some place)
+    × (slice_get (numbers_from 1 texts) place ≡ Some n))
 
 -- the same from zeros on
 abbrev pub IsJudged : ℕ → List (List ℕ) → CheckEnd → Type 0
 IsJudged words texts (FlatRun steps) = (steps ≡ length (events_in texts)) ×
     ((last : Flat) × (flat_run (zeros words) (events_in texts) (answers_in texts) ≡ Some last))
 IsJudged words texts (Mismatch n) = (flat_run (zeros words) (events_in texts) (answers_in texts) ≡ None) ×
-    ((place : ℕ) × (first_fault (zeros words) (events_in texts) (answers_in texts) ≡ Some place) × (slice_get (numbers_from 1 texts) place ≡ Some n))
+    ((place : ℕ) × (first_fault (zeros words) (events_in texts) (answers_in texts) ≡ Some place)
+    × (slice_get (numbers_from 1 texts) place ≡ Some n))
 
 -- the fault of a line of a served trace, where it has one
 abbrev pub pair_fault : List ℕ → Option LineFault
@@ -80,7 +82,8 @@ abbrev pub JudgedFrom : Flat → List (List ℕ) → ℕ → Option ℕ → Flat
 JudgedFrom start texts steps None now = (steps ≡ length (events_in texts)) ×
     (flat_run start (events_in texts) (answers_in texts) ≡ Some now)
 JudgedFrom start texts steps (Some n) now = (steps ≤ length (events_in texts)) ×
-    ((place : ℕ) × (first_fault start (events_in texts) (answers_in texts) ≡ Some place) × (slice_get (numbers_from 1 texts) place ≡ Some n))
+    ((place : ℕ) × (first_fault start (events_in texts) (answers_in texts) ≡ Some place)
+    × (slice_get (numbers_from 1 texts) place ≡ Some n))
 
 -- One more step, of line n: it is one of flat memory, or the first that isn't. Behind a mismatch nothing is judged.
 abbrev pub Judges : ℕ → Event → Answer → Flat → ℕ → Option ℕ → Flat → ℕ → Option ℕ → Type 0

@@ -29,7 +29,10 @@ ReadsWithin {R} {C} gave failed fault_in went stopped paused unpaused most limit
     (v : C) × ReadStopsWithin gave failed fault_in most limit r r' texts e × went c texts v × paused v c'
 ReadsWithin {R} {C} gave failed fault_in went stopped paused unpaused most limit r r' c c' (Err Halted) = (texts : List (List ℕ)) ×
     (rest : List ℕ) × (v : C) × went c texts v ×
-    ((ReadSoFarWithin gave fault_in most limit r r' texts rest × unpaused v c') ⊎ (ReadIntoWithin gave fault_in most limit r r' texts rest × (unpaused v c' ⊎ ((length texts < limit) × FirstLine fault_in most (λ text. stopped v text c') rest))))
+    ((ReadSoFarWithin gave fault_in most limit r r' texts rest × unpaused v c')
+    ⊎ (ReadIntoWithin gave fault_in most limit r r' texts rest
+    × (unpaused v c'
+    ⊎ ((length texts < limit) × FirstLine fault_in most (λ text. stopped v text c') rest))))
 
 -- the same of a text with as many lines as a trace may have
 abbrev pub Reads : {R C : Type 0} (gave : R → List ℕ → R → Type 0) (failed : R → R → Type 0) (fault_in : List ℕ → Option LineFault)

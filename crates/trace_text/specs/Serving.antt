@@ -156,7 +156,11 @@ Ends gave failed took refused unflushed r r' w w' m m' (Err fault.OutOfMemory) =
 -- a flush before a read or before a fault was refused, or the text of a line that was applied
 Ends {R} {W} gave failed took refused unflushed r r' w w' m m' (Err fault.Write) = (texts : List (List ℕ)) × (rest : List ℕ) × (v : W) ×
     (s : MachineState) × (c : Counts) × Applied took w m texts v s c ×
-    ((ReadSoFar gave trace_fault MAX_LINE r r' texts rest × unflushed v w' × (m' ≡ s)) ⊎ (ReadInto gave trace_fault MAX_LINE r r' texts rest × ((unflushed v w' × (m' ≡ s)) ⊎ ((length texts < most_lines) × FirstLine trace_fault MAX_LINE (λ text. Broken took refused v s text w' m') rest))))
+    ((ReadSoFar gave trace_fault MAX_LINE r r' texts rest × unflushed v w' × (m' ≡ s))
+    ⊎ (ReadInto gave trace_fault MAX_LINE r r' texts rest
+    × ((unflushed v w' × (m' ≡ s))
+    ⊎ ((length texts < most_lines)
+    × FirstLine trace_fault MAX_LINE (λ text. Broken took refused v s text w' m') rest))))
 -- the lines before the fault were served
 Ends {R} {W} gave failed took refused unflushed r r' w w' m m' (Err e) = (texts : List (List ℕ)) × (v : W) × (c : Counts) ×
     ReadStops gave failed trace_fault MAX_LINE r r' texts e × Applied took w m texts v m' c × took v [] w'

@@ -1,6 +1,7 @@
 //! The fields of a line are read.
 ghost use Rattle.std.specs.Prelude.{◌≡◌, ◌≤◌, ◌∷◌, [], IfSome};
-ghost use Rattle.trace_text.specs.Fields.{begins_badly as starts_badly, number_after, number_of, nibble_of, bit_of, lanes_of, byte_from, word_of};
+ghost use Rattle.trace_text.specs.Fields.{begins_badly as starts_badly, number_after, number_of, nibble_of, bit_of, lanes_of, byte_from};
+ghost use Rattle.trace_text.specs.Fields.{word_of};
 
 use flat_model::{Lanes, Word};
 

@@ -2,7 +2,8 @@
 ghost use Rattle.std.specs.Prelude.{◌≡◌, ◌≢◌, ℕ, ◌<◌, ◌++◌, List, length, ◌==◌, position, Some, IfSome, IfNone, IfErr};
 ghost use Rattle.std.specs.Option.{option_map};
 ghost use Rattle.trace_text.specs.Faults.{line_fault_text};
-ghost use Rattle.trace_text.specs.Lines.{IsSaid, line_of, ended_line_of, cut_of, name_of, command_told, BeginsNoCommand, command_named, one_number, bare as bare_line, load_of, store_of, arrive_of, line_from as line_made};
+ghost use Rattle.trace_text.specs.Lines.{IsSaid, line_of, ended_line_of, cut_of, name_of, command_told, BeginsNoCommand, command_named};
+ghost use Rattle.trace_text.specs.Lines.{one_number, bare as bare_line, load_of, store_of, arrive_of, line_from as line_made};
 
 use crate::fault::MAX_LINE;
 use crate::fields::{MAX_NUMBER, MAX_TAG, lanes, number, word};

@@ -2,7 +2,8 @@
 ghost use Rattle.std.specs.Prelude.{◌≡◌, ◌≢◌, ℕ, ◌+◌, ◌<◌, ◌≤◌, List, Some, Ok, length, slice_index, IfSome, IfNone, IfErr};
 ghost use Rattle.std.specs.Option.{option_map};
 ghost use Rattle.trace_text.specs.Lines.{IsSaid};
-ghost use Rattle.trace_text.specs.Pairs.{bare_answer as bare_of, value_of, refusal_of, answer_from as answer_made, answer_of, IsAnswered, arrow_in, pair_with as pair_made, pair_of, ended_pair_of};
+ghost use Rattle.trace_text.specs.Pairs.{bare_answer as bare_of, value_of, refusal_of, answer_from as answer_made, answer_of, IsAnswered};
+ghost use Rattle.trace_text.specs.Pairs.{arrow_in, pair_with as pair_made, pair_of, ended_pair_of};
 
 use crate::fault::MAX_PAIR;
 use crate::fields::{MAX_TAG, number, word};

@@ -8,7 +8,8 @@ ghost use Rattle.trace_text.specs.Streams.{Moves, Stopped};
 ghost use Rattle.trace_text.specs.Lines.{line_of};
 ghost use Rattle.machine_core.specs.AnyMachine.{flat};
 ghost use Rattle.trace_text.specs.Texts.{reply_text, after_line};
-ghost use Rattle.trace_text.specs.Serving.{IsWithin, LineServed, Applied, Broken, Ends, no_counts, counted_reply, event_in, answer_to, trace_fault};
+ghost use Rattle.trace_text.specs.Serving.{IsWithin, LineServed, Applied, Broken, Ends, no_counts, counted_reply, event_in, answer_to};
+ghost use Rattle.trace_text.specs.Serving.{trace_fault};
 
 use crate::fault::{BUFFER_LEN, MAX_LINE, TraceFault};
 use crate::lines::{Line, line_said};

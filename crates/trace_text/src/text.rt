@@ -4,7 +4,8 @@ ghost use Rattle.trace_text.specs.declared.fault.TheConstants.{MAX_PAIR};
 ghost use Rattle.trace_text.specs.declared.text.TheConstants.{MAX_HEAD_TEXT, MAX_FIELD_TEXT, MAX_FIELDS_TEXT, MAX_REGISTER_TEXT};
 ghost use Rattle.std.specs.List.{flat_map, range_with_len};
 ghost use Rattle.flat_model.specs.declared.limits.TheConstants.{MAX_BLOCK_WORDS};
-ghost use Rattle.trace_text.specs.Texts.{answer_text as text_of_answer, mark_text, marks_text, held_text, field_text, head_text, register_text as text_of_register, bank_text, settled_text, waiting_text, field_text_at};
+ghost use Rattle.trace_text.specs.Texts.{answer_text as text_of_answer, mark_text, marks_text, held_text, field_text, head_text};
+ghost use Rattle.trace_text.specs.Texts.{register_text as text_of_register, bank_text, settled_text, waiting_text, field_text_at};
 
 use crate::fault::MAX_PAIR;
 use flat_model::{Answer, MAX_BLOCK_WORDS, Word};

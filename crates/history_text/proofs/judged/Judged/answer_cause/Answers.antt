@@ -10,7 +10,8 @@ returns-in-WrongByte g c =
     let load = c.args.load in
     let bytes = c.args.bytes.now in
     if_ok c.wrong_byte.result _ _
-    (λ cause wrong start events w s. subst (λ f. IsAnswerCause (law_begun j.law start) events w load bytes f cause) (sym c.in-WrongByte.is) (
+    (λ cause wrong start events w s. subst
+    (λ f. IsAnswerCause (law_begun j.law start) events w load bytes f cause) (sym c.in-WrongByte.is) (
       c.allowed-allowed.result,
       subst (λ a. (j.law start.judge).allows events load.number a c.allowed-allowed.result) c.byte_address-address.ensures
           (c.allowed-allowed.ensures start.judge events s.taken),
