@@ -90,4 +90,3 @@ pub each_get : {X : Type 0} (P : X → Type 0) (xs : List X) (i : ℕ) (x : X) �
 each_get P [] i x h e = cc
 each_get P (y ∷ ys) zero x h e = let same : y ≡ x = cc in subst P same h.0
 each_get P (y ∷ ys) (suc i) x h e = each_get P ys i x h.1 e
-
