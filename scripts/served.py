@@ -14,6 +14,12 @@ from counting import Different, same
 TOP = pathlib.Path(__file__).resolve().parent.parent
 
 
+def as_from_a_terminal():
+    """A page in the background, or under `nohup`, would begin with these signals ignored."""
+    for number in (signal.SIGINT, signal.SIGHUP):
+        signal.signal(number, signal.SIG_DFL)
+
+
 class Served:
     """A page that is served."""
 
@@ -22,7 +28,7 @@ class Served:
         self.folder = folder
         # A shell without job control starts what it runs beside it with SIGINT ignored, and that is inherited.
         self.process = subprocess.Popen([TOP / "kroft-page"], stdout=subprocess.PIPE, stderr=subprocess.PIPE, text=True, env=environment,
-                                        preexec_fn=lambda: signal.signal(signal.SIGINT, signal.SIG_DFL))
+                                        preexec_fn=as_from_a_terminal)
         self.address = self.process.stdout.readline().strip()
         found = re.fullmatch(r"http://127\.0\.0\.1:(\d+)/([\w-]{20,})/", self.address)
         if not found:
