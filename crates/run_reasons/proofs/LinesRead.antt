@@ -195,7 +195,7 @@ mismatch_ends words texts text steps pair event answer flat good read is none =
     let s : Step = record { event = event; answer = answer } in
     let judged : JudgedFrom (opening words) (texts ++ text ∷ []) steps (Some n) o.flat =
     judged_more (opening words) o.flat texts text pair s n steps None o.flat steps (Some n) (sym read)
-    (sym (recorded_step pair event answer is)) refl flat (none, refl, refl) in
+    (sym (recorded_step pair event answer is)) refl flat (none, refl, refl, refl) in
     record {
       text = text;
       ended = refl;

@@ -1,10 +1,10 @@
 -- What is held of the lines so far.
 use Rattle.std.proofs.Common.{◌≡◌, ℕ, suc, ◌+◌, ◌≤◌, Bool, true, false, Option, Some, None, Result, Ok, Err, OnOk, List, [], ◌∷◌, ◌++◌}
-use Rattle.std.proofs.Common.{length, get_or, length-append, append-nil, append_assoc, refl, sym, ◌∙◌, ap, subst, arith}
+use Rattle.std.proofs.Common.{length, get_or, take, length-append, append-nil, append_assoc, refl, sym, ◌∙◌, ap, subst, arith}
 use Rattle.std.specs.Prelude.{cond, slice_get}
 use Rattle.std.specs.Option.{option_map, option_to_list, option_and_then}
 use Rattle.std.specs.List.{AllByRecursion}
-use Rattle.std.proofs.Math.Seq.{get_or-append_seam}
+use Rattle.std.proofs.Math.Seq.{get_or-append_seam, take-append_seam, take-append-le}
 use Rattle.std.proofs.lemmas.List.{get_or_append_left}
 use Rattle.std.proofs.lemmas.Option.{slice_get_within, slice_get-get_or, get_or_from_slice_get}
 use Rattle.flat_model.specs.declared.Event.{Event}
@@ -124,6 +124,23 @@ numbers_length n (t ∷ ts) =
       length-append (event_of o) (events_in ts),
     )
 
+-- as many answers as events
+same_answers : (o : Option Step) → length (answer_of o) ≡ length (event_of o)
+same_answers None = refl
+same_answers (Some step) = refl
+
+answers_length : (texts : List (List ℕ)) → length (answers_in texts) ≡ length (events_in texts)
+answers_length [] = refl
+answers_length (t ∷ ts) =
+    let o = step_of (pair_of t) in
+    omega (
+      arith,
+      answers_length ts,
+      same_answers o,
+      length-append (answer_of o) (answers_in ts),
+      length-append (event_of o) (events_in ts),
+    )
+
 -- ---- a run that is judged as it goes
 
 step_in : (b : Bool) (o p : Option ℕ) (place : ℕ) → ((k : ℕ) → o ≡ Some k → p ≡ Some k)
@@ -197,7 +214,8 @@ get_last ns place n e =
 abbrev Judged : Flat → List Event → List Answer → List ℕ → ℕ → Option ℕ → Flat → Type 0
 Judged start events answers numbers steps None now = (steps ≡ length events) × (flat_run start events answers ≡ Some now)
 Judged start events answers numbers steps (Some n) now = (steps ≤ length events) ×
-    ((place : ℕ) × (first_fault start events answers ≡ Some place) × (slice_get numbers place ≡ Some n))
+    ((place : ℕ) × (first_fault start events answers ≡ Some place) × (slice_get numbers place ≡ Some n)
+    × (flat_run start (take place events) (take place answers) ≡ Some now))
 
 spread : (start now : Flat) (texts : List (List ℕ)) (steps : ℕ) (o : Option ℕ) → JudgedFrom start texts steps o now
     → Judged start (events_in texts) (answers_in texts) (numbers_from 1 texts) steps o now
@@ -216,31 +234,54 @@ judged_of : (start now : Flat) (texts : List (List ℕ)) (steps : ℕ) (o : Opti
     → Judged start events answers numbers steps o now → JudgedFrom start texts steps o now
 judged_of start now texts steps o events answers numbers e a n judged = grind arith
 
+-- what goes behind the lists changes nothing of their first entries
+first_run : (start now : Flat) (events more : List Event) (answers said : List Answer) (place : ℕ)
+    → place ≤ length events → length answers ≡ length events
+    → flat_run start (take place events) (take place answers) ≡ Some now
+    → flat_run start (take place (events ++ more)) (take place (answers ++ said)) ≡ Some now
+first_run start now events more answers said place within even run =
+    let e : take place (events ++ more) ≡ take place events = take-append-le place events more within in
+    let a : take place (answers ++ said) ≡ take place answers = take-append-le place answers said (omega (arith, within, even)) in
+    ap (λ l. flat_run start l (take place (answers ++ said))) e ∙ ap (λ l. flat_run start (take place events) l) a ∙ run
+
+-- all of the lists are their first entries
+whole_run : (start now : Flat) (events more : List Event) (answers said : List Answer) → length answers ≡ length events
+    → flat_run start events answers ≡ Some now
+    → flat_run start (take (length events) (events ++ more)) (take (length events) (answers ++ said)) ≡ Some now
+whole_run start now events more answers said even run =
+    let e : take (length events) (events ++ more) ≡ events = take-append_seam events more in
+    let a : take (length events) (answers ++ said) ≡ answers =
+    ap (λ n. take n (answers ++ said)) (sym even) ∙ take-append_seam answers said in
+    ap (λ l. flat_run start l (take (length events) (answers ++ said))) e ∙ ap (λ l. flat_run start events l) a ∙ run
+
 -- one more step
 judges_then : (start now next : Flat) (events : List Event) (answers : List Answer) (numbers : List ℕ) (event : Event) (answer : Answer)
     (number steps steps' : ℕ) (o o' : Option ℕ)
-    → length numbers ≡ length events → Judged start events answers numbers steps o now
+    → length numbers ≡ length events → length answers ≡ length events → Judged start events answers numbers steps o now
     → Judges number event answer now steps o next steps' o'
     → Judged start (events ++ event ∷ []) (answers ++ answer ∷ []) (numbers ++ number ∷ []) steps' o' next
-judges_then start now next events answers numbers event answer number steps steps' (Some m) o' even judged step =
+judges_then start now next events answers numbers event answer number steps steps' (Some m) o' even as_many judged step =
     subst (λ x. Judged start (events ++ event ∷ []) (answers ++ answer ∷ []) (numbers ++ number ∷ []) steps' x next) (sym step.1) (
       omega (arith, step.0, judged.0, length-append events (event ∷ [])),
       (
         judged.1.0,
         fault_then events (event ∷ []) answers (answer ∷ []) start judged.1.0 judged.1.1,
         get_more numbers (number ∷ []) judged.1.0 m judged.1.2,
+        first_run start next events (event ∷ []) answers (answer ∷ []) judged.1.0
+            (omega (arith, even, slice_get_within numbers judged.1.0 m judged.1.2)) as_many (judged.1.3 ∙ ap Some (sym step.2)),
       ),
     )
-judges_then start now next events answers numbers event answer number steps steps' None None even judged step = (
+judges_then start now next events answers numbers event answer number steps steps' None None even as_many judged step = (
   omega (arith, step.1, judged.0, length-append events (event ∷ [])),
   runs_then events (event ∷ []) answers (answer ∷ []) start now next judged.1 (ap (option_and_then (λ t. flat_run t [] [])) step.0),
 )
-judges_then start now next events answers numbers event answer number steps steps' None (Some n) even judged step = (
+judges_then start now next events answers numbers event answer number steps steps' None (Some n) even as_many judged step = (
   omega (arith, step.1, judged.0, length-append events (event ∷ [])),
   (
     length events,
     fault_at_end events answers event answer start now judged.1 step.0,
     ap (λ k. slice_get (numbers ++ k ∷ []) (length events)) (sym step.2) ∙ get_last numbers (length events) n (sym even),
+    whole_run start next events (event ∷ []) answers (answer ∷ []) as_many (judged.1 ∙ ap Some (sym step.3)),
   ),
 )
 
@@ -269,7 +310,7 @@ judged_more start now texts text pair step number steps o next steps' o' read so
     judged_of start next (texts ++ text ∷ []) steps' o' (events_in texts ++ step.event ∷ []) (answers_in texts ++ step.answer ∷ [])
     (numbers_from 1 texts ++ number ∷ []) events answers numbers
     (judges_then start now next (events_in texts) (answers_in texts) (numbers_from 1 texts) step.event step.answer number steps steps' o o'
-    (numbers_length 1 texts) (spread start now texts steps o judged) step_is)
+    (numbers_length 1 texts) (answers_length texts) (spread start now texts steps o judged) step_is)
 
 one_event : (o : Option Step) → length (event_of o) ≤ 1
 one_event None = omega arith

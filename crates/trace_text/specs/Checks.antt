@@ -1,5 +1,6 @@
 -- What a check of a served trace finds.
-use Rattle.std.specs.Prelude.{◌≡◌, ℕ, ◌+◌, ◌≤◌, Option, Some, None, Result, Ok, Err, List, [], ◌∷◌, ◌++◌, length, replicate, slice_get}
+use Rattle.std.specs.Prelude.{◌≡◌, ℕ, ◌+◌, ◌≤◌, Option, Some, None, Result, Ok, Err, List, [], ◌∷◌, ◌++◌, length, take}
+use Rattle.std.specs.Prelude.{replicate, slice_get}
 use Rattle.flat_model.specs.declared.Event.{Event}
 use Rattle.flat_model.specs.declared.Answer.{Answer}
 use Rattle.flat_model.specs.Words.{zero_word}
@@ -55,14 +56,16 @@ numbers_from n (text ∷ texts) = number_of n (step_of (pair_of text)) ++ number
 abbrev pub zeros : ℕ → Flat
 zeros words = opening (replicate words zero_word)
 
--- all pairs are a flat run from one memory to the other, or this is the line of the first that isn't listed
+-- all pairs are a flat run from one memory to the other, or this is the line of the first that isn't listed, and those before it
+-- are one
 abbrev pub IsJudgedFrom : Flat → List (List ℕ) → CheckEnd → Flat → Type 0
 IsJudgedFrom start texts (FlatRun steps) last =
     (steps ≡ length (events_in texts)) × (flat_run start (events_in texts) (answers_in texts) ≡ Some last)
 IsJudgedFrom start texts (Mismatch n) last =
     (flat_run start (events_in texts) (answers_in texts) ≡ None) ×
     ((place : ℕ) × (first_fault start (events_in texts) (answers_in texts) ≡ Some place)
-    × (slice_get (numbers_from 1 texts) place ≡ Some n))
+    × (slice_get (numbers_from 1 texts) place ≡ Some n)
+    × (flat_run start (take place (events_in texts)) (take place (answers_in texts)) ≡ Some last))
 
 -- the same from zeros on
 abbrev pub IsJudged : ℕ → List (List ℕ) → CheckEnd → Type 0
@@ -77,16 +80,18 @@ abbrev pub pair_fault : List ℕ → Option LineFault
 pair_fault text = fault_of (pair_of text)
 
 -- so many events of these lines are a flat run from one memory to the other, or this is the line of the first pair that
--- isn't listed
+-- isn't listed, and those before it are one
 abbrev pub JudgedFrom : Flat → List (List ℕ) → ℕ → Option ℕ → Flat → Type 0
 JudgedFrom start texts steps None now = (steps ≡ length (events_in texts)) ×
     (flat_run start (events_in texts) (answers_in texts) ≡ Some now)
 JudgedFrom start texts steps (Some n) now = (steps ≤ length (events_in texts)) ×
     ((place : ℕ) × (first_fault start (events_in texts) (answers_in texts) ≡ Some place)
-    × (slice_get (numbers_from 1 texts) place ≡ Some n))
+    × (slice_get (numbers_from 1 texts) place ≡ Some n)
+    × (flat_run start (take place (events_in texts)) (take place (answers_in texts)) ≡ Some now))
 
--- One more step, of line n: it is one of flat memory, or the first that isn't. Behind a mismatch nothing is judged.
+-- One more step, of line n: it is one of flat memory, or the first that isn't. At a mismatch, and behind it, memory stays.
 abbrev pub Judges : ℕ → Event → Answer → Flat → ℕ → Option ℕ → Flat → ℕ → Option ℕ → Type 0
-Judges n event answer s steps (Some m) t steps' o = (steps' ≡ steps) × (o ≡ Some m)
+Judges n event answer s steps (Some m) t steps' o = (steps' ≡ steps) × (o ≡ Some m) × (t ≡ s)
 Judges n event answer s steps None t steps' None = (flat_step s event answer ≡ Some t) × (steps' ≡ steps + 1)
 Judges n event answer s steps None t steps' (Some m) = (flat_step s event answer ≡ None) × (steps' ≡ steps) × (m ≡ n)
+    × (t ≡ s)
