@@ -12,13 +12,13 @@ use Rattle.machine_core.specs.Whole.{IsWholeState}
 use Rattle.trace_text.specs.Codes.{most_lines}
 use Rattle.trace_text.specs.Streams.{Moves, Stopped}
 use Rattle.trace_text.specs.declared.fault.TraceFault.{TraceFault}
-use Rattle.trace_text.specs.declared.fault.TraceFault.TheVariants.{Write, OutOfMemory}
+use Rattle.trace_text.specs.declared.fault.TraceFault.TheVariants.{Line, Read, Write, OutOfMemory, TooManyLines}
 use Rattle.round_driver.specs.declared.note.Note.{Note}
 use Rattle.round_driver.specs.declared.timing.Timing.{Timing}
 use Rattle.round_driver.specs.Rounds.{Run, Course, asked, moves, course, next_round, after_round, is_over, rounds_until_over, start_of}
 use Rattle.round_driver.specs.Rounds.{most_rounds, whole_run}
 use Rattle.round_driver.specs.Walks.{is_request, IsOverInTime, RequestsEnd}
-use Rattle.round_driver.specs.Written.{run_text, BreaksOff, rounds_made}
+use Rattle.round_driver.specs.Written.{run_text, BreaksOff}
 use Rattle.round_driver.proofs.Ends.{requests_end}
 use Rattle.round_driver.proofs.Runs.{stays, goes, round_over, text_then}
 use Rattle.kroft_jobs.specs.Driving.{IsDriven, IsToldAndDriven}
@@ -142,20 +142,13 @@ module _ (timing : Timing) (s : MachineState) (requests : List Event) where
       → IsMeasured timing s requests TooLong
   front_measured first last fault none is driven = go (subst (λ f. IsDrivenInto first last (Err f)) is driven)
     where
-      not_memory : Write ≡ OutOfMemory → ⊥
-      not_memory h = cc
-
       go : IsDrivenInto first last (Err Write) → IsMeasured timing s requests TooLong
-      go (inl memory) = absurd (not_memory memory.0)
-      go (inr broken) =
-          let stopped = broken.1 in
-          let whole = front_of_run broken.0 broken.2 in
-          let measured = measured_all first stopped.last stopped.front stopped.moved in
-          let lines = measured.lines in
+      go broken =
+          let stopped = broken.0 in
+          let lines = (measured_all first stopped.last stopped.front stopped.moved).lines in
           let refused = stopped.refusal in
-          let before = ap line_count stopped.whole ∙ lines_then stopped.front stopped.back in
-          let all = ap line_count whole.1 ∙ lines_then (run_text (rounds_until_over broken.0 start).told) whole.0 in
-          omega (arith, none, lines, refused, before, all)
+          let all = ap line_count stopped.whole ∙ lines_then stopped.front stopped.back in
+          omega (arith, none, lines, refused, all)
 
   -- ---- what is written
 
@@ -164,11 +157,28 @@ module _ (timing : Timing) (s : MachineState) (requests : List Event) where
     pub run_driven : list_all is_request requests ≡ true → IsWholeState s → (left : MachineState) (result : Result ℕ TraceFault)
         → IfOk result (λ n. n ≡ (whole_run timing s requests).schedule.round + 1)
         → OnOk result (RequestsEnd timing s requests) → OnOk result (Moves took old (whole_text timing s requests) new)
-        → IfErr result (λ fault. (n : ℕ) × BreaksOff took refused old (run_text (rounds_until_over n start).told) new fault
-        × (left ≡ (rounds_until_over (rounds_made n fault) start).state))
+        → IfErr result (BreaksOff took refused old start new left)
         → IsDriven took refused timing s requests old new result
     run_driven all whole left (Ok n) count over written broken = (written, over all, count)
-    run_driven all whole left (Err f) count over written broken = inr (broken.0, broken.1, requests_end timing s requests whole all)
+    run_driven all whole left (Err Write) count over written broken =
+        let over = requests_end timing s requests whole all in
+        let stopped = broken.1.0 in
+        let more = front_of_run (broken.0 + 1) over in (
+          record {
+            front = stopped.front;
+            back = stopped.back ++ more.0;
+            whole = more.1 ∙ ap (λ l. l ++ more.0) stopped.whole ∙ append_assoc stopped.front stopped.back more.0;
+            last = stopped.last;
+            moved = stopped.moved;
+            refusal = stopped.refusal;
+          },
+          over,
+        )
+    run_driven all whole left (Err OutOfMemory) count over written broken =
+        inr (broken.0, broken.1, requests_end timing s requests whole all)
+    run_driven all whole left (Err Read) count over written broken = absurd broken.1
+    run_driven all whole left (Err TooManyLines) count over written broken = absurd broken.1
+    run_driven all whole left (Err (Line n f)) count over written broken = absurd broken.1
 
     -- a run that was kept is written, and not told of
     pub kept_driven : {E : Type 0} (noted : E → List ℕ → E → Type 0) (unnoted unsettled : E → E → Type 0) (errors : E)
@@ -181,8 +191,7 @@ module _ (timing : Timing) (s : MachineState) (requests : List Event) where
         inl (inr (measured.1, refl), (all, measured.2, count ∙ measured.3))
     kept_driven noted unnoted unsettled errors text bytes rounds measured same (Err f) moved count stopped fault =
         let front = subst (λ l. Stopped took refused old l new) (same ∙ measured.0) stopped in
-        let broken = subst (BreaksOff took refused old (whole_text timing s requests) new) (sym fault) front in
-        inl (inr (measured.1, refl), inr (most_rounds s.sizes timing.latency (length requests), broken, measured.2))
+        inl (inr (measured.1, refl), subst (λ e. IsDriven took refused timing s requests old new (Err e)) (sym fault) (front, measured.2))
 
 pub offered : {E X : Type 0} (took : E → List ℕ → E → Type 0) (refused unflushed : E → E → Type 0) (old : E) (text : List ℕ) (new : E)
     (result : Result X TraceFault) → OnOk result (IsPut took old text new) → OnErr result (IsCut took refused unflushed old text new)

@@ -2,12 +2,12 @@
 use Rattle.std.specs.Prelude.{◌≡◌, ◌⊎◌, ◌+◌, ℕ, List, Result, Ok, Err}
 use Rattle.flat_model.specs.declared.Event.{Event}
 use Rattle.machine_core.specs.Machine.{MachineState}
-use Rattle.trace_text.specs.Streams.{Moves}
+use Rattle.trace_text.specs.Streams.{Moves, Stopped}
 use Rattle.trace_text.specs.declared.fault.TraceFault.{TraceFault}
-use Rattle.trace_text.specs.declared.fault.TraceFault.TheVariants.{OutOfMemory}
-use Rattle.round_driver.specs.Rounds.{start_of, rounds_until_over, whole_run}
+use Rattle.trace_text.specs.declared.fault.TraceFault.TheVariants.{Write, OutOfMemory}
+use Rattle.round_driver.specs.Rounds.{start_of, whole_run}
 use Rattle.round_driver.specs.Walks.{IsOverInTime}
-use Rattle.round_driver.specs.Written.{run_text, BreaksOff}
+use Rattle.round_driver.specs.Written.{text_of_rounds}
 use Rattle.round_driver.specs.declared.timing.Timing.{Timing}
 use Rattle.access_logs.specs.declared.fault.LogFault.{LogFault}
 use Rattle.access_logs.specs.declared.fault.LogFault.TheVariants as log
@@ -16,17 +16,19 @@ use Rattle.kroft_jobs.specs.Asking.{Asks, AsksNothing}
 use Rattle.kroft_jobs.specs.Lengths.{whole_text, TellsLength}
 use Rattle.kroft_jobs.specs.declared.asked.RequestText.{RequestText}
 
--- The run of these requests is written, is over in time, and its rounds are told. Or the writing broke off behind a
--- round, or nothing is written for want of memory.
+-- The run of these requests is written, is over in time, and its rounds are told. Or a write of its text was refused, or for want
+-- of memory the lines of some rounds alone are written, or nothing is.
 abbrev pub IsDriven : {W : Type 0} (took : W → List ℕ → W → Type 0) (refused : W → W → Type 0) (timing : Timing)
     (s : MachineState) (requests : List Event) (old new : W) → Result ℕ TraceFault → Type 0
 IsDriven took refused timing s requests old new (Ok rounds) =
     Moves took old (whole_text timing s requests) new × IsOverInTime timing s requests
     × (rounds ≡ (whole_run timing s requests).schedule.round + 1)
-IsDriven took refused timing s requests old new (Err fault) =
-    ((fault ≡ OutOfMemory) × (new ≡ old))
-    ⊎ ((n : ℕ) × BreaksOff took refused old (run_text (rounds_until_over n (start_of timing s requests)).told) new fault
-    × IsOverInTime timing s requests)
+IsDriven took refused timing s requests old new (Err Write) =
+    Stopped took refused old (whole_text timing s requests) new × IsOverInTime timing s requests
+IsDriven took refused timing s requests old new (Err OutOfMemory) =
+    (new ≡ old)
+    ⊎ ((n : ℕ) × Moves took old (text_of_rounds n (start_of timing s requests)) new × IsOverInTime timing s requests)
+IsDriven took refused timing s requests old new (Err fault) = ⊥
 
 -- Of the output what it takes and how it may refuse a write, and of the errors, too, how they may refuse a flush.
 module _ {W E : Type 0} (took : W → List ℕ → W → Type 0) (refused : W → W → Type 0)

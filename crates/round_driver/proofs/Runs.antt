@@ -1,19 +1,19 @@
 -- Rounds, one after another.
 use Rattle.std.proofs.Common.{◌≡◌, ℕ, zero, suc, ◌+◌, ◌≤◌, Bool, true, false, cond, List, [], ◌∷◌, ◌++◌, append_assoc, append-nil, take}
-use Rattle.std.proofs.Common.{length, get_or, ◌<◌, Result, Ok, Err, IfErr, IsErrAnd, refl, sym, ap, ap₂, subst, ◌∙◌, arith}
+use Rattle.std.proofs.Common.{length, length-append, get_or, ◌<◌, Result, Ok, Err, IfErr, IsErrAnd, refl, sym, ap, ap₂, subst, ◌∙◌, arith}
 use Rattle.std.proofs.lemmas.List.{take_more}
 use Rattle.flat_model.specs.declared.Event.{Event}
 use Rattle.machine_core.specs.Machine.{MachineState}
 use Rattle.trace_text.specs.Streams.{Moves, Stopped}
 use Rattle.trace_text.proofs.Serving.{moved_none, moved_then}
 use Rattle.trace_text.specs.declared.fault.TraceFault.{TraceFault}
-use Rattle.trace_text.specs.declared.fault.TraceFault.TheVariants.{Line, Read, Write, OutOfMemory, TooManyLines}
+use Rattle.trace_text.specs.declared.fault.TraceFault.TheVariants.{Write, OutOfMemory}
 use Rattle.round_driver.specs.declared.note.Note.{Note}
 use Rattle.round_driver.specs.declared.schedule.Schedule.{Schedule}
 use Rattle.round_driver.specs.declared.timing.Timing.{Timing}
 use Rattle.round_driver.specs.Rounds.{Run, run_of, after_round, is_over, is_over_at, rounds_until_over, opening, start_of}
 use Rattle.round_driver.specs.Tables.{Counting, counted, counted_all, nothing}
-use Rattle.round_driver.specs.Written.{note_line, run_text, BreaksOff, rounds_made}
+use Rattle.round_driver.specs.Written.{note_line, run_text, BreaksOff}
 
 once : (n : ℕ) (r : Run) → rounds_until_over (suc n) r ≡ cond (is_over r) r (rounds_until_over n (after_round r))
 unfolding rounds_until_over
@@ -83,17 +83,6 @@ text_more xs i d before line after h p q r =
     let last : run_text (get_or xs i d ∷ []) ≡ note_line (get_or xs i d) = append-nil (note_line (get_or xs i d)) in
     r ∙ ap₂ (λ a b. a ++ b) p (q ∙ sym last) ∙ sym (text_then (take i xs) (get_or xs i d ∷ [])) ∙ ap run_text (sym more)
 
-stopped_then : {S : Type 0} {step : S → List ℕ → S → Type 0} {refused : S → S → Type 0} {r s t : S} {xs ys : List ℕ} → Moves step r xs s
-    → Stopped step refused s ys t → Stopped step refused r (xs ++ ys) t
-stopped_then {xs = xs} p q = record {
-  front = xs ++ q.front;
-  back = q.back;
-  whole = ap (λ l. xs ++ l) q.whole ∙ sym (append_assoc xs q.front q.back);
-  last = q.last;
-  moved = moved_then p q.moved;
-  refusal = q.refusal;
-}
-
 -- ---- counts
 
 pub counted_then : (c : Counting) (xs ys : List Note) → counted_all c (xs ++ ys) ≡ counted_all (counted_all c xs) ys
@@ -143,13 +132,10 @@ module _ (i : ℕ) (start : Run) (s : MachineState) (p : Schedule) (left : List 
     pub lines_lack_memory : {W : Type 0} (took : W → List ℕ → W → Type 0) (refused : W → W → Type 0) (u v : W)
         (result : Result ℕ TraceFault) → Moves took u (run_text (rounds_until_over i start).told) v
         → IsErrAnd result (λ fault. fault ≡ OutOfMemory)
-        → IfErr result (λ fault. (n : ℕ) × BreaksOff took refused u (run_text (rounds_until_over n start).told) v fault
-        × (s' ≡ (rounds_until_over (rounds_made n fault) start).state))
+        → IfErr result (BreaksOff took refused u start v s')
     lines_lack_memory took refused u v (Ok rounds) written told = tt
     lines_lack_memory took refused u v (Err f) written told =
-        let Says : TraceFault → Type 0 = λ e. (n : ℕ) × BreaksOff took refused u (run_text (rounds_until_over n start).told) v e
-        × (s' ≡ (rounds_until_over (rounds_made n e) start).state) in
-        subst Says (sym told) (i, written, state_next)
+        subst (BreaksOff took refused u start v s') (sym told) (i, written, state_next)
 
     text : run_text (rounds_until_over (i + 1) start).told ≡ run_text (rounds_until_over i start).told ++ run_text notes
     text = ap run_text told_next ∙ text_then (rounds_until_over i start).told notes
@@ -158,19 +144,28 @@ module _ (i : ℕ) (start : Run) (s : MachineState) (p : Schedule) (left : List 
         → Moves step v (run_text notes) w → Moves step u (run_text (rounds_until_over (i + 1) start).told) w
     text_next step u v w a b = subst (λ t. Moves step u t w) (sym text) (moved_then a b)
 
-    text_stops : {S : Type 0} (step : S → List ℕ → S → Type 0) (refused : S → S → Type 0) (u v w : S)
-        → Moves step u (run_text (rounds_until_over i start).told) v → Stopped step refused v (run_text notes) w
-        → Stopped step refused u (run_text (rounds_until_over (i + 1) start).told) w
-    text_stops step refused u v w a b = subst (λ t. Stopped step refused u t w) (sym text) (stopped_then a b)
-
-    pub text_breaks : {S : Type 0} (step : S → List ℕ → S → Type 0) (refused : S → S → Type 0) (u v w : S) (e : TraceFault)
-        → Moves step u (run_text (rounds_until_over i start).told) v → BreaksOff step refused v (run_text notes) w e
-        → BreaksOff step refused u (run_text (rounds_until_over (i + 1) start).told) w e
-    text_breaks step refused u v w Write a b = text_stops step refused u v w a b
-    text_breaks step refused u v w OutOfMemory a b = text_next step u v w a b
-    text_breaks step refused u v w Read a b = absurd b
-    text_breaks step refused u v w TooManyLines a b = absurd b
-    text_breaks step refused u v w (Line n f) a b = absurd b
+    -- a write of the lines of the round that was made is refused
+    pub lines_refused : {W : Type 0} (took : W → List ℕ → W → Type 0) (refused : W → W → Type 0) (u v w : W)
+        → Moves took u (run_text (rounds_until_over i start).told) v → Stopped took refused v (run_text notes) w
+        → BreaksOff took refused u start w s' Write
+    lines_refused took refused u v w written stopped =
+        let before = run_text (rounds_until_over i start).told in
+        let whole = text ∙ ap (λ l. before ++ l) stopped.whole ∙ sym (append_assoc before stopped.front stopped.back) in
+        let moved = moved_then written stopped.moved in (
+          i,
+          (
+            record {
+              front = before ++ stopped.front;
+              back = stopped.back;
+              whole = whole;
+              last = stopped.last;
+              moved = moved;
+              refusal = stopped.refusal;
+            },
+            omega (arith, length-append before stopped.front),
+          ),
+          state_next,
+        )
 
     pub counts_next : (c d : Counting) → c ≡ counted_all nothing (rounds_until_over i start).told → d ≡ counted_all c notes
         → d ≡ counted_all nothing (rounds_until_over (i + 1) start).told

@@ -6,11 +6,11 @@ ghost use Rattle.round_driver.specs.declared.driving.TheConstants.{MOST_LATENCY}
 ghost use Rattle.round_driver.specs.declared.note.Note.{Note as NoteValue};
 ghost use Rattle.round_driver.specs.Machines as machines;
 ghost use Rattle.round_driver.specs.Rounds as rounds;
-ghost use Rattle.round_driver.specs.Rounds.{run_of, start_of, rounds_until_over, whole_run, most_requests, EndsInTime};
+ghost use Rattle.round_driver.specs.Rounds.{run_of, start_of, whole_run, most_requests, EndsInTime};
 ghost use Rattle.round_driver.specs.Tables.{table_of};
 ghost use Rattle.round_driver.specs.Timings.{unpipelined};
 ghost use Rattle.round_driver.specs.Walks.{RequestsEnd};
-ghost use Rattle.round_driver.specs.Written.{run_text, BreaksOff, rounds_made};
+ghost use Rattle.round_driver.specs.Written.{run_text, BreaksOff};
 
 use crate::machine::{keeps_whole, most_moves};
 use crate::round::{Notes, ask, moves};
@@ -116,11 +116,7 @@ pub fn drive_with<W: Sink>(
         (Moves W.took writer.old
         (run_text (whole_run timing machine.old requests.now).told) writer.new) }
     ensures fault { IfErr result
-        (λ fault. (n : ℕ) × BreaksOff W.took W.refused writer.old
-        (run_text (rounds_until_over n (start_of timing machine.old requests.now)).told)
-        writer.new fault
-        × (machine.new
-        ≡ (rounds_until_over (rounds_made n fault) (start_of timing machine.old requests.now)).state)) }
+        (BreaksOff W.took W.refused writer.old (start_of timing machine.old requests.now) writer.new machine.new) }
 {
     keeps_whole(machine);
     let mut schedule = Schedule::new(timing);
@@ -164,11 +160,8 @@ pub fn drive<W: Sink>(
         (Moves W.took writer.old
         (run_text (whole_run (unpipelined latency) machine.old requests.now).told) writer.new) }
     ensures fault { IfErr result
-        (λ fault. (n : ℕ) × BreaksOff W.took W.refused writer.old
-        (run_text (rounds_until_over n (start_of (unpipelined latency) machine.old requests.now)).told)
-        writer.new fault
-        × (machine.new
-        ≡ (rounds_until_over (rounds_made n fault) (start_of (unpipelined latency) machine.old requests.now)).state)) }
+        (BreaksOff W.took W.refused writer.old (start_of (unpipelined latency) machine.old requests.now) writer.new
+        machine.new) }
 {
     drive_with(
         alloc,

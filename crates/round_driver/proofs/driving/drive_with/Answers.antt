@@ -1,9 +1,8 @@
 use Rattle.std.proofs.Common.{◌≡◌, ◌+◌, ◌≤◌, sym, ap, subst, ◌∙◌, arith}
 use Rattle.trace_text.specs.Streams.{Moves, Stopped}
-use Rattle.trace_text.specs.declared.fault.TraceFault.TheVariants.{Write}
 use Rattle.round_driver.specs.Rounds.{start_of, rounds_until_over, is_over, whole_run}
 use Rattle.round_driver.specs.Written.{run_text}
-use Rattle.round_driver.proofs.Runs.{no_more, run_begins, text_begins, over_here, run_next, state_next, text_next, text_breaks}
+use Rattle.round_driver.proofs.Runs.{no_more, run_begins, text_begins, over_here, run_next, text_next, lines_refused}
 use Rattle.round_driver.proofs.Runs.{lines_lack_memory}
 use Rattle.round_driver.proofs.Ends.{requests_end}
 use Rattle.round_driver.proofs.driving.drive_with.Goals as goal
@@ -60,14 +59,10 @@ returns-in-Err-clause-fault g c =
     let bytes : c.as_bytes.result.now ≡ run_text c.round-left.new.notes.items = c.as_bytes.ensures.value ∙ c.in_ok-text.ensures
     ∙ ap run_text c.as_slice.ensures.value in
     let stops = subst (λ t. Stopped g.W.Sink.took g.W.Sink.refused c.loop-turn.writer t c.write_whole.new.writer) bytes
-    c.in-Err.ensures.err in (
-      c.loop-turn._turn + 1,
-      text_breaks c.loop-turn._turn start c.loop-turn.machine c.loop-turn.schedule c.loop-turn.left.now here
-          c.round-left.new.machine c.round-left.new.schedule c.round-left.result.now c.round-left.new.notes.items made going g.W.Sink.took
-          g.W.Sink.refused c.args.writer.now c.loop-turn.writer c.write_whole.new.writer Write c.loop-turn.invariant.written stops,
-      state_next c.loop-turn._turn start c.loop-turn.machine c.loop-turn.schedule c.loop-turn.left.now here c.round-left.new.machine
-          c.round-left.new.schedule c.round-left.result.now c.round-left.new.notes.items made going,
-    )
+    c.in-Err.ensures.err in
+    lines_refused c.loop-turn._turn start c.loop-turn.machine c.loop-turn.schedule c.loop-turn.left.now here
+    c.round-left.new.machine c.round-left.new.schedule c.round-left.result.now c.round-left.new.notes.items made going g.W.Sink.took
+    g.W.Sink.refused c.args.writer.now c.loop-turn.writer c.write_whole.new.writer c.loop-turn.invariant.written stops
 
 pub returns-in_err-text-clause-fault : goal.returns-in_err-text-clause-fault
 returns-in_err-text-clause-fault g c =
