@@ -340,14 +340,14 @@ fn banks_of(alloc: Global, shape: &Shape) -> Result<Banks, MakeFault> {
     Banks::new(alloc, &image, shape)
 }
 
-/// The field that a machine of that shape is refused for.
-fn refusal<const REGS: usize>(
+/// The field that a machine of four words a block and of that shape is refused for.
+fn refusal<const WAYS: usize, const REGS: usize, const DEPTH: usize>(
     alloc: Global,
     shape: Shape,
     words: u8,
 ) -> Result<Option<ShapeField>, Fail> {
     let image = image(alloc, words)?;
-    match Machine::<1, 4, REGS, 2>::new(alloc, shape, &image) {
+    match Machine::<WAYS, 4, REGS, DEPTH>::new(alloc, shape, &image) {
         Err(MakeFault::BadShape(field)) => Ok(Some(field)),
         _ => Ok(None),
     }
@@ -362,18 +362,35 @@ fn makers_refuse_shapes(rt: HostRuntime) -> Result<(), Fail> {
     };
     let broken_block = Shape { words: 30, ..small };
     let refused = [
-        (2, short_banks, 32, ShapeField::BankQueue),
-        (2, broken_block, 32, ShapeField::Words),
-        (2, small, 31, ShapeField::Image),
-        (0, broken_block, 32, ShapeField::Regs),
+        (short_banks, 32, ShapeField::BankQueue),
+        (broken_block, 32, ShapeField::Words),
+        (small, 31, ShapeField::Image),
     ];
-    for (registers, shape, words, field) in refused {
-        let found = match registers {
-            0 => refusal::<0>(rt.alloc(), shape, words),
-            _ => refusal::<2>(rt.alloc(), shape, words),
-        }?;
+    for (shape, words, field) in refused {
+        let found = refusal::<1, 2, 2>(rt.alloc(), shape, words)?;
         same(&rt, "the field", found, Some(field));
     }
+    Ok(())
+}
+
+/// A machine is refused for its type's numbers before its shape's: each stands beside one that is wrong too.
+#[test]
+fn makers_refuse_types(rt: HostRuntime) -> Result<(), Fail> {
+    let alloc = rt.alloc();
+    let broken_block = Shape {
+        words: 30,
+        ..SMALL_SHAPE
+    };
+    let most = refusal::<8, 16, 16>(alloc, broken_block, 32)?;
+    same(&rt, "the most of each", most, Some(ShapeField::Words));
+    let ways = refusal::<9, 17, 17>(alloc, broken_block, 32)?;
+    same(&rt, "ways", ways, Some(ShapeField::Ways));
+    let registers = refusal::<8, 17, 17>(alloc, broken_block, 32)?;
+    same(&rt, "registers", registers, Some(ShapeField::Regs));
+    let none = refusal::<1, 0, 2>(alloc, broken_block, 32)?;
+    same(&rt, "no register", none, Some(ShapeField::Regs));
+    let places = refusal::<8, 16, 17>(alloc, broken_block, 32)?;
+    same(&rt, "places", places, Some(ShapeField::Depth));
     Ok(())
 }
 
