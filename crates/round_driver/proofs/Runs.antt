@@ -12,6 +12,7 @@ use Rattle.round_driver.specs.declared.note.Note.{Note}
 use Rattle.round_driver.specs.declared.schedule.Schedule.{Schedule}
 use Rattle.round_driver.specs.declared.timing.Timing.{Timing}
 use Rattle.round_driver.specs.Rounds.{Run, run_of, after_round, is_over, is_over_at, rounds_until_over, opening, start_of}
+use Rattle.round_driver.specs.Rounds.{most_rounds, whole_run, EndsInTime}
 use Rattle.round_driver.specs.Tables.{Counting, counted, counted_all, nothing}
 use Rattle.round_driver.specs.Written.{note_line, run_text, BreaksOff}
 
@@ -66,7 +67,7 @@ round_over (suc n) (suc m) r le h = go (λ fewer over. round_over n m (after_rou
         let over : is_over (rounds_until_over n (after_round r)) ≡ true = sym (ap is_over (goes n r e)) ∙ h in
         goes m r e ∙ later (omega (arith, le)) over ∙ sym (goes n r e)
 
-pub no_more : (n most rounds : ℕ) → rounds ≡ n → n ≡ most → rounds < most → ⊥
+no_more : (n most rounds : ℕ) → rounds ≡ n → n ≡ most → rounds < most → ⊥
 no_more n most rounds p q h = omega arith
 
 -- ---- text
@@ -110,7 +111,7 @@ module _ (timing : Timing) (s : MachineState) (requests : List Event) where
 
 module _ (i : ℕ) (start : Run) (s : MachineState) (p : Schedule) (left : List Event)
     (here : run_of s p left (rounds_until_over i start).told ≡ rounds_until_over i start) where
-  pub over_here : (n : ℕ) → i ≤ n → is_over_at s left ≡ true → run_of s p left (rounds_until_over i start).told ≡ rounds_until_over n start
+  over_here : (n : ℕ) → i ≤ n → is_over_at s left ≡ true → run_of s p left (rounds_until_over i start).told ≡ rounds_until_over n start
   over_here n le over = here ∙ sym (round_over i n start le (sym (ap is_over here) ∙ over))
 
   module _ (s' : MachineState) (p' : Schedule) (left' : List Event) (notes : List Note)
@@ -172,3 +173,25 @@ module _ (i : ℕ) (start : Run) (s : MachineState) (p : Schedule) (left : List 
     counts_next c d p q =
         q ∙ ap (λ x. counted_all x notes) p ∙ sym (counted_then nothing (rounds_until_over i start).told notes)
         ∙ ap (counted_all nothing) (sym told_next)
+
+-- ---- the loop's end: the run is over, or all rounds that it may take were made
+
+module _ (timing : Timing) (s : MachineState) (requests : List Event) {turns most : ℕ} {m : MachineState} {p : Schedule} {left : List Event}
+    (here : run_of m p left (rounds_until_over turns (start_of timing s requests)).told
+    ≡ rounds_until_over turns (start_of timing s requests))
+    (value : most ≡ most_rounds s.sizes timing.latency (length requests)) where
+  pub whole_over : {b : Bool} → turns < most → b ≡ is_over_at m left → b ≡ true
+      → run_of m p left (rounds_until_over turns (start_of timing s requests)).told ≡ whole_run timing s requests
+  whole_over lt answer over =
+      over_here turns (start_of timing s requests) m p left here most (omega (arith, lt)) (sym answer ∙ over)
+      ∙ ap (λ n. rounds_until_over n (start_of timing s requests)) value
+
+  pub whole_spent : turns ≡ most
+      → run_of m p left (rounds_until_over turns (start_of timing s requests)).told ≡ whole_run timing s requests
+  whole_spent all = here ∙ ap (λ n. rounds_until_over n (start_of timing s requests)) (all ∙ value)
+
+  pub over_early : {b : Bool} → turns < most → b ≡ is_over_at m left → b ≡ true → EndsInTime timing s requests
+  over_early lt answer over h = sym (ap is_over (whole_over lt answer over)) ∙ sym answer ∙ over
+
+  pub spent_early : turns ≡ most → p.round ≡ turns → EndsInTime timing s requests
+  spent_early all round h = absurd (no_more most _ _ (sym (ap (λ r. r.schedule.round) (whole_spent all)) ∙ round ∙ all) value h)

@@ -3,7 +3,8 @@ use Rattle.round_driver.specs.Machines.{used_registers}
 use Rattle.round_driver.specs.Rounds.{start_of, rounds_until_over, is_over, whole_run}
 use Rattle.round_driver.specs.Tables.{counting, nothing, counted_all, with_rounds, total, table_of}
 use Rattle.round_driver.specs.Details.{counted_all as told_all, told_of, ends_of, outcomes_in, told_total, told_rounds, ends_total}
-use Rattle.round_driver.proofs.Runs.{no_more, run_begins, counts_begin, over_here, run_next, told_next as notes_next, counts_next}
+use Rattle.round_driver.proofs.Runs.{run_begins, counts_begin, whole_over, over_early, whole_spent, spent_early, run_next}
+use Rattle.round_driver.proofs.Runs.{told_next as notes_next, counts_next}
 use Rattle.round_driver.proofs.Ends.{requests_end}
 use Rattle.round_driver.specs.Outcomes.{with_notes}
 use Rattle.round_driver.proofs.Recorded.{all_recorded, recording_begins, recorded_next}
@@ -45,11 +46,8 @@ pub returns-then-is_over-clause-details : goal.returns-then-is_over-clause-detai
 returns-then-is_over-clause-details c =
     let s = c.args.machine.now in
     let start = start_of c.args.timing s c.args.requests.now in
-    let here = c.loop-turn.invariant.run in
-    let over = sym c.is_over.ensures ∙ c.if-is_over.true in
-    let le : c.loop-turn._turn ≤ c.most_rounds-turn-end.result = omega (arith, c.loop-turn-test.true) in
-    let whole = over_here c.loop-turn._turn start c.loop-turn.machine c.loop-turn.schedule c.loop-turn.left.now here
-    c.most_rounds-turn-end.result le over ∙ ap (λ n. rounds_until_over n start) c.most_rounds-turn-end.ensures.value in
+    let whole = whole_over _ _ _ c.loop-turn.invariant.run c.most_rounds-turn-end.ensures.value c.loop-turn-test.true c.is_over.ensures
+    c.if-is_over.true in
     let table : c.table_after-table.result ≡ table_of c.args.timing s c.args.requests.now = c.table_after-table.ensures
     ∙ ap (λ x. with_rounds x (c.loop-turn.schedule.round + 1)) c.loop-turn.invariant.counts
     ∙ ap (λ r. with_rounds (counted_all nothing r.told) (r.schedule.round + 1)) whole in
@@ -64,44 +62,24 @@ returns-then-is_over-clause-details c =
 
 pub returns-then-is_over-clause-machine : goal.returns-then-is_over-clause-machine
 returns-then-is_over-clause-machine c =
-    let start = start_of c.args.timing c.args.machine.now c.args.requests.now in
-    let here = c.loop-turn.invariant.run in
-    let over = sym c.is_over.ensures ∙ c.if-is_over.true in
-    let le : c.loop-turn._turn ≤ c.most_rounds-turn-end.result = omega (arith, c.loop-turn-test.true) in
-    let whole = over_here c.loop-turn._turn start c.loop-turn.machine c.loop-turn.schedule c.loop-turn.left.now here
-    c.most_rounds-turn-end.result le over ∙ ap (λ n. rounds_until_over n start) c.most_rounds-turn-end.ensures.value in
+    let whole = whole_over _ _ _ c.loop-turn.invariant.run c.most_rounds-turn-end.ensures.value c.loop-turn-test.true c.is_over.ensures
+    c.if-is_over.true in
     ap (λ r. r.state) whole
 
 pub returns-then-is_over-clause-early : goal.returns-then-is_over-clause-early
 returns-then-is_over-clause-early c =
-    let start = start_of c.args.timing c.args.machine.now c.args.requests.now in
-    let here = c.loop-turn.invariant.run in
-    let over = sym c.is_over.ensures ∙ c.if-is_over.true in
-    let le : c.loop-turn._turn ≤ c.most_rounds-turn-end.result = omega (arith, c.loop-turn-test.true) in
-    let whole = over_here c.loop-turn._turn start c.loop-turn.machine c.loop-turn.schedule c.loop-turn.left.now here
-    c.most_rounds-turn-end.result le over ∙ ap (λ n. rounds_until_over n start) c.most_rounds-turn-end.ensures.value in
-    λ h. sym (ap is_over whole) ∙ over
+    over_early _ _ _ c.loop-turn.invariant.run c.most_rounds-turn-end.ensures.value c.loop-turn-test.true c.is_over.ensures
+    c.if-is_over.true
 
 pub returns-clause-machine : goal.returns-clause-machine
 returns-clause-machine c =
-    let start = start_of c.args.timing c.args.machine.now c.args.requests.now in
-    let here = c.loop-turn.invariant.run in
-    let turns = c.loop-turn._turn in
-    let all : turns ≡ c.most_rounds-turn-end.result = omega (arith, c.loop-turn-test.false, c.loop-turn.auto._turn-end) in
-    let whole = here ∙ ap (λ n. rounds_until_over n start) (all ∙ c.most_rounds-turn-end.ensures.value) in
-    ap (λ r. r.state) whole
+    ap (λ r. r.state) (whole_spent _ _ _ c.loop-turn.invariant.run c.most_rounds-turn-end.ensures.value
+    (omega (arith, c.loop-turn-test.false, c.loop-turn.auto._turn-end)))
 
 pub returns-clause-early : goal.returns-clause-early
 returns-clause-early c =
-    let start = start_of c.args.timing c.args.machine.now c.args.requests.now in
-    let here = c.loop-turn.invariant.run in
-    let turns = c.loop-turn._turn in
-    let round : c.loop-turn.schedule.round ≡ turns = c.loop-turn.invariant.time in
-    let all : turns ≡ c.most_rounds-turn-end.result = omega (arith, c.loop-turn-test.false, c.loop-turn.auto._turn-end) in
-    let whole = here ∙ ap (λ n. rounds_until_over n start) (all ∙ c.most_rounds-turn-end.ensures.value) in
-    let last : c.loop-turn.schedule.round ≡ (whole_run c.args.timing c.args.machine.now c.args.requests.now).schedule.round =
-    ap (λ r. r.schedule.round) whole in
-    λ h. absurd (no_more c.most_rounds-turn-end.result _ _ (sym last ∙ round ∙ all) c.most_rounds-turn-end.ensures.value h)
+    spent_early _ _ _ c.loop-turn.invariant.run c.most_rounds-turn-end.ensures.value
+    (omega (arith, c.loop-turn-test.false, c.loop-turn.auto._turn-end)) c.loop-turn.invariant.time
 
 pub loop-turn-preserved : goal.loop-turn-preserved
 loop-turn-preserved c =

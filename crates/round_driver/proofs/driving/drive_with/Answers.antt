@@ -1,8 +1,8 @@
 use Rattle.std.proofs.Common.{◌≡◌, ◌+◌, ◌≤◌, sym, ap, subst, ◌∙◌, arith}
 use Rattle.trace_text.specs.Streams.{Moves, Stopped}
-use Rattle.round_driver.specs.Rounds.{start_of, rounds_until_over, is_over, whole_run}
+use Rattle.round_driver.specs.Rounds.{start_of, is_over}
 use Rattle.round_driver.specs.Written.{run_text}
-use Rattle.round_driver.proofs.Runs.{no_more, run_begins, text_begins, over_here, run_next, text_next, lines_refused}
+use Rattle.round_driver.proofs.Runs.{run_begins, text_begins, whole_over, over_early, spent_early, run_next, text_next, lines_refused}
 use Rattle.round_driver.proofs.Runs.{lines_lack_memory}
 use Rattle.round_driver.proofs.Ends.{requests_end}
 use Rattle.round_driver.proofs.driving.drive_with.Goals as goal
@@ -22,32 +22,20 @@ loop-turn-init g c =
 
 pub returns-then-is_over-clause-ok : goal.returns-then-is_over-clause-ok
 returns-then-is_over-clause-ok g c =
-    let start = start_of c.args.timing c.args.machine.now c.args.requests.now in
-    let here = c.loop-turn.invariant.run in
-    let over = sym c.is_over.ensures ∙ c.if-is_over.true in
-    let le : c.loop-turn._turn ≤ c.most_rounds-turn-end.result = omega (arith, c.loop-turn-test.true) in
-    let whole = over_here c.loop-turn._turn start c.loop-turn.machine c.loop-turn.schedule c.loop-turn.left.now here
-    c.most_rounds-turn-end.result le over ∙ ap (λ n. rounds_until_over n start) c.most_rounds-turn-end.ensures.value in
+    let whole = whole_over _ _ _ c.loop-turn.invariant.run c.most_rounds-turn-end.ensures.value c.loop-turn-test.true c.is_over.ensures
+    c.if-is_over.true in
     ap (λ r. r.schedule.round + 1) whole
 
 pub returns-then-is_over-clause-machine : goal.returns-then-is_over-clause-machine
 returns-then-is_over-clause-machine g c =
-    let start = start_of c.args.timing c.args.machine.now c.args.requests.now in
-    let here = c.loop-turn.invariant.run in
-    let over = sym c.is_over.ensures ∙ c.if-is_over.true in
-    let le : c.loop-turn._turn ≤ c.most_rounds-turn-end.result = omega (arith, c.loop-turn-test.true) in
-    let whole = over_here c.loop-turn._turn start c.loop-turn.machine c.loop-turn.schedule c.loop-turn.left.now here
-    c.most_rounds-turn-end.result le over ∙ ap (λ n. rounds_until_over n start) c.most_rounds-turn-end.ensures.value in
+    let whole = whole_over _ _ _ c.loop-turn.invariant.run c.most_rounds-turn-end.ensures.value c.loop-turn-test.true c.is_over.ensures
+    c.if-is_over.true in
     ap (λ r. r.state) whole
 
 pub returns-then-is_over-clause-written : goal.returns-then-is_over-clause-written
 returns-then-is_over-clause-written g c =
-    let start = start_of c.args.timing c.args.machine.now c.args.requests.now in
-    let here = c.loop-turn.invariant.run in
-    let over = sym c.is_over.ensures ∙ c.if-is_over.true in
-    let le : c.loop-turn._turn ≤ c.most_rounds-turn-end.result = omega (arith, c.loop-turn-test.true) in
-    let whole = over_here c.loop-turn._turn start c.loop-turn.machine c.loop-turn.schedule c.loop-turn.left.now here
-    c.most_rounds-turn-end.result le over ∙ ap (λ n. rounds_until_over n start) c.most_rounds-turn-end.ensures.value in
+    let whole = whole_over _ _ _ c.loop-turn.invariant.run c.most_rounds-turn-end.ensures.value c.loop-turn-test.true c.is_over.ensures
+    c.if-is_over.true in
     subst (λ t. Moves g.W.Sink.took c.args.writer.now t c.loop-turn.writer) (ap (λ r. run_text r.told) whole) c.loop-turn.invariant.written
 
 pub returns-in-Err-clause-fault : goal.returns-in-Err-clause-fault
@@ -75,25 +63,13 @@ returns-in_err-text-clause-fault g c =
 
 pub returns-then-is_over-clause-early : goal.returns-then-is_over-clause-early
 returns-then-is_over-clause-early g c =
-    let start = start_of c.args.timing c.args.machine.now c.args.requests.now in
-    let here = c.loop-turn.invariant.run in
-    let over = sym c.is_over.ensures ∙ c.if-is_over.true in
-    let le : c.loop-turn._turn ≤ c.most_rounds-turn-end.result = omega (arith, c.loop-turn-test.true) in
-    let whole = over_here c.loop-turn._turn start c.loop-turn.machine c.loop-turn.schedule c.loop-turn.left.now here
-    c.most_rounds-turn-end.result le over ∙ ap (λ n. rounds_until_over n start) c.most_rounds-turn-end.ensures.value in
-    λ h. sym (ap is_over whole) ∙ over
+    over_early _ _ _ c.loop-turn.invariant.run c.most_rounds-turn-end.ensures.value c.loop-turn-test.true c.is_over.ensures
+    c.if-is_over.true
 
 pub returns-clause-early : goal.returns-clause-early
 returns-clause-early g c =
-    let start = start_of c.args.timing c.args.machine.now c.args.requests.now in
-    let here = c.loop-turn.invariant.run in
-    let turns = c.loop-turn._turn in
-    let round : c.loop-turn.schedule.round ≡ turns = c.loop-turn.invariant.time in
-    let all : turns ≡ c.most_rounds-turn-end.result = omega (arith, c.loop-turn-test.false, c.loop-turn.auto._turn-end) in
-    let whole = here ∙ ap (λ n. rounds_until_over n start) (all ∙ c.most_rounds-turn-end.ensures.value) in
-    let last : c.loop-turn.schedule.round ≡ (whole_run c.args.timing c.args.machine.now c.args.requests.now).schedule.round =
-    ap (λ r. r.schedule.round) whole in
-    λ h. absurd (no_more c.most_rounds-turn-end.result _ _ (sym last ∙ round ∙ all) c.most_rounds-turn-end.ensures.value h)
+    spent_early _ _ _ c.loop-turn.invariant.run c.most_rounds-turn-end.ensures.value
+    (omega (arith, c.loop-turn-test.false, c.loop-turn.auto._turn-end)) c.loop-turn.invariant.time
 
 pub loop-turn-preserved : goal.loop-turn-preserved
 loop-turn-preserved g c =
