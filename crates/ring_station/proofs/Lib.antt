@@ -3,6 +3,7 @@ pub mod PortRunning
 pub mod Turning
 pub mod Enlisting
 pub mod Sharing
+pub mod Rounding
 pub mod CrewRunning
 pub mod StationRunning
 pub mod Ending

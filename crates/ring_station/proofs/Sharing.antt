@@ -1,6 +1,9 @@
 -- A turn of each part of a thread, one part after another.
 use Rattle.std.proofs.Common.{◌≡◌, ◌<◌, ◌≤◌, ◌+◌, ℕ, List, slice_index_or, refl, sym, ◌∙◌, subst, arith, below_more, set, length}
+use Rattle.std.specs.Prelude.{Option, Some, None}
 use Rattle.std.proofs.lemmas.List.{get_or-set_same, get_or-set_other, get_or_default}
+use Rattle.ring_station.specs.declared.idle.Turn.{Turn}
+use Rattle.ring_station.specs.Idle.{turn_of_both}
 
 -- so many parts at first have had their turns, and the others haven't yet
 pub record HadTurns {X : Type 0} (R : ℕ → X → X → Type 0) (k : ℕ) (old now : List X) : Type 0 where
@@ -30,3 +33,10 @@ one_more P k now y less before here = λ j d u.
     below_more (λ i. P (slice_index_or (set now k y) i d)) k
     (λ i v. subst P (sym (get_or-set_other now k i y d (λ q. omega arith))) (before i d v))
     (subst P (sym (get_or-set_same now k y d less)) here) j u
+
+-- what two turns come to is `None` only if each is
+pub both_none : (one other : Option Turn) → turn_of_both one other ≡ None → (one ≡ None) × (other ≡ None)
+both_none None None e = (refl, refl)
+both_none None (Some other) e = cc
+both_none (Some one) None e = cc
+both_none (Some one) (Some other) e = cc

@@ -2,6 +2,8 @@ pub mod Faults
 pub mod Scripts
 pub mod Ends
 pub mod Turns
+pub mod Round
+pub mod Idle
 pub mod PortRuns
 pub mod PartRuns
 pub mod Within

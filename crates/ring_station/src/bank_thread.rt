@@ -1,10 +1,12 @@
 //! The thread of a bank, or of several.
-ghost use Rattle.std.specs.Prelude.{◌≡◌, ◌+◌, ◌<◌, ◌≤◌, List, false, length, None};
+ghost use Rattle.std.specs.Prelude.{◌≡◌, ◌+◌, ◌<◌, ◌≤◌, List, true, false, length, None, IfSome};
 ghost use Rattle.std.specs.List.{All};
 ghost use Rattle.flat_model.specs.declared.limits.TheConstants.{MAX_BANKS};
 ghost use Rattle.station_parts.specs.Ids.{bank_id};
+ghost use Rattle.station_parts.specs.Words.{received_by};
 ghost use Rattle.ring_station.specs.declared.crew.BankRun.{BankRun};
 ghost use Rattle.ring_station.specs.Turns.{IsTurn, BankSteps};
+ghost use Rattle.ring_station.specs.PortRuns.{moves_in};
 ghost use Rattle.ring_station.specs.Ends.{goes_on, not_begun};
 ghost use Rattle.ring_station.specs.Crew.{EachServed, ServesOn, EachServesOn};
 
@@ -128,6 +130,10 @@ fn turn_of_bank<G: Gate>(
     requires { turn < u64.MAX }
     ensures on { ServesOn turn run.old run.new }
     ensures over { result ≡ None → goes_on run.new.end.fault ≡ false }
+    ensures unmoved { goes_on run.old.end.fault ≡ false → (run.new ≡ run.old) × (result ≡ None) }
+    ensures counted { goes_on run.old.end.fault ≡ true → run.new.end.turns ≡ turn + 1 }
+    ensures made { IfSome result (λ made. (goes_on run.new.end.fault ≡ true)
+        × (length (received_by run.new.bank) ≡ length (received_by run.old.bank) + moves_in made)) }
 {
     if !run.end.goes_on() {
         return None;

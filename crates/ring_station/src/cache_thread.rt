@@ -4,6 +4,7 @@ ghost use Rattle.std.specs.List.{All};
 ghost use Rattle.flat_model.specs.declared.limits.TheConstants.{MAX_BANKS};
 ghost use Rattle.station_parts.specs.Ids.{cache_id};
 ghost use Rattle.ring_station.specs.Turns.{IsTurn, SideSteps};
+ghost use Rattle.ring_station.specs.Round.{TurnsRound};
 ghost use Rattle.station_parts.specs.Words.{held_of};
 ghost use Rattle.ring_station.specs.PartRuns.{CacheRan, ends_at};
 ghost use Rattle.ring_station.specs.Crew.{EachServed};
@@ -85,10 +86,8 @@ fn go_round<
         let is_due = round.is_at_banks() || stepped != Some(Stepped::Did);
         let served = serve_beside(gate, is_due, had, own);
         had = served.turns;
-        let may = gate.may(Actor::Cache);
-        round.seek(may, cache);
         let entries = cache.entries();
-        stepped = take_turn(may, round.source(), cache);
+        stepped = turn_round(gate.may(Actor::Cache), &mut round, cache);
         open_ports = still_open(open_ports, has_ended_port(cache, entries));
         if open_ports == 0 && cache.is_at_rest() {
             done.store(true, Ordering::SeqCst);
@@ -97,10 +96,25 @@ fn go_round<
         if stepped == Some(Stepped::JournalFull) {
             return (ThreadEnd::stopped(turn + 1, ThreadFault::JournalFull), had);
         }
-        round.go_on(stepped);
         idling.end_turn(rt, turn_beside(turn_of(stepped), served.made));
     }
     (ThreadEnd::stopped(turns, ThreadFault::TurnLimit), had)
+}
+
+// Goes on to the next source of which an item is known and makes a step there, if the gate allows it: what it
+// answered, and `None` if it doesn't.
+fn turn_round<const WAYS: usize, const WORDS: usize, const REGS: usize, const DEPTH: usize>(
+    may: bool,
+    round: &mut Round,
+    cache: &mut CacheSide<WAYS, WORDS, REGS, DEPTH>,
+) -> Option<Stepped>
+    ensures same { cache_id cache.new ≡ cache_id cache.old }
+    ensures turn { TurnsRound may round.old round.new cache.old cache.new result }
+{
+    round.seek(may, cache);
+    let stepped = take_turn(may, round.source(), cache);
+    round.go_on(stepped);
+    stepped
 }
 
 // Makes a step at the source, if the gate allows it: what it answered, and `None` if it doesn't.

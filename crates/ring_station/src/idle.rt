@@ -1,5 +1,7 @@
 //! How a thread spends a turn in which it made no step.
-ghost use Rattle.std.specs.Prelude.{◌≡◌, None};
+ghost use Rattle.std.specs.Prelude.{◌≡◌, ◌*◌, min};
+ghost use Rattle.std.specs.Duration.{as_nanos};
+ghost use Rattle.ring_station.specs.Idle.{turn_of, joint_turn, turn_of_both, turn_beside, idling_from, more_turns, idling_behind};
 
 use station_parts::Stepped;
 use std::hint::spin_loop;
@@ -52,7 +54,9 @@ pub(crate) enum Turn {
 }
 
 /// What a turn came to that answered this; `None` if the gate let the part make no step.
-pub(crate) fn turn_of(stepped: Option<Stepped>) -> Turn {
+pub(crate) fn turn_of(stepped: Option<Stepped>) -> Turn
+    ensures { result ≡ turn_of stepped }
+{
     match stepped {
         None => Turn::Held,
         Some(Stepped::Did) => Turn::Moved,
@@ -63,7 +67,9 @@ pub(crate) fn turn_of(stepped: Option<Stepped>) -> Turn {
 impl Turn {
     /// What a turn of two parts that share a thread came to: a step of one is a step of both, and both are
     /// held only if each is.
-    fn with(self, other: Turn) -> Turn {
+    fn with(self, other: Turn) -> Turn
+        ensures { result ≡ joint_turn self other }
+    {
         match (self, other) {
             (Turn::Moved, _) | (_, Turn::Moved) => Turn::Moved,
             (Turn::Idle, _) | (_, Turn::Idle) => Turn::Idle,
@@ -75,7 +81,7 @@ impl Turn {
 /// What a turn of two parts that share a thread came to. `None` is for a part whose run is over, so that
 /// there is nothing to wait for.
 pub(crate) fn turn_of_both(one: Option<Turn>, other: Option<Turn>) -> Option<Turn>
-    ensures { result ≡ None → (one ≡ None) × (other ≡ None) }
+    ensures { result ≡ turn_of_both one other }
 {
     match (one, other) {
         (None, turn) | (turn, None) => turn,
@@ -84,7 +90,9 @@ pub(crate) fn turn_of_both(one: Option<Turn>, other: Option<Turn>) -> Option<Tur
 }
 
 /// What a turn came to, with that of the parts beside it, if they had one.
-pub(crate) fn turn_beside(one: Turn, other: Option<Turn>) -> Turn {
+pub(crate) fn turn_beside(one: Turn, other: Option<Turn>) -> Turn
+    ensures { result ≡ turn_beside one other }
+{
     match other {
         Some(other) => one.with(other),
         None => one,
@@ -106,7 +114,9 @@ pub(crate) struct Idling {
 
 impl Idling {
     /// Before the first turn of the cache side.
-    pub(crate) fn of_cache() -> Idling {
+    pub(crate) fn of_cache() -> Idling
+        ensures { result ≡ idling_from CACHE_TURNS_AT_ONCE CACHE_TURNS_AWAKE }
+    {
         Idling {
             held: 0,
             idle: 0,
@@ -116,7 +126,9 @@ impl Idling {
     }
 
     /// Before the first turn of a port or a bank.
-    pub(crate) fn of_side() -> Idling {
+    pub(crate) fn of_side() -> Idling
+        ensures { result ≡ idling_from 0 0 }
+    {
         Idling {
             held: 0,
             idle: 0,
@@ -126,7 +138,9 @@ impl Idling {
     }
 
     /// Ends a turn.
-    pub(crate) fn end_turn<R: Clock>(&mut self, rt: &R, turn: Turn) {
+    pub(crate) fn end_turn<R: Clock>(&mut self, rt: &R, turn: Turn)
+        ensures { self.new ≡ idling_behind turn self.old }
+    {
         match turn {
             Turn::Moved => {
                 self.held = 0;
@@ -137,7 +151,9 @@ impl Idling {
         }
     }
 
-    fn end_held<R: Clock>(&mut self, rt: &R) {
+    fn end_held<R: Clock>(&mut self, rt: &R)
+        ensures { self.new ≡ record self.old { held = more_turns self.old.held } }
+    {
         self.held = self.held.saturating_add(1);
         if self.held % HELD_TURNS_A_NAP == 0 {
             thread::sleep(rt, nap(self.held / HELD_TURNS_A_NAP));
@@ -146,7 +162,9 @@ impl Idling {
         }
     }
 
-    fn end_idle<R: Clock>(&mut self, rt: &R) {
+    fn end_idle<R: Clock>(&mut self, rt: &R)
+        ensures { self.new ≡ record self.old { idle = more_turns self.old.idle } }
+    {
         self.idle = self.idle.saturating_add(1);
         if self.idle <= self.at_once {
             return;
@@ -168,6 +186,8 @@ fn pause() {
 }
 
 // How long a thread sleeps for this time in a row.
-fn nap(time: u64) -> Duration {
+fn nap(time: u64) -> Duration
+    ensures { as_nanos result ≡ min (time * FIRST_NAP) LONGEST_NAP }
+{
     Duration::from_nanos(time.saturating_mul(FIRST_NAP).min(LONGEST_NAP))
 }

@@ -1,5 +1,5 @@
 //! The thread of a port, or of several.
-ghost use Rattle.std.specs.Prelude.{◌≡◌, ◌<◌, ◌≤◌, ◌+◌, [], List, length, true, false, Ok, IfOk, OnErr, None};
+ghost use Rattle.std.specs.Prelude.{◌≡◌, ◌<◌, ◌≤◌, ◌+◌, [], List, length, true, false, Ok, IfOk, OnErr, IfSome, None};
 ghost use Rattle.std.specs.List.{All};
 ghost use Rattle.station_journal.specs.declared.asks.Told.{Told};
 ghost use Rattle.station_parts.specs.declared.make.TheConstants.{MAX_PORTS};
@@ -79,6 +79,10 @@ fn turn_of_port<G: Gate>(
     requires ready { IsReady script.now turn run.old }
     ensures on { GoesOn script.now turn run.old run.new }
     ensures over { result ≡ None → goes_on run.new.end.fault ≡ false }
+    ensures unmoved { goes_on run.old.end.fault ≡ false → (run.new ≡ run.old) × (result ≡ None) }
+    ensures counted { goes_on run.old.end.fault ≡ true → run.new.end.turns ≡ turn + 1 }
+    ensures made { IfSome result (λ made. (goes_on run.new.end.fault ≡ true)
+        × (moves_of run.new.port ≡ moves_of run.old.port + moves_in made)) }
 {
     if !run.end.goes_on() {
         return None;

@@ -1,7 +1,9 @@
 //! The round of the cache side: its sources, one after the other.
-ghost use Rattle.std.specs.Prelude.{◌≡◌, false};
+ghost use Rattle.std.specs.Prelude.{◌≡◌, true, false};
 ghost use Rattle.station_parts.specs.Ids.{cache_id};
-ghost use Rattle.station_parts.specs.Words.{earlier_of, held_of};
+ghost use Rattle.station_parts.specs.SideState.{state_of, OnlyLooks};
+ghost use Rattle.ring_station.specs.Round.{first_round, is_at_banks, source_of, most_places, Seeks};
+ghost use Rattle.ring_station.specs.Round.{place_behind, port_behind, behind_port, round_behind, round_after};
 
 use station_parts::{CacheSide, Source, Stepped};
 
@@ -44,7 +46,9 @@ pub(crate) struct Round {
 
 impl Round {
     /// A round that begins with the first of so many ports.
-    pub(crate) fn new(ports: u32, banks: u32) -> Round {
+    pub(crate) fn new(ports: u32, banks: u32) -> Round
+        ensures { result ≡ first_round ports banks }
+    {
         Round {
             ports,
             banks,
@@ -55,12 +59,16 @@ impl Round {
     }
 
     /// Whether the round stands before the first bank.
-    pub(crate) fn is_at_banks(&self) -> bool {
+    pub(crate) fn is_at_banks(&self) -> bool
+        ensures { result ≡ is_at_banks self.now }
+    {
         !self.has_word && matches!(self.place, Place::Bank(0))
     }
 
     /// The source of the next step.
-    pub(crate) fn source(&self) -> Source {
+    pub(crate) fn source(&self) -> Source
+        ensures { result ≡ source_of self.now }
+    {
         if self.has_word {
             return Source::Stack(0);
         }
@@ -82,8 +90,8 @@ impl Round {
         const DEPTH: usize,
     >(&mut self, may: bool, cache: &mut CacheSide<WAYS, WORDS, REGS, DEPTH>)
         ensures same { cache_id cache.new ≡ cache_id cache.old }
-        ensures earlier { earlier_of cache.new ≡ earlier_of cache.old }
-        ensures held { held_of cache.new ≡ held_of cache.old }
+        ensures looks { OnlyLooks (state_of cache.old) (state_of cache.new) }
+        ensures seeks { may ≡ true → Seeks self.old self.new (state_of cache.old) (state_of cache.new) }
         ensures unmoved { may ≡ false → (cache.new ≡ cache.old) × (self.new ≡ self.old) }
     {
         if !may {
@@ -99,7 +107,9 @@ impl Round {
     }
 
     // How many places there are at most from one at which the round stands to its next time there.
-    fn most_places(&self) -> u64 {
+    fn most_places(&self) -> u64
+        ensures { result ≡ most_places self.now }
+    {
         u64::from(self.ports) + 2 * (u64::from(self.banks) + OTHER_SOURCES)
     }
 
@@ -109,8 +119,7 @@ impl Round {
         cache: &mut CacheSide<WAYS, WORDS, REGS, DEPTH>,
     )
         ensures same { cache_id cache.new ≡ cache_id cache.old }
-        ensures earlier { earlier_of cache.new ≡ earlier_of cache.old }
-        ensures held { held_of cache.new ≡ held_of cache.old }
+        ensures looks { OnlyLooks (state_of cache.old) (state_of cache.new) }
     {
         match self.place {
             Place::Ports if self.port == 0 => cache.look_for_asks(),
@@ -120,14 +129,18 @@ impl Round {
     }
 
     /// Goes on behind a step of that source; if there was none, it stays where it is.
-    pub(crate) fn go_on(&mut self, stepped: Option<Stepped>) {
+    pub(crate) fn go_on(&mut self, stepped: Option<Stepped>)
+        ensures { self.new ≡ round_after stepped self.old }
+    {
         if let Some(stepped) = stepped {
             self.go_on_behind(stepped == Stepped::Did);
         }
     }
 
     // Goes on behind a step that did something, or behind none or one that found nothing.
-    fn go_on_behind(&mut self, did: bool) {
+    fn go_on_behind(&mut self, did: bool)
+        ensures { self.new ≡ round_behind did self.old }
+    {
         if self.has_word {
             self.has_word = false;
             return;
@@ -144,7 +157,10 @@ impl Round {
     }
 
     // Goes on from a port that was asked, or had nothing to ask.
-    fn leave_port(&mut self, did: bool) {
+    fn leave_port(&mut self, did: bool)
+        requires { self.old.place ≡ Place.Ports }
+        ensures { self.new ≡ behind_port did (port_behind self.old.ports self.old.port) self.old }
+    {
         let next = self.port.saturating_add(1);
         self.port = if next < self.ports { next } else { 0 };
         if did || self.port == 0 {
@@ -152,7 +168,9 @@ impl Round {
         }
     }
 
-    fn place_behind(&self, place: Place) -> Place {
+    fn place_behind(&self, place: Place) -> Place
+        ensures { result ≡ place_behind self.now.banks place }
+    {
         match place {
             Place::Bank(bank) if bank < self.banks.saturating_sub(1) => Place::Bank(bank + 1),
             Place::Bank(_) => Place::Stack,

@@ -1,5 +1,6 @@
 //! The threads of a run: one for the cache side, and as many for the ports and the banks as their crew says.
-ghost use Rattle.std.specs.Prelude.{◌≡◌, ◌<◌, ◌≤◌, ◌+◌, length, vec_len};
+ghost use Rattle.std.specs.Prelude.{◌≡◌, ◌≤◌, ◌+◌, max, length, vec_len};
+ghost use Rattle.std.specs.Int.{div_ceil};
 ghost use Rattle.std.specs.List.{All};
 ghost use Rattle.std.specs.Thread.{IsSync};
 ghost use Rattle.station_parts.specs.declared.make.TheConstants.{MAX_PORTS};
@@ -157,7 +158,7 @@ fn run_banks<R: Clock + Threads + Sync, G: Gate>(
 
 // How many of these parts a thread has, if they share so many.
 fn parts_a_thread(parts: usize, threads: usize) -> usize
-    ensures { 0 < result }
+    ensures { result ≡ max (div_ceil parts (max threads 1)) 1 }
 {
     parts.div_ceil(threads.max(1)).max(1)
 }

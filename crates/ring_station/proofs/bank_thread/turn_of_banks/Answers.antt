@@ -1,7 +1,7 @@
-use Rattle.std.proofs.Common.{◌≡◌, ◌<◌, false, length, rules, arith}
+use Rattle.std.proofs.Common.{◌≡◌, ◌<◌, false, length, rules, arith, sym, ◌∙◌}
 use Rattle.ring_station.specs.Crew.{ServesOn}
 use Rattle.ring_station.specs.Ends.{goes_on}
-use Rattle.ring_station.proofs.Sharing.{no_turns, one_turn, one_more}
+use Rattle.ring_station.proofs.Sharing.{no_turns, one_turn, one_more, both_none}
 use Rattle.ring_station.proofs.bank_thread.turn_of_banks.Goals as goal
 
 pub loop-k-init : goal.loop-k-init
@@ -16,7 +16,7 @@ loop-k-preserved g c =
       turns = one_turn (λ j old new. ServesOn c.args.turn old new) k c.args.runs.now now _ _ less c.turn_of_bank-made.ensures.on
           c.loop-k.invariant.turns;
       over = λ none.
-          let both = c.turn_of_both-all.ensures none in
+          let both = both_none _ _ (sym c.turn_of_both-all.ensures ∙ none) in
           one_more (λ r. goes_on r.end.fault ≡ false) k now _ less (c.loop-k.invariant.over both.0)
           (c.turn_of_bank-made.ensures.over both.1);
     }

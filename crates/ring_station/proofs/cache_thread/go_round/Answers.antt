@@ -1,41 +1,46 @@
-use Rattle.std.proofs.Common.{rules, arith, ◌∙◌, lit<}
+use Rattle.std.proofs.Common.{rules, arith, length, sym, ap, ◌∙◌, lit<}
 use Rattle.ring_station.proofs.Turning.{turn_notes, noted_more, noted_still, ended_more, ended_still, cache_ran, is_served, full_turn}
 use Rattle.ring_station.proofs.cache_thread.go_round.Goals as goal
 
 pub loop-turn-preserved : goal.loop-turn-preserved
 loop-turn-preserved g c =
-    let notes = turn_notes _ _ _ _ _ c.take_turn-stepped.ensures.turn in
+    let made = c.turn_round-stepped.ensures.turn in
+    let notes = turn_notes _ _ _ _ _ made.turn in
+    let place = c.entries-entries.ensures ∙ ap length (sym made.looks.held) in
     record {
-      same = c.take_turn-stepped.ensures.same ∙ c.seek.ensures.same ∙ c.loop-turn.invariant.same;
-      earlier = notes.earlier ∙ c.seek.ensures.earlier ∙ c.loop-turn.invariant.earlier;
-      noted = noted_more _ _ _ _ notes (noted_still _ _ _ _ c.seek.ensures.held c.loop-turn.invariant.noted);
+      same = c.turn_round-stepped.ensures.same ∙ c.loop-turn.invariant.same;
+      earlier = notes.earlier ∙ made.looks.earlier ∙ c.loop-turn.invariant.earlier;
+      noted = noted_more _ _ _ _ notes (noted_still _ _ _ _ made.looks.held c.loop-turn.invariant.noted);
       banks = c.serve_beside-served.ensures.on _ c.loop-turn.invariant.banks;
       within = let more = c.serve_beside-served.ensures.within in let before = c.loop-turn.invariant.within in omega arith;
-      ended = ended_more _ _ _ _ _ _ _ notes c.entries-entries.ensures c.has_ended_port.ensures c.still_open-open_ports.ensures
-          (ended_still _ _ _ _ c.seek.ensures.held c.loop-turn.invariant.ended);
+      ended = ended_more _ _ _ _ _ _ _ notes place c.has_ended_port.ensures c.still_open-open_ports.ensures
+          (ended_still _ _ _ _ made.looks.held c.loop-turn.invariant.ended);
     }
 
 pub returns-then-is_at_rest-clause-cache : goal.returns-then-is_at_rest-clause-cache
 returns-then-is_at_rest-clause-cache g c =
-    let notes = turn_notes _ _ _ _ _ c.take_turn-stepped.ensures.turn in
+    let made = c.turn_round-stepped.ensures.turn in
+    let notes = turn_notes _ _ _ _ _ made.turn in
+    let place = c.entries-entries.ensures ∙ ap length (sym made.looks.held) in
     cache_ran _ _ _ _ _ _ _ c.over.ensures (search rules) (
       search rules,
       is_served _ _ _ c.still_open-open_ports.result _ (search rules) c.is_at_rest.ensures c.if-is_at_rest.true
-          (ended_more _ _ _ _ _ _ _ notes c.entries-entries.ensures c.has_ended_port.ensures c.still_open-open_ports.ensures
-          (ended_still _ _ _ _ c.seek.ensures.held c.loop-turn.invariant.ended)),
+          (ended_more _ _ _ _ _ _ _ notes place c.has_ended_port.ensures c.still_open-open_ports.ensures
+          (ended_still _ _ _ _ made.looks.held c.loop-turn.invariant.ended)),
     )
-    (c.take_turn-stepped.ensures.same ∙ c.seek.ensures.same ∙ c.loop-turn.invariant.same)
-    (notes.earlier ∙ c.seek.ensures.earlier ∙ c.loop-turn.invariant.earlier)
-    (noted_more _ _ _ _ notes (noted_still _ _ _ _ c.seek.ensures.held c.loop-turn.invariant.noted))
+    (c.turn_round-stepped.ensures.same ∙ c.loop-turn.invariant.same)
+    (notes.earlier ∙ made.looks.earlier ∙ c.loop-turn.invariant.earlier)
+    (noted_more _ _ _ _ notes (noted_still _ _ _ _ made.looks.held c.loop-turn.invariant.noted))
 
 pub returns-then-eq-clause-cache : goal.returns-then-eq-clause-cache
 returns-then-eq-clause-cache g c =
-    let notes = turn_notes _ _ _ _ _ c.take_turn-stepped.ensures.turn in
+    let made = c.turn_round-stepped.ensures.turn in
+    let notes = turn_notes _ _ _ _ _ made.turn in
     cache_ran _ _ _ _ _ _ _ c.stopped.ensures (search rules)
-    (full_turn _ _ _ _ _ c.take_turn-stepped.ensures.turn (search rules))
-    (c.take_turn-stepped.ensures.same ∙ c.seek.ensures.same ∙ c.loop-turn.invariant.same)
-    (notes.earlier ∙ c.seek.ensures.earlier ∙ c.loop-turn.invariant.earlier)
-    (noted_more _ _ _ _ notes (noted_still _ _ _ _ c.seek.ensures.held c.loop-turn.invariant.noted))
+    (full_turn _ _ _ _ _ made.turn (search rules))
+    (c.turn_round-stepped.ensures.same ∙ c.loop-turn.invariant.same)
+    (notes.earlier ∙ made.looks.earlier ∙ c.loop-turn.invariant.earlier)
+    (noted_more _ _ _ _ notes (noted_still _ _ _ _ made.looks.held c.loop-turn.invariant.noted))
 
 pub returns-then-is_at_rest-clause-banks : goal.returns-then-is_at_rest-clause-banks
 returns-then-is_at_rest-clause-banks g c = c.serve_beside-served.ensures.on _ c.loop-turn.invariant.banks
@@ -54,8 +59,8 @@ returns-then-eq-clause-within g c =
 pub entries-entries-requires : goal.entries-entries-requires
 entries-entries-requires g c = lit< tt
 
-pub take_turn-stepped-requires : goal.take_turn-stepped-requires
-take_turn-stepped-requires g c = lit< tt
+pub turn_round-stepped-requires : goal.turn_round-stepped-requires
+turn_round-stepped-requires g c = lit< tt
 
 pub has_ended_port-requires : goal.has_ended_port-requires
 has_ended_port-requires g c = lit< tt

@@ -1,9 +1,9 @@
-use Rattle.std.proofs.Common.{◌≡◌, ◌<◌, ◌+◌, false, length, slice_index_or, rules, arith, ◌∙◌, ap}
+use Rattle.std.proofs.Common.{◌≡◌, ◌<◌, ◌+◌, false, length, slice_index_or, rules, arith, ◌∙◌, ap, sym}
 use Rattle.std.specs.Global.{Vec}
 use Rattle.station_journal.specs.declared.asks.Ask.{Ask}
 use Rattle.ring_station.specs.Crew.{GoesOn}
 use Rattle.ring_station.specs.Ends.{goes_on}
-use Rattle.ring_station.proofs.Sharing.{no_turns, one_turn, one_more}
+use Rattle.ring_station.proofs.Sharing.{no_turns, one_turn, one_more, both_none}
 use Rattle.ring_station.proofs.CrewRunning.{ready_now, goes_on_at}
 use Rattle.ring_station.proofs.port_thread.turn_of_ports.Goals as goal
 
@@ -29,7 +29,7 @@ loop-k-preserved g c =
           (c.as_slice.ensures.value ∙ ap (λ (v : Vec Ask). v.items) c.index-scripts-p.is) (search rules) c.turn_of_port-made.ensures.on)
           c.loop-k.invariant.turns;
       over = λ none.
-          let both = c.turn_of_both-all.ensures none in
+          let both = both_none _ _ (sym c.turn_of_both-all.ensures ∙ none) in
           one_more (λ r. goes_on r.end.fault ≡ false) k now _ less (c.loop-k.invariant.over both.0)
           (c.turn_of_port-made.ensures.over both.1);
     }

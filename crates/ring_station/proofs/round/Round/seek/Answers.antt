@@ -1,0 +1,25 @@
+use Rattle.std.proofs.Common.{◌≡◌, ◌+◌, false, sym, ap, ◌∙◌, add-one, below_more, subst}
+use Rattle.station_parts.specs.SideState.{state_of}
+use Rattle.station_parts.specs.SideSteps.{has_item}
+use Rattle.ring_station.specs.Round.{passed, source_of, round_behind}
+use Rattle.ring_station.proofs.Rounding.{looks_more, unknown_before}
+use Rattle.ring_station.proofs.round.Round.seek.Goals as goal
+
+pub returns-then-has_item-clause-looks : goal.returns-then-has_item-clause-looks
+returns-then-has_item-clause-looks g c = looks_more _ _ _ c.loop-place.invariant.looks c.look.ensures.looks
+
+pub loop-place-preserved : goal.loop-place-preserved
+loop-place-preserved g c =
+    let before = c.loop-place.invariant in
+    let first = c.args.self.now in
+    let looks = looks_more _ _ _ before.looks c.look.ensures.looks in
+    let here = c.source.ensures ∙ ap source_of before.passed_is in
+    let none = sym c.has_item.ensures ∙ c.if-has_item.false in
+    record {
+      same = c.look.ensures.same ∙ before.same;
+      looks = looks;
+      passed_is = c.go_on_behind.ensures ∙ ap (round_behind false) before.passed_is
+          ∙ ap (λ k. passed k first) (sym (add-one c.loop-place._place));
+      unknown = below_more (λ k. has_item (source_of (passed k first)) (state_of c.args.cache.now) ≡ false) c.loop-place._place
+          before.unknown (unknown_before _ _ _ looks (subst (λ s. has_item s (state_of c.look.new.cache) ≡ false) here none));
+    }
