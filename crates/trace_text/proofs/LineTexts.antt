@@ -69,7 +69,7 @@ good_line {f = f} {most = most} {bytes = bytes} {text = text} {texts = texts} p 
 
 -- ---- bytes one by one
 
-one_more : (before bytes : List ℕ) (i b : ℕ) → i < length bytes → b ≡ get_or bytes i 0
+pub one_more : (before bytes : List ℕ) (i b : ℕ) → i < length bytes → b ≡ get_or bytes i 0
     → (before ++ take i bytes) ++ b ∷ [] ≡ before ++ take (i + 1) bytes
 one_more before bytes i b lt is =
     append_assoc before (take i bytes) (b ∷ []) ∙ ap (λ x. before ++ (take i bytes ++ x ∷ [])) is
