@@ -25,12 +25,12 @@ use Rattle.atomic_histories.specs.Law.{unit_at, may_answer_store, done_store}
 use Rattle.atomic_histories.specs.Pasts.{Past, Stood, stood, begins, after, got, missed, oldest, earlier, cut_for, overwritten}
 use Rattle.atomic_histories.specs.Branches.{gives, may_come_in, may_come}
 use Rattle.atomic_histories.specs.Followed.{Pair, Ways, Aim, first_ways, has_way, effect_aim, word_aim, pair_after}
-use Rattle.atomic_histories.specs.Followed.{out_after, met, found}
+use Rattle.atomic_histories.specs.Followed.{out_after, met, found, is_over, needs_more, load_needs_more, needs_too_many, ways_after}
 use Rattle.atomic_histories.specs.Followed.{is_under, loads_without, moment_with, pair_missed, gathered}
 use Rattle.atomic_histories.specs.Followed.{with_hope, answered_load, answered_store, ways_without_load}
-use Rattle.atomic_histories.specs.Held.{Held, covered, units_of}
+use Rattle.atomic_histories.specs.Held.{Held, covered, units_of, is_without, is_stuck, is_over_at, first_halt}
 use Rattle.atomic_histories.specs.Judge.{bytes_of, kept_or, kept_at, words_of, IsTaken}
-use Rattle.atomic_histories.specs.Shown.{past_at, past_of, pasts}
+use Rattle.atomic_histories.specs.Shown.{past_at, past_of, pasts, shown, shown_all}
 use Rattle.atomic_histories.proofs.Shares.{stands}
 use Rattle.atomic_histories.proofs.Lists.{always_all}
 use Rattle.atomic_histories.proofs.Lanes.{word_lane, none_asked}
@@ -61,6 +61,41 @@ found_next : (loads : List WatchedLoad) (moment : ℕ) (aim : Aim) (e : Pair) (s
     → aim.hope (pair_after (overwritten loads moment e.word e.past) e [] s []) ≡ true
     → found loads moment aim [] (e ∷ []) ≡ pair_after (overwritten loads moment e.word e.past) e [] s [] ∷ []
 found_next loads moment aim e s one open_ f t hope = grind arith
+
+-- No search follows more than one pair at a time. ----
+
+over_alone : (limit : ℕ) (loads : List WatchedLoad) (moment n : ℕ) (aim : Aim) (e : Pair) → 0 < limit
+    → is_over limit loads moment n aim (e ∷ []) [] ≡ false
+over_alone limit loads moment zero aim e l = refl
+over_alone limit loads moment (suc n) aim e l = grind (arith, over_alone limit loads moment n aim e l)
+
+few_here : (limit : ℕ) (loads : List WatchedLoad) (moment : ℕ) (aim : Aim) (e : Pair) → 0 < limit → aim.goal e ≡ true
+    → needs_more limit loads moment aim [] (e ∷ []) ≡ false
+few_here limit loads moment aim e l t = grind (arith, aim.hope, out_here, aim.goal, over_alone)
+
+few_next : (limit : ℕ) (loads : List WatchedLoad) (moment : ℕ) (aim : Aim) (e : Pair) (s : OpenStore) → 0 < limit → e.stores ≡ s ∷ []
+    → aim.goal e ≡ false → needs_more limit loads moment aim [] (e ∷ []) ≡ false
+few_next limit loads moment aim e s l one f = grind arith
+
+-- a store that has taken effect, or the one of a pair that takes effect
+pub few_effects : (limit number : ℕ) (u : Ways) (e : Pair) → 0 < limit → u.pairs ≡ e ∷ [] → may_answer_store number e.stores ≡ true
+    → needs_more limit u.loads u.moment (effect_aim number) [] u.pairs ≡ false
+few_effects limit number u e l one t =
+    ap (needs_more limit u.loads u.moment (effect_aim number) []) one ∙ few_here limit u.loads u.moment (effect_aim number) e l t
+
+pub few_last : (limit number : ℕ) (loads : List WatchedLoad) (moment : ℕ) (ss : List Stretch) (ps : List FollowedPair) → length ps ≡ 1
+    → ((d : FollowedPair) → length (get_or ps 0 d).stores.items ≡ 1)
+    → ((d : FollowedPair) → may_answer_store number (get_or ps 0 d).stores.items ≡ false)
+    → 0 < limit → needs_more limit loads moment (effect_aim number) [] (shown_all ss ps) ≡ false
+few_last limit number loads moment ss [] h one waits l = grind arith
+few_last limit number loads moment ss (p ∷ []) h one waits l = go p.stores.items refl (one p)
+  where
+    go : (xs : List OpenStore) → p.stores.items ≡ xs → length p.stores.items ≡ 1
+        → needs_more limit loads moment (effect_aim number) [] (shown ss p ∷ []) ≡ false
+    go [] e n = grind arith
+    go (x ∷ []) e n = few_next limit loads moment (effect_aim number) (shown ss p) x l e (waits p)
+    go (x ∷ y ∷ xs) e n = grind arith
+few_last limit number loads moment ss (p ∷ q ∷ ps) h one waits l = grind arith
 
 -- Hope for the word that a store makes. ----
 
@@ -143,6 +178,22 @@ load_next unit bytes l u e s one store open_ past f t =
     let missed_ : with_hope aim (gathered (pair_missed unit bytes l) u.pairs) ≡ e ∷ [] = rw (one, f, past, hope) refl in
     ap₂ (found u.loads u.moment aim) got_ missed_
     ∙ found_next u.loads u.moment aim e s store open_ f t (word_hope unit l.address bytes on.word on.stores t)
+
+pub few_load : (limit : ℕ) (unit : UnitPlace) (bytes : List ℕ) (l : WatchedLoad) (u : Ways) (e : Pair) (s : OpenStore) → 0 < limit
+    → u.pairs ≡ e ∷ [] → e.stores ≡ s ∷ [] → e.past ≡ begins → is_word_of unit.first e.word l.address bytes ≡ false
+    → load_needs_more limit unit bytes (Some l) u ≡ false
+few_load limit unit bytes l u e s some one store past f =
+    let aim = word_aim unit l.address bytes in
+    let got_ : gathered _ u.pairs ≡ [] = rw (one, f, past) refl in
+    let missed_ : gathered (pair_missed unit bytes l) u.pairs ≡ e ∷ [] = rw (one, f, past) refl in
+    elim (cases_Bool (aim.hope e)) [
+      | inl hope ↦
+          let left : with_hope aim (gathered (pair_missed unit bytes l) u.pairs) ≡ e ∷ [] = rw (missed_, hope) refl in
+          ap₂ (needs_more limit u.loads u.moment aim) got_ left ∙ few_next limit u.loads u.moment aim e s some store f
+      | inr none ↦
+          let left : with_hope aim (gathered (pair_missed unit bytes l) u.pairs) ≡ [] = rw (missed_, none) refl in
+          ap (needs_more limit u.loads u.moment aim (gathered _ u.pairs)) left
+    ]
 
 -- What an open load may ask for, once another is answered. ----
 
@@ -270,6 +321,27 @@ taken_at (Ok true) image rest size opened event f g number here one taken words 
     one_taken _ _ event number here one
     (taken (first_ways image rest (unit_at size number)))
     (λ k n. ap (λ x. kept_or x (first_ways image rest (unit_at size k))) (others k n)) refl refl refl refl
+
+-- and it halted nowhere
+one_halt : (limit : ℕ) (h : Held) (event : HistoryEvent) (number : ℕ) → number ≡ (covered h.opened event).0 / h.size
+    → units_of h.size (covered h.opened event).0 (covered h.opened event).1 ≡ 1
+    → is_stuck h event number ≡ false → is_over_at limit h event number ≡ false → first_halt limit h event ≡ None
+one_halt limit h event number here one stuck over = grind arith
+
+pub not_halted_at : {E : Type 0} (r : Result Bool E) (limit : ℕ) (image : List ℕ) (rest : Rest) (size : ℕ) (opened : Opened)
+    (event : HistoryEvent) (f g : ℕ → Option KeptUnit) (number : ℕ) (place : UnitPlace) → place ≡ unit_at size number
+    → number ≡ (covered opened event).0 / size
+    → units_of size (covered opened event).0 (covered opened event).1 ≡ 1
+    → IfOk r (λ taken. (first : Ways) → IsUnitTaken place event (kept_or (f number) first) (kept_or (g number) first) taken)
+    → IfOk r (λ taken. taken ≡ true → (first : Ways) → needs_too_many limit place (kept_or (f number) first) event ≡ false)
+    → IfOk r (λ taken. taken ≡ true → first_halt limit (kept image rest size opened f) event ≡ None)
+not_halted_at (Err e) limit image rest size opened event f g number place at_ here one taken few = tt
+not_halted_at (Ok false) limit image rest size opened event f g number place at_ here one taken few = λ t. cc
+not_halted_at (Ok true) limit image rest size opened event f g number place at_ here one taken few = λ t.
+    let u : Ways = kept_or (f number) (first_ways image rest (unit_at size number)) in
+    one_halt limit (kept image rest size opened f) event number here one
+    (subst (λ p. is_without u (ways_after p u event) ≡ false) at_ (taken (first_ways image rest (unit_at size number))).1)
+    (subst (λ p. needs_too_many limit p u event ≡ false) at_ (few refl (first_ways image rest (unit_at size number))))
 
 pub untaken_at : {E : Type 0} (r : Result Bool E) (image : List ℕ) (rest : Rest) (size : ℕ) (opened : Opened) (f g : ℕ → Option KeptUnit)
     (number : ℕ) → OnErr r ((first : Ways) → kept_or (g number) first ≡ kept_or (f number) first)

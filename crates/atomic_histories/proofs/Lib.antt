@@ -31,4 +31,5 @@ pub mod Steps
 pub mod Verdict
 pub mod Whole
 pub mod Wide
+pub mod Told
 pub mod Worked

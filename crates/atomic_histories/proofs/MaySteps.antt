@@ -2,7 +2,7 @@
 use Rattle.std.proofs.Common.{◌≡◌, ℕ, zero, suc, ◌+◌, ◌-◌, ◌/◌, ◌%◌, ◌<◌, List, [], ◌∷◌, ◌++◌, length}
 use Rattle.std.proofs.Common.{Option, None, refl, ◌∙◌, arith, Some}
 use Rattle.std.specs.List.{find}
-use Rattle.std.proofs.lemmas.Bool.{lt-ltb, or_right}
+use Rattle.std.proofs.lemmas.Bool.{lt-ltb}
 use Rattle.memory_histories.specs.declared.sets.ByteSet.{ByteSet}
 use Rattle.memory_histories.specs.declared.events.Rest.{Rest}
 use Rattle.memory_histories.specs.Sets.{no_bytes, all_bytes}
@@ -18,10 +18,10 @@ use Rattle.atomic_histories.specs.declared.memory.AtomicFault.{AtomicFault}
 use Rattle.atomic_histories.specs.declared.memory.AtomicFault.TheVariants.{Refused, Undecided, OutOfMemory}
 use Rattle.atomic_histories.specs.declared.search.Stop.{Stop}
 use Rattle.atomic_histories.specs.declared.search.Stop.TheVariants.{TooManyWays, NoMemory}
-use Rattle.atomic_histories.specs.Followed.{Ways, first_ways, rounds, is_under}
+use Rattle.atomic_histories.specs.Followed.{first_ways, is_under}
 use Rattle.atomic_histories.specs.Held.{Held}
 use Rattle.atomic_histories.specs.Judge.{bytes_of, fault_of, kept_or}
-use Rattle.atomic_histories.specs.May.{IsSet, is_shown, reached, may_get, may_get_at, address_of, AreSetsFrom, is_reach_over, is_reach_wide}
+use Rattle.atomic_histories.specs.May.{IsSet, is_shown, reached, may_get, may_get_at, address_of, AreSetsFrom, is_reach_wide}
 use Rattle.atomic_histories.specs.May.{IsWideByte, IsWideLoad, IsNoVerdict}
 use Rattle.atomic_histories.specs.Shown.{shown_all, StopIs}
 
@@ -77,7 +77,7 @@ one_set_more h number a i sets set r s = grind (arith, sets_pushed)
 
 -- a search that was stopped at the unit in which a byte lies
 pub stopped_set : (limit : ℕ) (h : Held) (a : ℕ) (stop : Stop)
-    → StopIs (is_reach_wide limit (h.words (a / h.size)) (h.units (a / h.size))) stop
+    → StopIs (is_reach_wide limit (h.units (a / h.size))) stop
     → IsNoVerdict (IsWideByte limit h a) (fault_of stop (a - a % h.size))
 stopped_set limit h a TooManyWays w = grind arith
 stopped_set limit h a NoMemory w = tt
@@ -87,10 +87,3 @@ pub no_set : (fault : AtomicFault) (limit : ℕ) (h : Held) (a n i : ℕ) → i 
 no_set (Refused cause) limit h a n i l f = f
 no_set (Undecided address) limit h a n i l f = (i, l, f)
 no_set OutOfMemory limit h a n i l f = tt
-
--- a search among those that ways lead to is stopped by the limit alone
-pub reach_wide : (limit words : ℕ) (u : Ways) (stop : Stop) → StopIs (is_reach_over limit u.loads u.moment (rounds u.pairs) u.pairs) stop
-    → StopIs (is_reach_wide limit words u) stop
-reach_wide limit words u TooManyWays w =
-    or_right _ _ w
-reach_wide limit words u NoMemory w = tt

@@ -1,5 +1,5 @@
 -- The pairs on whose ways a load may have got its answer, and the others: what is gathered of them one by one.
-use Rattle.std.proofs.Common.{◌≡◌, ℕ, zero, suc, ◌+◌, ◌<◌, Result, Ok, Err, IfOk, IfErr, IsErrAnd, true, false, List, [], ◌∷◌, ◌++◌}
+use Rattle.std.proofs.Common.{◌≡◌, ℕ, zero, suc, ◌+◌, ◌<◌, Result, Ok, Err, IfErr, IsErrAnd, true, false, List, [], ◌∷◌, ◌++◌}
 use Rattle.std.proofs.Common.{filter, length, drop, get_or, Option, refl, sym, ap, ◌∙◌, subst, append_assoc, add-one, drop-cons}
 use Rattle.std.proofs.Common.{arith}
 use Rattle.atomic_histories.specs.declared.unit.UnitPlace.{UnitPlace}
@@ -8,16 +8,15 @@ use Rattle.atomic_histories.specs.declared.stretches.Before.{Before}
 use Rattle.atomic_histories.specs.declared.stretches.Stretch.{Stretch}
 use Rattle.atomic_histories.specs.declared.pairs.FollowedPair.{FollowedPair}
 use Rattle.atomic_histories.specs.declared.splits.Split.{Split}
-use Rattle.atomic_histories.specs.declared.search.Stop.{Stop}
 use Rattle.atomic_histories.specs.Words.{is_word_of}
 use Rattle.atomic_histories.specs.Pasts.{got, missed}
 use Rattle.atomic_histories.specs.Branches.{may_come}
-use Rattle.atomic_histories.specs.Followed.{Pair, Aim, found, needs_more, word_aim, is_answer, cons_any, pair_on, pair_missed, gathered}
+use Rattle.atomic_histories.specs.Followed.{Pair, Aim, word_aim, is_answer, cons_any, pair_on, pair_missed, gathered}
 use Rattle.atomic_histories.specs.Followed.{with_hope}
 use Rattle.atomic_histories.specs.Stands.{Each}
 use Rattle.atomic_histories.specs.Shares.{got_of, missed_of, past_any, IsShare}
 use Rattle.atomic_histories.specs.Parts.{IsPart, AreParts}
-use Rattle.atomic_histories.specs.Shown.{past_at, pasts, shown, shown_all, IsIn, AreIn, Grows, StopIs}
+use Rattle.atomic_histories.specs.Shown.{past_at, pasts, shown, shown_all, IsIn, AreIn, Grows}
 use Rattle.atomic_histories.proofs.Frames.{in_grown, past_grown}
 
 pub each_nth : {X : Type 0} (P : X → Type 0) (xs : List X) (i : ℕ) (d : X) → i < length xs → Each P xs → P (get_or xs i d)
@@ -83,16 +82,10 @@ are_parts unit bytes l ss ts s g a b (p ∷ ps) h = (here, are_parts unit bytes 
       missed = subst (λ x. IsShare ts (missed_of s p.past) (missed (is_answer unit l.address l.since bytes) x)) same (b p.past h.0);
     }
 
--- what is found from the same pairs, with the same loads open
-pub found_same : {A E : Type 0} (r : Result A E) (shows : A → List Pair) (ks ls : List WatchedLoad) (moment : ℕ) (aim : Aim)
-    (as_ bs cs ds : List Pair)
-    → ks ≡ ls → as_ ≡ bs → cs ≡ ds → IfOk r (λ x. shows x ≡ found ks moment aim as_ cs) → IfOk r (λ x. shows x ≡ found ls moment aim bs ds)
-found_same r shows ks ls moment aim as_ bs cs ds e f g h = grind arith
-
-pub stop_same : {A : Type 0} (r : Result A Stop) (limit : ℕ) (ks ls : List WatchedLoad) (moment : ℕ) (aim : Aim) (as_ bs cs ds : List Pair)
-    → ks ≡ ls → as_ ≡ bs → cs ≡ ds → IfErr r (StopIs (needs_more limit ks moment aim as_ cs))
-    → IfErr r (StopIs (needs_more limit ls moment aim bs ds))
-stop_same r limit ks ls moment aim as_ bs cs ds e f g h = grind arith
+-- what is said of loads and pairs is said of the same
+pub said_of : {L A B : Type 0} (P : L → A → B → Type 0) (ks ls : L) (as_ bs : A) (cs ds : B)
+    → ks ≡ ls → as_ ≡ bs → cs ≡ ds → P ks as_ cs → P ls bs ds
+said_of P ks ls as_ bs cs ds e f g h = grind arith
 
 -- what is said of an error that is passed on
 pub pass_on : {A E : Type 0} (r : Result A E) (e : E) (P : E → Type 0) → IsErrAnd r (λ f. f ≡ e) → P e → IfErr r P

@@ -1,26 +1,32 @@
 -- The units that bytes lie in, and steps of the loops over units.
-use Rattle.std.proofs.Common.{◌≡◌, ℕ, zero, suc, ◌+◌, ◌-◌, ◌*◌, ◌/◌, ◌<◌, ◌≤◌, true, false, ◌&&◌, ◌==◌, if◌then◌else◌, nat_lt, nat_le, List}
-use Rattle.std.proofs.Common.{[], ◌∷◌, ◌++◌, map, length, Option, None, Some, inl, inr, refl, sym, ap, ◌∙◌, ne_eqb, eq-eqb}
-use Rattle.std.proofs.Common.{append_assoc, arith}
-use Rattle.std.proofs.lemmas.Bool.{cases_Bool, cases_eq, cases_lt, and_from, lt-ltb, le-ltb, lt-leb, le-leb}
+use Rattle.std.proofs.Common.{◌≡◌, ℕ, zero, suc, ◌+◌, ◌-◌, ◌*◌, ◌/◌, ◌<◌, ◌≤◌, true, false, ◌&&◌, ◌||◌, ◌==◌, if◌then◌else◌}
+use Rattle.std.proofs.Common.{nat_lt, nat_le, List, [], ◌∷◌, ◌++◌, map, length, Option, None, Some, inl, inr, refl, sym, ap, ◌∙◌}
+use Rattle.std.proofs.Common.{ne_eqb, eq-eqb, append_assoc, ltb-true, arith, ◌⊎◌, Result, Ok, Err, IfErr}
+use Rattle.std.proofs.lemmas.Bool.{cases_Bool, cases_eq, cases_lt, and_from, and_parts, or_cases, or_left, or_right}
+use Rattle.std.proofs.lemmas.Bool.{lt-ltb, le-ltb, lt-leb, le-leb}
 use Rattle.std.proofs.lemmas.List.{map-append}
 use Rattle.memory_histories.specs.declared.events.HistoryEvent.{HistoryEvent}
+use Rattle.memory_histories.specs.declared.events.HistoryEvent.TheVariants.{LoadRequest, LoadResponse, StoreRequest, StoreResponse}
 use Rattle.memory_histories.specs.declared.events.Rest.{Rest}
 use Rattle.atomic_histories.specs.declared.kept.KeptUnit.{KeptUnit}
 use Rattle.atomic_histories.specs.declared.memory.UnitSize.{UnitSize}
 use Rattle.atomic_histories.specs.declared.memory.UnitSize.TheVariants.{One, Two, Four, Eight}
 use Rattle.atomic_histories.specs.declared.memory.AtomicFault.{AtomicFault}
 use Rattle.atomic_histories.specs.declared.memory.AtomicFault.TheVariants.{Refused, Undecided, OutOfMemory}
+use Rattle.atomic_histories.specs.declared.search.TheConstants.{MOST_WORDS}
+use Rattle.atomic_histories.specs.Operations.{form_fault}
 use Rattle.atomic_histories.specs.Law.{unit_at}
-use Rattle.atomic_histories.specs.Followed.{Ways, no_ways, first_ways, is_too_wide}
+use Rattle.atomic_histories.specs.Followed.{Ways, no_ways, first_ways, needs_too_many, is_too_wide}
 use Rattle.atomic_histories.specs.Held.{Held, covered, unit_after, units_of, changed, ways_from, is_stuck, stuck_from}
+use Rattle.atomic_histories.specs.Held.{is_over_at, halt_from}
 use Rattle.atomic_histories.specs.declared.unit.UnitPlace.{UnitPlace}
 use Rattle.atomic_histories.specs.Shown.{shown_unit, words_in, StopIs}
 use Rattle.atomic_histories.specs.declared.search.Stop.{Stop}
 use Rattle.atomic_histories.specs.declared.search.Stop.TheVariants.{TooManyWays, NoMemory}
 use Rattle.atomic_histories.specs.declared.unit.Operation.{Operation}
 use Rattle.atomic_histories.specs.Judge.{bytes_of, fault_of, ChangedFaultIs, kept_or, kept_at, words_of, put_from, UnitFaultIs}
-use Rattle.atomic_histories.specs.Judge.{ChangeFaultIs}
+use Rattle.atomic_histories.specs.Judge.{ChangeFaultIs, KeptFaultIs}
+use Rattle.atomic_histories.specs.Told.{HaltIs}
 
 pub units_fit : (size : UnitSize) (a n : ℕ) → a < 18446744073709551616
     → (a / bytes_of size + units_of (bytes_of size) a n) * bytes_of size ≤ 18446744073709551616
@@ -77,6 +83,53 @@ pub fault_at : (fault : AtomicFault) (limit : ℕ) (h : Held) (event : HistoryEv
 fault_at (Refused cause) limit h event from count j l same f = grind (arith, stuck_here)
 fault_at (Undecided address) limit h event from count j l same f = (from + j, omega arith, omega arith, f.0, f.1)
 fault_at OutOfMemory limit h event from count j l same f = tt
+
+-- what is said of the units that an event touches
+pub faults_of : {A : Type 0} (r : Result A AtomicFault) (limit : ℕ) (h : Held) (event : HistoryEvent) (from count address length : ℕ)
+    → (address, length) ≡ covered h.opened event → from ≡ address / h.size → count ≡ units_of h.size address length
+    → form_fault h.opened event ≡ None → IfErr r (ChangeFaultIs limit h event from count) → IfErr r (KeptFaultIs limit h event)
+faults_of (Ok x) limit h event from count address length at_ here many formed f = tt
+faults_of (Err (Refused cause)) limit h event from count address length at_ here many formed f = grind arith
+faults_of (Err (Undecided a)) limit h event from count address length at_ here many formed f = grind arith
+faults_of (Err OutOfMemory) limit h event from count address length at_ here many formed f = formed
+
+-- The same of the first unit at which it halts. ----
+
+pub halt_step : (limit : ℕ) (h : Held) (event : HistoryEvent) (from count j : ℕ) → j < count → is_stuck h event (from + j) ≡ false
+    → is_over_at limit h event (from + j) ≡ false
+    → halt_from limit h event (from + (j + 1)) (count - (j + 1)) ≡ halt_from limit h event (from + j) (count - j)
+halt_step limit h event from count j l f g =
+    let left : count - j ≡ suc (count - (j + 1)) = omega arith in
+    let next : from + j + 1 ≡ from + (j + 1) = omega arith in
+    rw (left, f, g, ← next) refl
+
+halt_here : (limit : ℕ) (h : Held) (event : HistoryEvent) (k n : ℕ) → 0 < n → (is_stuck h event k || is_over_at limit h event k) ≡ true
+    → halt_from limit h event k n ≡ Some k
+halt_here limit h event k zero l t = absurd (omega arith)
+halt_here limit h event k (suc n) l t = rw t refl
+
+-- too many ways are too many words or too many pairs
+pub wide_cases : (limit : ℕ) (unit : UnitPlace) (words : ℕ) (u : Ways) (event : HistoryEvent) → is_too_wide limit unit words u event ≡ true
+    → (MOST_WORDS < words) ⊎ (needs_too_many limit unit u event ≡ true)
+wide_cases limit unit words u (LoadRequest number address n) t = cc
+wide_cases limit unit words u (LoadResponse number bytes) t = grind (arith, or_cases, and_parts, ltb-true)
+wide_cases limit unit words u (StoreRequest number address bytes enables) t = cc
+wide_cases limit unit words u (StoreResponse number) t = grind (arith, or_cases, and_parts, ltb-true)
+
+pub halt_at : (fault : AtomicFault) (limit : ℕ) (h : Held) (event : HistoryEvent) (from count j : ℕ) → j < count
+    → halt_from limit h event (from + j) (count - j) ≡ halt_from limit h event from count → UnitFaultIs limit h event (from + j) fault
+    → HaltIs limit h event from count fault
+halt_at (Refused cause) limit h event from count j l same f =
+    (from + j, sym same ∙ halt_here limit h event _ _ (omega arith) (or_left _ _ f.0), f.2, f.1)
+halt_at (Undecided address) limit h event from count j l same f = (
+  from + j,
+  f.0,
+  elim (wide_cases limit (unit_at h.size (from + j)) (h.words (from + j)) (h.units (from + j)) event f.1) [
+    | inl many ↦ inr (omega arith, omega arith, many)
+    | inr over ↦ inl (sym same ∙ halt_here limit h event _ _ (omega arith) (or_right _ _ over), over)
+  ],
+)
+halt_at OutOfMemory limit h event from count j l same f = tt
 
 -- Units that are put one by one, the last first. ----
 

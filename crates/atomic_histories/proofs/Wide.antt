@@ -3,7 +3,7 @@ use Rattle.std.proofs.Common.{◌≡◌, ℕ, zero, suc, ltb-true, ◌/◌, ◌<
 use Rattle.std.proofs.Common.{Option, Some, None, inl, inr, refl, sym, ap, ◌∙◌, subst, arith}
 use Rattle.std.specs.List.{find}
 use Rattle.std.proofs.Math.Nat.{mul-div_cancel}
-use Rattle.std.proofs.lemmas.Bool.{or_cases, and_parts}
+use Rattle.std.proofs.lemmas.Bool.{or_cases}
 use Rattle.memory_histories.specs.declared.events.HistoryEvent.{HistoryEvent}
 use Rattle.memory_histories.specs.declared.events.HistoryEvent.TheVariants.{LoadRequest, LoadResponse, StoreRequest, StoreResponse}
 use Rattle.memory_histories.specs.declared.events.Rest.{Rest}
@@ -13,9 +13,9 @@ use Rattle.atomic_histories.specs.declared.search.TheConstants.{MOST_WORDS}
 use Rattle.atomic_histories.specs.Law.{UnitMemory, HiddenStep, MayBe, steps, untouched, unit_at}
 use Rattle.atomic_histories.specs.Followed.{Pair, Ways, Aim, never, way_on, next_after, rounds, is_under, is_over, are_too_many}
 use Rattle.atomic_histories.specs.Followed.{needs_more, effect_aim, word_aim, pair_got, gathered, with_hope, load_needs_more}
-use Rattle.atomic_histories.specs.Followed.{has_way, has_many_words, is_too_wide}
+use Rattle.atomic_histories.specs.Followed.{has_way, needs_too_many, is_too_wide}
 use Rattle.atomic_histories.specs.Stands.{Each, IsAsked, AreApart, StandsFor}
-use Rattle.atomic_histories.specs.Held.{Held, IsWide, is_lost, StandsBut}
+use Rattle.atomic_histories.specs.Held.{Held, IsWide, is_over_at, is_lost, StandsBut}
 use Rattle.atomic_histories.specs.May.{address_of, is_reach_over, is_reach_wide}
 use Rattle.atomic_histories.specs.Wide.{AllDiffer, MayBeMany, UndecidedIsMuch, NoSetsAreMuch}
 use Rattle.atomic_histories.proofs.Lists.{each_weaker, each_map, each_filter, each_both}
@@ -24,6 +24,7 @@ use Rattle.atomic_histories.proofs.Found.{IsSound, sound_joint, sound_kept, out_
 use Rattle.atomic_histories.proofs.Answered.{missed_sound, part_sound}
 use Rattle.atomic_histories.proofs.Apart.{apart_out, apart_next, gathered_apart, got_keeps}
 use Rattle.atomic_histories.proofs.Exact.{SoundOn, state_on}
+use Rattle.atomic_histories.proofs.Ranges.{wide_cases}
 use Rattle.atomic_histories.proofs.Whole.{no_pair}
 
 -- Pairs and states. ----
@@ -113,13 +114,13 @@ module _ (image : List ℕ) (rest : Rest) (unit : UnitPlace) (history : List His
   all_sound : Each Follows u.pairs
   all_sound = grind (arith, each_both)
 
-  pub store_much : (limit number : ℕ) → needs_more limit u.loads u.moment (effect_aim number) [] u.pairs ≡ true
+  store_much : (limit number : ℕ) → needs_more limit u.loads u.moment (effect_aim number) [] u.pairs ≡ true
       → MayBeMany limit image rest unit history
   store_much limit number h =
       many_states u.loads u.moment s.asked Here here_closed limit
       (more_many u.loads u.moment s.asked Here here_closed limit (effect_aim number) [] u.pairs tt tt all_sound h)
 
-  pub load_much : (limit number : ℕ) (bytes : List ℕ) (load : Option WatchedLoad) → find (is_under number) u.loads ≡ load
+  load_much : (limit number : ℕ) (bytes : List ℕ) (load : Option WatchedLoad) → find (is_under number) u.loads ≡ load
       → load_needs_more limit unit bytes load u ≡ true → MayBeMany limit image rest unit history
   load_much limit number bytes None open_ h = cc
   load_much limit number bytes (Some l) open_ h =
@@ -132,6 +133,12 @@ module _ (image : List ℕ) (rest : Rest) (unit : UnitPlace) (history : List His
       (part_sound u.loads u.moment s.asked unit number bytes l open_ (SoundOn Here) u.pairs all_sound)
       (each_filter Follows aim.hope missed
       (missed_sound u.loads u.moment s.asked unit number bytes l open_ (SoundOn Here) u.pairs all_sound)) h)
+
+  pub much_at : (limit : ℕ) (event : HistoryEvent) → needs_too_many limit unit u event ≡ true → MayBeMany limit image rest unit history
+  much_at limit (LoadRequest number address n) t = cc
+  much_at limit (LoadResponse number bytes) t = load_much limit number bytes.now (find (is_under number) u.loads) refl t
+  much_at limit (StoreRequest number address bytes enables) t = cc
+  much_at limit (StoreResponse number) t = store_much limit number t
 
   pub reach_much : (limit : ℕ) → is_reach_over limit u.loads u.moment (rounds u.pairs) u.pairs ≡ true
       → MayBeMany limit image rest unit history
@@ -152,19 +159,23 @@ no_store : (limit number : ℕ) (loads : List WatchedLoad) (moment : ℕ) (es : 
     → needs_more limit loads moment (effect_aim number) [] es ≡ false
 no_store limit number loads moment es h = grind arith
 
-many_words : (words : ℕ) (u : Ways) → has_many_words words u ≡ true → MOST_WORDS < words
-many_words words u y = ltb-true MOST_WORDS words (and_parts (has_way u) (nat_lt MOST_WORDS words) y).1
-
 -- a forgotten unit has no way, so it needs too much for no event
+no_way_over : (limit : ℕ) (unit : UnitPlace) (u : Ways) (event : HistoryEvent) → has_way u ≡ false
+    → needs_too_many limit unit u event ≡ false
+no_way_over limit unit u (LoadRequest number address n) h = refl
+no_way_over limit unit u (LoadResponse number bytes) h =
+    no_load limit unit bytes.now (find (is_under number) u.loads) u.loads u.moment u.pairs (no_pair u.pairs h)
+no_way_over limit unit u (StoreRequest number address bytes enables) h = refl
+no_way_over limit unit u (StoreResponse number) h = no_store limit number u.loads u.moment u.pairs (no_pair u.pairs h)
+
 no_way_wide : (limit : ℕ) (unit : UnitPlace) (words : ℕ) (u : Ways) (event : HistoryEvent) → has_way u ≡ false
     → is_too_wide limit unit words u event ≡ false
 no_way_wide limit unit words u (LoadRequest number address n) h = refl
 no_way_wide limit unit words u (LoadResponse number bytes) h =
-    let none = no_load limit unit bytes.now (find (is_under number) u.loads) u.loads u.moment u.pairs (no_pair u.pairs h) in
-    grind arith
+    let none = no_way_over limit unit u (LoadResponse number bytes) h in grind arith
 no_way_wide limit unit words u (StoreRequest number address bytes enables) h = refl
 no_way_wide limit unit words u (StoreResponse number) h =
-    let none = no_store limit number u.loads u.moment u.pairs (no_pair u.pairs h) in grind arith
+    let none = no_way_over limit unit u (StoreResponse number) h in grind arith
 
 -- All units. ----
 
@@ -172,28 +183,13 @@ module _ (limit : ℕ) (h : Held) (lost : List ℕ) (history : List HistoryEvent
   abbrev Much : ℕ → Type 0
   Much k = (MOST_WORDS < h.words k) ⊎ MayBeMany limit h.image h.rest (unit_at h.size k) history
 
-  by_load : (k number : ℕ) (bytes : List ℕ)
-      → load_needs_more limit (unit_at h.size k) bytes (find (is_under number) (h.units k).loads) (h.units k) ≡ true → Much k
-  by_load k number bytes t = elim (s.units k) [
-    | inl a ↦
-        let none = no_load limit (unit_at h.size k) bytes _ (h.units k).loads (h.units k).moment
-        (h.units k).pairs (no_pair (h.units k).pairs a.1) in
-        let x = sym t ∙ none in
-        cc
-    | inr a ↦ inr (load_much h.image h.rest (unit_at h.size k) history (h.units k) a.1.0 limit number bytes
-        (find (is_under number) (h.units k).loads) refl t)
+  by_event : (k : ℕ) (event : HistoryEvent) → is_over_at limit h event k ≡ true → MayBeMany limit h.image h.rest (unit_at h.size k) history
+  by_event k event t = elim (s.units k) [
+    | inl a ↦ let none = no_way_over limit (unit_at h.size k) (h.units k) event a.1 in let x = sym t ∙ none in cc
+    | inr a ↦ much_at h.image h.rest (unit_at h.size k) history (h.units k) a.1.0 limit event t
   ]
 
-  by_store : (k number : ℕ) → needs_more limit (h.units k).loads (h.units k).moment (effect_aim number) [] (h.units k).pairs ≡ true → Much k
-  by_store k number t = elim (s.units k) [
-    | inl a ↦
-        let none = no_store limit number (h.units k).loads (h.units k).moment (h.units k).pairs (no_pair (h.units k).pairs a.1) in
-        let x = sym t ∙ none in
-        cc
-    | inr a ↦ inr (store_much h.image h.rest (unit_at h.size k) history (h.units k) a.1.0 limit number t)
-  ]
-
-  by_reach : (k : ℕ) → is_reach_over limit (h.units k).loads (h.units k).moment (rounds (h.units k).pairs) (h.units k).pairs ≡ true → Much k
+  by_reach : (k : ℕ) → is_reach_wide limit (h.units k) ≡ true → MayBeMany limit h.image h.rest (unit_at h.size k) history
   by_reach k t = elim (s.units k) [
     | inl a ↦
         let none =
@@ -201,25 +197,13 @@ module _ (limit : ℕ) (h : Held) (lost : List ℕ) (history : List HistoryEvent
         (sym (no_pair (h.units k).pairs a.1)) refl in
         let x = sym t ∙ none in
         cc
-    | inr a ↦ inr (reach_much h.image h.rest (unit_at h.size k) history (h.units k) a.1.0 limit t)
+    | inr a ↦ reach_much h.image h.rest (unit_at h.size k) history (h.units k) a.1.0 limit t
   ]
 
   wide_much : (k : ℕ) (event : HistoryEvent) → is_too_wide limit (unit_at h.size k) (h.words k) (h.units k) event ≡ true → Much k
-  wide_much k (LoadRequest number address n) t = cc
-  wide_much k (LoadResponse number bytes) t = elim (or_cases (has_many_words (h.words k) (h.units k)) _ t) [
-    | inl y ↦ inl (many_words (h.words k) (h.units k) y)
-    | inr y ↦ by_load k number bytes.now y
-  ]
-  wide_much k (StoreRequest number address bytes enables) t = cc
-  wide_much k (StoreResponse number) t = elim (or_cases (has_many_words (h.words k) (h.units k)) _ t) [
-    | inl y ↦ inl (many_words (h.words k) (h.units k) y)
-    | inr y ↦ by_store k number y
-  ]
-
-  reach_wide_much : (k : ℕ) → is_reach_wide limit (h.words k) (h.units k) ≡ true → Much k
-  reach_wide_much k t = elim (or_cases (has_many_words (h.words k) (h.units k)) _ t) [
-    | inl y ↦ inl (many_words (h.words k) (h.units k) y)
-    | inr y ↦ by_reach k y
+  wide_much k event t = elim (wide_cases limit (unit_at h.size k) (h.words k) (h.units k) event t) [
+    | inl y ↦ inl y
+    | inr y ↦ inr (by_event k event y)
   ]
 
 -- the unit for whose sake an event is undecided was not forgotten
@@ -241,4 +225,4 @@ undecided_much limit h lost history event address s formed w =
 pub no_sets_much : (limit : ℕ) (h : Held) (lost : List ℕ) (history : List HistoryEvent) (a n address : ℕ)
     → NoSetsAreMuch limit h lost history a n address
 no_sets_much limit h lost history a n address s w =
-    (address_of a w.0 / h.size, w.2.0, reach_wide_much limit h lost history s _ w.2.1)
+    (address_of a w.0 / h.size, w.2.0, by_reach limit h lost history s _ w.2.1)

@@ -279,6 +279,12 @@ load_needs_more limit unit bytes (Some l) u =
     needs_more limit u.loads u.moment aim (gathered (pair_got unit bytes l) u.pairs)
     (with_hope aim (gathered (pair_missed unit bytes l) u.pairs))
 
+-- whether an event needs too many pairs, however many words are kept
+abbrev pub needs_too_many : ℕ → UnitPlace → Ways → HistoryEvent → Bool
+needs_too_many limit unit u (LoadResponse number bytes) = load_needs_more limit unit bytes.now (find (is_under number) u.loads) u
+needs_too_many limit unit u (StoreResponse number) = needs_more limit u.loads u.moment (effect_aim number) [] u.pairs
+needs_too_many limit unit u event = false
+
 -- whether more words are kept for its ways than may be: for a forgotten unit, which has no way, none is needed
 abbrev pub has_many_words : ℕ → Ways → Bool
 has_many_words words u = has_way u && nat_lt MOST_WORDS words

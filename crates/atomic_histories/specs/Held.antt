@@ -1,6 +1,6 @@
 -- What the judge keeps of all units, and of which histories that is kept.
-use Rattle.std.specs.Prelude.{ℕ, zero, suc, ◌≡◌, ◌+◌, ◌-◌, ◌*◌, ◌/◌, ◌<◌, ◌≤◌, ◌⊎◌, length, Bool, true, false, ◌&&◌, not, if◌then◌else◌}
-use Rattle.std.specs.Prelude.{◌==◌, nat_lt, nat_le, List, [], ◌∷◌, min, Option, Some, None}
+use Rattle.std.specs.Prelude.{ℕ, zero, suc, ◌≡◌, ◌+◌, ◌-◌, ◌*◌, ◌/◌, ◌<◌, ◌≤◌, ◌⊎◌, length, Bool, true, false, ◌&&◌, ◌||◌, not}
+use Rattle.std.specs.Prelude.{if◌then◌else◌, ◌==◌, nat_lt, nat_le, List, [], ◌∷◌, min, Option, Some, None}
 use Rattle.std.specs.List.{list_any, find}
 use Rattle.memory_histories.specs.declared.events.HistoryEvent.{HistoryEvent}
 use Rattle.memory_histories.specs.declared.events.HistoryEvent.TheVariants.{LoadRequest, LoadResponse, StoreRequest, StoreResponse}
@@ -9,7 +9,7 @@ use Rattle.atomic_histories.specs.declared.unit.Operation.{Operation}
 use Rattle.atomic_histories.specs.declared.unit.UnitPlace.{UnitPlace}
 use Rattle.atomic_histories.specs.Operations.{Opened, none_opened, opened_by, has_number}
 use Rattle.atomic_histories.specs.Law.{untouched, unit_at, is_formed}
-use Rattle.atomic_histories.specs.Followed.{Ways, first_ways, has_way, ways_after, is_too_wide}
+use Rattle.atomic_histories.specs.Followed.{Ways, first_ways, has_way, ways_after, needs_too_many, is_too_wide}
 use Rattle.atomic_histories.specs.Stands.{StandsFor}
 
 -- of each unit, by its number, the ways that it may have gone, and how many words are kept of what stood there since the request of
@@ -85,6 +85,20 @@ stuck_from h event k (suc n) = if is_stuck h event k then Some k else stuck_from
 abbrev pub first_stuck : Held → HistoryEvent → Option ℕ
 first_stuck h event =
     let p = covered h.opened event in stuck_from h event (p.0 / h.size) (units_of h.size p.0 p.1)
+
+-- whether it needs too many pairs there
+abbrev pub is_over_at : ℕ → Held → HistoryEvent → ℕ → Bool
+is_over_at limit h event k = needs_too_many limit (unit_at h.size k) (h.units k) event
+
+-- the first of n units from number k on at which it is either
+abbrev pub halt_from : ℕ → Held → HistoryEvent → ℕ → ℕ → Option ℕ
+halt_from limit h event k zero = None
+halt_from limit h event k (suc n) =
+    if is_stuck h event k || is_over_at limit h event k then Some k else halt_from limit h event (k + 1) n
+
+abbrev pub first_halt : ℕ → Held → HistoryEvent → Option ℕ
+first_halt limit h event =
+    let p = covered h.opened event in halt_from limit h event (p.0 / h.size) (units_of h.size p.0 p.1)
 
 -- an event needs too many ways at the unit that begins at an address, one of n units from number k on
 abbrev pub IsWideFrom : ℕ → Held → HistoryEvent → ℕ → ℕ → ℕ → Type 0

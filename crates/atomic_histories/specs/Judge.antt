@@ -18,7 +18,7 @@ use Rattle.atomic_histories.specs.declared.memory.AtomicFault.{AtomicFault}
 use Rattle.atomic_histories.specs.declared.memory.AtomicFault.TheVariants.{Refused, Undecided, OutOfMemory}
 use Rattle.atomic_histories.specs.declared.memory.AtomicMemory.{AtomicMemory}
 use Rattle.atomic_histories.specs.Operations.{opened_by, opened_after, has_number, form_fault}
-use Rattle.atomic_histories.specs.Followed.{Ways, no_ways, first_ways, ways_after, is_too_wide}
+use Rattle.atomic_histories.specs.Followed.{Ways, no_ways, first_ways, ways_after, needs_too_many, is_too_wide}
 use Rattle.atomic_histories.specs.Law.{IsAtomic, FaultIs, unit_at}
 use Rattle.atomic_histories.specs.Lost.{IsAtomicBut, FaultIsBut}
 use Rattle.atomic_histories.specs.Held.{Held, covered, units_of, is_without, ways_from, stuck_from, IsWideFrom, unit_after, first_stuck}
@@ -86,6 +86,7 @@ put_from f k (u ∷ us) j = if k == j then Some u else put_from f (k + 1) us j
 abbrev pub ChangedFaultIs : ℕ → UnitPlace → ℕ → Ways → HistoryEvent → List Operation → AtomicFault → Type 0
 ChangedFaultIs limit unit words u event loads (Refused cause) =
     (is_without u (ways_after unit u event) ≡ true) × (cause ≡ WrongByte (place_in loads event unit.first))
+    × (needs_too_many limit unit u event ≡ false)
 ChangedFaultIs limit unit words u event loads (Undecided address) =
     (address ≡ unit.first) × (is_too_wide limit unit words u event ≡ true)
 ChangedFaultIs limit unit words u event loads OutOfMemory = Unit {0}

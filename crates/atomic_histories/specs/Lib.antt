@@ -16,6 +16,7 @@ pub mod MaySets
 pub mod MayLaws
 pub mod Wide
 pub mod Judge
+pub mod Told
 pub mod AtOnce
 pub mod Taken
 pub mod Faults

@@ -15,7 +15,7 @@ use Rattle.atomic_histories.specs.Operations.{opened_by, has_number}
 use Rattle.atomic_histories.specs.Law.{OpenLoad, UnitMemory, MayBe, untouched, unit_at, is_load}
 use Rattle.atomic_histories.specs.declared.unit.WatchedLoad.{WatchedLoad}
 use Rattle.atomic_histories.specs.Pasts.{shows}
-use Rattle.atomic_histories.specs.Followed.{Pair, Ways, never, next_after, rounds, are_too_many, has_way, is_under, has_many_words}
+use Rattle.atomic_histories.specs.Followed.{Pair, Ways, never, next_after, rounds, are_too_many, has_way, is_under}
 use Rattle.atomic_histories.specs.Held.{Held, is_lost}
 
 -- In the law's words. ----
@@ -98,8 +98,8 @@ is_reach_over limit loads moment zero es = false
 is_reach_over limit loads moment (suc n) es =
     let next = next_after loads moment never es in are_too_many limit next || is_reach_over limit loads moment n next
 
-abbrev pub is_reach_wide : ℕ → ℕ → Ways → Bool
-is_reach_wide limit words u = has_many_words words u || is_reach_over limit u.loads u.moment (rounds u.pairs) u.pairs
+abbrev pub is_reach_wide : ℕ → Ways → Bool
+is_reach_wide limit u = is_reach_over limit u.loads u.moment (rounds u.pairs) u.pairs
 
 -- All bytes of a load. ----
 
@@ -125,7 +125,7 @@ AreSetsFrom h number a i (suc n) (set ∷ sets) =
 -- the ways lead to too many at the unit that begins at an address, in which byte a lies
 abbrev pub IsWideByte : ℕ → Held → ℕ → ℕ → Type 0
 IsWideByte limit h a address =
-    (address ≡ a / h.size * h.size) × (is_reach_wide limit (h.words (a / h.size)) (h.units (a / h.size)) ≡ true)
+    (address ≡ a / h.size * h.size) × (is_reach_wide limit (h.units (a / h.size)) ≡ true)
 
 -- in which one of n bytes from a on lies
 abbrev pub IsWideLoad : ℕ → Held → ℕ → ℕ → ℕ → Type 0

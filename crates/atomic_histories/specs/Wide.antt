@@ -34,7 +34,7 @@ abbrev pub UndecidedIsMuch : ℕ → Held → List ℕ → List HistoryEvent →
 UndecidedIsMuch limit h lost history event address =
     StandsBut h lost history → form_fault h.opened event ≡ None → IsWide limit h event address → IsMuchAt limit h history address
 
--- so do the sets of a load for which there are none
+-- the sets of a load for which there are none say so, however many words are kept
 abbrev pub NoSetsAreMuch : ℕ → Held → List ℕ → List HistoryEvent → ℕ → ℕ → ℕ → Type 0
 NoSetsAreMuch limit h lost history a n address = StandsBut h lost history → IsWideLoad limit h a n address
-    → IsMuchAt limit h history address
+    → (k : ℕ) × (address ≡ k * h.size) × MayBeMany limit h.image h.rest (unit_at h.size k) history

@@ -1,11 +1,11 @@
 //! The ways of a unit after an event.
 
-ghost use Rattle.std.specs.Prelude.{ℕ, ◌≡◌, ◌++◌, [], true, List, Some, IfOk, IfErr, OnOk};
+ghost use Rattle.std.specs.Prelude.{ℕ, ◌≡◌, ◌++◌, [], true, false, List, Some, IfOk, IfErr, OnOk};
 ghost use Rattle.std.specs.List.{filter, find};
 ghost use Rattle.atomic_histories.specs.declared.stretches.Stretch.{Stretch};
 ghost use Rattle.atomic_histories.specs.declared.unit.UnitPlace.{UnitPlace};
 ghost use Rattle.atomic_histories.specs.Followed.{Ways, is_under, cons_any, pair_on, gathered, pair_got, pair_missed, with_hope, word_aim};
-ghost use Rattle.atomic_histories.specs.Followed.{answered_load, answered_store, load_needs_more, needs_more, effect_aim};
+ghost use Rattle.atomic_histories.specs.Followed.{answered_load, answered_store, load_needs_more, needs_more, needs_too_many, effect_aim};
 ghost use Rattle.atomic_histories.specs.Followed.{ways_without_load, ways_without_store, ways_after, has_many_words, is_too_wide};
 ghost use Rattle.atomic_histories.specs.Shares.{past_any, IsInAny};
 ghost use Rattle.atomic_histories.specs.Parts.{IsPart, AreParts};
@@ -157,6 +157,7 @@ fn pairs_answering(
         ≡ answered_load unit bytes.now (Some load.now) (shown_unit kept.old)) }
     ensures loads { kept.new.loads ≡ kept.old.loads }
     ensures moment { kept.new.moment ≡ kept.old.moment }
+    ensures few { OnOk result (load_needs_more limit unit bytes.now (Some load.now) (shown_unit kept.old) ≡ false) }
     ensures stop { IfErr result (StopIs (load_needs_more limit unit bytes.now (Some load.now) (shown_unit kept.old))) }
 {
     let wanted = Wanted::Answer {
@@ -199,6 +200,7 @@ fn follow_load(
           moment = kept.old.moment;
           pairs = answered_load unit bytes.now load (shown_unit kept.old);
         }) }
+    ensures few { OnOk result (load_needs_more limit unit bytes.now load (shown_unit kept.old) ≡ false) }
     ensures stop { IfErr result (StopIs (load_needs_more limit unit bytes.now load (shown_unit kept.old))) }
 {
     match load {
@@ -225,6 +227,10 @@ fn answer_load(
         ≡ ways_without_load number (shown_unit kept.old)
         (answered_load unit bytes.now (find (is_under number) (shown_unit kept.old).loads)
         (shown_unit kept.old))) }
+    ensures few { OnOk result
+        (load_needs_more limit unit bytes.now (find (is_under number) (shown_unit kept.old).loads)
+        (shown_unit kept.old)
+        ≡ false) }
     ensures stop { IfErr result
         (StopIs (load_needs_more limit unit bytes.now (find (is_under number) (shown_unit kept.old).loads)
         (shown_unit kept.old))) }
@@ -241,6 +247,10 @@ fn answer_store(alloc: Global, kept: &mut KeptUnit, number: u64, limit: usize) -
     ensures after { OnOk result
         (shown_unit kept.new
         ≡ ways_without_store number (shown_unit kept.old) (answered_store number (shown_unit kept.old))) }
+    ensures few { OnOk result
+        (needs_more limit (shown_unit kept.old).loads (shown_unit kept.old).moment (effect_aim number) []
+        (shown_unit kept.old).pairs
+        ≡ false) }
     ensures stop { IfErr result
         (StopIs
         (needs_more limit (shown_unit kept.old).loads (shown_unit kept.old).moment (effect_aim number) []
@@ -274,6 +284,7 @@ fn follow(
 ) -> Result<(), Stop>
     requires { AreIn kept.old.stretches.items kept.old.pairs.items }
     ensures after { OnOk result (shown_unit kept.new ≡ ways_after unit (shown_unit kept.old) event.entry) }
+    ensures few { OnOk result (needs_too_many limit unit (shown_unit kept.old) event.entry ≡ false) }
     ensures stop { IfErr result (λ stop. (words : ℕ) → StopIs (is_too_wide limit unit words (shown_unit kept.old) event.entry) stop) }
 {
     match event {
@@ -341,6 +352,7 @@ pub(crate) fn ways_after(
     limit: usize,
 ) -> Result<KeptUnit, Stop>
     ensures after { IfOk result (λ after. shown_unit after ≡ ways_after unit (shown_unit kept.now) event.entry) }
+    ensures few { OnOk result (needs_too_many limit unit (shown_unit kept.now) event.entry ≡ false) }
     ensures stop { IfErr result (StopIs (is_too_wide limit unit (words_in kept.now.stretches.items) (shown_unit kept.now) event.entry)) }
 {
     let mut after = kept.copied(alloc)?;

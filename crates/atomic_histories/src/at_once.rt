@@ -1,6 +1,7 @@
 //! Events that a unit takes where it stands, with no search.
 
-ghost use Rattle.std.specs.Prelude.{◌≡◌, ◌≢◌, ◌∷◌, [], true, false, length, slice_index_or, None, Some, IfOk, IfSome, OnErr, nat_eq, ℕ};
+ghost use Rattle.std.specs.Prelude.{◌≡◌, ◌≢◌, ◌<◌, ◌∷◌, [], true, false, length, slice_index_or, None, Some, IfOk};
+ghost use Rattle.std.specs.Prelude.{IfSome, OnErr, nat_eq, ℕ};
 ghost use Rattle.std.specs.HashMap.{get};
 ghost use Rattle.std.specs.List.{find};
 ghost use Rattle.atomic_histories.specs.declared.unit.OpenStore.{OpenStore};
@@ -9,6 +10,7 @@ ghost use Rattle.atomic_histories.specs.AtOnce.{IsUnitTaken};
 ghost use Rattle.atomic_histories.specs.Pasts.{begins, cut_for, got, missed, oldest, overwritten};
 ghost use Rattle.atomic_histories.specs.Law.{done_store, may_answer_store};
 ghost use Rattle.atomic_histories.specs.Followed.{Ways, is_answer, is_under, loads_without, moment_with, answered_load, answered_store};
+ghost use Rattle.atomic_histories.specs.Followed.{load_needs_more, needs_more, needs_too_many, effect_aim};
 ghost use Rattle.atomic_histories.specs.Followed.{ways_without_load, ways_without_store};
 ghost use Rattle.atomic_histories.specs.Judge.{kept_or, words_of};
 ghost use Rattle.atomic_histories.specs.Shown.{past_at, pasts, shown, shown_unit};
@@ -28,7 +30,8 @@ use std::collections::HashMap;
 // Whether a unit's ways have come to one pair, so that a search would follow one at a time, and there is room for the
 // word that it may overwrite.
 fn is_ready(unit: &KeptUnit, limit: usize) -> bool
-    ensures { result ≡ true → length unit.now.pairs.items ≡ 1 }
+    ensures one { result ≡ true → length unit.now.pairs.items ≡ 1 }
+    ensures some { result ≡ true → 0 < limit }
 {
     limit != 0 && unit.pairs.len() == 1 && unit.stretches.len() < unit.room
 }
@@ -87,8 +90,10 @@ fn has_answer(
     stretches: &[Stretch],
     pair: &FollowedPair,
 ) -> bool
-    ensures { result ≡ true → (u : Ways) → u.pairs ≡ shown stretches.now pair.now ∷ []
+    ensures found { result ≡ true → (u : Ways) → u.pairs ≡ shown stretches.now pair.now ∷ []
         → answered_load place bytes.now (Some load.now) u ≡ u.pairs }
+    ensures few { result ≡ true → (limit : ℕ) (u : Ways) → u.pairs ≡ shown stretches.now pair.now ∷ []
+        → load_needs_more limit place bytes.now (Some load.now) u ≡ false }
 {
     is_word_of(place.first, &pair.word, load.address, bytes)
         || has_stood(place, load, bytes, stretches, pair.past)
@@ -191,6 +196,11 @@ impl KeptUnit {
             (answered_load place bytes.now (find (is_under number) (shown_unit self.old).loads)
             (shown_unit self.old)))
             self.old self.new) }
+        ensures few { (limit : ℕ) → 0 < limit → IfOk result
+            (λ taken. taken ≡ true
+            → load_needs_more limit place bytes.now (find (is_under number) (shown_unit self.old).loads)
+            (shown_unit self.old)
+            ≡ false) }
         ensures err { OnErr result (IsUnitKept self.old self.new) }
     {
         match find_load(self.loads.as_slice(), number) {
@@ -220,6 +230,9 @@ impl KeptUnit {
             (IsTakenTo (ways_without_load number (shown_unit self.old)
             (answered_load place bytes.now (Some load) (shown_unit self.old)))
             self.old self.new) }
+        ensures few { (limit : ℕ) → 0 < limit → IfOk result
+            (λ taken. taken ≡ true
+            → load_needs_more limit place bytes.now (Some load) (shown_unit self.old) ≡ false) }
         ensures err { OnErr result (IsUnitKept self.old self.new) }
     {
         let word = match next_word(place, &self.pairs[0], load.address, bytes) {
@@ -244,6 +257,11 @@ impl KeptUnit {
             (IsTakenTo
             (ways_without_store number (shown_unit self.old) (answered_store number (shown_unit self.old)))
             self.old self.new) }
+        ensures few { (limit : ℕ) → 0 < limit → IfOk result
+            (λ taken. taken ≡ true
+            → needs_more limit (shown_unit self.old).loads (shown_unit self.old).moment (effect_aim number) []
+            (shown_unit self.old).pairs
+            ≡ false) }
         ensures err { OnErr result (IsUnitKept self.old self.new) }
     {
         if self.pairs[0].has_effect(number) {
@@ -265,6 +283,10 @@ impl KeptUnit {
             (IsTakenTo
             (ways_without_store number (shown_unit self.old) (answered_store number (shown_unit self.old)))
             self.old self.new) }
+        ensures few { (limit : ℕ) → 0 < limit
+            → needs_more limit (shown_unit self.old).loads (shown_unit self.old).moment (effect_aim number) []
+            (shown_unit self.old).pairs
+            ≡ false }
         ensures err { OnErr result (IsUnitKept self.old self.new) }
     {
         let now = self.pairs[0].word;
@@ -290,6 +312,7 @@ pub(crate) fn take_at_once(
     limit: usize,
 ) -> Result<bool, AllocError>
     ensures ok { IfOk result (λ taken. IsUnitTaken place event.entry (shown_unit unit.old) (shown_unit unit.new) taken) }
+    ensures few { IfOk result (λ taken. taken ≡ true → needs_too_many limit place (shown_unit unit.old) event.entry ≡ false) }
     ensures same { IfOk result (λ taken. taken ≡ false → IsUnitKept unit.old unit.new) }
     ensures err { OnErr result (IsUnitKept unit.old unit.new) }
 {
@@ -344,6 +367,9 @@ pub(crate) fn take_at(
         (λ taken. (first : Ways)
         → IsUnitTaken place event.entry (kept_or (get nat_eq units.old number) first)
         (kept_or (get nat_eq units.new number) first) taken) }
+    ensures few { IfOk result
+        (λ taken. taken ≡ true → (first : Ways)
+        → needs_too_many limit place (kept_or (get nat_eq units.old number) first) event.entry ≡ false) }
     ensures same { IfOk result (λ taken. taken ≡ false → words_of (get nat_eq units.new number) ≡ words_of (get nat_eq units.old number)) }
     ensures others { (k : ℕ) → k ≢ number → get nat_eq units.new k ≡ get nat_eq units.old k }
     ensures err { OnErr result

@@ -2,11 +2,13 @@
 //!
 //! Each function here does nothing; its contract is a law.
 
-ghost use Rattle.std.specs.Prelude.{ℕ, List};
+ghost use Rattle.std.specs.Prelude.{ℕ, List, Option};
 ghost use Rattle.memory_histories.specs.declared.events.HistoryEvent.{HistoryEvent};
 ghost use Rattle.memory_histories.specs.declared.events.Rest.{Rest};
+ghost use Rattle.atomic_histories.specs.declared.memory.AtomicFault.{AtomicFault};
 ghost use Rattle.atomic_histories.specs.Held.{Held};
 ghost use Rattle.atomic_histories.specs.MayLaws.{SetIsOfAnswers, SetsAreOfAnswers, UnitsChooseAlone};
+ghost use Rattle.atomic_histories.specs.Told.{AreToldAlike};
 ghost use Rattle.atomic_histories.specs.Wide.{NoSetsAreMuch, UndecidedIsMuch};
 
 /// What [`may_return`](crate::AtomicMemory::may_return) tells is what the load may return if it ended now:
@@ -47,8 +49,17 @@ pub fn undecided_is_much()
 {}
 
 /// The same where [`may_return`](crate::AtomicMemory::may_return) answers `Undecided`: so it is at a unit in which one of the
-/// load's bytes lies.
+/// load's bytes lies. How many words are kept there doesn't count.
 pub fn no_sets_are_much()
     ensures { (limit : ℕ) (h : Held) (lost : List ℕ) (history : List HistoryEvent) (a n address : ℕ)
         → NoSetsAreMuch limit h lost history a n address }
+{}
+
+/// What [`step`](crate::AtomicMemory::step) and [`fault`](crate::AtomicMemory::fault) say of one event is the same: if one
+/// says that it is taken, so does the other, and if one has a fault, the other has this fault. Only if one of them had too
+/// little memory, or if more words are kept than [`MOST_WORDS`](crate::MOST_WORDS) at a unit that the event touches, may they
+/// differ.
+pub fn events_are_told_alike()
+    ensures { (limit : ℕ) (h : Held) (event : HistoryEvent) (one other : Option AtomicFault)
+        → AreToldAlike limit h event one other }
 {}

@@ -5,7 +5,7 @@ ghost use Rattle.memory_histories.specs.Sets.{no_bytes};
 ghost use Rattle.atomic_histories.specs.Followed.{rounds};
 ghost use Rattle.atomic_histories.specs.MaySets.{with_pair_bytes, with_pairs_bytes};
 ghost use Rattle.atomic_histories.specs.May.{IsSet, is_shown, may_get, reached, is_reach_over, is_reach_wide};
-ghost use Rattle.atomic_histories.specs.Shown.{shown_unit, words_in, StopIs};
+ghost use Rattle.atomic_histories.specs.Shown.{shown_unit, StopIs};
 
 use crate::kept::KeptUnit;
 use crate::loads::find_load;
@@ -67,7 +67,7 @@ fn load_set(
 }
 
 // The same of the load under a number, at a unit that may be forgotten.
-#[tactic(auto, using(crate::proofs::MaySteps::forgotten_set, crate::proofs::MaySteps::unknown_set, crate::proofs::MaySteps::known_set, crate::proofs::MaySteps::reach_wide))]
+#[tactic(auto, using(crate::proofs::MaySteps::forgotten_set, crate::proofs::MaySteps::unknown_set, crate::proofs::MaySteps::known_set))]
 pub(crate) fn unit_set(
     alloc: Global,
     kept: &KeptUnit,
@@ -77,7 +77,7 @@ pub(crate) fn unit_set(
 ) -> Result<ByteSet, Stop>
     requires { lane < 8 }
     ensures set { IfOk result (IsSet (λ b. may_get number lane b (shown_unit kept.now))) }
-    ensures stop { IfErr result (StopIs (is_reach_wide limit (words_in kept.now.stretches.items) (shown_unit kept.now))) }
+    ensures stop { IfErr result (StopIs (is_reach_wide limit (shown_unit kept.now))) }
 {
     if kept.pairs.is_empty() {
         return Ok(ByteSet::all());

@@ -4,6 +4,7 @@ ghost use Rattle.std.specs.Prelude.{◌≡◌, ◌+◌, ◌*◌, ◌/◌, ◌^�
 ghost use Rattle.std.specs.Prelude.{IfSome, IfNone, OnOk, OnErr};
 ghost use Rattle.std.specs.HashMap.{spare};
 ghost use Rattle.std.specs.Vec.{vec_len, vec_capacity};
+ghost use Rattle.std.specs.Result.{result_err};
 ghost use Rattle.std.specs.List.{find};
 ghost use Rattle.memory_histories.specs.declared.events.HistoryEvent.{HistoryEvent};
 ghost use Rattle.atomic_histories.specs.Operations.{opened_after, form_fault, has_number};
@@ -11,10 +12,12 @@ ghost use Rattle.atomic_histories.specs.Law.{IsAtomic, unit_at};
 ghost use Rattle.atomic_histories.specs.AtOnce.{AreTaken, AreTakenOrSame};
 ghost use Rattle.atomic_histories.specs.Lost.{IsAtomicBut};
 ghost use Rattle.atomic_histories.specs.Held.{nothing_held, covered, changed, ways_from, is_stuck, stuck_from, StandsForAll, StandsBut};
+ghost use Rattle.atomic_histories.specs.Held.{is_over_at, halt_from, first_halt};
 ghost use Rattle.atomic_histories.specs.May.{asks, AreSetsOf, IsSetOf, HasSets, IsByteOf, IsSet, may_get_at, AreSetsFrom, address_of};
 ghost use Rattle.atomic_histories.specs.May.{LoadFaultIs, IsNoVerdict, IsWideByte, IsWideLoad};
 ghost use Rattle.atomic_histories.specs.Judge.{bytes_of, fault_of, held, limit_of, HasSameMemory, IsTaken, IsForgotten, IsLeft};
 ghost use Rattle.atomic_histories.specs.Judge.{UnitFaultIs, ChangeFaultIs, KeptFaultIs, StepFaultIs, StepFaultIsBut};
+ghost use Rattle.atomic_histories.specs.Told.{HaltIs, IsToldOf};
 ghost use Rattle.atomic_histories.specs.Shown.{shown_unit};
 
 use crate::at_once::take_at;
@@ -180,6 +183,7 @@ impl AtomicMemory {
         ensures fault_but { (lost : List ℕ) → (history : List HistoryEvent)
             → StandsBut (held self.old) lost history
             → IfErr result (StepFaultIsBut lost (limit_of self.old) (held self.old) history event.entry) }
+        ensures told { IsToldOf (limit_of self.old) (held self.old) event.entry (result_err result) }
         ensures unchanged { OnErr result (held self.new ≡ held self.old) }
         ensures memory { HasSameMemory (held self.new) (held self.old) }
         ensures limit { limit_of self.new ≡ limit_of self.old }
@@ -188,8 +192,9 @@ impl AtomicMemory {
     }
 
     /// What [`step`](AtomicMemory::step) would answer, with nothing changed: `None` if it would take the
-    /// event. `OutOfMemory` says that there was too little memory to tell; `step` may need less, since it takes
-    /// many an event with no search.
+    /// event. The two differ only if there is too little memory or too many words are kept
+    /// ([`events_are_told_alike`](crate::laws::events_are_told_alike)). `OutOfMemory` says that there was too little
+    /// memory to tell; `step` may need less, since it takes many an event with no search.
     pub fn fault(&self, event: HistoryEvent) -> Option<AtomicFault>
         ensures none { (history : List HistoryEvent) → StandsForAll (held self.now) history
             → IfNone result
@@ -205,6 +210,7 @@ impl AtomicMemory {
         ensures some_but { (lost : List ℕ) → (history : List HistoryEvent)
             → StandsBut (held self.now) lost history
             → IfSome result (StepFaultIsBut lost (limit_of self.now) (held self.now) history event.entry) }
+        ensures told { IsToldOf (limit_of self.now) (held self.now) event.entry result }
     {
         match self.changes(event) {
             Ok(_changes) => None,
@@ -342,6 +348,7 @@ impl AtomicMemory {
     fn kept_step(&mut self, event: HistoryEvent) -> Result<(), AtomicFault>
         ensures ok { OnOk result (IsTaken (held self.old) event.entry (held self.new)) }
         ensures fault { IfErr result (KeptFaultIs (limit_of self.old) (held self.old) event.entry) }
+        ensures told { IsToldOf (limit_of self.old) (held self.old) event.entry (result_err result) }
         ensures unchanged { OnErr result (held self.new ≡ held self.old) }
         ensures limit { limit_of self.new ≡ limit_of self.old }
     {
@@ -359,6 +366,7 @@ impl AtomicMemory {
         requires { form_fault (held self.old).opened event ≡ None }
         ensures ok { OnOk result (AreTaken (held self.old) event.entry (held self.new)) }
         ensures fault { IfErr result (KeptFaultIs (limit_of self.old) (held self.old) event.entry) }
+        ensures told { IsToldOf (limit_of self.old) (held self.old) event.entry (result_err result) }
         ensures unchanged { OnErr result (held self.new ≡ held self.old) }
         ensures limit { limit_of self.new ≡ limit_of self.old }
         ensures loads { self.new.loads ≡ self.old.loads }
@@ -385,6 +393,9 @@ impl AtomicMemory {
     #[tactic(auto, using(crate::proofs::AtOnce::number_fits, crate::proofs::Ranges::sized))]
     fn takes_at_once(&mut self, event: HistoryEvent) -> Result<bool, AllocError>
         ensures ok { IfOk result (λ taken. AreTakenOrSame (held self.old) event.entry (held self.new) taken) }
+        ensures told { IfOk result
+            (λ taken. taken ≡ true
+            → first_halt (limit_of self.old) (held self.old) event.entry ≡ None) }
         ensures err { OnErr result (held self.new ≡ held self.old) }
         ensures limit { limit_of self.new ≡ limit_of self.old }
         ensures loads { self.new.loads ≡ self.old.loads }
@@ -410,6 +421,7 @@ impl AtomicMemory {
     fn take_by_search(&mut self, event: HistoryEvent) -> Result<(), AtomicFault>
         ensures ok { OnOk result (AreTaken (held self.old) event.entry (held self.new)) }
         ensures fault { IfErr result (KeptFaultIs (limit_of self.old) (held self.old) event.entry) }
+        ensures told { IsToldOf (limit_of self.old) (held self.old) event.entry (result_err result) }
         ensures unchanged { OnErr result (held self.new ≡ held self.old) }
         ensures limit { limit_of self.new ≡ limit_of self.old }
         ensures loads { self.new.loads ≡ self.old.loads }
@@ -443,6 +455,7 @@ impl AtomicMemory {
             (λ us. (covered (held self.now).opened event.entry).0 / (held self.now).size + length us.items
             ≤ 2 ^ 64) }
         ensures fault { IfErr result (KeptFaultIs (limit_of self.now) (held self.now) event.entry) }
+        ensures told { IsToldOf (limit_of self.now) (held self.now) event.entry (result_err result) }
     {
         if let Some(fault) = self.form_fault(event) {
             return Err(AtomicFault::Refused(fault));
@@ -477,6 +490,8 @@ impl AtomicMemory {
         requires fits { (from + count) * bytes_of self.now.size ≤ 2 ^ 64 }
         ensures units { IfOk result (λ us. map shown_unit us.items ≡ ways_from (held self.now) event.entry from count) }
         ensures left { OnOk result (stuck_from (held self.now) event.entry from count ≡ None) }
+        ensures told { OnOk result (halt_from (limit_of self.now) (held self.now) event.entry from count ≡ None) }
+        ensures halt { IfErr result (HaltIs (limit_of self.now) (held self.now) event.entry from count) }
         ensures fits { IfOk result (λ us. from + length us.items ≤ 2 ^ 64) }
         ensures fault { IfErr result (ChangeFaultIs (limit_of self.now) (held self.now) event.entry from count) }
     {
@@ -492,6 +507,7 @@ impl AtomicMemory {
     fn changed(&self, event: HistoryEvent, number: u64) -> Result<KeptUnit, AtomicFault>
         requires fits { number * bytes_of self.now.size < 2 ^ 64 }
         ensures unit { IfOk result (λ u. shown_unit u ≡ changed (held self.now) event.entry number) }
+        ensures few { OnOk result (is_over_at (limit_of self.now) (held self.now) event.entry number ≡ false) }
         ensures left { OnOk result (is_stuck (held self.now) event.entry number ≡ false) }
         ensures fault { IfErr result (UnitFaultIs (limit_of self.now) (held self.now) event.entry number) }
     {

@@ -1,6 +1,6 @@
 //! The search for pairs on which an answer's goal is met.
 
-ghost use Rattle.std.specs.Prelude.{◌≡◌, ◌+◌, ◌<◌, ◌++◌, ◌||◌, [], List, length, take, drop, slice_index_or, IfOk, IfErr, OnOk};
+ghost use Rattle.std.specs.Prelude.{◌≡◌, ◌+◌, ◌<◌, ◌++◌, ◌||◌, [], false, List, length, take, drop, slice_index_or, IfOk, IfErr, OnOk};
 ghost use Rattle.std.specs.List.{filter};
 ghost use Rattle.atomic_histories.specs.declared.unit.OpenStore.{OpenStore};
 ghost use Rattle.atomic_histories.specs.declared.stretches.Stretch.{Stretch};
@@ -250,6 +250,10 @@ pub(crate) fn search(
         (shown_all stretches.old.items found.items) (shown_all stretches.old.items pairs.items)) }
     ensures are_in { IfOk result (λ f. AreIn stretches.new.items f.items) }
     ensures grows { OnOk result (Grows stretches.old.items stretches.new.items) }
+    ensures few { OnOk result
+        (needs_more limit asked.entry.loads.now asked.entry.moment (aim_of wanted.entry)
+        (shown_all stretches.old.items found.items) (shown_all stretches.old.items pairs.items)
+        ≡ false) }
     ensures stop { IfErr result
         (StopIs (needs_more limit asked.entry.loads.now asked.entry.moment (aim_of wanted.entry)
         (shown_all stretches.old.items found.items) (shown_all stretches.old.items pairs.items))) }

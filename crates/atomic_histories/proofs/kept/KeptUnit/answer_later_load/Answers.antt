@@ -7,8 +7,19 @@ use Rattle.atomic_histories.specs.Pasts.{begins, oldest, cut_for, overwritten}
 use Rattle.atomic_histories.specs.Followed.{Pair, Ways, loads_without, moment_with, has_way}
 use Rattle.atomic_histories.specs.Shown.{past_at, pasts, shown, shown_all, shown_unit}
 use Rattle.atomic_histories.proofs.KeptUnits.{same_pair, same_ways}
-use Rattle.atomic_histories.proofs.AtOnce.{one_pair, later_taken}
+use Rattle.atomic_histories.proofs.AtOnce.{one_pair, later_taken, few_load}
+use Rattle.atomic_histories.proofs.kept.KeptUnit.answer_later_load.Goals.{After-drop_load}
 use Rattle.atomic_histories.proofs.kept.KeptUnit.answer_later_load.Goals as goal
+
+all_pairs : (c : After-drop_load) → c.args.self.now.pairs.items ≡ c.index.result.now ∷ []
+all_pairs c = one_pair c.args.self.now.pairs.items c.index.result.now c.requires.one ∙ ap (λ p. p ∷ []) (sym c.index.ensures)
+
+pub returns-clause-few : goal.returns-clause-few
+returns-clause-few c = λ limit l t.
+    let next = c.in-Some.ensures in
+    let ss = c.args.self.now.stretches.items in
+    few_load limit c.args.place c.args.bytes.now c.args.load (shown_unit c.args.self.now) (shown ss c.index.result.now) next.store l
+    (ap (shown_all ss) (all_pairs c)) next.one (ap (past_at (pasts ss)) next.past) next.before
 
 pub returns-clause-ok : goal.returns-clause-ok
 returns-clause-ok c =
@@ -22,7 +33,7 @@ returns-clause-ok c =
     let pair = c.index.result.now in
     let e : Pair = shown ss pair in
     let next = c.in-Some.ensures in
-    let only = one_pair unit.pairs.items pair c.requires.one ∙ ap (λ p. p ∷ []) (sym c.index.ensures) in
+    let only = all_pairs c in
     let one = ap (shown_all ss) only in
     let again = c.index-2.ensures ∙ ap (λ ps. get_or ps 0 c.index-2.result.now) only in
     let changed = c.index_mut.ensures.value ∙ ap (λ ps. get_or ps 0 c.index_mut.result.now) only in

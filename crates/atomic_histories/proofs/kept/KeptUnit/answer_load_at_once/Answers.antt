@@ -1,21 +1,34 @@
-use Rattle.std.proofs.Common.{◌∷◌, [], find, sym, ap, ◌∙◌}
-use Rattle.atomic_histories.specs.Followed.{Ways, is_under, answered_load, has_way, ways_without_load}
+use Rattle.std.proofs.Common.{◌≡◌, ◌∷◌, [], find, sym, ap, subst, ◌∙◌, false, Some}
+use Rattle.atomic_histories.specs.Followed.{Ways, is_under, answered_load, load_needs_more, has_way, ways_without_load}
 use Rattle.atomic_histories.specs.Shown.{shown, shown_all, shown_unit}
 use Rattle.atomic_histories.proofs.AtOnce.{one_pair, load_left}
+use Rattle.atomic_histories.proofs.kept.KeptUnit.answer_load_at_once.Goals.{In_ok-close_load-in-Some}
 use Rattle.atomic_histories.proofs.kept.KeptUnit.answer_load_at_once.Goals as goal
+
+one : (c : In_ok-close_load-in-Some) → (shown_unit c.args.self.now).pairs ≡ shown c.args.self.now.stretches.items c.index.result.now ∷ []
+one c =
+    ap (shown_all c.args.self.now.stretches.items)
+    (one_pair c.args.self.now.pairs.items c.index.result.now c.requires ∙ ap (λ p. p ∷ []) (sym c.index.ensures))
+
+there : (c : In_ok-close_load-in-Some)
+    → (shown_unit c.args.self.now).pairs ≡ shown c.as_slice-stretches.result.now c.index.result.now ∷ []
+there c = one c ∙ ap (λ xs. shown xs c.index.result.now ∷ []) (sym c.as_slice-stretches.ensures.value)
+
+is : (c : In_ok-close_load-in-Some) → Some c.in-Some.load ≡ find (is_under c.args.number) (shown_unit c.args.self.now).loads
+is c = c.in-Some.ensures ∙ ap (find (is_under c.args.number)) c.as_slice.ensures.value
 
 pub returns-then-has_answer-clause-ok : goal.returns-then-has_answer-clause-ok
 returns-then-has_answer-clause-ok c =
-    let unit = c.args.self.now in
-    let u : Ways = shown_unit unit in
-    let ss = unit.stretches.items in
-    let pair = c.index.result.now in
+    let u : Ways = shown_unit c.args.self.now in
     let number = c.args.number in
-    let one = ap (shown_all ss) (one_pair unit.pairs.items pair c.requires ∙ ap (λ p. p ∷ []) (sym c.index.ensures)) in
-    let there = one ∙ ap (λ xs. shown xs pair ∷ []) (sym c.as_slice-stretches.ensures.value) in
-    let is = c.in-Some.ensures ∙ ap (find (is_under number)) c.as_slice.ensures.value in
-    let answered = ap (λ load. answered_load c.args.place c.args.bytes.now load u) (sym is)
-    ∙ c.has_answer.ensures c.if-has_answer.true u there in (
+    let answered = ap (λ load. answered_load c.args.place c.args.bytes.now load u) (sym (is c))
+    ∙ c.has_answer.ensures.found c.if-has_answer.true u (there c) in (
       c.in_ok-close_load-in-Some.ensures.ok ∙ ap (ways_without_load number u) (sym answered),
-      ap (λ es. has_way (ways_without_load number u es)) (answered ∙ one) ∙ load_left number u (shown ss pair),
+      ap (λ es. has_way (ways_without_load number u es)) (answered ∙ one c)
+          ∙ load_left number u (shown c.args.self.now.stretches.items c.index.result.now),
     )
+
+pub returns-then-has_answer-clause-few : goal.returns-then-has_answer-clause-few
+returns-then-has_answer-clause-few c = λ limit l t.
+    subst (λ load. load_needs_more limit c.args.place c.args.bytes.now load (shown_unit c.args.self.now) ≡ false) (is c)
+    (c.has_answer.ensures.few c.if-has_answer.true limit (shown_unit c.args.self.now) (there c))

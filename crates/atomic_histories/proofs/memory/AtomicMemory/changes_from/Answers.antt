@@ -1,8 +1,9 @@
 use Rattle.std.proofs.Common.{◌+◌, ◌-◌, ◌++◌, ◌∷◌, [], map, length, ap, ◌∙◌, length-append, arith}
 use Rattle.atomic_histories.specs.Held.{ways_from}
 use Rattle.atomic_histories.specs.Judge.{held, limit_of, ChangeFaultIs}
+use Rattle.atomic_histories.specs.Told.{HaltIs}
 use Rattle.atomic_histories.specs.Shown.{shown_unit}
-use Rattle.atomic_histories.proofs.Ranges.{ways_more, stuck_step, fault_at}
+use Rattle.atomic_histories.proofs.Ranges.{ways_more, stuck_step, fault_at, halt_step, halt_at}
 use Rattle.atomic_histories.proofs.Parts.{pass_on}
 use Rattle.atomic_histories.proofs.memory.AtomicMemory.changes_from.Goals as goal
 
@@ -20,6 +21,9 @@ loop-j-preserved c =
           c.in_ok-unit.ensures.unit ∙ c.loop-j.invariant.ways);
       left = stuck_step h c.args.event c.args.from c.args.count c.loop-j.j c.loop-j-test.true c.in_ok-unit.ensures.left
           ∙ c.loop-j.invariant.left;
+      halt = halt_step (limit_of c.args.self.now) h c.args.event c.args.from c.args.count c.loop-j.j c.loop-j-test.true
+          c.in_ok-unit.ensures.left c.in_ok-unit.ensures.few
+          ∙ c.loop-j.invariant.halt;
       many = many ∙ (sum ∙ ap (λ n. n + 1) before);
     }
 
@@ -30,3 +34,11 @@ returns-in_err-unit-clause-fault c =
     (ChangeFaultIs (limit_of m) (held m) c.args.event c.args.from c.args.count) c.from_residual.ensures.1
     (fault_at c.in_err-unit.field-0.0 (limit_of m) (held m) c.args.event c.args.from c.args.count c.loop-j.j
     (omega arith) c.loop-j.invariant.left c.in_err-unit.ensures.fault)
+
+pub returns-in_err-unit-clause-halt : goal.returns-in_err-unit-clause-halt
+returns-in_err-unit-clause-halt c =
+    let m = c.args.self.now in
+    pass_on c.from_residual.result c.in_err-unit.field-0.0
+    (HaltIs (limit_of m) (held m) c.args.event c.args.from c.args.count) c.from_residual.ensures.1
+    (halt_at c.in_err-unit.field-0.0 (limit_of m) (held m) c.args.event c.args.from c.args.count c.loop-j.j
+    (omega arith) c.loop-j.invariant.halt c.in_err-unit.ensures.fault)
