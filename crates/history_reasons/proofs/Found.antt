@@ -5,7 +5,7 @@ use Rattle.std.proofs.Common.{arith, length-drop, length-append}
 use Rattle.std.specs.Prelude.{is_none, set}
 use Rattle.std.specs.List.{filter, list_any, copy_within}
 use Rattle.std.specs.Option.{option_map}
-use Rattle.std.proofs.lemmas.Bool.{cases_Bool, cases_lt, cases_eq, eqb-true, eq-eqb, ne_eqb, and_from, false≢true}
+use Rattle.std.proofs.lemmas.Bool.{cases_Bool, cases_lt, cases_eq, eqb-true, eq-eqb, ne_eqb, and_from, false≢true, or_left, or_right}
 use Rattle.std.proofs.lemmas.List.{get_or_append_left, get_or-append_right, get_or-drop, get_or-map, get_or-set_same, get_or-set_other}
 use Rattle.std.proofs.lemmas.List.{length-map, length-set, same_lists, at_drop_more, take_all}
 use Rattle.std.proofs.lemmas.List.Folds.{list_any-append}
@@ -121,13 +121,6 @@ ended_at_more ps i number moment xs d l = at_drop_more (λ qs. ended_at qs numbe
 
 pub none_found : (ps : List StorePlace) → AreFound ps []
 none_found ps k d l e = absurd (omega arith)
-
-or_left : (a b : Bool) → a ≡ true → (a || b) ≡ true
-or_left a b h = rw h refl
-
-or_right : (a b : Bool) → b ≡ true → (a || b) ≡ true
-or_right true b h = refl
-or_right false b h = h
 
 pub request_found : (ps : List StorePlace) (xs : List KeptStore) (s : KeptStore) (p : StorePlace) → p.number ≡ s.number
     → p.first ≡ length xs → AreFound ps xs → AreFound (ps ++ p ∷ []) (with_store s xs)

@@ -1,6 +1,6 @@
 -- A log is of the history whose events it notes, and says true reasons.
 use Rattle.std.proofs.Common.{◌≡◌, ℕ, ◌+◌, ◌-◌, ◌<◌, ◌≤◌, ◌==◌, ◌&&◌, ◌↔◌, if◌then◌else◌, Bool, true, false, List, [], ◌∷◌, ◌++◌, map, drop}
-use Rattle.std.proofs.Common.{length, Option, Some, None, Result, Ok, Err, IfOk, inl, inr, refl, sym, ◌∙◌, ap, subst, arith, length-drop}
+use Rattle.std.proofs.Common.{length, Option, Some, None, inl, inr, refl, sym, ◌∙◌, ap, subst, arith, length-drop}
 use Rattle.std.proofs.Common.{length-append}
 use Rattle.std.specs.Prelude.{nat_lt, IfSome}
 use Rattle.std.specs.Int.Count.{ones_in}
@@ -334,7 +334,3 @@ log_names_at_request g w l b k = grind (arith, all, g.image.items, g.rest, l.add
 pub names_all : (w : Windows) (l : LoadByte) (b : ℕ) → has_all w.stores ≡ true
     → (0 < length (told_sources w l b)) ↔ MayReturn w.image w.rest w.stores l b
 names_all w l b t = rw t (some_source w.image w.rest w.stores l b)
-
-pub if_ok : {X E : Type 0} (r : Result X E) (P Q : X → Type 0) → ((x : X) → P x → Q x) → IfOk r P → IfOk r Q
-if_ok (Ok x) P Q f p = f x p
-if_ok (Err e) P Q f p = tt

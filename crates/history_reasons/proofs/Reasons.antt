@@ -1,11 +1,11 @@
 -- What a search finds, and why a byte may not be returned.
 use Rattle.std.proofs.Common.{◌≡◌, ℕ, zero, suc, ◌+◌, ◌-◌, ◌<◌, ◌↔◌, Bool, true, false, if◌then◌else◌, List, [], ◌∷◌, length, drop, Option}
-use Rattle.std.proofs.Common.{Some, None, slice_get, get_or, inl, inr, refl, sym, ◌∙◌, ap, subst, arith, length-drop}
+use Rattle.std.proofs.Common.{Some, None, slice_get, get_or, inl, inr, sym, ◌∙◌, ap, subst, arith, length-drop}
 use Rattle.std.specs.Prelude.{reverse, IfSome}
 use Rattle.std.specs.Bool.{Decides}
 use Rattle.std.specs.List.{Any, Contains, find}
 use Rattle.std.specs.Option.{option_map}
-use Rattle.std.proofs.lemmas.Bool.{cases_Bool}
+use Rattle.std.proofs.lemmas.Bool.{cases_Bool, false_from_ne_true}
 use Rattle.std.proofs.lemmas.Bool.Decides.{Decides-eqb, Decides-ltb}
 use Rattle.std.proofs.lemmas.List.{get_or-drop, get_or-reverse, length-reverse, reverse-reverse}
 use Rattle.memory_histories.specs.declared.events.Rest.{Rest}
@@ -106,10 +106,6 @@ last_behind P n xs x r =
           let ahead : n + (j - n) ≡ j = omega arith in
           subst (λ s. ¬ (P s)) (get_or-drop n xs (j - n) d ∙ ap (λ i. get_or xs i d) ahead) (r.4 (j - n) d (omega arith) (omega arith)),
     )
-
-false_if : (b : Bool) → (b ≡ true → ⊥) → b ≡ false
-false_if true h = absurd (h refl)
-false_if false h = refl
 
 -- where none is found, none of the list passes
 none_passes : (p : StoreByte → Bool) (xs : List StoreByte) → last_that p xs ≡ None → (x : StoreByte) → Contains xs x → p x ≡ true → ⊥
@@ -218,4 +214,4 @@ reason_law image rest stores l b = grind (arith, by_law)
 pub allowed_law : (image : List ℕ) (rest : Rest) (stores : List StoreByte) (l : LoadByte) (b : ℕ) (r : Bool)
     → (r ≡ true) ↔ MayReturn image rest stores l b → r ≡ may_return_byte image rest stores l b
 allowed_law image rest stores l b true h = grind (arith, may_return_decides)
-allowed_law image rest stores l b false h = grind (arith, false_if, false_true, may_return_decides)
+allowed_law image rest stores l b false h = grind (arith, false_from_ne_true, false_true, may_return_decides)
