@@ -22,8 +22,12 @@
 /* A buffer of so many bytes takes each version. */
 #define KROFT_VERSION_TEXT 16
 
+/* Where a closed handle points. (C++ takes a plain 0 for no pointer, but its compilers can warn of that.) */
 #ifdef __cplusplus
+#define KROFT_NOWHERE nullptr
 extern "C" {
+#else
+#define KROFT_NOWHERE 0
 #endif
 
 /* A word of memory: four bytes, byte 0 first. */
@@ -203,7 +207,7 @@ typedef struct {
 } kroft_handle;
 
 #define KROFT_NO_MACHINE \
-    { 0, 0 }
+    { 0, KROFT_NOWHERE }
 
 /*
  * The numbers of a machine: any within their ranges.
@@ -575,7 +579,7 @@ typedef struct {
 } kroft_history;
 
 #define KROFT_NO_HISTORY \
-    { 0, 0 }
+    { 0, KROFT_NOWHERE }
 
 /* The laws. */
 enum {
