@@ -114,9 +114,9 @@ enum {
 
 /*
  * One step of a run: may flat memory give this answer to this event? Returns KROFT_FLAT, and `words`
- * and `due` are then as the step leaves them; or KROFT_NOT_FLAT or KROFT_NO_STEP, and then both are as
- * they were. A row says nothing if its kind is past the last, or if it is a refusal whose cause isn't
- * 1 to 13.
+ * and `due` are then as the step leaves them, which writes no entry of `due` but that of a tag that is
+ * loaded or whose value is taken; or KROFT_NOT_FLAT or KROFT_NO_STEP, and then both are as they were. A
+ * row says nothing if its kind is past the last, or if it is a refusal whose cause isn't 1 to 13.
  *
  *     if (kroft_flat_step(words, nwords, due, KROFT_TAGS, &event, &answer) != KROFT_FLAT) {
  *         char text[KROFT_WHY_TEXT];

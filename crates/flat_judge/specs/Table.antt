@@ -1,5 +1,5 @@
 -- What the caller's table says that each tag is owed.
-use Rattle.std.specs.Prelude.{ℕ, if◌then◌else◌, ◌==◌, List, Option, Some, None, is_some, slice_index_or}
+use Rattle.std.specs.Prelude.{◌≡◌, ℕ, if◌then◌else◌, ◌==◌, List, Option, Some, None, is_some, slice_index_or}
 use Rattle.std.specs.List.{filter, range_with_len}
 use Rattle.flat_model.specs.declared.Word.{Word}
 use Rattle.flat_model.specs.Words.{zero_word}
@@ -14,9 +14,17 @@ owed_by e = if e.owed == 0 then None else Some e.word
 abbrev pub no_due : Due
 no_due = record { owed = 0; word = zero_word }
 
+-- the entry of a tag, by a table
+abbrev pub entry_of : List Due → ℕ → Due
+entry_of due tag = slice_index_or due tag no_due
+
 -- the word that a tag is owed, by a table
 abbrev pub due_in : List Due → ℕ → Option Word
-due_in due tag = owed_by (slice_index_or due tag no_due)
+due_in due tag = owed_by (entry_of due tag)
+
+-- each entry that says the same as before holds the same
+abbrev pub KeepsEntries : List Due → List Due → Type 0
+KeepsEntries old new = (tag : ℕ) → due_in new tag ≡ due_in old tag → entry_of new tag ≡ entry_of old tag
 
 -- the word that is owed, or else this one
 abbrev pub owed_or : Word → Option Word → Word

@@ -4,6 +4,7 @@ ghost use Rattle.flat_model.specs.Flat.{may_answer, flat_after};
 ghost use Rattle.flat_model.specs.Memory.{Finds};
 ghost use Rattle.flat_judge.specs.Rows.{event_of, answer_of};
 ghost use Rattle.flat_judge.specs.Judge.{flat, judged, status_of};
+ghost use Rattle.flat_judge.specs.Table.{KeepsEntries};
 
 use crate::rows::{AnswerRow, EventRow};
 use crate::table::{Due, TAGS, due_word, set_due};
@@ -30,14 +31,16 @@ pub(crate) struct Found {
 /// One step of a run, over the words of memory and the table of what each tag is owed.
 ///
 /// 0: flat memory gives this answer to this event, and `words` and `due` are as the step leaves
-/// them. 1: flat memory never gives it. 2: a row says nothing, or `due` hasn't an entry for each
-/// tag. After 1 and 2 all is as it was.
+/// them: of `due` only the entry of a tag that is loaded, or whose value is taken, is written. 1: flat
+/// memory never gives it. 2: a row says nothing, or `due` hasn't an entry for each tag. After 1 and 2
+/// all is as it was.
 pub fn flat_step(words: &mut [Word], due: &mut [Due], event: &EventRow, answer: &AnswerRow) -> u32
     ensures status { result
         ≡ status_of (judged words.old due.old (event_of event.now) (answer_of answer.now)) }
     ensures step { result ≡ 0
         → judged words.old due.old (event_of event.now) (answer_of answer.now)
         ≡ Some (Some (flat words.new due.new)) }
+    ensures entries { KeepsEntries due.old due.new }
     ensures words { result ≢ 0 → words.new ≡ words.old }
     ensures due { result ≢ 0 → due.new ≡ due.old }
 {
@@ -85,7 +88,8 @@ fn is_flat(words: &[Word], due: &[Due], event: Event, answer: Answer) -> bool
 fn step(words: &mut [Word], due: &mut [Due], event: Event, answer: Answer)
     requires table { length due.old ≡ TAGS }
     requires may { may_answer (flat words.old due.old) event answer ≡ true }
-    ensures { flat words.new due.new ≡ flat_after (flat words.old due.old) event answer }
+    ensures step { flat words.new due.new ≡ flat_after (flat words.old due.old) event answer }
+    ensures entries { KeepsEntries due.old due.new }
 {
     match (event, answer) {
         (Event::Load { tag, at }, Answer::Accepted) => {

@@ -1,5 +1,5 @@
 //! What each tag is owed, as a table that the caller keeps.
-ghost use Rattle.std.specs.Prelude.{◌≡◌, ◌≤◌, if◌then◌else◌, is_some, length};
+ghost use Rattle.std.specs.Prelude.{◌≡◌, ◌≤◌, if◌then◌else◌, is_some, length, slice_set};
 ghost use Rattle.flat_model.specs.Flat.{with_due};
 ghost use Rattle.flat_judge.specs.Table.{due_in, owed_by, owed_or, tags_owed, owed_below, nth_tag};
 
@@ -81,7 +81,8 @@ pub(crate) fn due_word(due: &[Due], tag: u16) -> Option<Word>
 /// Writes the entry of a tag.
 pub(crate) fn set_due(due: &mut [Due], tag: u16, entry: Due)
     requires { length due.old ≡ TAGS }
-    ensures { due_in due.new ≡ with_due (due_in due.old) tag (owed_by entry) }
+    ensures says { due_in due.new ≡ with_due (due_in due.old) tag (owed_by entry) }
+    ensures holds { due.new ≡ slice_set due.old tag entry }
 {
     due[tag as usize] = entry;
 }
