@@ -1,4 +1,3 @@
 mod TagSlots
-mod PairTexts
 mod LinesRead
 mod Endings

@@ -6,6 +6,7 @@ use Rattle.flat_model.specs.declared.Event.{Event}
 use Rattle.flat_model.specs.declared.Answer.{Answer}
 use Rattle.flat_model.specs.Flat.{opening, flat_step}
 use Rattle.trace_text.specs.Reading.{IsGood, Good, fault_of}
+use Rattle.trace_text.specs.Lines.{IsSaid}
 use Rattle.trace_text.specs.Pairs.{pair_of}
 use Rattle.trace_text.specs.Recorded.{recorded}
 use Rattle.trace_text.specs.Checks.{step_of, step_with, pair_fault, JudgedFrom}
@@ -16,7 +17,7 @@ use Rattle.trace_text.specs.declared.lines.LineFault.TheVariants.{TooLong}
 use Rattle.trace_text.specs.declared.pairs.Pair.{Pair}
 use Rattle.trace_text.specs.declared.fault.TraceFault.TheVariants as fault
 use Rattle.trace_text.proofs.Held.{judged_still, judged_more, judged_mismatch}
-use Rattle.trace_text.proofs.LineTexts.{none_yet, none_more, begins_long, good_more, good_line}
+use Rattle.trace_text.proofs.LineTexts.{none_yet, none_more, begins_long, begins_said, good_more, good_line}
 use Rattle.run_reasons.specs.Origins.{Origins, origins_then, origins_from, origins_of, origins_after, beginning}
 use Rattle.run_reasons.specs.Reasons.{mismatch_at}
 use Rattle.run_reasons.specs.Shown.{shown}
@@ -25,7 +26,6 @@ use Rattle.run_reasons.specs.Lines.{HasRead, StepEnds, bytes_left}
 use Rattle.run_reasons.specs.declared.lines.Lines.{Lines}
 use Rattle.run_reasons.specs.declared.lines.Stop.{Stop}
 use Rattle.run_reasons.specs.declared.lines.Stop.TheVariants as stop
-use Rattle.run_reasons.proofs.PairTexts.{begins_faulty}
 
 -- ---- the origins of one line more
 
@@ -180,10 +180,13 @@ ends_long r b number h ne long at =
     )
 
 pub ends_faulty : {words : List Word} {bytes : List ℕ} (r : Lines) (number : ℕ) (f : LineFault) → HasRead words bytes r
-    → number ≡ r.count + 1 → pair_of r.pending.items ≡ Err f → EndsIn words (bytes ++ 10 ∷ []) (stop.Fault (fault.Line number f))
-ends_faulty r number f h at said =
-    ends_in r 10 (stop.Fault (fault.Line number f)) h
-    (omega (arith, at, h.number), begins_faulty r.pending.items f h.text.short h.text.unfinished said)
+    → number ≡ r.count + 1 → pair_of r.pending.items ≡ Err f → IsSaid f
+    → EndsIn words (bytes ++ 10 ∷ []) (stop.Fault (fault.Line number f))
+ends_faulty r number f h at read said =
+    ends_in r 10 (stop.Fault (fault.Line number f)) h (
+      omega (arith, at, h.number),
+      begins_said pair_fault MAX_PAIR r.pending.items f h.text.short h.text.unfinished said (ap fault_of read),
+    )
 
 mismatch_ends : (words : List Word) (texts : List (List ℕ)) (text : List ℕ) (steps : ℕ) (pair : Pair) (event : Event) (answer : Answer)
     → IsFlat words texts steps → IsGood pair_fault MAX_PAIR text

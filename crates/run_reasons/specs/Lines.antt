@@ -14,7 +14,6 @@ use Rattle.run_reasons.specs.Origins.{Origins, origins_of}
 use Rattle.run_reasons.specs.Reasons.{mismatch_at}
 use Rattle.run_reasons.specs.Shown.{shown}
 use Rattle.run_reasons.specs.Runs.{most_lines, IsFlatText}
-use Rattle.run_reasons.specs.declared.lines.TheConstants.{MAX_ENDED}
 use Rattle.run_reasons.specs.declared.lines.Lines.{Lines}
 use Rattle.run_reasons.specs.declared.lines.Stop.{Stop}
 use Rattle.run_reasons.specs.declared.lines.Stop.TheVariants.{Mismatch, Fault}
@@ -29,7 +28,7 @@ pub record HasRead (words : List Word) (bytes : List ℕ) (r : Lines) : Type 0 w
 
 -- how many bytes more can be read, at most
 abbrev pub bytes_left : Lines → ℕ
-bytes_left r = (most_lines - r.count) * MAX_ENDED + (MAX_PAIR - length r.pending.items)
+bytes_left r = (most_lines - r.count) * (MAX_PAIR + 1) + (MAX_PAIR - length r.pending.items)
 
 -- why a step ends a reading: its pair isn't listed, or there was too little memory
 abbrev pub StepEnds : Origins → ℕ → Event → Answer → Stop → Type 0

@@ -16,10 +16,7 @@ use arrayvec::ArrayVec;
 use flat_model::{Answer, Event};
 use memory_images::Image;
 use std::alloc::{AllocError, Global};
-use trace_text::{Line, LineFault, MAX_PAIR, Pair, TraceFault, read_pair};
-
-// The bytes of a line, with its LF.
-const MAX_ENDED: usize = MAX_PAIR + 1;
+use trace_text::{Line, LineFault, MAX_PAIR, Pair, TraceFault, pair_said};
 
 // Why the bytes so far are the last ones that are read.
 #[derive(Clone, Copy)]
@@ -32,7 +29,7 @@ pub(crate) enum Stop {
 #[derive(Drop)]
 pub(crate) struct Lines {
     pub(crate) explainer: Explainer,
-    pub(crate) pending: ArrayVec<u8, MAX_ENDED>,
+    pub(crate) pending: ArrayVec<u8, MAX_PAIR>,
     pub(crate) count: u64,
     pub(crate) steps: u64,
 }
@@ -128,8 +125,7 @@ impl Lines {
         ensures stop { IfErr result (λ stop. (words : List Word) (before : List ℕ)
             → HasRead words before self.old → EndsIn words (before ++ 10 ∷ []) stop) }
     {
-        self.pending.push(b'\n');
-        let pair = match read_pair(self.pending.as_slice()) {
+        let pair = match pair_said(self.pending.as_slice()) {
             Ok(pair) => pair,
             Err(fault) => return Err(Stop::Fault(TraceFault::Line { number, fault })),
         };

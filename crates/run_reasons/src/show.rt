@@ -2,14 +2,13 @@
 
 ghost use Rattle.std.specs.Prelude.{◌≡◌, ◌<◌, Some};
 ghost use Rattle.std.specs.Fmt.{WritesOnOk};
-ghost use Rattle.flat_model.specs.Texts.{byte_text, hex_digit};
 ghost use Rattle.run_reasons.specs.Texts.{kind_text, answers_text, initial_text, owed_from_text, overwritten_text, past_text};
 ghost use Rattle.run_reasons.specs.Texts.{got_from_text, byte_line, since_line, wrong_word_text, reason_text, mismatch_text};
 
 use crate::origins::AcceptedLoad;
 use crate::pasts::{Overwritten, Pasts};
 use crate::reason::{Mismatch, Reason, WrongWord};
-use flat_model::{Answer, Event};
+use flat_model::{Answer, Event, TwoDigits};
 use std::fmt;
 
 /// At most seven lines, without a line feed at the end.
@@ -174,31 +173,11 @@ fn write_byte<W: fmt::Write>(
     if owed == got {
         return Ok(());
     }
-    let (owed, got) = (HexByte(owed), HexByte(got));
+    let (owed, got) = (TwoDigits(owed), TwoDigits(got));
     write!(f, "\nbyte {place}: owed {owed}, ")?;
     write_owed_from(f, owed.0, store)?;
     write!(f, "; got {got}, ")?;
     write_got_from(f, later, past)
-}
-
-// A byte as two hexadecimal digits.
-#[derive(Drop)]
-struct HexByte(u8);
-
-impl fmt::Display for HexByte {
-    ghost output = { λ byte. Some (byte_text byte.0) };
-
-    fn fmt<W: fmt::Write>(&self, f: &mut fmt::Formatter<W>) -> fmt::Result {
-        f.write_char(digit(self.0 / 16))?;
-        f.write_char(digit(self.0 % 16))
-    }
-}
-
-fn digit(n: u8) -> char
-    requires { n < 16 }
-    ensures { result ≡ hex_digit n }
-{
-    char::from(if n < 10 { b'0' + n } else { b'a' + (n - 10) })
 }
 
 // Where the byte that is owed was stored.

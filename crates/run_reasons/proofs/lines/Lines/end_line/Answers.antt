@@ -1,21 +1,23 @@
-use Rattle.std.proofs.Common.{◌≡◌, Ok, Err, ap, sym, ◌∙◌, arith}
-use Rattle.trace_text.specs.Pairs.{pair_of, ended_pair_of}
+use Rattle.std.proofs.Common.{◌≡◌, ℕ, List, Result, ap, ◌∙◌, arith}
+use Rattle.trace_text.specs.Pairs.{pair_of}
+use Rattle.trace_text.specs.declared.lines.LineFault.{LineFault}
+use Rattle.trace_text.specs.declared.pairs.Pair.{Pair}
 use Rattle.flat_model.specs.Flat.{opening}
 use Rattle.trace_text.proofs.Held.{few_steps}
 use Rattle.std.specs.Prelude.{None}
 use Rattle.run_reasons.specs.Origins.{origins_of}
 use Rattle.run_reasons.specs.Shown.{shown}
-use Rattle.run_reasons.proofs.PairTexts.{ended_pair}
 use Rattle.run_reasons.proofs.LinesRead.{read_still, read_step, ends_faulty, ends_step, left_less, on_ok5, if_err}
 use Rattle.run_reasons.proofs.lines.Lines.end_line.Goals as goal
 
+-- what the line that ends says
+read_as : {r s : Result Pair LineFault} {text seen : List ℕ} → seen ≡ text → r ≡ pair_of seen → r ≡ s → pair_of text ≡ s
+read_as at read is = cc
+
 pub returns-in-Err-clause-stop : goal.returns-in-Err-clause-stop
 returns-in-Err-clause-stop c words before h =
-    let text = c.args.self.now.pending.items in
-    let said : pair_of text ≡ Err c.in-Err.fault =
-    sym (ended_pair text h.text.short) ∙ ap ended_pair_of (sym (c.as_slice.ensures.value ∙ c.push.ensures.items)) ∙ sym c.read_pair.ensures
-    ∙ c.in-Err.is in
-    ends_faulty c.args.self.now c.args.number c.in-Err.fault h c.requires.number said
+    ends_faulty c.args.self.now c.args.number c.in-Err.fault h c.requires.number
+    (read_as c.as_slice.ensures.value c.pair_said.ensures.pair c.in-Err.is) (grind arith)
 
 pub step-requires : goal.step-requires
 step-requires c =
@@ -31,11 +33,8 @@ step-requires c =
 
 pub returns-in-None-clause-ok : goal.returns-in-None-clause-ok
 returns-in-None-clause-ok c words before h =
-    let text = c.args.self.now.pending.items in
-    let said : pair_of text ≡ Ok c.in-Ok.pair =
-    sym (ended_pair text h.text.short) ∙ ap ended_pair_of (sym (c.as_slice.ensures.value ∙ c.push.ensures.items)) ∙ sym c.read_pair.ensures
-    ∙ c.in-Ok.is in
-    read_still c.args.self.now c.close.new.self c.in-Ok.pair h said c.in-None.ensures.none c.close.ensures.pending
+    read_still c.args.self.now c.close.new.self c.in-Ok.pair h
+    (read_as c.as_slice.ensures.value c.pair_said.ensures.pair c.in-Ok.is) c.in-None.ensures.none c.close.ensures.pending
     (c.close.ensures.count ∙ c.requires.number) c.close.ensures.steps (ap shown c.close.ensures.explainer)
 
 pub returns-in-None-clause-progress : goal.returns-in-None-clause-progress
@@ -45,13 +44,10 @@ returns-in-None-clause-progress c =
 
 pub returns-in-Some-clause-ok : goal.returns-in-Some-clause-ok
 returns-in-Some-clause-ok c =
-    let text = c.args.self.now.pending.items in
     on_ok5 c.step.result
     (λ flat origins steps count pending words before h.
-    let said : pair_of text ≡ Ok c.in-Ok.pair =
-    sym (ended_pair text h.text.short) ∙ ap ended_pair_of (sym (c.as_slice.ensures.value ∙ c.push.ensures.items)) ∙ sym c.read_pair.ensures
-    ∙ c.in-Ok.is in
-    read_step c.args.self.now c.step.new.self c.in-Ok.pair c.in-Some.event c.in-Some.answer c.args.number h said c.in-Some.ensures.some
+    read_step c.args.self.now c.step.new.self c.in-Ok.pair c.in-Some.event c.in-Some.answer c.args.number h
+    (read_as c.as_slice.ensures.value c.pair_said.ensures.pair c.in-Ok.is) c.in-Some.ensures.some
     c.requires.number flat origins pending (count ∙ c.requires.number) steps)
     c.step.ensures.ok c.step.ensures.origins c.step.ensures.steps c.step.ensures.count c.step.ensures.pending
 
@@ -64,12 +60,9 @@ returns-in-Some-clause-progress c =
 
 pub returns-in-Some-clause-stop : goal.returns-in-Some-clause-stop
 returns-in-Some-clause-stop c =
-    let text = c.args.self.now.pending.items in
     if_err c.step.result
     (λ why ends words before h.
-    let said : pair_of text ≡ Ok c.in-Ok.pair =
-    sym (ended_pair text h.text.short) ∙ ap ended_pair_of (sym (c.as_slice.ensures.value ∙ c.push.ensures.items)) ∙ sym c.read_pair.ensures
-    ∙ c.in-Ok.is in
-    ends_step c.args.self.now c.in-Ok.pair c.in-Some.event c.in-Some.answer c.args.number why h said c.in-Some.ensures.some
+    ends_step c.args.self.now c.in-Ok.pair c.in-Some.event c.in-Some.answer c.args.number why h
+    (read_as c.as_slice.ensures.value c.pair_said.ensures.pair c.in-Ok.is) c.in-Some.ensures.some
     c.requires.number ends)
     c.step.ensures.err
