@@ -8,33 +8,30 @@ use Rattle.register_sweeps.specs.declared.row.Row.{Row}
 use Rattle.register_sweeps.specs.declared.rounds.RoundsRow.{RoundsRow}
 use Rattle.register_sweeps.specs.Rounds.{rounds_row_text}
 use Rattle.register_sweeps.specs.Sweep.{row_text, empty_row}
-use Rattle.named_fields.specs.declared.figures.Figure.TheVariants.{Count, Hundredths}
+use Rattle.named_fields.specs.declared.figures.Figure.TheVariants.{Hundredths}
 use Rattle.named_fields.specs.declared.format.Format.{Format}
-use Rattle.named_fields.specs.Formats.{Named, named, in_format, head_in_format}
-
-abbrev pub count : List ℕ → ℕ → Named
-count name n = named name (Count n)
+use Rattle.named_fields.specs.Formats.{Named, named, counted, in_format, head_in_format}
 
 -- what became of the requests
 unfoldable pub requests_named : Table → List Named
 requests_named t =
-    count (codes "rounds") t.rounds ∷ count (codes "accepted") t.accepted ∷ count (codes "denied") t.denied
-    ∷ count (codes "hits") t.hits ∷ count (codes "joins") t.joins ∷ count (codes "misses") t.misses
-    ∷ count (codes "stalled") t.stalled ∷ []
+    counted (codes "rounds") t.rounds ∷ counted (codes "accepted") t.accepted ∷ counted (codes "denied") t.denied
+    ∷ counted (codes "hits") t.hits ∷ counted (codes "joins") t.joins ∷ counted (codes "misses") t.misses
+    ∷ counted (codes "stalled") t.stalled ∷ []
 
 -- the lost rounds, by the number and the name of the cause
 unfoldable pub lost_named : LostRounds → List Named
 lost_named l =
-    count (codes "lost_3_tag_in_use") l.tag_in_use ∷ count (codes "lost_4_replies_full") l.replies_full
-    ∷ count (codes "lost_5_targets_full") l.targets_full ∷ count (codes "lost_7_no_register") l.no_register
-    ∷ count (codes "lost_8_set_pending") l.set_pending ∷ count (codes "lost_9_queue_full") l.queue_full
-    ∷ count (codes "lost_10_bank_full") l.bank_full ∷ []
+    counted (codes "lost_3_tag_in_use") l.tag_in_use ∷ counted (codes "lost_4_replies_full") l.replies_full
+    ∷ counted (codes "lost_5_targets_full") l.targets_full ∷ counted (codes "lost_7_no_register") l.no_register
+    ∷ counted (codes "lost_8_set_pending") l.set_pending ∷ counted (codes "lost_9_queue_full") l.queue_full
+    ∷ counted (codes "lost_10_bank_full") l.bank_full ∷ []
 
 -- how long the loads waited, and what else the machine did
 unfoldable pub waits_named : Table → List Named
 waits_named t =
-    count (codes "values") t.values ∷ named (codes "mean") (Hundredths (mean_wait t).0 (mean_wait t).1)
-    ∷ count (codes "longest") t.longest ∷ count (codes "registers") t.registers ∷ count (codes "written") t.written ∷ []
+    counted (codes "values") t.values ∷ named (codes "mean") (Hundredths (mean_wait t).0 (mean_wait t).1)
+    ∷ counted (codes "longest") t.longest ∷ counted (codes "registers") t.registers ∷ counted (codes "written") t.written ∷ []
 
 -- a table of rounds
 unfoldable pub table_named : Table → List Named
@@ -42,11 +39,11 @@ table_named t = requests_named t ++ (lost_named t.lost ++ waits_named t)
 
 -- a row of a sweep in rounds
 unfoldable pub rounds_named : RoundsRow → List Named
-rounds_named r = count (codes "regs") r.regs ∷ table_named r.table
+rounds_named r = counted (codes "regs") r.regs ∷ table_named r.table
 
 -- the same behind the latency that it was counted with
 unfoldable pub latency_named : (latency : ℕ) → RoundsRow → List Named
-latency_named latency r = count (codes "latency") latency ∷ rounds_named r
+latency_named latency r = counted (codes "latency") latency ∷ rounds_named r
 
 abbrev pub latency_text : (latency : ℕ) → RoundsRow → List ℕ
 latency_text latency r = codes "latency " ++ (decimal latency ++ (codes " " ++ rounds_row_text r))
@@ -54,9 +51,9 @@ latency_text latency r = codes "latency " ++ (decimal latency ++ (codes " " ++ r
 -- a row of a sweep by pumps
 unfoldable pub pumps_named : Row → List Named
 pumps_named r =
-    count (codes "regs") r.regs ∷ count (codes "accepted") r.accepted ∷ count (codes "denied") r.denied
-    ∷ count (codes "stalled") r.stalled ∷ count (codes "waited") r.waited ∷ count (codes "pumps") r.pumps
-    ∷ count (codes "values") r.values ∷ []
+    counted (codes "regs") r.regs ∷ counted (codes "accepted") r.accepted ∷ counted (codes "denied") r.denied
+    ∷ counted (codes "stalled") r.stalled ∷ counted (codes "waited") r.waited ∷ counted (codes "pumps") r.pumps
+    ∷ counted (codes "values") r.values ∷ []
 
 -- ---- what is written of them in a format
 

@@ -9,23 +9,23 @@ use Rattle.named_fields.specs.declared.figures.Figure.TheVariants.{Hundredths}
 use Rattle.named_fields.specs.declared.format.Format.{Format}
 use Rattle.named_fields.specs.declared.format.Format.TheVariants.{Text, Csv, Json}
 use Rattle.result_formats.specs.declared.series.By.TheVariants.{Number, Doubling}
-use Rattle.named_fields.specs.Formats.{Named, named, joined, member_text}
-use Rattle.result_formats.specs.Counts.{count, table_named}
+use Rattle.named_fields.specs.Formats.{Named, named, counted, joined, member_text}
+use Rattle.result_formats.specs.Counts.{table_named}
 use Rattle.result_formats.specs.Series.{Listed, listed, all_fields, all_series}
 
 -- the figures beside those of the table
 unfoldable pub details_named : Details → List Named
 details_named d =
-    count (codes "loads") d.kinds.loads.accepted ∷ count (codes "load_hits") d.kinds.loads.hits
-    ∷ count (codes "load_joins") d.kinds.loads.joins ∷ count (codes "load_misses") d.kinds.loads.misses
-    ∷ count (codes "stores") d.kinds.stores.accepted ∷ count (codes "store_hits") d.kinds.stores.hits
-    ∷ count (codes "store_joins") d.kinds.stores.joins ∷ count (codes "store_misses") d.kinds.stores.misses
-    ∷ count (codes "prefetches") d.kinds.prefetches.accepted ∷ count (codes "prefetch_hits") d.kinds.prefetches.hits
-    ∷ count (codes "prefetch_joins") d.kinds.prefetches.joins ∷ count (codes "prefetch_misses") d.kinds.prefetches.misses
+    counted (codes "loads") d.kinds.loads.accepted ∷ counted (codes "load_hits") d.kinds.loads.hits
+    ∷ counted (codes "load_joins") d.kinds.loads.joins ∷ counted (codes "load_misses") d.kinds.loads.misses
+    ∷ counted (codes "stores") d.kinds.stores.accepted ∷ counted (codes "store_hits") d.kinds.stores.hits
+    ∷ counted (codes "store_joins") d.kinds.stores.joins ∷ counted (codes "store_misses") d.kinds.stores.misses
+    ∷ counted (codes "prefetches") d.kinds.prefetches.accepted ∷ counted (codes "prefetch_hits") d.kinds.prefetches.hits
+    ∷ counted (codes "prefetch_joins") d.kinds.prefetches.joins ∷ counted (codes "prefetch_misses") d.kinds.prefetches.misses
     ∷ named (codes "mean_from_asking")
     (Hundredths (mean_of d.waits_from_asking.rounds d.waits_from_asking.loads).0
     (mean_of d.waits_from_asking.rounds d.waits_from_asking.loads).1)
-    ∷ count (codes "longest_from_asking") d.waits_from_asking.longest ∷ []
+    ∷ counted (codes "longest_from_asking") d.waits_from_asking.longest ∷ []
 
 -- the loads by the bucket of their wait, up to that of the longest one
 abbrev pub buckets_of : Waits → List ℕ
@@ -45,15 +45,15 @@ series_named d =
 -- the figures of accesses: all, the reads, and the writes
 unfoldable pub accesses_named : AccessCounts → List Named
 accesses_named c =
-    count (codes "accesses") (c.reads.accesses + c.writes.accesses) ∷ count (codes "access_hits") (c.reads.hits + c.writes.hits)
-    ∷ count (codes "access_joins") (c.reads.joins + c.writes.joins) ∷ count (codes "access_misses") (c.reads.misses + c.writes.misses)
-    ∷ count (codes "access_denied") (c.reads.denied + c.writes.denied)
-    ∷ count (codes "reads") c.reads.accesses ∷ count (codes "read_hits") c.reads.hits
-    ∷ count (codes "read_joins") c.reads.joins ∷ count (codes "read_misses") c.reads.misses
-    ∷ count (codes "read_denied") c.reads.denied
-    ∷ count (codes "writes") c.writes.accesses ∷ count (codes "write_hits") c.writes.hits
-    ∷ count (codes "write_joins") c.writes.joins ∷ count (codes "write_misses") c.writes.misses
-    ∷ count (codes "write_denied") c.writes.denied ∷ []
+    counted (codes "accesses") (c.reads.accesses + c.writes.accesses) ∷ counted (codes "access_hits") (c.reads.hits + c.writes.hits)
+    ∷ counted (codes "access_joins") (c.reads.joins + c.writes.joins) ∷ counted (codes "access_misses") (c.reads.misses + c.writes.misses)
+    ∷ counted (codes "access_denied") (c.reads.denied + c.writes.denied)
+    ∷ counted (codes "reads") c.reads.accesses ∷ counted (codes "read_hits") c.reads.hits
+    ∷ counted (codes "read_joins") c.reads.joins ∷ counted (codes "read_misses") c.reads.misses
+    ∷ counted (codes "read_denied") c.reads.denied
+    ∷ counted (codes "writes") c.writes.accesses ∷ counted (codes "write_hits") c.writes.hits
+    ∷ counted (codes "write_joins") c.writes.joins ∷ counted (codes "write_misses") c.writes.misses
+    ∷ counted (codes "write_denied") c.writes.denied ∷ []
 
 -- behind something else, if there are any
 unfoldable pub accesses_in : Format → Option AccessCounts → List ℕ

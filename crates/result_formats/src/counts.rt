@@ -9,16 +9,6 @@ use named_fields::{Field, Figure};
 use register_sweeps::{RoundsRow, Row};
 use round_driver::Table;
 
-// A count with its name.
-pub(crate) fn count(name: &'static str, n: u64) -> Field<'static>
-    ensures { said result ≡ counts.count name.now n }
-{
-    Field {
-        name,
-        figure: Figure::Count(u128::from(n)),
-    }
-}
-
 /// How many fields a table of rounds has.
 pub const TABLE_FIELDS: usize = 19;
 
@@ -30,28 +20,28 @@ pub fn table_fields(table: &Table) -> [Field<'static>; TABLE_FIELDS]
     let (whole, part) = table.mean_wait();
     let lost = table.lost;
     [
-        count("rounds", table.rounds),
-        count("accepted", table.accepted),
-        count("denied", table.denied),
-        count("hits", table.hits),
-        count("joins", table.joins),
-        count("misses", table.misses),
-        count("stalled", table.stalled),
-        count("lost_3_tag_in_use", lost.tag_in_use),
-        count("lost_4_replies_full", lost.replies_full),
-        count("lost_5_targets_full", lost.targets_full),
-        count("lost_7_no_register", lost.no_register),
-        count("lost_8_set_pending", lost.set_pending),
-        count("lost_9_queue_full", lost.queue_full),
-        count("lost_10_bank_full", lost.bank_full),
-        count("values", table.values),
+        Field::count("rounds", table.rounds),
+        Field::count("accepted", table.accepted),
+        Field::count("denied", table.denied),
+        Field::count("hits", table.hits),
+        Field::count("joins", table.joins),
+        Field::count("misses", table.misses),
+        Field::count("stalled", table.stalled),
+        Field::count("lost_3_tag_in_use", lost.tag_in_use),
+        Field::count("lost_4_replies_full", lost.replies_full),
+        Field::count("lost_5_targets_full", lost.targets_full),
+        Field::count("lost_7_no_register", lost.no_register),
+        Field::count("lost_8_set_pending", lost.set_pending),
+        Field::count("lost_9_queue_full", lost.queue_full),
+        Field::count("lost_10_bank_full", lost.bank_full),
+        Field::count("values", table.values),
         Field {
             name: "mean",
             figure: Figure::Hundredths { whole, part },
         },
-        count("longest", table.longest),
-        count("registers", u64::from(table.registers)),
-        count("written", table.written),
+        Field::count("longest", table.longest),
+        Field::count("registers", u64::from(table.registers)),
+        Field::count("written", table.written),
     ]
 }
 
@@ -64,7 +54,7 @@ pub fn rounds_fields(row: &RoundsRow) -> ArrayVec<Field<'static>, ROUNDS_FIELDS>
     ensures { map said result.items ≡ counts.rounds_named row.now }
 {
     let mut fields = ArrayVec::new();
-    fields.push(count("regs", u64::from(row.regs)));
+    fields.push(Field::count("regs", u64::from(row.regs)));
     let _fits = fields
         .try_extend_from_slice(&table_fields(&row.table))
         .is_ok();
@@ -80,7 +70,7 @@ pub fn latency_fields(latency: u64, row: &RoundsRow) -> ArrayVec<Field<'static>,
     ensures { map said result.items ≡ counts.latency_named latency row.now }
 {
     let mut fields = ArrayVec::new();
-    fields.push(count("latency", latency));
+    fields.push(Field::count("latency", latency));
     let _fits = fields
         .try_extend_from_slice(rounds_fields(row).as_slice())
         .is_ok();
@@ -96,12 +86,12 @@ pub fn pumps_fields(row: &Row) -> [Field<'static>; PUMPS_FIELDS]
     ensures { map said result ≡ counts.pumps_named row.now }
 {
     [
-        count("regs", u64::from(row.regs)),
-        count("accepted", row.accepted),
-        count("denied", row.denied),
-        count("stalled", row.stalled),
-        count("waited", row.waited),
-        count("pumps", row.pumps),
-        count("values", row.values),
+        Field::count("regs", u64::from(row.regs)),
+        Field::count("accepted", row.accepted),
+        Field::count("denied", row.denied),
+        Field::count("stalled", row.stalled),
+        Field::count("waited", row.waited),
+        Field::count("pumps", row.pumps),
+        Field::count("values", row.values),
     ]
 }

@@ -3,12 +3,11 @@
 ghost use Rattle.std.specs.Prelude.{Some, ◌≡◌, ◌+◌, map, take};
 ghost use Rattle.std.specs.List.{flat_map};
 ghost use Rattle.std.specs.Fmt.{WritesOnOk};
-ghost use Rattle.named_fields.specs.Formats.{said};
-ghost use Rattle.result_formats.specs.Counts as counts;
+ghost use Rattle.named_fields.specs.Formats.{said, counted};
 ghost use Rattle.result_formats.specs.Details as specs;
 ghost use Rattle.result_formats.specs.Series as series;
 
-use crate::counts::{count, table_fields};
+use crate::counts::table_fields;
 use crate::series::{AllSeries, By, Series};
 use access_counts::AccessCounts;
 use named_fields::{Field, Figure, Format, Member, Members};
@@ -75,23 +74,23 @@ pub fn detail_fields(details: &Details) -> [Field<'static>; DETAIL_FIELDS]
     let prefetches = details.kinds.prefetches;
     let (whole, part) = details.waits_from_asking.mean();
     [
-        count("loads", loads.accepted),
-        count("load_hits", loads.hits),
-        count("load_joins", loads.joins),
-        count("load_misses", loads.misses),
-        count("stores", stores.accepted),
-        count("store_hits", stores.hits),
-        count("store_joins", stores.joins),
-        count("store_misses", stores.misses),
-        count("prefetches", prefetches.accepted),
-        count("prefetch_hits", prefetches.hits),
-        count("prefetch_joins", prefetches.joins),
-        count("prefetch_misses", prefetches.misses),
+        Field::count("loads", loads.accepted),
+        Field::count("load_hits", loads.hits),
+        Field::count("load_joins", loads.joins),
+        Field::count("load_misses", loads.misses),
+        Field::count("stores", stores.accepted),
+        Field::count("store_hits", stores.hits),
+        Field::count("store_joins", stores.joins),
+        Field::count("store_misses", stores.misses),
+        Field::count("prefetches", prefetches.accepted),
+        Field::count("prefetch_hits", prefetches.hits),
+        Field::count("prefetch_joins", prefetches.joins),
+        Field::count("prefetch_misses", prefetches.misses),
         Field {
             name: "mean_from_asking",
             figure: Figure::Hundredths { whole, part },
         },
-        count("longest_from_asking", details.waits_from_asking.longest),
+        Field::count("longest_from_asking", details.waits_from_asking.longest),
     ]
 }
 
@@ -100,7 +99,7 @@ pub const ACCESS_FIELDS: usize = 15;
 
 // A sum with its name.
 fn sum(name: &'static str, a: u64, b: u64) -> Field<'static>
-    ensures { said result ≡ counts.count name.now (a + b) }
+    ensures { said result ≡ counted name.now (a + b) }
 {
     Field {
         name,
@@ -121,16 +120,16 @@ pub fn access_fields(accesses: AccessCounts) -> [Field<'static>; ACCESS_FIELDS]
         sum("access_joins", reads.joins, writes.joins),
         sum("access_misses", reads.misses, writes.misses),
         sum("access_denied", reads.denied, writes.denied),
-        count("reads", reads.accesses),
-        count("read_hits", reads.hits),
-        count("read_joins", reads.joins),
-        count("read_misses", reads.misses),
-        count("read_denied", reads.denied),
-        count("writes", writes.accesses),
-        count("write_hits", writes.hits),
-        count("write_joins", writes.joins),
-        count("write_misses", writes.misses),
-        count("write_denied", writes.denied),
+        Field::count("reads", reads.accesses),
+        Field::count("read_hits", reads.hits),
+        Field::count("read_joins", reads.joins),
+        Field::count("read_misses", reads.misses),
+        Field::count("read_denied", reads.denied),
+        Field::count("writes", writes.accesses),
+        Field::count("write_hits", writes.hits),
+        Field::count("write_joins", writes.joins),
+        Field::count("write_misses", writes.misses),
+        Field::count("write_denied", writes.denied),
     ]
 }
 
