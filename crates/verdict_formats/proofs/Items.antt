@@ -1,5 +1,5 @@
 -- Fields that are named one by one are all of a list of so many.
-use Rattle.std.proofs.Common.{◌≡◌, ℕ, zero, suc, List, [], ◌∷◌, length, map, slice_index_or, refl, ap, ap₂, ◌∙◌, arith}
+use Rattle.std.proofs.Common.{◌≡◌, ℕ, zero, suc, List, [], ◌∷◌, length, map, slice_index_or, refl, ap, ◌∙◌, arith}
 use Rattle.named_fields.specs.Formats.{Named, said}
 use Rattle.named_fields.specs.declared.fields.Field.{Field}
 
@@ -31,6 +31,3 @@ all_items d (x ∷ xs) (suc n) is = ap (λ l. x ∷ l) (behind d x xs 0 n ∙ al
 pub told : (d : Field) (xs : List Field) (n : ℕ) (all : List Named) → length xs ≡ n → map said xs ≡ all
     → map said (items_from d xs 0 n) ≡ all
 told d xs n all length-is is = ap (map said) (all_items d xs n length-is) ∙ is
-
-pub both : {X : Type 0} {x y : X} {xs ys : List X} → x ≡ y → xs ≡ ys → x ∷ xs ≡ y ∷ ys
-both p q = ap₂ (λ a b. a ∷ b) p q
