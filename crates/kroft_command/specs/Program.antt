@@ -92,8 +92,8 @@ use Rattle.kroft_command.specs.declared.command_line.Task.TheVariants as task
 use Rattle.kroft_command.specs.declared.fault.ToolFault.{ToolFault}
 use Rattle.kroft_command.specs.declared.fault.ToolFault.TheVariants.{CommandLine as Words, Job, MachineUnreadable, ImageUnreadable}
 use Rattle.kroft_command.specs.declared.fault.ToolFault.TheVariants.{LongImage as TooLong}
-use Rattle.kroft_command.specs.Tool.{IsInRange, timings_in, registers_in, line, write_fault, no_memory, of_machine, of_trace, of_show}
-use Rattle.kroft_command.specs.Tool.{of_log}
+use Rattle.kroft_command.specs.Tool.{IsInRange, IsAllowed, MayBegin, timings_in, registers_in, line, write_fault, no_memory, of_machine}
+use Rattle.kroft_command.specs.Tool.{of_trace, of_show, of_log}
 
 -- how an end is told: by a status, or by a fault
 abbrev pub told : {X F : Type 0} (status_for : X → ℕ) (fault_for : F → ToolFault) → Result X F → Result ℕ ToolFault
@@ -449,5 +449,6 @@ module _ {R W E : Type 0} (gave : R → List ℕ → R → Type 0) (failed : R �
   -- The words are understood as a task that there may be, which is performed, or they ask for none, and nothing is read.
   unfoldable pub Works : Telling R W E
   Works errors errors' input input' output output' result =
-      ((asked : CommandLine) × IsInRange asked.task × Performs asked errors errors' input input' output output' result)
+      ((asked : CommandLine) × IsInRange asked.task × IsAllowed asked.task × MayBegin asked.task asked.image
+      × Performs asked errors errors' input input' output output' result)
       ⊎ ((said : Error) × (input' ≡ input) × (errors' ≡ errors) × TellsWords took refused unflushed said output output' result)

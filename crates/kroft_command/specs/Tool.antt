@@ -1,8 +1,13 @@
 -- What the program is asked for, and how it ends.
-use Rattle.std.specs.Prelude.{◌≡◌, ℕ, ◌≤◌, ◌==◌, if◌then◌else◌, min, Option, Some, None, List, [], ◌∷◌, ◌++◌, take, codes, decimal}
+use Rattle.std.specs.Prelude.{◌≡◌, ℕ, ◌%◌, ◌≤◌, Bool, true, false, ◌==◌, ◌&&◌, nat_lt, if◌then◌else◌, min, Option, Some, None, is_some}
+use Rattle.std.specs.Prelude.{List, [], ◌∷◌, ◌++◌, take, codes, decimal}
 use Rattle.std.specs.Borrow.{Bor}
-use Rattle.std.specs.List.{AllByRecursion}
+use Rattle.std.specs.List.{AllByRecursion, list_any}
+use Rattle.std.specs.Option.{unwrap_or}
 use Rattle.access_logs.specs.declared.writing.TheConstants.{MAX_WORDS}
+use Rattle.atomic_histories.specs.declared.memory.UnitSize.{UnitSize}
+use Rattle.atomic_histories.specs.declared.memory.UnitSize.TheVariants.{Eight}
+use Rattle.atomic_histories.specs.declared.memory.TheConstants.{DEFAULT_LIMIT}
 use Rattle.round_driver.specs.declared.driving.TheConstants.{MOST_LATENCY}
 use Rattle.round_driver.specs.Timings.{unpipelined}
 use Rattle.round_driver.specs.declared.timing.Timing.{Timing}
@@ -12,7 +17,13 @@ use Rattle.kroft_command.specs.declared.command_line.Registers.{Registers}
 use Rattle.kroft_command.specs.declared.command_line.TheConstants.{MOST_LATENCIES, MOST_ROWS}
 use Rattle.kroft_command.specs.declared.command_line.Timings.{Timings}
 use Rattle.kroft_command.specs.declared.command_line.Task.{Task}
-use Rattle.kroft_command.specs.declared.command_line.Task.TheVariants.{Sweep, Drive, Requests}
+use Rattle.kroft_command.specs.declared.command_line.Task.TheVariants.{Sweep, Drive, Requests, History}
+use Rattle.kroft_command.specs.declared.command_line.HistoryTask.{HistoryTask}
+use Rattle.kroft_command.specs.declared.command_line.ImageName.{ImageName}
+use Rattle.kroft_command.specs.declared.command_line.ImageName.TheVariants as image
+use Rattle.history_text.specs.declared.laws.HistoryLaw.{HistoryLaw}
+use Rattle.history_text.specs.declared.laws.HistoryLaw.TheVariants.{Atomic}
+use Rattle.named_fields.specs.declared.format.Format.TheVariants.{Text}
 use Rattle.access_logs.specs.Faults.{no_room_text}
 use Rattle.access_logs.specs.declared.fault.LogFault.{LogFault}
 use Rattle.access_logs.specs.declared.fault.LogFault.TheVariants as log
@@ -43,11 +54,63 @@ timings_in t = take (min t.given MOST_LATENCIES) t.all
 abbrev pub registers_in : Registers → List ℕ
 registers_in r = if r.given == 0 then REGISTER_COUNTS else take (min r.given MOST_ROWS) r.all
 
+-- each of these is more than the one before it
+abbrev pub ascends : {X : Type 0} → (X → ℕ) → List X → Bool
+ascends of [] = true
+ascends of (x ∷ []) = true
+ascends of (x ∷ y ∷ rest) = nat_lt (of x) (of y) && ascends of (y ∷ rest)
+
+abbrev pub latency_in : Timing → ℕ
+latency_in timing = timing.latency
+
+-- a bank would begin commands more rarely than it serves them
+abbrev pub is_too_busy : Timing → Bool
+is_too_busy timing = nat_lt timing.latency timing.busy
+
+-- Latencies are swept in ascending order, at most eight of them,
+abbrev pub AreInOrder : Timings → Type 0
+AreInOrder t = (t.given ≤ MOST_LATENCIES) × (ascends latency_in (timings_in t) ≡ true)
+
+-- and none is less than the rounds between two begins.
+abbrev pub AreSwept : Timings → Type 0
+AreSwept t = AreInOrder t × (list_any is_too_busy (timings_in t) ≡ false)
+
+-- The rows have ascending numbers of registers, at most sixteen of them.
+abbrev pub AreRows : Registers → Type 0
+AreRows r = (r.given ≤ MOST_ROWS) × (ascends (λ n. n) (registers_in r) ≡ true)
+
+-- Only the atomic law knows units, and a history that is written has its verdict as text.
+abbrev pub KnowsUnits : HistoryLaw → Type 0
+KnowsUnits (Atomic unit limit) = Unit {0}
+KnowsUnits law = ⊥
+
+abbrev pub IsJudged : HistoryTask → Type 0
+IsJudged how = (is_some how.unit ≡ true → KnowsUnits how.law) × (how.values ≡ true → how.format ≡ Text)
+
+-- what is asked of a task beside the ranges of its numbers
+abbrev pub IsAllowed : Task → Type 0
+IsAllowed (Sweep timings registers form) = AreSwept timings × AreRows registers
+IsAllowed (Drive from timing summary all form) = is_too_busy timing ≡ false
+IsAllowed (Requests from words) = words % 4 ≡ 0
+IsAllowed (History how) = IsJudged how
+IsAllowed task = Unit {0}
+
+-- The memory of a history is bytes, so it begins with no addresses of words.
+abbrev pub MayBegin : Task → ImageName → Type 0
+MayBegin (History how) image.Address = ⊥
+MayBegin task image = Unit {0}
+
+-- An atomic law has the unit that is given, or eight bytes, and gives up where it usually does.
+abbrev pub HasUnit : Option UnitSize → HistoryLaw → Type 0
+HasUnit unit (Atomic size limit) = (size ≡ unwrap_or unit Eight) × (limit ≡ DEFAULT_LIMIT)
+HasUnit unit law = Unit {0}
+
 -- the numbers of what is asked for are in their ranges
 abbrev pub IsInRange : Task → Type 0
 IsInRange (Sweep timings registers form) = AllByRecursion IsTimely timings.all
 IsInRange (Drive from timing summary all form) = IsTimely timing
 IsInRange (Requests from words) = words ≤ MAX_WORDS
+IsInRange (History how) = HasUnit how.unit how.law
 IsInRange task = Unit {0}
 
 -- ---- the machine's file

@@ -1,12 +1,13 @@
 //! The words of the command line.
 
-ghost use Rattle.std.specs.Prelude.{◌≡◌, ◌≤◌, IfOk, IfSome};
+ghost use Rattle.std.specs.Prelude.{◌≡◌, ◌≤◌, IfOk, IfSome, IfNone};
 ghost use Rattle.std.specs.Option.{option_or};
-ghost use Rattle.std.specs.List.{All, AllByRecursion};
+ghost use Rattle.std.specs.List.{All, AllByRecursion, list_any};
 ghost use Rattle.access_logs.specs.declared.writing.TheConstants.{MAX_WORDS};
 ghost use Rattle.round_driver.specs.declared.driving.TheConstants.{MOST_LATENCY};
 ghost use Rattle.kroft_command.specs.Tool.{IsInRange, IsTimely, latency_or_usual, machine_named, registers_in, timing_with, timings_in};
-ghost use Rattle.kroft_command.specs.Tool.{words_or_most};
+ghost use Rattle.kroft_command.specs.Tool.{words_or_most, latency_in, ascends, is_too_busy};
+ghost use Rattle.kroft_command.specs.Tool.{AreInOrder, AreSwept, AreRows, HasUnit, IsJudged, IsAllowed, MayBegin};
 
 use crate::commands::{
     BUSY, FILE, LATENCY, LOG, MACHINE, REGISTERS, SVG, Subcommand, program, shown,
@@ -64,17 +65,17 @@ impl Timings {
         &self.all[..self.given.min(MOST_LATENCIES)]
     }
 
-    // The first of them.
-    fn first(&self) -> Option<Timing> {
-        if self.given == 0 {
-            None
-        } else {
-            Some(self.all[0])
-        }
+    // Whether a bank would begin commands more rarely than it serves them.
+    fn are_too_busy(&self) -> bool
+        ensures { result ≡ list_any is_too_busy (timings_in self.now) }
+    {
+        self.as_slice().iter().any(|timing| is_too_busy(*timing))
     }
 
-    // Why they can't be swept, if they can't.
-    fn conflict(&self) -> Option<&'static str> {
+    // Why their latencies can't be swept, if they can't.
+    fn conflict(&self) -> Option<&'static str>
+        ensures { IfNone result (AreInOrder self.now) }
+    {
         if self.given > MOST_LATENCIES {
             Some("too many values for '--latency <L>': at most 8 are swept")
         } else if is_ascending(self.as_slice()) {
@@ -88,15 +89,16 @@ impl Timings {
 }
 
 // Whether each latency is more than the one before it.
-fn is_ascending(timings: &[Timing]) -> bool {
-    let mut least = 0;
-    for timing in timings {
-        if timing.latency < least {
-            return false;
-        }
-        least = timing.latency.saturating_add(1);
+fn is_ascending(timings: &[Timing]) -> bool
+    ensures { result ≡ ascends latency_in timings.now }
+{
+    match timings {
+        [] => true,
+        [first, rest @ ..] => match rest {
+            [] => true,
+            [second, ..] => first.latency < second.latency && is_ascending(rest),
+        },
     }
-    true
 }
 
 /// How many numbers of registers a sweep takes at most.
@@ -124,7 +126,9 @@ impl Registers {
     }
 
     // Why they can't be the numbers of rows, if they can't.
-    fn conflict(&self) -> Option<&'static str> {
+    fn conflict(&self) -> Option<&'static str>
+        ensures { IfNone result (AreRows self.now) }
+    {
         if self.given > MOST_ROWS {
             Some("too many values for '--registers <N>': at most 16 rows are swept")
         } else if each_is_more(self.as_slice()) {
@@ -138,15 +142,16 @@ impl Registers {
 }
 
 // Whether each number is more than the one before it.
-fn each_is_more(numbers: &[u32]) -> bool {
-    let mut least = 0;
-    for number in numbers {
-        if *number < least {
-            return false;
-        }
-        least = number.saturating_add(1);
+fn each_is_more(numbers: &[u32]) -> bool
+    ensures { result ≡ ascends (λ n. n) numbers.now }
+{
+    match numbers {
+        [] => true,
+        [first, rest @ ..] => match rest {
+            [] => true,
+            [second, ..] => *first < *second && each_is_more(rest),
+        },
     }
-    true
 }
 
 /// What the program is asked to do with the trace on its input.
@@ -447,29 +452,30 @@ fn requests_task(rest: &ArgMatches<'_>) -> Task
     }
 }
 
-// The times of memory of a task that makes rounds, with the least latency.
-fn timing_of(task: Task) -> Option<Timing> {
-    match task {
-        Task::Drive { timing, .. } => Some(timing),
-        Task::Sweep { timings, .. } => timings.first(),
-        _ => None,
-    }
+// Whether a bank would begin commands more rarely than it serves them.
+fn is_too_busy(timing: Timing) -> bool
+    ensures { result ≡ is_too_busy timing }
+{
+    timing.busy > timing.latency
 }
 
+const TOO_BUSY: &str = "invalid value for '--busy <B>': it is more than the latency";
+
 // Why the rows that are asked for can't be swept, if they can't.
-fn sweep_conflict(task: Task) -> Option<&'static str> {
-    match task {
-        Task::Sweep {
-            timings,
-            registers,
-            ..
-        } => timings.conflict().or(registers.conflict()),
-        _ => None,
+fn sweep_conflict(timings: &Timings, registers: &Registers) -> Option<&'static str>
+    ensures { IfNone result (AreSwept timings.now × AreRows registers.now) }
+{
+    match timings.conflict().or(registers.conflict()) {
+        Some(why) => Some(why),
+        None if timings.are_too_busy() => Some(TOO_BUSY),
+        None => None,
     }
 }
 
 // Why a history can't be judged so, if it can't.
-fn history_conflict(asked: HistoryTask) -> Option<&'static str> {
+fn history_conflict(asked: HistoryTask) -> Option<&'static str>
+    ensures { IfNone result (IsJudged asked) }
+{
     if asked.values && asked.format != Format::Text {
         return Some("the argument '--values' cannot be used with '--format <FORMAT>'");
     }
@@ -492,17 +498,29 @@ fn file_conflict(asked: Asked<'_>) -> Option<&'static str> {
     }
 }
 
-// Why what was asked for can't be done, if it can't. `before` is a shape file that was named before the command.
-fn conflict(task: Task, before: Option<&str>) -> Option<&'static str> {
-    if let Some(why) = sweep_conflict(task) {
-        return Some(why);
-    }
-    match timing_of(task) {
-        Some(timing) if timing.busy > timing.latency => {
-            return Some("invalid value for '--busy <B>': it is more than the latency");
+// Why a task can't be done, if it can't.
+fn task_conflict(task: Task) -> Option<&'static str>
+    ensures { IfNone result (IsAllowed task) }
+{
+    match task {
+        Task::Sweep {
+            timings,
+            registers,
+            ..
+        } => sweep_conflict(&timings, &registers),
+        Task::Drive { timing, .. } if is_too_busy(timing) => Some(TOO_BUSY),
+        Task::Requests { words, .. } if words % 4 != 0 => {
+            Some("invalid value for '--words <N>': it is no multiple of 4")
         }
-        _ => {}
+        Task::History(asked) => history_conflict(asked),
+        _ => None,
     }
+}
+
+// Why what was asked for can't be done, if it can't. `before` is a shape file that was named before the command.
+fn conflict(task: Task, before: Option<&str>) -> Option<&'static str>
+    ensures { IfNone result (IsAllowed task) }
+{
     match task {
         Task::Requests { .. } if before.is_some() => {
             Some(
@@ -512,11 +530,7 @@ fn conflict(task: Task, before: Option<&str>) -> Option<&'static str> {
         Task::History(_) if before.is_some() => {
             Some("the argument '--shape <FILE>' cannot be used with 'history'")
         }
-        Task::History(asked) => history_conflict(asked),
-        Task::Requests { words, .. } if words % 4 != 0 => {
-            Some("invalid value for '--words <N>': it is no multiple of 4")
-        }
-        _ => None,
+        _ => task_conflict(task),
     }
 }
 
@@ -545,12 +559,14 @@ fn unit_of(rest: &ArgMatches<'_>) -> Option<UnitSize> {
     }
 }
 
-// The law that is asked for.
-fn law_of(rest: &ArgMatches<'_>) -> HistoryLaw {
+// The law that is asked for, with this unit if it has units.
+fn law_of(rest: &ArgMatches<'_>, unit: Option<UnitSize>) -> HistoryLaw
+    ensures { HasUnit unit result }
+{
     match rest.get_str("law") {
         Some("flat") => HistoryLaw::Flat,
         Some("atomic") => HistoryLaw::Atomic {
-            unit: unit_of(rest).unwrap_or(UnitSize::Eight),
+            unit: unit.unwrap_or(UnitSize::Eight),
             limit: DEFAULT_LIMIT,
         },
         _ => HistoryLaw::Regular,
@@ -566,9 +582,10 @@ fn history_task(rest: &ArgMatches<'_>) -> Task
     } else {
         Rest::Zeros
     };
+    let unit = unit_of(rest);
     Task::History(HistoryTask {
-        law: law_of(rest),
-        unit: unit_of(rest),
+        law: law_of(rest, unit),
+        unit,
         rest: beyond,
         all_answered: rest.get_flag("all-answered"),
         values: rest.get_flag("values"),
@@ -586,7 +603,9 @@ fn image_of<'a>(rest: &ArgMatches<'a>) -> ImageName<'a> {
 }
 
 // Why a task can't begin with this image, if it can't: the memory of a history is bytes, and has no end.
-fn image_conflict(task: Task, image: ImageName<'_>) -> Option<&'static str> {
+fn image_conflict(task: Task, image: ImageName<'_>) -> Option<&'static str>
+    ensures { IfNone result (MayBegin task image.entry) }
+{
     match (task, image) {
         (Task::History(_), ImageName::Address) => {
             Some(
@@ -696,6 +715,8 @@ fn allowed<'a>(
 ) -> Result<CommandLine<'a>, Error>
     requires { IsInRange asked.task }
     ensures range { IfOk result (λ told. IsInRange told.task) }
+    ensures task { IfOk result (λ told. IsAllowed told.task) }
+    ensures begins { IfOk result (λ told. MayBegin told.task told.image) }
     ensures machine { IfOk result
         (λ told. told.machine ≡ machine_named (option_or asked.entry.before asked.entry.behind) asked.entry.machine) }
     ensures image { IfOk result (λ told. told.image ≡ asked.entry.image) }
@@ -750,7 +771,9 @@ fn told_of<'a>(alloc: Global, words: &'a [&'a str]) -> Result<Option<Error>, Err
 /// Reads the words behind the program's name. Help and the version come as an error too, which
 /// says that it belongs on the standard output.
 pub(crate) fn read_words<'a>(alloc: Global, words: &'a [&'a str]) -> Result<CommandLine<'a>, Error>
-    ensures { IfOk result (λ asked. IsInRange asked.task) }
+    ensures range { IfOk result (λ asked. IsInRange asked.task) }
+    ensures task { IfOk result (λ asked. IsAllowed asked.task) }
+    ensures begins { IfOk result (λ asked. MayBegin asked.task asked.image) }
 {
     match matches_of(alloc, words, false) {
         Ok(matches) => {
