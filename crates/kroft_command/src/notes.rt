@@ -7,7 +7,8 @@ A fault is one line on standard error. `kroft run --help` lists the lines of a t
 Statuses:
   0  done, or help was asked for
   1  check or explain found an answer that flat memory doesn't explain, grade a wrong prediction, or
-     history an answer that its law doesn't allow
+     history an answer that its law doesn't allow; or, with --all-answered, check an open load or
+     history an open operation
   2  the command line is wrong
   3  the shape or machine file is wrong
   4  the input or the image is wrong, or a stream failed
