@@ -3,7 +3,7 @@ use Rattle.std.specs.Prelude.{ℕ, ◌+◌, ◌-◌, ◌*◌, ◌/◌, ◌%◌, 
 use Rattle.flat_model.specs.declared.Word.{Word}
 use Rattle.flat_model.specs.declared.Lanes.{Lanes}
 use Rattle.access_logs.specs.declared.access.Access.{Access}
-use Rattle.access_logs.specs.declared.access.TheConstants.{MAX_SIZE}
+use Rattle.access_logs.specs.declared.access.TheConstants.{MAX_SIZE, WORD_BYTES}
 
 -- it touches 1 to 512 bytes, all of them below 2^64
 pub record IsWithin (a : Access) : Type 0 where
@@ -14,10 +14,10 @@ pub record IsWithin (a : Access) : Type 0 where
 -- ---- the words from the first to the last
 
 abbrev pub first_word_of : Access → ℕ
-first_word_of a = a.address / 4
+first_word_of a = a.address / WORD_BYTES
 
 abbrev pub last_word_of : Access → ℕ
-last_word_of a = (a.address + (a.size - 1)) / 4
+last_word_of a = (a.address + (a.size - 1)) / WORD_BYTES
 
 abbrev pub word_count_of : Access → ℕ
 word_count_of a = last_word_of a - first_word_of a + 1
@@ -34,7 +34,10 @@ bit_at a byte = if is_touched a byte then 1 else 0
 -- the lanes of a word that are touched
 abbrev pub lanes_at : Access → ℕ → Lanes
 lanes_at a w =
-    record { 0 = bit_at a (w * 4) + 2 * bit_at a (w * 4 + 1) + 4 * bit_at a (w * 4 + 2) + 8 * bit_at a (w * 4 + 3) }
+    record {
+      0 = bit_at a (w * WORD_BYTES) + 2 * bit_at a (w * WORD_BYTES + 1) + 4 * bit_at a (w * WORD_BYTES + 2)
+          + 8 * bit_at a (w * WORD_BYTES + 3);
+    }
 
 -- What a store in the line of this number writes: no log has its data, so each byte is its address and the line's number.
 abbrev pub byte_at : Access → ℕ → ℕ → ℕ
@@ -42,8 +45,8 @@ byte_at a number byte = if is_touched a byte then (byte + number) % 256 else 0
 
 abbrev pub word_at : Access → ℕ → ℕ → Word
 word_at a number w = record {
-  b0 = byte_at a number (w * 4);
-  b1 = byte_at a number (w * 4 + 1);
-  b2 = byte_at a number (w * 4 + 2);
-  b3 = byte_at a number (w * 4 + 3);
+  b0 = byte_at a number (w * WORD_BYTES);
+  b1 = byte_at a number (w * WORD_BYTES + 1);
+  b2 = byte_at a number (w * WORD_BYTES + 2);
+  b3 = byte_at a number (w * WORD_BYTES + 3);
 }

@@ -7,7 +7,7 @@ use Rattle.trace_text.specs.Lines.{cut_at, cut_of}
 use Rattle.trace_text.specs.declared.lines.LineFault.{LineFault}
 use Rattle.trace_text.specs.declared.lines.LineFault.TheVariants.{Unknown, Field}
 use Rattle.access_logs.specs.declared.access.Access.{Access}
-use Rattle.access_logs.specs.declared.access.TheConstants.{MAX_SIZE}
+use Rattle.access_logs.specs.declared.access.TheConstants.{MAX_SIZE, WORD_BYTES}
 use Rattle.access_logs.specs.declared.access.AccessKind.TheVariants.{Load, Store, Modify}
 use Rattle.access_logs.specs.declared.format.Reference.{Reference}
 use Rattle.access_logs.specs.declared.format.Reference.TheVariants.{Fetch, Data}
@@ -46,7 +46,7 @@ extent_of fields = extent_from (cut_at fields (position (λ b. b == 44) fields))
 
 -- the word of an address
 abbrev pub word_extent : ℕ → ℕ × ℕ
-word_extent address = (address / 4 * 4, 4)
+word_extent address = (address / WORD_BYTES * WORD_BYTES, WORD_BYTES)
 
 abbrev pub word_extent_of : Option (List ℕ) → Option (ℕ × ℕ)
 word_extent_of None = None

@@ -11,7 +11,7 @@ use flat_model::{Lanes, Word};
 pub const MAX_SIZE: u32 = 512;
 
 /// How many bytes a word has.
-const WORD_BYTES: u64 = 4;
+pub const WORD_BYTES: u64 = 4;
 
 /// How many words an access touches at most: one more than its bytes fill, since it may begin within one.
 pub const MAX_TOUCHED: u64 = MAX_SIZE as u64 / WORD_BYTES + 1;

@@ -11,7 +11,7 @@ ghost use Rattle.access_logs.specs.Formats.{access_by as access_made, said_as as
 ghost use Rattle.access_logs.specs.Formats.{is_name_end as ends_name, behind_space as space_then, data_from as data_said};
 ghost use Rattle.access_logs.specs.Formats.{fetch_from as fetch_said, lackey_from as lackey_said, lackey_access, label_of, din_access};
 
-use crate::access::{Access, AccessKind, MAX_SIZE};
+use crate::access::{Access, AccessKind, MAX_SIZE, WORD_BYTES};
 use trace_text::{LineFault, cut, nibble, number};
 
 /// The largest number that one hexadecimal digit more keeps below 2^64.
@@ -110,7 +110,7 @@ fn word_extent(field: Option<&[u8]>) -> Option<(u64, u32)>
     ensures last { IfSome result (λ extent. extent.0 + extent.1 ≤ 2 ^ 64) }
 {
     let address = address(field?)?;
-    Some((address / 4 * 4, 4))
+    Some((address / WORD_BYTES * WORD_BYTES, WORD_BYTES as u32))
 }
 
 // The access of a line, if it has one for a data cache.

@@ -20,7 +20,7 @@ mod reading;
 mod requests;
 mod writing;
 
-pub use access::{Access, AccessKind, MAX_SIZE, MAX_TOUCHED};
+pub use access::{Access, AccessKind, MAX_SIZE, MAX_TOUCHED, WORD_BYTES};
 pub use fault::{LogFault, NoRoom};
 pub use format::{Din, Lackey, LogFormat};
 pub use pages::{MAX_PAGES, PAGE_WORDS};
