@@ -136,20 +136,27 @@ fn stands<R: Abort>(
 ) -> Result<(), Fail> {
     let mut machine = small_machine(alloc)?;
     let lines = joined(alloc, lines)?;
-    let mut told = Vec::new(alloc);
-    for line in lines.as_str().lines() {
-        let (asked, _) = line.split_once(" -> ").ok_or("an answer")?;
-        serve_line(alloc, &mut machine, asked, &mut told)?;
-    }
-    same(
-        rt,
-        name,
-        std::str::from_utf8(told.as_slice())?,
-        lines.as_str(),
-    );
+    answers(rt, alloc, name, &mut machine, lines.as_str())?;
     for look in looks {
         same(rt, name, look.seen(&machine), *look);
     }
+    Ok(())
+}
+
+/// Asserts that the machine answers these lines as they say.
+fn answers<R: Abort>(
+    rt: &R,
+    alloc: Global,
+    name: &str,
+    machine: &mut Machine<1, 4, 2, 2>,
+    lines: &str,
+) -> Result<(), Fail> {
+    let mut told = Vec::new(alloc);
+    for line in lines.lines() {
+        let (asked, _) = line.split_once(" -> ").ok_or("an answer")?;
+        serve_line(alloc, machine, asked, &mut told)?;
+    }
+    same(rt, name, std::str::from_utf8(told.as_slice())?, lines);
     Ok(())
 }
 
@@ -396,17 +403,36 @@ fn makers_refuse_types(rt: HostRuntime) -> Result<(), Fail> {
 
 #[test]
 fn makers(rt: HostRuntime) -> Result<(), Fail> {
-    let alloc = rt.alloc();
-    let directory: Directory<1, 4> = Directory::new(alloc, 2)?;
-    same(&rt, "a look", directory.look(1), None);
-    same(&rt, "a choice", directory.choose(1), Choice::Free(1));
-    let registers: RegisterFile<4, 2> = RegisterFile::new(alloc)?;
+    new_directory(&rt, rt.alloc())?;
+    let registers: RegisterFile<4, 2> = RegisterFile::new(rt.alloc())?;
     same(&rt, "a free slot", registers.free_slot(), Some(0));
+    new_stack(&rt)?;
+    new_banks(&rt, rt.alloc())?;
+    new_unit(&rt, rt.alloc())
+}
+
+// Each part has a function of its own: a proof's price grows with what has to be let go at each of its ends.
+fn new_directory<R: Abort>(rt: &R, alloc: Global) -> Result<(), Fail> {
+    let directory: Directory<1, 4> = Directory::new(alloc, 2)?;
+    same(rt, "a look", directory.look(1), None);
+    same(rt, "a choice", directory.choose(1), Choice::Free(1));
+    Ok(())
+}
+
+fn new_stack<R: Abort>(rt: &R) -> Result<(), Fail> {
     let stack: InputStack<2> = InputStack::new()?;
-    same(&rt, "the stack", stack.len(), 0);
+    same(rt, "the stack", stack.len(), 0);
+    Ok(())
+}
+
+fn new_banks<R: Abort>(rt: &R, alloc: Global) -> Result<(), Fail> {
     let banks = banks_of(alloc, &SMALL_SHAPE)?;
-    same(&rt, "word 5", banks.word(5), Some(numbered(5)));
+    same(rt, "word 5", banks.word(5), Some(numbered(5)));
     assert!(rt; banks.idle());
+    Ok(())
+}
+
+fn new_unit<R: Abort>(rt: &R, alloc: Global) -> Result<(), Fail> {
     let unit: Unit = CacheUnit::new(alloc, &SMALL_SHAPE)?;
     assert!(rt; unit.clean());
     Ok(())

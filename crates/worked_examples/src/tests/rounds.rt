@@ -1,5 +1,9 @@
 //! Runs of rounds.
 
+ghost use Rattle.std.specs.Prelude.{◌≤◌, length};
+ghost use Rattle.round_driver.specs.declared.driving.TheConstants.{MOST_LATENCY};
+ghost use Rattle.round_driver.specs.Rounds.{most_requests};
+
 use super::fixture::{ZERO, same};
 use cache_unit::{Sizes, sizes_of};
 use machine_core::{Event, Shape, ShapedMachine};
@@ -164,13 +168,21 @@ const TABLES: &[Rounds] = &[
     },
 ];
 
+// The table of these requests.
+fn table_of(alloc: Global, latency: u64, requests: &[Event]) -> Result<Table, Fail>
+    requires latency { latency ≤ MOST_LATENCY }
+    requires requests { length requests.now ≤ most_requests }
+{
+    let mut machine = machine(alloc, 1, NARROW_SHAPE)?;
+    Ok(summarize(alloc, &mut machine, latency, requests)?)
+}
+
 #[test]
 fn tables_of_rounds(rt: HostRuntime) -> Result<(), Fail> {
     for rounds in TABLES {
         let name = rounds.name;
         assert!(rt; rounds.requests.len() <= 4);
-        let mut machine = machine(rt.alloc(), 1, NARROW_SHAPE)?;
-        let table = summarize(rt.alloc(), &mut machine, rounds.latency, rounds.requests)?;
+        let table = table_of(rt.alloc(), rounds.latency, rounds.requests)?;
         same(&rt, name, table, rounds.table);
         let shown = format!(in rt.alloc(); "{table}")?;
         same(&rt, name, shown.as_str(), rounds.shown);
@@ -178,12 +190,17 @@ fn tables_of_rounds(rt: HostRuntime) -> Result<(), Fail> {
     Ok(())
 }
 
+// Drives a load of word 0 with latency 0, and says in how many rounds.
+fn rounds_of_a_load(alloc: Global, written: &mut Vec<u8>) -> Result<u64, Fail> {
+    let mut machine = machine(alloc, 1, NARROW_SHAPE)?;
+    let requests = [Event::Load { tag: 1, at: 0 }];
+    Ok(drive(alloc, &mut machine, 0, &requests, written)?)
+}
+
 #[test]
 fn a_load_without_latency(rt: HostRuntime) -> Result<(), Fail> {
-    let mut machine = machine(rt.alloc(), 1, NARROW_SHAPE)?;
-    let requests = [Event::Load { tag: 1, at: 0 }];
     let mut written = Vec::new(rt.alloc());
-    let rounds = drive(rt.alloc(), &mut machine, 0, &requests, &mut written)?;
+    let rounds = rounds_of_a_load(rt.alloc(), &mut written)?;
     same(&rt, "rounds", rounds, 6);
     let wanted = "load 1 0 -> accepted
 serve 0 -> moved
@@ -327,14 +344,28 @@ fn runs_are_flat(rt: HostRuntime) -> Result<(), Fail> {
     let requests = read_requests(rt.alloc(), &mut LOADS_AND_EVICTIONS.as_bytes())?;
     assert!(rt; requests.len() == 80);
     for (latency, busy) in [(3, 3), (3, 1), (9, 2), (1_000, 1)] {
-        let mut machine = machine(rt.alloc(), 2, NARROW_SHAPE)?;
-        let mut written = Vec::new(rt.alloc());
         let timing = Timing { latency, busy };
         assert!(rt; timing.latency <= MOST_LATENCY);
-        drive_with(rt.alloc(), &mut machine, timing, &requests, &mut written)?;
+        let mut written = Vec::new(rt.alloc());
+        let weight = weight_behind(rt.alloc(), timing, &requests, &mut written)?;
+        same(&rt, "the weight", weight, 0);
         let verdict = check_text(rt.alloc(), &mut written.as_slice(), 64)?;
         assert!(rt; matches!(verdict, CheckEnd::Flat { .. }));
-        same(&rt, "the weight", machine.weight(), 0);
     }
     Ok(())
+}
+
+// Drives these requests, and says what is on its way behind them.
+fn weight_behind(
+    alloc: Global,
+    timing: Timing,
+    requests: &[Event],
+    written: &mut Vec<u8>,
+) -> Result<u64, Fail>
+    requires latency { timing.latency ≤ MOST_LATENCY }
+    requires requests { length requests.now ≤ most_requests }
+{
+    let mut machine = machine(alloc, 2, NARROW_SHAPE)?;
+    drive_with(alloc, &mut machine, timing, requests, written)?;
+    Ok(machine.weight())
 }

@@ -6,6 +6,7 @@ use flat_model::{Answer, Event, FlatMemory, Shape, Word};
 use machine_core::Machine;
 use memory_banks::{Banks, Lines};
 use std::alloc::{AllocError, Global};
+use std::process::Abort;
 use std::test::Fail;
 use trace_text::{CheckEnd, check_text, read_requests};
 use write_queue::WriteQueue;
@@ -45,18 +46,26 @@ fn memory_of_the_largest_shape(rt: HostRuntime) -> Result<(), Fail> {
 
 #[test]
 fn parts_of_the_largest_shape(rt: HostRuntime) -> Result<(), Fail> {
-    let alloc = rt.alloc();
-    let image = vec![in alloc; Word::default(); 1_048_576]?;
-    let queue = WriteQueue::new(alloc, 256)?;
+    let queue = WriteQueue::new(rt.alloc(), 256)?;
     same(&rt, "room", queue.room(), 256);
+    largest_directory(&rt, rt.alloc())?;
+    largest_machine(&rt, rt.alloc())
+}
+
+fn largest_directory<R: Abort>(rt: &R, alloc: Global) -> Result<(), Fail> {
     let directory = Directory::<2, 4>::new(alloc, 1_024)?;
-    same(&rt, "a look", directory.look(1_023), None);
+    same(rt, "a look", directory.look(1_023), None);
+    Ok(())
+}
+
+fn largest_machine<R: Abort>(rt: &R, alloc: Global) -> Result<(), Fail> {
+    let image = vec![in alloc; Word::default(); 1_048_576]?;
     let mut machine = Machine::<2, 4, 8, 4>::new(alloc, LARGEST, &image)?;
     let load = Event::Load {
         tag: 1,
         at: 1_048_575,
     };
-    same(&rt, "the load", machine.apply(load), Answer::Accepted);
+    same(rt, "the load", machine.apply(load), Answer::Accepted);
     Ok(())
 }
 
@@ -80,11 +89,16 @@ fn words_that_the_banks_do_not_share_evenly(rt: HostRuntime) -> Result<(), Fail>
     Ok(())
 }
 
+// What the default machine answers to these events.
+fn answers_of_default(alloc: Global, events: &[Event]) -> Result<Vec<Answer>, Fail> {
+    let mut machine = default_machine(alloc)?;
+    Ok(machine.run(alloc, events)?)
+}
+
 #[test]
 fn a_long_run(rt: HostRuntime) -> Result<(), Fail> {
-    let mut machine = default_machine(rt.alloc())?;
     let events = vec![in rt.alloc(); Event::Drain; MANY]?;
-    let answers = machine.run(rt.alloc(), &events)?;
+    let answers = answers_of_default(rt.alloc(), &events)?;
     same(&rt, "answers", answers.len(), MANY);
     let mut memory = FlatMemory::new(rt.alloc(), &[Word::default(); 4])?;
     same(

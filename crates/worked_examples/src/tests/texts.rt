@@ -355,10 +355,8 @@ fn answers_to(alloc: Global, input: &[u8]) -> Result<(u64, String), Fail> {
 fn cut_input(rt: HostRuntime) -> Result<(), Fail> {
     for cut in 0..=STORED_INPUT.len() {
         let input = STORED_INPUT.as_bytes().get(..cut).ok_or("the first bytes")?;
-        let mut machine = default_machine(rt.alloc())?;
         let mut output = Vec::new(rt.alloc());
-        let mut reader = input;
-        let ended = serve_text(rt.alloc(), &mut reader, &mut output, &mut machine);
+        let ended = served_until_its_end(rt.alloc(), input, &mut output)?;
         let (lines, answers) = answers_to(rt.alloc(), input)?;
         same(
             &rt,
@@ -373,9 +371,21 @@ fn cut_input(rt: HostRuntime) -> Result<(), Fail> {
                 fault: LineFault::NotEnded,
             }),
         };
-        same(&rt, "the lines", ended.map(|counts| counts.lines), wanted);
+        same(&rt, "the lines", ended, wanted);
     }
     Ok(())
+}
+
+// How many lines a default machine serves of this input, or why not to its end.
+fn served_until_its_end(
+    alloc: Global,
+    input: &[u8],
+    output: &mut Vec<u8>,
+) -> Result<Result<u64, TraceFault>, Fail> {
+    let mut machine = default_machine(alloc)?;
+    let mut reader = input;
+    let ended = serve_text(alloc, &mut reader, output, &mut machine);
+    Ok(ended.map(|counts| counts.lines))
 }
 
 /// Asserts what comes of the stored run where the writer has so much room and then fails, or takes no
@@ -406,16 +416,22 @@ fn serves_until<R: Abort>(
 #[test]
 fn failing_writer(rt: HostRuntime) -> Result<(), Fail> {
     for room in 0..STORED_OUTPUT.len() {
-        let machine = serves_until(&rt, rt.alloc(), room, true)?;
-        let field = machine.field(0, 1).ok_or("a word's field")?;
+        let code = code_behind(&rt, rt.alloc(), room)?;
         match room {
-            20 => same(&rt, "room for 20", field.code, Lanes::none()),
-            21 => same(&rt, "room for 21", field.code, Lanes::LANE_0),
+            20 => same(&rt, "room for 20", code, Lanes::none()),
+            21 => same(&rt, "room for 21", code, Lanes::LANE_0),
             _ => {}
         }
     }
     serves_until(&rt, rt.alloc(), 0, false)?;
     Ok(())
+}
+
+// The lanes that stores have written of word 1 behind a writer that fails.
+fn code_behind<R: Abort>(rt: &R, alloc: Global, room: usize) -> Result<Lanes, Fail> {
+    let machine = serves_until(rt, alloc, room, true)?;
+    let field = machine.field(0, 1).ok_or("a word's field")?;
+    Ok(field.code)
 }
 
 // 768 letters with LF, and 769 without.
