@@ -1,3 +1,4 @@
 pub mod Reading
 pub mod Comparing
 pub mod Asking
+pub mod Telling

@@ -4,3 +4,4 @@ pub mod Drawn
 pub mod Checks
 pub mod Counts
 pub mod Texts
+pub mod Stories

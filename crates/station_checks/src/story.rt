@@ -1,7 +1,9 @@
 //! What a run is told by: what came of each ask, and what was found.
-ghost use Rattle.std.specs.Prelude.{◌≡◌, ◌<◌, ◌+◌, ◌*◌, ◌/◌, length, min};
-ghost use Rattle.std.specs.Duration.{as_nanos};
+ghost use Rattle.std.specs.Prelude.{◌≡◌, ◌+◌, length, min, flat_map, OnOk, IfSome};
+ghost use Rattle.std.specs.Io.KnownBytes.{Appends};
 ghost use Rattle.station_checks.specs.Counts.{again_in, is_asked_again};
+ghost use Rattle.station_checks.specs.Stories.{findings_text, audit_text, flat_text, load_text, ends_ask, recorded_text};
+ghost use Rattle.station_checks.specs.Stories.{rate_of, progress_text, length_text, last_of, shown_text, again_text, rate_text, run_text};
 
 use crate::findings::Findings;
 use crate::lines::{AskText, EntryText, ToldText};
@@ -53,16 +55,34 @@ pub fn tell_ports<W: Write>(
 }
 
 /// What the audit found, and whether the journal is flat.
-pub fn tell_findings<W: Write>(out: &mut W, findings: &Findings) -> io::Result<()> {
-    match findings.audit {
+pub fn tell_findings<W: Write>(out: &mut W, findings: &Findings) -> io::Result<()>
+    ensures { OnOk result (IfSome (findings_text findings.now)
+        (Appends (W.contents out.old) (W.contents out.new))) }
+{
+    tell_audit(out, findings.audit)?;
+    tell_judged(out, findings.is_flat)
+}
+
+fn tell_audit<W: Write>(out: &mut W, audit: Audit) -> io::Result<()>
+    ensures { OnOk result (IfSome (audit_text audit) (Appends (W.contents out.old) (W.contents out.new))) }
+{
+    match audit {
         Audit::Clean => writeln!(
             out,
             "audit: clean, nothing is left in a ring and nothing is owed"
-        )?,
-        found => writeln!(out, "audit: {found:?}")?,
+        ),
+        found => writeln!(out, "audit: {found:?}"),
     }
-    let verdict = if findings.is_flat { "flat" } else { "not flat" };
-    writeln!(out, "journal: {verdict}")
+}
+
+fn tell_judged<W: Write>(out: &mut W, is_flat: bool) -> io::Result<()>
+    ensures { OnOk result (Appends (W.contents out.old) (W.contents out.new) (flat_text is_flat)) }
+{
+    if is_flat {
+        writeln!(out, "journal: flat")
+    } else {
+        writeln!(out, "journal: not flat")
+    }
 }
 
 // The first asks of a port, each with what came of it.
@@ -82,7 +102,9 @@ fn tell_asks<W: Write>(out: &mut W, script: &[Ask], list: &[Told]) -> io::Result
     Ok(())
 }
 
-fn tell_load<W: Write>(out: &mut W, ask: Ask, value: Option<Told>) -> io::Result<()> {
+fn tell_load<W: Write>(out: &mut W, ask: Ask, value: Option<Told>) -> io::Result<()>
+    ensures { OnOk result (Appends (W.contents out.old) (W.contents out.new) (load_text ask value)) }
+{
     match value {
         Some(Told::Value { word, .. }) => writeln!(out, "  {} -> {word}", AskText(ask)),
         _ => writeln!(out, "  {} -> no value", AskText(ask)),
@@ -90,7 +112,9 @@ fn tell_load<W: Write>(out: &mut W, ask: Ask, value: Option<Told>) -> io::Result
 }
 
 // A verdict behind which the port goes on.
-fn ends_ask(told: Told) -> bool {
+fn ends_ask(told: Told) -> bool
+    ensures { result ≡ ends_ask told }
+{
     match told {
         Told::Accepted => true,
         Told::Refused(cause) => !cause.passes(),
@@ -146,7 +170,9 @@ impl Tally {
 
 /// How far a run is, in one line that takes the place of the one before: how many asks, how many a
 /// second, and how many segments with clean audits.
-pub fn tell_progress<W: Write>(out: &mut W, tally: &Tally, took: Duration) -> io::Result<()> {
+pub fn tell_progress<W: Write>(out: &mut W, tally: &Tally, took: Duration) -> io::Result<()>
+    ensures { OnOk result (Appends (W.contents out.old) (W.contents out.new) (progress_text tally.now took)) }
+{
     let Tally { segments, asks, .. } = *tally;
     let rate = per_second(asks, took);
     write!(
@@ -163,17 +189,47 @@ pub fn tell_run<W: Write>(
     tally: &Tally,
     journal: &[Entry],
     took: Duration,
-) -> io::Result<()> {
-    writeln!(
-        out,
-        "the journal has {} entries, and ends with",
-        tally.entries
-    )?;
-    for entry in journal.iter().skip(journal.len().saturating_sub(SHOWN)) {
+) -> io::Result<()>
+    ensures { OnOk result (Appends (W.contents out.old) (W.contents out.new) (run_text tally.now journal.now took)) }
+{
+    tell_length(out, tally.entries)?;
+    tell_entries(out, last_entries(journal))?;
+    tell_again(out, tally.again)?;
+    tell_rate(out, per_second(tally.asks, took))
+}
+
+fn tell_length<W: Write>(out: &mut W, entries: u64) -> io::Result<()>
+    ensures { OnOk result (Appends (W.contents out.old) (W.contents out.new) (length_text entries)) }
+{
+    writeln!(out, "the journal has {entries} entries, and ends with")
+}
+
+fn last_entries(journal: &[Entry]) -> &[Entry]
+    ensures { result.now ≡ last_of journal.now }
+{
+    &journal[journal.len().saturating_sub(SHOWN)..]
+}
+
+fn tell_entries<W: Write>(out: &mut W, entries: &[Entry]) -> io::Result<()>
+    ensures { OnOk result
+        (Appends (W.contents out.old) (W.contents out.new) (flat_map shown_text entries.now)) }
+{
+    for entry in entries {
         writeln!(out, "  {}", EntryText(*entry))?;
     }
-    writeln!(out, "{} asks were offered again", tally.again)?;
-    writeln!(out, "{} asks per second", per_second(tally.asks, took))
+    Ok(())
+}
+
+fn tell_again<W: Write>(out: &mut W, again: u64) -> io::Result<()>
+    ensures { OnOk result (Appends (W.contents out.old) (W.contents out.new) (again_text again)) }
+{
+    writeln!(out, "{again} asks were offered again")
+}
+
+fn tell_rate<W: Write>(out: &mut W, rate: u128) -> io::Result<()>
+    ensures { OnOk result (Appends (W.contents out.old) (W.contents out.new) (rate_text rate)) }
+{
+    writeln!(out, "{rate} asks per second")
 }
 
 // How many of the tellings are refusals behind which the port offered its ask again.
@@ -199,8 +255,7 @@ fn asks_again(told: Told) -> bool
 
 /// How many a second, rounded down; 0 if no time passed.
 pub fn per_second(count: u64, took: Duration) -> u128
-    ensures none { as_nanos took ≡ 0 → result ≡ 0 }
-    ensures rate { 0 < as_nanos took → result ≡ count * 1_000_000_000 / as_nanos took }
+    ensures { result ≡ rate_of count took }
 {
     let nanos = took.as_nanos();
     if nanos == 0 {
@@ -210,7 +265,9 @@ pub fn per_second(count: u64, took: Duration) -> u128
 }
 
 /// The journal as a recorded run: a line for each event with its answer.
-pub fn tell_journal<W: Write>(out: &mut W, journal: &[Entry]) -> io::Result<()> {
+pub fn tell_journal<W: Write>(out: &mut W, journal: &[Entry]) -> io::Result<()>
+    ensures { OnOk result (Appends (W.contents out.old) (W.contents out.new) (recorded_text journal.now)) }
+{
     for entry in journal {
         if let Entry::Step { .. } = *entry {
             writeln!(out, "{}", EntryText(*entry))?;
