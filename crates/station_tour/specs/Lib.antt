@@ -1,1 +1,4 @@
 pub mod Texts
+pub mod Faults
+pub mod Asked
+pub mod Trials

@@ -47,8 +47,13 @@ impl fmt::Display for StationFault {
 }
 
 impl StationFault {
+    ghost use Rattle.std.specs.Prelude.{◌≡◌};
+    ghost use Rattle.station_tour.specs.Faults.{status_of};
+
     /// The status with which the program ends.
-    pub(crate) fn status(&self) -> u8 {
+    pub(crate) fn status(&self) -> u8
+        ensures { result ≡ status_of self.now }
+    {
         match self {
             StationFault::Renewal(RenewFault::NotClean(_)) => 1,
             StationFault::CommandLine(_) => 2,
@@ -60,24 +65,44 @@ impl StationFault {
 }
 
 impl From<AllocError> for StationFault {
+    ghost use Rattle.std.specs.Prelude.{◌≡◌};
+    ghost use Rattle.station_tour.specs.declared.fault.StationFault.TheVariants.{OutOfMemory};
+
+    ghost from_gives = { λ e f. f ≡ OutOfMemory };
+
     fn from(_fault: AllocError) -> StationFault {
         StationFault::OutOfMemory
     }
 }
 
 impl From<clap::Error> for StationFault {
-    fn from(fault: clap::Error) -> StationFault {
-        StationFault::CommandLine(fault)
+    ghost use Rattle.std.specs.Prelude.{◌≡◌};
+    ghost use Rattle.station_tour.specs.declared.fault.StationFault.TheVariants.{CommandLine};
+
+    ghost from_gives = { λ e f. f ≡ CommandLine e };
+
+    fn from(told: clap::Error) -> StationFault {
+        StationFault::CommandLine(told)
     }
 }
 
 impl From<io::Error> for StationFault {
-    fn from(fault: io::Error) -> StationFault {
-        StationFault::Io(fault)
+    ghost use Rattle.std.specs.Prelude.{◌≡◌};
+    ghost use Rattle.station_tour.specs.declared.fault.StationFault.TheVariants.{Io};
+
+    ghost from_gives = { λ e f. f ≡ Io e };
+
+    fn from(stream: io::Error) -> StationFault {
+        StationFault::Io(stream)
     }
 }
 
 impl From<MakeFault> for StationFault {
+    ghost use Rattle.std.specs.Prelude.{◌≡◌};
+    ghost use Rattle.station_tour.specs.Faults.{fault_of_making};
+
+    ghost from_gives = { λ e f. f ≡ fault_of_making e };
+
     fn from(fault: MakeFault) -> StationFault {
         match fault {
             MakeFault::BadShape(_) => StationFault::Shape,
@@ -87,6 +112,11 @@ impl From<MakeFault> for StationFault {
 }
 
 impl From<RunFault> for StationFault {
+    ghost use Rattle.std.specs.Prelude.{◌≡◌};
+    ghost use Rattle.station_tour.specs.Faults.{fault_of_run};
+
+    ghost from_gives = { λ e f. f ≡ fault_of_run e };
+
     fn from(fault: RunFault) -> StationFault {
         match fault {
             RunFault::TurnLimit => StationFault::TurnLimit,
@@ -96,6 +126,11 @@ impl From<RunFault> for StationFault {
 }
 
 impl From<SegmentFault> for StationFault {
+    ghost use Rattle.std.specs.Prelude.{◌≡◌};
+    ghost use Rattle.station_tour.specs.Faults.{fault_of_segment};
+
+    ghost from_gives = { λ e f. f ≡ fault_of_segment e };
+
     fn from(fault: SegmentFault) -> StationFault {
         match fault {
             SegmentFault::Run(fault) => StationFault::from(fault),

@@ -1,6 +1,10 @@
 //! How many asks a second a station serves, by hand and on threads, and how many the core.
 
-ghost use Rattle.std.specs.Prelude.{◌≡◌, ◌≤◌, IfOk, length, vec_len};
+ghost use Rattle.std.specs.Prelude.{◌≡◌, ℕ, ◌<◌, ◌≤◌, ◌*◌, max, min, IfOk, length, vec_len};
+ghost use Rattle.station_parts.specs.declared.make.TheConstants.{MAX_ENTRIES};
+ghost use Rattle.station_parts.specs.Runs.{list_in};
+ghost use Rattle.station_checks.specs.Asked.{ask_drawn, drawn_on};
+ghost use Rattle.station_tour.specs.Asked.{any_word, requests_of, IsShare};
 
 mod by_core;
 mod by_hand;
@@ -242,33 +246,42 @@ fn ask_crew<R: AllocGlobal + Clock + Threads + Sync>(
 }
 
 // How many entries a journal takes that is to serve the requests.
-fn entries_for(requests: &[Ask]) -> u32 {
+fn entries_for(requests: &[Ask]) -> u32
+    ensures { result ≡ max 1 (min (length requests.now * ENTRIES_A_REQUEST) MAX_ENTRIES) }
+{
     let entries = requests.len().saturating_mul(ENTRIES_A_REQUEST);
     entries.clamp(1, MAX_ENTRIES as usize) as u32
 }
 
 // As many requests as sixteen ports have asks. They are of any words, so that each share of them
 // meets as many misses.
-fn requests(alloc: Global, plan: &Plan) -> Result<Vec<Ask>, AllocError> {
+fn requests(alloc: Global, plan: &Plan) -> Result<Vec<Ask>, AllocError>
+    ensures { IfOk result (λ asks. asks.items ≡ requests_of plan.now) }
+{
     let mut random = Pcg32::new(plan.seed, 0);
     let mut asks = Vec::new(alloc);
     for number in 0..u64::from(plan.asks) * u64::from(MAX_PORTS) {
-        let pick = random.next_word();
-        let word = bytes_of(random.next_word());
-        asks.push(ask_by(
-            pick,
-            (number % u64::from(PORT_TAGS)) as u8,
-            pick / 8 % WORDS,
-            word,
-            BLOCK_WORDS as u32,
-        ))?;
+        asks.push(next_request(&mut random, number))?;
     }
     Ok(asks)
 }
 
+// The request of this number.
+fn next_request(random: &mut Pcg32, number: u64) -> Ask
+    ensures asked { result ≡ ask_drawn any_word random.old number }
+    ensures rest { random.new ≡ drawn_on random.old }
+{
+    let pick = random.next_word();
+    let word = bytes_of(random.next_word());
+    let tag = (number % u64::from(PORT_TAGS)) as u8;
+    ask_by(pick, tag, pick / 8 % WORDS, word, BLOCK_WORDS as u32)
+}
+
 // The requests, dealt out to the ports in turn.
 fn share(alloc: Global, requests: &[Ask], plan: &Plan) -> Result<Vec<Vec<Ask>>, AllocError>
-    ensures { IfOk result (λ scripts. vec_len scripts ≡ plan.now.ports) }
+    ensures number { IfOk result (λ scripts. vec_len scripts ≡ plan.now.ports) }
+    ensures each { IfOk result (λ scripts. (port : ℕ) → port < plan.now.ports
+        → IsShare plan.now.ports port requests.now (list_in scripts.items port)) }
 {
     let mut scripts = Vec::new(alloc);
     for port in 0..plan.ports {
@@ -279,10 +292,12 @@ fn share(alloc: Global, requests: &[Ask], plan: &Plan) -> Result<Vec<Vec<Ask>>, 
 
 fn share_of(alloc: Global, requests: &[Ask], port: u32, ports: u32) -> Result<Vec<Ask>, AllocError>
     requires { 1 ≤ ports }
+    ensures { IfOk result (λ script. IsShare ports port requests.now script.items) }
 {
+    let behind = requests.len().saturating_sub(port as usize);
     let mut script = Vec::new(alloc);
-    for ask in requests.iter().skip(port as usize).step_by(ports as usize) {
-        script.push(*ask)?;
+    for place in 0..behind.div_ceil(ports as usize) {
+        script.push(requests[port as usize + place * ports as usize])?;
     }
     Ok(script)
 }

@@ -1,8 +1,9 @@
 //! A tour: the ports of a plan on threads over one cache, and what is told of them. A long one is cut
 //! into segments, behind each of which the station is renewed.
 
-ghost use Rattle.std.specs.Prelude.{◌≡◌, ◌<◌, length, vec_len};
+ghost use Rattle.std.specs.Prelude.{◌≡◌, ◌/◌, max, min, length, vec_len};
 ghost use Rattle.station_parts.specs.Station.{AreOneStation};
+ghost use Rattle.station_tour.specs.Asked.{asks_in};
 
 use crate::crew::crew_of;
 use crate::fault::StationFault;
@@ -94,7 +95,7 @@ pub(crate) fn tour<R: AllocGlobal + Clock + Threads + Sync, S: Write, J: Write, 
 
 // How many asks of a port there are between two renewals.
 fn asks_of_a_port(plan: &Plan) -> u32
-    ensures { 0 < result }
+    ensures { result ≡ max (ASKS_OF_A_SEGMENT / plan.now.ports) 1 }
 {
     (ASKS_OF_A_SEGMENT / plan.ports).max(1)
 }
@@ -140,7 +141,9 @@ fn look_at(
 }
 
 // How many asks there are in all scripts.
-fn asks_in(scripts: &[Vec<Ask>]) -> u64 {
+fn asks_in(scripts: &[Vec<Ask>]) -> u64
+    ensures { result ≡ min (asks_in scripts.now) u64.MAX }
+{
     let mut asks: u64 = 0;
     for script in scripts {
         asks = asks.saturating_add(script.len() as u64);

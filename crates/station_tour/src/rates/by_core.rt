@@ -1,5 +1,8 @@
 //! The core, asked and moved on one thread.
 
+ghost use Rattle.std.specs.Prelude.{◌≡◌};
+ghost use Rattle.station_tour.specs.Asked.{event_of};
+
 use crate::fault::StationFault;
 use flat_model::{Answer, Event, Word};
 use machine_core::Machine;
@@ -59,7 +62,9 @@ pub(crate) fn ask_one(core: &mut Core, event: Event) -> Result<(), StationFault>
 }
 
 /// The event of a port's ask, for the port 0.
-pub(crate) fn event_of(ask: Ask) -> Option<Event> {
+pub(crate) fn event_of(ask: Ask) -> Option<Event>
+    ensures { result ≡ event_of ask }
+{
     match ask {
         Ask::Load { tag, at } => Some(Event::Load {
             tag: u16::from(tag),

@@ -1,8 +1,10 @@
 //! The numbers and the scripts of a station of a soak, drawn at random.
-ghost use Rattle.std.specs.Prelude.{◌≡◌, ◌≤◌, ◌<◌, IfOk, true, vec_len};
+ghost use Rattle.std.specs.Prelude.{◌≡◌, ◌↔◌, ◌≤◌, IfOk, max, min, true, vec_len};
 ghost use Rattle.std.specs.List.{All};
 ghost use Rattle.station_journal.specs.Conversation.{is_request};
 ghost use Rattle.station_checks.specs.Scripts.{AreRequests};
+ghost use Rattle.station_parts.specs.declared.make.TheConstants.{MAX_ENTRIES};
+ghost use Rattle.station_tour.specs.Trials.{IsInRange};
 
 use flat_model::{Lanes, MAX_BANK_QUEUE, MAX_BANKS, MAX_REPLIES, MAX_SETS, Shape};
 use rand_core::utils::NextWord;
@@ -88,7 +90,10 @@ pub(crate) struct Trial {
 
 impl Trial {
     /// A trial with so many words in a block.
-    pub(crate) fn draw(draws: &mut Draws, block_words: u32) -> Trial {
+    pub(crate) fn draw(draws: &mut Draws, block_words: u32) -> Trial
+        ensures range { IsInRange result }
+        ensures block { result.block_words ≡ max 1 (min block_words 16) }
+    {
         let block_words = block_words.clamp(1, 16);
         let most_blocks = if draws.one_in(32) {
             MANY_BLOCKS
@@ -115,7 +120,9 @@ impl Trial {
     }
 
     /// Whether it has enough turns and entries, so that its run has to come to its end.
-    pub(crate) fn has_to_end(&self) -> bool {
+    pub(crate) fn has_to_end(&self) -> bool
+        ensures { (result ≡ true) ↔ ((self.now.journal ≡ MAX_ENTRIES) × (self.now.turns ≡ MANY_TURNS)) }
+    {
         self.journal == MAX_ENTRIES && self.turns == MANY_TURNS
     }
 
@@ -187,7 +194,9 @@ impl Trial {
 }
 
 // How many entries the journal takes, and how many turns each thread has: mostly enough of both.
-fn draw_limits(draws: &mut Draws) -> (u32, u64) {
+fn draw_limits(draws: &mut Draws) -> (u32, u64)
+    ensures { (1 ≤ result.0) × (result.0 ≤ MAX_ENTRIES) }
+{
     match draws.word() % 32 {
         0 => (draws.between(1, SMALL_JOURNAL), TURNS_FOR_SMALL),
         1 => (MAX_ENTRIES, u64::from(draws.between(0, FEW_TURNS))),
