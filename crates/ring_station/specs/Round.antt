@@ -54,7 +54,7 @@ port_behind ports port = if nat_lt (port + 1) ports then port + 1 else 0
 
 -- behind an ask, and behind the last port, the banks come
 abbrev pub behind_port : Bool → ℕ → Round → Round
-behind_port did next round = record round { port = next; place = if did || next == 0 then Bank 0 else Ports }
+behind_port did next round = record round { port = next; place = if did || next == 0 then Bank 0 else round.place }
 
 -- any other place has its turn again as long as a step there did something, a bank behind a word of the stack
 abbrev pub behind_place : Bool → Place → Round → Round

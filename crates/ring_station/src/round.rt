@@ -158,7 +158,6 @@ impl Round {
 
     // Goes on from a port that was asked, or had nothing to ask.
     fn leave_port(&mut self, did: bool)
-        requires { self.old.place ≡ Place.Ports }
         ensures { self.new ≡ behind_port did (port_behind self.old.ports self.old.port) self.old }
     {
         let next = self.port.saturating_add(1);
