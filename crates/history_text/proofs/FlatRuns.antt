@@ -1,5 +1,5 @@
 -- A judge of the flat law keeps to it.
-use Rattle.std.proofs.Common.{◌≡◌, ℕ, ◌+◌, Bool, true, false, cond, Some, None, List, [], ◌∷◌, ◌++◌, length, refl, sym, ◌∙◌, ap, subst}
+use Rattle.std.proofs.Common.{◌≡◌, ℕ, ◌+◌, Some, List, [], ◌∷◌, ◌++◌, length, refl, sym, ◌∙◌, ap, subst}
 use Rattle.std.proofs.Common.{arith}
 use Rattle.std.specs.Prelude.{is_none}
 use Rattle.std.specs.Option.{option_and_then}
@@ -15,7 +15,7 @@ use Rattle.memory_histories.specs.FlatShown.{shown, FlatFaultIs}
 use Rattle.history_text.specs.Lines.{plain}
 use Rattle.history_text.specs.Laws.{Law, JudgeFaultIs, of_step}
 use Rattle.history_text.specs.FlatLaw.{law_from, flat_law, law_of, Took}
-use Rattle.history_text.proofs.Runs.{through}
+use Rattle.history_text.proofs.Runs.{through, stepped}
 
 -- ---- an event, wherever its bytes lie
 
@@ -32,10 +32,6 @@ plain_step f (StoreRequest number address bytes enables) = refl
 plain_step f (StoreResponse number) = refl
 
 -- ---- runs
-
-stepped : (t : Bool) (f g : Flat) → cond t (Some f) None ≡ Some g → g ≡ f
-stepped true f g e = cc
-stepped false f g e = cc
 
 last_step : (f : Flat) (e : HistoryEvent) (g : Flat) → flat_step f e ≡ Some g → flat_run f (e ∷ []) ≡ Some g
 last_step f e g is = ap (option_and_then (λ h. flat_run h [])) is

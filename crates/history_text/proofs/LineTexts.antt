@@ -1,94 +1,10 @@
--- How bytes become lines.
-use Rattle.std.proofs.Common.{◌≡◌, ◌≢◌, ℕ, ◌+◌, ◌<◌, ◌≤◌, Bool, true, false, Option, None, Some, Result, Ok, Err, List, [], ◌∷◌, ◌++◌}
-use Rattle.std.proofs.Common.{length, take, drop, get_or, length-append, append-nil, append_assoc, take-append-drop, refl, sym, ◌∙◌, ap}
-use Rattle.std.proofs.Common.{subst, arith}
-use Rattle.std.specs.Prelude.{nat_lt}
-use Rattle.std.proofs.Math.Seq.{get_or-append_seam}
-use Rattle.std.proofs.lemmas.List.{get_or_append_left, take_all, take_more}
-use Rattle.std.proofs.lemmas.Bool.Decides.{nat_tests}
+-- How lines become events.
+use Rattle.std.proofs.Common.{◌≡◌, ℕ, ◌≤◌, Option, None, Some, Result, Ok, Err, List, [], ◌∷◌, ◌++◌, length}
+use Rattle.std.proofs.Common.{length-append, append-nil, append_assoc, sym, ◌∙◌, ap, arith}
 use Rattle.memory_histories.specs.declared.events.HistoryEvent.{HistoryEvent}
-use Rattle.trace_text.specs.Streams.{HasNoEnd}
-use Rattle.trace_text.specs.Reading.{joined_texts, IsGood, Good, BeginsFaulty, fault_of}
-use Rattle.trace_text.specs.Lines.{IsSaid}
-use Rattle.trace_text.specs.declared.fault.TheConstants.{MAX_PAIR}
 use Rattle.trace_text.specs.declared.lines.LineFault.{LineFault}
-use Rattle.trace_text.specs.declared.lines.LineFault.TheVariants.{Unknown, Field, TooLong, NotEnded}
-use Rattle.trace_text.proofs.Serving.{all_then}
 use Rattle.history_text.specs.Lines.{line_of}
-use Rattle.history_text.specs.Histories.{history_fault, events_in, events_of}
-
--- ---- bytes without an LF
-
-pub none_yet : HasNoEnd []
-none_yet k lt e = omega (arith, lt)
-
-at_end : (bytes : List ℕ) (b k : ℕ) → b ≢ 10 → HasNoEnd bytes → k < length bytes + 1 → get_or (bytes ++ b ∷ []) k 0 ≢ 10
-at_end bytes b k ne none lt e = go (nat_lt k (length bytes)) refl
-  where
-    go : (t : Bool) → nat_lt k (length bytes) ≡ t → ⊥
-    go true is =
-        let below : k < length bytes = grind (arith, nat_tests) in
-        none k below (sym (get_or_append_left bytes (b ∷ []) 0 k below) ∙ e)
-    go false is =
-        let here : k ≡ length bytes = grind (arith, nat_tests) in
-        ne (sym (get_or-append_seam bytes b [] 0) ∙ sym (ap (λ i. get_or (bytes ++ b ∷ []) i 0) here) ∙ e)
-
-pub none_more : (bytes : List ℕ) (b : ℕ) → b ≢ 10 → HasNoEnd bytes → HasNoEnd (bytes ++ b ∷ [])
-none_more bytes b ne none k lt e = at_end bytes b k ne none (omega (arith, lt, length-append bytes (b ∷ []))) e
-
--- ---- faulty lines
-
-pub begins_said : (text : List ℕ) (f : LineFault) → length text ≤ MAX_PAIR → HasNoEnd text → IsSaid f → line_of text ≡ Err f
-    → BeginsFaulty history_fault MAX_PAIR (text ++ 10 ∷ []) f
-begins_said text f short none said e = go f said (ap fault_of e)
-  where
-    go : (g : LineFault) → IsSaid g → history_fault text ≡ Some g → BeginsFaulty history_fault MAX_PAIR (text ++ 10 ∷ []) g
-    go Unknown is fault = (text, [], refl, short, none, fault)
-    go Field is fault = (text, [], refl, short, none, fault)
-    go TooLong is fault = absurd is
-    go NotEnded is fault = absurd is
-
-pub begins_long : (bytes : List ℕ) → length bytes ≡ MAX_PAIR + 1 → HasNoEnd bytes → BeginsFaulty history_fault MAX_PAIR bytes TooLong
-begins_long bytes long none = (omega (arith, long), subst HasNoEnd (sym (take_all (MAX_PAIR + 1) bytes (omega (arith, long)))) none)
-
--- ---- lines
-
-joined_more : (texts : List (List ℕ)) (text : List ℕ) → joined_texts (texts ++ text ∷ []) ≡ joined_texts texts ++ (text ++ 10 ∷ [])
-joined_more [] text = refl
-joined_more (t ∷ ts) text = ap (λ l. t ++ (10 ∷ l)) (joined_more ts text) ∙ sym (append_assoc t (10 ∷ joined_texts ts) (text ++ 10 ∷ []))
-
--- more bytes behind the lines
-pub good_more : {f : List ℕ → Option LineFault} {most : ℕ} {bytes rest : List ℕ} {texts : List (List ℕ)} (more : List ℕ)
-    → Good f most bytes texts rest → Good f most (bytes ++ more) texts (rest ++ more)
-good_more {rest = rest} {texts = texts} more p = record {
-  each = p.each;
-  split = ap (λ l. l ++ more) p.split
-      ∙ append_assoc (joined_texts texts) rest more;
-}
-
--- the bytes behind the lines are a line that ends here
-pub good_line : {f : List ℕ → Option LineFault} {most : ℕ} {bytes text : List ℕ} {texts : List (List ℕ)} → Good f most bytes texts text
-    → IsGood f most text → Good f most (bytes ++ 10 ∷ []) (texts ++ text ∷ []) []
-good_line {f = f} {most = most} {bytes = bytes} {text = text} {texts = texts} p good = record {
-  each = all_then (IsGood f most) texts (text ∷ []) p.each (good, tt);
-  split = (good_more (10 ∷ []) p).split ∙ sym (joined_more texts text) ∙ sym (append-nil (joined_texts (texts ++ text ∷ [])));
-}
-
--- ---- bytes one by one
-
-pub one_more : (before bytes : List ℕ) (i b : ℕ) → i < length bytes → b ≡ get_or bytes i 0
-    → (before ++ take i bytes) ++ b ∷ [] ≡ before ++ take (i + 1) bytes
-one_more before bytes i b lt is =
-    append_assoc before (take i bytes) (b ∷ []) ∙ ap (λ x. before ++ (take i bytes ++ x ∷ [])) is
-    ∙ ap (λ l. before ++ l) (sym (take_more bytes i 0 lt))
-
-pub rest_behind : (before bytes : List ℕ) (i b : ℕ) → i < length bytes → b ≡ get_or bytes i 0
-    → ((before ++ take i bytes) ++ b ∷ []) ++ drop (i + 1) bytes ≡ before ++ bytes
-rest_behind before bytes i b lt is =
-    ap (λ l. l ++ drop (i + 1) bytes) (one_more before bytes i b lt is) ∙ append_assoc before (take (i + 1) bytes) (drop (i + 1) bytes)
-    ∙ ap (λ l. before ++ l) (take-append-drop (i + 1) bytes)
-
--- ---- events
+use Rattle.history_text.specs.Histories.{events_in, events_of}
 
 -- one line more
 pub events_more : (texts : List (List ℕ)) (text : List ℕ) → events_of (texts ++ text ∷ []) ≡ events_of texts ++ events_in (line_of text)

@@ -1,6 +1,6 @@
 -- What a byte makes of the lines that were read.
 use Rattle.std.proofs.Common.{◌≡◌, ◌≢◌, ℕ, ◌+◌, ◌^◌, ◌<◌, ◌≤◌, ◌==◌, Bool, true, false, if◌then◌else◌, Option, Some, None, Result, Ok, Err}
-use Rattle.std.proofs.Common.{OnOk, IfOk, IfErr, IsErrAnd, List, [], ◌∷◌, ◌++◌, length, take, get_or, length-append, append-nil}
+use Rattle.std.proofs.Common.{List, [], ◌∷◌, ◌++◌, length, take, get_or, length-append, append-nil}
 use Rattle.std.proofs.Common.{append_assoc, refl, sym, ◌∙◌, ap, subst, arith}
 use Rattle.std.specs.List.{fold}
 use Rattle.std.proofs.lemmas.Bool.Decides.{nat_tests}
@@ -27,8 +27,8 @@ use Rattle.history_text.specs.Told.{ToldLaw, Begin, law_begun}
 use Rattle.history_text.specs.declared.judged.Stop.{Stop}
 use Rattle.history_text.specs.declared.judged.Stop.TheVariants as stop
 use Rattle.history_text.proofs.Counting.{fold_more}
-use Rattle.history_text.proofs.LineTexts.{none_yet, none_more, begins_said, begins_long, good_more, good_line, one_more, events_more}
-use Rattle.history_text.proofs.LineTexts.{events_few}
+use Rattle.trace_text.proofs.LineTexts.{none_yet, none_more, begins_said, begins_long, good_more, good_line, one_more}
+use Rattle.history_text.proofs.LineTexts.{events_few, events_more}
 
 -- ---- a byte that ends no line
 
@@ -205,7 +205,7 @@ pub ends_long : {J : Type 0} {took : J → List HistoryEvent → J → Type 0} {
 ends_long {pending = pending} {texts = texts} b number h ne long at =
     let found : List ℕ = pending ++ b ∷ [] in (
       omega (arith, at, h.number),
-      begins_long found (omega (arith, long, length-append pending (b ∷ [])))
+      begins_long history_fault MAX_PAIR found (omega (arith, long, length-append pending (b ∷ [])))
           (none_more pending b ne h.text.unfinished),
     )
 
@@ -215,7 +215,7 @@ pub ends_faulty : {J : Type 0} {took : J → List HistoryEvent → J → Type 0}
     → HasRead took law start bytes texts judged pending count → number ≡ count + 1 → IsSaid f → line_of pending ≡ Err f
     → EndsAt (law_begun law start) texts (pending ++ 10 ∷ []) (stop.Fault (fault.Line number f))
 ends_faulty {pending = pending} {texts = texts} number f h at is said =
-    (omega (arith, at, h.number), begins_said pending f h.text.short h.text.unfinished is said)
+    (omega (arith, at, h.number), begins_said history_fault MAX_PAIR pending f h.text.short h.text.unfinished is (ap fault_of said))
 
 event_line : (pending : List ℕ) (event : HistoryEvent) → IsGood history_fault MAX_PAIR pending → line_of pending ≡ Ok (Some event)
     → IsEventLine (pending ++ 10 ∷ []) event
@@ -291,29 +291,6 @@ pub read_all : {J : Type 0} {took : J → List HistoryEvent → J → Type 0} {l
 read_all {took = took} {law = law} {start = start} {judged = judged} {pending = pending} {texts = texts} {count = count} bytes piece i whole
     h =
     subst (λ l. HasRead took law start (bytes ++ l) texts judged pending count) (take_all i piece whole) h
-
--- ---- what holds at the end that a call had
-
-pub on_ok : {X E : Type 0} (r : Result X E) (P Q : Type 0) → (P → Q) → OnOk r P → OnOk r Q
-on_ok (Ok x) P Q f p = f p
-on_ok (Err e) P Q f p = tt
-
-pub on_ok_both : {X E : Type 0} (r : Result X E) (P P' Q : Type 0) → (P → P' → Q) → OnOk r P → OnOk r P' → OnOk r Q
-on_ok_both (Ok x) P P' Q f p p' = f p p'
-on_ok_both (Err e) P P' Q f p p' = tt
-
-pub if_ok : {X E : Type 0} (r : Result X E) (P Q : X → Type 0) → ((x : X) → P x → Q x) → IfOk r P → IfOk r Q
-if_ok (Ok x) P Q f p = f x p
-if_ok (Err e) P Q f p = tt
-
-pub if_err : {X E : Type 0} (r : Result X E) (P Q : E → Type 0) → ((e : E) → P e → Q e) → IfErr r P → IfErr r Q
-if_err (Ok x) P Q f p = tt
-if_err (Err e) P Q f p = f e p
-
--- an error that `?` passes on says what it said
-pub passed_on : {X E : Type 0} (r : Result X E) (e : E) (P : E → Type 0) → IsErrAnd r (λ f. f ≡ e) → P e → IfErr r P
-passed_on (Ok x) e P same p = tt
-passed_on (Err f) e P same p = subst P (sym same) p
 
 -- ---- what is left
 

@@ -8,18 +8,13 @@ use Rattle.history_reasons.specs.declared.log.StoreLog.{StoreLog}
 use Rattle.history_reasons.specs.Log.{IsLogOf, is_within, idle}
 use Rattle.history_text.specs.Lines.{plain}
 use Rattle.history_text.specs.Notes.{line_then}
+use Rattle.history_text.proofs.Runs.{plain_after}
 
 plain_within : (e : HistoryEvent) → is_within (plain e) ≡ is_within e
 plain_within (LoadRequest number address n) = refl
 plain_within (LoadResponse number bytes) = refl
 plain_within (StoreRequest number address bytes enables) = refl
 plain_within (StoreResponse number) = refl
-
-plain_after : (w : Windows) (e : HistoryEvent) → windows_after w (plain e) ≡ windows_after w e
-plain_after w (LoadRequest number address n) = refl
-plain_after w (LoadResponse number bytes) = refl
-plain_after w (StoreRequest number address bytes enables) = refl
-plain_after w (StoreResponse number) = refl
 
 -- an event is noted wherever its bytes lie
 pub event_noted : (g h : StoreLog) (w : Windows) (e s : HistoryEvent) → plain e ≡ s

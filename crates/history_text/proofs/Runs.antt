@@ -26,7 +26,7 @@ plain_fault w (LoadResponse number bytes) = refl
 plain_fault w (StoreRequest number address bytes enables) = refl
 plain_fault w (StoreResponse number) = refl
 
-plain_after : (w : Windows) (e : HistoryEvent) → windows_after w (plain e) ≡ windows_after w e
+pub plain_after : (w : Windows) (e : HistoryEvent) → windows_after w (plain e) ≡ windows_after w e
 plain_after w (LoadRequest number address n) = refl
 plain_after w (LoadResponse number bytes) = refl
 plain_after w (StoreRequest number address bytes enables) = refl
@@ -39,7 +39,7 @@ pub through : {A B : Type 0} (o : Option A) (f : A → Option B) (b : B) → opt
 through None f b e = cc
 through (Some a) f b e = (a, refl, e)
 
-stepped : (t : Bool) (v w : Windows) → cond t (Some v) None ≡ Some w → w ≡ v
+pub stepped : {A : Type 0} (t : Bool) (v w : A) → cond t (Some v) None ≡ Some w → w ≡ v
 stepped true v w e = cc
 stepped false v w e = cc
 

@@ -23,7 +23,8 @@ use Rattle.history_text.specs.Notes.{windows_of}
 use Rattle.history_text.specs.Told.{ToldLaw, Begin, law_begun}
 use Rattle.history_text.specs.declared.judged.Stop.{Stop}
 use Rattle.history_text.specs.declared.judged.Stop.TheVariants as stop
-use Rattle.history_text.proofs.LineTexts.{good_more, events_few}
+use Rattle.trace_text.proofs.LineTexts.{good_more}
+use Rattle.history_text.proofs.LineTexts.{events_few}
 use Rattle.history_text.proofs.LinesRead.{ends_in, ends_more}
 use Rattle.history_text.proofs.Endings.{into}
 

@@ -1,5 +1,4 @@
 -- A law of histories, and what is known of memory beside it.
-use Rattle.memory_histories.specs.declared.events.HistoryEvent.{HistoryEvent}
 use Rattle.history_text.specs.Laws.{Law}
 use Rattle.history_text.specs.Notes.{Telling}
 

@@ -1,9 +1,10 @@
+use Rattle.atomic_histories.proofs.Parts.{pass_on}
 use Rattle.std.proofs.Common.{◌+◌, ◌<◌, ◌≤◌, ◌++◌, ℕ, List, length, take, drop, subst, refl, arith}
 use Rattle.history_text.specs.Histories.{HasRead}
 use Rattle.history_text.specs.Values.{Told, ToldIn}
 use Rattle.history_text.specs.Told.{Begin, law_begun}
-use Rattle.history_text.proofs.LineTexts.{rest_behind}
-use Rattle.history_text.proofs.LinesRead.{read_on, read_all, passed_on}
+use Rattle.trace_text.proofs.LineTexts.{rest_behind}
+use Rattle.history_text.proofs.LinesRead.{read_on, read_all}
 use Rattle.history_text.proofs.Written.{told_here, told_more}
 use Rattle.history_text.proofs.values.write_lines.Goals as goal
 
@@ -22,7 +23,7 @@ returns-in_err-write_byte-clause-stop g c =
     let i = c.loop-byte.byte-index in
     let lt : i < length bytes = omega arith in
     let why = c.in_err-write_byte.field-0.0 in
-    passed_on c.from_residual.result why
+    pass_on c.from_residual.result why
     (λ stop. (start : Begin g.row.J.Denot) (before : List ℕ) (texts : List (List ℕ)) (first : g.row.W.Denot)
     → HasRead j.took j.law start before texts lines.judged lines.pending.items lines.count
     → Told s.took (law_begun j.law start) first texts c.args.writer.now

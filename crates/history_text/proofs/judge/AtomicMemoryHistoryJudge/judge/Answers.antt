@@ -1,3 +1,4 @@
+use Rattle.atomic_histories.proofs.Parts.{pass_on}
 use Rattle.std.specs.Prelude.{List}
 use Rattle.memory_histories.specs.declared.events.HistoryEvent.{HistoryEvent}
 use Rattle.atomic_histories.specs.declared.memory.AtomicMemory.{AtomicMemory}
@@ -6,7 +7,6 @@ use Rattle.history_text.specs.Lines.{plain}
 use Rattle.history_text.specs.Laws.{JudgeFaultIs, IfUndecided, of_atomic}
 use Rattle.history_text.specs.AtomicLaw.{law_of, Took, Undecides}
 use Rattle.history_text.proofs.AtomicRuns.{took_more, faulty, undecided_here}
-use Rattle.history_text.proofs.LinesRead.{passed_on}
 use Rattle.history_text.proofs.judge.AtomicMemoryHistoryJudge.judge.Goals as goal
 
 pub returns-clause-ok : goal.returns-clause-ok
@@ -20,7 +20,7 @@ returns-in_err-step-clause-fault c =
     let event = plain c.args.event in
     let Says : JudgeFault → Type 0 =
     λ f. (start : AtomicMemory) (events : List HistoryEvent) → Took start events n → JudgeFaultIs (law_of start) events event f in
-    passed_on c.from_residual.result (of_atomic c.in_err-step.field-0.0) Says c.from_residual.ensures.1
+    pass_on c.from_residual.result (of_atomic c.in_err-step.field-0.0) Says c.from_residual.ensures.1
     (λ start events took. faulty start n events c.args.event c.in_err-step.field-0.0 took (c.in_err-step.ensures.fault events took.stands))
 
 pub returns-in_err-step-clause-undecided : goal.returns-in_err-step-clause-undecided
@@ -29,5 +29,5 @@ returns-in_err-step-clause-undecided c =
     let event = c.args.event in
     let Says : JudgeFault → Type 0 =
     λ f. (start : AtomicMemory) (events : List HistoryEvent) → Took start events n → IfUndecided (Undecides n (plain event)) f in
-    passed_on c.from_residual.result (of_atomic c.in_err-step.field-0.0) Says c.from_residual.ensures.1
+    pass_on c.from_residual.result (of_atomic c.in_err-step.field-0.0) Says c.from_residual.ensures.1
     (λ start events took. undecided_here n events event c.in_err-step.field-0.0 (c.in_err-step.ensures.fault events took.stands))

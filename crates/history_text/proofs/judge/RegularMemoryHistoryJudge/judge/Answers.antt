@@ -1,3 +1,4 @@
+use Rattle.atomic_histories.proofs.Parts.{pass_on}
 use Rattle.std.specs.Prelude.{List}
 use Rattle.memory_histories.specs.declared.events.HistoryEvent.{HistoryEvent}
 use Rattle.memory_histories.specs.declared.regular.RegularMemory.{RegularMemory}
@@ -6,7 +7,6 @@ use Rattle.history_text.specs.Lines.{plain}
 use Rattle.history_text.specs.Laws.{JudgeFaultIs, IfUndecided, of_step}
 use Rattle.history_text.specs.RegularLaw.{law_of, Took, Undecides}
 use Rattle.history_text.proofs.Runs.{took_more, faulty}
-use Rattle.history_text.proofs.LinesRead.{passed_on}
 use Rattle.history_text.proofs.StepFaults.{step_tells}
 use Rattle.history_text.proofs.judge.RegularMemoryHistoryJudge.judge.Goals as goal
 
@@ -19,7 +19,7 @@ returns-in_err-step-clause-fault c =
     let event = plain c.args.event in
     let Says : JudgeFault → Type 0 =
     λ f. (start : RegularMemory) (events : List HistoryEvent) → Took start events n → JudgeFaultIs (law_of start) events event f in
-    passed_on c.from_residual.result (of_step c.in_err-step.field-0.0) Says c.from_residual.ensures.1
+    pass_on c.from_residual.result (of_step c.in_err-step.field-0.0) Says c.from_residual.ensures.1
     (λ start events took. faulty start n events c.args.event c.in_err-step.field-0.0 took c.in_err-step.ensures.fault)
 
 pub returns-in_err-step-clause-undecided : goal.returns-in_err-step-clause-undecided
@@ -28,5 +28,5 @@ returns-in_err-step-clause-undecided c =
     let event = plain c.args.event in
     let Says : JudgeFault → Type 0 =
     λ f. (start : RegularMemory) (events : List HistoryEvent) → Took start events n → IfUndecided (Undecides n event) f in
-    passed_on c.from_residual.result (of_step c.in_err-step.field-0.0) Says c.from_residual.ensures.1
+    pass_on c.from_residual.result (of_step c.in_err-step.field-0.0) Says c.from_residual.ensures.1
     (λ start events took. step_tells (Undecides n event) c.in_err-step.field-0.0)

@@ -1,6 +1,6 @@
+use Rattle.std.proofs.lemmas.Result.{on_ok_weaker, IfErr-weaker}
 use Rattle.std.proofs.Common.{refl}
 use Rattle.history_text.proofs.Counting.{stands_noted}
-use Rattle.history_text.proofs.LinesRead.{on_ok, if_err}
 use Rattle.history_text.proofs.judged.Judged.take.Goals as goal
 
 pub take_noted-requires-clause-begun : goal.take_noted-requires-clause-begun
@@ -10,12 +10,12 @@ take_noted-requires-clause-begun g c =
 
 pub returns-clause-ok : goal.returns-clause-ok
 returns-clause-ok g c =
-    on_ok c.take_noted.result _ _
+    on_ok_weaker c.take_noted.result
     (λ ok start events w s few. ok start events w (stands_noted s refl refl refl (c.make_room.ensures.same start.telling w s.notes)) few)
     c.take_noted.ensures.ok
 
 pub returns-clause-stop : goal.returns-clause-stop
 returns-clause-stop g c =
-    if_err c.take_noted.result _ _
+    IfErr-weaker c.take_noted.result _ _
     (λ why stops start events w s. stops start events w (stands_noted s refl refl refl (c.make_room.ensures.same start.telling w s.notes)))
     c.take_noted.ensures.stop

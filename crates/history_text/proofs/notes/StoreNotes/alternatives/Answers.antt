@@ -1,11 +1,11 @@
+use Rattle.std.proofs.lemmas.Result.{IfOk-weaker}
 use Rattle.std.proofs.Common.{◌∙◌, ap}
 use Rattle.history_text.specs.Notes.{alternatives_of}
-use Rattle.history_text.proofs.LinesRead.{if_ok}
 use Rattle.history_text.proofs.notes.StoreNotes.alternatives.Goals as goal
 
 pub returns : goal.returns
 returns c =
-    if_ok c.alternatives_among.result _ _
+    IfOk-weaker c.alternatives_among.result _ _
     (λ all is t w are. is t w are
     ∙ ap (λ bs. alternatives_of t w c.args.number c.args.address bs) (c.as_slice.ensures.value ∙ c.bytes_in_set-bytes.ensures))
     c.alternatives_among.ensures

@@ -1,3 +1,4 @@
+use Rattle.atomic_histories.proofs.Parts.{pass_on}
 use Rattle.std.proofs.Common.{◌+◌, ◌<◌, ℕ, Option, Ok, List, length, sym, ◌∙◌, ap, subst, arith}
 use Rattle.history_text.specs.Lines.{seen, seen_by}
 use Rattle.history_text.specs.Histories.{events_of, HasRead, LineStops}
@@ -5,7 +6,7 @@ use Rattle.history_text.specs.declared.events.OwnedEvent.{OwnedEvent}
 use Rattle.history_text.specs.Notes.{windows_of}
 use Rattle.history_text.specs.Told.{Begin, law_begun}
 use Rattle.history_text.proofs.LineTexts.{events_few}
-use Rattle.history_text.proofs.LinesRead.{closed, read_passed, read_event, moment_of, passed_on}
+use Rattle.history_text.proofs.LinesRead.{closed, read_passed, read_event, moment_of}
 use Rattle.history_text.proofs.reading.Lines.end_line.Goals as goal
 
 pub take-requires : goal.take-requires
@@ -21,7 +22,7 @@ returns-in_err-take-in-Some-clause-stop g c =
     let j = g.J.HistoryJudge in
     let why = c.in_err-take-in-Some.field-0.0 in
     let event = ap (λ (o : Option OwnedEvent). seen_by o) c.in-Some.is in
-    passed_on c.from_residual.result why
+    pass_on c.from_residual.result why
     (λ s. (start : Begin g.row.J.Denot) (before : List ℕ) (texts : List (List ℕ))
     → HasRead j.took j.law start before texts self.judged self.pending.items self.count
     → LineStops (law_begun j.law start) (events_of texts) (windows_of start.telling texts) c.args.number (seen_by c.args.event.now) s)

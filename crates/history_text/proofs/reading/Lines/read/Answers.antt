@@ -1,8 +1,9 @@
+use Rattle.atomic_histories.proofs.Parts.{pass_on}
 use Rattle.std.proofs.Common.{◌++◌, ◌+◌, ◌<◌, ◌≤◌, ℕ, List, length, take, drop, subst, refl, arith}
 use Rattle.history_text.specs.Histories.{EndsIn, HasRead}
 use Rattle.history_text.specs.Told.{Begin, law_begun}
-use Rattle.history_text.proofs.LineTexts.{rest_behind}
-use Rattle.history_text.proofs.LinesRead.{ends_in, ends_more, read_on, read_all, passed_on}
+use Rattle.trace_text.proofs.LineTexts.{rest_behind}
+use Rattle.history_text.proofs.LinesRead.{ends_in, ends_more, read_on, read_all}
 use Rattle.history_text.proofs.reading.Lines.read.Goals as goal
 
 pub read_byte-requires : goal.read_byte-requires
@@ -19,7 +20,7 @@ returns-in_err-read_byte-clause-stop g c =
     let i = c.loop-byte.byte-index in
     let lt : i < length bytes = omega arith in
     let why = c.in_err-read_byte.field-0.0 in
-    passed_on c.from_residual.result why
+    pass_on c.from_residual.result why
     (λ s. (start : Begin g.row.J.Denot) (before : List ℕ) (texts : List (List ℕ))
     → HasRead j.took j.law start before texts self.judged self.pending.items self.count
     → EndsIn (law_begun j.law start) (before ++ bytes) s)
