@@ -55,13 +55,10 @@ any_found p (x ∷ xs) h = elim (cases_Bool (p x)) [
   | inr f ↦ let r = any_found p xs (rw f at h) in (r.0, r.1, inr r.2)
 ]
 
-any_true : (p : Word → Bool) (v : Word) (xs : List Word) → p v ≡ true → One (λ y. v ≡ y) xs → list_any p xs ≡ true
+pub any_true : (p : Word → Bool) (v : Word) (xs : List Word) → p v ≡ true → One (λ y. v ≡ y) xs → list_any p xs ≡ true
 any_true p v [] t h = absurd h
-any_true p v (x ∷ xs) t (inl e) = let u = ap p (sym e) ∙ t in rw u refl
-any_true p v (x ∷ xs) t (inr h) = elim (cases_Bool (p x)) [
-  | inl u ↦ rw u refl
-  | inr u ↦ rw u (any_true p v xs t h)
-]
+any_true p v (x ∷ xs) t (inl e) = or_left (p x) _ (ap p (sym e) ∙ t)
+any_true p v (x ∷ xs) t (inr h) = or_right (p x) _ (any_true p v xs t h)
 
 -- a word that a load may have got, with the bytes of its answer
 have_word : (unit : UnitPlace) (bytes : List ℕ) (e : Branch) (l : Watched) → may_have unit bytes e l ≡ true

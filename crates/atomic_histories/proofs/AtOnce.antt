@@ -1,11 +1,10 @@
 -- Events that a unit takes where it stands: what the search would find, and what is kept of the units.
-use Rattle.std.proofs.Common.{◌≡◌, ◌≢◌, ℕ, zero, suc, ◌+◌, ◌*◌, ◌/◌, ◌<◌, ◌≤◌, Bool, true, false, ◌&&◌, ◌||◌, not}
+use Rattle.std.proofs.Common.{◌≡◌, ◌≢◌, ℕ, zero, suc, ◌*◌, ◌/◌, ◌<◌, ◌≤◌, Bool, true, false}
 use Rattle.std.proofs.Common.{List, [], ◌∷◌, length, take, get_or, Option, Some, None, Result, Ok, Err, IfOk, OnErr}
 use Rattle.std.proofs.Common.{inl, inr, refl, sym, ap, ap₂, ◌∙◌, subst, arith}
-use Rattle.std.specs.List.{find, range_with_len}
+use Rattle.std.specs.List.{find}
 use Rattle.std.proofs.lemmas.List.{length-take-le, take-take, get_or-take}
 use Rattle.std.proofs.lemmas.Bool.{cases_Bool}
-use Rattle.std.proofs.lemmas.Bool.{or_left, or_right}
 use Rattle.memory_histories.specs.declared.events.HistoryEvent.{HistoryEvent}
 use Rattle.memory_histories.specs.declared.events.Rest.{Rest}
 use Rattle.atomic_histories.specs.declared.unit.OpenStore.{OpenStore}
@@ -20,10 +19,10 @@ use Rattle.atomic_histories.specs.declared.kept.KeptUnit.{KeptUnit}
 use Rattle.atomic_histories.specs.declared.memory.UnitSize.{UnitSize}
 use Rattle.atomic_histories.specs.declared.memory.UnitSize.TheVariants.{One, Two, Four, Eight}
 use Rattle.atomic_histories.specs.Operations.{Opened, opened_after, form_fault}
-use Rattle.atomic_histories.specs.Words.{byte_for, written, is_as_it_stood, is_word_of}
+use Rattle.atomic_histories.specs.Words.{written, is_word_of}
 use Rattle.atomic_histories.specs.Law.{unit_at, may_answer_store, done_store}
 use Rattle.atomic_histories.specs.Pasts.{Past, Stood, stood, begins, after, got, missed, oldest, earlier, cut_for, overwritten}
-use Rattle.atomic_histories.specs.Branches.{gives, may_come_in, may_come}
+use Rattle.atomic_histories.specs.Branches.{may_come}
 use Rattle.atomic_histories.specs.Followed.{Pair, Ways, Aim, first_ways, has_way, effect_aim, word_aim, pair_after}
 use Rattle.atomic_histories.specs.Followed.{out_after, met, found, is_over, needs_more, load_needs_more, needs_too_many, ways_after}
 use Rattle.atomic_histories.specs.Followed.{is_under, loads_without, moment_with, pair_missed, gathered}
@@ -32,8 +31,7 @@ use Rattle.atomic_histories.specs.Held.{Held, covered, units_of, is_without, is_
 use Rattle.atomic_histories.specs.Judge.{bytes_of, kept_or, kept_at, words_of, IsTaken}
 use Rattle.atomic_histories.specs.Shown.{past_at, past_of, pasts, shown, shown_all}
 use Rattle.atomic_histories.proofs.Shares.{stands}
-use Rattle.atomic_histories.proofs.Lists.{always_all}
-use Rattle.atomic_histories.proofs.Lanes.{word_lane, none_asked}
+use Rattle.atomic_histories.proofs.MayCome.{word_may_come, effect_comes}
 use Rattle.atomic_histories.proofs.Loops.{same_default}
 use Rattle.atomic_histories.proofs.KeptUnits.{some_oldest}
 use Rattle.atomic_histories.specs.AtOnce.{IsUnitTaken, AreTaken, AreTakenOrSame}
@@ -97,38 +95,6 @@ few_last limit number loads moment ss (p ∷ []) h one waits l = go p.stores.ite
     go (x ∷ y ∷ xs) e n = grind arith
 few_last limit number loads moment ss (p ∷ q ∷ ps) h one waits l = grind arith
 
--- Hope for the word that a store makes. ----
-
--- what a store makes stand in a lane stood there, or the store gives it
-lane_comes : (bs ws : Word) (k : ℕ) (answer : Option ℕ) → is_as_it_stood (get_or (written bs ws) k None) answer ≡ true
-    → (is_as_it_stood (get_or ws k None) answer || gives (get_or bs k None) answer) ≡ true
-unfolding written
-lane_comes [] ws k answer h = or_left _ _ h
-lane_comes (x ∷ bs) [] k answer h = refl
-lane_comes (None ∷ bs) (w ∷ ws) zero answer h = or_left _ _ h
-lane_comes (Some b ∷ bs) (w ∷ ws) zero None h = or_left _ _ (none_asked w)
-lane_comes (Some b ∷ bs) (w ∷ ws) zero (Some c) h = or_right _ _ h
-lane_comes (x ∷ bs) (w ∷ ws) (suc k) answer h = lane_comes bs ws k answer h
-
--- a word that is an answer's hopes for it
-pub word_hope : (unit : UnitPlace) (address : ℕ) (bytes : List ℕ) (word : Word) (stores : List OpenStore)
-    → is_word_of unit.first word address bytes ≡ true → may_come unit address bytes word stores ≡ true
-word_hope unit address bytes word stores h = grind (arith, always_all, or_left, word_lane, unit.first)
-
--- so does one of which a store makes it
-pub next_hope : (unit : UnitPlace) (address : ℕ) (bytes : List ℕ) (word : Word) (s : OpenStore) → s.is_done ≡ false
-    → is_word_of unit.first (written s.bytes word) address bytes ≡ true → may_come unit address bytes word (s ∷ []) ≡ true
-next_hope unit address bytes word s open_ h =
-    always_all (λ k. may_come_in k word (s ∷ []) _) each (range_with_len 0 8)
-  where
-    last : (a b d : Bool) → d ≡ false → (a || b) ≡ true → (a || ((not d && b) || false)) ≡ true
-    last true b d e t = refl
-    last false true d e t = rw e refl
-    last false false d e t = cc
-
-    each : (k : ℕ) → may_come_in k word (s ∷ []) (byte_for address bytes (unit.first + k)) ≡ true
-    each k = grind (arith, last, s.is_done, lane_comes, s.bytes, unit.first, word_lane)
-
 -- Loads. ----
 
 -- it is the word of a stretch, or one before that
@@ -173,11 +139,11 @@ load_next unit bytes l u e s one store open_ past f t =
     let aim = word_aim unit l.address bytes in
     let on = pair_after (overwritten u.loads u.moment e.word e.past) e [] s [] in
     let hope =
-    subst (λ ss. may_come unit l.address bytes e.word ss ≡ true) (sym store) (next_hope unit l.address bytes e.word s open_ t) in
+    subst (λ ss. may_come unit l.address bytes e.word ss ≡ true) (sym store) (effect_comes unit l.address bytes e.word [] s [] open_ t) in
     let got_ : gathered _ u.pairs ≡ [] = rw (one, f, past) refl in
     let missed_ : with_hope aim (gathered (pair_missed unit bytes l) u.pairs) ≡ e ∷ [] = rw (one, f, past, hope) refl in
     ap₂ (found u.loads u.moment aim) got_ missed_
-    ∙ found_next u.loads u.moment aim e s store open_ f t (word_hope unit l.address bytes on.word on.stores t)
+    ∙ found_next u.loads u.moment aim e s store open_ f t (word_may_come unit l.address bytes on.word on.stores t)
 
 pub few_load : (limit : ℕ) (unit : UnitPlace) (bytes : List ℕ) (l : WatchedLoad) (u : Ways) (e : Pair) (s : OpenStore) → 0 < limit
     → u.pairs ≡ e ∷ [] → e.stores ≡ s ∷ [] → e.past ≡ begins → is_word_of unit.first e.word l.address bytes ≡ false

@@ -1,6 +1,6 @@
 -- A way on which no more stores can make the word of an answer isn't followed, and nothing is lost by that.
 use Rattle.std.proofs.Common.{◌≡◌, ℕ, zero, suc, ◌+◌, ◌⊎◌, Bool, true, false, ◌&&◌, ◌||◌, not, List, [], ◌∷◌, ◌++◌, get_or, Option, Some}
-use Rattle.std.proofs.Common.{None, inl, inr, refl, sym, ap, ◌∙◌, subst}
+use Rattle.std.proofs.Common.{None, inl, inr, refl, sym, ap, ◌∙◌, subst, arith}
 use Rattle.std.specs.List.{list_all, list_any, find, range_with_len}
 use Rattle.std.proofs.lemmas.Bool.{cases_Bool, and_parts, and_from, or_cases, or_left, or_right}
 use Rattle.std.proofs.lemmas.List.Folds.{list_any-append, list_all-map}
@@ -82,6 +82,15 @@ come_before k word before s after answer open_ h =
       ]
     ]
 
+-- a word of which a store makes an answer's may come to it
+pub effect_comes : (unit : UnitPlace) (address : ℕ) (bytes : List ℕ) (word : Word) (before : List OpenStore) (s : OpenStore)
+    (after : List OpenStore) → s.is_done ≡ false → is_word_of unit.first (written s.bytes word) address bytes ≡ true
+    → may_come unit address bytes word (before ++ s ∷ after) ≡ true
+effect_comes unit address bytes word before s after open_ h =
+    always_all (λ k. may_come_in k word (before ++ s ∷ after) _)
+    (λ k. come_before k word before s after (byte_for address bytes (unit.first + k)) open_
+    (or_left _ _ (word_lane unit.first (written s.bytes word) address bytes k h))) (range_with_len 0 8)
+
 -- One load. ----
 
 -- whether the word may come to be one of an answer
@@ -114,12 +123,10 @@ module _ (unit : UnitPlace) (number : ℕ) (bytes : List ℕ) (e : Branch) (befo
 
   -- the word of an answer that an effect makes may come before it
   word_comes : (l : Watched) → is_word_of unit.first on.word l.address bytes ≡ true → comes unit bytes e l ≡ true
-  word_comes l h = always_all _ lane (range_with_len 0 8)
-    where
-      lane : (k : ℕ) → may_come_in k e.word e.stores (byte_for l.address bytes (unit.first + k)) ≡ true
-      lane k =
-          come l k (or_left (is_as_it_stood (get_or on.word k None) (byte_for l.address bytes (unit.first + k))) _
-          (word_lane unit.first on.word l.address bytes k h))
+  unfolding on
+  word_comes l h =
+      subst (λ ss. may_come unit l.address bytes e.word ss ≡ true) (sym split)
+      (effect_comes unit l.address bytes e.word before s after open_ h)
 
   hopes_before : (l : Watched) → hopes unit number bytes on (with_word e.word l) ≡ true → hopes unit number bytes e l ≡ true
   hopes_before l h =
@@ -171,10 +178,7 @@ hope_leads unit number bytes {e} {m} g (later before s after split open_ r) =
 -- the word that stands there may come to be one of an answer if it is one
 pub word_may_come : (unit : UnitPlace) (address : ℕ) (bytes : List ℕ) (word : Word) (stores : List OpenStore)
     → is_word_of unit.first word address bytes ≡ true → may_come unit address bytes word stores ≡ true
-word_may_come unit address bytes word stores h =
-    always_all (λ k. may_come_in k word stores (byte_for address bytes (unit.first + k)))
-    (λ k. or_left (is_as_it_stood (get_or word k None) (byte_for address bytes (unit.first + k))) _
-    (word_lane unit.first word address bytes k h)) (range_with_len 0 8)
+word_may_come unit address bytes word stores h = grind (arith, always_all, or_left, word_lane, unit.first)
 
 all_found : (p q : Watched → Bool) (ls : List Watched) (l : Watched) → list_all p ls ≡ true → find q ls ≡ Some l
     → (p l ≡ true) × (q l ≡ true)

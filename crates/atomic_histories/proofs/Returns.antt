@@ -26,7 +26,7 @@ use Rattle.atomic_histories.proofs.Lists.{one_weaker, one_none, one_or, one_elim
 use Rattle.atomic_histories.proofs.Alone.{IsAlone, found_each}
 use Rattle.atomic_histories.proofs.Answered.{find_watched}
 use Rattle.atomic_histories.proofs.Exact.{SoundOn, not_yet, watched_not_yet}
-use Rattle.atomic_histories.proofs.Answering.{any_found}
+use Rattle.atomic_histories.proofs.Answering.{any_found, any_true}
 use Rattle.atomic_histories.proofs.Found.{leads_split, sound_joint, sound_kept, next_sound, next_finds, one_taken, undone, one_rounds}
 use Rattle.atomic_histories.proofs.Found.{LeadsWithin}
 use Rattle.atomic_histories.proofs.Links.{fit_by, found_fit, inside_end}
@@ -82,11 +82,6 @@ shown_got number k b P e s h =
     let m : UnitMemory = record { word = e.word; stores = e.stores; loads = r.0 } in
     (m, s m (record { word = refl; stores = refl; loads = r.1 }), r.2)
 
-past_shown : (p : Word → Bool) (v : Word) (xs : List Word) → p v ≡ true → One (λ y. v ≡ y) xs → list_any p xs ≡ true
-past_shown p v [] t h = absurd h
-past_shown p v (x ∷ xs) t (inl e) = or_left (p x) _ (ap p (sym e) ∙ t)
-past_shown p v (x ∷ xs) t (inr h) = or_right (p x) _ (past_shown p v xs t h)
-
 got_shown : (k b : ℕ) (e : Branch) (l : Watched) (g : Option Word) → has_got k b g ≡ true → MayHaveGot e.word l.words g
     → (may_show (lane_of k e.word) b || list_any (λ w. may_show (lane_of k w) b) l.words) ≡ true
 got_shown k b e l None t h = cc
@@ -95,7 +90,7 @@ got_shown k b e l (Some v) t (inl same) =
     (cc (same, t))
 got_shown k b e l (Some v) t (inr past) =
     or_right _ (list_any (λ w. may_show _ b) l.words)
-    (past_shown (λ w. may_show _ b) v l.words t past)
+    (any_true (λ w. may_show _ b) v l.words t past)
 
 loads_show : (number k b : ℕ) (e : Branch) (ls : List Watched) (ms : List OpenLoad) → AreWatched e.word ls ms
     → list_any (got_byte number k b) ms ≡ true

@@ -3,6 +3,7 @@ use Rattle.std.proofs.Common.{◌≡◌, ℕ, zero, suc, ltb-true, ◌/◌, ◌<
 use Rattle.std.proofs.Common.{Option, Some, None, inl, inr, refl, sym, ap, ◌∙◌, subst, arith}
 use Rattle.std.specs.List.{find}
 use Rattle.std.proofs.Math.Nat.{mul-div_cancel}
+use Rattle.std.proofs.lemmas.List.{length-map}
 use Rattle.std.proofs.lemmas.Bool.{or_cases}
 use Rattle.memory_histories.specs.declared.events.HistoryEvent.{HistoryEvent}
 use Rattle.memory_histories.specs.declared.events.HistoryEvent.TheVariants.{LoadRequest, LoadResponse, StoreRequest, StoreResponse}
@@ -28,10 +29,6 @@ use Rattle.atomic_histories.proofs.Ranges.{wide_cases}
 use Rattle.atomic_histories.proofs.Whole.{no_pair}
 
 -- Pairs and states. ----
-
-length_mapped : {X Y : Type 0} (f : X → Y) (xs : List X) → length (map f xs) ≡ length xs
-length_mapped f [] = refl
-length_mapped f (x ∷ xs) = ap suc (length_mapped f xs)
 
 -- more pairs than the limit, which are apart, and to each of which ways lead whose states have a property
 abbrev AreMany : ℕ → (Pair → Type 0) → Type 0
@@ -96,7 +93,7 @@ module _ (loads : List WatchedLoad) (moment : ℕ) (asked : Each (IsAsked moment
 
   pub many_states : (limit : ℕ) → AreMany limit S
       → (ms : List UnitMemory) × (limit < length ms) × Each P ms × AllDiffer ms
-  many_states limit m = grind (arith, length_mapped, ltb-true, each_map, each_weaker, state_is, states_differ)
+  many_states limit m = grind (arith, length-map, ltb-true, each_map, each_weaker, state_is, states_differ)
 
 -- Units. ----
 
