@@ -1,8 +1,7 @@
 -- A judge of the flat law keeps to it.
-use Rattle.std.proofs.Common.{◌≡◌, ℕ, ◌+◌, Some, List, [], ◌∷◌, ◌++◌, length, refl, sym, ◌∙◌, ap, subst}
+use Rattle.std.proofs.Common.{◌≡◌, ℕ, Some, List, [], ◌∷◌, ◌++◌, length, refl, sym, ◌∙◌, ap, subst}
 use Rattle.std.proofs.Common.{arith}
 use Rattle.std.specs.Prelude.{is_none}
-use Rattle.std.specs.Option.{option_and_then}
 use Rattle.memory_histories.specs.declared.events.HistoryEvent.{HistoryEvent}
 use Rattle.memory_histories.specs.declared.events.HistoryEvent.TheVariants.{LoadRequest, LoadResponse, StoreRequest, StoreResponse}
 use Rattle.memory_histories.specs.declared.events.HistoryFault.{HistoryFault}
@@ -15,7 +14,7 @@ use Rattle.memory_histories.specs.FlatShown.{shown, FlatFaultIs}
 use Rattle.history_text.specs.Lines.{plain}
 use Rattle.history_text.specs.Laws.{Law, JudgeFaultIs, of_step}
 use Rattle.history_text.specs.FlatLaw.{law_from, flat_law, law_of, Took}
-use Rattle.history_text.proofs.Runs.{through, stepped}
+use Rattle.history_text.proofs.Runs.{run_more, moment_is, stepped}
 
 -- ---- an event, wherever its bytes lie
 
@@ -31,29 +30,6 @@ plain_step f (LoadResponse number bytes) = refl
 plain_step f (StoreRequest number address bytes enables) = refl
 plain_step f (StoreResponse number) = refl
 
--- ---- runs
-
-last_step : (f : Flat) (e : HistoryEvent) (g : Flat) → flat_step f e ≡ Some g → flat_run f (e ∷ []) ≡ Some g
-last_step f e g is = ap (option_and_then (λ h. flat_run h [])) is
-
--- one event more
-run_more : (s : Flat) (es : List HistoryEvent) (e : HistoryEvent) (f g : Flat) → flat_run s es ≡ Some f → flat_step f e ≡ Some g
-    → flat_run s (es ++ e ∷ []) ≡ Some g
-run_more s [] e f g run is = let same : s ≡ f = cc in last_step s e g (ap (λ x. flat_step x e) same ∙ is)
-run_more s (x ∷ xs) e f g run is =
-    let t = through (flat_step s x) (λ h. flat_run h xs) f run in
-    ap (option_and_then (λ h. flat_run h (xs ++ e ∷ []))) t.1 ∙ run_more t.0 xs e f g t.2 is
-
--- a moment is a number of events
-moment_is : (s : Flat) (es : List HistoryEvent) (f : Flat) → flat_run s es ≡ Some f → f.moment ≡ s.moment + length es
-moment_is s [] f run = let same : s ≡ f = cc in sym (ap (λ (x : Flat). x.moment) same) ∙ omega arith
-moment_is s (x ∷ xs) f run =
-    let t = through (flat_step s x) (λ h. flat_run h xs) f run in
-    let first : t.0 ≡ flat_after s x = stepped (is_none (flat_fault s x)) (flat_after s x) t.0 t.1 in
-    let rest = moment_is t.0 xs f t.2 in
-    let at : t.0.moment ≡ s.moment + 1 = ap (λ (h : Flat). h.moment) first in
-    omega (arith, rest, at)
-
 -- ---- the judge
 
 -- it took one event more
@@ -61,7 +37,8 @@ pub took_more : (m n after : FlatHistory) (events : List HistoryEvent) (event : 
     → flat_step (shown n) event ≡ Some (shown after) → Took m (events ++ plain event ∷ []) after ×
     (law_of m).passes (events ++ plain event ∷ [])
 took_more m n after events event (new, run) step =
-    let more = run_more (shown m) events (plain event) (shown n) (shown after) run (plain_step (shown n) event ∙ step) in
+    let more = run_more flat_step flat_run (λ f. refl) (λ f x xs. refl) (shown m) events (plain event) (shown n) (shown after) run
+    (plain_step (shown n) event ∙ step) in
     ((new, more), (shown after, more))
 
 pub took_still : (m n after : FlatHistory) (events : List HistoryEvent) → Took m events n → shown after ≡ shown n → Took m events after
@@ -73,7 +50,10 @@ refused m n events event cause (new, run) here = (shown n, run, plain_fault (sho
 
 too_long : (m n : FlatHistory) (events : List HistoryEvent) → Took m events n → (shown n).moment ≡ 18446744073709551615
     → length events ≡ 18446744073709551615
-too_long m n events (new, run) full = omega (arith, moment_is (shown m) events (shown n) run, new, full)
+too_long m n events (new, run) full =
+    let at = moment_is flat_step flat_run (λ f. refl) (λ f x xs. refl) (λ f. f.moment)
+    (λ f g x is. ap (λ (z : Flat). z.moment) (stepped (is_none (flat_fault f x)) (flat_after f x) g is)) (shown m) events (shown n) run in
+    omega (arith, at, new, full)
 
 -- what a fault of a step says of the event, the judge's says of it
 pub faulty : (m n : FlatHistory) (events : List HistoryEvent) (event : HistoryEvent) (f : StepFault) → Took m events n

@@ -34,7 +34,7 @@ plain_after w (StoreResponse number) = refl
 
 -- ---- runs
 
-pub through : {A B : Type 0} (o : Option A) (f : A → Option B) (b : B) → option_and_then f o ≡ Some b → (a : A) × (o ≡ Some a) ×
+through : {A B : Type 0} (o : Option A) (f : A → Option B) (b : B) → option_and_then f o ≡ Some b → (a : A) × (o ≡ Some a) ×
     (f a ≡ Some b)
 through None f b e = cc
 through (Some a) f b e = (a, refl, e)
@@ -43,28 +43,30 @@ pub stepped : {A : Type 0} (t : Bool) (v w : A) → cond t (Some v) None ≡ Som
 stepped true v w e = cc
 stepped false v w e = cc
 
-last_step : (w : Windows) (e : HistoryEvent) → fault w e ≡ None → regular_run w (e ∷ []) ≡ Some (windows_after w e)
-last_step w e none = ap (λ (o : Option HistoryFault). option_and_then (λ v. regular_run v [])
-    (cond (is_none o) (Some (windows_after w e)) None)) none
+-- runs of a law whose events each make a state of another
+module _ {S : Type 0} (step : S → HistoryEvent → Option S) (run : S → List HistoryEvent → Option S) (none : (s : S) → run s [] ≡ Some s)
+    (goes : (s : S) (x : HistoryEvent) (xs : List HistoryEvent) → run s (x ∷ xs) ≡ option_and_then (λ v. run v xs) (step s x)) where
+  -- one event more
+  pub run_more : (s : S) (es : List HistoryEvent) (e : HistoryEvent) (w v : S) → run s es ≡ Some w → step w e ≡ Some v
+      → run s (es ++ e ∷ []) ≡ Some v
+  run_more s [] e w v r is =
+      let both : Some s ≡ Some w = sym (none s) ∙ r in
+      let same : s ≡ w = cc in
+      goes s e [] ∙ ap (option_and_then (λ u. run u [])) (ap (λ x. step x e) same ∙ is) ∙ none v
+  run_more s (x ∷ xs) e w v r is =
+      let t = through (step s x) (λ u. run u xs) w (sym (goes s x xs) ∙ r) in
+      goes s x (xs ++ e ∷ []) ∙ ap (option_and_then (λ u. run u (xs ++ e ∷ []))) t.1 ∙ run_more t.0 xs e w v t.2 is
 
--- one event more
-run_more : (s : Windows) (es : List HistoryEvent) (e : HistoryEvent) (w : Windows) → regular_run s es ≡ Some w → fault w e ≡ None
-    → regular_run s (es ++ e ∷ []) ≡ Some (windows_after w e)
-run_more s [] e w run none = let same : s ≡ w = cc in
-    subst (λ x. regular_run x (e ∷ []) ≡ Some (windows_after w e)) (sym same) (last_step w e none)
-run_more s (x ∷ xs) e w run none =
-    let t = through (regular_step s x) (λ v. regular_run v xs) w run in
-    ap (option_and_then (λ v. regular_run v (xs ++ e ∷ []))) t.1 ∙ run_more t.0 xs e w t.2 none
-
--- a moment is a number of events
-moment_is : (s : Windows) (es : List HistoryEvent) (w : Windows) → regular_run s es ≡ Some w → w.moment ≡ s.moment + length es
-moment_is s [] w run = let same : s ≡ w = cc in sym (ap (λ (x : Windows). x.moment) same) ∙ omega arith
-moment_is s (x ∷ xs) w run =
-    let t = through (regular_step s x) (λ v. regular_run v xs) w run in
-    let first : t.0 ≡ windows_after s x = stepped (is_none (fault s x)) (windows_after s x) t.0 t.1 in
-    let rest = moment_is t.0 xs w t.2 in
-    let at : t.0.moment ≡ s.moment + 1 = ap (λ (v : Windows). v.moment) first in
-    omega (arith, rest, at)
+  -- a moment is a number of events
+  pub moment_is : (moment : S → ℕ) → ((s t : S) (x : HistoryEvent) → step s x ≡ Some t → moment t ≡ moment s + 1)
+      → (s : S) (es : List HistoryEvent) (w : S) → run s es ≡ Some w → moment w ≡ moment s + length es
+  moment_is moment each s [] w r =
+      let both : Some s ≡ Some w = sym (none s) ∙ r in
+      let same : s ≡ w = cc in
+      sym (ap moment same) ∙ omega arith
+  moment_is moment each s (x ∷ xs) w r =
+      let t = through (step s x) (λ u. run u xs) w (sym (goes s x xs) ∙ r) in
+      omega (arith, moment_is moment each t.0 xs w t.2, each s t.0 x t.1)
 
 -- ---- the judge
 
@@ -74,7 +76,9 @@ pub took_more : (m n after : RegularMemory) (events : List HistoryEvent) (event 
     → Took m (events ++ plain event ∷ []) after × (law_of m).passes (events ++ plain event ∷ [])
 took_more m n after events event (w, run, stands) step =
     let s = step w stands in
-    let more = run_more (opening (kept m).image (kept m).rest) events (plain event) w run (plain_fault w event ∙ s.0) in
+    let more = run_more regular_step regular_run (λ v. refl) (λ v x xs. refl) (opening (kept m).image (kept m).rest) events (plain event) w
+    (windows_after w (plain event)) run
+    (ap (λ o. cond (is_none o) (Some (windows_after w (plain event))) None) (plain_fault w event ∙ s.0)) in
     let same = plain_after w event in
     ((windows_after w (plain event), more, subst (StandsFor (kept after)) (sym same) s.1), (windows_after w (plain event), more))
 
@@ -89,7 +93,9 @@ too_long : (m n : RegularMemory) (events : List HistoryEvent) (event : HistoryEv
     → ((w : Windows) → StandsFor (kept n) w → (fault w event ≡ None) × (w.moment ≡ 18446744073709551615))
     → length events ≡ 18446744073709551615
 too_long m n events event (w, run, stands) here =
-    let at = moment_is (opening (kept m).image (kept m).rest) events w run in
+    let at = moment_is regular_step regular_run (λ v. refl) (λ v x xs. refl) (λ v. v.moment)
+    (λ v u x is. ap (λ (z : Windows). z.moment) (stepped (is_none (fault v x)) (windows_after v x) u is))
+    (opening (kept m).image (kept m).rest) events w run in
     omega (arith, at, (here w stands).1)
 
 -- what a fault of a step says of the event, the judge's says of it
