@@ -12,7 +12,7 @@ use Rattle.atomic_histories.specs.declared.memory.AtomicMemory.{AtomicMemory}
 use Rattle.atomic_histories.specs.declared.memory.AtomicFault.{AtomicFault}
 use Rattle.atomic_histories.specs.declared.memory.AtomicFault.TheVariants as atomic
 use Rattle.atomic_histories.specs.declared.unit.UnitPlace.{UnitPlace}
-use Rattle.atomic_histories.specs.Operations.{Opened, none_opened, opened_after, opened_by, form_fault}
+use Rattle.atomic_histories.specs.Operations.{Opened, none_opened, opened_after, form_fault}
 use Rattle.atomic_histories.specs.Law.{UnitMemory, untouched, seen, MayBe, starts, steps, sees, unit_at, is_formed, IsAtomicAt, IsAtomic}
 use Rattle.atomic_histories.specs.Law.{IsWrongPlace, FaultIs}
 use Rattle.atomic_histories.specs.Followed.{Pair, Ways}
@@ -68,14 +68,14 @@ may_be : (unit : UnitPlace) (start : UnitMemory) (es : List HistoryEvent) (e f :
     → (hs : List HistoryEvent) (m : UnitMemory)
     → MayBe unit start hs m → hs ≡ es ++ e ∷ [] → MayBe unit start (es ++ f ∷ []) m
 may_be unit start es e f a hs m starts is = absurd (no_snoc es e is)
-may_be unit start es e f a hs m (steps gs k n r step) is = steps (es ++ f ∷ []) k n (may_be unit start es e f a gs k r is) step
+may_be unit start es e f a hs m (steps gs k n r step) is = steps _ k n (may_be unit start es e f a gs k r is) step
 may_be unit start es e f a hs m (sees gs last k n r x) is =
     let p = snoc_same gs es last e is in
     sees es f k n (subst (λ y. MayBe unit start y k) p.0 r) (sym (a.at_unit unit k) ∙ subst (λ y. seen unit k y ≡ Some n) p.1 x)
 
 atomic_at : (image : List ℕ) (rest : Rest) (unit : UnitPlace) (es : List HistoryEvent) (e f : HistoryEvent) → Alike e f
     → IsAtomicAt image rest unit (es ++ e ∷ []) → IsAtomicAt image rest unit (es ++ f ∷ [])
-atomic_at image rest unit es e f a (m, may) = (m, may_be unit (untouched image rest unit) es e f a (es ++ e ∷ []) m may refl)
+atomic_at image rest unit es e f a (m, may) = (m, may_be unit _ es e f a _ m may refl)
 
 formed : (o : Opened) (es : List HistoryEvent) (e f : HistoryEvent) → Alike e f → is_formed o (es ++ e ∷ []) ≡ is_formed o (es ++ f ∷ [])
 formed o [] e f a = ap (λ x. is_none x && true) (a.faulty o)
@@ -90,7 +90,7 @@ atomic_too : (image : List ℕ) (rest : Rest) (size : ℕ) (es : List HistoryEve
     → IsAtomic image rest size (es ++ e ∷ []) → IsAtomic image rest size (es ++ f ∷ [])
 atomic_too image rest size es e f a h = record {
   formed = sym (formed none_opened es e f a) ∙ h.formed;
-  moments = λ k. atomic_at image rest (unit_at size k) es e f a (h.moments k);
+  moments = λ k. atomic_at image rest _ es e f a (h.moments k);
 }
 
 -- ---- what is kept
@@ -121,8 +121,8 @@ all_stand k es e f a b s = record {
   units = λ j. elim (s.units j) [
     | inl p ↦ inl p
     | inr p ↦
-        let unit : UnitPlace = unit_at k.size j in
-        inr (p.0, (unit_stands (untouched k.image k.rest unit) unit (k.units j) es e f a b p.1.0, p.1.1))
+        let unit = unit_at k.size j in
+        inr (p.0, (unit_stands _ unit _ es e f a b p.1.0, p.1.1))
   ];
 }
 
@@ -131,13 +131,13 @@ all_stand k es e f a b s = record {
 wrong_place : (image : List ℕ) (rest : Rest) (size : ℕ) (es : List HistoryEvent) (e : HistoryEvent) (place : ℕ)
     → IsWrongPlace image rest size es e place → IsWrongPlace image rest size es (plain e) place
 wrong_place image rest size es (LoadResponse number bytes) place (k, o, found, at, never, below) =
-    let e : HistoryEvent = LoadResponse number bytes in (
+    let e = LoadResponse number bytes in (
       k,
       o,
       found,
       at,
       λ h. never (atomic_at image rest (unit_at size k) es (plain e) e (alike_plain e) h),
-      λ j lt. atomic_at image rest (unit_at size j) es e (plain e) (plain_alike e) (below j lt),
+      λ j lt. atomic_at image rest _ es e _ (plain_alike e) (below j lt),
     )
 wrong_place image rest size es (LoadRequest number address n) place h = absurd h
 wrong_place image rest size es (StoreRequest number address bytes enables) place h = absurd h
@@ -146,12 +146,12 @@ wrong_place image rest size es (StoreResponse number) place h = absurd h
 fault_too : (image : List ℕ) (rest : Rest) (size : ℕ) (es : List HistoryEvent) (e : HistoryEvent) (cause : HistoryFault)
     → FaultIs image rest size es e cause → FaultIs image rest size es (plain e) cause
 fault_too image rest size es e (WrongByte place) (none, h) =
-    ((alike_plain e).faulty (opened_by es) ∙ none, wrong_place image rest size es e place h)
-fault_too image rest size es e OutOfRange h = (alike_plain e).faulty (opened_by es) ∙ h
-fault_too image rest size es e NoByteEnabled h = (alike_plain e).faulty (opened_by es) ∙ h
-fault_too image rest size es e NumberInUse h = (alike_plain e).faulty (opened_by es) ∙ h
-fault_too image rest size es e NotOpen h = (alike_plain e).faulty (opened_by es) ∙ h
-fault_too image rest size es e WrongLength h = (alike_plain e).faulty (opened_by es) ∙ h
+    ((alike_plain e).faulty _ ∙ none, wrong_place image rest size es e place h)
+fault_too image rest size es e OutOfRange h = (alike_plain e).faulty _ ∙ h
+fault_too image rest size es e NoByteEnabled h = (alike_plain e).faulty _ ∙ h
+fault_too image rest size es e NumberInUse h = (alike_plain e).faulty _ ∙ h
+fault_too image rest size es e NotOpen h = (alike_plain e).faulty _ ∙ h
+fault_too image rest size es e WrongLength h = (alike_plain e).faulty _ ∙ h
 
 plain_wide : (limit : ℕ) (h : Held) (e : HistoryEvent) (address : ℕ) → IsWide limit h e address → IsWide limit h (plain e) address
 plain_wide limit h (LoadRequest number at n) address w = w
@@ -173,49 +173,49 @@ pub took_more : (m n after : AtomicMemory) (events : List HistoryEvent) (event :
     → IsAtomic (held n).image (held n).rest (held n).size (events ++ event ∷ []) × StandsForAll (held after) (events ++ event ∷ [])
     → Took m (events ++ plain event ∷ []) after × (law_of m).passes (events ++ plain event ∷ [])
 took_more m n after events event t same limit (atomic, stands) =
-    let more = atomic_too (held n).image (held n).rest (held n).size events event (plain event) (plain_alike event) atomic in (
+    let more = atomic_too (held n).image (held n).rest (held n).size events event _ (plain_alike event) atomic in (
       record {
         memory = same_since (held after) (held n) (held m) same t.memory;
         limit = limit ∙ t.limit;
-        stands = all_stand (held after) events event (plain event) (plain_alike event) (alike_plain event) stands;
+        stands = all_stand _ events event _ (plain_alike event) (alike_plain event) stands;
       },
-      subst (λ (b : Began). IsAtomic b.image b.rest b.size (events ++ plain event ∷ [])) (same_began (held n) (held m) t.memory) more,
+      subst (λ b. IsAtomic b.image b.rest b.size (events ++ plain event ∷ [])) (same_began (held n) (held m) t.memory) more,
     )
 
 pub took_still : (m n after : AtomicMemory) (events : List HistoryEvent) → Took m events n → held after ≡ held n
     → limit_of after ≡ limit_of n
     → Took m events after
 took_still m n after events t same limit = record {
-  memory = subst (λ (h : Held). HasSameMemory h (held m)) (sym same) t.memory;
+  memory = subst (λ h. HasSameMemory h (held m)) (sym same) t.memory;
   limit = limit ∙ t.limit;
-  stands = subst (λ (h : Held). StandsForAll h events) (sym same) t.stands;
+  stands = subst (λ h. StandsForAll h events) (sym same) t.stands;
 }
 
 refused : (m n : AtomicMemory) (events : List HistoryEvent) (event : HistoryEvent) (cause : HistoryFault) → Took m events n
     → StepFaultIs (limit_of n) (held n) events event (atomic.Refused cause) → (law_of m).refuses events (plain event) cause
 refused m n events event cause t (why, broken) =
     let h = held n in
-    let here : IsRefused (began h) events (plain event) cause = record {
+    let here : IsRefused _ events _ cause = record {
       why = fault_too h.image h.rest h.size events event cause why;
       broken = λ a. broken (atomic_too h.image h.rest h.size events (plain event) event (alike_plain event) a);
     } in
-    subst (λ (b : Began). IsRefused b events (plain event) cause) (same_began h (held m) t.memory) here
+    subst (λ b. IsRefused b events (plain event) cause) (same_began h (held m) t.memory) here
 
 undecided : (m n : AtomicMemory) (events : List HistoryEvent) (event : HistoryEvent) (address : ℕ) → Took m events n
     → StepFaultIs (limit_of n) (held n) events event (atomic.Undecided address) → (law_of m).undecides events (plain event) address
 undecided m n events event address t (formed, wide) =
     let h = held n in
-    let here : IsTooWide (began h) (limit_of n) events (plain event) address = record {
-      formed = (alike_plain event).faulty (opened_by events) ∙ formed;
+    let here : IsTooWide _ _ events _ address = record {
+      formed = (alike_plain event).faulty _ ∙ formed;
       kept = h;
       image = refl;
       rest = refl;
       size = refl;
       stands = t.stands;
-      wide = plain_wide (limit_of n) h event address wide;
+      wide = plain_wide _ h event address wide;
     } in
     subst (λ l. IsTooWide (began (held m)) l events (plain event) address) t.limit
-    (subst (λ (b : Began). IsTooWide b (limit_of n) events (plain event) address) (same_began h (held m) t.memory) here)
+    (subst (λ b. IsTooWide b (limit_of n) events (plain event) address) (same_began h (held m) t.memory) here)
 
 -- what a fault of a step says of the event, the judge's says of it
 pub faulty : (m n : AtomicMemory) (events : List HistoryEvent) (event : HistoryEvent) (f : AtomicFault) → Took m events n
@@ -228,7 +228,7 @@ faulty m n events event atomic.OutOfMemory t here = tt
 pub undecided_here : (n : AtomicMemory) (events : List HistoryEvent) (event : HistoryEvent) (f : AtomicFault)
     → StepFaultIs (limit_of n) (held n) events event f → IfUndecided (Undecides n (plain event)) (of_atomic f)
 undecided_here n events event (atomic.Refused cause) here = tt
-undecided_here n events event (atomic.Undecided address) here = plain_wide (limit_of n) (held n) event address here.1
+undecided_here n events event (atomic.Undecided address) here = plain_wide _ (held n) event address here.1
 undecided_here n events event atomic.OutOfMemory here = tt
 
 -- ---- the sets of bytes
@@ -243,9 +243,9 @@ pub told : (m n : AtomicMemory) (events : List HistoryEvent) (number place : ℕ
     → IsSetOf lost (held n).image (held n).rest (held n).size history number place set)
     → (law_of m).returns events number place set
 told m n events number place set t is =
-    let here = told_here (began (held n)) (limit_of n) events number place set (is [] events t.stands) in
+    let here = told_here _ _ events number place set (is [] events t.stands) in
     subst (λ l. IsToldSet (began (held m)) l events number place set) t.limit
-    (subst (λ (b : Began). IsToldSet b (limit_of n) events number place set) (same_began (held n) (held m) t.memory) here)
+    (subst (λ b. IsToldSet b (limit_of n) events number place set) (same_began (held n) (held m) t.memory) here)
 
 pub tells_set : (n : AtomicMemory) (events : List HistoryEvent) (number place : ℕ) (set : Option ByteSet) → StandsForAll (held n) events
     → ((lost : List ℕ) (history : List HistoryEvent) → StandsBut (held n) lost history
@@ -262,7 +262,7 @@ new_judge m stands = (
   record { memory = (refl, refl, refl); limit = refl; stands = stands },
   record {
     formed = refl;
-    moments = λ k. (untouched (held m).image (held m).rest (unit_at (held m).size k), starts);
+    moments = λ k. (untouched (held m).image (held m).rest _, starts);
   },
 )
 

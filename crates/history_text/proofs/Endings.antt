@@ -9,7 +9,6 @@ use Rattle.history_text.specs.Laws.{Law}
 use Rattle.history_text.specs.Operations.{open_in}
 use Rattle.history_text.specs.Histories.{EndsIn, ReadSoFar, ReadInto, Judges, ended_by, HasRead, EndsWith}
 use Rattle.history_text.specs.declared.answers.HistoryEnd.{HistoryEnd}
-use Rattle.history_text.specs.declared.judged.Counts.{Counts}
 use Rattle.history_text.specs.declared.judged.Judged.{Judged}
 use Rattle.history_text.specs.Told.{ToldLaw, Begin, law_begun}
 use Rattle.history_text.specs.declared.judged.Stop.{Stop}
@@ -29,10 +28,10 @@ module _ {R J : Type 0} (gave : R → List ℕ → R → Type 0) (failed : R →
       → HasRead took law start bytes texts judged pending count → gave last [] r' → EndsWith judged.counts pending count e
       → Judges gave failed (law_begun law start) r r' e
   told_end {r' = r'} (Ok x) moves h ends told =
-      let whole : ReadSoFar gave (law_begun law start) r last texts [] = subst (ReadSoFar gave (law_begun law start) r last texts) told.0
+      let whole = subst (ReadSoFar gave (law_begun law start) r last texts) told.0
       (so_far moves h) in
       subst (λ y. Judges gave failed (law_begun law start) r r' (Ok y)) (sym told.1)
-      (texts, last, whole, ends, ap (λ (c : Counts). c.events) h.stands.count, ap (λ (c : Counts). open_in c) h.stands.count)
+      (texts, last, whole, ends, ap (λ c. c.events) h.stands.count, ap (λ c. open_in c) h.stands.count)
   told_end {r' = r'} (Err f) moves h ends told =
       subst (λ y. Judges gave failed (law_begun law start) r r' (Err y)) (sym told.1)
       (texts, pending, last, so_far moves h, ends, told.0, ap (λ n. n + 1) h.number)

@@ -8,7 +8,7 @@ use Rattle.history_text.specs.Histories.{events_in, events_of}
 
 -- one line more
 pub events_more : (texts : List (List ℕ)) (text : List ℕ) → events_of (texts ++ text ∷ []) ≡ events_of texts ++ events_in (line_of text)
-events_more [] text = append-nil (events_in (line_of text))
+events_more [] text = append-nil _
 events_more (t ∷ ts) text = ap (λ l. events_in (line_of t) ++ l) (events_more ts text)
     ∙ sym (append_assoc (events_in (line_of t)) (events_of ts) (events_in (line_of text)))
 

@@ -1,13 +1,12 @@
 -- What a byte makes of the lines that were read.
-use Rattle.std.proofs.Common.{◌≡◌, ◌≢◌, ℕ, ◌+◌, ◌^◌, ◌<◌, ◌≤◌, ◌==◌, Bool, true, false, if◌then◌else◌, Option, Some, None, Result, Ok, Err}
+use Rattle.std.proofs.Common.{◌≡◌, ◌≢◌, ℕ, ◌+◌, ◌^◌, ◌<◌, ◌≤◌, Bool, true, false, if◌then◌else◌, Option, Some, None, Result, Ok, Err}
 use Rattle.std.proofs.Common.{List, [], ◌∷◌, ◌++◌, length, take, get_or, length-append, append-nil}
 use Rattle.std.proofs.Common.{append_assoc, refl, sym, ◌∙◌, ap, subst, arith}
 use Rattle.std.specs.List.{fold}
-use Rattle.std.proofs.lemmas.Bool.Decides.{nat_tests}
 use Rattle.std.proofs.lemmas.List.{take_all}
 use Rattle.memory_histories.specs.declared.events.HistoryEvent.{HistoryEvent}
 use Rattle.memory_histories.specs.Windows.{Windows, windows_after}
-use Rattle.history_reasons.specs.Log.{is_within, idle}
+use Rattle.history_reasons.specs.Log.{idle}
 use Rattle.trace_text.specs.Reading.{IsGood, Good, fault_of}
 use Rattle.trace_text.specs.Lines.{IsSaid}
 use Rattle.trace_text.specs.declared.fault.TheConstants.{MAX_PAIR}
@@ -27,7 +26,7 @@ use Rattle.history_text.specs.Told.{ToldLaw, Begin, law_begun}
 use Rattle.history_text.specs.declared.judged.Stop.{Stop}
 use Rattle.history_text.specs.declared.judged.Stop.TheVariants as stop
 use Rattle.history_text.proofs.Counting.{fold_more}
-use Rattle.trace_text.proofs.LineTexts.{none_yet, none_more, begins_said, begins_long, good_more, good_line, one_more}
+use Rattle.trace_text.proofs.LineTexts.{none_yet, none_more, begins_long, good_more, good_line, one_more}
 use Rattle.history_text.proofs.LineTexts.{events_few, events_more}
 
 -- ---- a byte that ends no line
@@ -39,7 +38,7 @@ pub read_char : {J : Type 0} {took : J → List HistoryEvent → J → Type 0} {
     → HasRead took law start (bytes ++ b ∷ []) texts judged (pending ++ b ∷ []) count
 read_char {pending = pending} b h ne short few = record {
   text = record {
-    good = good_more (b ∷ []) h.text.good;
+    good = good_more _ h.text.good;
     short = omega (arith, length-append pending (b ∷ []), short);
     unfinished = none_more pending b ne h.text.unfinished;
     passes = h.text.passes;
@@ -52,15 +51,13 @@ read_char {pending = pending} b h ne short few = record {
 -- ---- whether a byte ends a line
 
 pub texts_same : (b : ℕ) (texts : List (List ℕ)) (pending : List ℕ) → b ≢ 10 → texts ≡ texts_with b texts pending
-texts_same b texts pending ne =
-    let no : (b == 10) ≡ false = grind (arith, nat_tests) in
-    sym (ap (λ t. if t then texts ++ pending ∷ [] else texts) no)
+texts_same b texts pending ne = grind arith
 
 -- ---- a line that ends
 
 windows_more : (t : Telling) (texts : List (List ℕ)) (text : List ℕ)
     → windows_of t (texts ++ text ∷ []) ≡ text_then (windows_of t texts) (line_of text)
-windows_more t texts text = fold_more (λ w x. text_then w (line_of x)) (opening_windows t) texts text
+windows_more t texts text = fold_more (λ w x. text_then w (line_of x)) _ texts text
 
 ended_line : {J : Type 0} {took : J → List HistoryEvent → J → Type 0} {law : J
     → Law} {start : Begin J} {judged after : Judged J} {bytes pending : List ℕ} {texts : List (List ℕ)}
@@ -81,9 +78,8 @@ ended_line {took = took} {law = law} {start = start} {after = after} {pending = 
         passes = subst (law start.judge).passes (sym events) passes;
       };
       number = omega (arith, at, h.number, length-append texts (pending ∷ []));
-      room = λ some. absurd (omega (arith, some));
-      stands = subst (λ w. Stands took start (events_of (texts ++ pending ∷ [])) w after) (sym windows)
-          (subst (λ es. Stands took start es (text_then (windows_of start.telling texts) (line_of pending)) after) (sym events) stands);
+      room = grind arith;
+      stands = grind arith;
     }
 
 -- a line that is passed over
@@ -94,10 +90,10 @@ pub read_passed : {J : Type 0} {took : J → List HistoryEvent → J → Type 0}
     → Stands took start (events_of texts) (line_then (windows_of start.telling texts) None) after → next ≡ count + 1
     → HasRead took law start (bytes ++ 10 ∷ []) (texts ++ pending ∷ []) after [] next
 read_passed {took = took} {law = law} {start = start} {after = after} {pending = pending} {texts = texts} h said stands at =
-    let w : Windows = windows_of start.telling texts in
-    let same : events_of texts ++ events_in (line_of pending) ≡ events_of texts = ap (λ r. events_of texts ++ events_in r) said
-    ∙ append-nil (events_of texts) in
-    let later : text_then w (line_of pending) ≡ line_then w None = ap (text_then w) said in
+    let w = windows_of start.telling texts in
+    let same = ap (λ r. events_of texts ++ events_in r) said
+    ∙ append-nil _ in
+    let later = ap (text_then w) said in
     ended_line h (ap fault_of said)
     (subst (λ v. Stands took start (events_of texts ++ events_in (line_of pending)) v after) (sym later)
     (subst (λ es. Stands took start es (line_then w None) after) (sym same) stands))
@@ -112,10 +108,10 @@ pub read_event : {J : Type 0} {took : J → List HistoryEvent → J → Type 0} 
     → next ≡ count + 1
     → HasRead took law start (bytes ++ 10 ∷ []) (texts ++ pending ∷ []) after [] next
 read_event {took = took} {law = law} {start = start} {after = after} {pending = pending} {texts = texts} event h said taken at =
-    let w : Windows = windows_of start.telling texts in
-    let same : events_of texts ++ events_in (line_of pending) ≡ events_of texts ++ event ∷ [] =
+    let w = windows_of start.telling texts in
+    let same =
     ap (λ r. events_of texts ++ events_in r) said in
-    let later : text_then w (line_of pending) ≡ line_then w (Some event) = ap (text_then w) said in
+    let later = ap (text_then w) said in
     ended_line h (ap fault_of said)
     (subst (λ v. Stands took start (events_of texts ++ events_in (line_of pending)) v after) (sym later)
     (subst (λ es. Stands took start es (line_then w (Some event)) after) (sym same) taken.0))
@@ -140,7 +136,7 @@ moment_after w false event = refl
 
 moment_then : (w : Windows) (r : Result (Option HistoryEvent) LineFault) → (text_then w r).moment ≡ w.moment + 1
 moment_then w (Ok None) = refl
-moment_then w (Ok (Some event)) = moment_after w (is_within event) event
+moment_then w (Ok (Some event)) = moment_after w _ event
 moment_then w (Err f) = refl
 
 moments_from : (w : Windows) (texts : List (List ℕ)) → (fold (λ v x. text_then v (line_of x)) w texts).moment ≡ w.moment + length texts
@@ -159,14 +155,7 @@ pub begins : {J : Type 0} {took : J → List HistoryEvent → J → Type 0} {law
     → took start.judge [] start.judge → (law start.judge).passes [] → AreNotesOf judged.notes start.telling (opening_windows start.telling)
     → judged.judge ≡ start.judge → judged.counts ≡ no_counts → judged.loads.items ≡ [] → pending ≡ [] → count ≡ 0
     → HasRead took law start [] [] judged pending count
-begins {took = took} {law = law} {start = start} {judged = judged} taken passes notes a b c d e =
-    let none : HasRead took law start [] [] judged [] 0 = record {
-      text = record { good = record { each = tt; split = refl }; short = omega arith; unfinished = none_yet; passes = passes };
-      number = refl;
-      room = λ some. absurd (omega (arith, some));
-      stands = record { taken = subst (λ j. took start.judge [] j) (sym a) taken; count = b; loads_open = c; notes = notes };
-    } in
-    closed none refl d e
+begins {took = took} {law = law} {start = start} {judged = judged} taken passes notes a b c d e = grind arith
 
 -- ---- where a reading ends
 
@@ -203,7 +192,7 @@ pub ends_long : {J : Type 0} {took : J → List HistoryEvent → J → Type 0} {
     → HasRead took law start bytes texts judged pending count → b ≢ 10 → length pending ≡ MAX_PAIR → number ≡ count + 1
     → EndsAt (law_begun law start) texts (pending ++ b ∷ []) (stop.Fault (fault.Line number TooLong))
 ends_long {pending = pending} {texts = texts} b number h ne long at =
-    let found : List ℕ = pending ++ b ∷ [] in (
+    let found = pending ++ b ∷ [] in (
       omega (arith, at, h.number),
       begins_long history_fault MAX_PAIR found (omega (arith, long, length-append pending (b ∷ [])))
           (none_more pending b ne h.text.unfinished),
@@ -214,12 +203,11 @@ pub ends_faulty : {J : Type 0} {took : J → List HistoryEvent → J → Type 0}
     {count : ℕ} (number : ℕ) (f : LineFault)
     → HasRead took law start bytes texts judged pending count → number ≡ count + 1 → IsSaid f → line_of pending ≡ Err f
     → EndsAt (law_begun law start) texts (pending ++ 10 ∷ []) (stop.Fault (fault.Line number f))
-ends_faulty {pending = pending} {texts = texts} number f h at is said =
-    (omega (arith, at, h.number), begins_said history_fault MAX_PAIR pending f h.text.short h.text.unfinished is (ap fault_of said))
+ends_faulty {pending = pending} {texts = texts} number f h at is said = grind arith
 
 event_line : (pending : List ℕ) (event : HistoryEvent) → IsGood history_fault MAX_PAIR pending → line_of pending ≡ Ok (Some event)
     → IsEventLine (pending ++ 10 ∷ []) event
-event_line pending event good said = record { text = pending; ended = refl; good = good; said = said }
+event_line pending event good said = grind arith
 
 pub ends_step : {J : Type 0} {took : J → List HistoryEvent → J → Type 0} {law : J
     → Law} {start : Begin J} {judged : Judged J} {bytes pending : List ℕ} {texts : List (List ℕ)}
@@ -263,7 +251,7 @@ pub at_line_end : {J : Type 0} {took : J → List HistoryEvent → J → Type 0}
     → HasRead took law start (bytes ++ 10 ∷ []) (texts ++ left ∷ []) judged pending count
     → HasRead took law start (bytes ++ b ∷ []) (texts_with b texts left) judged pending count
 at_line_end {took = took} {law = law} {start = start} {judged = judged} {pending = pending} {count = count} bytes texts b left is h =
-    subst (λ x. HasRead took law start (bytes ++ x ∷ []) (texts_with x texts left) judged pending count) (sym is) h
+    grind arith
 
 pub within_line : {J : Type 0} {took : J → List HistoryEvent → J → Type 0} {law : J
     → Law} {start : Begin J} {judged : Judged J} {bytes pending : List ℕ} {texts : List (List ℕ)}
@@ -297,4 +285,4 @@ read_all {took = took} {law = law} {start = start} {judged = judged} {pending = 
 -- a line that ends leaves fewer bytes to be read
 pub left_less : (pending : List ℕ) (count number : ℕ) → length pending ≤ MAX_PAIR → number < 2 ^ 64 → number ≡ count + 1
     → bytes_left number [] + 1 ≤ bytes_left count pending
-left_less pending count number short fits at = omega (arith, short, fits, at)
+left_less pending count number short fits at = grind arith

@@ -21,10 +21,10 @@ pub event_noted : (g h : StoreLog) (w : Windows) (e s : HistoryEvent) → plain 
     → (is_within e ≡ true → IsLogOf g w → IsLogOf h (windows_after w e)) → (is_within e ≡ false → IsLogOf g w → IsLogOf h (idle w))
     → IsLogOf g w → IsLogOf h (line_then w (Some s))
 event_noted g h w e s same inside outside k =
-    let within : is_within s ≡ is_within e = ap is_within (sym same) ∙ plain_within e in
-    elim (cases_Bool (is_within e)) [
+    let within = ap is_within (sym same) ∙ plain_within e in
+    elim (cases_Bool _) [
       | inl t ↦
-          let after : windows_after w e ≡ windows_after w s = sym (plain_after w e) ∙ ap (windows_after w) same in
+          let after = sym (plain_after w e) ∙ ap (windows_after w) same in
           rw (within ∙ t) (subst (IsLogOf h) after (inside t k))
       | inr f ↦ rw (within ∙ f) (outside f k)
     ]

@@ -17,5 +17,5 @@ pair_more text bs pushed rest behind high low b whole is byte more =
     whole
     ∙ ap (λ r. option_map (λ l. bs ++ l) (bytes_in r)) is
     ∙ ap (λ o. option_map (λ l. bs ++ l) (cons_byte o (bytes_in behind))) byte
-    ∙ one_more bs b (bytes_in behind)
+    ∙ one_more bs b _
     ∙ ap (λ p. option_map (λ l. p ++ l) (bytes_in behind)) (sym more)

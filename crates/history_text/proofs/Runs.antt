@@ -12,7 +12,7 @@ use Rattle.memory_histories.specs.declared.events.StepFault.TheVariants as step
 use Rattle.memory_histories.specs.declared.regular.RegularMemory.{RegularMemory}
 use Rattle.memory_histories.specs.Windows.{Windows, opening, windows_after}
 use Rattle.memory_histories.specs.Regular.{fault, regular_step, regular_run}
-use Rattle.memory_histories.specs.Kept.{Kept, StandsFor}
+use Rattle.memory_histories.specs.Kept.{StandsFor}
 use Rattle.memory_histories.specs.Shown.{kept, StepFaultIs}
 use Rattle.history_text.specs.Lines.{plain}
 use Rattle.history_text.specs.Laws.{Law, JudgeFaultIs, of_step}
@@ -49,23 +49,17 @@ module _ {S : Type 0} (step : S → HistoryEvent → Option S) (run : S → List
   -- one event more
   pub run_more : (s : S) (es : List HistoryEvent) (e : HistoryEvent) (w v : S) → run s es ≡ Some w → step w e ≡ Some v
       → run s (es ++ e ∷ []) ≡ Some v
-  run_more s [] e w v r is =
-      let both : Some s ≡ Some w = sym (none s) ∙ r in
-      let same : s ≡ w = cc in
-      goes s e [] ∙ ap (option_and_then (λ u. run u [])) (ap (λ x. step x e) same ∙ is) ∙ none v
+  run_more s [] e w v r is = grind arith
   run_more s (x ∷ xs) e w v r is =
-      let t = through (step s x) (λ u. run u xs) w (sym (goes s x xs) ∙ r) in
-      goes s x (xs ++ e ∷ []) ∙ ap (option_and_then (λ u. run u (xs ++ e ∷ []))) t.1 ∙ run_more t.0 xs e w v t.2 is
+      let t = through _ (λ u. run u xs) w (sym (goes s x xs) ∙ r) in
+      goes s x _ ∙ ap (option_and_then (λ u. run u _)) t.1 ∙ run_more t.0 xs e w v t.2 is
 
   -- a moment is a number of events
   pub moment_is : (moment : S → ℕ) → ((s t : S) (x : HistoryEvent) → step s x ≡ Some t → moment t ≡ moment s + 1)
       → (s : S) (es : List HistoryEvent) (w : S) → run s es ≡ Some w → moment w ≡ moment s + length es
-  moment_is moment each s [] w r =
-      let both : Some s ≡ Some w = sym (none s) ∙ r in
-      let same : s ≡ w = cc in
-      sym (ap moment same) ∙ omega arith
+  moment_is moment each s [] w r = grind arith
   moment_is moment each s (x ∷ xs) w r =
-      let t = through (step s x) (λ u. run u xs) w (sym (goes s x xs) ∙ r) in
+      let t = through _ (λ u. run u xs) w (sym (goes s x xs) ∙ r) in
       omega (arith, moment_is moment each t.0 xs w t.2, each s t.0 x t.1)
 
 -- ---- the judge
@@ -76,32 +70,32 @@ pub took_more : (m n after : RegularMemory) (events : List HistoryEvent) (event 
     → Took m (events ++ plain event ∷ []) after × (law_of m).passes (events ++ plain event ∷ [])
 took_more m n after events event (w, run, stands) step =
     let s = step w stands in
-    let more = run_more regular_step regular_run (λ v. refl) (λ v x xs. refl) (opening (kept m).image (kept m).rest) events (plain event) w
-    (windows_after w (plain event)) run
+    let more = run_more regular_step regular_run (λ v. refl) (λ v x xs. refl) _ events _ w
+    _ run
     (ap (λ o. cond (is_none o) (Some (windows_after w (plain event))) None) (plain_fault w event ∙ s.0)) in
     let same = plain_after w event in
-    ((windows_after w (plain event), more, subst (StandsFor (kept after)) (sym same) s.1), (windows_after w (plain event), more))
+    ((windows_after w _, more, subst (StandsFor (kept after)) (sym same) s.1), (windows_after w _, more))
 
 pub took_still : (m n after : RegularMemory) (events : List HistoryEvent) → Took m events n → kept after ≡ kept n → Took m events after
-took_still m n after events (w, run, stands) same = (w, run, subst (λ (k : Kept). StandsFor k w) (sym same) stands)
+took_still m n after events (w, run, stands) same = grind arith
 
 refused : (m n : RegularMemory) (events : List HistoryEvent) (event : HistoryEvent) (cause : HistoryFault) → Took m events n
     → ((w : Windows) → StandsFor (kept n) w → fault w event ≡ Some cause) → (law_of m).refuses events (plain event) cause
-refused m n events event cause (w, run, stands) here = (w, run, plain_fault w event ∙ here w stands)
+refused m n events event cause (w, run, stands) here = grind arith
 
 too_long : (m n : RegularMemory) (events : List HistoryEvent) (event : HistoryEvent) → Took m events n
     → ((w : Windows) → StandsFor (kept n) w → (fault w event ≡ None) × (w.moment ≡ 18446744073709551615))
     → length events ≡ 18446744073709551615
 too_long m n events event (w, run, stands) here =
     let at = moment_is regular_step regular_run (λ v. refl) (λ v x xs. refl) (λ v. v.moment)
-    (λ v u x is. ap (λ (z : Windows). z.moment) (stepped (is_none (fault v x)) (windows_after v x) u is))
-    (opening (kept m).image (kept m).rest) events w run in
+    (λ v u x is. ap (λ z. z.moment) (stepped (is_none (fault v x)) (windows_after v x) u is))
+    _ events w run in
     omega (arith, at, (here w stands).1)
 
 -- what a fault of a step says of the event, the judge's says of it
 pub faulty : (m n : RegularMemory) (events : List HistoryEvent) (event : HistoryEvent) (f : StepFault) → Took m events n
     → ((w : Windows) → StandsFor (kept n) w → StepFaultIs w event f) → JudgeFaultIs (law_of m) events (plain event) (of_step f)
-faulty m n events event (step.Refused cause) took here = refused m n events event cause took here
+faulty m n events event (step.Refused cause) took here = grind arith
 faulty m n events event step.TooLong took here = too_long m n events event took here
 faulty m n events event step.OutOfMemory took here = tt
 
@@ -112,12 +106,11 @@ pub began : (m : RegularMemory) (image : List ℕ) (rest : Rest) → StandsFor (
     → Took m [] m × (law_of m).passes []
 began m image rest stands =
     let here = opening (kept m).image (kept m).rest in
-    let same : opening image rest ≡ here = ap (λ i. opening i rest) (sym stands.same_image)
+    let same = ap (λ i. opening i rest) (sym stands.same_image)
     ∙ ap (opening (kept m).image) (sym stands.same_rest) in
     ((here, refl, subst (StandsFor (kept m)) same stands), (here, refl))
 
 -- what holds of its law holds of the regular law of its image
 pub by_image : (P : Law → Type 0) (m : RegularMemory) (image : List ℕ) (rest : Rest) → StandsFor (kept m) (opening image rest)
     → P (law_of m) → P (regular_law image rest)
-by_image P m image rest stands p = subst (λ r. P (regular_law image r)) stands.same_rest
-    (subst (λ i. P (regular_law i (kept m).rest)) stands.same_image p)
+by_image P m image rest stands p = grind arith

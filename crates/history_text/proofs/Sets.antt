@@ -9,12 +9,12 @@ use Rattle.memory_histories.specs.Sets.{has}
 use Rattle.history_text.specs.Answers.{bytes_in_set}
 
 counted : (n : ℕ) → range_with_len 0 (n + 1) ≡ range_with_len 0 n ++ n ∷ []
-counted n = sym (map-id (range_with_len 0 (n + 1))) ∙ map-range_with_len_more (λ (x : ℕ). x) 0 n n (omega arith)
+counted n = sym (map-id (range_with_len 0 (n + 1))) ∙ map-range_with_len_more (λ x. x) 0 n n (omega arith)
     ∙ ap (λ l. l ++ n ∷ []) (map-id (range_with_len 0 n))
 
 filtered : (set : ByteSet) (n : ℕ)
     → filter (has set) (range_with_len 0 (n + 1)) ≡ filter (has set) (range_with_len 0 n) ++ filter (has set) (n ∷ [])
-filtered set n = ap (filter (has set)) (counted n) ∙ filter-append (has set) (range_with_len 0 n) (n ∷ [])
+filtered set n = ap (filter (has set)) (counted n) ∙ filter-append _ (range_with_len 0 n) (n ∷ [])
 
 -- a byte of the set comes behind the smaller ones
 pub with_byte : (set : ByteSet) (bytes more : List ℕ) (n : ℕ) → bytes ≡ filter (has set) (range_with_len 0 n) → has set n ≡ true
@@ -32,4 +32,4 @@ without_byte set bytes more n smaller is same =
 pub all_bytes : (set : ByteSet) (bytes : List ℕ) (n : ℕ) → n ≡ 256 → bytes ≡ filter (has set) (range_with_len 0 n)
     → bytes ≡ bytes_in_set set
 unfolding bytes_in_set
-all_bytes set bytes n e smaller = smaller ∙ ap (λ k. filter (has set) (range_with_len 0 k)) e
+all_bytes set bytes n e smaller = grind arith

@@ -4,7 +4,7 @@ use Rattle.std.proofs.Common.{sym, ap, subst, arith}
 use Rattle.memory_histories.specs.declared.events.HistoryEvent.{HistoryEvent}
 use Rattle.memory_histories.specs.declared.sets.ByteSet.{ByteSet}
 use Rattle.trace_text.specs.Streams.{Came, Moves}
-use Rattle.trace_text.specs.Reading.{Good, fault_of}
+use Rattle.trace_text.specs.Reading.{Good}
 use Rattle.trace_text.specs.declared.fault.TheConstants.{MAX_PAIR}
 use Rattle.trace_text.specs.declared.lines.LineFault.TheVariants.{Unknown, Field, TooLong, NotEnded}
 use Rattle.trace_text.specs.declared.fault.TraceFault.{TraceFault}
@@ -16,7 +16,6 @@ use Rattle.history_text.specs.Refusals.{IsRefusal}
 use Rattle.history_text.specs.Histories.{history_fault, events_of, IsEventLine, ReadSoFar, HasRead, LineStops, EndsWith, ended_by}
 use Rattle.history_text.specs.Values.{AreSetsFrom, Told, TellStops, ByteStops, ToldIn, Writes}
 use Rattle.history_text.specs.declared.answers.HistoryEnd.{HistoryEnd}
-use Rattle.history_text.specs.declared.judged.Counts.{Counts}
 use Rattle.history_text.specs.declared.judged.OpenLoad.{OpenLoad}
 use Rattle.history_text.specs.declared.judged.Judged.{Judged}
 use Rattle.history_text.specs.Notes.{windows_of}
@@ -49,8 +48,7 @@ pub tell_stops : {W : Type 0} (wrote : W → List ℕ → W → Type 0) (refused
     → Told wrote law w texts v → TellStops wrote refused law (events_of texts) pending v u why
     → ByteStops wrote refused law w texts (pending ++ 10 ∷ []) u why
 tell_stops wrote refused law w v u texts pending (stop.Fault fault.OutOfMemory) told stops = tt
-tell_stops wrote refused law w v u texts pending (stop.Fault fault.Write) told (out, is, stopped) =
-    (pending, refl, record { last = v; before = told; out = out; is_told = is; stopped = stopped })
+tell_stops wrote refused law w v u texts pending (stop.Fault fault.Write) told (out, is, stopped) = grind arith
 tell_stops wrote refused law w v u texts pending (stop.Fault (fault.Line n f)) told stops = absurd stops
 tell_stops wrote refused law w v u texts pending (stop.Fault fault.TooManyLines) told stops = absurd stops
 tell_stops wrote refused law w v u texts pending (stop.Fault fault.Read) told stops = absurd stops
@@ -69,8 +67,8 @@ module _ {J W : Type 0} {took : J → List HistoryEvent → J → Type 0} {law :
   line_stops number None why h said at fits stops told = absurd stops
   line_stops number (Some event) (stop.Refused refusal) h said at fits stops told =
       let place : number ≡ length texts + 1 = omega (arith, at, h.number) in
-      let line : IsEventLine (pending ++ 10 ∷ []) event =
-      record { text = pending; ended = refl; good = (h.text.short, h.text.unfinished, ap fault_of said); said = said } in (
+      let line : IsEventLine _ event =
+      record { text = pending; ended = refl; good = grind arith; said = said } in (
         (
           event,
           line,
@@ -80,8 +78,8 @@ module _ {J W : Type 0} {took : J → List HistoryEvent → J → Type 0} {law :
         told,
       )
   line_stops number (Some event) (stop.Undecided n address) h said at fits stops told =
-      let line : IsEventLine (pending ++ 10 ∷ []) event =
-      record { text = pending; ended = refl; good = (h.text.short, h.text.unfinished, ap fault_of said); said = said } in
+      let line : IsEventLine _ event =
+      record { text = pending; ended = refl; good = grind arith; said = said } in
       ((event, line, stops.0, omega (arith, at, h.number, stops.1)), told)
   line_stops number (Some event) (stop.Fault fault.OutOfMemory) h said at fits stops told = tt
   line_stops number (Some event) (stop.Fault fault.TooManyLines) h said at fits stops told =
@@ -94,10 +92,10 @@ module _ {J W : Type 0} {took : J → List HistoryEvent → J → Type 0} {law :
   pub told_here : (b : ℕ) (why : Stop) (h : HasRead took law start bytes texts judged pending count)
       → ByteStops wrote refused (law_begun law start) w texts (pending ++ b ∷ []) v why
       → ToldIn wrote refused (law_begun law start) w (bytes ++ b ∷ []) v why
-  told_here b (stop.Refused refusal) h (e, told) = (ends_in b (stop.Refused refusal) h e, told)
-  told_here b (stop.Undecided line address) h (e, told) = (ends_in b (stop.Undecided line address) h e, told)
-  told_here b (stop.Fault (fault.Line n f)) h (e, told) = (ends_in b (stop.Fault (fault.Line n f)) h e, told)
-  told_here b (stop.Fault fault.TooManyLines) h (e, told) = (ends_in b (stop.Fault fault.TooManyLines) h e, told)
+  told_here b (stop.Refused refusal) h (e, told) = (ends_in b _ h e, told)
+  told_here b (stop.Undecided line address) h (e, told) = (ends_in b _ h e, told)
+  told_here b (stop.Fault (fault.Line n f)) h (e, told) = (ends_in b _ h e, told)
+  told_here b (stop.Fault fault.TooManyLines) h (e, told) = (ends_in b _ h e, told)
   told_here b (stop.Fault fault.OutOfMemory) h stops = tt
   told_here b (stop.Fault fault.Read) h stops = absurd stops
   told_here b (stop.Fault fault.Write) h (text, is, breaks) = record {
@@ -113,11 +111,11 @@ module _ {J W : Type 0} {took : J → List HistoryEvent → J → Type 0} {law :
 pub told_more : {W : Type 0} (wrote : W → List ℕ → W → Type 0) (refused : W → W → Type 0) (law : ToldLaw) (w v : W) (bytes : List ℕ)
     (why : Stop) (more : List ℕ)
     → ToldIn wrote refused law w bytes v why → ToldIn wrote refused law w (bytes ++ more) v why
-told_more wrote refused law w v bytes (stop.Refused refusal) more (e, told) = (ends_more (stop.Refused refusal) more e, told)
-told_more wrote refused law w v bytes (stop.Undecided line address) more (e, told) = (ends_more (stop.Undecided line address) more e, told)
-told_more wrote refused law w v bytes (stop.Fault (fault.Line n f)) more (e, told) = (ends_more (stop.Fault (fault.Line n f)) more e, told)
+told_more wrote refused law w v bytes (stop.Refused refusal) more (e, told) = (ends_more _ more e, told)
+told_more wrote refused law w v bytes (stop.Undecided line address) more (e, told) = (ends_more _ more e, told)
+told_more wrote refused law w v bytes (stop.Fault (fault.Line n f)) more (e, told) = (ends_more _ more e, told)
 told_more wrote refused law w v bytes (stop.Fault fault.TooManyLines) more (e, told) =
-    (ends_more (stop.Fault fault.TooManyLines) more e, told)
+    (ends_more _ more e, told)
 told_more wrote refused law w v bytes (stop.Fault fault.OutOfMemory) more stops = tt
 told_more wrote refused law w v bytes (stop.Fault fault.Read) more stops = absurd stops
 told_more wrote refused law w v bytes (stop.Fault fault.Write) more p = record {
@@ -149,10 +147,10 @@ module _ {R W J : Type 0} (gave : R → List ℕ → R → Type 0) (failed : R �
       → EndsWith judged.counts pending count e
       → Writes gave failed wrote refused (law_begun law start) r r' w v e
   wrote_end (Ok x) moves h told ends is =
-      let whole : ReadSoFar gave (law_begun law start) r last texts [] = subst (ReadSoFar gave (law_begun law start) r last texts) is.0
+      let whole = subst (ReadSoFar gave (law_begun law start) r last texts) is.0
       (read_far moves h) in
       subst (λ y. Writes gave failed wrote refused (law_begun law start) r r' w v (Ok y)) (sym is.1)
-      ((texts, last, whole, ends, ap (λ (c : Counts). c.events) h.stands.count, ap (λ (c : Counts). open_in c) h.stands.count), told)
+      ((texts, last, whole, ends, ap (λ c. c.events) h.stands.count, ap (λ c. open_in c) h.stands.count), told)
   wrote_end (Err f) moves h told ends is =
       subst (λ y. Writes gave failed wrote refused (law_begun law start) r r' w v (Err y)) (sym is.1)
       ((texts, pending, last, read_far moves h, ends, is.0, ap (λ n. n + 1) h.number), told)
@@ -160,18 +158,18 @@ module _ {R W J : Type 0} (gave : R → List ℕ → R → Type 0) (failed : R �
   wrote_by : (piece : List ℕ) (why : Stop) → Moves (Came gave) r bytes last → HasRead took law start bytes texts judged pending count
       → Came gave last piece r' → ToldIn wrote refused (law_begun law start) w (bytes ++ piece) v why
       → Writes gave failed wrote refused (law_begun law start) r r' w v (ended_by why)
-  wrote_by piece (stop.Refused refusal) moves h gives (e, told) = (into gave failed piece (stop.Refused refusal) moves h gives e, told)
+  wrote_by piece (stop.Refused refusal) moves h gives (e, told) = (into gave failed piece _ moves h gives e, told)
   wrote_by piece (stop.Undecided line address) moves h gives (e, told) =
-      (into gave failed piece (stop.Undecided line address) moves h gives e, told)
+      (into gave failed piece _ moves h gives e, told)
   wrote_by piece (stop.Fault (fault.Line n Unknown)) moves h gives (e, told) =
-      (into gave failed piece (stop.Fault (fault.Line n Unknown)) moves h gives e, told)
+      (into gave failed piece _ moves h gives e, told)
   wrote_by piece (stop.Fault (fault.Line n Field)) moves h gives (e, told) =
-      (into gave failed piece (stop.Fault (fault.Line n Field)) moves h gives e, told)
+      (into gave failed piece _ moves h gives e, told)
   wrote_by piece (stop.Fault (fault.Line n TooLong)) moves h gives (e, told) =
-      (into gave failed piece (stop.Fault (fault.Line n TooLong)) moves h gives e, told)
+      (into gave failed piece _ moves h gives e, told)
   wrote_by piece (stop.Fault (fault.Line n NotEnded)) moves h gives (e, told) = absurd e.ends.1
   wrote_by piece (stop.Fault fault.TooManyLines) moves h gives (e, told) =
-      (into gave failed piece (stop.Fault fault.TooManyLines) moves h gives e, told)
+      (into gave failed piece _ moves h gives e, told)
   wrote_by piece (stop.Fault fault.OutOfMemory) moves h gives told = tt
   wrote_by piece (stop.Fault fault.Read) moves h gives told = absurd told
   wrote_by piece (stop.Fault fault.Write) moves h gives breaks = (texts, pending, last, read_far moves h, piece, gives, breaks)
