@@ -80,7 +80,7 @@ other_open n m t s h = elim (after_cases n t s) [
   | inr c ↦ ap (is_open m) c.1
 ]
 
-not_itself : (b : Bool) → (not b && b) ≡ false
+pub not_itself : (b : Bool) → (not b && b) ≡ false
 not_itself true = refl
 not_itself false = refl
 

@@ -19,7 +19,6 @@ use Rattle.memory_histories.specs.Windows as windows
 use Rattle.memory_histories.specs.Regular.{is_inside, has_enabled, load_request_fault, load_response_fault, store_request_fault}
 use Rattle.memory_histories.specs.Regular.{store_response_fault, may_return, may_return_byte, fault, regular_run}
 use Rattle.memory_histories.specs.Kept.{Kept, kept_after, IsTimely, StandsFor}
-use Rattle.memory_histories.specs.Kept as keeps
 use Rattle.memory_histories.proofs.Stands.{stands_first, stands_after}
 use Rattle.atomic_histories.specs.declared.unit.UnitPlace.{UnitPlace}
 use Rattle.atomic_histories.specs.Words.{at_unit, initial_byte, stored_byte, byte_for, is_at, is_as_it_stood}

@@ -46,6 +46,7 @@ use Rattle.history_laws.proofs.Pieces.{Marked, is_number, AreDifferent, bytes_of
 use Rattle.history_laws.proofs.Open.{Loads, loads_any, loads_more, loads_fewer, loads_under, length_bytes}
 use Rattle.history_laws.proofs.Open.{inside_some, marked_after}
 use Rattle.history_laws.proofs.Words.{lane_map, zero_plus, lane_word, enabled_first, enabled_next}
+use Rattle.history_laws.proofs.Agrees.{not_itself}
 
 -- What stands at an address. ----
 
@@ -219,10 +220,6 @@ any_snoc p (y ∷ xs) x = cc (any_snoc p xs x, or_assoc (p y) (list_any p xs) (p
 
 kept_other : {X : Type 0} (number : X → ℕ) (n m : ℕ) (x : X) → (n == m) ≡ false → (number x == m) ≡ true → not (number x == n) ≡ true
 kept_other number n m x h e = grind arith
-
-not_itself : (b : Bool) → (not b && b) ≡ false
-not_itself true = refl
-not_itself false = refl
 
 -- whether a number is left without another one
 without_one : {X : Type 0} (number : X → ℕ) (n m : ℕ) (xs : List X) → list_any (λ x. number x == m) (filter (λ x.

@@ -16,7 +16,8 @@ use Rattle.history_reasons.specs.declared.givers.Source.{Source}
 use Rattle.history_reasons.specs.declared.givers.Source.TheVariants.{Initial, Store}
 use Rattle.history_reasons.specs.Reasons.{Overwrote, Covered, covers}
 use Rattle.history_reasons.specs.Sources.{Gives, IsSource, gives, givers, initial_source, sources}
-use Rattle.history_reasons.proofs.Reasons.{initial, overwrites_law, covers_law}
+use Rattle.memory_histories.proofs.Law.{initial}
+use Rattle.history_reasons.proofs.Reasons.{overwrites_law, covers_law}
 
 -- Lists. ----
 

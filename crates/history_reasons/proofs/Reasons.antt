@@ -6,14 +6,13 @@ use Rattle.std.specs.Bool.{Decides}
 use Rattle.std.specs.List.{Any, Contains, find}
 use Rattle.std.specs.Option.{option_map}
 use Rattle.std.proofs.lemmas.Bool.{cases_Bool, false_from_ne_true}
-use Rattle.std.proofs.lemmas.Bool.Decides.{Decides-eqb, Decides-ltb}
+use Rattle.std.proofs.lemmas.Bool.Decides.{Decides-ltb}
 use Rattle.std.proofs.lemmas.List.{get_or-drop, get_or-reverse, length-reverse, reverse-reverse}
 use Rattle.memory_histories.specs.declared.events.Rest.{Rest}
-use Rattle.memory_histories.specs.declared.events.Rest.TheVariants.{Zeros, Unknown}
 use Rattle.memory_histories.specs.declared.windows.StoreByte.{StoreByte}
 use Rattle.memory_histories.specs.declared.windows.LoadByte.{LoadByte}
 use Rattle.memory_histories.specs.Regular.{IsBefore, IsLeft, IsInitial, MayReturn, is_before, overwrites, is_initial, may_return_byte}
-use Rattle.memory_histories.proofs.Law.{may_return_decides}
+use Rattle.memory_histories.proofs.Law.{may_return_decides, initial}
 use Rattle.history_reasons.specs.declared.Reason.{Reason}
 use Rattle.history_reasons.specs.declared.Reason.TheVariants.{NeverThere, InitialOverwritten, StoreOverwritten}
 use Rattle.history_reasons.specs.Reasons.{Stores, Overwrote, Covered, IsLast, HasReason, stores_byte, covers, last_that, reason_by}
@@ -118,11 +117,6 @@ none_passes p xs h x c t =
 before : (o : Option ℕ) (t : ℕ) → Decides (is_before o t) (IsBefore o t)
 before None t = grind arith
 before (Some e) t = Decides-ltb e t
-
-pub initial : (o : Option ℕ) (r : Rest) (b : ℕ) → Decides (is_initial o r b) (IsInitial o r b)
-initial None Zeros b = Decides-eqb b 0
-initial None Unknown b = Decides-ltb b 256
-initial (Some i) r b = Decides-eqb i b
 
 stores_law : (address b : ℕ) (s : StoreByte) → Decides (stores_byte address b s) (Stores address b s)
 stores_law address b s = grind arith
