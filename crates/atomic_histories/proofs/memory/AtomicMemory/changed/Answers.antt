@@ -19,16 +19,12 @@ of_kept : (c : After-drop-unit-in-None-2) → (P : UnitPlace → ℕ → Ways �
     ((held c.args.self.now).units c.args.number) c.args.self.now.loads.items
 of_kept c P =
     let m = c.args.self.now in
-    let h = held m in
-    let k = c.args.number in
     let f = get nat_eq m.units in
     let unit = c.in_ok-unit-in-None.unit in
     let none = c.in-None.ensures.value in
-    said_there P
-    c.place-place.result (unit_at h.size k) (words_in unit.stretches.items) (h.words k) (shown_unit unit) (h.units k)
-    c.as_slice-loads.result.now h.opened.loads c.place-place.ensures (words_none f k unit none c.in_ok-unit-in-None.ensures.stretches)
-    (kept_none h.image h.rest h.size f k c.place-place.result unit c.as_slice.result.now none c.as_slice.ensures.value c.place-place.ensures
-    c.in_ok-unit-in-None.ensures.shown) c.as_slice-loads.ensures.value
+    said_there P _ _ _ _ _ _ _ _ c.place-place.ensures (words_none f c.args.number unit none c.in_ok-unit-in-None.ensures.stretches)
+    (kept_none m.image.items m.rest (held m).size f c.args.number c.place-place.result unit c.as_slice.result.now none
+    c.as_slice.ensures.value c.place-place.ensures c.in_ok-unit-in-None.ensures.shown) c.as_slice-loads.ensures.value
 
 pub returns-in_ok-unit-in-None-clause-unit : goal.returns-in_ok-unit-in-None-clause-unit
 returns-in_ok-unit-in-None-clause-unit c =
