@@ -35,7 +35,7 @@ opened m image rest size h stands limit = record {
 -- an event was taken
 pub lawful : (m : AtomicMemory) (a : Atomic) (event : HistoryEvent) → IsJudgeOf m a
     → IsAtomicBut a.lost (held m).image (held m).rest (held m).size (a.events ++ event ∷ []) → IsLawful a event
-lawful m a event k t = moved (held m) a k.kept (λ i r s. IsAtomicBut a.lost i r s (a.events ++ event ∷ [])) t
+lawful m a event k t = moved _ a k.kept (λ i r s. IsAtomicBut a.lost i r s (a.events ++ event ∷ [])) t
 
 pub taken : (m n : AtomicMemory) (a : Atomic) (event : HistoryEvent) → IsJudgeOf m a → HasSameMemory (held n) (held m)
     → limit_of n ≡ limit_of m → StandsBut (held n) a.lost (a.events ++ event ∷ []) → IsJudgeOf n (with_event a event)
@@ -59,8 +59,8 @@ still m n a k same limit = record {
 refused : (m : AtomicMemory) (a : Atomic) (event : HistoryEvent) (cause : HistoryFault) → IsJudgeOf m a
     → StepFaultIsBut a.lost (limit_of m) (held m) a.events event (atomic.Refused cause) → IsRefused a event cause
 refused m a event cause k t = (
-  moved (held m) a k.kept (λ i r s. FaultIsBut a.lost i r s a.events event cause) t.0,
-  moved (held m) a k.kept (λ i r s. ¬ (IsAtomicBut a.lost i r s (a.events ++ event ∷ []))) t.1,
+  moved _ a k.kept (λ i r s. FaultIsBut a.lost i r s a.events event cause) t.0,
+  moved _ a k.kept (λ i r s. ¬ (IsAtomicBut a.lost i r s (a.events ++ event ∷ []))) t.1,
 )
 
 undecided : (m : AtomicMemory) (a : Atomic) (event : HistoryEvent) (address : ℕ) → IsJudgeOf m a
@@ -84,7 +84,7 @@ faulty m a event atomic.OutOfMemory k t = t
 pub set_found : (m : AtomicMemory) (a : Atomic) (number address : ℕ) (set : Option ByteSet) → IsJudgeOf m a
     → may.IsSetOf a.lost (held m).image (held m).rest (held m).size a.events number address set
     → may.IsSetOf a.lost a.image a.rest a.size a.events number address set
-set_found m a number address set k t = moved (held m) a k.kept (λ i r s. may.IsSetOf a.lost i r s a.events number address set) t
+set_found m a number address set k t = moved _ a k.kept (λ i r s. may.IsSetOf a.lost i r s a.events number address set) t
 
 wide_byte : (m : AtomicMemory) (a : Atomic) (byte address : ℕ) → IsJudgeOf m a → may.IsWideByte (limit_of m) (held m) byte address
     → IsUndecidedByte (judge.Atomic m) a byte address

@@ -3,8 +3,6 @@ use Rattle.std.proofs.Common.{◌≡◌, ℕ, refl, sym, subst}
 use Rattle.std.specs.Prelude.{Option, Some, None}
 use Rattle.memory_histories.specs.declared.events.HistoryEvent.{HistoryEvent}
 use Rattle.memory_histories.specs.declared.events.HistoryFault.{HistoryFault}
-use Rattle.memory_histories.specs.Regular.{fault}
-use Rattle.memory_histories.specs.Flat.{flat_fault}
 use Rattle.history_handles.specs.declared.faults.JudgeFault.{JudgeFault}
 use Rattle.history_handles.specs.declared.judge.Judge.{Judge}
 use Rattle.history_handles.specs.declared.faults.JudgeFault.TheVariants.{Refused, OutOfMemory}
@@ -24,11 +22,11 @@ exact_none (Some cause) h = cc
 
 pub not_taken : (j : Judge) (h : History) (event : HistoryEvent) (told : JudgeFault) → IsFound j h event (Some told)
     → JudgeFaultIs j h event told
-not_taken j (OfRegular w) event told f = exact_fault (fault w event) w.moment told f
-not_taken j (OfFlat w) event told f = exact_fault (flat_fault w event) w.moment told f
+not_taken j (OfRegular w) event told f = exact_fault _ w.moment told f
+not_taken j (OfFlat w) event told f = exact_fault _ w.moment told f
 not_taken j (OfAtomic a) event told f = f
 
 pub no_room : (j : Judge) (h : History) (event : HistoryEvent) → IsFound j h event None → JudgeFaultIs j h event OutOfMemory
-no_room j (OfRegular w) event f = exact_none (fault w event) f
-no_room j (OfFlat w) event f = exact_none (flat_fault w event) f
+no_room j (OfRegular w) event f = exact_none _ f
+no_room j (OfFlat w) event f = exact_none _ f
 no_room j (OfAtomic a) event f = formed a event f

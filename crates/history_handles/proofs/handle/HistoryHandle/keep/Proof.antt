@@ -6,7 +6,7 @@ use base.Fml.{ftrue, flft}
 use base.Logic.{SProp, ent, id⊢, emp}
 use lib.Dec.{T}
 use mir.Raw.{raw as bare}
-use mir.Syntax.{Ty, Dict, named, impl, method, tcons, tnil, dnil}
+use mir.Syntax.{Ty, Dict, named, impl, method, tnil, dnil}
 use mir.Val.{Val, vint, vunit, has_ty, WT}
 use prog.Model.{Model}
 use prog.Wired.{Wired}
@@ -30,7 +30,7 @@ use denote.Builtin.{u32}
 use denote.Exit.{yes, no}
 use denote.Laws.{shows, Typed}
 use denote.Memory.{cell_at}
-use denote.Param.{layout, layouts, arg}
+use denote.Param.{layout, arg}
 use denote.Param.Glue.{Met}
 use denote.Param.Laws.{Laws, arg_laws}
 use denote.Param.NoDrop
@@ -93,7 +93,7 @@ item_glue : {M : Type 1} (𝓤 : Ura M) (𝓛 : Logic 𝓤) (𝓜 : Model 𝓤 �
 item_glue {M} 𝓤 𝓛 𝓜 𝓡 wired =
     let world : World = record { M = M; 𝓤 = 𝓤; 𝓛 = 𝓛; 𝓜 = 𝓜; 𝓡 = 𝓡 } in
     let ended = ended_of 0 drop_kinds.ps drop_kinds.r in
-    let called = method item_drop 0 (layouts [] tt) in
+    let called = method item_drop 0 _ in
     let met = drop_met.met 𝓤 𝓛 𝓜 𝓡 wired in
     glue_by X L world item_drop 𝓡.env
     (λ κs a. Lasts ended tt a) (λ κs a. lasts ended tt a)
@@ -121,9 +121,9 @@ pub keep_spec : {M : Type 1} → statement M
 unfolding tables_of dropped.code
 keep_spec {M} 𝓤 𝓛 𝓜 𝓡 wired =
     let c = f.clauses 𝓛 𝓜.mem 𝓡.returns in let W = walk_of 𝓛 f.ended stayed c in let 𝓣 = tables 𝓤 𝓛.H 𝓜 𝓡 𝓡.env in
-    let Z = arg (bare (layout heap.the_row)) no heap.the_row in
-    let LZ = arg_laws (bare (layout heap.the_row)) no heap.the_row heap_laws.the_row_laws refl in
-    let no_drop = impl ("history_handles::Destruct++none::drop" ∷ []) (tcons (layout Z) tnil) dnil in
+    let Z = arg _ no heap.the_row in
+    let LZ = arg_laws _ no heap.the_row heap_laws.the_row_laws refl in
+    let no_drop = impl _ _ dnil in
     proved_at 𝓛 f.ended stayed c 𝓜 𝓡 (Goes-ref 𝓛 1 0 tt (plain (λ _. R)), (Goes-blank 𝓛 1 (plain (λ _. Boxed)) yes (λ κs x w. tt), tt))
     f.Key.name code.function (code.unfolded 𝓤 𝓛.H 𝓜 𝓡 wired) (λ y are.
     let κs = y.0.0 in let qs = y.0.1 in let r = y.0.3.0 in let item = y.0.3.1.0 in
@@ -134,7 +134,7 @@ keep_spec {M} 𝓤 𝓛 𝓜 𝓡 wired =
     let Run : List Val → SProp 𝓤 = λ us. WpFn 𝓤 𝓛.H 𝓣.C 𝓣.Λ code.function us (W.post y) in
     qed 𝓛 (((‵ (flft κs.0 qs.0) ⊛ ‵ ftrue) ⊛ (‵ ((MutRef (named 0) κs.0 R).own_val r y.0.4.0) ⊛ ‵
     (Boxed.own_val item y.0.4.1.0) ⊛ ‵ ftrue)) ∷ raw (fact 𝓤 (behind r.now ≡ None)) ∷ []) ∵
-    suffices ! (Run (vs ++ (v ∷ []))) (subst (λ (us : List Val). ent 𝓤 (Run (vs ++ (v ∷ []))) (Run us)) (sym (λ i. e₀ i ++ (e₁ i ++ [])))
+    suffices ! (Run _) (subst (λ (us : List Val). ent 𝓤 (Run (vs ++ (v ∷ []))) (Run us)) (sym (λ i. e₀ i ++ (e₁ i ++ [])))
     (id⊢ 𝓤 (Run (vs ++ (v ∷ []))))) $
     split ! $ split ! $ move ! (2 ∷ []) $ split ! $ move ! (1 ∷ []) $ split ! $ keep ! (2 ∷ 0 ∷ 3 ∷ []) $
     rewrite ! 0 (λ (us : List Val). ‵ ((MutRef (named 0) κs.0 R).own_val r us)) e₀ refl $ rewrite ! 1

@@ -3,7 +3,7 @@ use Rattle.std.proofs.raw_atomic.Walks.{proved}
 use base.Fraction.{full_share}
 use base.Fml.{ftrue, flft}
 use mir.Syntax.{named}
-use mir.Val.{Val, vint}
+use mir.Val.{Val}
 use types.Kit.{‵, ◌⊛◌, ◌$◌, ◌∵◌, !, qed, move, keep, split, join, fsplit3, rewrite, suffices, frame, group, done}
 use types.Part.{whole, sub, look_in}
 use types.Run.{enter, of_opd, load, stop, fld, returns, well_typed}
@@ -44,6 +44,6 @@ mark_spec 𝓤 𝓛 𝓜 𝓡 wired =
     sets ! (of_opd ! (load ! (through ! refl (fld ! refl (stop !))) (look_in ! 0 (sub ! 0 refl (whole !))))) refl (tt, good.1.0) $
     rewrite ! 0 Cell (sym word) refl $ closes ! tt R h us b o $
     returns ! (look_at ! 0 refl) $ free_all ! refl $ move ! (3 ∷ []) $
-    suffices ! _ (ends_at 𝓛 f.ended stayed c y (vint w32 h.open) h.open (h, tt) (tt, tt)) $ says ! (refl, refl) $
+    suffices ! _ (ends_at 𝓛 f.ended stayed c y _ h.open (h, tt) (tt, tt)) $ says ! (refl, refl) $
     group ! 3 $ nothing ! $ move ! (1 ∷ 0 ∷ []) $ join ! $ nothing ! $ move ! (2 ∷ 0 ∷ []) $ join ! $ frame ! $ frame ! $
     owned ! u32 _ (uint_Makes 𝓛 w32) h.open _ (refl, good.1.0.fits) $ done !)))))

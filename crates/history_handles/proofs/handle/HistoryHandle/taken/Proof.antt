@@ -4,8 +4,7 @@ use Rattle.std.proofs.raw_atomic.Walks.{proved}
 use base.Fraction.{full_share}
 use base.Fml.{ftrue, flft}
 use base.Logic.{id⊢, emp}
-use mir.Raw.{raw as bare}
-use mir.Syntax.{named, impl, tcons, tnil, dnil}
+use mir.Syntax.{named, impl, dnil}
 use mir.Val.{Val, vint}
 use contract.BorrowLft.{◌⊑◌, ⊑_static}
 use contract.Monad.{fact, fact_i}
@@ -19,7 +18,7 @@ use denote.Builtin.{u32}
 use denote.Exit.{yes, no}
 use denote.Laws.{shows}
 use denote.Memory.{cell_at}
-use denote.Param.{layout, arg}
+use denote.Param.{arg}
 use denote.Param.Laws.{arg_laws}
 use denote.Param.NoDrop
 use denote.Plain.{uint_Makes}
@@ -63,12 +62,12 @@ pub taken_spec : {M : Type 1} → statement M
 unfolding tables_of dropped.code
 taken_spec {M} 𝓤 𝓛 𝓜 𝓡 wired =
     let c = f.clauses 𝓛 𝓜.mem 𝓡.returns in let W = walk_of 𝓛 f.ended stayed c in let 𝓣 = tables 𝓤 𝓛.H 𝓜 𝓡 𝓡.env in
-    let X = arg (bare (layout inner.the_row)) no inner.the_row in
-    let L = arg_laws (bare (layout inner.the_row)) no inner.the_row inner_laws.the_row_laws refl in
-    let Z = arg (bare (layout heap.the_row)) no heap.the_row in
-    let LZ = arg_laws (bare (layout heap.the_row)) no heap.the_row heap_laws.the_row_laws refl in
-    let B = boxed.the_row X Z heap_impl.ghosts in let no_drop = impl ("history_handles::Destruct++none::drop" ∷ [])
-    (tcons (layout Z) tnil) dnil in
+    let X = arg _ no inner.the_row in
+    let L = arg_laws _ no inner.the_row inner_laws.the_row_laws refl in
+    let Z = arg _ no heap.the_row in
+    let LZ = arg_laws _ no heap.the_row heap_laws.the_row_laws refl in
+    let B = boxed.the_row X Z heap_impl.ghosts in let no_drop = impl _
+    _ dnil in
     proved 𝓛 f.ended stayed c 𝓜 𝓡 (Goes-ref 𝓛 1 0 tt (plain (λ _. R)), (Goes-dropped 𝓛 1 (plain (λ _. Z)) yes (λ κs x w. refl), tt))
     f.Key.name code.function (code.unfolded 𝓤 𝓛.H 𝓜 𝓡 wired)
     (λ κs. (mut_vals, ((λ z. heap_laws.lowers.lowered z ∷ []), tt))) (λ κs. (mut_Tells (named 0) κs.0 R, (heap_laws.lowers.val_is, tt)))
@@ -108,7 +107,7 @@ taken_spec {M} 𝓤 𝓛 𝓜 𝓡 wired =
     let x : G.Ghost = ((([], ([], tt)), (full_share, (full_share, tt)), tt, (z, (h.at, tt)), (zs, (ptr_val h.at ∷ [], tt))), h.history) in
     use0 𝓛 (raw (fact 𝓤 ([] ⊑ Z.lives))) (fact_i 𝓤 _ (emp 𝓤) (⊑_static [])) $ join ! $
     use0 𝓛 (raw (fact 𝓤 ([] ⊑ X.lives))) (fact_i 𝓤 _ (emp 𝓤) (⊑_static [])) $ join ! $
-    nothing ! $ feq_i ! (List Val) (ptr_val h.at ∷ []) (ptr_val h.at ∷ []) refl $ move ! (9 ∷ 0 ∷ 1 ∷ []) $ fjoin3 ! $
+    nothing ! $ feq_i ! (List Val) _ _ refl $ move ! (9 ∷ 0 ∷ 1 ∷ []) $ fjoin3 ! $
     nothing ! $ use0 𝓛 (‵ (flft [] full_share)) (𝓛.lfts.lft-nil full_share) $ join ! $ use0 𝓛 (‵ (flft [] full_share))
     (𝓛.lfts.lft-nil full_share) $ join ! $
     join ! $ join ! $ use1 𝓛 (raw (G.pre x)) (id⊢ 𝓤 _) $
