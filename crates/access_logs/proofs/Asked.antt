@@ -1,5 +1,5 @@
 -- Requests that are written one by one.
-use Rattle.std.proofs.Common.{◌≡◌, ℕ, ◌+◌, ◌<◌, Result, Ok, Err, OnErr, List, [], ◌∷◌, ◌++◌, drop, take-append-drop, sym, ◌∙◌, ap, subst}
+use Rattle.std.proofs.Common.{◌≡◌, ℕ, ◌+◌, ◌<◌, Result, Ok, Err, OnErr, List, [], ◌∷◌, ◌++◌, drop, take-append-drop, sym, ◌∙◌, ap}
 use Rattle.std.proofs.Common.{append_assoc, append-nil, arith}
 use Rattle.std.specs.Prelude.{map, codes}
 use Rattle.std.specs.List.{range_with_len}
@@ -37,7 +37,7 @@ pub stopped_then : {S : Type 0} {step : S → List ℕ → S → Type 0} {refuse
 stopped_then {xs = xs} zs whole p q e = record {
   front = xs ++ q.front;
   back = q.back ++ zs;
-  whole = e ∙ ap (λ l. (xs ++ l) ++ zs) q.whole ∙ append_assoc xs (q.front ++ q.back) zs
+  whole = e ∙ ap (λ l. (xs ++ l) ++ zs) q.whole ∙ append_assoc xs _ zs
       ∙ ap (λ l. xs ++ l) (append_assoc q.front q.back zs) ∙ sym (append_assoc xs q.front (q.back ++ zs));
   last = q.last;
   moved = moved_then p q.moved;
@@ -51,13 +51,13 @@ text_more : (f : ℕ → Event) (i : ℕ) → requests_text (map f (range_with_l
 text_more f i =
     let before = map f (range_with_len 0 i) in
     ap requests_text (map-range_with_len_more f 0 i i (omega arith))
-    ∙ flat_map-append request_text before (f i ∷ [])
+    ∙ flat_map-append request_text before _
     ∙ ap (λ l. requests_text before ++ l) (append-nil (request_text (f i)))
 
 pub moved_next : {S : Type 0} {step : S → List ℕ → S → Type 0} {old mid new : S} (f : ℕ → Event) (i : ℕ)
     → Moves step old (requests_text (map f (range_with_len 0 i))) mid → Moves step mid (request_text (f i)) new
     → Moves step old (requests_text (map f (range_with_len 0 (i + 1)))) new
-moved_next {step = step} {old = old} {new = new} f i p q = subst (λ l. Moves step old l new) (sym (text_more f i)) (moved_then p q)
+moved_next {step = step} {old = old} {new = new} f i p q = grind (arith, text_more, moved_then)
 
 pub stopped_at : {S : Type 0} {step : S → List ℕ → S → Type 0} {refused : S → S → Type 0} {old mid new : S} (f : ℕ → Event) (i n : ℕ)
     → i < n
@@ -67,22 +67,20 @@ stopped_at f i n lt p q =
     let all = map f (range_with_len 0 n) in
     let upto = map f (range_with_len 0 (i + 1)) in
     let rest = drop (i + 1) all in
-    let split : all ≡ upto ++ rest = sym (take-append-drop (i + 1) all)
+    let split = sym (take-append-drop (i + 1) all)
     ∙ ap (λ l. l ++ rest) (take-map-range_with_len f 0 n (i + 1) (omega (arith, lt))) in
-    let whole : requests_text all ≡ (requests_text (map f (range_with_len 0 i)) ++ request_text (f i)) ++ requests_text rest =
-    ap requests_text split ∙ flat_map-append request_text upto rest ∙ ap (λ l. l ++ requests_text rest) (text_more f i) in
+    let whole = ap requests_text split ∙ flat_map-append request_text upto rest ∙ ap (λ l. l ++ requests_text rest) (text_more f i) in
     stopped_then (requests_text rest) (requests_text all) p q whole
 
 -- ---- requests behind requests
 
 pub moved_both : {S : Type 0} {step : S → List ℕ → S → Type 0} {old mid new : S} (xs ys : List Event)
     → Moves step old (requests_text xs) mid → Moves step mid (requests_text ys) new → Moves step old (requests_text (xs ++ ys)) new
-moved_both {step = step} {old = old} {new = new} xs ys p q = subst (λ l. Moves step old l new) (sym (flat_map-append request_text xs ys))
-    (moved_then p q)
+moved_both {step = step} {old = old} {new = new} xs ys p q = grind (arith, flat_map-append, moved_then)
 
 pub stopped_second : {S : Type 0} {step : S → List ℕ → S → Type 0} {refused : S → S → Type 0} {old mid new : S} (xs ys : List Event)
     → Moves step old (requests_text xs) mid → Stopped step refused mid (requests_text ys) new
     → Stopped step refused old (requests_text (xs ++ ys)) new
 stopped_second xs ys p q =
-    stopped_then [] (requests_text (xs ++ ys)) p q
+    stopped_then [] (requests_text _) p q
     (flat_map-append request_text xs ys ∙ sym (append-nil (requests_text xs ++ requests_text ys)))

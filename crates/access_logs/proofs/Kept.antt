@@ -18,7 +18,6 @@ use Rattle.access_logs.specs.declared.access.AccessKind.TheVariants.{Load, Store
 use Rattle.access_logs.specs.declared.reading.AccessGroup.{AccessGroup}
 use Rattle.access_logs.specs.declared.fault.LogFault.{LogFault}
 use Rattle.access_logs.specs.Accesses.{word_count_of}
-use Rattle.access_logs.specs.Pages.{pages_after}
 use Rattle.access_logs.specs.Requests.{load_of, store_of, loads_of, stores_of, requests_by, requests_of, count_by, request_count_of}
 use Rattle.access_logs.specs.Logs.{LogState, log_start, access_told, state_after, requests_for, state_behind, requests_in, groups_for}
 use Rattle.access_logs.specs.Logs.{groups_in, fault_by}
@@ -30,18 +29,16 @@ use Rattle.access_logs.specs.declared.writing.TheConstants.{MOST_LOG_LINES}
 -- ---- how many requests an access has
 
 loads_counted : (pages : List ℕ) (tag : ℕ) (a : Access) → length (loads_of pages tag a) ≡ word_count_of a
-loads_counted pages tag a = length-map-range_with_len (load_of pages tag a) 0 (word_count_of a)
+loads_counted pages tag a = length-map-range_with_len _ 0 _
 
 stores_counted : (pages : List ℕ) (number : ℕ) (a : Access) → length (stores_of pages number a) ≡ word_count_of a
-stores_counted pages number a = length-map-range_with_len (store_of pages number a) 0 (word_count_of a)
+stores_counted pages number a = length-map-range_with_len _ 0 _
 
 count_of_kind : (k : AccessKind) (pages : List ℕ) (tag number : ℕ) (a : Access)
     → length (requests_by k pages tag number a) ≡ count_by k (word_count_of a)
 count_of_kind Load pages tag number a = loads_counted pages tag a
 count_of_kind Store pages tag number a = stores_counted pages number a
-count_of_kind Modify pages tag number a =
-    length-append (loads_of pages tag a) (stores_of pages number a)
-    ∙ ap₂ (λ x y. x + y) (loads_counted pages tag a) (stores_counted pages number a)
+count_of_kind Modify pages tag number a = grind (arith, length-append, loads_counted, stores_counted)
 
 pub requests_counted : (a : Access) (pages : List ℕ) (tag number : ℕ) → length (requests_of pages tag number a) ≡ request_count_of a
 requests_counted a pages tag number = count_of_kind a.kind pages tag number a
@@ -58,22 +55,20 @@ stores_are pages number a (i ∷ l) = (tt, stores_are pages number a l)
 
 asked_by_kind : (k : AccessKind) (pages : List ℕ) (tag number : ℕ) (a : Access)
     → AllByRecursion IsRequest (requests_by k pages tag number a)
-asked_by_kind Load pages tag number a = loads_are pages tag a (range_with_len 0 (word_count_of a))
-asked_by_kind Store pages tag number a = stores_are pages number a (range_with_len 0 (word_count_of a))
-asked_by_kind Modify pages tag number a =
-    let words = range_with_len 0 (word_count_of a) in
-    all_then IsRequest (loads_of pages tag a) (stores_of pages number a) (loads_are pages tag a words) (stores_are pages number a words)
+asked_by_kind Load pages tag number a = loads_are pages tag a _
+asked_by_kind Store pages tag number a = stores_are pages number a _
+asked_by_kind Modify pages tag number a = grind (arith, all_then, loads_are, stores_are)
 
 asked_of : (s : LogState) (said : Option Access) → AllByRecursion IsRequest (requests_for s said)
 asked_of s None = tt
-asked_of s (Some a) = asked_by_kind a.kind (pages_after s.pages a) s.tag (s.lines + 1) a
+asked_of s (Some a) = asked_by_kind a.kind _ s.tag _ a
 
 pub log_asks : (access_in : List ℕ → Result (Option Access) LineFault) (s : LogState) (texts : List (List ℕ))
     → AllByRecursion IsRequest (requests_in access_in s texts)
 log_asks access_in s [] = tt
 log_asks access_in s (text ∷ texts) =
     let said = access_told (access_in text) in
-    all_then IsRequest (requests_for s said) (requests_in access_in (state_after s said) texts) (asked_of s said)
+    all_then IsRequest _ _ (asked_of s said)
     (log_asks access_in (state_after s said) texts)
 
 -- ---- the requests of the words from the first on
@@ -82,16 +77,16 @@ pub pushed_next : (f : ℕ → Event) (i : ℕ) (e : Event) (old mid new : List 
     → new ≡ mid ++ e ∷ [] → e ≡ f i → new ≡ old ++ map f (range_with_len 0 (i + 1))
 pushed_next f i e old mid new p q r =
     let upto = map f (range_with_len 0 i) in
-    q ∙ ap₂ (λ x y. x ++ y ∷ []) p r ∙ append_assoc old upto (f i ∷ [])
+    q ∙ ap₂ (λ x y. x ++ y ∷ []) p r ∙ append_assoc old upto _
     ∙ ap (λ l. old ++ l) (sym (map-range_with_len_more f 0 i i (omega arith)))
 
 -- ---- one line more
 
 groups_more : (access_in : List ℕ → Result (Option Access) LineFault) (texts : List (List ℕ)) (text : List ℕ)
     → groups_in access_in (texts ++ text ∷ []) ≡ groups_in access_in texts ++ groups_for (access_told (access_in text))
-groups_more access_in [] text = append-nil (groups_for (access_told (access_in text)))
+groups_more access_in [] text = append-nil _
 groups_more access_in (t ∷ ts) text =
-    let first = groups_for (access_told (access_in t)) in
+    let first = groups_for _ in
     ap (λ l. first ++ l) (groups_more access_in ts text)
     ∙ sym (append_assoc first (groups_in access_in ts) (groups_for (access_told (access_in text))))
 
@@ -129,8 +124,8 @@ pub kept_passed : {access_in : List ℕ → Result (Option Access) LineFault} {r
     → Ok None ≡ access_in text → Kept access_in room texts s asked groups → s' ≡ state_after s None
     → Kept access_in room (texts ++ text ∷ []) s' asked groups
 kept_passed {room = room} {s = s} {asked = asked} {groups = groups} text s' e p after =
-    let pages : length s.pages ≤ room = subst (λ x. length x.pages ≤ room) (sym p.state) p.fits.pages in
-    let few : length asked ≤ most_lines = subst (λ l. length l ≤ most_lines) (sym p.requests) p.fits.requests in
+    let pages = subst (λ x. length x.pages ≤ room) (sym p.state) p.fits.pages in
+    let few = subst (λ l. length l ≤ most_lines) (sym p.requests) p.fits.requests in
     kept_with text None e p after (ap (λ x. x.lines) after) (sym (append-nil asked)) (sym (append-nil groups))
     (subst (λ x. length x.pages ≤ room) (sym after) pages) few
 
@@ -139,7 +134,7 @@ pub kept_line : {access_in : List ℕ → Result (Option Access) LineFault} {roo
     (List ℕ)} {s s' : LogState} {asked asked' : List Event} {groups groups' : List AccessGroup} (text : List ℕ) (a : Access)
     → Ok (Some a) ≡ access_in text → Kept access_in room texts s asked groups → KeptMore room s asked groups a s' asked' groups'
     → Kept access_in room (texts ++ text ∷ []) s' asked' groups'
-kept_line text a e p q = kept_with text (Some a) e p q.state (ap (λ x. x.lines) q.state) q.requests q.grouped q.pages q.few
+kept_line text a e p q = kept_with text _ e p q.state (ap (λ x. x.lines) q.state) q.requests q.grouped q.pages q.few
 
 -- ---- how a reading ends
 
@@ -174,18 +169,15 @@ module _ {R S : Type 0} (gave : R → List ℕ → R → Type 0) (failed : R →
           | inr at ↦
               let first = at.1 in
               let stopped = first.4 in
-              let halts : Halts (rm v) (st v) (length (rq v)) stopped.0 (Some f) =
-              subst (Halts (rm v) (st v) (length (rq v)) stopped.0) e stopped.2 in
-              let roomy : FindsNoRoom (rm c) (st v) (length (rq v)) stopped.0 f =
-              subst (λ n. FindsNoRoom n (st v) (length (rq v)) stopped.0 f) went.1 halts in
-              let placed : FindsNoRoom (rm c) (state_behind access_in log_start h.0) (length (rq v)) stopped.0 f =
-              subst (λ s. FindsNoRoom (rm c) s (length (rq v)) stopped.0 f) kept.state roomy in
-              let found : FindsNoRoom (rm c) (state_behind access_in log_start h.0) (length (requests_in access_in log_start h.0)) stopped.0
-              f = subst (λ l. FindsNoRoom (rm c) (state_behind access_in log_start h.0) (length l) stopped.0 f) kept.requests placed in
+              let halts = subst (Halts (rm v) (st v) (length (rq v)) stopped.0) e stopped.2 in
+              let roomy = subst (λ n. FindsNoRoom n (st v) (length (rq v)) stopped.0 f) went.1 halts in
+              let placed = subst (λ s. FindsNoRoom (rm c) s (length (rq v)) stopped.0 f) kept.state roomy in
+              let found = subst (λ l. FindsNoRoom (rm c) (state_behind access_in log_start h.0) (length l) stopped.0 f) kept.requests
+              placed in
               inr (h.0, room, inr (h.1, into.0, at.0, (first.0, first.1, first.2, first.3, (stopped.0, stopped.1, found))))
         ]
       ]
 
   pub log_stopped : (f : LogFault) (stop : Stop) → stop ≡ Halted → Ending (Err stop) → ft c' ≡ Some f
       → LogFails gave failed access_in (rm c) r r' f
-  log_stopped f stop e h kept = log_without_room f (subst (λ s. Ending (Err s)) e h) kept
+  log_stopped f stop e h kept = grind (arith, log_without_room)

@@ -17,9 +17,9 @@ state_more access_in s (t ∷ ts) text = state_more access_in (state_after s (ac
 pub requests_more : (access_in : List ℕ → Result (Option Access) LineFault) (s : LogState) (texts : List (List ℕ)) (text : List ℕ)
     → requests_in access_in s (texts ++ text ∷ []) ≡ requests_in access_in s texts
     ++ requests_for (state_behind access_in s texts) (access_told (access_in text))
-requests_more access_in s [] text = append-nil (requests_for s (access_told (access_in text)))
+requests_more access_in s [] text = append-nil _
 requests_more access_in s (t ∷ ts) text =
-    let next = state_after s (access_told (access_in t)) in
+    let next = state_after s _ in
     let first = requests_for s (access_told (access_in t)) in
     ap (λ l. first ++ l) (requests_more access_in next ts text)
     ∙ sym (append_assoc first (requests_in access_in next ts)
@@ -66,4 +66,4 @@ asked_none took room w s s' e fits = subst (Asked took room w s None w) (sym e) 
 pub requested_still : {W : Type 0} {took : W → List ℕ → W → Type 0} {access_in : List ℕ
     → Result (Option Access) LineFault} {room : ℕ} {old mid new : W} {texts : List (List ℕ)} {s : LogState}
     → Requested took access_in room old texts mid s → took mid [] new → Requested took access_in room old texts new s
-requested_still p flush = record { written = moved_still p.written flush; state = p.state; number = p.number; fits = p.fits }
+requested_still p flush = grind (arith, moved_still, p.written)

@@ -21,7 +21,7 @@ use Rattle.trace_text.proofs.LineTexts.{none_yet, none_more, begins_long, begins
 use Rattle.run_reasons.specs.Origins.{Origins, origins_then, origins_from, origins_of, origins_after, beginning}
 use Rattle.run_reasons.specs.Reasons.{mismatch_at}
 use Rattle.run_reasons.specs.Shown.{shown}
-use Rattle.run_reasons.specs.Runs.{IsFlat, IsFlatText, IsMismatch, EndsAt, EndsIn}
+use Rattle.run_reasons.specs.Runs.{IsFlat, IsMismatch, EndsAt, EndsIn}
 use Rattle.run_reasons.specs.Lines.{HasRead, StepEnds, bytes_left}
 use Rattle.run_reasons.specs.declared.lines.Lines.{Lines}
 use Rattle.run_reasons.specs.declared.lines.Stop.{Stop}
@@ -33,7 +33,7 @@ from_more : (n : ℕ) (o : Origins) (texts : List (List ℕ)) (text : List ℕ)
     → origins_from n o (texts ++ text ∷ []) ≡ origins_then (origins_from n o texts) (n + length texts) (step_of (pair_of text))
 from_more n o [] text =
     let same : n ≡ n + 0 = omega arith in
-    ap (λ k. origins_then o k (step_of (pair_of text))) same
+    ap (λ k. origins_then o k _) same
 from_more n o (t ∷ ts) text =
     let p = origins_then o n (step_of (pair_of t)) in
     let same : (n + 1) + length ts ≡ n + length (t ∷ ts) = omega arith in
@@ -41,10 +41,7 @@ from_more n o (t ∷ ts) text =
 
 origins_more : (words : List Word) (texts : List (List ℕ)) (text : List ℕ) (s : Option Step) → step_of (pair_of text) ≡ s
     → origins_of words (texts ++ text ∷ []) ≡ origins_then (origins_of words texts) (length texts + 1) s
-origins_more words texts text s e =
-    let same : 1 + length texts ≡ length texts + 1 = omega arith in
-    from_more 1 (beginning words) texts text ∙ ap (λ k. origins_then (origins_of words texts) k (step_of (pair_of text))) same
-    ∙ ap (origins_then (origins_of words texts) (length texts + 1)) e
+origins_more words texts text s e = grind (arith, from_more)
 
 step_of_pair : (text : List ℕ) (pair : Pair) (s : Option Step) → pair_of text ≡ Ok pair → step_with pair.line pair.answer ≡ s
     → step_of (pair_of text) ≡ s
@@ -52,26 +49,13 @@ step_of_pair text pair s read is = ap step_of read ∙ is
 
 recorded_step : (pair : Pair) (event : Event) (answer : Answer) → pair ≡ recorded event answer
     → step_with pair.line pair.answer ≡ Some (record { event = event; answer = answer })
-recorded_step pair event answer e = ap (λ (p : Pair). step_with p.line p.answer) e
+recorded_step pair event answer e = grind arith
 
 -- ---- nothing
 
 pub read_nothing : (words : List Word) (r : Lines) → r.pending.items ≡ [] → r.count ≡ 0 → r.steps ≡ 0
     → shown r.explainer ≡ beginning words → HasRead words [] r
-read_nothing words r pending count steps explainer =
-    let none : IsFlatText words [] [] [] 0 = record {
-      good = record { each = tt; split = refl };
-      short = omega arith;
-      unfinished = none_yet;
-      flat = (refl, refl);
-    } in
-    record {
-      texts = [];
-      text = subst (λ l. IsFlatText words [] [] l r.steps) (sym pending) (subst (IsFlatText words [] [] []) (sym steps) none);
-      number = count;
-      room = λ some. let nothing : length r.pending.items ≡ 0 = ap length pending in absurd (omega (arith, some, nothing));
-      origins = explainer;
-    }
+read_nothing words r pending count steps explainer = grind arith
 
 -- ---- a line that ends
 
@@ -80,20 +64,7 @@ ended : {words : List Word} {bytes : List ℕ} (r r' : Lines) (h : HasRead words
     → shown r'.explainer ≡ origins_of words (h.texts ++ r.pending.items ∷ [])
     → HasRead words (bytes ++ 10 ∷ []) r'
 ended {words = words} {bytes = bytes} r r' h good pending count flat origins =
-    let texts : List (List ℕ) = h.texts ++ r.pending.items ∷ [] in
-    let text : IsFlatText words (bytes ++ 10 ∷ []) texts [] r'.steps = record {
-      good = good_line h.text.good (h.text.short, h.text.unfinished, good);
-      short = omega arith;
-      unfinished = none_yet;
-      flat = flat;
-    } in
-    record {
-      texts = texts;
-      text = subst (λ l. IsFlatText words (bytes ++ 10 ∷ []) texts l r'.steps) (sym pending) text;
-      number = omega (arith, count, h.number, length-append h.texts (r.pending.items ∷ []));
-      room = λ some. let none : length r'.pending.items ≡ 0 = ap length pending in absurd (omega (arith, some, none));
-      origins = origins;
-    }
+    grind (arith, h.texts, good_line, h.text.good, none_yet, length-append)
 
 no_fault : (text : List ℕ) (pair : Pair) → pair_of text ≡ Ok pair → pair_fault text ≡ None
 no_fault text pair read = ap fault_of read
@@ -106,11 +77,9 @@ pub read_still : {words : List Word} {bytes : List ℕ} (r r' : Lines) (pair : P
 read_still {words = words} r r' pair h read none pending count steps explainer =
     let text = r.pending.items in
     let o = origins_of words h.texts in
-    let more : origins_of words (h.texts ++ text ∷ []) ≡ o = origins_more words h.texts text None (step_of_pair text pair None read none) in
-    let flat : JudgedFrom (opening words) (h.texts ++ text ∷ []) r.steps None o.flat =
-    judged_still (opening words) o.flat h.texts text pair r.steps None (sym read) (sym none) h.text.flat in
-    let whole : IsFlat words (h.texts ++ text ∷ []) r.steps =
-    subst (λ (p : Origins). JudgedFrom (opening words) (h.texts ++ text ∷ []) r.steps None p.flat) (sym more) flat in
+    let more = origins_more words h.texts text None (step_of_pair text pair None read none) in
+    let flat = judged_still _ o.flat h.texts text pair r.steps None (sym read) (sym none) h.text.flat in
+    let whole = subst (λ p. JudgedFrom (opening words) (h.texts ++ text ∷ []) r.steps None p.flat) (sym more) flat in
     ended r r' h (no_fault text pair read) pending count (subst (IsFlat words (h.texts ++ text ∷ [])) (sym steps) whole)
     (explainer ∙ h.origins ∙ sym more)
 
@@ -126,20 +95,17 @@ read_step {words = words} r r' pair event answer number h read is at step after 
     let text = r.pending.items in
     let o = origins_of words h.texts in
     let s : Step = record { event = event; answer = answer } in
-    let some : step_with pair.line pair.answer ≡ Some s = recorded_step pair event answer is in
+    let some = recorded_step pair event answer is in
     let place : number ≡ length h.texts + 1 = omega (arith, at, h.number) in
-    let more : origins_of words (h.texts ++ text ∷ []) ≡ origins_after o (length h.texts + 1) event answer =
-    origins_more words h.texts text (Some s) (step_of_pair text pair (Some s) read some) in
-    let new : shown r'.explainer ≡ origins_of words (h.texts ++ text ∷ []) =
-    after ∙ ap (λ (x : Origins). origins_after x number event answer) h.origins ∙ ap (λ n. origins_after o n event answer) place
+    let more = origins_more words h.texts text _ (step_of_pair text pair (Some s) read some) in
+    let new = after ∙ ap (λ x. origins_after x number event answer) h.origins ∙ ap (λ n. origins_after o n event answer) place
     ∙ sym more in
     let next = (shown r'.explainer).flat in
-    let makes : flat_step o.flat event answer ≡ Some next = ap (λ (x : Origins). flat_step x.flat event answer) (sym h.origins) ∙ step in
-    let flat : JudgedFrom (opening words) (h.texts ++ text ∷ []) r'.steps None next =
-    judged_more (opening words) o.flat h.texts text pair s number r.steps None next r'.steps None (sym read) (sym some) place h.text.flat
+    let makes = ap (λ x. flat_step x.flat event answer) (sym h.origins) ∙ step in
+    let flat = judged_more _ o.flat h.texts text pair s number r.steps None next r'.steps None (sym read) (sym some) place h.text.flat
     (makes, steps) in
     ended r r' h (no_fault text pair read) pending count
-    (subst (λ (p : Origins). JudgedFrom (opening words) (h.texts ++ text ∷ []) r'.steps None p.flat) new flat) new
+    (subst (λ p. JudgedFrom (opening words) (h.texts ++ text ∷ []) r'.steps None p.flat) new flat) new
 
 -- ---- where a reading ends
 
@@ -172,8 +138,8 @@ ends_more {words = words} {bytes = bytes} why more p = record {
 pub ends_long : {words : List Word} {bytes : List ℕ} (r : Lines) (b number : ℕ) → HasRead words bytes r → b ≢ 10
     → length r.pending.items ≡ MAX_PAIR → number ≡ r.count + 1 → EndsIn words (bytes ++ b ∷ []) (stop.Fault (fault.Line number TooLong))
 ends_long r b number h ne long at =
-    let found : List ℕ = r.pending.items ++ b ∷ [] in
-    ends_in r b (stop.Fault (fault.Line number TooLong)) h (
+    let found = r.pending.items ++ b ∷ [] in
+    ends_in r b _ h (
       omega (arith, at, h.number),
       begins_long pair_fault MAX_PAIR found (omega (arith, long, length-append r.pending.items (b ∷ [])))
           (none_more r.pending.items b ne h.text.unfinished),
@@ -183,7 +149,7 @@ pub ends_faulty : {words : List Word} {bytes : List ℕ} (r : Lines) (number : �
     → number ≡ r.count + 1 → pair_of r.pending.items ≡ Err f → IsSaid f
     → EndsIn words (bytes ++ 10 ∷ []) (stop.Fault (fault.Line number f))
 ends_faulty r number f h at read said =
-    ends_in r 10 (stop.Fault (fault.Line number f)) h (
+    ends_in r 10 _ h (
       omega (arith, at, h.number),
       begins_said pair_fault MAX_PAIR r.pending.items f h.text.short h.text.unfinished said (ap fault_of read),
     )
@@ -217,11 +183,10 @@ pub ends_step : {words : List Word} {bytes : List ℕ} (r : Lines) (pair : Pair)
 ends_step {words = words} r pair event answer number (stop.Mismatch m) h read is at ends =
     let o = origins_of words h.texts in
     let place : number ≡ length h.texts + 1 = omega (arith, at, h.number) in
-    let none : flat_step o.flat event answer ≡ None = ap (λ (x : Origins). flat_step x.flat event answer) (sym h.origins) ∙ ends.0 in
-    let same : m ≡ mismatch_at o (length h.texts + 1) event answer =
-    ends.1 ∙ ap (λ (x : Origins). mismatch_at x number event answer) h.origins ∙ ap (λ n. mismatch_at o n event answer) place in
+    let none = ap (λ x. flat_step x.flat event answer) (sym h.origins) ∙ ends.0 in
+    let same = ends.1 ∙ ap (λ x. mismatch_at x number event answer) h.origins ∙ ap (λ n. mismatch_at o n event answer) place in
     let good : IsGood pair_fault MAX_PAIR r.pending.items = (h.text.short, h.text.unfinished, no_fault r.pending.items pair read) in
-    ends_in r 10 (stop.Mismatch m) h (subst (IsMismatch words h.texts (r.pending.items ++ 10 ∷ [])) (sym same)
+    ends_in r 10 _ h (subst (IsMismatch words h.texts (r.pending.items ++ 10 ∷ [])) (sym same)
     (mismatch_ends words h.texts r.pending.items r.steps pair event answer h.text.flat good read is none))
 ends_step {words = words} {bytes = bytes} r pair event answer number (stop.Fault f) h read is at ends =
     subst (λ x. EndsIn words (bytes ++ 10 ∷ []) (stop.Fault x)) (sym ends) (ends_in r 10 (stop.Fault fault.OutOfMemory) h tt)
@@ -240,7 +205,4 @@ if_err (Err e) f p = f e p
 -- a line that ends leaves fewer bytes to be read
 pub left_less : {words : List Word} {bytes : List ℕ} (r r' : Lines) (number : ℕ) → HasRead words bytes r → number < 2 ^ 64
     → number ≡ r.count + 1 → r'.count ≡ number → r'.pending.items ≡ [] → bytes_left r' + 1 ≤ bytes_left r
-left_less r r' number h fits at count pending =
-    let none : length r'.pending.items ≡ 0 = ap length pending in
-    let short : length r.pending.items ≤ MAX_PAIR = h.text.short in
-    omega (arith, fits, at, count, none, short)
+left_less r r' number h fits at count pending = grind arith

@@ -1,5 +1,5 @@
 -- What is counted and shown of tags after each change of one of them.
-use Rattle.std.proofs.Common.{◌||◌, append-nil, ◌≡◌, ◌≢◌, ℕ, ◌*◌, ◌-◌, ◌<◌, ◌≤◌, Bool, true, false, ◌==◌, cond, if◌then◌else◌, List, []}
+use Rattle.std.proofs.Common.{◌||◌, append-nil, ◌≡◌, ℕ, ◌*◌, ◌-◌, ◌<◌, ◌≤◌, Bool, true, false, ◌==◌, cond, if◌then◌else◌, List, []}
 use Rattle.std.proofs.Common.{◌∷◌, ◌++◌, take, drop, length, replicate, get_or, set, inl, inr, refl, sym, ◌∙◌, ap, subst, eq-eqb, arith}
 use Rattle.std.specs.Prelude.{slice_set}
 use Rattle.std.specs.List.{sum_by, list_any}
@@ -35,12 +35,8 @@ times_zero n = omega arith
 
 slot_set : (slots : List TagSlot) (tag t : ℕ) (s : TagSlot) (b : Bool) → tag < length slots → (t == tag) ≡ b
     → slot_at (set slots tag s) t ≡ cond b s (slot_at slots t)
-slot_set slots tag t s true lt e =
-    let same : t ≡ tag = eqb-true t tag e in
-    ap (λ k. get_or (set slots tag s) k no_slot) same ∙ get_or-set_same slots tag s no_slot lt
-slot_set slots tag t s false lt e =
-    let other : t ≢ tag = grind (arith, nat_tests) in
-    get_or-set_other slots tag t s no_slot other
+slot_set slots tag t s true lt e = grind (arith, eqb-true, get_or-set_same)
+slot_set slots tag t s false lt e = grind (arith, nat_tests, get_or-set_other)
 
 words_is : (left : List LeftWord) (b : Bool) (s u : TagSlot) → words_behind left s.before s.state ≡ []
     → words_behind left (cond b s u).before (cond b s u).state ≡ (if b then [] else words_behind left u.before u.state)
@@ -49,9 +45,7 @@ words_is left false s u none = refl
 
 pub since_set : (left : List LeftWord) (slots : List TagSlot) (tag : ℕ) (s : TagSlot) → tag < length slots
     → words_behind left s.before s.state ≡ [] → since_in left (slice_set slots tag s) ≡ without_since (since_in left slots) tag
-since_set left slots tag s lt none =
-    fun_ext (λ t. ap (λ (u : TagSlot). words_behind left u.before u.state) (slot_set slots tag t s (t == tag) lt refl)
-    ∙ words_is left (t == tag) s (slot_at slots t) none)
+since_set left slots tag s lt none = grind (arith, fun_ext, slot_set, words_is)
 
 use_is : (b : Bool) (s u : TagSlot) → (cond b s u).state ≡ (if b then s.state else u.state)
 use_is true s u = refl
@@ -59,8 +53,7 @@ use_is false s u = refl
 
 pub uses_set : (slots : List TagSlot) (tag : ℕ) (s : TagSlot) → tag < length slots
     → uses_in (slice_set slots tag s) ≡ with_use (uses_in slots) tag s.state
-uses_set slots tag s lt =
-    fun_ext (λ t. ap (λ (u : TagSlot). u.state) (slot_set slots tag t s (t == tag) lt refl) ∙ use_is (t == tag) s (slot_at slots t))
+uses_set slots tag s lt = grind (arith, fun_ext, slot_set, use_is)
 
 -- of two changes of one tag the second counts
 twice : {X : Type 0} (b : Bool) (x y z : X) → (if b then x else (if b then y else z)) ≡ (if b then x else z)
@@ -68,30 +61,29 @@ twice true x y z = refl
 twice false x y z = refl
 
 pub uses_twice : (uses : ℕ → TagUse) (tag : ℕ) (one other : TagUse) → with_use (with_use uses tag one) tag other ≡ with_use uses tag other
-uses_twice uses tag one other = fun_ext (λ t. twice (t == tag) other one (uses t))
+uses_twice uses tag one other = grind arith
 
 pub since_twice : (since : ℕ → List Word) (tag : ℕ) → without_since (without_since since tag) tag ≡ without_since since tag
-since_twice since tag = fun_ext (λ t. twice (t == tag) [] [] (since t))
+since_twice since tag = grind arith
 
 pub use_there : (uses : ℕ → TagUse) (tag : ℕ) (state : TagUse) → with_use uses tag state tag ≡ state
-use_there uses tag state = ap (λ b. if b then state else uses tag) (eq-eqb tag tag refl)
+use_there uses tag state = grind arith
 
 pub none_begun : (left : List LeftWord) (load : AcceptedLoad) → words_behind left (length left) (Loaded load) ≡ []
-none_begun left load = ap (words_at load.at) (drop-length left)
+none_begun left load = grind (arith, drop-length)
 
 -- ---- counts
 
 -- one that has a load is counted
 pub one_counted : (p : TagUse → Bool) (slots : List TagSlot) (t : ℕ) → p Never ≡ false → p (uses_in slots t) ≡ true
     → 1 ≤ sum_by (λ s. one_if (p s.state)) slots
-one_counted p slots t none h = elim (cases_lt t (length slots)) [
+one_counted p slots t none h = elim (cases_lt t _) [
   | inl lt ↦
-      let counted : one_if (p (uses_in slots t)) ≤ sum_by (λ s. one_if (p s.state)) slots = get_or-le-sum_by (λ s.
-      one_if (p s.state)) slots t no_slot lt in
+      let counted = get_or-le-sum_by (λ s. one_if _) slots t no_slot lt in
       subst (λ b. one_if b ≤ sum_by (λ s. one_if (p s.state)) slots) h counted
   | inr past ↦
-      let slot : slot_at slots t ≡ no_slot = get_or_past slots t no_slot past in
-      let f : false ≡ true = sym none ∙ (ap (λ (s : TagSlot). p s.state) (sym slot) ∙ h) in
+      let slot = get_or_past slots t no_slot past in
+      let f = sym none ∙ (ap (λ s. p s.state) (sym slot) ∙ h) in
       absurd (not_true f)
 ]
 
@@ -109,18 +101,17 @@ at_most_one false = omega arith
 
 pub few_counted : (p : TagUse → Bool) (slots : List TagSlot) → sum_by (λ s. one_if (p s.state)) slots ≤ length slots
 few_counted p slots =
-    let most : sum_by (λ s. one_if (p s.state)) slots ≤ length slots * 1 = sum_by-le (λ s.
-    one_if (p s.state)) 1 slots (λ k d l. at_most_one (p (get_or slots k d).state)) in
+    let most = sum_by-le (λ s. one_if (p s.state)) 1 slots (λ k d l. at_most_one (p (get_or slots k d).state)) in
     omega (arith, most)
 
 -- a load that is open at a word is one of all that are open
 one_open : (at : ℕ) (state : TagUse) → one_if (is_open_at at state) ≤ one_if (is_open state)
 one_open at Never = omega arith
-one_open at (Loaded load) = at_most_one (load.at == at)
+one_open at (Loaded load) = at_most_one _
 one_open at (Taken n) = omega arith
 
 pub few_at : (at : ℕ) (slots : List TagSlot) → loads_at at slots ≤ loads_in slots
-few_at at slots = sum_by-le-sum_by (λ s. one_if (is_open_at at s.state)) (λ s. one_if (is_open s.state)) slots (λ s. one_open at s.state)
+few_at at slots = grind (arith, sum_by-le-sum_by, one_open)
 
 no_longer : (state : TagUse) (P : Type 0) → is_open state ≡ false → is_open state ≡ true → P
 no_longer state P e h = absurd (not_true (sym e ∙ h))
@@ -129,9 +120,9 @@ no_longer state P e h = absurd (not_true (sym e ∙ h))
 pub load_counted : (slots : List TagSlot) (counts : List ℕ) (loads : ℕ) (left : List LeftWord) (tag : ℕ) (load : AcceptedLoad)
     → IsCounted slots counts loads left → uses_in slots tag ≡ Loaded load → (1 ≤ get_or counts load.at 0) × (1 ≤ loads)
 load_counted slots counts loads left tag load c is =
-    let at : is_open_at load.at (uses_in slots tag) ≡ true = ap (is_open_at load.at) is ∙ eq-eqb load.at load.at refl in
-    let one : 1 ≤ loads_at load.at slots = one_counted (is_open_at load.at) slots tag refl at in
-    let all : 1 ≤ loads_in slots = one_counted is_open slots tag refl (ap is_open is) in
+    let at = ap (is_open_at load.at) is ∙ eq-eqb load.at load.at refl in
+    let one : 1 ≤ loads_at load.at slots = one_counted _ slots tag refl at in
+    let all = one_counted is_open slots tag refl (ap is_open is) in
     (omega (arith, one, c.each_word load.at), omega (arith, all, c.all))
 
 pub within : (counts : List ℕ) (at : ℕ) → 1 ≤ get_or counts at 0 → at < length counts
@@ -158,13 +149,11 @@ left_for : (left : List LeftWord) (l : LeftWord) (before : ℕ) (state : TagUse)
     ++ l.word ∷ [] else words_behind left before state)
 left_for left l before Never h = refl
 left_for left l before (Taken n) h = refl
-left_for left l before (Loaded load) h =
-    ap (words_at load.at) (drop-append-le before left (l ∷ []) (h refl)) ∙ words_more load.at (drop before left) (l ∷ [])
-    ∙ one_left (load.at == l.at) l.word (words_at load.at (drop before left))
+left_for left l before (Loaded load) h = grind (arith, load.at, drop-append-le, words_more, one_left, l.word)
 
 pub since_left : (slots : List TagSlot) (counts : List ℕ) (loads : ℕ) (left : List LeftWord) (l : LeftWord)
     → IsCounted slots counts loads left → since_in (left ++ l ∷ []) slots ≡ with_left (uses_in slots) (since_in left slots) l.at l.word
-since_left slots counts loads left l c = fun_ext (λ t. left_for left l (slot_at slots t).before (uses_in slots t) (c.behind t))
+since_left slots counts loads left l c = grind (arith, fun_ext, left_for, c.behind)
 
 not_at : (b : Bool) (words more : List Word) → b ≡ false → words ≡ (if b then more else words)
 not_at true words more h = cc
@@ -175,8 +164,8 @@ pub since_passed : (slots : List TagSlot) (counts : List ℕ) (loads : ℕ) (lef
     → IsCounted slots counts loads left → get_or counts at 0 ≡ 0
     → since_in left slots ≡ with_left (uses_in slots) (since_in left slots) at word
 since_passed slots counts loads left at word c zero = fun_ext (λ t.
-    not_at (is_open_at at (uses_in slots t)) (since_in left slots t) (since_in left slots t ++ word ∷ [])
-    (none_counted (is_open_at at) slots t refl (sym (c.each_word at) ∙ zero)))
+    not_at _ _ _
+    (none_counted _ slots t refl (sym (c.each_word at) ∙ zero)))
 
 -- ---- words that are forgotten
 
@@ -189,10 +178,10 @@ none_behind left before (Taken n) h = refl
 -- nobody misses the words that are forgotten
 pub since_forgotten : (slots : List TagSlot) (counts : List ℕ) (loads : ℕ) (left : List LeftWord)
     → IsCounted slots counts loads left → since_in (while_open loads left) slots ≡ since_in left slots
-since_forgotten slots counts loads left c = elim (cases_Bool (loads == 0)) [
+since_forgotten slots counts loads left c = elim (cases_Bool _) [
   | inl e ↦
-      let none : (t : ℕ) → is_open (uses_in slots t) ≡ false = λ t. none_counted is_open slots t refl (sym c.all ∙ eqb-true loads 0 e) in
-      rw e (fun_ext (λ t. none_behind [] (slot_at slots t).before (uses_in slots t) (none t)
+      let none : (t : ℕ) → is_open _ ≡ false = λ t. none_counted is_open slots t refl (sym c.all ∙ eqb-true loads 0 e) in
+      rw e (fun_ext (λ t. none_behind [] (slot_at slots t).before _ (none t)
       ∙ sym (none_behind left (slot_at slots t).before (uses_in slots t) (none t))))
   | inr e ↦ rw e refl
 ]
@@ -202,8 +191,8 @@ pub counted_forgotten : (slots : List TagSlot) (counts : List ℕ) (loads : ℕ)
 counted_forgotten slots counts loads left c = record {
   each_word = c.each_word;
   all = c.all;
-  behind = λ t h. elim (cases_Bool (loads == 0)) [
-    | inl e ↦ no_longer (uses_in slots t) _ (none_counted is_open slots t refl (sym c.all ∙ eqb-true loads 0 e)) h
+  behind = λ t h. elim (cases_Bool _) [
+    | inl e ↦ no_longer _ _ (none_counted is_open slots t refl (sym c.all ∙ eqb-true loads 0 e)) h
     | inr e ↦ rw e (c.behind t h)
   ];
 }
@@ -213,30 +202,29 @@ counted_forgotten slots counts loads left c = record {
 first_slot : (n t : ℕ) → slot_at (replicate n no_slot) t ≡ no_slot
 first_slot n t = elim (cases_lt t n) [
   | inl lt ↦ get_or-replicate n t no_slot no_slot lt
-  | inr past ↦ get_or_past (replicate n no_slot) t no_slot (omega (arith, past, length-replicate n no_slot))
+  | inr past ↦ get_or_past _ t no_slot (omega (arith, past, length-replicate n no_slot))
 ]
 
 pub first_uses : (n : ℕ) → uses_in (replicate n no_slot) ≡ (λ tag. Never)
-first_uses n = fun_ext (λ t. ap (λ (s : TagSlot). s.state) (first_slot n t))
+first_uses n = grind (arith, fun_ext, first_slot)
 
 pub first_since : (n : ℕ) → since_in [] (replicate n no_slot) ≡ (λ tag. [])
-first_since n = fun_ext (λ t. ap (λ (s : TagSlot). words_behind [] s.before s.state) (first_slot n t))
+first_since n = grind (arith, fun_ext, first_slot)
 
 same_everywhere : (n at x : ℕ) → get_or (replicate n x) at x ≡ x
 same_everywhere n at x = elim (cases_lt at n) [
   | inl lt ↦ get_or-replicate n at x x lt
-  | inr past ↦ get_or_past (replicate n x) at x (omega (arith, past, length-replicate n x))
+  | inr past ↦ get_or_past _ at x (omega (arith, past, length-replicate n x))
 ]
 
 first_sum : (p : TagUse → Bool) (n : ℕ) → p Never ≡ false → sum_by (λ s. one_if (p s.state)) (replicate n no_slot) ≡ 0
-first_sum p n none = sum_by-replicate (λ s. one_if (p s.state)) n no_slot ∙ ap (λ b. n * one_if b) none ∙ times_zero n
+first_sum p n none = grind (arith, sum_by-replicate, times_zero)
 
 pub first_counted : (n words : ℕ) → IsCounted (replicate n no_slot) (replicate words 0) 0 []
 first_counted n words = record {
   each_word = λ at. same_everywhere words at 0 ∙ sym (first_sum (is_open_at at) n refl);
   all = sym (first_sum is_open n refl);
-  behind = λ t h. no_longer (uses_in (replicate n no_slot) t) ((slot_at (replicate n no_slot) t).before ≤ 0) (ap (λ (s : TagSlot).
-      is_open s.state) (first_slot n t)) h;
+  behind = λ t h. no_longer _ _ (ap (λ s. is_open s.state) (first_slot n t)) h;
 }
 
 -- ---- a word that stood there
@@ -251,16 +239,14 @@ any_at at word (l ∷ ls) = elim (cases_Bool (at == l.at)) [
 
 -- what a slice from a place on has
 pub rest_of : {X : Type 0} (k : ℕ) (xs : List X) → take (length xs - k) (drop k xs) ≡ drop k xs
-rest_of k xs = ap (λ n. take n (drop k xs)) (sym (length-drop k xs)) ∙ take-length (drop k xs)
+rest_of k xs = ap (λ n. take n (drop k xs)) (sym (length-drop k xs)) ∙ take-length _
 
 -- the words of an open load begin within the list
 pub within_left : (slots : List TagSlot) (counts : List ℕ) (loads : ℕ) (left : List LeftWord) (tag : ℕ) (load : AcceptedLoad)
     → IsCounted slots counts loads left → uses_in slots tag ≡ Loaded load → (slot_at slots tag).before ≤ length left
-within_left slots counts loads left tag load c is = c.behind tag (ap is_open is)
+within_left slots counts loads left tag load c is = grind arith
 
 pub has_stood : (slots : List TagSlot) (left : List LeftWord) (tag : ℕ) (load : AcceptedLoad) (word : Word)
     → uses_in slots tag ≡ Loaded load → list_any (is_left load.at word) (drop (slot_at slots tag).before left)
     ≡ list_any (λ w. same_word w word) (since_in left slots tag)
-has_stood slots left tag load word is =
-    any_at load.at word (drop (slot_at slots tag).before left)
-    ∙ ap (λ u. list_any (λ w. same_word w word) (words_behind left (slot_at slots tag).before u)) (sym is)
+has_stood slots left tag load word is = grind (arith, any_at, load.at)

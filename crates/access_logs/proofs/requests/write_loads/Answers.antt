@@ -1,4 +1,4 @@
-use Rattle.std.proofs.Common.{◌≡◌, ◌+◌, List, ℕ, ◌∙◌, ap, subst, arith}
+use Rattle.std.proofs.Common.{◌≡◌, ◌+◌, List, ℕ, subst, arith}
 use Rattle.flat_model.specs.declared.Event.TheVariants as event
 use Rattle.trace_text.specs.Streams.{Moves, Stopped}
 use Rattle.access_logs.specs.Accesses.{word_count_of}
@@ -11,9 +11,7 @@ use Rattle.access_logs.proofs.requests.write_loads.Goals as goal
 same_line : (bytes line : List ℕ) (pages : List ℕ) (tag first i tag' at w : ℕ) → bytes ≡ line → line ≡ request_text (event.Load tag' at)
     → tag' ≡ tag_behind tag i → at ≡ memory_word pages (w + i) → w ≡ first
     → bytes ≡ request_text (event.Load (tag_behind tag i) (memory_word pages (first + i)))
-same_line bytes line pages tag first i tag' at w e0 e1 e2 e3 e4 =
-    e0 ∙ e1 ∙ ap (λ t. request_text (event.Load t at)) e2 ∙ ap (λ a. request_text (event.Load (tag_behind tag i) a))
-    (e3 ∙ ap (λ n. memory_word pages (n + i)) e4)
+same_line bytes line pages tag first i tag' at w e0 e1 e2 e3 e4 = grind arith
 
 pub returns-in_err-write_whole-clause-err : goal.returns-in_err-write_whole-clause-err
 returns-in_err-write_whole-clause-err g c =

@@ -1,4 +1,4 @@
-use Rattle.std.proofs.Common.{◌≡◌, ◌+◌, List, ℕ, ◌∙◌, ap, subst, arith}
+use Rattle.std.proofs.Common.{◌≡◌, ◌+◌, List, ℕ, subst, arith}
 use Rattle.flat_model.specs.declared.Event.TheVariants as event
 use Rattle.flat_model.specs.declared.Lanes.{Lanes}
 use Rattle.flat_model.specs.declared.Word.{Word}
@@ -15,12 +15,7 @@ same_line : (bytes line : List ℕ) (pages : List ℕ) (number : ℕ) (a : Acces
     → line ≡ request_text (event.Store at word lanes) → w ≡ first_word_of a → at ≡ memory_word pages (w + i) → lanes ≡ lanes_at a (w + i)
     → word ≡ word_at a number (w + i)
     → bytes ≡ request_text (store_of pages number a i)
-same_line bytes line pages number a i w at lanes word e0 e1 e2 e3 e4 e5 =
-    e0 ∙ e1
-    ∙ ap (λ p. request_text (event.Store p word lanes)) e3
-    ∙ ap (λ l. request_text (event.Store (memory_word pages (w + i)) word l)) e4
-    ∙ ap (λ x. request_text (event.Store (memory_word pages (w + i)) x (lanes_at a (w + i)))) e5
-    ∙ ap (λ n. request_text (event.Store (memory_word pages (n + i)) (word_at a number (n + i)) (lanes_at a (n + i)))) e2
+same_line bytes line pages number a i w at lanes word e0 e1 e2 e3 e4 e5 = cc (e0, e1, e3, e4, e5, e2)
 
 pub returns-in_err-write_whole-clause-err : goal.returns-in_err-write_whole-clause-err
 returns-in_err-write_whole-clause-err g c =

@@ -12,7 +12,7 @@ byte_noted : (n : ℕ) (lanes : Lanes) (at : ℕ) (word : Word) (stores : Stores
     → next ≡ with_past past key (record { put = put; by = n }) → next ≡ overwritten_at n lanes at word stores lane past
 unfolding overwritten_at
 byte_noted n lanes at word stores lane past next key value put among is_value is_key is_put made =
-    let whole : PastOf = with_past past (value_key at lane (byte word lane)) (record { put = line_of stores lane; by = n }) in
+    let whole = with_past past _ (record { put = line_of stores lane; by = n }) in
     made ∙ ap (λ k. with_past past k (record { put = put; by = n })) (is_key ∙ ap (value_key at lane) is_value)
     ∙ ap (λ p. with_past past (value_key at lane (byte word lane)) (record { put = p; by = n })) is_put
     ∙ sym (ap (λ t. cond t whole past) among)
