@@ -164,12 +164,13 @@ fn core_once<'a>(alloc: Global) -> Arg<'a> {
     )
 }
 
-fn hand_once<'a>(alloc: Global) -> Arg<'a> {
-    flag(
+fn hand_once<'a>(alloc: Global) -> Result<Arg<'a>, AllocError> {
+    let arg = flag(
         alloc,
         "hand-once",
         "Serve them once by a station that is stepped by hand, and tell nothing",
-    )
+    );
+    arg.conflicts_with("core-once")
 }
 
 // The arguments go into a list and to their command in one call: each call that takes a command and
@@ -190,7 +191,7 @@ fn rates_arguments<'a>(alloc: Global) -> Result<Vec<Arg<'a>>, AllocError> {
     push_argument(&mut args, asks(alloc, MEASURED_ASKS, MEASURED_ASKS_HELP))?;
     push_argument(&mut args, seed(alloc))?;
     push_argument(&mut args, core_once(alloc))?;
-    push_argument(&mut args, hand_once(alloc))?;
+    push_argument(&mut args, hand_once(alloc)?)?;
     Ok(args)
 }
 
