@@ -22,8 +22,12 @@
 /* A buffer of so many bytes takes each version. */
 #define KROFT_VERSION_TEXT 16
 
+/* Where a closed handle points. (C++ takes a plain 0 for no pointer, but its compilers can warn of that.) */
 #ifdef __cplusplus
+#define KROFT_NOWHERE nullptr
 extern "C" {
+#else
+#define KROFT_NOWHERE 0
 #endif
 
 /* A word of memory: four bytes, byte 0 first. */
@@ -110,9 +114,9 @@ enum {
 
 /*
  * One step of a run: may flat memory give this answer to this event? Returns KROFT_FLAT, and `words`
- * and `due` are then as the step leaves them; or KROFT_NOT_FLAT or KROFT_NO_STEP, and then both are as
- * they were. A row says nothing if its kind is past the last, or if it is a refusal whose cause isn't
- * 1 to 13.
+ * and `due` are then as the step leaves them, which writes no entry of `due` but that of a tag that is
+ * loaded or whose value is taken; or KROFT_NOT_FLAT or KROFT_NO_STEP, and then both are as they were. A
+ * row says nothing if its kind is past the last, or if it is a refusal whose cause isn't 1 to 13.
  *
  *     if (kroft_flat_step(words, nwords, due, KROFT_TAGS, &event, &answer) != KROFT_FLAT) {
  *         char text[KROFT_WHY_TEXT];
@@ -203,7 +207,7 @@ typedef struct {
 } kroft_handle;
 
 #define KROFT_NO_MACHINE \
-    { 0, 0 }
+    { 0, KROFT_NOWHERE }
 
 /*
  * The numbers of a machine: any within their ranges.
@@ -575,7 +579,7 @@ typedef struct {
 } kroft_history;
 
 #define KROFT_NO_HISTORY \
-    { 0, 0 }
+    { 0, KROFT_NOWHERE }
 
 /* The laws. */
 enum {
