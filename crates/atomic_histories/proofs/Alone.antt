@@ -12,7 +12,7 @@ use Rattle.atomic_histories.specs.Law.{OpenLoad, UnitMemory, is_load}
 use Rattle.atomic_histories.specs.Stands.{Each, One}
 use Rattle.atomic_histories.specs.May.{may_show, lane_of, has_got, got_byte}
 use Rattle.atomic_histories.proofs.Lists.{each_map, each_unmap, each_filter, each_append, each_weaker, one_weaker, one_map, one_unmap}
-use Rattle.atomic_histories.proofs.Lists.{one_filter}
+use Rattle.atomic_histories.proofs.Lists.{one_filter, none_filtered}
 use Rattle.atomic_histories.proofs.Links.{AreDistinct, load_key, key, is_of, IsLinked}
 
 abbrev Word : Type 0
@@ -23,15 +23,6 @@ pub each_none : {X : Type 0} (P : X → Type 0) (p : X → Bool) (xs : List X) �
 each_none P p [] h = tt
 each_none P p (x ∷ xs) h =
     let r = or_parts (p x) _ h in (λ t. let y = sym t ∙ r.0 in cc, each_none P p xs r.1)
-
-none_filtered : {X : Type 0} (p q : X → Bool) (xs : List X) → list_any p xs ≡ false → list_any p (filter q xs) ≡ false
-none_filtered p q [] h = refl
-none_filtered p q (x ∷ xs) h =
-    let r = or_parts (p x) _ h in
-    elim (cases_Bool (q x)) [
-      | inl t ↦ rw t (rw r.0 (none_filtered p q xs r.1))
-      | inr f ↦ rw f (none_filtered p q xs r.1)
-    ]
 
 -- Elements under a number. ----
 
@@ -123,9 +114,9 @@ none_got : (number k b : ℕ) (ls : List OpenLoad) → list_any (is_load number)
 none_got number k b [] h = refl
 none_got number k b (l ∷ ls) h = let r = or_parts _ (list_any (is_load number) ls) h in rw r.0 (none_got number k b ls r.1)
 
-or_left : (a b : Bool) → (a || b) ≡ true → b ≡ false → a ≡ true
-or_left true b h f = refl
-or_left false b h f = let y = sym h ∙ f in cc
+pub or_first : (a b : Bool) → (a || b) ≡ true → b ≡ false → a ≡ true
+or_first true b h f = refl
+or_first false b h f = let y = sym h ∙ f in cc
 
 word_got : (k b : ℕ) (g : Option Word) → has_got k b g ≡ true → (w : Word) × (g ≡ Some w) × (may_show (lane_of k w) b ≡ true)
 word_got k b None h = cc
@@ -138,7 +129,7 @@ shown_word number k b [] a h = cc
 shown_word number k b (l ∷ ls) a h = elim (cases_Bool _) [
   | inl t ↦
       let none = a.0 t in
-      let got = or_left _ _ h (none_got number k b ls
+      let got = or_first _ _ h (none_got number k b ls
       none) in
       let r = word_got k b l.got (and_parts (is_load number l) (has_got k b l.got) got).1 in
       (r.0, r.2, inl r.1, (λ u. r.1, each_none (λ x. x.got ≡ Some r.0) _ ls none))

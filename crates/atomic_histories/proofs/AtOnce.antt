@@ -1,5 +1,5 @@
 -- Events that a unit takes where it stands: what the search would find, and what is kept of the units.
-use Rattle.std.proofs.Common.{◌≡◌, ◌≢◌, ℕ, zero, suc, ◌*◌, ◌/◌, ◌<◌, ◌≤◌, Bool, true, false}
+use Rattle.std.proofs.Common.{◌≡◌, ◌≢◌, ℕ, zero, suc, ◌+◌, ◌*◌, ◌/◌, ◌<◌, ◌≤◌, Bool, true, false}
 use Rattle.std.proofs.Common.{List, [], ◌∷◌, length, take, get_or, Option, Some, None, Result, Ok, Err, IfOk, OnErr}
 use Rattle.std.proofs.Common.{inl, inr, refl, sym, ap, ap₂, ◌∙◌, subst, arith}
 use Rattle.std.specs.List.{find}
@@ -18,7 +18,7 @@ use Rattle.atomic_histories.specs.declared.pairs.FollowedPair.{FollowedPair}
 use Rattle.atomic_histories.specs.declared.kept.KeptUnit.{KeptUnit}
 use Rattle.atomic_histories.specs.declared.memory.UnitSize.{UnitSize}
 use Rattle.atomic_histories.specs.declared.memory.UnitSize.TheVariants.{One, Two, Four, Eight}
-use Rattle.atomic_histories.specs.Operations.{Opened, opened_after, form_fault}
+use Rattle.atomic_histories.specs.Operations.{Opened, opened_after}
 use Rattle.atomic_histories.specs.Words.{written, is_word_of}
 use Rattle.atomic_histories.specs.Law.{unit_at, may_answer_store, done_store}
 use Rattle.atomic_histories.specs.Pasts.{Past, Stood, stood, begins, after, got, missed, oldest, earlier, cut_for, overwritten}
@@ -28,6 +28,8 @@ use Rattle.atomic_histories.specs.Followed.{out_after, met, found, is_over, need
 use Rattle.atomic_histories.specs.Followed.{is_under, loads_without, moment_with, pair_missed, gathered}
 use Rattle.atomic_histories.specs.Followed.{with_hope, answered_load, answered_store, ways_without_load}
 use Rattle.atomic_histories.specs.Held.{Held, covered, units_of, is_without, is_stuck, is_over_at, first_halt}
+use Rattle.atomic_histories.specs.Few.{IsFewFor, AreFew}
+use Rattle.atomic_histories.specs.Told.{GoOn}
 use Rattle.atomic_histories.specs.Judge.{bytes_of, kept_or, kept_at, words_of, IsTaken}
 use Rattle.atomic_histories.specs.Shown.{past_at, past_of, pasts, shown, shown_all}
 use Rattle.atomic_histories.proofs.Shares.{stands}
@@ -252,7 +254,6 @@ one_taken : (h next : Held) (event : HistoryEvent) (number : ℕ) → number ≡
     → ((k : ℕ) → k ≢ number → next.units k ≡ h.units k)
     → next.image ≡ h.image → next.rest ≡ h.rest → next.size ≡ h.size → next.opened ≡ h.opened → AreTaken h event next
 one_taken h next event number here one taken others image rest size opened = record {
-  ways = grind arith;
   image = image;
   rest = rest;
   size = size;
@@ -294,18 +295,30 @@ one_halt : (limit : ℕ) (h : Held) (event : HistoryEvent) (number : ℕ) → nu
     → is_stuck h event number ≡ false → is_over_at limit h event number ≡ false → first_halt limit h event ≡ None
 one_halt limit h event number here one stuck over = grind arith
 
+one_few : (h : Held) (event : HistoryEvent) (number n first : ℕ) → number ≡ first → n ≡ 1 → IsFewFor (h.units number) event
+    → AreFew h event first (first + n)
+one_few h event number n first here one few = λ j l m.
+    let same : number ≡ j = omega arith in subst (λ k. IsFewFor (h.units k) event) same few
+
+one_goes_on : (limit : ℕ) (h : Held) (event : HistoryEvent) (number : ℕ) → number ≡ (covered h.opened event).0 / h.size
+    → units_of h.size (covered h.opened event).0 (covered h.opened event).1 ≡ 1 → IsFewFor (h.units number) event
+    → is_stuck h event number ≡ false → is_over_at limit h event number ≡ false → GoOn limit h event
+one_goes_on limit h event number here one few stuck over =
+    (one_halt limit h event number here one stuck over, one_few h event number _ _ here one few)
+
 pub not_halted_at : {E : Type 0} (r : Result Bool E) (limit : ℕ) (image : List ℕ) (rest : Rest) (size : ℕ) (opened : Opened)
     (event : HistoryEvent) (f g : ℕ → Option KeptUnit) (number : ℕ) (place : UnitPlace) → place ≡ unit_at size number
     → number ≡ (covered opened event).0 / size
     → units_of size (covered opened event).0 (covered opened event).1 ≡ 1
     → IfOk r (λ taken. (first : Ways) → IsUnitTaken place event (kept_or (f number) first) (kept_or (g number) first) taken)
     → IfOk r (λ taken. taken ≡ true → (first : Ways) → needs_too_many limit place (kept_or (f number) first) event ≡ false)
-    → IfOk r (λ taken. taken ≡ true → first_halt limit (kept image rest size opened f) event ≡ None)
-not_halted_at (Err e) limit image rest size opened event f g number place at_ here one taken few = tt
-not_halted_at (Ok false) limit image rest size opened event f g number place at_ here one taken few = λ t. cc
-not_halted_at (Ok true) limit image rest size opened event f g number place at_ here one taken few = λ t.
+    → IfOk r (λ taken. taken ≡ true → (first : Ways) → IsFewFor (kept_or (f number) first) event)
+    → IfOk r (λ taken. taken ≡ true → GoOn limit (kept image rest size opened f) event)
+not_halted_at (Err e) limit image rest size opened event f g number place at_ here one taken few words = tt
+not_halted_at (Ok false) limit image rest size opened event f g number place at_ here one taken few words = λ t. cc
+not_halted_at (Ok true) limit image rest size opened event f g number place at_ here one taken few words = λ t.
     let u : Ways = kept_or (f number) (first_ways image rest (unit_at size number)) in
-    one_halt limit (kept image rest size opened f) event number here one
+    one_goes_on limit (kept image rest size opened f) event number here one (words refl (first_ways image rest (unit_at size number)))
     (subst (λ p. is_without u (ways_after p u event) ≡ false) at_ (taken (first_ways image rest (unit_at size number))).1)
     (subst (λ p. needs_too_many limit p u event ≡ false) at_ (few refl (first_ways image rest (unit_at size number))))
 
@@ -317,7 +330,7 @@ untaken_at (Ok taken) image rest size opened f g number same words others = tt
 untaken_at (Err e) image rest size opened f g number same words others = grind arith
 
 -- the operations that are open change behind the units
-pub taken_open : (h room mid next : Held) (event : HistoryEvent) → form_fault h.opened event ≡ None → room ≡ h → AreTaken room event mid
+pub taken_open : (h room mid next : Held) (event : HistoryEvent) → room ≡ h → AreTaken room event mid
     → next ≡ record {
       image = mid.image;
       rest = mid.rest;
@@ -327,4 +340,4 @@ pub taken_open : (h room mid next : Held) (event : HistoryEvent) → form_fault 
       words = mid.words;
     }
     → IsTaken h event next
-taken_open h room mid next event formed same taken_there e = grind arith
+taken_open h room mid next event same taken_there e = grind arith

@@ -18,7 +18,9 @@ use Rattle.atomic_histories.specs.Followed.{pair_got, pair_missed, gathered, wit
 use Rattle.atomic_histories.specs.Followed.{ways_with_load, ways_with_store, ways_without_load, ways_without_store}
 use Rattle.atomic_histories.specs.Followed.{ways_after, loads_without}
 use Rattle.atomic_histories.specs.Stands.{Each, One, EachWay, OneWay, IsAsked, IsPairBy, AreWatched, IsOn, Leads, now, StandsFor}
-use Rattle.atomic_histories.proofs.Lists.{one_weaker, one_map, each_weaker, each_map, each_both, each_append, each_filter, no_snoc}
+use Rattle.atomic_histories.proofs.Lists.{one_weaker, one_map, one_each, each_weaker, each_map, each_both, each_append, each_filter}
+use Rattle.atomic_histories.proofs.Lists.{no_snoc}
+use Rattle.atomic_histories.proofs.Links.{some_if, then_some}
 use Rattle.atomic_histories.proofs.Alone.{IsAlone}
 use Rattle.atomic_histories.proofs.Apart.{IsShaped, event_shaped}
 use Rattle.atomic_histories.proofs.Steps.{leads_on}
@@ -46,14 +48,6 @@ pub record Fits (P : UnitMemory → Type 0) (u : Ways) : Type 0 where
 -- one of the ways leads to a state
 abbrev pub LeadsTo : Ways → UnitMemory → Type 0
 LeadsTo u m = One (OneWay u.loads (λ b. Leads b m)) u.pairs
-
-if_true : {X : Type 0} (b : Bool) (x y : X) → b ≡ true → (if b then x else y) ≡ x
-if_true true x y h = refl
-if_true false x y h = cc
-
-some_if : {X : Type 0} (b : Bool) (x n : X) → (if b then Some x else None) ≡ Some n → (b ≡ true) × (x ≡ n)
-some_if true x n h = (refl, cc)
-some_if false x n h = cc
 
 -- A load is requested. ----
 
@@ -96,11 +90,6 @@ requested_load_fits number address P Q closed false f u s = record {
       (λ e h path has m o. f m m (h path has m o) refl) u.pairs s.sound;
 }
 
-one_both : (P Q : Pair → Type 0) (es : List Pair) → One P es → Each Q es → One (λ e. P e × Q e) es
-one_both P Q [] o a = absurd o
-one_both P Q (e ∷ es) (inl p) a = inl (p, a.0)
-one_both P Q (e ∷ es) (inr o) a = inr (one_both P Q es o a.1)
-
 requested_load_leads : (number address : ℕ) (b : Bool) (m n : UnitMemory) → Some (if b then with_load number address m else m) ≡ Some n
     → (u : Ways) → Each (IsPairBy u.moment) u.pairs → LeadsTo u m → LeadsTo (if b then ways_with_load number address u else u) n
 unfolding new_load
@@ -115,7 +104,7 @@ requested_load_leads number address true m n h u by o =
           (path_by u.moment e.past p.0.0 p.1 p.0.1)))
           (rw same at (leads_with_load number address (way_on u.loads e p.0.0) m p.0.2)),
     )) u.pairs
-    (one_both (OneWay u.loads (λ b. Leads b m)) _ u.pairs o by)
+    (one_each (OneWay u.loads (λ b. Leads b m)) _ u.pairs o by)
 requested_load_leads number address false m n h u by o = let same : m ≡ n = cc in subst (LeadsTo u) same o
 
 -- A store is requested. ----
@@ -215,7 +204,7 @@ answered_store_leads number m may u asked o =
     (one_weaker (λ e. OneWay u.loads (λ b. Leads b m) e × HasTaken number e)
     (λ e. OneWay u.loads (λ b. Leads b (without_store number m)) _)
     (λ e p. (p.0.0, p.0.1, leads_without_store number _ m p.1 p.0.2)) _
-    (one_both (OneWay u.loads (λ b. Leads b m)) _ _ there all))
+    (one_each (OneWay u.loads (λ b. Leads b m)) _ _ there all))
   where
     each_any : (xs : List Pair) → Each (λ e. Unit {0}) xs
     each_any [] = tt
@@ -305,13 +294,13 @@ event_fits unit P Q closed_p closed_q (LoadRequest number address n) f u alone s
 event_fits unit P Q closed_p closed_q (LoadResponse number bytes) f u alone s =
     answered_load_fits unit number bytes.now P Q closed_p
     (λ m p g. f m _ p
-    (if_true (may_answer_load unit number bytes.now m.loads) (Some (without_load number m)) None g)) u s alone
+    (then_some (may_answer_load unit number bytes.now m.loads) (without_load number m) g)) u s alone
 event_fits unit P Q closed_p closed_q (StoreRequest number address bytes enables) f u alone s =
     let stored = at_unit unit (stored_byte address bytes.now enables) in
     requested_store_fits number stored P Q _ f u s
 event_fits unit P Q closed_p closed_q (StoreResponse number) f u alone s =
     answered_store_fits number P Q closed_p
-    (λ m p g. f m _ p (if_true (may_answer_store number m.stores) (Some (without_store number m)) None g)) u s
+    (λ m p g. f m _ p (then_some (may_answer_store number m.stores) (without_store number m) g)) u s
 
 pub event_leads : (unit : UnitPlace) (event : HistoryEvent) (m n : UnitMemory) → seen unit m event ≡ Some n → (u : Ways)
     → Each (IsAsked u.moment) u.loads → Each (IsPairBy u.moment) u.pairs → LeadsTo u m → LeadsTo (ways_after unit u event) n

@@ -1,5 +1,5 @@
 -- What stretches show, of which more are pushed behind those that there are.
-use Rattle.std.proofs.Common.{◌≡◌, ℕ, zero, suc, ◌+◌, ◌<◌, ◌≤◌, false, List, [], ◌∷◌, ◌++◌, fold, length, get_or, length-append}
+use Rattle.std.proofs.Common.{◌≡◌, ℕ, ◌+◌, ◌<◌, ◌≤◌, false, List, [], ◌∷◌, ◌++◌, fold, length, get_or, length-append}
 use Rattle.std.proofs.Common.{append_assoc, refl, sym, ap, ap₂, ◌∙◌, arith}
 use Rattle.std.proofs.lemmas.List.{get_or_append_left, append-nil}
 use Rattle.std.proofs.Math.Seq.{get_or-append_seam}
@@ -12,7 +12,7 @@ use Rattle.atomic_histories.specs.declared.pairs.FollowedPair.{FollowedPair}
 use Rattle.atomic_histories.specs.Pasts.{Past, begins, after, either, is_beginning, merged}
 use Rattle.atomic_histories.specs.Stands.{Each}
 use Rattle.atomic_histories.specs.Shown.{past_at, past_of, pasts, IsIn, Grows, shown, shown_all, AreIn}
-use Rattle.atomic_histories.proofs.Lists.{each_weaker, each_append}
+use Rattle.atomic_histories.proofs.Lists.{each_weaker, each_append, each_nth}
 
 -- One stretch more. ----
 
@@ -55,14 +55,9 @@ more_in ps [] h = h
 more_in ps (s ∷ ss) h =
     more_in _ ss (each_append (λ p. is_beginning p ≡ false) ps _ h (more_of ps s, tt))
 
-more_at : (ps : List Past) (place : ℕ) → place < length ps → Each (λ p. is_beginning p ≡ false) ps
-    → is_beginning (get_or ps place begins) ≡ false
-more_at [] place i h = absurd (omega (arith, i))
-more_at (p ∷ ps) zero i h = h.0
-more_at (p ∷ ps) (suc place) i h = more_at ps place (omega (arith, i)) h.1
-
 pub more_behind : (ss : List Stretch) (place : ℕ) → place < length ss → is_beginning (past_at (pasts ss) (Behind place)) ≡ false
-more_behind ss place i = grind (arith, more_at, length_pasts, more_in)
+more_behind ss place i =
+    each_nth (λ p. is_beginning p ≡ false) (pasts ss) place begins (omega (arith, length_pasts ss, i)) (more_in [] ss tt)
 
 merged_first : (p q : Past) → is_beginning p ≡ false → merged p q ≡ either p q
 merged_first p q h = rw h refl

@@ -14,6 +14,7 @@ use Rattle.atomic_histories.specs.Law.{with_load, with_store, seen}
 use Rattle.atomic_histories.specs.Stands.{Each}
 use Rattle.atomic_histories.specs.May.{lane_of}
 use Rattle.atomic_histories.proofs.Lists.{each_append, each_at, each_replace, each_filter, each_split}
+use Rattle.atomic_histories.proofs.Links.{some_if}
 
 abbrev Word : Type 0
 Word = List (Option ℕ)
@@ -103,10 +104,6 @@ module _ (P : ℕ → ℕ → Type 0) where
         stores = h.stores;
         loads = each_replace (λ x. HasGot x.got) before l _ after (λ p. h.word) each;
       })
-
-  some_if : {X : Type 0} (b : Bool) (x n : X) → (if b then Some x else None) ≡ Some n → x ≡ n
-  some_if true x n h = cc
-  some_if false x n h = cc
 
   holds_requested : (m : UnitMemory) (number address : ℕ) → (b : Bool) → Holds m → Holds (if b then with_load number address m else m)
   holds_requested m number address false h = h

@@ -7,6 +7,7 @@ pub mod AtOnce
 pub mod Bits
 pub mod Events
 pub mod Exact
+pub mod Few
 pub mod Found
 pub mod Frames
 pub mod KeptUnits

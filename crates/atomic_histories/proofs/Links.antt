@@ -25,7 +25,7 @@ use Rattle.atomic_histories.specs.Law.{is_store, is_load, may_answer_load, may_a
 use Rattle.atomic_histories.specs.Law.{without_store, seen, unit_at, is_formed}
 use Rattle.atomic_histories.specs.Stands.{Each, One}
 use Rattle.atomic_histories.specs.Held.{covered, units_of, is_among}
-use Rattle.atomic_histories.proofs.Lists.{one_left, one_last, each_weaker, each_append}
+use Rattle.atomic_histories.proofs.Lists.{one_left, one_last, each_weaker, each_append, each_filter, each_replace, none_filtered}
 
 -- What a store touches. ----
 
@@ -99,29 +99,15 @@ distinct_push (x ∷ xs) o d n =
     (or_from (o.number == x.number) false (eq_false_sym x.number o.number p.0) refl) in
     (first, distinct_push xs o d.1 p.1)
 
-none_filtered : (number m : ℕ) (os : List Operation) → list_any (has_number m) os ≡ false
-    → list_any (has_number m) (without_number number os) ≡ false
-none_filtered number m [] h = refl
-none_filtered number m (x ∷ xs) h =
-    let p = or_parts _ _ h in
-    elim (cases_Bool (has_number number x)) [
-      | inl t ↦ rw t (none_filtered number m xs p.1)
-      | inr f ↦ rw f (or_from (x.number == m) (list_any (has_number m) (without_number number xs)) p.0 (none_filtered number m xs p.1))
-    ]
-
 distinct_filtered : (number : ℕ) (os : List Operation) → AreDistinct os → AreDistinct (without_number number os)
 distinct_filtered number [] d = tt
 distinct_filtered number (x ∷ xs) d = elim (cases_Bool (has_number number x)) [
   | inl t ↦ rw t (distinct_filtered number xs d.1)
-  | inr f ↦ rw f (none_filtered number x.number xs d.0, distinct_filtered number xs d.1)
+  | inr f ↦ rw f (none_filtered (has_number x.number) _ xs d.0, distinct_filtered number xs d.1)
 ]
 
 inside_filtered : (number : ℕ) (os : List Operation) → Each IsInside os → Each IsInside (without_number number os)
-inside_filtered number [] a = tt
-inside_filtered number (x ∷ xs) a = elim (cases_Bool (has_number number x)) [
-  | inl t ↦ rw t (inside_filtered number xs a.1)
-  | inr f ↦ rw f (a.0, inside_filtered number xs a.1)
-]
+inside_filtered number os a = each_filter IsInside _ os a
 
 pub load_allowed : (inside used : Bool) → load_request_fault inside used ≡ None → (inside ≡ true) × (used ≡ false)
 load_allowed false used h = cc
@@ -267,8 +253,8 @@ stores_left unit number os (s ∷ ss) a = elim (cases_Bool (is_store number s)) 
   | inr f ↦ rw f (store_stays unit number s f os a.0, stores_left unit number os ss a.1)
 ]
 
-some_if : {X : Type 0} (b : Bool) (x n : X) → (if b then Some x else None) ≡ Some n → x ≡ n
-some_if true x n h = cc
+pub some_if : {X : Type 0} (b : Bool) (x n : X) → (if b then Some x else None) ≡ Some n → (b ≡ true) × (x ≡ n)
+some_if true x n h = (refl, cc)
 some_if false x n h = cc
 
 load_requested : (unit : UnitPlace) (m n : UnitMemory) (o : Opened) (number address k : ℕ) → IsLinked unit m o → (b : Bool)
@@ -315,7 +301,7 @@ linked_after : (unit : UnitPlace) (m n : UnitMemory) (o : Opened) (event : Histo
     → IsLinked unit n (opened_after o event)
 linked_after unit m n o (LoadRequest number address k) h e = load_requested unit m n o number address k h _ refl e
 linked_after unit m n o (LoadResponse number bytes) h e =
-    let same = some_if _ _ n e in
+    let same = (some_if _ _ n e).1 in
     subst (λ y. IsLinked unit y (opened_after o (LoadResponse number bytes))) same
     (record { loads = keys_left unit number _ o.loads h.loads; stores = h.stores })
 linked_after unit m n o (StoreRequest number address bytes enables) h e =
@@ -323,19 +309,15 @@ linked_after unit m n o (StoreRequest number address bytes enables) h e =
     store_requested unit m n o (record { number = number; address = address; length = length bytes.now }) stored h _
     (λ t. any_lane unit address bytes.now enables (range_with_len 0 8) t) e
 linked_after unit m n o (StoreResponse number) h e =
-    let same = some_if _ _ n e in
+    let same = (some_if _ _ n e).1 in
     subst (λ y. IsLinked unit y (opened_after o (StoreResponse number))) same
     (record { loads = h.loads; stores = stores_left unit number o.stores _ h.stores })
 
 linked_step : (unit : UnitPlace) (m n : UnitMemory) (o : Opened) → IsLinked unit m o → HiddenStep m n → IsLinked unit n o
 linked_step unit m n o h (inl (before, s, after, split, undone, made)) =
     let a = subst (Each (HasStore unit o.stores)) split h.stores in
-    subst (λ y. IsLinked unit y o) (sym made) (record { loads = h.loads; stores = done before a })
-  where
-    done : (xs : List OpenStore) → Each (HasStore unit o.stores) (xs ++ s ∷ after)
-        → Each (HasStore unit o.stores) (xs ++ done_store s ∷ after)
-    done [] a = (a.0, a.1)
-    done (x ∷ xs) a = (a.0, done xs a.1)
+    subst (λ y. IsLinked unit y o) (sym made)
+    (record { loads = h.loads; stores = each_replace (HasStore unit o.stores) before s (done_store s) after (λ p. p) a })
 linked_step unit m n o h (inr (before, l, after, split, undone, made)) =
     let same =
     map-append load_key before _ ∙ sym (map-append load_key before (l ∷ after)) in

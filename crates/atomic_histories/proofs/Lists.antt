@@ -1,7 +1,8 @@
 -- What holds of each element of a list, or of one of them.
-use Rattle.std.proofs.Common.{◌≡◌, ◌⊎◌, Bool, true, List, [], ◌∷◌, ◌++◌, map, filter, inl, inr, refl}
+use Rattle.std.proofs.Common.{◌≡◌, ◌⊎◌, ℕ, zero, suc, ◌<◌, Bool, true, false, List, [], ◌∷◌, ◌++◌, map, filter, length, get_or}
+use Rattle.std.proofs.Common.{inl, inr, refl, arith}
 use Rattle.std.specs.List.{All, list_all, list_any}
-use Rattle.std.proofs.lemmas.Bool.{cases_Bool, and_parts, and_from}
+use Rattle.std.proofs.lemmas.Bool.{cases_Bool, and_parts, and_from, or_parts}
 use Rattle.std.proofs.lemmas.List.Elements.{All-head, All-tail}
 use Rattle.atomic_histories.specs.Stands.{Each, One}
 
@@ -71,6 +72,11 @@ pub each_at : {X : Type 0} (P : X → Type 0) (before : List X) (x : X) (after :
 each_at P [] x after h = h.0
 each_at P (y ∷ before) x after h = each_at P before x after h.1
 
+pub each_nth : {X : Type 0} (P : X → Type 0) (xs : List X) (i : ℕ) (d : X) → i < length xs → Each P xs → P (get_or xs i d)
+each_nth P [] i d h a = absurd (omega arith)
+each_nth P (x ∷ xs) zero d h a = a.0
+each_nth P (x ∷ xs) (suc i) d h a = each_nth P xs i d (omega arith) a.1
+
 -- with one element in place of another
 pub each_replace : {X : Type 0} (P : X → Type 0) (before : List X) (x y : X) (after : List X) → (P x → P y) → Each P (before ++ x ∷ after)
     → Each P (before ++ y ∷ after)
@@ -131,6 +137,15 @@ one_any p (x ∷ xs) (inr h) = elim (cases_Bool (p x)) [
   | inl t ↦ rw t refl
   | inr f ↦ rw f (one_any p xs h)
 ]
+
+pub none_filtered : {X : Type 0} (p q : X → Bool) (xs : List X) → list_any p xs ≡ false → list_any p (filter q xs) ≡ false
+none_filtered p q [] h = refl
+none_filtered p q (x ∷ xs) h =
+    let r = or_parts (p x) _ h in
+    elim (cases_Bool (q x)) [
+      | inl t ↦ rw t (rw r.0 (none_filtered p q xs r.1))
+      | inr f ↦ rw f (none_filtered p q xs r.1)
+    ]
 
 -- a list with a last element is not the empty one
 pub no_snoc : {X : Type 0} (xs : List X) (x : X) → xs ++ x ∷ [] ≡ [] → ⊥

@@ -1,6 +1,6 @@
 -- Steps towards what an open load may return: the sets of its bytes one after the other, and why there are none.
 use Rattle.std.proofs.Common.{◌≡◌, ℕ, zero, suc, ◌+◌, ◌-◌, ◌/◌, ◌%◌, ◌<◌, List, [], ◌∷◌, ◌++◌, length}
-use Rattle.std.proofs.Common.{Option, None, refl, ◌∙◌, arith, Some}
+use Rattle.std.proofs.Common.{Option, None, refl, ◌∙◌, arith, Some, false, is_some}
 use Rattle.std.specs.List.{find}
 use Rattle.std.proofs.lemmas.Bool.{lt-ltb}
 use Rattle.memory_histories.specs.declared.sets.ByteSet.{ByteSet}
@@ -18,12 +18,13 @@ use Rattle.atomic_histories.specs.declared.memory.AtomicFault.{AtomicFault}
 use Rattle.atomic_histories.specs.declared.memory.AtomicFault.TheVariants.{Refused, Undecided, OutOfMemory}
 use Rattle.atomic_histories.specs.declared.search.Stop.{Stop}
 use Rattle.atomic_histories.specs.declared.search.Stop.TheVariants.{TooManyWays, NoMemory}
-use Rattle.atomic_histories.specs.Followed.{first_ways, is_under}
+use Rattle.atomic_histories.specs.Followed.{Ways, first_ways, is_under}
 use Rattle.atomic_histories.specs.Held.{Held}
 use Rattle.atomic_histories.specs.Judge.{bytes_of, fault_of, kept_or}
 use Rattle.atomic_histories.specs.May.{IsSet, is_shown, reached, may_get, may_get_at, address_of, AreSetsFrom, is_reach_wide}
-use Rattle.atomic_histories.specs.May.{IsWideByte, IsWideLoad, IsNoVerdict}
+use Rattle.atomic_histories.specs.May.{is_wide_for, is_wide_at, AreNarrow, IsWideByte, IsWideLoad, IsNoVerdict}
 use Rattle.atomic_histories.specs.Shown.{shown_all, StopIs}
+use Rattle.std.proofs.Math.Bool.{and-false}
 
 -- the lane that a byte lies in
 pub lane_below : (size : UnitSize) (a : ℕ) → a % bytes_of size < 8
@@ -58,6 +59,28 @@ pub known_set : (number k : ℕ) (ss : List Stretch) (ps : List FollowedPair) (l
     → IsSet (λ b. may_get number k b (record { loads = loads; moment = moment; pairs = shown_all ss ps })) set
 known_set number k ss [] loads moment load set h f s = absurd (h refl)
 known_set number k ss (p ∷ ps) loads moment load set h f s = grind arith
+
+-- Few enough pairs where there are sets. ----
+
+pub untouched_narrow : (o : Option KeptUnit) (image : List ℕ) (rest : Rest) (unit : UnitPlace) (limit number : ℕ) → o ≡ None
+    → is_wide_for limit number (kept_or o (first_ways image rest unit)) ≡ false
+untouched_narrow None image rest unit limit number h = refl
+untouched_narrow (Some u) image rest unit limit number h = cc
+
+pub forgotten_narrow : (limit number : ℕ) (ss : List Stretch) (ps : List FollowedPair) (loads : List WatchedLoad) (moment : ℕ)
+    → length ps ≡ 0 → is_wide_for limit number (record { loads = loads; moment = moment; pairs = shown_all ss ps }) ≡ false
+forgotten_narrow limit number ss [] loads moment h = and-false (is_some (find (is_under number) loads))
+forgotten_narrow limit number ss (p ∷ ps) loads moment h = absurd (omega arith)
+
+pub unknown_narrow : (limit number : ℕ) (u : Ways) → find (is_under number) u.loads ≡ None → is_wide_for limit number u ≡ false
+unknown_narrow limit number u f = rw f refl
+
+pub known_narrow : (limit number : ℕ) (u : Ways) → is_reach_wide limit u ≡ false → is_wide_for limit number u ≡ false
+known_narrow limit number u f = rw f (and-false (is_some (find (is_under number) u.loads)))
+
+pub narrow_more : (limit : ℕ) (h : Held) (number a n : ℕ) → AreNarrow limit h number a n
+    → is_wide_at limit h number (address_of a n) ≡ false → AreNarrow limit h number a (n + 1)
+narrow_more limit h number a n f g = λ i l. grind arith
 
 -- the set of the next byte
 sets_pushed : (h : Held) (number a from n : ℕ) (sets : List ByteSet) (set : ByteSet) → AreSetsFrom h number a from n sets

@@ -1,5 +1,5 @@
 -- The pairs on whose ways a load may have got its answer, and the others: what is gathered of them one by one.
-use Rattle.std.proofs.Common.{◌≡◌, ℕ, zero, suc, ◌+◌, ◌<◌, Result, Ok, Err, IfErr, IsErrAnd, true, false, List, [], ◌∷◌, ◌++◌}
+use Rattle.std.proofs.Common.{◌≡◌, ℕ, ◌+◌, ◌<◌, Result, Ok, Err, IfErr, IsErrAnd, true, false, List, [], ◌∷◌, ◌++◌}
 use Rattle.std.proofs.Common.{filter, length, drop, get_or, Option, refl, sym, ap, ◌∙◌, subst, append_assoc, add-one, drop-cons}
 use Rattle.std.proofs.Common.{arith}
 use Rattle.atomic_histories.specs.declared.unit.UnitPlace.{UnitPlace}
@@ -13,16 +13,10 @@ use Rattle.atomic_histories.specs.Pasts.{got, missed}
 use Rattle.atomic_histories.specs.Branches.{may_come}
 use Rattle.atomic_histories.specs.Followed.{Pair, Aim, word_aim, is_answer, cons_any, pair_on, pair_missed, gathered}
 use Rattle.atomic_histories.specs.Followed.{with_hope}
-use Rattle.atomic_histories.specs.Stands.{Each}
 use Rattle.atomic_histories.specs.Shares.{got_of, missed_of, past_any, IsShare}
 use Rattle.atomic_histories.specs.Parts.{IsPart, AreParts}
 use Rattle.atomic_histories.specs.Shown.{past_at, pasts, shown, shown_all, IsIn, AreIn, Grows}
 use Rattle.atomic_histories.proofs.Frames.{in_grown, past_grown}
-
-pub each_nth : {X : Type 0} (P : X → Type 0) (xs : List X) (i : ℕ) (d : X) → i < length xs → Each P xs → P (get_or xs i d)
-each_nth P [] i d h a = absurd (omega arith)
-each_nth P (x ∷ xs) zero d h a = a.0
-each_nth P (x ∷ xs) (suc i) d h a = each_nth P xs i d (omega arith) a.1
 
 -- one part more of what is gathered so
 pub part_more : (gather : List Pair → List Pair) (part : Pair → List Pair)

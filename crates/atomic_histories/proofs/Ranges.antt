@@ -1,7 +1,7 @@
 -- The units that bytes lie in, and steps of the loops over units.
 use Rattle.std.proofs.Common.{◌≡◌, ℕ, zero, suc, ◌+◌, ◌-◌, ◌*◌, ◌/◌, ◌<◌, ◌≤◌, true, false, ◌&&◌, ◌||◌, ◌==◌, if◌then◌else◌}
 use Rattle.std.proofs.Common.{nat_lt, nat_le, List, [], ◌∷◌, ◌++◌, map, length, Option, None, Some, inl, inr, refl, sym, ap, ◌∙◌}
-use Rattle.std.proofs.Common.{ne_eqb, eq-eqb, append_assoc, ltb-true, arith, ◌⊎◌, Result, Ok, Err, IfErr}
+use Rattle.std.proofs.Common.{ne_eqb, eq-eqb, append_assoc, ltb-true, arith, ◌⊎◌, Result, Ok, Err, IfErr, OnOk, subst}
 use Rattle.std.proofs.lemmas.Bool.{cases_Bool, cases_eq, cases_lt, and_from, and_parts, or_cases, or_left, or_right}
 use Rattle.std.proofs.lemmas.Bool.{lt-ltb, le-ltb, lt-leb, le-leb}
 use Rattle.std.proofs.lemmas.List.{map-append}
@@ -14,10 +14,11 @@ use Rattle.atomic_histories.specs.declared.memory.UnitSize.TheVariants.{One, Two
 use Rattle.atomic_histories.specs.declared.memory.AtomicFault.{AtomicFault}
 use Rattle.atomic_histories.specs.declared.memory.AtomicFault.TheVariants.{Refused, Undecided, OutOfMemory}
 use Rattle.atomic_histories.specs.declared.search.TheConstants.{MOST_WORDS}
+use Rattle.std.specs.Result.{result_err}
 use Rattle.atomic_histories.specs.Operations.{form_fault}
 use Rattle.atomic_histories.specs.Law.{unit_at}
 use Rattle.atomic_histories.specs.Followed.{Ways, no_ways, first_ways, needs_too_many, is_too_wide}
-use Rattle.atomic_histories.specs.Held.{Held, covered, unit_after, units_of, changed, ways_from, is_stuck, stuck_from}
+use Rattle.atomic_histories.specs.Held.{Held, covered, unit_after, units_of, changed, ways_from, is_stuck}
 use Rattle.atomic_histories.specs.Held.{is_over_at, halt_from}
 use Rattle.atomic_histories.specs.declared.unit.UnitPlace.{UnitPlace}
 use Rattle.atomic_histories.specs.Shown.{shown_unit, words_in, StopIs}
@@ -25,8 +26,9 @@ use Rattle.atomic_histories.specs.declared.search.Stop.{Stop}
 use Rattle.atomic_histories.specs.declared.search.Stop.TheVariants.{TooManyWays, NoMemory}
 use Rattle.atomic_histories.specs.declared.unit.Operation.{Operation}
 use Rattle.atomic_histories.specs.Judge.{bytes_of, fault_of, ChangedFaultIs, kept_or, kept_at, words_of, put_from, UnitFaultIs}
-use Rattle.atomic_histories.specs.Judge.{ChangeFaultIs, KeptFaultIs}
-use Rattle.atomic_histories.specs.Told.{HaltIs}
+use Rattle.atomic_histories.specs.Few.{AreFew}
+use Rattle.atomic_histories.specs.Told.{HaltIs, IsToldOf}
+use Rattle.atomic_histories.proofs.Few.{few_more}
 
 pub units_fit : (size : UnitSize) (a n : ℕ) → a < 18446744073709551616
     → (a / bytes_of size + units_of (bytes_of size) a n) * bytes_of size ≤ 18446744073709551616
@@ -65,35 +67,7 @@ ways_more h event us u from count j l e =
     ap (λ t. t ++ tail) (map-append shown_unit us (u ∷ [])) ∙ (append_assoc _ _ tail
     ∙ (ap (λ x. map shown_unit us ++ x ∷ tail) e ∙ ap (λ t. map shown_unit us ++ t) (sym (ways_step h event from count j l))))
 
-pub stuck_step : (h : Held) (event : HistoryEvent) (from count j : ℕ) → j < count → is_stuck h event (from + j) ≡ false
-    → stuck_from h event (from + (j + 1)) (count - (j + 1)) ≡ stuck_from h event (from + j) (count - j)
-stuck_step h event from count j l f =
-    let left : count - j ≡ suc (count - (j + 1)) = omega arith in
-    let next : from + j + 1 ≡ from + (j + 1) = omega arith in
-    rw (left, f, ← next) refl
-
-stuck_here : (h : Held) (event : HistoryEvent) (k n : ℕ) → 0 < n → is_stuck h event k ≡ true → stuck_from h event k n ≡ Some k
-stuck_here h event k zero l t = absurd (omega arith)
-stuck_here h event k (suc n) l t = rw t refl
-
--- what is said of one unit is said of all of them, if those before it have ways
-pub fault_at : (fault : AtomicFault) (limit : ℕ) (h : Held) (event : HistoryEvent) (from count j : ℕ) → j < count
-    → stuck_from h event (from + j) (count - j) ≡ stuck_from h event from count → UnitFaultIs limit h event (from + j) fault
-    → ChangeFaultIs limit h event from count fault
-fault_at (Refused cause) limit h event from count j l same f = grind (arith, stuck_here)
-fault_at (Undecided address) limit h event from count j l same f = (from + j, omega arith, omega arith, f.0, f.1)
-fault_at OutOfMemory limit h event from count j l same f = tt
-
--- what is said of the units that an event touches
-pub faults_of : {A : Type 0} (r : Result A AtomicFault) (limit : ℕ) (h : Held) (event : HistoryEvent) (from count address length : ℕ)
-    → (address, length) ≡ covered h.opened event → from ≡ address / h.size → count ≡ units_of h.size address length
-    → form_fault h.opened event ≡ None → IfErr r (ChangeFaultIs limit h event from count) → IfErr r (KeptFaultIs limit h event)
-faults_of (Ok x) limit h event from count address length at_ here many formed f = tt
-faults_of (Err (Refused cause)) limit h event from count address length at_ here many formed f = grind arith
-faults_of (Err (Undecided a)) limit h event from count address length at_ here many formed f = grind arith
-faults_of (Err OutOfMemory) limit h event from count address length at_ here many formed f = formed
-
--- The same of the first unit at which it halts. ----
+-- The first unit at which an event halts. ----
 
 pub halt_step : (limit : ℕ) (h : Held) (event : HistoryEvent) (from count j : ℕ) → j < count → is_stuck h event (from + j) ≡ false
     → is_over_at limit h event (from + j) ≡ false
@@ -117,19 +91,47 @@ wide_cases limit unit words u (StoreRequest number address bytes enables) t = cc
 wide_cases limit unit words u (StoreResponse number) t = grind (arith, or_cases, and_parts, ltb-true)
 
 pub halt_at : (fault : AtomicFault) (limit : ℕ) (h : Held) (event : HistoryEvent) (from count j : ℕ) → j < count
-    → halt_from limit h event (from + j) (count - j) ≡ halt_from limit h event from count → UnitFaultIs limit h event (from + j) fault
+    → halt_from limit h event (from + j) (count - j) ≡ halt_from limit h event from count → AreFew h event from (from + j)
+    → UnitFaultIs limit h event (from + j) fault
     → HaltIs limit h event from count fault
-halt_at (Refused cause) limit h event from count j l same f =
-    (from + j, sym same ∙ halt_here limit h event _ _ (omega arith) (or_left _ _ f.0), f.2, f.1)
-halt_at (Undecided address) limit h event from count j l same f = (
+halt_at (Refused cause) limit h event from count j l same few f = (
   from + j,
+  sym same ∙ halt_here limit h event _ _ (omega arith) (or_left _ _ f.0),
+  f.2,
+  f.1,
+  few_more h event from (from + j) _ refl few f.3,
+)
+halt_at (Undecided address) limit h event from count j l same few f = (
+  from + j,
+  omega arith,
+  omega arith,
   f.0,
+  f.1,
   elim (wide_cases limit (unit_at h.size (from + j)) (h.words (from + j)) (h.units (from + j)) event f.1) [
-    | inl many ↦ inr (omega arith, omega arith, many)
+    | inl many ↦ inr many
     | inr over ↦ inl (sym same ∙ halt_here limit h event _ _ (omega arith) (or_right _ _ over), over)
   ],
+  few,
 )
-halt_at OutOfMemory limit h event from count j l same f = tt
+halt_at OutOfMemory limit h event from count j l same few f = tt
+
+-- what is told of the units that an event touches
+pub told_from : {A : Type 0} (r : Result A AtomicFault) (limit : ℕ) (h : Held) (event : HistoryEvent) (from count address length : ℕ)
+    → (address, length) ≡ covered h.opened event → from ≡ address / h.size → count ≡ units_of h.size address length
+    → form_fault h.opened event ≡ None → OnOk r (halt_from limit h event from count ≡ None)
+    → OnOk r (AreFew h event from (from + count)) → IfErr r (HaltIs limit h event from count) → IsToldOf limit h event (result_err r)
+told_from r limit h event from count address length at_ here many formed = told r
+  where
+    there : (P : ℕ → ℕ → Type 0) → P from count → P ((covered h.opened event).0 / h.size)
+        (units_of h.size (covered h.opened event).0 (covered h.opened event).1)
+    there P p =
+        subst (λ (a : ℕ × ℕ). P (a.0 / h.size) (units_of h.size a.0 a.1)) at_
+        (subst (λ k. P k (units_of h.size address length)) here (subst (P from) many p))
+
+    told : {A : Type 0} (r : Result A AtomicFault) → OnOk r (halt_from limit h event from count ≡ None)
+        → OnOk r (AreFew h event from (from + count)) → IfErr r (HaltIs limit h event from count) → IsToldOf limit h event (result_err r)
+    told (Ok x) halt few e = (formed, (there (λ k n. halt_from limit h event k n ≡ None) halt, there (λ k n. AreFew h event k (k + n)) few))
+    told (Err x) halt few e = inr (formed, there (λ k n. HaltIs limit h event k n x) e)
 
 -- Units that are put one by one, the last first. ----
 

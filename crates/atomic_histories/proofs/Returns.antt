@@ -31,6 +31,7 @@ use Rattle.atomic_histories.proofs.Found.{leads_split, sound_joint, sound_kept, 
 use Rattle.atomic_histories.proofs.Found.{LeadsWithin}
 use Rattle.atomic_histories.proofs.Links.{fit_by, found_fit, inside_end}
 use Rattle.atomic_histories.proofs.Whole.{alone_under}
+use Rattle.atomic_histories.proofs.Paths.{some_path}
 
 abbrev Word : Type 0
 Word = List (Option ℕ)
@@ -118,16 +119,11 @@ past_shows is since begins h = cc
 past_shows is since (after w t p) h = elim (or_cases _ _ h) [
   | inl y ↦
       let q = and_parts (nat_le since t) (is w) y in
-      let r = some_way p in
+      let r = some_path p in
       (stood w t ∷ r.0, (r.0, refl, r.1), rw q.0 (or_left (is w) (list_any is (seen_since since r.0)) q.1))
   | inr n ↦ let r = past_shows is since p n in (stood w t ∷ r.0, (r.0, refl, r.1), more r.0 r.2)
 ]
   where
-    some_way : (q : Past) → (path : List Stood) × Has q path
-    some_way begins = ([], refl)
-    some_way (after x s q) = let r = some_way q in (stood x s ∷ r.0, (r.0, refl, r.1))
-    some_way (either a b) = let r = some_way a in (r.0, inl r.1)
-
     more : (path : List Stood) → list_any is (seen_since since path) ≡ true → list_any is (seen_since since (stood w t ∷ path)) ≡ true
     more path y = elim (cases_Bool (nat_le since t)) [
       | inl s ↦ rw s (or_right (is w) (list_any is (seen_since since path)) y)
@@ -188,7 +184,7 @@ module _ (loads : List WatchedLoad) (moment : ℕ) (asked : Each (IsAsked moment
       → (path : List Stood) × Has e.past path × (list_any (shows_load number k b (way_on loads e path)) (map (watched path) loads) ≡ true)
   way_shows e h = elim (or_cases _ _ h) [
     | inl y ↦
-        let r = any_way e.past in (
+        let r = some_path e.past in (
           r.0,
           r.1,
           found_any _ _ _ (is_watched number)
@@ -206,11 +202,6 @@ module _ (loads : List WatchedLoad) (moment : ℕ) (asked : Each (IsAsked moment
               (or_right (is e.word) (list_any is (seen_since l.since r.0)) r.2)),
         )
   ]
-    where
-      any_way : (q : Past) → (path : List Stood) × Has q path
-      any_way begins = ([], refl)
-      any_way (after x s q) = let r = any_way q in (stood x s ∷ r.0, (r.0, refl, r.1))
-      any_way (either x y) = let r = any_way x in (r.0, inl r.1)
 
   module _ (P : UnitMemory → Type 0) (closed : (m n : UnitMemory) → P m → HiddenStep m n → P n) where
     abbrev Sound : Pair → Type 0
@@ -329,12 +320,9 @@ module _ (loads : List WatchedLoad) (moment : ℕ) (asked : Each (IsAsked moment
           let Q = OneWay loads (λ x. Leads x m) in
           let n = rounds es in
           let ways =
-          one_weaker (λ e. Q e × (undone e.stores ≤ n)) _ (λ e p. (p.0.0, p.0.1, (p.0.2, within e p.1))) es
+          one_weaker (λ e. Q e × (undone e.stores ≤ n)) _ (λ e p. (p.0.0, p.0.1, (p.0.2, omega (arith, p.1)))) es
           (one_rounds Q 0 es h) in
           list_any-append shown es _ ∙ comes_there n es ways
-        where
-          within : (e : Pair) → undone e.stores ≤ rounds es → undone e.stores < suc (rounds es)
-          within e l = omega arith
 
 -- One unit. ----
 

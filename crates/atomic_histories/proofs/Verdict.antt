@@ -2,6 +2,7 @@
 use Rattle.std.proofs.Common.{◌≡◌, ℕ, ◌*◌, ◌≤◌, Bool, true, false, if◌then◌else◌, List, [], ◌∷◌, ◌++◌, length, fold, Option}
 use Rattle.std.proofs.Common.{Some, None, is_none, Result, Ok, Err, IfOk, IfErr, OnOk, OnErr, inl, inr, refl, sym, ap, ◌∙◌, subst}
 use Rattle.std.specs.List.{list_any, find}
+use Rattle.std.specs.Result.{result_err}
 use Rattle.std.proofs.lemmas.Bool.{and_parts}
 use Rattle.memory_histories.specs.declared.events.HistoryEvent.{HistoryEvent}
 use Rattle.memory_histories.specs.declared.events.HistoryEvent.TheVariants.{LoadRequest, LoadResponse, StoreRequest, StoreResponse}
@@ -14,12 +15,13 @@ use Rattle.atomic_histories.specs.declared.unit.Operation.{Operation}
 use Rattle.atomic_histories.specs.Operations.{Opened, none_opened, opened_after, opened_by, has_number, answer_fault, form_fault}
 use Rattle.atomic_histories.specs.Law.{is_formed, IsAtomic, IsWrongPlace, FaultIs}
 use Rattle.atomic_histories.specs.Lost.{IsAtomicBut, IsWrongPlaceBut, FaultIsBut}
-use Rattle.atomic_histories.specs.Held.{Held, nothing_held, first_stuck, StandsBut}
+use Rattle.atomic_histories.specs.Held.{Held, nothing_held, is_over_at, first_halt, IsWide, StandsBut}
 use Rattle.atomic_histories.specs.declared.memory.AtomicFault.{AtomicFault}
 use Rattle.atomic_histories.specs.declared.memory.AtomicMemory.{AtomicMemory}
 use Rattle.atomic_histories.specs.declared.memory.AtomicFault.TheVariants.{Refused, Undecided, OutOfMemory}
-use Rattle.atomic_histories.specs.Judge.{held, place_from, place_in, HasSameMemory, IsTaken, IsForgotten, KeptFaultIs, StepFaultIs}
+use Rattle.atomic_histories.specs.Judge.{held, place_from, place_in, HasSameMemory, IsTaken, IsForgotten, StepFaultIs}
 use Rattle.atomic_histories.specs.Judge.{StepFaultIsBut}
+use Rattle.atomic_histories.specs.Told.{IsToldOf}
 use Rattle.atomic_histories.proofs.Links.{open_load, none_is}
 use Rattle.atomic_histories.proofs.Whole.{stands_all_first, stands_all_after, atomic_after, refused_at, only_answers}
 use Rattle.atomic_histories.proofs.Wide.{wide_kept}
@@ -83,44 +85,53 @@ malformed lost h event cause f history s =
 
 -- Wrong bytes. ----
 
-wrong : (lost : List ℕ) (h : Held) (event : HistoryEvent) (k : ℕ) → form_fault h.opened event ≡ None → first_stuck h event ≡ Some k
+wrong : (lost : List ℕ) (limit : ℕ) (h : Held) (event : HistoryEvent) (k : ℕ) → form_fault h.opened event ≡ None
+    → first_halt limit h event ≡ Some k → is_over_at limit h event k ≡ false
     → (history : List HistoryEvent) → StandsBut h lost history
     → FaultIsBut lost h.image h.rest h.size history event (WrongByte (place_in h.opened.loads event (k * h.size)))
     × ¬ (IsAtomicBut lost h.image h.rest h.size (history ++ event ∷ []))
-wrong lost h (LoadResponse number bytes) k f e history s =
+wrong lost limit h (LoadResponse number bytes) k f e few history s =
     let event = LoadResponse number bytes in
-    let r = refused_at h lost history event s f k e in
+    let r = refused_at h lost history event s f limit k e few in
     let same = ap (λ o. form_fault o event) (sym s.opened) ∙ f in
     let o = open_load (find (has_number number) h.opened.loads) (length bytes.now) f in
     let found =
     ap (λ x. find (has_number number) x.loads) (sym s.opened) ∙ o.1 in
     let place = ap (λ x. place_from x (k * h.size)) o.1 in
     ((same, (k, o.0, found, place, r.0, r.1, r.2)), λ a. r.1 (a.moments k r.0))
-wrong lost h (LoadRequest number address n) k f e history s = absurd (only_answers h lost history (LoadRequest number address n) s f tt k e)
-wrong lost h (StoreRequest number address bytes enables) k f e history s =
-    absurd (only_answers h lost history (StoreRequest number address bytes enables) s f tt k e)
-wrong lost h (StoreResponse number) k f e history s = absurd (only_answers h lost history (StoreResponse number) s f tt k e)
+wrong lost limit h (LoadRequest number address n) k f e few history s =
+    absurd (only_answers h lost history (LoadRequest number address n) s f tt limit k e few)
+wrong lost limit h (StoreRequest number address bytes enables) k f e few history s =
+    absurd (only_answers h lost history (StoreRequest number address bytes enables) s f tt limit k e few)
+wrong lost limit h (StoreResponse number) k f e few history s =
+    absurd (only_answers h lost history (StoreResponse number) s f tt limit k e few)
 
 -- Answers, once units were forgotten. ----
 
-pub fault_law_but : (limit : ℕ) (h : Held) (event : HistoryEvent) (e : AtomicFault) → KeptFaultIs limit h event e
+pub fault_law_but : (limit : ℕ) (h : Held) (event : HistoryEvent) (e : AtomicFault) → IsToldOf limit h event (Some e)
     → (lost : List ℕ) (history : List HistoryEvent) → StandsBut h lost history
     → StepFaultIsBut lost limit h history event e
-fault_law_but limit h event (Refused cause) (inl f) lost history s = malformed lost h event cause f history s
+fault_law_but limit h event (Refused cause) (inl f) lost history s =
+    let same : f.0 ≡ cause = cc in malformed lost h event cause (f.1 ∙ ap Some same) history s
 fault_law_but limit h event (Refused cause) (inr p) lost history s =
-    subst (λ c. StepFaultIsBut lost limit h history event (Refused c)) (sym p.1.2) (wrong lost h event p.1.0 p.0 p.1.1 history s)
-fault_law_but limit h event (Undecided address) f lost history s =
-    (ap (λ o. form_fault o event) (sym s.opened) ∙ f.0, f.1, wide_kept limit h lost history event address s f.1)
-fault_law_but limit h event OutOfMemory f lost history s = ap (λ o. form_fault o event) (sym s.opened) ∙ f
+    subst (λ c. StepFaultIsBut lost limit h history event (Refused c)) (sym p.1.3)
+    (wrong lost limit h event p.1.0 p.0 p.1.1 p.1.2 history s)
+fault_law_but limit h event (Undecided address) (inl f) lost history s = cc
+fault_law_but limit h event (Undecided address) (inr p) lost history s =
+    let wide : IsWide limit h event address = (p.1.0, p.1.1, p.1.2, p.1.3, p.1.4) in
+    (ap (λ o. form_fault o event) (sym s.opened) ∙ p.0, wide, wide_kept limit h lost history event address s wide)
+fault_law_but limit h event OutOfMemory (inl f) lost history s = cc
+fault_law_but limit h event OutOfMemory (inr p) lost history s = ap (λ o. form_fault o event) (sym s.opened) ∙ p.0
 
-pub accepted_but : (r : Result (Unit {0}) AtomicFault) (h next : Held) (event : HistoryEvent) → OnOk r (IsTaken h event next)
+pub accepted_but : (r : Result (Unit {0}) AtomicFault) (limit : ℕ) (h next : Held) (event : HistoryEvent)
+    → IsToldOf limit h event (result_err r) → OnOk r (IsTaken h event next)
     → (lost : List ℕ) (history : List HistoryEvent) → StandsBut h lost history
     → OnOk r (IsAtomicBut lost h.image h.rest h.size (history ++ event ∷ []) × StandsBut next lost (history ++ event ∷ []))
-accepted_but (Ok u) h next event t lost history s =
-    (atomic_after h lost history event s t.formed t.ways, stands_all_after h lost history event s t.formed next t)
-accepted_but (Err e) h next event t lost history s = tt
+accepted_but (Ok u) limit h next event told t lost history s =
+    (atomic_after h lost history event s told.0 limit told.1.0, stands_all_after h lost history event s told.0 limit told.1.0 next t)
+accepted_but (Err e) limit h next event told t lost history s = tt
 
-pub refused_but : (r : Result (Unit {0}) AtomicFault) (limit : ℕ) (h : Held) (event : HistoryEvent) → IfErr r (KeptFaultIs limit h event)
+pub refused_but : (r : Result (Unit {0}) AtomicFault) (limit : ℕ) (h : Held) (event : HistoryEvent) → IsToldOf limit h event (result_err r)
     → (lost : List ℕ) (history : List HistoryEvent) → StandsBut h lost history
     → IfErr r (StepFaultIsBut lost limit h history event)
 refused_but (Ok u) limit h event f lost history s = tt
@@ -161,18 +172,19 @@ step_fault_all limit h history event (Refused cause) p =
 step_fault_all limit h history event (Undecided address) p = (p.0, p.1)
 step_fault_all limit h history event OutOfMemory p = p
 
-pub fault_law : (limit : ℕ) (h : Held) (event : HistoryEvent) (e : AtomicFault) → KeptFaultIs limit h event e
+pub fault_law : (limit : ℕ) (h : Held) (event : HistoryEvent) (e : AtomicFault) → IsToldOf limit h event (Some e)
     → (history : List HistoryEvent) → StandsBut h [] history → StepFaultIs limit h history event e
 fault_law limit h event e f history s = step_fault_all limit h history event e (fault_law_but limit h event e f [] history s)
 
-pub accepted_law : (r : Result (Unit {0}) AtomicFault) (h next : Held) (event : HistoryEvent) → OnOk r (IsTaken h event next)
+pub accepted_law : (r : Result (Unit {0}) AtomicFault) (limit : ℕ) (h next : Held) (event : HistoryEvent)
+    → IsToldOf limit h event (result_err r) → OnOk r (IsTaken h event next)
     → (history : List HistoryEvent) → StandsBut h [] history
     → OnOk r (IsAtomic h.image h.rest h.size (history ++ event ∷ []) × StandsBut next [] (history ++ event ∷ []))
-accepted_law (Ok u) h next event t history s =
-    let a = accepted_but (Ok u) h next event t [] history s in (to_atomic h.image h.rest h.size _ a.0, a.1)
-accepted_law (Err e) h next event t history s = tt
+accepted_law (Ok u) limit h next event told t history s =
+    let a = accepted_but (Ok u) limit h next event told t [] history s in (to_atomic h.image h.rest h.size _ a.0, a.1)
+accepted_law (Err e) limit h next event told t history s = tt
 
-pub refused_law : (r : Result (Unit {0}) AtomicFault) (limit : ℕ) (h : Held) (event : HistoryEvent) → IfErr r (KeptFaultIs limit h event)
+pub refused_law : (r : Result (Unit {0}) AtomicFault) (limit : ℕ) (h : Held) (event : HistoryEvent) → IsToldOf limit h event (result_err r)
     → (history : List HistoryEvent) → StandsBut h [] history
     → IfErr r (StepFaultIs limit h history event)
 refused_law (Ok u) limit h event f history s = tt

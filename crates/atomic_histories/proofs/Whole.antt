@@ -1,5 +1,5 @@
 -- All units together: what is kept after an event is of the history with it, and an event is refused exactly if it is none of the law.
-use Rattle.std.proofs.Common.{◌≡◌, ℕ, zero, suc, ◌+◌, ◌/◌, ◌<◌, ◌≤◌, Bool, true, false, not, ◌==◌, if◌then◌else◌}
+use Rattle.std.proofs.Common.{◌≡◌, ℕ, zero, suc, ◌+◌, ◌/◌, ◌<◌, ◌≤◌, Bool, true, false, ◌||◌, not, ◌==◌, if◌then◌else◌}
 use Rattle.std.proofs.Common.{List, [], ◌∷◌, ◌++◌, map, fold, Option, Some, None, is_some, Result, Ok, Err, OnOk}
 use Rattle.std.proofs.Common.{inl, inr, refl, sym, ap, ◌∙◌, subst, append_assoc, append-nil, arith}
 use Rattle.std.specs.List.{list_any, list_all, find}
@@ -22,10 +22,10 @@ use Rattle.atomic_histories.specs.Followed.{ways_with_store, ways_after}
 use Rattle.atomic_histories.specs.Pasts.{Stood}
 use Rattle.atomic_histories.specs.Stands.{One, OneWay, AreWatched, Leads, StandsFor}
 use Rattle.atomic_histories.specs.Held.{Held, nothing_held, covered, units_of, is_among, changed, unit_after, is_without, is_stuck}
-use Rattle.atomic_histories.specs.Held.{stuck_from, first_stuck, Stands, is_lost, StandsBut}
+use Rattle.atomic_histories.specs.Held.{is_over_at, halt_from, first_halt, Stands, is_lost, StandsBut}
 use Rattle.atomic_histories.specs.Lost.{IsAtomicBut}
 use Rattle.atomic_histories.specs.Judge.{IsTaken, IsForgotten}
-use Rattle.atomic_histories.proofs.Alone.{IsAlone, alone}
+use Rattle.atomic_histories.proofs.Alone.{IsAlone, alone, or_first}
 use Rattle.atomic_histories.proofs.Exact.{IsAloneFor, stands_first, stands_after, stands_passed, some_state}
 use Rattle.atomic_histories.proofs.Links.{fit_by, linked, open_load, opened_more, passes, then_some}
 
@@ -173,33 +173,34 @@ way_left start unit history (StoreResponse number) a u s h =
     let after = stands_after start unit u history (StoreResponse number) tt s in
     pair_from_one (OneWay u.loads (λ b. Leads b n.0)) (ways_after unit u (StoreResponse number)).pairs (after.complete n.0 n.1)
 
--- The first unit that is stuck. ----
+-- The first unit at which an event halts. ----
 
-pub stuck_none : (h : Held) (event : HistoryEvent) (k n : ℕ) → stuck_from h event k n ≡ None → (j : ℕ) → k ≤ j → j < k + n
-    → is_stuck h event j ≡ false
-stuck_none h event k zero e j l m = absurd (omega arith)
-stuck_none h event k (suc n) e j l m = elim (cases_Bool (is_stuck h event k)) [
+pub stuck_none : (limit : ℕ) (h : Held) (event : HistoryEvent) (k n : ℕ) → halt_from limit h event k n ≡ None → (j : ℕ) → k ≤ j
+    → j < k + n → is_stuck h event j ≡ false
+stuck_none limit h event k zero e j l m = absurd (omega arith)
+stuck_none limit h event k (suc n) e j l m = elim (cases_Bool (is_stuck h event k || is_over_at limit h event k)) [
   | inl t ↦ let x : Some k ≡ None = rw t at e in cc
   | inr f ↦ elim (cases_lt k j) [
-    | inl more ↦ stuck_none h event (k + 1) n (rw f at e) j (omega arith) (omega arith)
-    | inr same ↦ let i : k ≡ j = omega arith in subst (λ x. is_stuck h event x ≡ false) i f
+    | inl more ↦ stuck_none limit h event (k + 1) n (rw f at e) j (omega arith) (omega arith)
+    | inr same ↦ let i : k ≡ j = omega arith in subst (λ x. is_stuck h event x ≡ false) i (or_parts _ _ f).0
   ]
 ]
 
-pub stuck_some : (h : Held) (event : HistoryEvent) (k n i : ℕ) → stuck_from h event k n ≡ Some i
+pub stuck_some : (limit : ℕ) (h : Held) (event : HistoryEvent) (k n i : ℕ) → halt_from limit h event k n ≡ Some i
+    → is_over_at limit h event i ≡ false
     → (is_stuck h event i ≡ true) × ((j : ℕ) → k ≤ j → j < i → is_stuck h event j ≡ false)
-stuck_some h event k zero i e = cc
-stuck_some h event k (suc n) i e = elim (cases_Bool _) [
+stuck_some limit h event k zero i e few = cc
+stuck_some limit h event k (suc n) i e few = elim (cases_Bool (is_stuck h event k || is_over_at limit h event k)) [
   | inl t ↦
       let x : Some k ≡ Some i = rw t at e in
       let same : k ≡ i = cc in
-      (subst (λ y. is_stuck h event y ≡ true) same t, λ j l m. absurd (omega arith))
+      (or_first _ _ (subst (λ y. (is_stuck h event y || is_over_at limit h event y) ≡ true) same t) few, λ j l m. absurd (omega arith))
   | inr f ↦
-      let r = stuck_some h event (k + 1) n i (rw f at e) in (
+      let r = stuck_some limit h event (k + 1) n i (rw f at e) few in (
         r.0,
         λ j l m. elim (cases_lt k j) [
           | inl more ↦ r.1 j (omega arith) m
-          | inr same ↦ let s : k ≡ j = omega arith in subst (λ x. is_stuck h event x ≡ false) s f
+          | inr same ↦ let s : k ≡ j = omega arith in subst (λ x. is_stuck h event x ≡ false) s (or_parts _ _ f).0
         ],
       )
 ]
@@ -298,14 +299,14 @@ module _ (h : Held) (lost : List ℕ) (history : List HistoryEvent) (event : His
   range k t = grind arith
 
   -- the ways of each unit after an event that leaves them some
-  after_at : first_stuck h event ≡ None → (k : ℕ)
+  after_at : (limit : ℕ) → first_halt limit h event ≡ None → (k : ℕ)
       → (is_lost k lost ≡ false) × (Stands h.image h.rest history (unit_at h.size k) (h.units k) × (has_way (h.units k) ≡ true))
       → Now k (unit_after h event k) × (has_way (unit_after h event k) ≡ true)
-  after_at none k a = elim (cases_Bool _) [
+  after_at limit none k a = elim (cases_Bool _) [
     | inl t ↦
         let r = range k t in
         let w =
-        way_stays (h.units k) (changed h event k) (stuck_none h event first count none k r.0 r.1) a.1.1 in
+        way_stays (h.units k) (changed h event k) (stuck_none limit h event first count none k r.0 r.1) a.1.1 in
         rw t (touched k a.1.0 a.1.1, w)
     | inr f ↦ rw f (passed k f a.1.0, a.1.1)
   ]
@@ -320,15 +321,16 @@ module _ (h : Held) (lost : List ℕ) (history : List HistoryEvent) (event : His
   formed_after = grind (arith, formed_more, formless)
 
   -- an event that leaves each unit a way
-  pub stands_all_after : (next : Held) → IsTaken h event next → StandsBut next lost (history ++ event ∷ [])
-  stands_all_after next t = record {
+  pub stands_all_after : (limit : ℕ) → first_halt limit h event ≡ None → (next : Held) → IsTaken h event next
+      → StandsBut next lost (history ++ event ∷ [])
+  stands_all_after limit none next t = record {
     sized = grind arith;
     formed = formed_after;
     opened = t.opened ∙ (cc (s.opened, opened_more none_opened history event));
     units = λ k. elim (s.units k) [
       | inl a ↦ inl (a.0, ap has_way (t.units k) ∙ lost_after k a.1)
       | inr a ↦
-          let r = after_at t.ways k a in
+          let r = after_at limit none k a in
           inr (a.0, (same next t k (rw (sym (t.units k)) at r.0), subst (λ u. has_way u ≡ true) (sym (t.units k)) r.1))
     ];
   }
@@ -337,22 +339,22 @@ module _ (h : Held) (lost : List ℕ) (history : List HistoryEvent) (event : His
           → Stands next.image next.rest (history ++ event ∷ []) (unit_at next.size k) (next.units k)
       same next t k a = grind arith
 
-  pub atomic_after : first_stuck h event ≡ None → IsAtomicBut lost h.image h.rest h.size (history ++ event ∷ [])
-  atomic_after none = record {
+  pub atomic_after : (limit : ℕ) → first_halt limit h event ≡ None → IsAtomicBut lost h.image h.rest h.size (history ++ event ∷ [])
+  atomic_after limit none = record {
     formed = formed_after;
     moments = λ k there. elim (s.units k) [
       | inl a ↦ let y = sym a.0 ∙ there in cc
-      | inr a ↦ let r = after_at none k a in state_from _ _
+      | inr a ↦ let r = after_at limit none k a in state_from _ _
           _ _ r.0 r.1
     ];
   }
 
   -- an event that leaves a unit no way
-  pub refused_at : (k : ℕ) → first_stuck h event ≡ Some k
+  pub refused_at : (limit k : ℕ) → first_halt limit h event ≡ Some k → is_over_at limit h event k ≡ false
       → (is_lost k lost ≡ false) × (¬ (IsAtomicAt h.image h.rest (unit_at h.size k) (history ++ event ∷ [])))
       × ((j : ℕ) → j < k → is_lost j lost ≡ false → IsAtomicAt h.image h.rest (unit_at h.size j) (history ++ event ∷ []))
-  refused_at k e =
-      let r = stuck_some h event first count k e in
+  refused_at limit k e few =
+      let r = stuck_some limit h event first count k e few in
       let w = way_lost (h.units k) (changed h event k) r.0 in
       let here : (is_lost k lost ≡ false) × (Stands h.image h.rest history (unit_at h.size k) (h.units k) × (has_way (h.units k) ≡ true)) =
       elim (s.units k) [
@@ -377,9 +379,9 @@ module _ (h : Held) (lost : List ℕ) (history : List HistoryEvent) (event : His
       )
 
   -- only a load's answer does
-  pub only_answers : IsNoAnswer event → (k : ℕ) → first_stuck h event ≡ Some k → ⊥
-  only_answers other k e =
-      let r = stuck_some h event first count k e in
+  pub only_answers : IsNoAnswer event → (limit k : ℕ) → first_halt limit h event ≡ Some k → is_over_at limit h event k ≡ false → ⊥
+  only_answers other limit k e few =
+      let r = stuck_some limit h event first count k e few in
       let w = way_lost (h.units k) (changed h event k) r.0 in
       elim (s.units k) [
         | inl a ↦ let z = sym w.0 ∙ a.1 in cc

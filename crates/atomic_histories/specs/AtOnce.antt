@@ -1,9 +1,9 @@
 -- Events that are taken where a unit's way stands, with no search, and what is kept before the operations that are open change.
-use Rattle.std.specs.Prelude.{ℕ, ◌≡◌, Bool, true, false, None}
+use Rattle.std.specs.Prelude.{ℕ, ◌≡◌, Bool, true, false}
 use Rattle.memory_histories.specs.declared.events.HistoryEvent.{HistoryEvent}
 use Rattle.atomic_histories.specs.declared.unit.UnitPlace.{UnitPlace}
 use Rattle.atomic_histories.specs.Followed.{Ways, ways_after}
-use Rattle.atomic_histories.specs.Held.{Held, is_without, first_stuck, unit_after}
+use Rattle.atomic_histories.specs.Held.{Held, is_without, unit_after}
 
 -- a unit's ways became those that an event leads to, or they are as they were
 abbrev pub IsUnitTaken : UnitPlace → HistoryEvent → Ways → Ways → Bool → Type 0
@@ -13,7 +13,6 @@ IsUnitTaken unit event before after false = after ≡ before
 
 -- the units that an event touches took it, and the operations that are open are not yet those after it
 pub record AreTaken (h : Held) (event : HistoryEvent) (next : Held) : Type 0 where
-  pub ways : first_stuck h event ≡ None
   pub image : next.image ≡ h.image
   pub rest : next.rest ≡ h.rest
   pub size : next.size ≡ h.size

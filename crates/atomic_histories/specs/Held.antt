@@ -77,20 +77,15 @@ abbrev pub ways_from : Held → HistoryEvent → ℕ → ℕ → List Ways
 ways_from h event k zero = []
 ways_from h event k (suc n) = changed h event k ∷ ways_from h event (k + 1) n
 
--- the first of n units from number k on that an event leaves no way
-abbrev pub stuck_from : Held → HistoryEvent → ℕ → ℕ → Option ℕ
-stuck_from h event k zero = None
-stuck_from h event k (suc n) = if is_stuck h event k then Some k else stuck_from h event (k + 1) n
-
-abbrev pub first_stuck : Held → HistoryEvent → Option ℕ
-first_stuck h event =
-    let p = covered h.opened event in stuck_from h event (p.0 / h.size) (units_of h.size p.0 p.1)
+-- of those that it touches
+abbrev pub ways_there : Held → HistoryEvent → List Ways
+ways_there h event = let p = covered h.opened event in ways_from h event (p.0 / h.size) (units_of h.size p.0 p.1)
 
 -- whether it needs too many pairs there
 abbrev pub is_over_at : ℕ → Held → HistoryEvent → ℕ → Bool
 is_over_at limit h event k = needs_too_many limit (unit_at h.size k) (h.units k) event
 
--- the first of n units from number k on at which it is either
+-- the first of n units from number k on that it leaves no way, or at which it needs too many pairs
 abbrev pub halt_from : ℕ → Held → HistoryEvent → ℕ → ℕ → Option ℕ
 halt_from limit h event k zero = None
 halt_from limit h event k (suc n) =

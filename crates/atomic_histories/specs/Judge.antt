@@ -21,8 +21,9 @@ use Rattle.atomic_histories.specs.Operations.{opened_by, opened_after, has_numbe
 use Rattle.atomic_histories.specs.Followed.{Ways, no_ways, first_ways, ways_after, needs_too_many, is_too_wide}
 use Rattle.atomic_histories.specs.Law.{IsAtomic, FaultIs, unit_at}
 use Rattle.atomic_histories.specs.Lost.{IsAtomicBut, FaultIsBut}
-use Rattle.atomic_histories.specs.Held.{Held, covered, units_of, is_without, ways_from, stuck_from, IsWideFrom, unit_after, first_stuck}
+use Rattle.atomic_histories.specs.Held.{Held, is_without, unit_after}
 use Rattle.atomic_histories.specs.Held.{IsWide, is_lost}
+use Rattle.atomic_histories.specs.Few.{IsFewFor}
 use Rattle.atomic_histories.specs.Shown.{shown_unit, words_in}
 
 abbrev pub bytes_of : UnitSize → ℕ
@@ -86,7 +87,7 @@ put_from f k (u ∷ us) j = if k == j then Some u else put_from f (k + 1) us j
 abbrev pub ChangedFaultIs : ℕ → UnitPlace → ℕ → Ways → HistoryEvent → List Operation → AtomicFault → Type 0
 ChangedFaultIs limit unit words u event loads (Refused cause) =
     (is_without u (ways_after unit u event) ≡ true) × (cause ≡ WrongByte (place_in loads event unit.first))
-    × (needs_too_many limit unit u event ≡ false)
+    × (needs_too_many limit unit u event ≡ false) × IsFewFor u event
 ChangedFaultIs limit unit words u event loads (Undecided address) =
     (address ≡ unit.first) × (is_too_wide limit unit words u event ≡ true)
 ChangedFaultIs limit unit words u event loads OutOfMemory = Unit {0}
@@ -94,23 +95,8 @@ ChangedFaultIs limit unit words u event loads OutOfMemory = Unit {0}
 abbrev pub UnitFaultIs : ℕ → Held → HistoryEvent → ℕ → AtomicFault → Type 0
 UnitFaultIs limit h event k fault = ChangedFaultIs limit (unit_at h.size k) (h.words k) (h.units k) event h.opened.loads fault
 
--- why n units from number k on have none
-abbrev pub ChangeFaultIs : ℕ → Held → HistoryEvent → ℕ → ℕ → AtomicFault → Type 0
-ChangeFaultIs limit h event k n (Refused cause) =
-    (j : ℕ) × (stuck_from h event k n ≡ Some j) × (cause ≡ WrongByte (place_in h.opened.loads event (j * h.size)))
-ChangeFaultIs limit h event k n (Undecided address) = IsWideFrom limit h event k n address
-ChangeFaultIs limit h event k n OutOfMemory = Unit {0}
-
--- what the units that an event touches have after it, if it is of the law
-pub record IsLeft (h : Held) (event : HistoryEvent) (found : List Ways) : Type 0 where
-  pub formed : form_fault h.opened event ≡ None
-  pub left : first_stuck h event ≡ None
-  pub ways : found ≡ (let p = covered h.opened event in ways_from h event (p.0 / h.size) (units_of h.size p.0 p.1))
-
--- an event that is not malformed and leaves each unit a way
+-- what is kept once an event was taken
 pub record IsTaken (h : Held) (event : HistoryEvent) (next : Held) : Type 0 where
-  pub formed : form_fault h.opened event ≡ None
-  pub ways : first_stuck h event ≡ None
   pub image : next.image ≡ h.image
   pub rest : next.rest ≡ h.rest
   pub size : next.size ≡ h.size
@@ -125,15 +111,7 @@ pub record IsForgotten (h : Held) (number : ℕ) (next : Held) : Type 0 where
   pub opened : next.opened ≡ h.opened
   pub units : (k : ℕ) → next.units k ≡ (if number == k then no_ways else h.units k)
 
--- what each fault of a step says of the event, over what is kept and over the history
-abbrev pub KeptFaultIs : ℕ → Held → HistoryEvent → AtomicFault → Type 0
-KeptFaultIs limit h event (Refused cause) =
-    (form_fault h.opened event ≡ Some cause)
-    ⊎ ((form_fault h.opened event ≡ None)
-    × ((k : ℕ) × (first_stuck h event ≡ Some k) × (cause ≡ WrongByte (place_in h.opened.loads event (k * h.size)))))
-KeptFaultIs limit h event (Undecided address) = (form_fault h.opened event ≡ None) × IsWide limit h event address
-KeptFaultIs limit h event OutOfMemory = form_fault h.opened event ≡ None
-
+-- what each fault of a step says of the event and the history
 abbrev pub StepFaultIs : ℕ → Held → List HistoryEvent → HistoryEvent → AtomicFault → Type 0
 StepFaultIs limit h history event (Refused cause) =
     FaultIs h.image h.rest h.size history event cause × ¬ (IsAtomic h.image h.rest h.size (history ++ event ∷ []))

@@ -10,6 +10,7 @@ pub mod Parts
 pub mod Shares
 pub mod Marks
 pub mod Held
+pub mod Few
 pub mod Lost
 pub mod May
 pub mod MaySets

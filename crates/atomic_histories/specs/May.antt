@@ -1,6 +1,6 @@
 -- What an open load may return: of each byte for itself.
 use Rattle.std.specs.Prelude.{ℕ, zero, suc, ◌≡◌, ◌+◌, ◌*◌, ◌/◌, ◌%◌, ◌<◌, ◌⊎◌, ◌↔◌, min, Bool, true, false, ◌&&◌, ◌||◌, if◌then◌else◌, ◌==◌}
-use Rattle.std.specs.Prelude.{nat_lt, nat_le, List, [], ◌∷◌, ◌++◌, length, get_or, Option, Some, None, slice_get}
+use Rattle.std.specs.Prelude.{nat_lt, nat_le, List, [], ◌∷◌, ◌++◌, length, get_or, Option, Some, None, is_some, slice_get}
 use Rattle.std.specs.List.{list_any, find}
 use Rattle.memory_histories.specs.declared.events.HistoryEvent.{HistoryEvent}
 use Rattle.memory_histories.specs.declared.events.HistoryFault.TheVariants.{NotOpen}
@@ -130,6 +130,23 @@ IsWideByte limit h a address =
 -- in which one of n bytes from a on lies
 abbrev pub IsWideLoad : ℕ → Held → ℕ → ℕ → ℕ → Type 0
 IsWideLoad limit h a n address = (i : ℕ) × (i < n) × IsWideByte limit h (address_of a i) address
+
+-- whether they do so at a unit at which a load is open under a number
+abbrev pub is_wide_for : ℕ → ℕ → Ways → Bool
+is_wide_for limit number u = is_some (find (is_under number) u.loads) && is_reach_wide limit u
+
+-- the unit in which byte a lies
+abbrev pub is_wide_at : ℕ → Held → ℕ → ℕ → Bool
+is_wide_at limit h number a = is_wide_for limit number (h.units (a / h.size))
+
+-- for none of n bytes from a on
+abbrev pub AreNarrow : ℕ → Held → ℕ → ℕ → ℕ → Type 0
+AreNarrow limit h number a n = (i : ℕ) → i < n → is_wide_at limit h number (address_of a i) ≡ false
+
+-- for none of those of the load that is open under a number
+abbrev pub IsNarrowLoad : ℕ → Held → ℕ → Type 0
+IsNarrowLoad limit h number =
+    (o : Operation) → find (has_number number) h.opened.loads ≡ Some o → AreNarrow limit h number o.address o.length
 
 -- why there are no sets
 abbrev pub LoadFaultIs : ℕ → Held → Option Operation → AtomicFault → Type 0

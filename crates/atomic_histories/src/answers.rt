@@ -7,6 +7,7 @@ ghost use Rattle.atomic_histories.specs.declared.unit.UnitPlace.{UnitPlace};
 ghost use Rattle.atomic_histories.specs.Followed.{Ways, is_under, cons_any, pair_on, gathered, pair_got, pair_missed, with_hope, word_aim};
 ghost use Rattle.atomic_histories.specs.Followed.{answered_load, answered_store, load_needs_more, needs_more, needs_too_many, effect_aim};
 ghost use Rattle.atomic_histories.specs.Followed.{ways_without_load, ways_without_store, ways_after, has_many_words, is_too_wide};
+ghost use Rattle.atomic_histories.specs.Few.{KeepsFew, IsFewFor};
 ghost use Rattle.atomic_histories.specs.Shares.{past_any, IsInAny};
 ghost use Rattle.atomic_histories.specs.Parts.{IsPart, AreParts};
 ghost use Rattle.atomic_histories.specs.Shown.{pasts, shown, shown_all, shown_unit, AreIn, StopIs, words_in};
@@ -320,9 +321,11 @@ fn follow(
 // Whether an answer would need too many words, of the unit or of the copy without those that no way is left to. The ways of a
 // forgotten unit need none.
 fn has_too_many_words(kept: &KeptUnit, copy: &KeptUnit, event: HistoryEvent) -> bool
-    ensures { result ≡ true → (limit : ℕ) (unit : UnitPlace)
+    requires { shown_unit copy.now ≡ shown_unit kept.now }
+    ensures many { result ≡ true → (limit : ℕ) (unit : UnitPlace)
         → is_too_wide limit unit (words_in kept.now.stretches.items) (shown_unit kept.now) event.entry
         ≡ true }
+    ensures few { result ≡ false → IsFewFor (shown_unit kept.now) event.entry }
 {
     match event {
         HistoryEvent::LoadResponse {
@@ -334,13 +337,22 @@ fn has_too_many_words(kept: &KeptUnit, copy: &KeptUnit, event: HistoryEvent) -> 
     }
 }
 
+#[tactic(auto, using(crate::proofs::Few::few_words, crate::proofs::Few::few_ways, crate::proofs::Few::few_copy, crate::proofs::Few::few_copied))]
 fn have_too_many_words(kept: &KeptUnit, copy: &KeptUnit) -> bool
-    ensures { result ≡ true → has_many_words (words_in kept.now.stretches.items) (shown_unit kept.now) ≡ true }
+    requires { shown_unit copy.now ≡ shown_unit kept.now }
+    ensures many { result ≡ true → has_many_words (words_in kept.now.stretches.items) (shown_unit kept.now) ≡ true }
+    ensures few { result ≡ false → KeepsFew (shown_unit kept.now) }
 {
-    copy.stretches.len() > MOST_WORDS
-        && !kept.pairs.is_empty()
-        && words_in(kept.stretches.as_slice()) > MOST_WORDS
-        && words_in(copy.stretches.as_slice()) > MOST_WORDS
+    if copy.stretches.len() <= MOST_WORDS {
+        return false;
+    }
+    if kept.pairs.is_empty() {
+        return false;
+    }
+    if words_in(kept.stretches.as_slice()) <= MOST_WORDS {
+        return false;
+    }
+    words_in(copy.stretches.as_slice()) > MOST_WORDS
 }
 
 // A unit after an event: no way is left if it is none of the law.
@@ -353,6 +365,7 @@ pub(crate) fn ways_after(
 ) -> Result<KeptUnit, Stop>
     ensures after { IfOk result (λ after. shown_unit after ≡ ways_after unit (shown_unit kept.now) event.entry) }
     ensures few { OnOk result (needs_too_many limit unit (shown_unit kept.now) event.entry ≡ false) }
+    ensures words { OnOk result (IsFewFor (shown_unit kept.now) event.entry) }
     ensures stop { IfErr result (StopIs (is_too_wide limit unit (words_in kept.now.stretches.items) (shown_unit kept.now) event.entry)) }
 {
     let mut after = kept.copied(alloc)?;

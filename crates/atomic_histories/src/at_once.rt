@@ -12,6 +12,7 @@ ghost use Rattle.atomic_histories.specs.Law.{done_store, may_answer_store};
 ghost use Rattle.atomic_histories.specs.Followed.{Ways, is_answer, is_under, loads_without, moment_with, answered_load, answered_store};
 ghost use Rattle.atomic_histories.specs.Followed.{load_needs_more, needs_more, needs_too_many, effect_aim};
 ghost use Rattle.atomic_histories.specs.Followed.{ways_without_load, ways_without_store};
+ghost use Rattle.atomic_histories.specs.Few.{KeepsFew, IsFewFor};
 ghost use Rattle.atomic_histories.specs.Judge.{kept_or, words_of};
 ghost use Rattle.atomic_histories.specs.Shown.{past_at, pasts, shown, shown_unit};
 ghost use Rattle.atomic_histories.specs.Taken.{IsUnitKept, IsTakenTo, IsNextWord};
@@ -19,6 +20,7 @@ ghost use Rattle.atomic_histories.specs.Taken.{IsUnitKept, IsTakenTo, IsNextWord
 use crate::kept::KeptUnit;
 use crate::loads::{end_load, find_load, oldest_without};
 use crate::pairs::FollowedPair;
+use crate::search::MOST_WORDS;
 use crate::splits::is_answer;
 use crate::stretches::{Before, Stretch, overwrite, past_on};
 use crate::unit::{OpenStore, UnitPlace, WatchedLoad, Word};
@@ -28,12 +30,15 @@ use std::alloc::{AllocError, Global};
 use std::collections::HashMap;
 
 // Whether a unit's ways have come to one pair, so that a search would follow one at a time, and there is room for the
-// word that it may overwrite.
+// word that it may overwrite. An answer that finds more words than may be kept has to be told so, which the search does.
+#[tactic(auto, using(crate::proofs::Few::few_stretches))]
 fn is_ready(unit: &KeptUnit, limit: usize) -> bool
     ensures one { result ≡ true → length unit.now.pairs.items ≡ 1 }
     ensures some { result ≡ true → 0 < limit }
+    ensures words { result ≡ true → KeepsFew (shown_unit unit.now) }
 {
-    limit != 0 && unit.pairs.len() == 1 && unit.stretches.len() < unit.room
+    let kept = unit.stretches.len();
+    limit != 0 && unit.pairs.len() == 1 && kept < unit.room && kept <= MOST_WORDS
 }
 
 // Whether a load may have got its answer from a word that stood there before, on a past of words that stood there one
@@ -313,6 +318,7 @@ pub(crate) fn take_at_once(
 ) -> Result<bool, AllocError>
     ensures ok { IfOk result (λ taken. IsUnitTaken place event.entry (shown_unit unit.old) (shown_unit unit.new) taken) }
     ensures few { IfOk result (λ taken. taken ≡ true → needs_too_many limit place (shown_unit unit.old) event.entry ≡ false) }
+    ensures words { IfOk result (λ taken. taken ≡ true → IsFewFor (shown_unit unit.old) event.entry) }
     ensures same { IfOk result (λ taken. taken ≡ false → IsUnitKept unit.old unit.new) }
     ensures err { OnErr result (IsUnitKept unit.old unit.new) }
 {
@@ -370,6 +376,8 @@ pub(crate) fn take_at(
     ensures few { IfOk result
         (λ taken. taken ≡ true → (first : Ways)
         → needs_too_many limit place (kept_or (get nat_eq units.old number) first) event.entry ≡ false) }
+    ensures words { IfOk result
+        (λ taken. taken ≡ true → (first : Ways) → IsFewFor (kept_or (get nat_eq units.old number) first) event.entry) }
     ensures same { IfOk result (λ taken. taken ≡ false → words_of (get nat_eq units.new number) ≡ words_of (get nat_eq units.old number)) }
     ensures others { (k : ℕ) → k ≢ number → get nat_eq units.new k ≡ get nat_eq units.old k }
     ensures err { OnErr result

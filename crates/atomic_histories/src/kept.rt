@@ -16,7 +16,6 @@ ghost use Rattle.atomic_histories.specs.Shown.{shown, shown_all, shown_unit, IsI
 use crate::loads::{end_load, is_first, oldest_without};
 use crate::moves::{Moved, cut_before, without_unused};
 use crate::pairs::{FollowedPair, end_store};
-use crate::search::MOST_WORDS;
 use crate::stretches::{Before, Stretch};
 use crate::unit::{OpenStore, WatchedLoad, Word};
 use std::alloc::{AllocError, Global};
@@ -61,12 +60,9 @@ fn are_late(stretches: &[Stretch], since: u64) -> bool
     stretches.iter().all(|stretch| is_late(stretch, since))
 }
 
-// How many stretches there may be where so many are in use: an answer that finds more than may be kept has to be told so.
+// How many stretches there may be where so many are in use.
 fn room_for(count: usize) -> usize {
-    count
-        .saturating_mul(2)
-        .saturating_add(SPARE)
-        .min(MOST_WORDS + 1)
+    count.saturating_mul(2).saturating_add(SPARE)
 }
 
 // The same pairs, with references to stretches that were moved.

@@ -1,10 +1,9 @@
 //! What an open load may return, on the ways that a unit may have gone.
 
-ghost use Rattle.std.specs.Prelude.{◌≡◌, ◌<◌, Some, IfOk, IfErr};
+ghost use Rattle.std.specs.Prelude.{◌≡◌, ◌<◌, false, Some, IfOk, IfErr, OnOk};
 ghost use Rattle.memory_histories.specs.Sets.{no_bytes};
-ghost use Rattle.atomic_histories.specs.Followed.{rounds};
 ghost use Rattle.atomic_histories.specs.MaySets.{with_pair_bytes, with_pairs_bytes};
-ghost use Rattle.atomic_histories.specs.May.{IsSet, is_shown, may_get, reached, is_reach_over, is_reach_wide};
+ghost use Rattle.atomic_histories.specs.May.{IsSet, is_shown, may_get, reached, is_reach_wide, is_wide_for};
 ghost use Rattle.atomic_histories.specs.Shown.{shown_unit, StopIs};
 
 use crate::kept::KeptUnit;
@@ -46,9 +45,8 @@ fn load_set(
 ) -> Result<ByteSet, Stop>
     requires { lane < 8 }
     ensures set { IfOk result (IsSet (λ b. is_shown (Some load) lane b (reached (shown_unit kept.now)))) }
-    ensures stop { IfErr result
-        (StopIs (is_reach_over limit (shown_unit kept.now).loads (shown_unit kept.now).moment
-        (rounds (shown_unit kept.now).pairs) (shown_unit kept.now).pairs)) }
+    ensures few { OnOk result (is_reach_wide limit (shown_unit kept.now) ≡ false) }
+    ensures stop { IfErr result (StopIs (is_reach_wide limit (shown_unit kept.now))) }
 {
     let mut unit = kept.copied(alloc)?;
     let asked = Asked {
@@ -67,7 +65,7 @@ fn load_set(
 }
 
 // The same of the load under a number, at a unit that may be forgotten.
-#[tactic(auto, using(crate::proofs::MaySteps::forgotten_set, crate::proofs::MaySteps::unknown_set, crate::proofs::MaySteps::known_set))]
+#[tactic(auto, using(crate::proofs::MaySteps::forgotten_set, crate::proofs::MaySteps::unknown_set, crate::proofs::MaySteps::known_set, crate::proofs::MaySteps::forgotten_narrow, crate::proofs::MaySteps::unknown_narrow, crate::proofs::MaySteps::known_narrow))]
 pub(crate) fn unit_set(
     alloc: Global,
     kept: &KeptUnit,
@@ -77,6 +75,7 @@ pub(crate) fn unit_set(
 ) -> Result<ByteSet, Stop>
     requires { lane < 8 }
     ensures set { IfOk result (IsSet (λ b. may_get number lane b (shown_unit kept.now))) }
+    ensures few { OnOk result (is_wide_for limit number (shown_unit kept.now) ≡ false) }
     ensures stop { IfErr result (StopIs (is_reach_wide limit (shown_unit kept.now))) }
 {
     if kept.pairs.is_empty() {

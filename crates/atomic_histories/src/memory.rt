@@ -11,13 +11,15 @@ ghost use Rattle.atomic_histories.specs.Operations.{opened_after, form_fault, ha
 ghost use Rattle.atomic_histories.specs.Law.{IsAtomic, unit_at};
 ghost use Rattle.atomic_histories.specs.AtOnce.{AreTaken, AreTakenOrSame};
 ghost use Rattle.atomic_histories.specs.Lost.{IsAtomicBut};
-ghost use Rattle.atomic_histories.specs.Held.{nothing_held, covered, changed, ways_from, is_stuck, stuck_from, StandsForAll, StandsBut};
-ghost use Rattle.atomic_histories.specs.Held.{is_over_at, halt_from, first_halt};
+ghost use Rattle.atomic_histories.specs.Held.{nothing_held, covered, changed, ways_from, ways_there, is_stuck, StandsForAll, StandsBut};
+ghost use Rattle.atomic_histories.specs.Held.{is_over_at, halt_from};
+ghost use Rattle.atomic_histories.specs.Few.{IsFewFor, AreFew};
 ghost use Rattle.atomic_histories.specs.May.{asks, AreSetsOf, IsSetOf, HasSets, IsByteOf, IsSet, may_get_at, AreSetsFrom, address_of};
 ghost use Rattle.atomic_histories.specs.May.{LoadFaultIs, IsNoVerdict, IsWideByte, IsWideLoad};
-ghost use Rattle.atomic_histories.specs.Judge.{bytes_of, fault_of, held, limit_of, HasSameMemory, IsTaken, IsForgotten, IsLeft};
-ghost use Rattle.atomic_histories.specs.Judge.{UnitFaultIs, ChangeFaultIs, KeptFaultIs, StepFaultIs, StepFaultIsBut};
-ghost use Rattle.atomic_histories.specs.Told.{HaltIs, IsToldOf};
+ghost use Rattle.atomic_histories.specs.May.{is_wide_at, AreNarrow, IsNarrowLoad};
+ghost use Rattle.atomic_histories.specs.Judge.{bytes_of, fault_of, held, limit_of, HasSameMemory, IsTaken, IsForgotten};
+ghost use Rattle.atomic_histories.specs.Judge.{UnitFaultIs, StepFaultIs, StepFaultIsBut};
+ghost use Rattle.atomic_histories.specs.Told.{HaltIs, GoOn, IsToldOf};
 ghost use Rattle.atomic_histories.specs.Shown.{shown_unit};
 
 use crate::at_once::take_at;
@@ -225,7 +227,8 @@ impl AtomicMemory {
     /// ([`sets_are_of_answers`](crate::laws::sets_are_of_answers)).
     ///
     /// `Refused` has the cause `NotOpen`: no load is open under the number. `Undecided`: the ways of the
-    /// unit that begins at its address lead to too many at a time, and nothing is known of the sets.
+    /// unit that begins at its address lead to too many at a time, and nothing is known of the sets. Where they do
+    /// so no sets are told.
     /// `OutOfMemory`: there was too little memory to find them.
     pub fn may_return(&self, number: u64) -> Result<Vec<ByteSet>, AtomicFault>
         ensures ok { (lost : List ℕ) → (history : List HistoryEvent)
@@ -233,6 +236,7 @@ impl AtomicMemory {
             → IfOk result
             (λ sets. AreSetsOf lost (held self.now).image (held self.now).rest (held self.now).size history
             number sets.items) }
+        ensures narrow { OnOk result (IsNarrowLoad (limit_of self.now) (held self.now) number) }
         ensures fault { IfErr result
             (LoadFaultIs (limit_of self.now) (held self.now)
             (find (has_number number) (held self.now).opened.loads)) }
@@ -249,6 +253,8 @@ impl AtomicMemory {
             → IfOk result
             (IsSetOf lost (held self.now).image (held self.now).rest (held self.now).size history number
             address) }
+        ensures narrow { IfOk result
+            (λ set. IfSome set (λ s. is_wide_at (limit_of self.now) (held self.now) number address ≡ false)) }
         ensures fault { IfErr result (IsNoVerdict (IsWideByte (limit_of self.now) (held self.now) address)) }
         ensures asked { OnErr result (asks (find (has_number number) (held self.now).opened.loads) address ≡ true) }
     {
@@ -257,6 +263,8 @@ impl AtomicMemory {
 
     fn kept_byte(&self, number: u64, address: u64) -> Result<Option<ByteSet>, AtomicFault>
         ensures ok { IfOk result (IsByteOf (held self.now) number address) }
+        ensures narrow { IfOk result
+            (λ set. IfSome set (λ s. is_wide_at (limit_of self.now) (held self.now) number address ≡ false)) }
         ensures fault { IfErr result (IsNoVerdict (IsWideByte (limit_of self.now) (held self.now) address)) }
         ensures asked { OnErr result (asks (find (has_number number) (held self.now).opened.loads) address ≡ true) }
     {
@@ -269,6 +277,7 @@ impl AtomicMemory {
 
     fn kept_sets(&self, number: u64) -> Result<Vec<ByteSet>, AtomicFault>
         ensures ok { IfOk result (λ sets. HasSets (held self.now) number sets.items) }
+        ensures narrow { OnOk result (IsNarrowLoad (limit_of self.now) (held self.now) number) }
         ensures fault { IfErr result
             (LoadFaultIs (limit_of self.now) (held self.now)
             (find (has_number number) (held self.now).opened.loads)) }
@@ -288,6 +297,7 @@ impl AtomicMemory {
         length: usize,
     ) -> Result<Vec<ByteSet>, AtomicFault>
         ensures sets { IfOk result (λ sets. AreSetsFrom (held self.now) number address 0 length sets.items) }
+        ensures narrow { OnOk result (AreNarrow (limit_of self.now) (held self.now) number address length) }
         ensures fault { IfErr result (IsNoVerdict (IsWideLoad (limit_of self.now) (held self.now) address length)) }
     {
         let mut sets = Vec::new(self.alloc);
@@ -299,9 +309,10 @@ impl AtomicMemory {
     }
 
     // Of the byte at an address.
-    #[tactic(auto, using(crate::proofs::MaySteps::lane_below, crate::proofs::MaySteps::untouched_set, crate::proofs::MaySteps::stopped_set))]
+    #[tactic(auto, using(crate::proofs::MaySteps::lane_below, crate::proofs::MaySteps::untouched_set, crate::proofs::MaySteps::untouched_narrow, crate::proofs::MaySteps::stopped_set))]
     fn set_at(&self, number: u64, address: u64) -> Result<ByteSet, AtomicFault>
         ensures set { IfOk result (IsSet (may_get_at (held self.now) number address)) }
+        ensures narrow { OnOk result (is_wide_at (limit_of self.now) (held self.now) number address ≡ false) }
         ensures fault { IfErr result (IsNoVerdict (IsWideByte (limit_of self.now) (held self.now) address)) }
     {
         let place = address % self.size.bytes();
@@ -347,7 +358,6 @@ impl AtomicMemory {
     // The step over what is kept.
     fn kept_step(&mut self, event: HistoryEvent) -> Result<(), AtomicFault>
         ensures ok { OnOk result (IsTaken (held self.old) event.entry (held self.new)) }
-        ensures fault { IfErr result (KeptFaultIs (limit_of self.old) (held self.old) event.entry) }
         ensures told { IsToldOf (limit_of self.old) (held self.old) event.entry (result_err result) }
         ensures unchanged { OnErr result (held self.new ≡ held self.old) }
         ensures limit { limit_of self.new ≡ limit_of self.old }
@@ -365,14 +375,14 @@ impl AtomicMemory {
     fn take_units(&mut self, event: HistoryEvent) -> Result<(), AtomicFault>
         requires { form_fault (held self.old).opened event ≡ None }
         ensures ok { OnOk result (AreTaken (held self.old) event.entry (held self.new)) }
-        ensures fault { IfErr result (KeptFaultIs (limit_of self.old) (held self.old) event.entry) }
         ensures told { IsToldOf (limit_of self.old) (held self.old) event.entry (result_err result) }
         ensures unchanged { OnErr result (held self.new ≡ held self.old) }
         ensures limit { limit_of self.new ≡ limit_of self.old }
         ensures loads { self.new.loads ≡ self.old.loads }
         ensures stores { self.new.stores ≡ self.old.stores }
     {
-        if self.takes_at_once(event)? {
+        let is_taken = self.takes_at_once(event)?;
+        if is_taken {
             return Ok(());
         }
         self.take_by_search(event)
@@ -393,9 +403,7 @@ impl AtomicMemory {
     #[tactic(auto, using(crate::proofs::AtOnce::number_fits, crate::proofs::Ranges::sized))]
     fn takes_at_once(&mut self, event: HistoryEvent) -> Result<bool, AllocError>
         ensures ok { IfOk result (λ taken. AreTakenOrSame (held self.old) event.entry (held self.new) taken) }
-        ensures told { IfOk result
-            (λ taken. taken ≡ true
-            → first_halt (limit_of self.old) (held self.old) event.entry ≡ None) }
+        ensures told { IfOk result (λ taken. taken ≡ true → GoOn (limit_of self.old) (held self.old) event.entry) }
         ensures err { OnErr result (held self.new ≡ held self.old) }
         ensures limit { limit_of self.new ≡ limit_of self.old }
         ensures loads { self.new.loads ≡ self.old.loads }
@@ -420,7 +428,6 @@ impl AtomicMemory {
     // The units that an event touches are followed, and put once all of them have ways.
     fn take_by_search(&mut self, event: HistoryEvent) -> Result<(), AtomicFault>
         ensures ok { OnOk result (AreTaken (held self.old) event.entry (held self.new)) }
-        ensures fault { IfErr result (KeptFaultIs (limit_of self.old) (held self.old) event.entry) }
         ensures told { IsToldOf (limit_of self.old) (held self.old) event.entry (result_err result) }
         ensures unchanged { OnErr result (held self.new ≡ held self.old) }
         ensures limit { limit_of self.new ≡ limit_of self.old }
@@ -450,11 +457,10 @@ impl AtomicMemory {
 
     // The ways of the units that an event touches, once it has come.
     fn changes(&self, event: HistoryEvent) -> Result<Vec<KeptUnit>, AtomicFault>
-        ensures ok { IfOk result (λ us. IsLeft (held self.now) event.entry (map shown_unit us.items)) }
+        ensures ways { IfOk result (λ us. map shown_unit us.items ≡ ways_there (held self.now) event.entry) }
         ensures fits { IfOk result
             (λ us. (covered (held self.now).opened event.entry).0 / (held self.now).size + length us.items
             ≤ 2 ^ 64) }
-        ensures fault { IfErr result (KeptFaultIs (limit_of self.now) (held self.now) event.entry) }
         ensures told { IsToldOf (limit_of self.now) (held self.now) event.entry (result_err result) }
     {
         if let Some(fault) = self.form_fault(event) {
@@ -480,7 +486,7 @@ impl AtomicMemory {
     }
 
     // Of so many units from number `from` on.
-    #[tactic(auto, using(crate::proofs::Ranges::unit_below, crate::proofs::Ranges::number_below, crate::proofs::Ranges::sized, crate::proofs::Ranges::numbers_fit, crate::proofs::Ranges::ways_more, crate::proofs::Ranges::stuck_step))]
+    #[tactic(auto, using(crate::proofs::Ranges::unit_below, crate::proofs::Ranges::number_below, crate::proofs::Ranges::sized, crate::proofs::Ranges::numbers_fit, crate::proofs::Ranges::ways_more))]
     fn changes_from(
         &self,
         event: HistoryEvent,
@@ -489,11 +495,10 @@ impl AtomicMemory {
     ) -> Result<Vec<KeptUnit>, AtomicFault>
         requires fits { (from + count) * bytes_of self.now.size ≤ 2 ^ 64 }
         ensures units { IfOk result (λ us. map shown_unit us.items ≡ ways_from (held self.now) event.entry from count) }
-        ensures left { OnOk result (stuck_from (held self.now) event.entry from count ≡ None) }
         ensures told { OnOk result (halt_from (limit_of self.now) (held self.now) event.entry from count ≡ None) }
+        ensures words { OnOk result (AreFew (held self.now) event.entry from (from + count)) }
         ensures halt { IfErr result (HaltIs (limit_of self.now) (held self.now) event.entry from count) }
         ensures fits { IfOk result (λ us. from + length us.items ≤ 2 ^ 64) }
-        ensures fault { IfErr result (ChangeFaultIs (limit_of self.now) (held self.now) event.entry from count) }
     {
         let mut changes = Vec::new(self.alloc);
         for j in 0..count {
@@ -508,6 +513,7 @@ impl AtomicMemory {
         requires fits { number * bytes_of self.now.size < 2 ^ 64 }
         ensures unit { IfOk result (λ u. shown_unit u ≡ changed (held self.now) event.entry number) }
         ensures few { OnOk result (is_over_at (limit_of self.now) (held self.now) event.entry number ≡ false) }
+        ensures words { OnOk result (IsFewFor ((held self.now).units number) event.entry) }
         ensures left { OnOk result (is_stuck (held self.now) event.entry number ≡ false) }
         ensures fault { IfErr result (UnitFaultIs (limit_of self.now) (held self.now) event.entry number) }
     {

@@ -322,6 +322,10 @@ pub(crate) fn reached(
         (rounds (shown_all stretches.old.items pairs.now)) (shown_all stretches.old.items pairs.now)) }
     ensures are_in { IfOk result (λ r. AreIn stretches.new.items r.items) }
     ensures grows { OnOk result (Grows stretches.old.items stretches.new.items) }
+    ensures few { OnOk result
+        (is_reach_over limit asked.entry.loads.now asked.entry.moment
+        (rounds (shown_all stretches.old.items pairs.now)) (shown_all stretches.old.items pairs.now)
+        ≡ false) }
     ensures stop { IfErr result
         (StopIs (is_reach_over limit asked.entry.loads.now asked.entry.moment
         (rounds (shown_all stretches.old.items pairs.now)) (shown_all stretches.old.items pairs.now))) }

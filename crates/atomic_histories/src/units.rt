@@ -4,6 +4,7 @@ ghost use Rattle.std.specs.Prelude.{◌≡◌, ◌+◌, ◌*◌, ◌/◌, ◌^�
 ghost use Rattle.std.specs.HashMap.{get, spare};
 ghost use Rattle.atomic_histories.specs.Followed.{first_ways, ways_after, needs_too_many};
 ghost use Rattle.atomic_histories.specs.Held.{bytes_of_open, covered, units_of, is_without};
+ghost use Rattle.atomic_histories.specs.Few.{IsFewFor};
 ghost use Rattle.atomic_histories.specs.Judge.{bytes_of, place_from, place_in, put_from, ChangedFaultIs};
 ghost use Rattle.atomic_histories.specs.Shown.{shown_unit, words_in};
 
@@ -95,6 +96,7 @@ pub(crate) fn changed_unit(
 ) -> Result<KeptUnit, AtomicFault>
     ensures unit { IfOk result (λ u. shown_unit u ≡ ways_after place (shown_unit unit.now) event.entry) }
     ensures few { OnOk result (needs_too_many limit place (shown_unit unit.now) event.entry ≡ false) }
+    ensures words { OnOk result (IsFewFor (shown_unit unit.now) event.entry) }
     ensures left { OnOk result (is_without (shown_unit unit.now) (ways_after place (shown_unit unit.now) event.entry) ≡ false) }
     ensures fault { IfErr result
         (ChangedFaultIs limit place (words_in unit.now.stretches.items) (shown_unit unit.now) event.entry

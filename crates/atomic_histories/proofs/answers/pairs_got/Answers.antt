@@ -4,7 +4,8 @@ use Rattle.atomic_histories.specs.Parts.{IsPart}
 use Rattle.atomic_histories.specs.Shares.{past_any}
 use Rattle.atomic_histories.specs.Shown.{pasts, shown, shown_all}
 use Rattle.std.proofs.Common.{ap, subst, sym}
-use Rattle.atomic_histories.proofs.Parts.{each_nth, part_more, got_step}
+use Rattle.atomic_histories.proofs.Lists.{each_nth}
+use Rattle.atomic_histories.proofs.Parts.{part_more, got_step}
 use Rattle.atomic_histories.proofs.answers.pairs_got.Goals as goal
 
 pub loop-pair-preserved : goal.loop-pair-preserved

@@ -3,7 +3,8 @@ use Rattle.atomic_histories.specs.Followed.{cons_any, gathered, pair_missed, pai
 use Rattle.atomic_histories.specs.Parts.{IsPart}
 use Rattle.atomic_histories.specs.Shares.{past_any}
 use Rattle.atomic_histories.specs.Shown.{pasts, shown, shown_all}
-use Rattle.atomic_histories.proofs.Parts.{each_nth, part_more, missed_step}
+use Rattle.atomic_histories.proofs.Lists.{each_nth}
+use Rattle.atomic_histories.proofs.Parts.{part_more, missed_step}
 use Rattle.atomic_histories.proofs.answers.pairs_missed.Goals as goal
 
 pub loop-pair-preserved : goal.loop-pair-preserved

@@ -5,6 +5,7 @@ use Rattle.atomic_histories.specs.declared.unit.UnitPlace.{UnitPlace}
 use Rattle.atomic_histories.specs.Law.{unit_at}
 use Rattle.atomic_histories.specs.Followed.{Ways, ways_after}
 use Rattle.atomic_histories.specs.Held.{is_without}
+use Rattle.atomic_histories.specs.Few.{IsFewFor}
 use Rattle.atomic_histories.specs.Judge.{held, ChangedFaultIs}
 use Rattle.atomic_histories.specs.Shown.{shown_unit, words_in}
 use Rattle.atomic_histories.proofs.Ranges.{kept_none, words_none, said_there}
@@ -35,6 +36,10 @@ pub returns-in_ok-unit-in-None-clause-left : goal.returns-in_ok-unit-in-None-cla
 returns-in_ok-unit-in-None-clause-left c =
     of_kept c (λ p n w ls. OnOk c.changed_unit-in-None.result (is_without w (ways_after p w c.args.event) ≡ false))
     c.changed_unit-in-None.ensures.left
+
+pub returns-in_ok-unit-in-None-clause-words : goal.returns-in_ok-unit-in-None-clause-words
+returns-in_ok-unit-in-None-clause-words c =
+    of_kept c (λ p n w ls. OnOk c.changed_unit-in-None.result (IsFewFor w c.args.event)) c.changed_unit-in-None.ensures.words
 
 pub returns-in_ok-unit-in-None-clause-fault : goal.returns-in_ok-unit-in-None-clause-fault
 returns-in_ok-unit-in-None-clause-fault c =

@@ -1,9 +1,10 @@
 use Rattle.std.proofs.Common.{◌+◌, ◌-◌, ◌++◌, ◌∷◌, [], map, length, ap, ◌∙◌, length-append, arith}
 use Rattle.atomic_histories.specs.Held.{ways_from}
-use Rattle.atomic_histories.specs.Judge.{held, limit_of, ChangeFaultIs}
+use Rattle.atomic_histories.specs.Judge.{held, limit_of}
 use Rattle.atomic_histories.specs.Told.{HaltIs}
 use Rattle.atomic_histories.specs.Shown.{shown_unit}
-use Rattle.atomic_histories.proofs.Ranges.{ways_more, stuck_step, fault_at, halt_step, halt_at}
+use Rattle.atomic_histories.proofs.Ranges.{ways_more, halt_step, halt_at}
+use Rattle.atomic_histories.proofs.Few.{few_more}
 use Rattle.atomic_histories.proofs.Parts.{pass_on}
 use Rattle.atomic_histories.proofs.memory.AtomicMemory.changes_from.Goals as goal
 
@@ -19,21 +20,13 @@ loop-j-preserved c =
       ways = ap (λ us. map shown_unit us ++ rest) items
           ∙ (ways_more h c.args.event c.loop-j.changes.items c.in_ok-unit.unit c.args.from c.args.count c.loop-j.j c.loop-j-test.true
           c.in_ok-unit.ensures.unit ∙ c.loop-j.invariant.ways);
-      left = stuck_step h c.args.event c.args.from c.args.count c.loop-j.j c.loop-j-test.true c.in_ok-unit.ensures.left
-          ∙ c.loop-j.invariant.left;
       halt = halt_step (limit_of c.args.self.now) h c.args.event c.args.from c.args.count c.loop-j.j c.loop-j-test.true
           c.in_ok-unit.ensures.left c.in_ok-unit.ensures.few
           ∙ c.loop-j.invariant.halt;
+      few = few_more h c.args.event c.args.from (c.args.from + c.loop-j.j) _ (omega arith) c.loop-j.invariant.few
+          c.in_ok-unit.ensures.words;
       many = many ∙ (sum ∙ ap (λ n. n + 1) before);
     }
-
-pub returns-in_err-unit-clause-fault : goal.returns-in_err-unit-clause-fault
-returns-in_err-unit-clause-fault c =
-    let m = c.args.self.now in
-    pass_on c.from_residual.result c.in_err-unit.field-0.0
-    (ChangeFaultIs (limit_of m) (held m) c.args.event c.args.from c.args.count) c.from_residual.ensures.1
-    (fault_at c.in_err-unit.field-0.0 (limit_of m) (held m) c.args.event c.args.from c.args.count c.loop-j.j
-    (omega arith) c.loop-j.invariant.left c.in_err-unit.ensures.fault)
 
 pub returns-in_err-unit-clause-halt : goal.returns-in_err-unit-clause-halt
 returns-in_err-unit-clause-halt c =
@@ -41,4 +34,7 @@ returns-in_err-unit-clause-halt c =
     pass_on c.from_residual.result c.in_err-unit.field-0.0
     (HaltIs (limit_of m) (held m) c.args.event c.args.from c.args.count) c.from_residual.ensures.1
     (halt_at c.in_err-unit.field-0.0 (limit_of m) (held m) c.args.event c.args.from c.args.count c.loop-j.j
-    (omega arith) c.loop-j.invariant.halt c.in_err-unit.ensures.fault)
+    (omega arith) c.loop-j.invariant.halt c.loop-j.invariant.few c.in_err-unit.ensures.fault)
+
+pub returns-clause-words : goal.returns-clause-words
+returns-clause-words c = λ i l m. c.loop-j.invariant.few i l (omega arith)

@@ -20,10 +20,8 @@ returns-clause-ok c =
     let h = held c.args.self.now in
     let more = c.reserve.new.self in
     let same = c.in_ok-reserve.ensures.held in
-    let left = c.in_ok-changes.ensures.ok in
     let size = c.bytes.ensures.bytes ∙ ap (λ (x : Held). x.size) same in
     record {
-      ways = left.left;
       image = ap (λ (x : Held). x.image) same;
       rest = ap (λ (x : Held). x.rest) same;
       size = ap (λ (x : Held). x.size) same;
@@ -32,6 +30,6 @@ returns-clause-ok c =
           taken_unit h c.args.event (get nat_eq more.units) (get nat_eq c.put_units.new.units)
           (first_ways more.image.items more.rest (unit_at (bytes_of more.size) k))
           (c.covered-address.result.0 / c.bytes.result) c.in_ok-changes.changes.items k (c.put_units.ensures k)
-          (ap₂ ◌/◌ (ap (λ p. p.0) c.covered-address.ensures) size) left.ways
+          (ap₂ ◌/◌ (ap (λ p. p.0) c.covered-address.ensures) size) c.in_ok-changes.ensures.ways
           (ap (λ (x : Held). x.units k) same);
     }

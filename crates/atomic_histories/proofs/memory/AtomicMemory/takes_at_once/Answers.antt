@@ -30,4 +30,4 @@ returns-clause-told c =
     not_halted_at c.take_at.result c.args.self.now.limit h.image h.rest h.size h.opened c.args.event (get nat_eq c.args.self.now.units)
     (get nat_eq c.take_at.new.units) (c.covered-address.result.0 / c.bytes.result) c.place-place.result c.place-place.ensures
     (ap₂ ◌/◌ (ap (λ p. p.0) c.covered-address.ensures) c.bytes.ensures.bytes) (search (rules, arith)) c.take_at.ensures.ok
-    c.take_at.ensures.few
+    c.take_at.ensures.few c.take_at.ensures.words
