@@ -1,5 +1,5 @@
 -- What the caller's table says that each tag is owed.
-use Rattle.std.specs.Prelude.{◌≡◌, ℕ, if◌then◌else◌, ◌==◌, List, Option, Some, None, is_some, slice_index_or}
+use Rattle.std.specs.Prelude.{ℕ, if◌then◌else◌, ◌==◌, List, Option, Some, None, is_some, slice_index_or}
 use Rattle.std.specs.List.{filter, range_with_len}
 use Rattle.flat_model.specs.declared.Word.{Word}
 use Rattle.flat_model.specs.Words.{zero_word}
@@ -9,6 +9,13 @@ use Rattle.flat_judge.specs.declared.table.TheConstants.{TAGS}
 -- the word that an entry of the table says is owed
 abbrev pub owed_by : Due → Option Word
 owed_by e = if e.owed == 0 then None else Some e.word
+
+-- the entries that the judge writes: of a tag that is owed this word, and of one whose value was this word
+abbrev pub owed_entry : Word → Due
+owed_entry word = record { owed = 1; word = word }
+
+abbrev pub taken_entry : Word → Due
+taken_entry word = record { owed = 0; word = word }
 
 -- an entry that says of nothing that it is owed
 abbrev pub no_due : Due
@@ -21,10 +28,6 @@ entry_of due tag = slice_index_or due tag no_due
 -- the word that a tag is owed, by a table
 abbrev pub due_in : List Due → ℕ → Option Word
 due_in due tag = owed_by (entry_of due tag)
-
--- each entry that says the same as before holds the same
-abbrev pub KeepsEntries : List Due → List Due → Type 0
-KeepsEntries old new = (tag : ℕ) → due_in new tag ≡ due_in old tag → entry_of new tag ≡ entry_of old tag
 
 -- the word that is owed, or else this one
 abbrev pub owed_or : Word → Option Word → Word

@@ -3,8 +3,7 @@ ghost use Rattle.std.specs.Prelude.{◌≡◌, ◌≢◌, true, Some, length};
 ghost use Rattle.flat_model.specs.Flat.{may_answer, flat_after};
 ghost use Rattle.flat_model.specs.Memory.{Finds};
 ghost use Rattle.flat_judge.specs.Rows.{event_of, answer_of};
-ghost use Rattle.flat_judge.specs.Judge.{flat, judged, status_of};
-ghost use Rattle.flat_judge.specs.Table.{KeepsEntries};
+ghost use Rattle.flat_judge.specs.Judge.{flat, judged, status_of, table_after, table_with};
 
 use crate::rows::{AnswerRow, EventRow};
 use crate::table::{Due, TAGS, due_word, set_due};
@@ -31,16 +30,17 @@ pub(crate) struct Found {
 /// One step of a run, over the words of memory and the table of what each tag is owed.
 ///
 /// 0: flat memory gives this answer to this event, and `words` and `due` are as the step leaves
-/// them: of `due` only the entry of a tag that is loaded, or whose value is taken, is written. 1: flat
-/// memory never gives it. 2: a row says nothing, or `due` hasn't an entry for each tag. After 1 and 2
-/// all is as it was.
+/// them: of `due` only the entry of a tag that is loaded, or whose value is taken, is written, with 1 and
+/// the word that is owed, or with 0 and the value. 1: flat memory never gives it. 2: a row says nothing, or
+/// `due` hasn't an entry for each tag. After 1 and 2 all is as it was.
 pub fn flat_step(words: &mut [Word], due: &mut [Due], event: &EventRow, answer: &AnswerRow) -> u32
     ensures status { result
         ≡ status_of (judged words.old due.old (event_of event.now) (answer_of answer.now)) }
     ensures step { result ≡ 0
         → judged words.old due.old (event_of event.now) (answer_of answer.now)
         ≡ Some (Some (flat words.new due.new)) }
-    ensures entries { KeepsEntries due.old due.new }
+    ensures table { result ≡ 0
+        → due.new ≡ table_after words.old due.old (event_of event.now) (answer_of answer.now) }
     ensures words { result ≢ 0 → words.new ≡ words.old }
     ensures due { result ≢ 0 → due.new ≡ due.old }
 {
@@ -89,7 +89,7 @@ fn step(words: &mut [Word], due: &mut [Due], event: Event, answer: Answer)
     requires table { length due.old ≡ TAGS }
     requires may { may_answer (flat words.old due.old) event answer ≡ true }
     ensures step { flat words.new due.new ≡ flat_after (flat words.old due.old) event answer }
-    ensures entries { KeepsEntries due.old due.new }
+    ensures table { due.new ≡ table_with words.old due.old event answer }
 {
     match (event, answer) {
         (Event::Load { tag, at }, Answer::Accepted) => {

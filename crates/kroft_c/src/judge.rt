@@ -1,8 +1,8 @@
 //! The judge: one step of flat memory at a time, over words and a table that the caller keeps.
 ghost use Rattle.std.specs.Prelude.{◌≡◌, ◌≢◌, ◌<◌, Some, length, is_some, if◌then◌else◌};
 ghost use Rattle.flat_judge.specs.Rows.{event_of, answer_of};
-ghost use Rattle.flat_judge.specs.Table.{due_in, owed_or, tags_owed, nth_tag, KeepsEntries};
-ghost use Rattle.flat_judge.specs.Judge.{flat, judged, status_of};
+ghost use Rattle.flat_judge.specs.Table.{due_in, owed_or, tags_owed, nth_tag};
+ghost use Rattle.flat_judge.specs.Judge.{flat, judged, status_of, table_after};
 ghost use Rattle.flat_judge.specs.Reasons.{why, number_of, status_by, owed_instead};
 ghost use Rattle.flat_judge.specs.Texts.{text_of, written};
 
@@ -12,9 +12,9 @@ use flat_model::Word;
 /// One step of a run, over the words of memory and the table of what each tag is owed.
 ///
 /// 0: flat memory gives this answer to this event, and `words` and `due` are as the step leaves
-/// them: of `due` only the entry of a tag that is loaded, or whose value is taken, is written. 1: flat
-/// memory never gives it. 2: a row says nothing, or `due` hasn't an entry for each tag. After 1 and 2
-/// all is as it was.
+/// them: of `due` only the entry of a tag that is loaded, or whose value is taken, is written, with 1 and
+/// the word that is owed, or with 0 and the value. 1: flat memory never gives it. 2: a row says nothing, or
+/// `due` hasn't an entry for each tag. After 1 and 2 all is as it was.
 #[unsafe(no_mangle)]
 pub extern "C" fn kroft_flat_step(
     words: &mut [Word],
@@ -27,7 +27,8 @@ pub extern "C" fn kroft_flat_step(
     ensures step { result ≡ 0
         → judged words.old due.old (event_of event.now) (answer_of answer.now)
         ≡ Some (Some (flat words.new due.new)) }
-    ensures entries { KeepsEntries due.old due.new }
+    ensures table { result ≡ 0
+        → due.new ≡ table_after words.old due.old (event_of event.now) (answer_of answer.now) }
     ensures words { result ≢ 0 → words.new ≡ words.old }
     ensures due { result ≢ 0 → due.new ≡ due.old }
 {
