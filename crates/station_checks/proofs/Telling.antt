@@ -1,8 +1,14 @@
 -- Texts that are written one behind the other.
-use Rattle.std.proofs.Common.{ℕ, List, ◌++◌, ap, ◌∙◌, append_assoc, Result, Ok, Err, OnOk}
-use Rattle.std.specs.Prelude.{Option, Some, None, IfSome}
-use Rattle.std.specs.Option.{option_map}
+use Rattle.std.proofs.Common.{◌≡◌, ℕ, zero, suc, ◌+◌, ◌<◌, List, [], ◌∷◌, ◌++◌, length, take, drop, get_or, refl, sym, ap, ◌∙◌, subst}
+use Rattle.std.proofs.Common.{add-zero, zero-add, append-nil, append_assoc, arith, Result, Ok, Err, OnOk}
+use Rattle.std.specs.Prelude.{Option, Some, None, flat_map}
+use Rattle.std.specs.List.{slice_get, enumerate_from}
+use Rattle.std.specs.Global.{Vec}
 use Rattle.std.specs.Io.KnownBytes.{Appends}
+use Rattle.station_journal.specs.declared.asks.Ask.{Ask}
+use Rattle.station_journal.specs.declared.asks.Told.{Told}
+use Rattle.station_parts.specs.Runs.{list_in}
+use Rattle.station_checks.specs.PortTexts.{final_verdicts, ask_line, placed_ask_line, port_text, numbered_port_text}
 
 pub appends_more : (old next new : Option (List ℕ)) (xs ys : List ℕ) → Appends old next xs → Appends next new ys
     → Appends old new (xs ++ ys)
@@ -11,15 +17,79 @@ appends_more (Some bs) None new xs ys p q = absurd p
 appends_more (Some bs) (Some cs) None xs ys p q = absurd q
 appends_more (Some bs) (Some cs) (Some ds) xs ys p q = q ∙ ap (λ l. l ++ ys) p ∙ append_assoc bs xs ys
 
--- a text that may be unknown, and one behind it
-pub both_told : {X E : Type 0} (r : Result X E) (old next new : Option (List ℕ)) (first : Option (List ℕ)) (second : List ℕ)
-    → IfSome first (Appends old next) → OnOk r (Appends next new second)
-    → OnOk r (IfSome (option_map (λ t. t ++ second) first) (Appends old new))
-both_told (Ok x) old next new None second p q = tt
-both_told (Ok x) old next new (Some text) second p q = appends_more old next new text second p q
-both_told (Err e) old next new first second p q = tt
-
 pub more_told : {X E : Type 0} (r : Result X E) (old next new : Option (List ℕ)) (first second : List ℕ) → Appends old next first
     → OnOk r (Appends next new second) → OnOk r (Appends old new (first ++ second))
 more_told (Ok x) old next new first second p q = appends_more old next new first second p q
 more_told (Err e) old next new first second p q = tt
+
+-- ---- items that are told with their places
+
+numbered_from : {X : Type 0} (f : ℕ × X → List ℕ) (n : ℕ) (xs : List X) (i : ℕ) (d : X) → i < length xs
+    → flat_map f (enumerate_from n (take (suc i) xs)) ≡ flat_map f (enumerate_from n (take i xs)) ++ f (n + i, get_or xs i d)
+numbered_from f n [] i d within = absurd (omega arith)
+numbered_from f n (x ∷ xs) zero d within = append-nil (f (n, x)) ∙ ap (λ k. f (k, x)) (sym (add-zero n))
+numbered_from f n (x ∷ xs) (suc i) d within =
+    let e : n + 1 + i ≡ n + suc i = omega arith in
+    ap (λ l. f (n, x) ++ l) (numbered_from f (n + 1) xs i d (omega arith)
+    ∙ ap (λ k. flat_map f (enumerate_from (n + 1) (take i xs)) ++ f (k, get_or xs i d)) e)
+    ∙ sym (append_assoc (f (n, x)) (flat_map f (enumerate_from (n + 1) (take i xs))) (f (n + suc i, get_or xs i d)))
+
+-- one item more
+pub numbered_more : {X : Type 0} (f : ℕ × X → List ℕ) (xs : List X) (i : ℕ) (d : X) (old next new : Option (List ℕ)) → i < length xs
+    → Appends old next (flat_map f (enumerate_from 0 (take i xs))) → Appends next new (f (i, get_or xs i d))
+    → Appends old new (flat_map f (enumerate_from 0 (take (i + 1) xs)))
+numbered_more f xs i d old next new within before adds =
+    let e : i + 1 ≡ suc i = omega arith in
+    let text = flat_map f (enumerate_from 0 (take i xs)) in
+    subst (Appends old new)
+    (ap (λ k. text ++ f (k, get_or xs i d)) (sym (zero-add i)) ∙ sym (numbered_from f 0 xs i d within)
+    ∙ ap (λ k. flat_map f (enumerate_from 0 (take k xs))) (sym e))
+    (appends_more old next new text (f (i, get_or xs i d)) before adds)
+
+-- ---- what is left of a list
+
+first_left : {X : Type 0} (xs : List X) (i : ℕ) → slice_get (drop i xs) 0 ≡ slice_get xs i
+first_left [] zero = refl
+first_left [] (suc i) = refl
+first_left (x ∷ xs) zero = refl
+first_left (x ∷ xs) (suc i) = first_left xs i
+
+one_less : {X : Type 0} (xs : List X) (i : ℕ) → drop 1 (drop i xs) ≡ drop (suc i) xs
+one_less [] zero = refl
+one_less [] (suc i) = refl
+one_less (x ∷ xs) zero = refl
+one_less (x ∷ xs) (suc i) = one_less xs i
+
+-- ---- what is told of the ports
+
+module _ (list : List Told) (asks : List Ask) (i : ℕ) (rest : List Told)
+    (before : final_verdicts rest ≡ drop i (final_verdicts list)) where
+  -- one ask more, with the first of the verdicts that are left
+  pub ask_more : (d : Ask) (verdict : Option Told) (old next new : Option (List ℕ)) → i < length asks
+      → verdict ≡ slice_get (final_verdicts rest) 0
+      → Appends old next (flat_map (placed_ask_line list) (enumerate_from 0 (take i asks)))
+      → Appends next new (ask_line list (get_or asks i d) verdict)
+      → Appends old new (flat_map (placed_ask_line list) (enumerate_from 0 (take (i + 1) asks)))
+  ask_more d verdict old next new within first told adds =
+      numbered_more (placed_ask_line list) asks i d old next new within told
+      (subst (λ v. Appends next new (ask_line list (get_or asks i d) v))
+      (first ∙ ap (λ vs. slice_get vs 0) before ∙ first_left (final_verdicts list) i) adds)
+
+  -- and the others are left
+  pub fewer_left : (behind : List Told) → final_verdicts behind ≡ drop 1 (final_verdicts rest)
+      → final_verdicts behind ≡ drop (i + 1) (final_verdicts list)
+  fewer_left behind is =
+      let e : suc i ≡ i + 1 = omega arith in
+      is ∙ ap (drop 1) before ∙ one_less (final_verdicts list) i ∙ ap (λ k. drop k (final_verdicts list)) e
+
+-- one port more
+pub port_more : (asks : ℕ) (lists : List (Vec Told)) (scripts : List (Vec Ask)) (i : ℕ) (script d : Vec Ask) (items : List Ask)
+    (list : List Told) (old next new : Option (List ℕ)) → i < length scripts → script ≡ get_or scripts i d → items ≡ script.items
+    → list ≡ list_in lists i
+    → Appends old next (flat_map (numbered_port_text asks lists) (enumerate_from 0 (take i scripts)))
+    → Appends next new (port_text i asks items list)
+    → Appends old new (flat_map (numbered_port_text asks lists) (enumerate_from 0 (take (i + 1) scripts)))
+port_more asks lists scripts i script d items list old next new within is holds told before adds =
+    numbered_more (numbered_port_text asks lists) scripts i d old next new within before
+    (subst (λ l. Appends next new (port_text i asks (get_or scripts i d).items l)) told
+    (subst (λ s. Appends next new (port_text i asks s list)) (holds ∙ ap (λ v. v.items) is) adds))

@@ -2,6 +2,9 @@ pub mod Scripts
 pub mod Asked
 pub mod Drawn
 pub mod Checks
+pub mod Outcomes
 pub mod Counts
 pub mod Texts
+pub mod Literals
+pub mod PortTexts
 pub mod Stories

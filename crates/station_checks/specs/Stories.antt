@@ -1,52 +1,36 @@
 -- What is told of a run.
-use Rattle.std.specs.Prelude.{ℕ, ◌*◌, ◌/◌, ◌-◌, ◌==◌, if◌then◌else◌, Bool, true, false, not, List, [], ◌∷◌, ◌++◌}
-use Rattle.std.specs.Prelude.{flat_map, drop, length, Option, Some, None}
-use Rattle.std.specs.Prelude.{codes, decimal}
-use Rattle.std.specs.Option.{option_map}
+use Rattle.std.specs.Prelude.{ℕ, ◌*◌, ◌/◌, ◌-◌, ◌==◌, if◌then◌else◌, Bool, List, [], ◌∷◌, ◌++◌, flat_map, drop, length, codes, decimal}
+use Rattle.std.specs.Global.{Vec}
 use Rattle.std.specs.Duration.{as_nanos}
 use Rattle.std.specs.declared.time.Duration.{Duration}
-use Rattle.flat_model.specs.Causes.{passes}
-use Rattle.flat_model.specs.Texts.{word_text}
 use Rattle.station_journal.specs.declared.asks.Ask.{Ask}
 use Rattle.station_journal.specs.declared.asks.Told.{Told}
-use Rattle.station_journal.specs.declared.asks.Told.TheVariants.{Accepted, Refused, Value}
 use Rattle.station_journal.specs.declared.journal.Entry.{Entry}
 use Rattle.station_journal.specs.declared.journal.Entry.TheVariants.{Step, Ended}
 use Rattle.station_parts.specs.declared.parts.Audit.{Audit}
 use Rattle.station_parts.specs.declared.parts.Audit.TheVariants.{Clean}
 use Rattle.station_checks.specs.declared.findings.Findings.{Findings}
+use Rattle.station_checks.specs.declared.plan.Plan.{Plan}
 use Rattle.station_checks.specs.declared.story.Tally.{Tally}
 use Rattle.station_checks.specs.declared.story.TheConstants.{SHOWN}
-use Rattle.station_checks.specs.Texts.{entry_text, ask_text}
+use Rattle.station_checks.specs.Texts.{line_of, entry_text}
+use Rattle.station_checks.specs.Literals.{audit_literal}
+use Rattle.station_checks.specs.PortTexts.{ports_text}
 
--- a text, and the end of its line
-abbrev pub line_of : List ℕ → List ℕ
-line_of text = text ++ 10 ∷ []
-
--- what an audit found; only the words for a clean one are said
-abbrev pub audit_text : Audit → Option (List ℕ)
-audit_text Clean = Some (line_of (codes "audit: clean, nothing is left in a ring and nothing is owed"))
-audit_text found = None
+-- what an audit found
+abbrev pub audit_line : Audit → List ℕ
+audit_line Clean = line_of (codes "audit: clean, nothing is left in a ring and nothing is owed")
+audit_line found = line_of (codes "audit: " ++ audit_literal found)
 
 abbrev pub flat_text : Bool → List ℕ
 flat_text is_flat = line_of (if is_flat then codes "journal: flat" else codes "journal: not flat")
 
-abbrev pub findings_text : Findings → Option (List ℕ)
-findings_text found = option_map (λ audit. audit ++ flat_text found.is_flat) (audit_text found.audit)
+abbrev pub findings_text : Findings → List ℕ
+findings_text found = audit_line found.audit ++ flat_text found.is_flat
 
--- what came of a load, by the value that was told under its tag
-abbrev pub value_text : Option Told → List ℕ
-value_text (Some (Value tag word)) = word_text word
-value_text told = codes "no value"
-
-abbrev pub load_text : Ask → Option Told → List ℕ
-load_text ask value = line_of (codes "  " ++ (ask_text ask ++ (codes " -> " ++ value_text value)))
-
--- a verdict behind which the port goes on
-abbrev pub ends_ask : Told → Bool
-ends_ask Accepted = true
-ends_ask (Refused cause) = not (passes cause)
-ends_ask (Value tag word) = false
+-- what no schedule changes
+abbrev pub story_text : Plan → List (Vec Ask) → List (Vec Told) → Findings → List ℕ
+story_text plan scripts lists found = ports_text plan scripts lists ++ findings_text found
 
 -- the journal as a recorded run: a line for each step
 abbrev pub step_text : Entry → List ℕ

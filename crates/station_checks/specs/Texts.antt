@@ -1,5 +1,5 @@
 -- The texts of asks, entries and tellings. Events, answers and words are written as in a trace.
-use Rattle.std.specs.Prelude.{ℕ, List, ◌++◌, codes, decimal}
+use Rattle.std.specs.Prelude.{ℕ, List, [], ◌∷◌, ◌++◌, codes, decimal}
 use Rattle.flat_model.specs.Flat.{number}
 use Rattle.flat_model.specs.Texts.{event_text, answer_text, word_text, lanes_text}
 use Rattle.station_journal.specs.declared.asks.Ask.{Ask}
@@ -8,6 +8,10 @@ use Rattle.station_journal.specs.declared.asks.Told.{Told}
 use Rattle.station_journal.specs.declared.asks.Told.TheVariants.{Accepted, Refused, Value}
 use Rattle.station_journal.specs.declared.journal.Entry.{Entry}
 use Rattle.station_journal.specs.declared.journal.Entry.TheVariants.{Step, Ended}
+
+-- a text, and the end of its line
+abbrev pub line_of : List ℕ → List ℕ
+line_of text = text ++ 10 ∷ []
 
 -- a line of a recorded run, or that a port has ended
 abbrev pub entry_text : Entry → List ℕ

@@ -3,6 +3,7 @@ ghost use Rattle.std.specs.Prelude.{◌≡◌, ◌≢◌, ◌↔◌, true, false
 ghost use Rattle.flat_model.specs.Memory.{shown};
 ghost use Rattle.std.specs.Option.{option_map};
 ghost use Rattle.station_checks.specs.Checks.{flat_after, is_flat, FindsTold};
+ghost use Rattle.station_checks.specs.Outcomes.{outcome_of};
 
 use crate::checks::{are_told, goes_on, is_flat};
 use flat_model::FlatMemory;
@@ -87,6 +88,7 @@ impl Findings {
 
     /// What they come to.
     pub fn outcome(&self) -> Outcome
+        ensures exact { result ≡ outcome_of self.now }
         ensures good { (result ≡ Outcome.Good)
             ↔ ((self.now.audit ≡ Audit.Clean) × (self.now.is_flat ≡ true)
             × (self.now.are_told ≡ Some true)) }

@@ -12,7 +12,7 @@ mod story;
 pub use checks::{are_told, goes_on, is_flat, read_journal};
 pub use drawing::ScriptParts;
 pub use findings::{Findings, Outcome};
-pub use lines::{AskText, EntryText, ToldText};
+pub use lines::{AskText, EntryText, FindingsText, ToldText};
 pub use plan::{
     BLOCK_WORDS, DEPTH, ENTRIES, MOST_PORTS, Plan, REGS, WAYS, WORDS, ask_by, bytes_of, shape,
 };

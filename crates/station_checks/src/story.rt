@@ -1,12 +1,16 @@
 //! What a run is told by: what came of each ask, and what was found.
-ghost use Rattle.std.specs.Prelude.{◌≡◌, ◌+◌, length, min, flat_map, OnOk, IfSome};
+ghost use Rattle.std.specs.Prelude.{◌≡◌, ◌+◌, length, min, take, drop, flat_map, OnOk};
+ghost use Rattle.std.specs.List.{slice_get};
 ghost use Rattle.std.specs.Io.KnownBytes.{Appends};
+ghost use Rattle.station_parts.specs.Runs.{list_in};
 ghost use Rattle.station_checks.specs.Counts.{again_in, is_asked_again};
-ghost use Rattle.station_checks.specs.Stories.{findings_text, audit_text, flat_text, load_text, ends_ask, recorded_text};
+ghost use Rattle.station_checks.specs.PortTexts.{ends_ask, final_verdicts, is_value_under, value_under, load_text, ask_line, asks_text};
+ghost use Rattle.station_checks.specs.PortTexts.{plan_text, port_line, more_text, port_text, each_port_text, ports_text};
+ghost use Rattle.station_checks.specs.Stories.{story_text, findings_text, audit_line, flat_text, recorded_text};
 ghost use Rattle.station_checks.specs.Stories.{rate_of, progress_text, length_text, last_of, shown_text, again_text, rate_text, run_text};
 
 use crate::findings::Findings;
-use crate::lines::{AskText, EntryText, ToldText};
+use crate::lines::{AskText, AuditText, EntryText, ToldText};
 use crate::plan::Plan;
 use station_journal::{Ask, Entry, Told};
 use station_parts::Audit;
@@ -24,7 +28,10 @@ pub fn tell_story<W: Write>(
     scripts: &[Vec<Ask>],
     lists: &[Vec<Told>],
     findings: &Findings,
-) -> io::Result<()> {
+) -> io::Result<()>
+    ensures { OnOk result (Appends (W.contents out.old) (W.contents out.new)
+        (story_text plan.now scripts.now lists.now findings.now)) }
+{
     tell_ports(out, plan, scripts, lists)?;
     tell_findings(out, findings)
 }
@@ -36,42 +43,96 @@ pub fn tell_ports<W: Write>(
     plan: &Plan,
     scripts: &[Vec<Ask>],
     lists: &[Vec<Told>],
-) -> io::Result<()> {
-    let Plan { ports, asks, seed } = *plan;
-    writeln!(out, "{ports} ports, {asks} asks each, seed {seed}")?;
-    for (port, script) in scripts.iter().enumerate() {
-        writeln!(out)?;
-        writeln!(out, "port {port}")?;
-        let list: &[Told] = match lists.get(port) {
-            Some(list) => list,
-            None => &[],
-        };
-        tell_asks(out, script, list)?;
-        if asks as usize > SHOWN {
-            writeln!(out, "  and {} more", asks as usize - SHOWN)?;
-        }
-    }
+) -> io::Result<()>
+    ensures { OnOk result (Appends (W.contents out.old) (W.contents out.new)
+        (ports_text plan.now scripts.now lists.now)) }
+{
+    tell_plan(out, plan)?;
+    tell_each_port(out, plan.asks, scripts, lists)?;
     writeln!(out)
+}
+
+fn tell_plan<W: Write>(out: &mut W, plan: &Plan) -> io::Result<()>
+    ensures { OnOk result (Appends (W.contents out.old) (W.contents out.new) (plan_text plan.now)) }
+{
+    let Plan { ports, asks, seed } = *plan;
+    writeln!(out, "{ports} ports, {asks} asks each, seed {seed}")
+}
+
+fn tell_each_port<W: Write>(
+    out: &mut W,
+    asks: u32,
+    scripts: &[Vec<Ask>],
+    lists: &[Vec<Told>],
+) -> io::Result<()>
+    ensures { OnOk result (Appends (W.contents out.old) (W.contents out.new)
+        (each_port_text asks scripts.now lists.now)) }
+{
+    for (port, script) in scripts.iter().enumerate() {
+        tell_port(out, port, asks, script, list_of(lists, port))?;
+    }
+    Ok(())
+}
+
+// What a port was told, or nothing.
+fn list_of(lists: &[Vec<Told>], port: usize) -> &[Told]
+    ensures { result.now ≡ list_in lists.now port }
+{
+    match lists.get(port) {
+        Some(list) => list,
+        None => &[],
+    }
+}
+
+// What came of a port's first asks, and how many more it has.
+fn tell_port<W: Write>(
+    out: &mut W,
+    port: usize,
+    asks: u32,
+    script: &[Ask],
+    list: &[Told],
+) -> io::Result<()>
+    ensures { OnOk result (Appends (W.contents out.old) (W.contents out.new)
+        (port_text port asks script.now list.now)) }
+{
+    tell_port_line(out, port)?;
+    tell_asks(out, script, list)?;
+    tell_more(out, asks)
+}
+
+fn tell_port_line<W: Write>(out: &mut W, port: usize) -> io::Result<()>
+    ensures { OnOk result (Appends (W.contents out.old) (W.contents out.new) (port_line port)) }
+{
+    writeln!(out, "\nport {port}")
+}
+
+// How many asks aren't shown.
+fn tell_more<W: Write>(out: &mut W, asks: u32) -> io::Result<()>
+    ensures { OnOk result (Appends (W.contents out.old) (W.contents out.new) (more_text asks)) }
+{
+    if asks as usize > SHOWN {
+        writeln!(out, "  and {} more", asks as usize - SHOWN)?;
+    }
+    Ok(())
 }
 
 /// What the audit found, and whether the journal is flat.
 pub fn tell_findings<W: Write>(out: &mut W, findings: &Findings) -> io::Result<()>
-    ensures { OnOk result (IfSome (findings_text findings.now)
-        (Appends (W.contents out.old) (W.contents out.new))) }
+    ensures { OnOk result (Appends (W.contents out.old) (W.contents out.new) (findings_text findings.now)) }
 {
     tell_audit(out, findings.audit)?;
     tell_judged(out, findings.is_flat)
 }
 
 fn tell_audit<W: Write>(out: &mut W, audit: Audit) -> io::Result<()>
-    ensures { OnOk result (IfSome (audit_text audit) (Appends (W.contents out.old) (W.contents out.new))) }
+    ensures { OnOk result (Appends (W.contents out.old) (W.contents out.new) (audit_line audit)) }
 {
     match audit {
         Audit::Clean => writeln!(
             out,
             "audit: clean, nothing is left in a ring and nothing is owed"
         ),
-        found => writeln!(out, "audit: {found:?}"),
+        found => writeln!(out, "audit: {}", AuditText(found)),
     }
 }
 
@@ -86,20 +147,51 @@ fn tell_judged<W: Write>(out: &mut W, is_flat: bool) -> io::Result<()>
 }
 
 // The first asks of a port, each with what came of it.
-fn tell_asks<W: Write>(out: &mut W, script: &[Ask], list: &[Told]) -> io::Result<()> {
-    let mut verdicts = list.iter().filter(|told| ends_ask(**told));
-    for ask in script.iter().take(SHOWN) {
-        match (*ask, verdicts.next()) {
-            (Ask::Load { tag, .. }, Some(Told::Accepted)) => {
-                tell_load(out, *ask, value_of(list, tag))?;
-            }
-            // Whether a block is there to be given up depends on the other ports.
-            (Ask::Evict { .. }, Some(_)) => writeln!(out, "  {} -> done", AskText(*ask))?,
-            (_, Some(told)) => writeln!(out, "  {} -> {}", AskText(*ask), ToldText(*told))?,
-            (_, None) => writeln!(out, "  {} -> no verdict", AskText(*ask))?,
-        }
+fn tell_asks<W: Write>(out: &mut W, script: &[Ask], list: &[Told]) -> io::Result<()>
+    ensures { OnOk result (Appends (W.contents out.old) (W.contents out.new) (asks_text script.now list.now)) }
+{
+    let asks = first_asks(script);
+    let mut rest = list;
+    for ask in asks {
+        let (verdict, behind) = next_verdict(rest);
+        tell_ask(out, list, *ask, verdict)?;
+        rest = behind;
     }
     Ok(())
+}
+
+fn first_asks(script: &[Ask]) -> &[Ask]
+    ensures { result.now ≡ take SHOWN script.now }
+{
+    &script[..script.len().min(SHOWN)]
+}
+
+// The first verdict behind which the port goes on, and what it was told behind that.
+fn next_verdict(list: &[Told]) -> (Option<Told>, &[Told])
+    ensures first { result.0 ≡ slice_get (final_verdicts list.now) 0 }
+    ensures rest { final_verdicts result.1.now ≡ drop 1 (final_verdicts list.now) }
+{
+    for (place, told) in list.iter().enumerate() {
+        if ends_ask(*told) {
+            return (Some(*told), &list[place + 1..]);
+        }
+    }
+    (None, &[])
+}
+
+// An ask with what came of it: of a load its value.
+fn tell_ask<W: Write>(out: &mut W, list: &[Told], ask: Ask, verdict: Option<Told>) -> io::Result<()>
+    ensures { OnOk result (Appends (W.contents out.old) (W.contents out.new) (ask_line list.now ask verdict)) }
+{
+    match (ask, verdict) {
+        (Ask::Load { tag, .. }, Some(Told::Accepted)) => {
+            tell_load(out, ask, value_under(list, tag))
+        }
+        // Whether a block is there to be given up depends on the other ports.
+        (Ask::Evict { .. }, Some(_)) => writeln!(out, "  {} -> done", AskText(ask)),
+        (_, Some(told)) => writeln!(out, "  {} -> {}", AskText(ask), ToldText(told)),
+        (_, None) => writeln!(out, "  {} -> no verdict", AskText(ask)),
+    }
 }
 
 fn tell_load<W: Write>(out: &mut W, ask: Ask, value: Option<Told>) -> io::Result<()>
@@ -123,8 +215,19 @@ fn ends_ask(told: Told) -> bool
 }
 
 // The first value under a tag.
-fn value_of(list: &[Told], wanted: u8) -> Option<Told> {
-    list.iter().copied().find(|told| matches!(told, Told::Value { tag, .. } if *tag == wanted))
+fn value_under(list: &[Told], tag: u8) -> Option<Told>
+    ensures { result ≡ value_under tag list.now }
+{
+    list.iter().copied().find(|told| is_value_under(*told, tag))
+}
+
+fn is_value_under(told: Told, tag: u8) -> bool
+    ensures { result ≡ is_value_under tag told }
+{
+    match told {
+        Told::Value { tag: under, .. } => under == tag,
+        Told::Accepted | Told::Refused(_) => false,
+    }
 }
 
 /// What a run came to so far, whose journal was handed out in segments.

@@ -1,9 +1,10 @@
-//! What is found of a journal and of lists, and the texts, which no contract says.
+//! What is found of a journal and of lists, and the texts.
 use super::{ZEROS, scripts_of};
 use flat_model::{Answer, Cause, Event, Lanes, Word};
 use ring_station::{Ask, Audit, Entry, RenewFault, Ring, RunFault, SegmentFault, Source, Told};
 use station_checks::{
-    Findings, Plan, Tally, are_told, is_flat, tell_journal, tell_progress, tell_run, tell_story,
+    Findings, FindingsText, Plan, Tally, are_told, is_flat, tell_findings, tell_journal,
+    tell_progress, tell_run, tell_story,
 };
 use std::alloc::{AllocError, Global};
 use std::test::Fail;
@@ -229,6 +230,49 @@ fn texts_of_a_run(rt: HostRuntime) -> Result<(), Fail> {
     }
     for (fault, wanted) in FAULTS {
         assert_eq!(rt; format!(in rt.alloc(); "{fault}")?.as_str(), wanted);
+    }
+    Ok(())
+}
+
+// All kinds of what an audit finds, but for a clean one.
+const UNCLEAN: [Audit; 6] = [
+    Audit::Faulted,
+    Audit::Left {
+        ring: Ring::Asks(0),
+    },
+    Audit::Left {
+        ring: Ring::Told(15),
+    },
+    Audit::Left {
+        ring: Ring::Commands(31),
+    },
+    Audit::Left {
+        ring: Ring::Answers(2),
+    },
+    Audit::Owed { count: 64 },
+];
+
+#[test]
+fn findings_are_told_as_they_are_written(rt: HostRuntime) -> Result<(), Fail> {
+    let alloc = rt.alloc();
+    for audit in UNCLEAN {
+        let found = Findings { audit, ..FINDINGS };
+        let mut out = Vec::new(alloc);
+        tell_findings(&mut out, &found)?;
+        let wanted = format!(in alloc; "audit: {audit:?}\njournal: not flat\n")?;
+        assert_eq!(rt; out.as_slice(), wanted.as_bytes());
+    }
+    for are_told in [None, Some(false), Some(true)] {
+        for audit in [Audit::Clean, Audit::Owed { count: 2 }] {
+            let found = Findings {
+                audit,
+                is_flat: audit == Audit::Clean,
+                are_told,
+            };
+            let told = format!(in alloc; "{}", FindingsText(found))?;
+            let wanted = format!(in alloc; "{found:?}")?;
+            assert_eq!(rt; told.as_str(), wanted.as_str());
+        }
     }
     Ok(())
 }
