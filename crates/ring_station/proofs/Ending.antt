@@ -5,6 +5,7 @@ use Rattle.std.specs.Prelude.{Option, Some, None, is_none, vec_len, [], ◌∷�
 use Rattle.std.specs.Global.{Vec}
 use Rattle.std.specs.List.{list_all}
 use Rattle.std.proofs.Math.ListN.{get_or-map}
+use Rattle.std.proofs.lemmas.Bool.{and_parts}
 use Rattle.std.proofs.lemmas.List.{length-map}
 use Rattle.std.proofs.lemmas.List.Folds.{list_all_at}
 use Rattle.station_journal.specs.declared.asks.Ask.{Ask}
@@ -152,11 +153,6 @@ as_many f v looked new same ids = long_alike f new looked ids ∙ ap length same
 
 -- ---- every thread came to its end
 
-both_of : (a b : Bool) → (a && b) ≡ true → (a ≡ true) × (b ≡ true)
-both_of true true e = (refl, refl)
-both_of true false e = absurd (cc)
-both_of false b e = absurd (cc)
-
 clean_if : (found : Audit) → is_clean found ≡ true → found ≡ Clean
 clean_if Clean e = refl
 clean_if Faulted e = absurd (cc)
@@ -180,9 +176,9 @@ is_good run none =
     let whole : is_whole run ≡ true = whole_if (lacks run) (is_whole run) none in
     let ports = list_all is_over run.ports.items in
     let banks = list_all is_over run.banks.items in
-    let a = both_of (is_clean run.audit) (is_over run.cache && (ports && banks)) whole in
-    let b = both_of (is_over run.cache) (ports && banks) a.1 in
-    let c = both_of ports banks b.1 in
+    let a = and_parts (is_clean run.audit) (is_over run.cache && (ports && banks)) whole in
+    let b = and_parts (is_over run.cache) (ports && banks) a.1 in
+    let c = and_parts ports banks b.1 in
     record { audit = clean_if run.audit a.0; cache = b.0; ports = c.0; banks = c.1 }
 
 over_stands : (over memory full : Type 0) (turns begun : ℕ) (fault : Option ThreadFault) → is_none fault ≡ true

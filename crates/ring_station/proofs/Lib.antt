@@ -4,6 +4,8 @@ pub mod Turning
 pub mod Enlisting
 pub mod Sharing
 pub mod Rounding
+pub mod Passing
+pub mod GoingRound
 pub mod CrewRunning
 pub mod StationRunning
 pub mod Ending

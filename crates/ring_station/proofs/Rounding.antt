@@ -1,10 +1,11 @@
 -- The round of the cache side, and what looks at far ends leave of what is known.
 use Rattle.std.proofs.Common.{◌≡◌, ◌≤◌, false, List, [], ◌++◌, length, nat_lt, refl, sym, ap, ◌∙◌, arith}
-use Rattle.std.proofs.Common.{append-nil, append_assoc, length-append}
+use Rattle.std.proofs.Common.{append-nil, length-append}
 use Rattle.std.proofs.lemmas.Bool.{ltb-false, le-ltb}
 use mathlib.Core.List.{IsPrefix}
 use Rattle.station_journal.specs.declared.journal.Source.{Source}
 use Rattle.station_journal.specs.declared.journal.Source.TheVariants.{Ask, Word, Stack, Drain, Reply}
+use Rattle.station_parts.proofs.Seeing.{prefix_steps}
 use Rattle.station_parts.specs.SideState.{SideState, OnlyLooks}
 use Rattle.station_parts.specs.SideSteps.{has_item}
 
@@ -12,9 +13,6 @@ use Rattle.station_parts.specs.SideSteps.{has_item}
 
 prefix_self : {A : Type 0} (xs : List A) → IsPrefix xs xs
 prefix_self xs = ([], append-nil xs)
-
-prefix_more : {A : Type 0} (xs ys zs : List A) → IsPrefix xs ys → IsPrefix ys zs → IsPrefix xs zs
-prefix_more xs ys zs (more, p) (rest, q) = (more ++ rest, sym (append_assoc xs more rest) ∙ ap (λ l. l ++ rest) p ∙ q)
 
 pub looks_none : (s : SideState) → OnlyLooks s s
 looks_none s = record {
@@ -45,8 +43,8 @@ looks_more s t u one two = record {
   commands = λ b. two.commands b ∙ one.commands b;
   words = λ b. two.words b ∙ one.words b;
   known = record {
-    asks = λ p. prefix_more (s.known.asks p) (t.known.asks p) (u.known.asks p) (one.known.asks p) (two.known.asks p);
-    words = λ b. prefix_more (s.known.words b) (t.known.words b) (u.known.words b) (one.known.words b) (two.known.words b);
+    asks = λ p. prefix_steps (s.known.asks p) (t.known.asks p) (u.known.asks p) (one.known.asks p) (two.known.asks p);
+    words = λ b. prefix_steps (s.known.words b) (t.known.words b) (u.known.words b) (one.known.words b) (two.known.words b);
     telling_places = λ p. let a = one.known.telling_places p in let b = two.known.telling_places p in omega arith;
     command_places = λ b. let a = one.known.command_places b in let c = two.known.command_places b in omega arith;
   };

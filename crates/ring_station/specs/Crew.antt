@@ -1,6 +1,7 @@
 -- What a run of the threads makes of the ports and the banks.
-use Rattle.std.specs.Prelude.{◌≡◌, ℕ, ◌+◌, ◌<◌, ◌≤◌, true, List, [], length, slice_index_or}
+use Rattle.std.specs.Prelude.{◌≡◌, ℕ, ◌+◌, ◌<◌, ◌≤◌, max, true, List, [], length, slice_index_or}
 use Rattle.std.specs.Global.{Vec}
+use Rattle.std.specs.Int.{div_ceil}
 use Rattle.station_journal.specs.declared.asks.Ask.{Ask}
 use Rattle.ring_station.specs.declared.crew.PortRun.{PortRun}
 use Rattle.ring_station.specs.declared.crew.BankRun.{BankRun}
@@ -11,6 +12,10 @@ use Rattle.ring_station.specs.Ends.{goes_on, not_begun}
 use Rattle.ring_station.specs.Scripts.{HasTalked}
 use Rattle.ring_station.specs.PortRuns.{PortRan, IsOnItsWay}
 use Rattle.ring_station.specs.PartRuns.{BankRan}
+
+-- how many parts each of so many threads has that share them: as many as the others, but for the last one, which has what is left
+abbrev pub parts_a_thread : ℕ → ℕ → ℕ
+parts_a_thread parts threads = max (div_ceil parts (max threads 1)) 1
 
 -- a port ran this script in so many turns
 abbrev pub RanScript : List Ask → ℕ → PortRun → PortRun → Type 0

@@ -38,6 +38,25 @@ is_first_bank place = false
 abbrev pub is_at_banks : Round → Bool
 is_at_banks round = not round.has_word && is_first_bank round.place
 
+-- the banks beside the cache side have a turn if the round comes to them, and behind a turn without a step
+abbrev pub are_banks_due : Round → Option Stepped → Bool
+are_banks_due round (Some Did) = is_at_banks round
+are_banks_due round stepped = true
+
+-- the sources of a round
+abbrev pub HasSource : Round → Source → Type 0
+HasSource round (sources.Ask port) = port < round.ports
+HasSource round (sources.Word bank) = bank < round.banks
+HasSource round (sources.Stack place) = place ≡ 0
+HasSource round sources.Drain = Unit {0}
+HasSource round (sources.Reply place) = place ≡ 0
+
+-- it stands at one of them, and asks one of its ports next
+pub record StandsWithin (round : Round) : Type 0 where
+  pub ports : round.port < round.ports
+  pub banks : 0 < round.banks
+  pub source : HasSource round (source_at round.place round.port)
+
 -- ---- the order
 
 -- the place behind one that has no more
@@ -87,12 +106,15 @@ passed (suc count) round = round_behind false (passed count round)
 abbrev pub most_places : Round → ℕ
 most_places round = round.ports + 2 * (round.banks + OTHER_SOURCES)
 
--- the round went by places of which no item was known, to one of which one is, or once round all
+-- the round went by places of which no item was known, to one of which one is, or once round all; so it passes no source of
+-- which one was known
 pub record Seeks (old new : Round) (before after : SideState) : Type 0 where
   pub count : ℕ
   pub passed_is : new ≡ passed count old
   pub unknown : (k : ℕ) → k < count → has_item (source_of (passed k old)) before ≡ false
   pub ended : (has_item (source_of new) after ≡ true) ⊎ (count ≡ most_places old)
+  pub all : StandsWithin old → has_item (source_of new) after ≡ false → (source : Source) → HasSource old source
+      → has_item source before ≡ false
 
 -- a turn of the cache side: if it may make a step it goes on to the next source of which an item is known, and makes one there;
 -- and then the round goes on behind it
@@ -105,3 +127,35 @@ pub record TurnsRound {W B R D : ℕ} (may : Bool) (old new : Round) (before aft
     pub held : may ≡ false → (looked ≡ before) × (at ≡ old)
     pub turn : IsTurn (SideSteps (source_of at)) may looked after stepped
     pub goes_on : new ≡ round_after stepped at
+    pub stays : StandsWithin old → StandsWithin new
+
+-- ---- turn by turn
+
+-- how the cache side's thread stands between two turns: its round, what its last turn came to, and how many turns the banks beside
+-- it have had
+pub record Standing (W B R D : ℕ) : Type 0 where
+  pub round : Round
+  pub stepped : Option Stepped
+  pub had : ℕ
+  pub cache : CacheSide W B R D
+
+-- before its first turn
+abbrev pub standing_first : {W B R D : ℕ} → ℕ → ℕ → CacheSide W B R D → Standing W B R D
+standing_first ports banks cache = record { round = first_round ports banks; stepped = None; had = 0; cache = cache }
+
+-- a turn: the banks have theirs first, if it is due
+pub record TakesTurn {W B R D : ℕ} (old new : Standing W B R D) : Type 0 where
+  pub may : Bool
+  pub had : new.had ≡ (if are_banks_due old.round old.stepped then old.had + 1 else old.had)
+  pub turns : TurnsRound may old.round new.round old.cache new.cache new.stepped
+
+abbrev pub TakesTurns : {W B R D : ℕ} → ℕ → Standing W B R D → Standing W B R D → Type 0
+TakesTurns zero first last = last ≡ first
+TakesTurns {W} {B} {R} {D} (suc turns) first last = (before : Standing W B R D) × TakesTurns turns first before × TakesTurn before last
+
+-- so many turns of the thread, in which the banks beside it had so many
+pub record HasGoneRound {W B R D : ℕ} (ports banks turns had : ℕ) (old new : CacheSide W B R D) : Type 0 where
+  pub last : Standing W B R D
+  pub taken : TakesTurns turns (standing_first ports banks old) last
+  pub had_is : last.had ≡ had
+  pub cache_is : last.cache ≡ new

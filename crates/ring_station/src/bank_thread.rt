@@ -1,5 +1,5 @@
 //! The thread of a bank, or of several.
-ghost use Rattle.std.specs.Prelude.{◌≡◌, ◌+◌, ◌<◌, ◌≤◌, List, true, false, length, None, IfSome};
+ghost use Rattle.std.specs.Prelude.{◌≡◌, ◌+◌, ◌<◌, ◌≤◌, if◌then◌else◌, List, true, false, length, None, IfSome};
 ghost use Rattle.std.specs.List.{All};
 ghost use Rattle.flat_model.specs.declared.limits.TheConstants.{MAX_BANKS};
 ghost use Rattle.station_parts.specs.Ids.{bank_id};
@@ -82,7 +82,8 @@ pub(crate) fn serve_beside<G: Gate>(
     requires turn { had < u64.MAX }
     ensures on { (first : List BankRun) → EachServed had first runs.old
         → EachServed result.turns first runs.new }
-    ensures within { result.turns ≤ had + 1 }
+    ensures counted { result.turns ≡ (if is_due then had + 1 else had) }
+    ensures undue { is_due ≡ false → (runs.new ≡ runs.old) × (result.made ≡ None) }
 {
     if !is_due {
         return Served {

@@ -4,7 +4,7 @@ ghost use Rattle.std.specs.List.{All};
 ghost use Rattle.flat_model.specs.declared.limits.TheConstants.{MAX_BANKS};
 ghost use Rattle.station_parts.specs.Ids.{cache_id};
 ghost use Rattle.ring_station.specs.Turns.{IsTurn, SideSteps};
-ghost use Rattle.ring_station.specs.Round.{TurnsRound};
+ghost use Rattle.ring_station.specs.Round.{TurnsRound, HasGoneRound};
 ghost use Rattle.station_parts.specs.Words.{held_of};
 ghost use Rattle.ring_station.specs.PartRuns.{CacheRan, ends_at};
 ghost use Rattle.ring_station.specs.Crew.{EachServed};
@@ -76,6 +76,7 @@ fn go_round<
     ensures cache { CacheRan ports turns cache.old cache.new result.0 }
     ensures banks { EachServed result.1 own.old own.new }
     ensures within { result.1 ≤ turns }
+    ensures round { HasGoneRound ports banks result.0.turns result.1 cache.old cache.new }
 {
     let mut round = Round::new(ports, banks);
     let mut open_ports = ports;
@@ -83,8 +84,7 @@ fn go_round<
     let mut stepped = None;
     let mut idling = Idling::of_cache();
     for turn in 0..turns {
-        let is_due = round.is_at_banks() || stepped != Some(Stepped::Did);
-        let served = serve_beside(gate, is_due, had, own);
+        let served = serve_beside(gate, round.are_banks_due(stepped), had, own);
         had = served.turns;
         let entries = cache.entries();
         stepped = turn_round(gate.may(Actor::Cache), &mut round, cache);

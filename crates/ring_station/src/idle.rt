@@ -1,7 +1,7 @@
 //! How a thread spends a turn in which it made no step.
-ghost use Rattle.std.specs.Prelude.{◌≡◌, ◌*◌, min};
-ghost use Rattle.std.specs.Duration.{as_nanos};
-ghost use Rattle.ring_station.specs.Idle.{turn_of, joint_turn, turn_of_both, turn_beside, idling_from, more_turns, idling_behind};
+ghost use Rattle.std.specs.Prelude.{◌≡◌};
+ghost use Rattle.ring_station.specs.Idle.{turn_of, joint_turn, turn_of_both, turn_beside, idling_from, idling_behind};
+ghost use Rattle.ring_station.specs.Idle.{rest_behind, held_rest, idle_rest, nap_of};
 
 use station_parts::Stepped;
 use std::hint::spin_loop;
@@ -99,6 +99,17 @@ pub(crate) fn turn_beside(one: Turn, other: Option<Turn>) -> Turn
     }
 }
 
+// How a thread spends the rest of a turn.
+#[derive(Clone, Copy)]
+enum Rest {
+    GoOn,
+    Pause,
+    // Its processor goes to another thread that waits for one.
+    Yield,
+    // For so many nanoseconds.
+    Sleep(u64),
+}
+
 /// How many turns in a row went by without a step.
 #[derive(Drop)]
 pub(crate) struct Idling {
@@ -141,41 +152,77 @@ impl Idling {
     pub(crate) fn end_turn<R: Clock>(&mut self, rt: &R, turn: Turn)
         ensures { self.new ≡ idling_behind turn self.old }
     {
+        self.note(turn);
+        take_rest(rt, self.rest_behind(turn));
+    }
+
+    fn note(&mut self, turn: Turn)
+        ensures { self.new ≡ idling_behind turn self.old }
+    {
         match turn {
             Turn::Moved => {
                 self.held = 0;
                 self.idle = 0;
             }
-            Turn::Held => self.end_held(rt),
-            Turn::Idle => self.end_idle(rt),
+            Turn::Held => self.held = self.held.saturating_add(1),
+            Turn::Idle => self.idle = self.idle.saturating_add(1),
         }
     }
 
-    fn end_held<R: Clock>(&mut self, rt: &R)
-        ensures { self.new ≡ record self.old { held = more_turns self.old.held } }
+    // How the thread spends the rest of this turn, which is among those that were counted.
+    fn rest_behind(&self, turn: Turn) -> Rest
+        ensures { result ≡ rest_behind turn self.now }
     {
-        self.held = self.held.saturating_add(1);
-        if self.held % HELD_TURNS_A_NAP == 0 {
-            thread::sleep(rt, nap(self.held / HELD_TURNS_A_NAP));
-        } else if self.held % HELD_TURNS_A_YIELD == 0 {
-            thread::yield_now();
+        match turn {
+            Turn::Moved => Rest::GoOn,
+            Turn::Held => held_rest(self.held),
+            Turn::Idle => idle_rest(self.idle, self.at_once, self.awake),
         }
     }
+}
 
-    fn end_idle<R: Clock>(&mut self, rt: &R)
-        ensures { self.new ≡ record self.old { idle = more_turns self.old.idle } }
-    {
-        self.idle = self.idle.saturating_add(1);
-        if self.idle <= self.at_once {
-            return;
-        }
-        if self.idle > self.awake && self.idle % TURNS_A_NAP == 0 {
-            thread::sleep(rt, nap((self.idle - self.awake) / TURNS_A_NAP));
-        } else if self.idle - self.at_once <= TURNS_WITH_A_YIELD {
-            thread::yield_now();
-        } else {
-            pause();
-        }
+// Behind so many turns in a row in which the gate held the thread.
+fn held_rest(held: u64) -> Rest
+    ensures { result ≡ held_rest held }
+{
+    if held % HELD_TURNS_A_NAP == 0 {
+        Rest::Sleep(nap(held / HELD_TURNS_A_NAP))
+    } else if held % HELD_TURNS_A_YIELD == 0 {
+        Rest::Yield
+    } else {
+        Rest::GoOn
+    }
+}
+
+// Behind so many turns in a row in which there was nothing to do, the first of which are without a pause and
+// without a sleep.
+fn idle_rest(idle: u64, at_once: u64, awake: u64) -> Rest
+    ensures { result ≡ idle_rest idle at_once awake }
+{
+    if idle <= at_once {
+        Rest::GoOn
+    } else if idle > awake && idle % TURNS_A_NAP == 0 {
+        Rest::Sleep(nap((idle - awake) / TURNS_A_NAP))
+    } else if idle - at_once <= TURNS_WITH_A_YIELD {
+        Rest::Yield
+    } else {
+        Rest::Pause
+    }
+}
+
+// How long a thread sleeps for this time in a row, in nanoseconds.
+fn nap(time: u64) -> u64
+    ensures { result ≡ nap_of time }
+{
+    time.saturating_mul(FIRST_NAP).min(LONGEST_NAP)
+}
+
+fn take_rest<R: Clock>(rt: &R, rest: Rest) {
+    match rest {
+        Rest::GoOn => {}
+        Rest::Pause => pause(),
+        Rest::Yield => thread::yield_now(),
+        Rest::Sleep(nanoseconds) => thread::sleep(rt, Duration::from_nanos(nanoseconds)),
     }
 }
 
@@ -183,11 +230,4 @@ fn pause() {
     for _pause in 0..PAUSES {
         spin_loop();
     }
-}
-
-// How long a thread sleeps for this time in a row.
-fn nap(time: u64) -> Duration
-    ensures { as_nanos result ≡ min (time * FIRST_NAP) LONGEST_NAP }
-{
-    Duration::from_nanos(time.saturating_mul(FIRST_NAP).min(LONGEST_NAP))
 }

@@ -1,8 +1,8 @@
 //! The round of the cache side: its sources, one after the other.
-ghost use Rattle.std.specs.Prelude.{◌≡◌, true, false};
+ghost use Rattle.std.specs.Prelude.{◌≡◌, ◌<◌, true, false};
 ghost use Rattle.station_parts.specs.Ids.{cache_id};
 ghost use Rattle.station_parts.specs.SideState.{state_of, OnlyLooks};
-ghost use Rattle.ring_station.specs.Round.{first_round, is_at_banks, source_of, most_places, Seeks};
+ghost use Rattle.ring_station.specs.Round.{first_round, is_at_banks, are_banks_due, source_of, most_places, Seeks, StandsWithin};
 ghost use Rattle.ring_station.specs.Round.{place_behind, port_behind, behind_port, round_behind, round_after};
 
 use station_parts::{CacheSide, Source, Stepped};
@@ -47,7 +47,8 @@ pub(crate) struct Round {
 impl Round {
     /// A round that begins with the first of so many ports.
     pub(crate) fn new(ports: u32, banks: u32) -> Round
-        ensures { result ≡ first_round ports banks }
+        ensures first { result ≡ first_round ports banks }
+        ensures within { 0 < ports → 0 < banks → StandsWithin result }
     {
         Round {
             ports,
@@ -58,11 +59,19 @@ impl Round {
         }
     }
 
-    /// Whether the round stands before the first bank.
-    pub(crate) fn is_at_banks(&self) -> bool
+    // Whether the round stands before the first bank.
+    fn is_at_banks(&self) -> bool
         ensures { result ≡ is_at_banks self.now }
     {
         !self.has_word && matches!(self.place, Place::Bank(0))
+    }
+
+    /// Whether the banks beside the cache side have a turn before its next step: if the round comes to them, and
+    /// behind a turn in which no step was made.
+    pub(crate) fn are_banks_due(&self, stepped: Option<Stepped>) -> bool
+        ensures { result ≡ are_banks_due self.now stepped }
+    {
+        self.is_at_banks() || stepped != Some(Stepped::Did)
     }
 
     /// The source of the next step.
@@ -92,6 +101,7 @@ impl Round {
         ensures same { cache_id cache.new ≡ cache_id cache.old }
         ensures looks { OnlyLooks (state_of cache.old) (state_of cache.new) }
         ensures seeks { may ≡ true → Seeks self.old self.new (state_of cache.old) (state_of cache.new) }
+        ensures stays { StandsWithin self.old → StandsWithin self.new }
         ensures unmoved { may ≡ false → (cache.new ≡ cache.old) × (self.new ≡ self.old) }
     {
         if !may {
@@ -130,7 +140,8 @@ impl Round {
 
     /// Goes on behind a step of that source; if there was none, it stays where it is.
     pub(crate) fn go_on(&mut self, stepped: Option<Stepped>)
-        ensures { self.new ≡ round_after stepped self.old }
+        ensures on { self.new ≡ round_after stepped self.old }
+        ensures stays { StandsWithin self.old → StandsWithin self.new }
     {
         if let Some(stepped) = stepped {
             self.go_on_behind(stepped == Stepped::Did);

@@ -1,13 +1,13 @@
 //! The threads of a run: one for the cache side, and as many for the ports and the banks as their crew says.
-ghost use Rattle.std.specs.Prelude.{◌≡◌, ◌≤◌, ◌+◌, max, length, vec_len};
-ghost use Rattle.std.specs.Int.{div_ceil};
+ghost use Rattle.std.specs.Prelude.{◌≡◌, ◌≤◌, ◌+◌, length, vec_len};
+ghost use Rattle.std.specs.Fork.{AcceptsChunksMut, ChangesChunks, AllInChunks};
 ghost use Rattle.std.specs.List.{All};
 ghost use Rattle.std.specs.Thread.{IsSync};
 ghost use Rattle.station_parts.specs.declared.make.TheConstants.{MAX_PORTS};
 ghost use Rattle.flat_model.specs.declared.limits.TheConstants.{MAX_BANKS};
 ghost use Rattle.ring_station.specs.Ends.{not_begun};
 ghost use Rattle.ring_station.specs.PartRuns.{CacheRan};
-ghost use Rattle.ring_station.specs.Crew.{HasNotBegun, EachRanFrom, EachRanScript, EachServed};
+ghost use Rattle.ring_station.specs.Crew.{parts_a_thread, HasNotBegun, EachRanFrom, EachRanScript, EachServed};
 
 use crate::bank_thread::run_bank_thread;
 use crate::cache_thread::run_cache;
@@ -119,11 +119,10 @@ fn run_ports<R: Clock + Threads + Sync, G: Gate>(
     requires begun { All HasNotBegun ports.old }
     ensures { EachRanScript scripts.now turns ports.old ports.new }
 {
-    let size = parts_a_thread(ports.len(), threads);
-    for_each_chunk_mut(
+    for_each_share(
         rt,
         ports,
-        size,
+        threads,
         &|start: usize, runs: &mut [PortRun]|
             requires { (start + length runs.old ≤ length scripts.now)
                 × (length scripts.now ≤ MAX_PORTS) × All HasNotBegun runs.old }
@@ -144,11 +143,10 @@ fn run_banks<R: Clock + Threads + Sync, G: Gate>(
     requires begun { All (λ r. r.end ≡ not_begun) banks.old }
     ensures { EachServed turns banks.old banks.new }
 {
-    let size = parts_a_thread(banks.len(), threads);
-    for_each_chunk_mut(
+    for_each_share(
         rt,
         banks,
-        size,
+        threads,
         &|start: usize, runs: &mut [BankRun]|
             requires { (start + length runs.old ≤ MAX_BANKS) × All (λ r. r.end ≡ not_begun) runs.old }
             ensures { EachServed turns runs.old runs.new }
@@ -156,9 +154,24 @@ fn run_banks<R: Clock + Threads + Sync, G: Gate>(
     );
 }
 
+// Hands the parts out to so many threads, each of which begins with the part of a number.
+fn for_each_share<R: Threads + Sync, T: Send, F: Fn(usize, &mut [T]) + Sync>(
+    rt: &R,
+    parts: &mut [T],
+    threads: usize,
+    run: &F,
+)
+    requires { AcceptsChunksMut F.Fn run.now (parts_a_thread (length parts.old) threads) parts.old }
+    ensures shares { ChangesChunks F.Fn run.now (parts_a_thread (length parts.old) threads) parts.old parts.new }
+    ensures each { AllInChunks F.Fn run.now (parts_a_thread (length parts.old) threads) parts.old parts.new }
+{
+    let size = parts_a_thread(parts.len(), threads);
+    for_each_chunk_mut(rt, parts, size, run);
+}
+
 // How many of these parts a thread has, if they share so many.
 fn parts_a_thread(parts: usize, threads: usize) -> usize
-    ensures { result ≡ max (div_ceil parts (max threads 1)) 1 }
+    ensures { result ≡ parts_a_thread parts threads }
 {
     parts.div_ceil(threads.max(1)).max(1)
 }

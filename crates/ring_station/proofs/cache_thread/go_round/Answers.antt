@@ -1,4 +1,5 @@
-use Rattle.std.proofs.Common.{rules, arith, length, sym, ap, ◌∙◌, lit<}
+use Rattle.std.proofs.Common.{rules, length, sym, ap, ◌∙◌, lit<}
+use Rattle.ring_station.proofs.GoingRound.{counted_within, takes_turn, turned, gone_round}
 use Rattle.ring_station.proofs.Turning.{turn_notes, noted_more, noted_still, ended_more, ended_still, cache_ran, is_served, full_turn}
 use Rattle.ring_station.proofs.cache_thread.go_round.Goals as goal
 
@@ -12,7 +13,9 @@ loop-turn-preserved g c =
       earlier = notes.earlier ∙ made.looks.earlier ∙ c.loop-turn.invariant.earlier;
       noted = noted_more _ _ _ _ notes (noted_still _ _ _ _ made.looks.held c.loop-turn.invariant.noted);
       banks = c.serve_beside-served.ensures.on _ c.loop-turn.invariant.banks;
-      within = let more = c.serve_beside-served.ensures.within in let before = c.loop-turn.invariant.within in omega arith;
+      within = counted_within _ _ _ _ c.serve_beside-served.ensures.counted c.loop-turn.invariant.within;
+      round = turned _ _ _ _ c.loop-turn.invariant.round
+          (takes_turn _ _ _ _ c.are_banks_due.ensures c.serve_beside-served.ensures.counted made);
       ended = ended_more _ _ _ _ _ _ _ notes place c.has_ended_port.ensures c.still_open-open_ports.ensures
           (ended_still _ _ _ _ made.looks.held c.loop-turn.invariant.ended);
     }
@@ -46,15 +49,23 @@ pub returns-then-is_at_rest-clause-banks : goal.returns-then-is_at_rest-clause-b
 returns-then-is_at_rest-clause-banks g c = c.serve_beside-served.ensures.on _ c.loop-turn.invariant.banks
 
 pub returns-then-is_at_rest-clause-within : goal.returns-then-is_at_rest-clause-within
-returns-then-is_at_rest-clause-within g c =
-    let more = c.serve_beside-served.ensures.within in let before = c.loop-turn.invariant.within in omega arith
+returns-then-is_at_rest-clause-within g c = counted_within _ _ _ _ c.serve_beside-served.ensures.counted c.loop-turn.invariant.within
+
+pub returns-then-is_at_rest-clause-round : goal.returns-then-is_at_rest-clause-round
+returns-then-is_at_rest-clause-round g c =
+    gone_round _ _ _ _ _ _ _ c.over.ensures c.loop-turn.invariant.round
+    (takes_turn _ _ _ _ c.are_banks_due.ensures c.serve_beside-served.ensures.counted c.turn_round-stepped.ensures.turn)
 
 pub returns-then-eq-clause-banks : goal.returns-then-eq-clause-banks
 returns-then-eq-clause-banks g c = c.serve_beside-served.ensures.on _ c.loop-turn.invariant.banks
 
 pub returns-then-eq-clause-within : goal.returns-then-eq-clause-within
-returns-then-eq-clause-within g c =
-    let more = c.serve_beside-served.ensures.within in let before = c.loop-turn.invariant.within in omega arith
+returns-then-eq-clause-within g c = counted_within _ _ _ _ c.serve_beside-served.ensures.counted c.loop-turn.invariant.within
+
+pub returns-then-eq-clause-round : goal.returns-then-eq-clause-round
+returns-then-eq-clause-round g c =
+    gone_round _ _ _ _ _ _ _ c.stopped.ensures c.loop-turn.invariant.round
+    (takes_turn _ _ _ _ c.are_banks_due.ensures c.serve_beside-served.ensures.counted c.turn_round-stepped.ensures.turn)
 
 pub entries-entries-requires : goal.entries-entries-requires
 entries-entries-requires g c = lit< tt

@@ -11,5 +11,6 @@ returns-clause-turn g c = record {
   held = c.seek.ensures.unmoved;
   turn = subst (λ s. IsTurn (SideSteps s) c.args.may c.seek.new.cache c.take_turn-stepped.new.cache c.take_turn-stepped.result)
       c.source.ensures c.take_turn-stepped.ensures.turn;
-  goes_on = c.go_on.ensures;
+  goes_on = c.go_on.ensures.on;
+  stays = λ within. c.go_on.ensures.stays (c.seek.ensures.stays within);
 }

@@ -6,6 +6,6 @@ pub returns : goal.returns
 returns g c = record {
   number = search rules;
   each = λ b d less.
-      let at = (c.for_each_chunk_mut.ensures.by_index b d less).1 in
+      let at = (c.for_each_share.ensures.each b d less).1 in
       chunk_served _ _ _ _ _ at.old_element at.new_element (at.call.each at.offset d at.offset_in_chunk);
 }

@@ -3,10 +3,17 @@ use Rattle.station_parts.specs.SideState.{state_of}
 use Rattle.station_parts.specs.SideSteps.{has_item}
 use Rattle.ring_station.specs.Round.{passed, source_of, round_behind}
 use Rattle.ring_station.proofs.Rounding.{looks_more, unknown_before}
+use Rattle.ring_station.proofs.Passing.{none_known, passed_within}
 use Rattle.ring_station.proofs.round.Round.seek.Goals as goal
 
 pub returns-then-has_item-clause-looks : goal.returns-then-has_item-clause-looks
 returns-then-has_item-clause-looks g c = looks_more _ _ _ c.loop-place.invariant.looks c.look.ensures.looks
+
+pub returns-then-has_item-clause-stays : goal.returns-then-has_item-clause-stays
+returns-then-has_item-clause-stays g c within = rw c.loop-place.invariant.passed_is (passed_within _ _ within)
+
+pub returns-clause-stays : goal.returns-clause-stays
+returns-clause-stays g c within = rw c.loop-place.invariant.passed_is (passed_within _ _ within)
 
 pub loop-place-preserved : goal.loop-place-preserved
 loop-place-preserved g c =

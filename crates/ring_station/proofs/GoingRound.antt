@@ -1,0 +1,31 @@
+-- The turns of the cache side's thread, and of the banks beside it.
+use Rattle.std.proofs.Common.{◌≡◌, ◌≤◌, ℕ, ◌+◌, Bool, true, false, if◌then◌else◌, Option, refl, sym, arith, subst, add-one}
+use Rattle.station_parts.specs.declared.parts.CacheSide.{CacheSide}
+use Rattle.ring_station.specs.declared.thread_end.ThreadEnd.{ThreadEnd}
+use Rattle.ring_station.specs.declared.thread_end.ThreadFault.{ThreadFault}
+use Rattle.ring_station.specs.Round.{Standing, TurnsRound, TakesTurn, TakesTurns, HasGoneRound, standing_first, are_banks_due}
+
+pub counted_within : (is_due : Bool) (had more turns : ℕ) → more ≡ (if is_due then had + 1 else had) → had ≤ turns → more ≤ turns + 1
+counted_within true had more turns e less = omega arith
+counted_within false had more turns e less = omega arith
+
+pub takes_turn : {W B R D : ℕ} (may is_due : Bool) (old new : Standing W B R D) → is_due ≡ are_banks_due old.round old.stepped
+    → new.had ≡ (if is_due then old.had + 1 else old.had) → TurnsRound may old.round new.round old.cache new.cache new.stepped
+    → TakesTurn old new
+takes_turn may is_due old new e had turns = record {
+  may = may;
+  had = subst (λ d. new.had ≡ (if d then old.had + 1 else old.had)) e had;
+  turns = turns;
+}
+
+pub turned : {W B R D : ℕ} (turns : ℕ) (first before last : Standing W B R D) → TakesTurns turns first before → TakesTurn before last
+    → TakesTurns (turns + 1) first last
+turned turns first before last taken turn = subst (λ k. TakesTurns k first last) (sym (add-one turns)) (before, taken, turn)
+
+-- it ends behind its last turn
+pub gone_round : {W B R D : ℕ} (ports banks turns : ℕ) (old : CacheSide W B R D) (before last : Standing W B R D) (end : ThreadEnd)
+    {fault : Option ThreadFault} → end ≡ record { turns = turns + 1; fault = fault }
+    → TakesTurns turns (standing_first ports banks old) before → TakesTurn before last
+    → HasGoneRound ports banks end.turns last.had old last.cache
+gone_round ports banks turns old before last end e taken turn =
+    rw e (record { last = last; taken = turned turns _ _ _ taken turn; had_is = refl; cache_is = refl })
