@@ -1,10 +1,11 @@
 -- What an audit behind the threads leaves of what they did, and what stands where all came to their ends.
 use Rattle.std.proofs.Common.{◌≡◌, ℕ, ◌<◌, ◌≤◌, Bool, true, false, ◌&&◌, cond, List, ◌++◌, length, map, slice_index_or, refl, sym, ap, ◌∙◌}
 use Rattle.std.proofs.Common.{subst, arith}
-use Rattle.std.specs.Prelude.{Option, Some, None, is_none, vec_len, [], ◌∷◌, take, zero, suc}
+use Rattle.std.specs.Prelude.{Option, Some, None, is_none, vec_len, [], ◌∷◌, take}
 use Rattle.std.specs.Global.{Vec}
 use Rattle.std.specs.List.{list_all}
 use Rattle.std.proofs.Math.ListN.{get_or-map}
+use Rattle.std.proofs.Math.Seq.{take-append_seam}
 use Rattle.std.proofs.lemmas.Bool.{and_parts}
 use Rattle.std.proofs.lemmas.List.{length-map}
 use Rattle.std.proofs.lemmas.List.Folds.{list_all_at}
@@ -134,14 +135,8 @@ banks_shown turns old ran looked new ends same ids left h =
     }
 
 -- as many are put back as were taken out
-taken_whole : {X : Type 0} (n : ℕ) (xs rest : List X) → length xs ≡ n → take n (xs ++ rest) ≡ xs
-taken_whole zero [] rest e = refl
-taken_whole zero (x ∷ xs) rest e = absurd (omega arith)
-taken_whole (suc n) [] rest e = absurd (omega arith)
-taken_whole (suc n) (x ∷ xs) rest e = ap (λ l. x ∷ l) (taken_whole n xs rest (omega arith))
-
 pub put_back : {X : Type 0} (P : List X → Type 0) (n : ℕ) (xs rest : List X) → length xs ≡ n → P xs → P (take n (xs ++ rest))
-put_back P n xs rest e h = subst P (sym (taken_whole n xs rest e)) h
+put_back P n xs rest e h = subst (λ k. P (take k (xs ++ rest))) e (subst P (sym (take-append_seam xs rest)) h)
 
 pub put_both : {X Y : Type 0} (P : List X → List Y → Type 0) (n m : ℕ) (xs rest : List X) (ys more : List Y) → length xs ≡ n
     → length ys ≡ m → P xs ys → P (take n (xs ++ rest)) (take m (ys ++ more))

@@ -29,3 +29,11 @@ pub gone_round : {W B R D : ℕ} (ports banks turns : ℕ) (old : CacheSide W B 
     → HasGoneRound ports banks end.turns last.had old last.cache
 gone_round ports banks turns old before last end e taken turn =
     rw e (record { last = last; taken = turned turns _ _ _ taken turn; had_is = refl; cache_is = refl })
+
+-- or has no turn left
+pub gone_out : {W B R D : ℕ} (ports banks turn turns : ℕ) (old : CacheSide W B R D) (last : Standing W B R D) (end : ThreadEnd)
+    {fault : Option ThreadFault} → end ≡ record { turns = turns; fault = fault } → turn ≡ turns
+    → TakesTurns turn (standing_first ports banks old) last → HasGoneRound ports banks end.turns last.had old last.cache
+gone_out ports banks turn turns old last end e all taken =
+    let there = subst (λ k. TakesTurns k (standing_first ports banks old) last) all taken in
+    rw e (record { last = last; taken = there; had_is = refl; cache_is = refl })

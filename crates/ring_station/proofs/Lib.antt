@@ -1,7 +1,6 @@
 pub mod Talking
 pub mod PortRunning
 pub mod Turning
-pub mod Enlisting
 pub mod Sharing
 pub mod Rounding
 pub mod Passing

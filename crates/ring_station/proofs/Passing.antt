@@ -1,17 +1,16 @@
 -- The round comes by every source.
-use Rattle.std.proofs.Common.{◌≡◌, ◌≤◌, ◌<◌, ℕ, zero, suc, ◌+◌, ◌-◌, Bool, true, false, if◌then◌else◌, nat_lt, Option, Some, None}
+use Rattle.std.proofs.Common.{◌≡◌, ◌≤◌, ◌<◌, ℕ, zero, suc, ◌+◌, ◌-◌, Bool, true, false, if◌then◌else◌, nat_lt}
 use Rattle.std.proofs.Common.{refl, sym, ap, ◌∙◌, arith, subst, below_more}
 use Rattle.std.proofs.lemmas.Bool.{ltb-true, ltb-false}
 use Rattle.station_journal.specs.declared.journal.Source.{Source}
 use Rattle.station_journal.specs.declared.journal.Source.TheVariants as sources
-use Rattle.station_parts.specs.declared.parts.Stepped.{Stepped}
 use Rattle.station_parts.specs.SideState.{SideState, OnlyLooks}
 use Rattle.station_parts.specs.SideSteps.{has_item}
 use Rattle.ring_station.specs.declared.round.TheConstants.{OTHER_SOURCES}
 use Rattle.ring_station.specs.declared.round.Round.{Round}
 use Rattle.ring_station.specs.declared.round.Place.{Place}
 use Rattle.ring_station.specs.declared.round.Place.TheVariants.{Ports, Bank, Stack, WriteQueue, Replies}
-use Rattle.ring_station.specs.Round.{passed, round_behind, round_after, behind_place, port_behind, source_of, source_at, most_places}
+use Rattle.ring_station.specs.Round.{passed, round_behind, behind_place, port_behind, source_of, source_at, most_places}
 use Rattle.ring_station.specs.Round.{HasSource, StandsWithin}
 use Rattle.ring_station.proofs.Rounding.{unknown_before}
 
@@ -20,7 +19,9 @@ abbrev standing : ℕ → ℕ → ℕ → Place → Round
 standing ports banks port place = record { ports = ports; banks = banks; port = port; place = place; has_word = false }
 
 passed_on : (a b : ℕ) (r s : Round) → passed b r ≡ s → passed (a + b) r ≡ passed a s
-passed_on zero b r s p = p
+passed_on zero b r s p =
+    let e : 0 + b ≡ b = omega arith in
+    ap (λ k. passed k r) e ∙ p
 passed_on (suc a) b r s p =
     let e : suc a + b ≡ suc (a + b) = omega arith in
     ap (λ k. passed k r) e ∙ ap (round_behind false) (passed_on a b r s p)
@@ -70,7 +71,7 @@ free_of_word r false e =
 -- ---- to each source
 
 -- from the round it is so many places to another one, and from there it comes to a source
-Comes : ℕ → Round → Source → Type 0
+abbrev pub Comes : ℕ → Round → Source → Type 0
 Comes most r s = (k : ℕ) × (k ≤ most) × (source_of (passed k r) ≡ s)
 
 comes_on : (k a most : ℕ) (r t : Round) (s : Source) → passed a r ≡ t → source_of (passed k t) ≡ s → k + a ≤ most → Comes most r s
@@ -81,7 +82,9 @@ from_bank : (a most n b : ℕ) (r : Round) (s : Source) → passed a r ≡ stand
     → a + b + 2 ≤ most → ((port : ℕ) → s ≡ sources.Ask port → Comes most r s) → Comes most r s
 from_bank a most n b r (sources.Ask port) p some there is less ask = ask port refl
 from_bank a most n b r (sources.Word bank) p some there is less ask =
-    comes_on bank a most r _ _ p (ap source_of (banks_on n b 0 0 bank (omega (arith, there, is)))) (omega (arith, there, is))
+    let e : 0 + bank ≡ bank = omega arith in
+    comes_on bank a most r _ _ p (ap source_of (banks_on n b 0 0 bank (omega (arith, there, is))) ∙ ap sources.Word e)
+    (omega (arith, there, is))
 from_bank a most n b r (sources.Stack place) p some there is less ask =
     comes_on (b - 0) a most r _ _ p (ap source_of (to_stack n b 0 0 some) ∙ ap sources.Stack (sym there)) (omega arith)
 from_bank a most n b r sources.Drain p some there is less ask =
@@ -94,9 +97,10 @@ from_port : (t most n b q p : ℕ) (r : Round) → passed t r ≡ standing n b q
     → p < n → q < n → 0 < b → t + n + b + 2 ≤ most → (before : Bool) → nat_lt p q ≡ before → Comes most r (sources.Ask p)
 from_port t most n b q p r port bank some here banks less true e =
     let before = ltb-true p q e in
+    let e' : 0 + p ≡ p = omega arith in
     comes_on p (3 + (b - 0 + (n - q + t))) most r _ _
     (passed_on 3 (b - 0 + (n - q + t)) r _ (passed_on (b - 0) (n - q + t) r _ bank ∙ to_stack n b 0 0 banks))
-    (ap source_of (ports_on n b 0 p some)) (omega arith)
+    (ap source_of (ports_on n b 0 p (omega (arith, some))) ∙ ap sources.Ask e') (omega arith)
 from_port t most n b q p r port bank some here banks less false e =
     let before = ltb-false p q e in
     comes_on (p - q) t most r _ _ port (ap source_of (ports_on n b q (p - q) (omega arith)) ∙ ap sources.Ask (omega arith)) (omega arith)
@@ -152,13 +156,12 @@ place_within false Stack r at here = record { ports = here.ports; banks = here.b
 place_within false WriteQueue r at here = record { ports = here.ports; banks = here.banks; source = refl }
 place_within false Replies r at here = record { ports = here.ports; banks = here.banks; source = here.ports }
 
-behind_within : (did : Bool) (r : Round) (word : Bool) → r.has_word ≡ word → StandsWithin r → StandsWithin (round_behind did r)
+pub behind_within : (did : Bool) (r : Round) (word : Bool) → r.has_word ≡ word → StandsWithin r → StandsWithin (round_behind did r)
 behind_within did r true e here = rw e (record { ports = here.ports; banks = here.banks; source = here.source })
-behind_within did r false e here = rw e (place_within did r.place r refl here)
-
-pub after_within : (stepped : Option Stepped) (r : Round) → StandsWithin r → StandsWithin (round_after stepped r)
-after_within None r here = here
-after_within (Some stepped) r here = behind_within _ r r.has_word refl here
+behind_within did r false e here =
+    rw e
+    (place_within did r.place (standing r.ports r.banks r.port r.place) refl
+    (record { ports = here.ports; banks = here.banks; source = here.source }))
 
 pub passed_within : (k : ℕ) (r : Round) → StandsWithin r → StandsWithin (passed k r)
 passed_within zero r here = here

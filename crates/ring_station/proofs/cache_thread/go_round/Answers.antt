@@ -1,5 +1,5 @@
-use Rattle.std.proofs.Common.{rules, length, sym, ap, ◌∙◌, lit<}
-use Rattle.ring_station.proofs.GoingRound.{counted_within, takes_turn, turned, gone_round}
+use Rattle.std.proofs.Common.{rules, arith, length, sym, ap, ◌∙◌, lit<}
+use Rattle.ring_station.proofs.GoingRound.{counted_within, takes_turn, turned, gone_round, gone_out}
 use Rattle.ring_station.proofs.Turning.{turn_notes, noted_more, noted_still, ended_more, ended_still, cache_ran, is_served, full_turn}
 use Rattle.ring_station.proofs.cache_thread.go_round.Goals as goal
 
@@ -49,7 +49,8 @@ pub returns-then-is_at_rest-clause-banks : goal.returns-then-is_at_rest-clause-b
 returns-then-is_at_rest-clause-banks g c = c.serve_beside-served.ensures.on _ c.loop-turn.invariant.banks
 
 pub returns-then-is_at_rest-clause-within : goal.returns-then-is_at_rest-clause-within
-returns-then-is_at_rest-clause-within g c = counted_within _ _ _ _ c.serve_beside-served.ensures.counted c.loop-turn.invariant.within
+returns-then-is_at_rest-clause-within g c =
+    let more = counted_within _ _ _ _ c.serve_beside-served.ensures.counted c.loop-turn.invariant.within in omega arith
 
 pub returns-then-is_at_rest-clause-round : goal.returns-then-is_at_rest-clause-round
 returns-then-is_at_rest-clause-round g c =
@@ -60,7 +61,8 @@ pub returns-then-eq-clause-banks : goal.returns-then-eq-clause-banks
 returns-then-eq-clause-banks g c = c.serve_beside-served.ensures.on _ c.loop-turn.invariant.banks
 
 pub returns-then-eq-clause-within : goal.returns-then-eq-clause-within
-returns-then-eq-clause-within g c = counted_within _ _ _ _ c.serve_beside-served.ensures.counted c.loop-turn.invariant.within
+returns-then-eq-clause-within g c =
+    let more = counted_within _ _ _ _ c.serve_beside-served.ensures.counted c.loop-turn.invariant.within in omega arith
 
 pub returns-then-eq-clause-round : goal.returns-then-eq-clause-round
 returns-then-eq-clause-round g c =
@@ -78,3 +80,6 @@ has_ended_port-requires g c = lit< tt
 
 pub is_at_rest-requires : goal.is_at_rest-requires
 is_at_rest-requires g c = lit< tt
+
+pub returns-clause-round : goal.returns-clause-round
+returns-clause-round g c = gone_out _ _ _ _ _ _ _ c.stopped-2.ensures (search rules) c.loop-turn.invariant.round

@@ -1,7 +1,7 @@
 use Rattle.std.proofs.Common.{rules, arith}
 use Rattle.std.proofs.lemmas.Grind.{common_steps}
+use Rattle.std.proofs.lemmas.List.Elements.{All-push}
 use Rattle.ring_station.specs.Crew.{HasNotBegun}
-use Rattle.ring_station.proofs.Enlisting.{all_and_one}
 use Rattle.ring_station.proofs.crew.enlist_ports.Goals as goal
 
 pub loop-port-preserved : goal.loop-port-preserved
@@ -11,7 +11,7 @@ loop-port-preserved c = record {
   room = search rules;
   ports = grind (arith, common_steps);
   begun = rw c.push_reserved.ensures.items
-      (all_and_one HasNotBegun _ _ c.loop-port.invariant.begun
+      (All-push HasNotBegun _ _ c.loop-port.invariant.begun
       (record {
         list = c.new-in-loop-port.ensures.items;
         end = c.not_begun.ensures;

@@ -1,7 +1,7 @@
-use Rattle.std.proofs.Common.{◌≡◌, ◌+◌, false, sym, ap, ◌∙◌, add-one, below_more, subst}
+use Rattle.std.proofs.Common.{◌≡◌, ℕ, ◌<◌, ◌+◌, false, rules, inr, refl, arith, sym, ap, ◌∙◌, add-one, below_more, subst}
 use Rattle.station_parts.specs.SideState.{state_of}
 use Rattle.station_parts.specs.SideSteps.{has_item}
-use Rattle.ring_station.specs.Round.{passed, source_of, round_behind}
+use Rattle.ring_station.specs.Round.{passed, source_of, round_behind, most_places}
 use Rattle.ring_station.proofs.Rounding.{looks_more, unknown_before}
 use Rattle.ring_station.proofs.Passing.{none_known, passed_within}
 use Rattle.ring_station.proofs.round.Round.seek.Goals as goal
@@ -10,10 +10,28 @@ pub returns-then-has_item-clause-looks : goal.returns-then-has_item-clause-looks
 returns-then-has_item-clause-looks g c = looks_more _ _ _ c.loop-place.invariant.looks c.look.ensures.looks
 
 pub returns-then-has_item-clause-stays : goal.returns-then-has_item-clause-stays
-returns-then-has_item-clause-stays g c within = rw c.loop-place.invariant.passed_is (passed_within _ _ within)
+returns-then-has_item-clause-stays g c within =
+    rw c.loop-place.invariant.passed_is (passed_within c.loop-place._place c.args.self.now within)
+
+pub returns-clause-seeks : goal.returns-clause-seeks
+returns-clause-seeks g c may =
+    let before = c.loop-place.invariant in
+    let first = c.args.self.now in
+    let all : c.loop-place._place ≡ most_places first = search rules in
+    let passed_is = before.passed_is ∙ ap (λ k. passed k first) all in
+    let unknown : (k : ℕ) → k < most_places first → has_item (source_of (passed k first)) (state_of c.args.cache.now) ≡ false =
+    λ k less. before.unknown k (omega (arith, less, all)) in
+    record {
+      count = most_places first;
+      passed_is = passed_is;
+      unknown = unknown;
+      ended = inr refl;
+      all = none_known _ _ _ _ before.looks passed_is unknown;
+    }
 
 pub returns-clause-stays : goal.returns-clause-stays
-returns-clause-stays g c within = rw c.loop-place.invariant.passed_is (passed_within _ _ within)
+returns-clause-stays g c within =
+    rw c.loop-place.invariant.passed_is (passed_within c.loop-place._place c.args.self.now within)
 
 pub loop-place-preserved : goal.loop-place-preserved
 loop-place-preserved g c =
