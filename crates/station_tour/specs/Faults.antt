@@ -1,5 +1,8 @@
 -- Which fault of the program another's is, and the status with which it ends.
-use Rattle.std.specs.Prelude.{ℕ}
+use Rattle.std.specs.Prelude.{ℕ, Bool, true, false}
+use Rattle.clap.specs.declared.error.kind.ErrorKind.{ErrorKind}
+use Rattle.clap.specs.declared.error.kind.ErrorKind.TheVariants.{DisplayHelp, DisplayVersion}
+use Rattle.clap.specs.Values.{kind_of}
 use Rattle.flat_model.specs.declared.MakeFault.{MakeFault}
 use Rattle.flat_model.specs.declared.MakeFault.TheVariants as made
 use Rattle.station_parts.specs.declared.renewal.RenewFault.{RenewFault}
@@ -43,3 +46,13 @@ status_of (program.Journal fault) = 4
 status_of (program.Io fault) = 4
 status_of program.TurnLimit = 5
 status_of program.OutOfMemory = 5
+
+-- help or the version, which were asked for
+abbrev pub is_help_kind : ErrorKind → Bool
+is_help_kind DisplayHelp = true
+is_help_kind DisplayVersion = true
+is_help_kind kind = false
+
+abbrev pub is_help : StationFault → Bool
+is_help (program.CommandLine told) = is_help_kind (kind_of told)
+is_help fault = false

@@ -1,5 +1,6 @@
 //! Why the program ends without having told all.
 
+use clap::error::ErrorKind;
 use flat_model::MakeFault;
 use ring_station::{RenewFault, RunFault, SegmentFault};
 use std::alloc::AllocError;
@@ -48,7 +49,20 @@ impl fmt::Display for StationFault {
 
 impl StationFault {
     ghost use Rattle.std.specs.Prelude.{◌≡◌};
-    ghost use Rattle.station_tour.specs.Faults.{status_of};
+    ghost use Rattle.station_tour.specs.Faults.{status_of, is_help};
+
+    /// Whether it is no fault, but help or the version, which were asked for.
+    pub(crate) fn is_help(&self) -> bool
+        ensures { result ≡ is_help self.now }
+    {
+        match self {
+            StationFault::CommandLine(asked) => matches!(
+                asked.kind(),
+                ErrorKind::DisplayHelp | ErrorKind::DisplayVersion
+            ),
+            _ => false,
+        }
+    }
 
     /// The status with which the program ends.
     pub(crate) fn status(&self) -> u8

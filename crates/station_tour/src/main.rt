@@ -2,11 +2,16 @@
 //! it; a soak of many at random; and how many asks a second are served.
 #![tactic(auto)]
 
+ghost use Rattle.std.specs.Prelude.{◌≡◌, IfOk};
+ghost use Rattle.station_tour.specs.Shown.{IsTold, EndsAsShown, shows_story, shows_journal};
+ghost use Rattle.station_tour.specs.Statuses.{ComesTo};
+
 mod command_line;
 mod crew;
 mod fault;
 mod patience;
 mod rates;
+mod seen;
 mod soak;
 mod tour;
 
@@ -14,10 +19,10 @@ use crate::command_line::{Job, Show, read_words};
 use crate::crew::threads_here;
 use crate::fault::StationFault;
 use crate::rates::{serve_once, tell_rates};
+use crate::seen::Seen;
 use crate::soak::soak;
 use crate::tour::{Pages, tour};
-use clap::error::ErrorKind;
-use station_checks::Plan;
+use station_checks::{Findings, Plan};
 use std::io::{BufWriter, Print, Write};
 use std::process::ExitCode;
 use std::rt::{Clock, Env, Files};
@@ -29,22 +34,30 @@ use std::{env, fs, io};
 const PROGRESS: &str = "KROFT_PROGRESS";
 
 fn main(rt: HostRuntime) -> ExitCode {
-    let status = match start(&rt, &rt.stderr()) {
-        Ok(status) => status,
-        Err(StationFault::CommandLine(told))
-            if told.kind() == ErrorKind::DisplayHelp || told.kind() == ErrorKind::DisplayVersion =>
-            {
-                match print!(rt; "{told}") {
-                    Ok(()) => 0,
-                    Err(_) => 4,
-                }
+    let errors = rt.stderr();
+    let end = start(&rt, &errors);
+    ExitCode::from(end_with(&rt, &errors, &end))
+}
+
+// Tells what help was asked for, or why the program didn't come to its end. Gives the status.
+fn end_with<P: Print, E: Print>(output: &P, errors: &E, end: &Result<Seen, StationFault>) -> u8
+    ensures { ComesTo end.now result }
+{
+    match end {
+        Ok(seen) => seen.status(),
+        Err(help) if help.is_help() => match print!(output; "{help}") {
+            Ok(()) => 0,
+            Err(stream) => {
+                let fault = StationFault::from(stream);
+                let _told = tell_fault(errors, &fault);
+                fault.status()
             }
+        },
         Err(fault) => {
-            let _told = tell_fault(&rt.stderr(), &fault);
+            let _told = tell_fault(errors, fault);
             fault.status()
         }
-    };
-    ExitCode::from(status)
+    }
 }
 
 // Tells why the program ends. What is told of the command line has an end of line of its own.
@@ -55,16 +68,15 @@ fn tell_fault<E: Print>(errors: &E, fault: &StationFault) -> io::Result<()> {
     }
 }
 
-// Does what the command line asks for. The status is 1 if something wrong was found.
+// Does what the command line asks for.
 fn start<R: AllocGlobal + Clock + Env + Files + Print + Threads + Wait + Sync, E: Print>(
     rt: &R,
     errors: &E,
-) -> Result<u8, StationFault> {
+) -> Result<Seen, StationFault> {
     let job = asked_for(rt)?;
     let mut output = BufWriter::new(rt.alloc(), io::writer(rt))?;
-    let is_good = done(rt, &mut output, errors, &job)?;
-    output.flush()?;
-    Ok(u8::from(!is_good))
+    let mut errors = io::writer(errors);
+    done(rt, &mut output, &mut errors, &job)
 }
 
 // What the words of the command line ask for.
@@ -79,14 +91,29 @@ fn asked_for<R: AllocGlobal + Env>(rt: &R) -> Result<Job, StationFault> {
     read_words(alloc, &texts)
 }
 
-// Does a job. Says whether nothing wrong was found.
-fn done<R: AllocGlobal + Clock + Env + Files + Threads + Wait + Sync, W: Write, E: Print>(
+// Does a job, and sees what was written through to its end.
+fn done<R: AllocGlobal + Clock + Env + Files + Threads + Wait + Sync, W: Write, E: Write>(
     rt: &R,
     output: &mut W,
-    errors: &E,
+    errors: &mut E,
     job: &Job,
-) -> Result<bool, StationFault> {
-    let mut errors = io::writer(errors);
+) -> Result<Seen, StationFault>
+    ensures { IfOk result (IsTold job.now (W.contents output.old) (W.contents output.new)) }
+{
+    let seen = seen_of(rt, output, errors, job)?;
+    output.flush()?;
+    Ok(seen)
+}
+
+// What was seen of a job.
+fn seen_of<R: AllocGlobal + Clock + Env + Files + Threads + Wait + Sync, W: Write, E: Write>(
+    rt: &R,
+    output: &mut W,
+    errors: &mut E,
+    job: &Job,
+) -> Result<Seen, StationFault>
+    ensures { IfOk result (IsTold job.now (W.contents output.old) (W.contents output.new)) }
+{
     match job {
         Job::Tour {
             plan,
@@ -94,11 +121,21 @@ fn done<R: AllocGlobal + Clock + Env + Files + Threads + Wait + Sync, W: Write, 
             show,
         } => {
             let threads = threads.unwrap_or(threads_here(rt));
-            show_tour(rt, output, &mut errors, plan, threads, show)
+            let found = show_tour(rt, output, errors, plan, threads, show)?;
+            Ok(Seen::Tour(found))
         }
-        Job::Soak { stations, seed } => soak(rt, output, &mut errors, *stations, *seed),
-        Job::Rates { plan } => tell_rates(rt, output, plan),
-        Job::Once { plan, server } => serve_once(rt, *server, plan),
+        Job::Soak { stations, seed } => {
+            let soaked = soak(rt, output, errors, *stations, *seed)?;
+            Ok(Seen::Soak(soaked))
+        }
+        Job::Rates { plan } => {
+            let all_good = tell_rates(rt, output, plan)?;
+            Ok(Seen::Rates { all_good })
+        }
+        Job::Once { plan, server } => {
+            let all_good = serve_once(rt, *server, plan)?;
+            Ok(Seen::Rates { all_good })
+        }
     }
 }
 
@@ -110,13 +147,12 @@ fn show_tour<R: AllocGlobal + Clock + Env + Files + Threads + Sync, W: Write, E:
     plan: &Plan,
     threads: u32,
     show: &Show,
-) -> Result<bool, StationFault> {
+) -> Result<Findings, StationFault>
+    ensures { IfOk result
+        (λ found. EndsAsShown show.now plan.now (W.contents output.old) (W.contents output.new) found) }
+{
     let alloc = rt.alloc();
-    let pages = Pages {
-        story: *show != Show::Journal,
-        journal: *show != Show::Story,
-        progress: env::var(rt, PROGRESS).is_ok(),
-    };
+    let pages = pages_of(show, env::var(rt, PROGRESS).is_ok());
     // What isn't shown isn't written there either.
     let mut nowhere: Vec<u8> = Vec::new(alloc);
     match show {
@@ -127,9 +163,34 @@ fn show_tour<R: AllocGlobal + Clock + Env + Files + Threads + Sync, W: Write, E:
                 fault,
             ))?;
             let mut file = BufWriter::new(alloc, journal)?;
-            let is_good = tour(rt, output, &mut file, errors, plan, threads, pages)?;
+            let found = tour(rt, output, &mut file, errors, plan, threads, pages)?;
             file.flush().map_err(|fault| StationFault::Journal(fault))?;
-            Ok(is_good)
+            Ok(found)
         }
+    }
+}
+
+// What is written of a tour of which this is shown.
+fn pages_of(show: &Show, progress: bool) -> Pages
+    ensures story { result.story ≡ shows_story show.now }
+    ensures journal { result.journal ≡ shows_journal show.now }
+    ensures progress { result.progress ≡ progress }
+{
+    match show {
+        Show::Story => Pages {
+            story: true,
+            journal: false,
+            progress,
+        },
+        Show::Journal => Pages {
+            story: false,
+            journal: true,
+            progress,
+        },
+        Show::StoryAndFile(_) => Pages {
+            story: true,
+            journal: true,
+            progress,
+        },
     }
 }

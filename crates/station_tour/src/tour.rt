@@ -1,15 +1,21 @@
 //! A tour: the ports of a plan on threads over one cache, and what is told of them. A long one is cut
 //! into segments, behind each of which the station is renewed.
 
-ghost use Rattle.std.specs.Prelude.{◌≡◌, ◌/◌, max, min, length, vec_len};
+ghost use Rattle.std.specs.Prelude.{◌≡◌, ◌≤◌, ◌/◌, max, min, true, length, vec_len, is_some, Some, IfOk, OnOk};
+ghost use Rattle.std.specs.Io.KnownBytes.{Appends};
+ghost use Rattle.flat_model.specs.Memory.{shown};
+ghost use Rattle.station_parts.specs.declared.parts.Audit.TheVariants.{Clean};
 ghost use Rattle.station_parts.specs.Station.{AreOneStation};
+ghost use Rattle.station_checks.specs.Checks.{flat_after, FindsTold};
+ghost use Rattle.station_checks.specs.Stories.{findings_text};
 ghost use Rattle.station_tour.specs.Asked.{asks_in};
+ghost use Rattle.station_tour.specs.Shown.{EndsIn, IsNoted, begin_text, journal_text, course_text, end_text};
 
 use crate::crew::crew_of;
 use crate::fault::StationFault;
 use crate::patience::PatientGate;
 use flat_model::FlatMemory;
-use ring_station::{Ask, Audit, Crew, Segment, Station, run_and_renew, station};
+use ring_station::{Ask, Audit, Crew, Entry, Segment, Station, run_and_renew, station};
 use station_checks::{
     BLOCK_WORDS, DEPTH, ENTRIES, Findings, Outcome, Plan, REGS, ScriptParts, Tally, WAYS, WORDS,
     shape, tell_findings, tell_journal, tell_ports, tell_progress, tell_run,
@@ -32,6 +38,13 @@ const PATIENCE: u32 = 200;
 // Asks of all ports between two renewals. A journal takes 64 times as many entries, and an ask makes
 // four to six: so there is room for many that are offered again, as on a machine with much else to do.
 const ASKS_OF_A_SEGMENT: u32 = 16_384;
+
+// What is found where there is nothing to be found.
+const NOTHING_WRONG: Findings = Findings {
+    audit: Audit::Clean,
+    is_flat: true,
+    are_told: Some(true),
+};
 
 type TourStation = Station<WAYS, BLOCK_WORDS, REGS, DEPTH>;
 
@@ -56,8 +69,10 @@ struct Course {
     took: Duration,
 }
 
-/// Runs the ports on threads, and tells of it. Says whether each audit is clean, the journal is flat,
-/// and each port's list is the journal's part of it. A segment of which that isn't so is the last.
+/// Runs the ports on threads, and tells of it. The result is what was found behind the last segment: it is the
+/// first one of which an audit isn't clean, the journal isn't flat, or a port's list isn't the journal's part
+/// of it, or else the one behind which no ask is left. A plan without an ask has none, and nothing is told.
+#[tactic(auto, using(crate::proofs::Showing::grown_by_none, crate::proofs::Showing::grown_more, crate::proofs::Showing::ends_in))]
 pub(crate) fn tour<R: AllocGlobal + Clock + Threads + Sync, S: Write, J: Write, E: Write>(
     rt: &R,
     story: &mut S,
@@ -66,7 +81,10 @@ pub(crate) fn tour<R: AllocGlobal + Clock + Threads + Sync, S: Write, J: Write, 
     plan: &Plan,
     threads: u32,
     pages: Pages,
-) -> Result<bool, StationFault> {
+) -> Result<Findings, StationFault>
+    ensures { IfOk result (λ found. pages.story ≡ true → 1 ≤ plan.now.asks
+        → EndsIn (S.contents story.old) (S.contents story.new) (findings_text found)) }
+{
     let alloc = rt.alloc();
     let mut station: TourStation = station(alloc, shape(), plan.ports, ENTRIES)?;
     let mut parts = ScriptParts::new(alloc, plan)?;
@@ -80,17 +98,33 @@ pub(crate) fn tour<R: AllocGlobal + Clock + Threads + Sync, S: Write, J: Write, 
     for _segment in 0..plan.asks {
         let scripts = parts.next(alloc, asks_of_a_port(plan))?;
         let segment = run_segment(rt, &mut station, &scripts, crew, &gate, &mut course)?;
-        if pages.story && course.tally.segments == 0 {
-            tell_ports(story, plan, &scripts, &segment.lists)?;
-        }
+        tell_begin(story, pages, plan, &scripts, &segment, &course)?;
         let findings = look_at(alloc, &scripts, &segment, &mut course)?;
         tell_segment(journal, errors, pages, &segment, &course)?;
         if parts.left() == 0 || findings.outcome() != Outcome::Good {
             tell_end(story, errors, pages, &segment, &course, &findings)?;
-            return Ok(findings.outcome() == Outcome::Good);
+            return Ok(findings);
         }
     }
-    Ok(true)
+    Ok(NOTHING_WRONG)
+}
+
+// Tells, if this is the first segment, what came of the first asks.
+fn tell_begin<S: Write>(
+    story: &mut S,
+    pages: Pages,
+    plan: &Plan,
+    scripts: &[Vec<Ask>],
+    segment: &Segment,
+    course: &Course,
+) -> io::Result<()>
+    ensures { OnOk result (Appends (S.contents story.old) (S.contents story.new)
+        (begin_text pages.story course.now.tally.segments plan.now scripts.now segment.now.lists.items)) }
+{
+    if pages.story && course.tally.segments == 0 {
+        tell_ports(story, plan, scripts, &segment.lists)?;
+    }
+    Ok(())
 }
 
 // How many asks of a port there are between two renewals.
@@ -127,7 +161,16 @@ fn look_at(
     scripts: &[Vec<Ask>],
     segment: &Segment,
     course: &mut Course,
-) -> Result<Findings, AllocError> {
+) -> Result<Findings, AllocError>
+    ensures audit { IfOk result (λ found. found.audit ≡ Clean) }
+    ensures flat { IfOk result (λ found. found.is_flat
+        ≡ is_some (flat_after (shown course.old.memory) segment.now.journal.items)) }
+    ensures moved { IfOk result (λ found. found.is_flat ≡ true
+        → flat_after (shown course.old.memory) segment.now.journal.items ≡ Some (shown course.new.memory)) }
+    ensures told { IfOk result (λ found. FindsTold segment.now.journal.items (Some segment.now.lists.items) found.are_told) }
+    ensures tally { IsNoted course.old.tally scripts.now segment.now course.new.tally }
+    ensures took { course.new.took ≡ course.old.took }
+{
     course
         .tally
         .note(asks_in(scripts), &segment.lists, &segment.journal);
@@ -158,10 +201,30 @@ fn tell_segment<J: Write, E: Write>(
     pages: Pages,
     segment: &Segment,
     course: &Course,
-) -> Result<(), StationFault> {
-    if pages.journal {
-        tell_journal(journal, &segment.journal).map_err(|fault| StationFault::Journal(fault))?;
+) -> Result<(), StationFault>
+    ensures { OnOk result (Appends (J.contents journal.old) (J.contents journal.new)
+        (journal_text pages.journal segment.now.journal.items)) }
+{
+    match tell_entries(journal, pages, &segment.journal) {
+        Ok(()) => Ok(tell_course(errors, pages, course)?),
+        Err(fault) => Err(StationFault::Journal(fault)),
     }
+}
+
+fn tell_entries<J: Write>(journal: &mut J, pages: Pages, entries: &[Entry]) -> io::Result<()>
+    ensures { OnOk result (Appends (J.contents journal.old) (J.contents journal.new)
+        (journal_text pages.journal entries.now)) }
+{
+    if pages.journal {
+        tell_journal(journal, entries)?;
+    }
+    Ok(())
+}
+
+fn tell_course<E: Write>(errors: &mut E, pages: Pages, course: &Course) -> io::Result<()>
+    ensures { OnOk result (Appends (E.contents errors.old) (E.contents errors.new)
+        (course_text pages.progress course.now.tally course.now.took)) }
+{
     if pages.progress {
         tell_progress(errors, &course.tally, course.took)?;
     }
@@ -176,13 +239,30 @@ fn tell_end<S: Write, E: Write>(
     segment: &Segment,
     course: &Course,
     findings: &Findings,
-) -> io::Result<()> {
+) -> io::Result<()>
+    ensures { OnOk result (Appends (S.contents story.old) (S.contents story.new)
+        (end_text pages.story findings.now)) }
+{
+    tell_story_end(story, pages, findings)?;
+    tell_line_end(errors, pages)?;
+    tell_run(errors, &course.tally, &segment.journal, course.took)
+}
+
+// Ends the story with what was found.
+fn tell_story_end<S: Write>(story: &mut S, pages: Pages, findings: &Findings) -> io::Result<()>
+    ensures { OnOk result (Appends (S.contents story.old) (S.contents story.new)
+        (end_text pages.story findings.now)) }
+{
     if pages.story {
         tell_findings(story, findings)?;
     }
-    story.flush()?;
+    story.flush()
+}
+
+// Ends the line that tells how far the tour is.
+fn tell_line_end<E: Write>(errors: &mut E, pages: Pages) -> io::Result<()> {
     if pages.progress {
         writeln!(errors)?;
     }
-    tell_run(errors, &course.tally, &segment.journal, course.took)
+    Ok(())
 }

@@ -1,10 +1,12 @@
 //! The numbers and the scripts of a station of a soak, drawn at random.
-ghost use Rattle.std.specs.Prelude.{◌≡◌, ◌↔◌, ◌≤◌, IfOk, max, min, true, vec_len};
+ghost use Rattle.std.specs.Prelude.{◌≡◌, ◌↔◌, ◌≤◌, ◌%◌, ◌==◌, IfOk, IfSome, max, min, true, vec_len};
 ghost use Rattle.std.specs.List.{All};
+ghost use Rattle.rand_pcg.specs.Lcg.{started, increment_of};
+ghost use Rattle.rand_pcg.specs.Pcg.{multiplier_64, pcg32};
 ghost use Rattle.station_journal.specs.Conversation.{is_request};
 ghost use Rattle.station_checks.specs.Scripts.{AreRequests};
 ghost use Rattle.station_parts.specs.declared.make.TheConstants.{MAX_ENTRIES};
-ghost use Rattle.station_tour.specs.Trials.{IsInRange};
+ghost use Rattle.station_tour.specs.Trials.{IsInRange, number_between};
 
 use flat_model::{Lanes, MAX_BANK_QUEUE, MAX_BANKS, MAX_REPLIES, MAX_SETS, Shape};
 use rand_core::utils::NextWord;
@@ -40,14 +42,18 @@ pub(crate) struct Draws {
 }
 
 impl Draws {
-    pub(crate) fn new(seed: u64, number: u32) -> Draws {
+    pub(crate) fn new(seed: u64, number: u32) -> Draws
+        ensures { result.random ≡ started 64 multiplier_64 seed (increment_of 64 number) }
+    {
         Draws {
             random: Pcg32::new(seed, u64::from(number)),
         }
     }
 
     /// Any number.
-    pub(crate) fn word(&mut self) -> u32 {
+    pub(crate) fn word(&mut self) -> u32
+        ensures { (result, self.new.random) ≡ pcg32 self.old.random }
+    {
         self.random.next_word()
     }
 
@@ -57,6 +63,8 @@ impl Draws {
         requires { least ≤ most }
         ensures least { least ≤ result }
         ensures most { result ≤ most }
+        ensures exact { result ≡ number_between least most (pcg32 self.old.random).0 }
+        ensures rest { self.new.random ≡ (pcg32 self.old.random).1 }
     {
         let pick = self.word();
         match pick % 4 {
@@ -69,6 +77,8 @@ impl Draws {
     // Whether something comes that comes once in so many draws.
     fn one_in(&mut self, draws: u32) -> bool
         requires { 1 ≤ draws }
+        ensures exact { result ≡ ((pcg32 self.old.random).0 % draws == 0) }
+        ensures rest { self.new.random ≡ (pcg32 self.old.random).1 }
     {
         self.word() % draws == 0
     }
@@ -128,7 +138,10 @@ impl Trial {
 
     /// How many threads the ports and the banks share, or `None` if each has one of its own, as in one of
     /// two draws.
-    pub(crate) fn crew(&self, draws: &mut Draws) -> Option<Crew> {
+    pub(crate) fn crew(&self, draws: &mut Draws) -> Option<Crew>
+        ensures ports { IfSome result (λ crew. (1 ≤ crew.port_threads) × (crew.port_threads ≤ max 1 self.now.ports)) }
+        ensures banks { IfSome result (λ crew. crew.bank_threads ≤ self.now.shape.banks) }
+    {
         if draws.one_in(2) {
             return None;
         }

@@ -1,6 +1,7 @@
-use Rattle.std.proofs.Common.{◌≡◌, vec_len}
+use Rattle.std.proofs.Common.{◌≡◌, ◌+◌, ◌<◌, ◌≤◌, vec_len}
 use Rattle.station_parts.specs.Station.{AreOneStation}
-use Rattle.station_checks.specs.Drawn.{ports_of}
+use Rattle.station_checks.specs.Drawn.{ports_of, left_of}
+use Rattle.station_tour.proofs.Showing.{HasGrown}
 use Rattle.station_tour.proofs.tour.tour.Given as goal
 
 abbrev pub invariant-loop-segment : goal.invariant-loop-segment
@@ -9,4 +10,7 @@ invariant-loop-segment g l =
       one : AreOneStation l.station.cache l.station.ports.items l.station.banks.items;
       ports : vec_len l.station.ports ≡ l.plan.ports;
       parts : ports_of l.parts ≡ l.plan.ports;
+      told : HasGrown (g.S.Write.contents l.fn.story) (g.S.Write.contents l.story);
+      left : left_of l.parts + l._segment ≤ l.plan.asks;
+      more : 0 < l._segment → 1 ≤ left_of l.parts;
     }
