@@ -27,8 +27,7 @@ frame_read d f x held e = e ∙ get_or_default _ f x empty_frame (held_there d f
 -- the order that an index gives
 order_read : (ways words : ℕ) (d : Frames) (f : ℕ) (o : List ℕ) → IsWhole ways words d → f < length d.frames
     → o ≡ get_or d.orders (f / ways) o → o ≡ order_of d (f / ways)
-order_read ways words d f o h there e =
-    e ∙ get_or_default _ _ o [] (slot_in f ways _ _ h.frames_there h.some_way there)
+order_read ways words d f o h there e = e ∙ get_or_default _ _ o [] (slot_in f ways _ _ h.frames_there h.some_way there)
 
 pub fill_whole : (ways words : ℕ) (d v : Frames) (f i : ℕ) (w : Word) (keep : Lanes) (x y : Frame) → IsWhole ways words d → d ≡ v
     → is_held v f ≡ true → x ≡ get_or d.frames f x → y ≡ filled x i w keep → IsWhole ways words (with_frame d f y)

@@ -9,8 +9,7 @@ use Rattle.cache_directory.specs.declared.directory.Choice.TheVariants.{Free, Vi
 use Rattle.cache_directory.specs.Frames.{Frames, IsWhole, empty_frame, frame_at, is_held, frame_of, order_of, ways_of, set_of, choice_from}
 use Rattle.cache_directory.specs.Frames.{free_way, oldest, chosen, is_all_pending, are_pending}
 use Rattle.cache_directory.proofs.Finds.{find-passes, find-all, find-nowhere, range_within, All-range, list_all-passes, range_not_all}
-use Rattle.cache_directory.proofs.Orders.{times-all}
-use Rattle.cache_directory.proofs.Whole.{held_there, in_row, of_row, held_in_order, order_held}
+use Rattle.cache_directory.proofs.Whole.{times-all, held_there, in_row, of_row, held_in_order, order_held}
 
 -- a block that is this number
 is_number-true : (o : Option ℕ) (b : ℕ) → is_number o b ≡ true → o ≡ Some b
@@ -33,16 +32,14 @@ found_nowhere d block f e held =
 pub found_held : (ways words : ℕ) (d : Frames) (block f : ℕ) → IsWhole ways words d → (frame_at d.frames f).block ≡ Some block
     → frame_of d.frames block ≡ Some f
 unfolding frame_of
-found_held ways words d block f h held =
-    place_of-first (λ y. is_number y.block block) _ f empty_frame (held_there d f (cc))
+found_held ways words d block f h held = place_of-first (λ y. is_number y.block block) _ f empty_frame (held_there d f (cc))
     (λ j l. false_from_ne_true _ (λ y. (let q = h.alone j f block (is_number-true (frame_at _ j).block block y) held in
     absurd (omega arith)))) (is_number-same (frame_at _ f).block block held)
 
 -- where none does, a look finds none
 pub found_none : (d : Frames) (block : ℕ) → ((f : ℕ) → (frame_at d.frames f).block ≡ Some block → ⊥) → frame_of d.frames block ≡ None
 unfolding frame_of
-found_none d block nowhere =
-    place_of-none (λ y. is_number y.block block) _ empty_frame
+found_none d block nowhere = place_of-none (λ y. is_number y.block block) _ empty_frame
     (λ j l. false_from_ne_true _ (λ y. nowhere j (is_number-true (frame_at _ j).block block y)))
 
 -- a look over the ways of the block's set finds it
@@ -172,5 +169,4 @@ chosen-all_pending ways words d set h = go _ refl _ refl
         let held = find-all settled (λ x. (is_held d x ≡ true) × (x / ways ≡ set)) _ f q (order_held ways words d set h) in
         let at = in_row f ways set h.some_way held.1 in
         sym (range_not_all pending _ ways f at.0 at.1 (not-true _ (find-passes settled _ f q)))
-    go None e None q =
-        sym (list_all-passes pending row (range_within (λ x. pending x ≡ true) _ ways (λ x l m. waits x e q l m)))
+    go None e None q = sym (list_all-passes pending row (range_within (λ x. pending x ≡ true) _ ways (λ x l m. waits x e q l m)))

@@ -35,15 +35,13 @@ released-sets ways d f = length-set _ _ _
 -- a block that is absent stays absent
 pub released-absent : (ways : ℕ) (d : Frames) (f block : ℕ) → f < length d.frames → frame_of d.frames block ≡ None
     → frame_of (released ways d f).frames block ≡ None
-released-absent ways d f block there absent =
-    found_none (released ways d f) block (λ g held. nowhere g held (cases_eq g f))
+released-absent ways d f block there absent = found_none (released ways d f) block (λ g held. nowhere g held (cases_eq g f))
   where
     nowhere : (g : ℕ) → (frame_at (released ways d f).frames g).block ≡ Some block → (g ≡ f) ⊎ (g ≡ f → ⊥) → ⊥
     nowhere g held (inl q) =
         let vacant : (frame_at (released ways d f).frames g).block ≡ None = rw q (ap (λ x. x.block) (released-here ways d f there)) in
         both_ways _ (ap is_some vacant) (ap is_some held)
-    nowhere g held (inr n) =
-        found_nowhere d block g absent (cc (released-elsewhere ways d f g n, held))
+    nowhere g held (inr n) = found_nowhere d block g absent (cc (released-elsewhere ways d f g n, held))
 
 -- ---- a block is installed
 

@@ -1,18 +1,90 @@
 -- What is always so of a directory stays so.
-use Rattle.std.proofs.Common.{◌≡◌, ℕ, ◌+◌, ◌-◌, ◌*◌, ◌/◌, ◌%◌, ◌<◌, ◌≤◌, Bool, true, false, cond, ◌&&◌, ◌==◌, List, [], ◌∷◌, ◌++◌, length}
-use Rattle.std.proofs.Common.{get_or, set, Option, Some, None, is_some, refl, ap, sym, ◌∙◌, arith, inl, inr, ◌⊎◌, eq-eqb, ne_eqb}
-use Rattle.std.proofs.Common.{length-set, get_or-set_same, get_or-set_other}
+use Rattle.std.proofs.Common.{◌≡◌, ℕ, suc, zero, ◌+◌, ◌<◌, ◌≤◌, List, [], ◌∷◌, ◌++◌, length, refl, arith, inl, inr, ◌⊎◌, eq-eqb, ne_eqb}
+use Rattle.std.proofs.Common.{◌-◌, ◌*◌, ◌/◌, ◌%◌, Bool, true, false, cond, ◌&&◌, ◌==◌, get_or, set, Option, Some, None, is_some, ap, sym}
+use Rattle.std.proofs.Common.{◌∙◌, length-set, get_or-set_same, get_or-set_other}
 use Rattle.std.specs.List.{All}
 use Rattle.std.proofs.lemmas.Bool.{cases_eq, cases_lt, false≢true, both_ways}
+use Rattle.std.proofs.lemmas.List.Elements.{All-nil, All-cons, All-head, All-tail}
+use Rattle.cache_directory.specs.Frames.{times_in, without, Frame, Frames, IsWhole, empty_frame, zero_cell, frame_at, is_held, frame_of}
+use Rattle.cache_directory.specs.Frames.{order_of, set_of, with_frame, filled, written, settled, fresh_frame, installed, released}
 use Rattle.std.proofs.lemmas.List.{get_or_past, length-replicate}
 use Rattle.flat_model.specs.declared.Word.{Word}
 use Rattle.flat_model.specs.declared.Lanes.{Lanes}
 use Rattle.flat_model.specs.Places.{is_number}
 use Rattle.flat_model.proofs.Places.{place_of-nowhere}
-use Rattle.cache_directory.specs.Frames.{Frame, Frames, IsWhole, empty_frame, zero_cell, frame_at, is_held, frame_of, order_of, set_of}
-use Rattle.cache_directory.specs.Frames.{times_in, with_frame, filled, written, settled, fresh_frame, without, installed, released}
-use Rattle.cache_directory.proofs.Orders.{times-append, times-one, times-none, times-without_same, times-without_other, length-within}
-use Rattle.cache_directory.proofs.Orders.{All-times}
+
+-- ---- How often a number stands in a list.
+
+pub times-here : (x : ℕ) (xs : List ℕ) → times_in (x ∷ xs) x ≡ 1 + times_in xs x
+times-here x xs = grind arith
+
+pub times-append : (xs ys : List ℕ) (f : ℕ) → times_in (xs ++ ys) f ≡ times_in xs f + times_in ys f
+times-append [] ys f = omega arith
+times-append (x ∷ xs) ys f =
+    let e = times-append xs ys f in
+    omega arith
+
+pub times-one : (f : ℕ) → times_in (f ∷ []) f ≡ 1
+times-one f = times-here f []
+
+pub times-none : (f g : ℕ) → (f ≡ g → ⊥) → times_in (f ∷ []) g ≡ 0
+times-none f g n = rw (ne_eqb f g n) refl
+
+pub times-without_same : (xs : List ℕ) (f : ℕ) → times_in (without xs f) f ≡ 0
+times-without_same [] f = refl
+times-without_same (x ∷ xs) f = grind (arith, times-without_same xs f)
+
+pub times-without_other : (xs : List ℕ) (f g : ℕ) → (g ≡ f → ⊥) → times_in (without xs f) g ≡ times_in xs g
+times-without_other [] f g n = refl
+times-without_other (x ∷ xs) f g n = grind (arith, times-without_other xs f g n)
+
+pub length-without : (xs : List ℕ) (f : ℕ) → length (without xs f) + times_in xs f ≡ length xs
+length-without [] f = refl
+length-without (x ∷ xs) f = grind (arith, length-without xs f)
+
+once-without : (xs : List ℕ) (a g : ℕ) → times_in xs g ≤ 1 → times_in (without xs a) g ≤ 1
+once-without xs a g h = grind (arith, cases_eq, times-without_same, times-without_other)
+
+within-without : (xs : List ℕ) (a n g : ℕ) → (0 < times_in xs g → (a ≤ g) × (g < a + suc n)) → 0 < times_in (without xs a) g → (a + 1 ≤ g) ×
+    (g < a + 1 + n)
+within-without xs a n g within p = go (cases_eq g a)
+  where
+    go : (g ≡ a) ⊎ (g ≡ a → ⊥) → (a + 1 ≤ g) × (g < a + 1 + n)
+    go (inl q) =
+        let z : times_in (without xs a) g ≡ 0 = rw q (times-without_same xs a) in
+        absurd (omega arith)
+    go (inr m) =
+        let e = times-without_other xs a g m in
+        (omega arith, omega arith)
+
+-- a list in which no number stands twice is no longer than the range in which its numbers lie
+pub length-within : (n a : ℕ) (xs : List ℕ) → ((g : ℕ) → times_in xs g ≤ 1) → ((g : ℕ) → 0 < times_in xs g → (a ≤ g) × (g < a + n))
+    → length xs ≤ n
+length-within n a [] once within = omega arith
+length-within zero a (x ∷ xs) once within =
+    let e = times-here x xs in
+    let w = within x (omega arith) in
+    absurd (omega arith)
+length-within (suc n) a (x ∷ xs) once within =
+    let ys = x ∷ xs in
+    let e = length-without ys a in
+    let r = length-within n _ _ (λ g. once-without ys a g (once g)) (λ g. within-without ys a n g (within g)) in
+    omega arith
+
+-- what holds of each number that stands in a list
+pub All-times : (P : ℕ → Type 0) (xs : List ℕ) → ((g : ℕ) → 0 < times_in xs g → P g) → All P xs
+All-times P [] h = All-nil P
+All-times P (x ∷ xs) h =
+    let e = times-here x xs in
+    All-cons P x xs (h x (omega arith)) (All-times P xs (λ g q. h g (omega arith)))
+
+pub times-all : (P : ℕ → Type 0) (xs : List ℕ) (g : ℕ) → All P xs → 0 < times_in xs g → P g
+times-all P [] g h p = absurd (omega arith)
+times-all P (x ∷ xs) g h p = go (cases_eq x g) (times-all P xs g (All-tail P x xs h))
+  where
+    go : (x ≡ g) ⊎ (x ≡ g → ⊥) → (0 < times_in xs g → P g) → P g
+    go (inl q) r = rw (← q) (All-head P x xs h)
+    go (inr n) r = grind arith
 
 -- a frame that holds a block is there
 pub held_there : (d : Frames) (f : ℕ) → is_held d f ≡ true → f < length d.frames
@@ -103,16 +175,12 @@ whole-kept ways words d f x h held same long =
 pub whole-filled : (ways words : ℕ) (d : Frames) (f i : ℕ) (w : Word) (keep : Lanes) → IsWhole ways words d → is_held d f ≡ true
     → IsWhole ways words (with_frame d f (filled (frame_at d.frames f) i w keep))
 unfolding filled
-whole-filled ways words d f i w keep h held =
-    let x = frame_at _ f in
-    whole-kept ways words d f _ h held refl (length-set x.cells i _)
+whole-filled ways words d f i w keep h held = whole-kept ways words d f _ h held refl (length-set (frame_at _ f).cells i _)
 
 pub whole-written : (ways words : ℕ) (d : Frames) (f i : ℕ) (w : Word) (lanes : Lanes) → IsWhole ways words d → is_held d f ≡ true
     → IsWhole ways words (with_frame d f (written (frame_at d.frames f) i w lanes))
 unfolding written
-whole-written ways words d f i w lanes h held =
-    let x = frame_at _ f in
-    whole-kept ways words d f _ h held refl (length-set x.cells i _)
+whole-written ways words d f i w lanes h held = whole-kept ways words d f _ h held refl (length-set (frame_at _ f).cells i _)
 
 pub whole-settled : (ways words : ℕ) (d : Frames) (f : ℕ) → IsWhole ways words d → is_held d f ≡ true
     → IsWhole ways words (with_frame d f (settled (frame_at d.frames f)))
@@ -250,8 +318,7 @@ whole-released ways words d f h held =
     ordered s g (inl p) (inl q) =
         let count : times_in _ g ≡ 0 = taken s g p ∙ rw q (times-without_same _ f) in
         count ∙ rw (at_frame g q) refl
-    ordered s g (inl p) (inr n) =
-        taken s g p ∙ (times-without_other _ f g n ∙ (cc (p, at_other s g n)))
+    ordered s g (inl p) (inr n) = taken s g p ∙ (times-without_other _ f g n ∙ (cc (p, at_other s g n)))
     ordered s g (inr m) (inl q) =
         let apart = ne_eqb _ s (λ r. m (sym r)) in
         let count = h.ordered s f ∙ rw (held, apart) refl in

@@ -1,16 +1,85 @@
 -- A block's words as they are begun, one after the other.
-use Rattle.std.proofs.Common.{◌≡◌, ℕ, suc, zero, ◌+◌, ◌*◌, ◌<◌, ◌≤◌, true, false, List, [], ◌∷◌, map, length, replicate, get_or, set, Some}
-use Rattle.std.proofs.Common.{refl, sym, ap, ap₂, ◌∙◌, arith, add-one}
-use Rattle.std.specs.List.{range_with_len}
-use Rattle.std.proofs.lemmas.List.{get_or-set_same, set-get_or, set-set}
-use Rattle.flat_model.specs.Words.{zero_word, no_lanes, merged, joined}
-use Rattle.flat_model.proofs.Lanewise.{merged-none, joined-none}
-use Rattle.cache_directory.specs.declared.Cell.{Cell}
-use Rattle.cache_directory.specs.Frames.{Frames, Frame, empty_frame, frame_at, zero_cell, cell_at, fresh_frame, with_frame, filled}
-use Rattle.miss_registers.specs.Registers.{Field, Register, free_register, clear_field, register_at, field_of, fresh, noted}
+use Rattle.std.proofs.Common.{◌≡◌, ℕ, suc, zero, ◌+◌, ◌<◌, ◌≤◌, Bool, true, false, cond, List, [], ◌∷◌, ◌++◌, length, take, get_or, refl}
+use Rattle.std.proofs.Common.{sym, ap, ◌∙◌, arith, append_assoc, ◌*◌, map, replicate, set, Some, ap₂, add-one}
+use Rattle.std.proofs.lemmas.List.{take_more, get_or-set_same, set-get_or, set-set}
+use Rattle.flat_model.specs.Words.{has_any, zero_word, merged, no_lanes, joined}
+use Rattle.flat_model.specs.declared.Word.{Word}
+use Rattle.flat_model.specs.declared.Lanes.{Lanes}
 use Rattle.write_queue.specs.declared.Queued.{Queued}
-use Rattle.write_queue.specs.Queue.{overlaid, queued_lanes}
+use Rattle.write_queue.specs.Queue.{Queue, queue as queue_of, overlaid, queued_lanes}
+use Rattle.cache_directory.specs.declared.Cell.{Cell}
+use Rattle.cache_directory.specs.Frames.{Frames, IsWhole, zero_cell, frame_at, is_held, Frame, empty_frame, cell_at, fresh_frame}
+use Rattle.cache_directory.specs.Frames.{with_frame, filled}
+use Rattle.cache_unit.specs.Causes.{dirty_from}
+use Rattle.std.specs.List.{range_with_len}
+use Rattle.flat_model.proofs.Lanewise.{merged-none, joined-none}
+use Rattle.miss_registers.specs.Registers.{Field, Register, free_register, clear_field, register_at, field_of, fresh, noted}
 use Rattle.cache_unit.specs.Begun.{begun_cell, begun_field, begun_frame, begun_register}
+
+-- ---- The words with dirty lanes, one cell at a time.
+
+-- a cell's word, as it is queued
+abbrev pub queued_cell : ℕ → ℕ → Cell → Queued
+queued_cell block at cell = record { block = block; at = at; word = merged zero_word cell.word cell.dirty; lanes = cell.dirty }
+
+dirty_from-append : (block at : ℕ) (xs ys : List Cell) → dirty_from block at (xs ++ ys) ≡ dirty_from block at xs
+    ++ dirty_from block (at + length xs) ys
+dirty_from-append block at [] ys = grind arith
+dirty_from-append block at (x ∷ xs) ys = grind (arith, dirty_from-append block (at + 1) xs ys)
+
+length-take : (cells : List Cell) (i : ℕ) → i ≤ length cells → length (take i cells) ≡ i
+length-take cells zero h = refl
+length-take [] (suc i) h = absurd (omega arith)
+length-take (x ∷ cells) (suc i) h = ap suc (length-take cells i (omega arith))
+
+-- one more cell
+pub dirty_more : (block at : ℕ) (cells : List Cell) (i : ℕ) (b : Bool) → i < length cells → has_any (get_or cells i zero_cell).dirty ≡ b
+    → dirty_from block at (take (i + 1) cells) ≡ dirty_from block at (take i cells)
+    ++ cond b (queued_cell block (at + i) (get_or cells i zero_cell) ∷ []) []
+dirty_more block at cells i b h e =
+    let cell = get_or cells i zero_cell in
+    ap (dirty_from block at) (take_more cells i zero_cell h) ∙ dirty_from-append block at _ _
+    ∙ ap (λ k. dirty_from block at (take i cells) ++ dirty_from block (at + k) (cell ∷ [])) (length-take cells i (omega arith))
+    ∙ ap (λ v. dirty_from block at (take i cells) ++ cond v (queued_cell block (at + i) cell ∷ []) []) e
+
+-- how many they are doesn't depend on where they stand
+pub dirty-length : (block at block' at' : ℕ) (cells : List Cell) → length (dirty_from block at cells) ≡ length (dirty_from block' at' cells)
+dirty-length block at block' at' [] = refl
+dirty-length block at block' at' (x ∷ cells) = grind (arith, dirty-length block (at + 1) block' (at' + 1) cells)
+
+-- the first cells have no more of them than all
+pub dirty_within : (block at : ℕ) (cells : List Cell) (i : ℕ)
+    → length (dirty_from block at (take i cells)) ≤ length (dirty_from block at cells)
+dirty_within block at cells zero = omega arith
+dirty_within block at [] (suc i) = omega arith
+dirty_within block at (x ∷ cells) (suc i) = grind (arith, dirty_within block (at + 1) cells i)
+
+pub take_all : (cells : List Cell) (i : ℕ) → length cells ≡ i → take i cells ≡ cells
+take_all [] i h = grind arith
+take_all (x ∷ cells) zero h = absurd (omega arith)
+take_all (x ∷ cells) (suc i) h = ap (λ l. x ∷ l) (take_all cells i (omega arith))
+
+-- a frame that holds a block has the block's words
+pub held-cells : (ways words : ℕ) (d : Frames) (f : ℕ) → IsWhole ways words d → is_held d f ≡ true
+    → length (frame_at d.frames f).cells ≡ words
+held-cells ways words d f whole held = grind arith
+
+-- one more dirty word is queued
+pub queue_one_more : (q old new : Queue) (block at i : ℕ) (cells : List Cell) (word : Word) (lanes : Lanes) → i < length cells
+    → has_any (get_or cells i zero_cell).dirty ≡ true → lanes ≡ (get_or cells i zero_cell).dirty
+    → word ≡ merged zero_word (get_or cells i zero_cell).word lanes
+    → q ≡ queue_of (old.entries ++ dirty_from block at (take i cells)) old.limit
+    → new ≡ queue_of (q.entries ++ record { block = block; at = at + i; word = word; lanes = lanes } ∷ []) q.limit
+    → new ≡ queue_of (old.entries ++ dirty_from block at (take (i + 1) cells)) old.limit
+queue_one_more q old new block at i cells word lanes h d el ew eq en =
+    let cell = get_or cells i zero_cell in
+    let front = dirty_from block at _ in
+    let entry : Queued = record { block = block; at = at + i; word = word; lanes = lanes } in
+    let same = ap (λ w. let e : Queued = record { block = block; at = at + i; word = w; lanes = lanes } in e) ew
+    ∙ ap (λ m. let e : Queued = record { block = block; at = at + i; word = merged zero_word cell.word m; lanes = m } in e) el in
+    let more = sym (dirty_more block at cells i true h d) in
+    en ∙ ap (λ p. queue_of (p.entries ++ entry ∷ []) p.limit) eq ∙ ap (λ l. queue_of l old.limit) (append_assoc old.entries front _)
+    ∙ ap (λ e. queue_of (old.entries ++ (front ++ e ∷ [])) old.limit) same ∙ ap (λ l. queue_of (old.entries ++ l) old.limit) more
 
 -- of n values, the first i those of g from a on, and d behind them
 abbrev pub begun_to : {X : Type 0} → (ℕ → X) → X → (a i n : ℕ) → List X
@@ -48,14 +117,13 @@ frame_to words entries block i =
     record { block = Some block; pending = true; cells = begun_to (begun_cell entries) zero_cell (block * words) i words }
 
 abbrev pub register_to : ℕ → List Queued → ℕ → ℕ → ℕ → Register
-register_to words entries block frame i =
-    record {
-      valid = true;
-      obsolete = false;
-      block = block;
-      frame = frame;
-      fields = begun_to (begun_field entries) clear_field (block * words) i words;
-    }
+register_to words entries block frame i = record {
+  valid = true;
+  obsolete = false;
+  block = block;
+  frame = frame;
+  fields = begun_to (begun_field entries) clear_field (block * words) i words;
+}
 
 -- the frame's next word is filled
 pub frame_next : (d d' d'' : Frames) (words : ℕ) (entries : List Queued) (block frame i : ℕ) → frame < length d.frames → i < words

@@ -1,27 +1,53 @@
--- What a miss may take, by the parts and by what they show.
+-- What a miss may take, how a block loses its frame, and what the unit shows.
 use Rattle.std.proofs.Common.{◌≡◌, ℕ, suc, ◌-◌, ◌*◌, ◌%◌, ◌/◌, ◌<◌, ◌≤◌, nat_lt, ◌==◌, not, Bool, true, false, cond, List, [], ◌∷◌, length}
-use Rattle.std.proofs.Common.{get_or, Option, Some, None, is_none, refl, ap, ap₂, ◌∙◌, arith, eq-eqb}
-use Rattle.std.specs.Option.{option_or, option_map}
-use Rattle.std.specs.List.{find, filter, list_all, list_any, range_with_len}
-use Rattle.std.proofs.lemmas.Bool.{false≢true}
-use Rattle.std.proofs.lemmas.Option.{none-some}
+use Rattle.std.proofs.Common.{get_or, Option, Some, None, is_none, refl, ap, ap₂, ◌∙◌, arith, eq-eqb, option_map, ◌+◌, sym, subst, lt-ltb}
+use Rattle.std.proofs.Common.{le-ltb, ltb-false, zero, if◌then◌else◌, ◌++◌, map, set, length-set, length-append, is_some, ◌&&◌, slice_get}
+use Rattle.std.specs.Option.{option_or}
+use Rattle.std.specs.List.{find, filter, list_all, list_any, range_with_len, All, sum_by}
+use Rattle.std.proofs.lemmas.Bool.{false≢true, cases_eq, and_parts}
+use Rattle.std.proofs.lemmas.Option.{none-some, same_Some, get_or_from_slice_get, slice_get-get_or}
 use Rattle.flat_model.specs.declared.Cause.{Cause}
 use Rattle.flat_model.specs.declared.Cause.TheVariants.{NoRegister, SetPending, QueueFull, BankFull}
-use Rattle.flat_model.specs.Places.{place_of}
 use Rattle.cache_directory.specs.declared.directory.Choice.{Choice}
 use Rattle.cache_directory.specs.declared.directory.Choice.TheVariants.{Free, Victim, AllPending}
-use Rattle.cache_directory.specs.Frames as dir
 use Rattle.cache_directory.proofs.Whole.{order_held}
-use Rattle.miss_registers.specs.Registers as regs
 use Rattle.cache_unit.specs.declared.Sizes.{Sizes}
-use Rattle.cache_unit.specs.State.{Register, frame_at, is_pending, Cache}
-use Rattle.cache_unit.specs.Causes.{first_cause, is_resident_block, ways_of, choose, lacks_room, lacks_places}
-use Rattle.cache_unit.specs.Sound.{IsSound}
-use Rattle.cache_unit.specs.Reads.{is_short}
-use Rattle.cache_unit.specs.GivenUp.{owed_words}
-use Rattle.cache_unit.specs.Miss.{chosen_frame}
+use Rattle.cache_unit.specs.State.{Register, frame_at, is_pending, Cache, register_at, live_for, frame_of, is_present, free_slot, UnitState}
+use Rattle.cache_unit.specs.State.{Frames, Frame, empty_frame, Field, is_live}
+use Rattle.cache_unit.specs.Causes.{first_cause, is_resident_block, ways_of, choose, lacks_room, lacks_places, miss_causes, dirty_from}
+use Rattle.cache_unit.specs.Causes.{dirty_words}
+use Rattle.cache_unit.specs.Sound.{IsSound, Tied, OwesSound, loads_of, loads_of_field}
+use Rattle.cache_unit.specs.Reads.{is_short, block_reads}
+use Rattle.cache_unit.specs.GivenUp.{owed_words, given_up}
+use Rattle.cache_unit.specs.Miss.{chosen_frame, MayTake}
 use Rattle.cache_directory.proofs.Choices.{chosen-free, chosen-victim, chosen-all_pending}
-use Rattle.cache_unit.proofs.Same.{pending_is}
+use Rattle.cache_unit.proofs.Present.{pending_is, SameMarks, SameMarks-self, SameMarks-set, StackSound-same, live_for-some}
+use Rattle.cache_unit.proofs.Present.{in_stack-shown}
+use Rattle.miss_registers.proofs.Places.{free_slot-found}
+use Rattle.cache_unit.specs.declared.Places.{Places}
+use Rattle.flat_model.specs.Words.{zero_word, merged, has_any}
+use Rattle.write_queue.specs.declared.Queued.{Queued}
+use Rattle.cache_directory.specs.declared.Cell.{Cell}
+use Rattle.std.proofs.lemmas.List.{get_or-set_same, get_or-set_other, length-map}
+use Rattle.std.proofs.lemmas.List.Elements.{All-append}
+use Rattle.std.proofs.lemmas.List.Sums.{sum_by-cons}
+use Rattle.miss_registers.specs.Whole.{IsWhole}
+use Rattle.write_queue.specs.Queue.{queue}
+use Rattle.cache_unit.specs.Steps.{obsoleted, released, evicted, fetches}
+use Rattle.cache_unit.proofs.Lists.{get_or-map, frame_of-is, none_live, live_for-none, frame_of-some}
+use Rattle.cache_unit.proofs.Keeps.{Since, pending_elsewhere, owes-same}
+use Rattle.cache_directory.proofs.Misses.{MayInstall, released-here, released-frames, released-sets, released-absent}
+use Rattle.std.proofs.lemmas.Bool.Decides.{nat_tests}
+use borrow.Author.Tests.{ltb-true}
+use Rattle.input_stack.specs.Stack.{stack_word}
+use Rattle.cache_unit.specs.Views.{is_clean, shown_register, register_view, shown_field, field_view, target_view, cell_view}
+use Rattle.cache_directory.specs.Frames.{is_held, set_of}
+use Rattle.miss_registers.specs.Registers.{made_obsolete, without_code}
+use Rattle.cache_directory.specs.Frames as dir
+use Rattle.miss_registers.specs.Registers as regs
+use Rattle.miss_registers.specs.Views as shows
+
+-- ---- What a miss may take, by the parts and by what they show.
 
 -- ---- tests over lists
 
@@ -37,34 +63,23 @@ list_all-same p q (x ∷ xs) h = grind arith
 -- ---- the free register
 
 -- all registers are valid exactly where none is free
-record CountsValid (rs : List regs.Register) (o : Option ℕ) : Type 0 where
+record CountsValid (rs : List Register) (o : Option ℕ) : Type 0 where
   within : length (filter (λ (r : Register). r.valid) rs) ≤ length rs
   all : o ≡ None → length (filter (λ (r : Register). r.valid) rs) ≡ length rs
   some : (k : ℕ) → o ≡ Some k → length (filter (λ (r : Register). r.valid) rs) < length rs
 
-counts_valid : (rs : List regs.Register) → CountsValid rs (regs.free_slot rs)
+counts_valid : (rs : List Register) → CountsValid rs (regs.free_slot rs)
 unfolding regs.free_slot
 counts_valid [] = grind arith
-counts_valid (r ∷ rs) =
-    let t = go r.valid (place_of (λ x. not x.valid) rs) (counts_valid rs) in
-    record { within = t.0; all = t.1; some = t.2 }
-  where
-    go : (v : Bool) (o : Option ℕ) → CountsValid rs o → (length (cond v (r ∷ filter (λ (x : Register). x.valid) rs) (filter
-        (λ (x : Register). x.valid) rs)) ≤ suc (length rs)) × (cond (not v) (Some 0) (option_map (λ k. suc k) o) ≡ None
-        → length (cond v (r ∷ filter (λ (x : Register). x.valid) rs) (filter (λ (x : Register). x.valid) rs))
-        ≡ suc (length rs)) × ((k : ℕ) → cond (not v) (Some 0) (option_map (λ k. suc k) o) ≡ Some k
-        → length (cond v (r ∷ filter (λ (x : Register). x.valid) rs) (filter (λ (x : Register). x.valid) rs)) < suc (length rs))
-    go false o c = grind arith
-    go true None c = grind arith
-    go true (Some j) c = grind arith
+counts_valid (r ∷ rs) = grind (arith, counts_valid rs)
 
 -- a frame that may be taken for a block of the set
-pub record CanTake (ways : ℕ) (d : dir.Frames) (set f : ℕ) : Type 0 where
+pub record CanTake (ways : ℕ) (d : Frames) (set f : ℕ) : Type 0 where
   pub there : f < length d.frames
   pub in_set : f / ways ≡ set
   pub idle : (dir.frame_at d.frames f).pending ≡ false
 
-pub chosen_can : (ways words : ℕ) (d : dir.Frames) (set f : ℕ) → dir.IsWhole ways words d → set < length d.orders
+pub chosen_can : (ways words : ℕ) (d : Frames) (set f : ℕ) → dir.IsWhole ways words d → set < length d.orders
     → chosen_frame (dir.chosen ways d set) ≡ Some f → CanTake ways d set f
 chosen_can ways words d set f h s e = go _ refl e
   where
@@ -80,7 +95,7 @@ chosen_can ways words d set f h s e = go _ refl e
     go AllPending q k = absurd (none-some f k)
 
 -- all ways of the set are pending exactly where no frame is chosen
-pub chosen_none : (ways words : ℕ) (d : dir.Frames) (set : ℕ) → dir.IsWhole ways words d
+pub chosen_none : (ways words : ℕ) (d : Frames) (set : ℕ) → dir.IsWhole ways words d
     → is_none (chosen_frame (dir.chosen ways d set)) ≡ dir.are_pending ways d set
 chosen_none ways words d set h = go _ ∙ chosen-all_pending ways words d set h
   where
@@ -95,7 +110,7 @@ module _ (z : Sizes) (c : Cache) (h : IsSound z c) where
   pub pending-shown : (f : ℕ) → is_pending c f ≡ (frame_at c f).pending
   pending-shown f = grind (arith, pending_is)
 
-  resident-shown : (f : ℕ) → dir.is_held c.directory f ≡ true → is_resident_block c (frame_at c f).block ≡ not (frame_at c f).pending
+  resident-shown : (f : ℕ) → is_held c.directory f ≡ true → is_resident_block c (frame_at c f).block ≡ not (frame_at c f).pending
   resident-shown f held = grind (arith, false≢true, pending_is)
 
   pub all_pending-shown : (block : ℕ) → list_all (is_pending c) (ways_of z block) ≡ dir.are_pending z.ways c.directory (block % z.sets)
@@ -103,12 +118,7 @@ module _ (z : Sizes) (c : Cache) (h : IsSound z c) where
 
   pub choose-shown : (block : ℕ) → choose z c block ≡ chosen_frame (dir.chosen z.ways c.directory (block % z.sets))
   unfolding choose dir.chosen dir.free_way dir.oldest
-  choose-shown block =
-      cc (
-        old,
-        go (find (λ f. is_none (frame_at c f).block) _) (find
-            (λ f. not (frame_at c f).pending) _),
-      )
+  choose-shown block = cc (old, go (find (λ f. is_none (frame_at c f).block) _) (find (λ f. not (frame_at c f).pending) _))
     where
       set : ℕ
       set = block % z.sets
@@ -170,5 +180,425 @@ queue-test z c f = refl
 
 pub bank-test : (z : Sizes) (room : ℕ → ℕ) (block : ℕ)
     → list_any (is_short room (block * z.block_words) z.block_words z.banks) (range_with_len 0 z.banks) ≡ lacks_room z room block
-bank-test z room block =
-    refl
+bank-test z room block = refl
+
+-- ---- What a miss may take, and why it may not.
+
+module _ (z : Sizes) (c : Cache) (h : IsSound z c) (room : ℕ → ℕ) (block : ℕ) where
+  -- the frame that a miss takes
+  abbrev to_take : Option ℕ
+  to_take = chosen_frame (dir.chosen z.ways c.directory (set_of c.directory block))
+
+  abbrev Fails : Cause → Type 0
+  Fails cause = first_cause (miss_causes z room c block) ≡ Some cause
+
+  -- the four tests of a miss
+  registers_valid : (o : Option ℕ) → regs.free_slot c.registers ≡ o → (length (filter (λ (r : Register). r.valid) c.registers) == z.regs)
+      ≡ is_none o
+  registers_valid o e = grind (arith, register-test)
+
+  set_is : set_of c.directory block ≡ block % z.sets
+  set_is = grind arith
+
+  ways_pending : (o : Option ℕ) → to_take ≡ o → list_all (is_pending c) (ways_of z block) ≡ is_none o
+  ways_pending o e = cc (all_pending-shown z c h block, chosen_none _ _ _ _ h.directory, set_is, ap is_none e)
+
+  frame_chosen : (f : ℕ) → to_take ≡ Some f → choose z c block ≡ Some f
+  frame_chosen f e = grind (arith, choose-shown, set_is)
+
+  queue_lacks : (f : ℕ) → to_take ≡ Some f
+      → lacks_places z c (choose z c block) ≡ nat_lt (z.write_queue - length c.queue) (length (owed_words z.block_words c.directory f))
+  queue_lacks f e = grind (arith, frame_chosen, queue-test)
+
+  pub find_no_register : regs.free_slot c.registers ≡ None → Fails NoRegister
+  find_no_register e = no_register _ _ _ _ (registers_valid None e)
+
+  pub find_set_pending : (s : ℕ) → regs.free_slot c.registers ≡ Some s → to_take ≡ None → Fails SetPending
+  find_set_pending s e k = set_pending _ _ _ _ (registers_valid _ e) (ways_pending None k)
+
+  pub find_queue_full : (s f : ℕ) → regs.free_slot c.registers ≡ Some s → to_take ≡ Some f
+      → z.write_queue - length c.queue < length (owed_words z.block_words c.directory f) → Fails QueueFull
+  find_queue_full s f e k l = queue_full _ _ _ _ (registers_valid _ e) (ways_pending _ k) (queue_lacks f k ∙ lt-ltb _ _ l)
+
+  pub find_bank_full : (s f : ℕ) → regs.free_slot c.registers ≡ Some s → to_take ≡ Some f
+      → length (owed_words z.block_words c.directory f) ≤ z.write_queue - length c.queue
+      → list_any (is_short room (block * z.block_words) z.block_words z.banks) (range_with_len 0 z.banks) ≡ true → Fails BankFull
+  find_bank_full s f e k l m =
+      bank_full _ _ _ _ (registers_valid _ e) (ways_pending _ k) (queue_lacks f k ∙ le-ltb _ _ l) (sym (bank-test z room block) ∙ m)
+
+  pub find_places : (s f : ℕ) → regs.free_slot c.registers ≡ Some s → to_take ≡ Some f
+      → length (owed_words z.block_words c.directory f) ≤ z.write_queue - length c.queue
+      → list_any (is_short room (block * z.block_words) z.block_words z.banks) (range_with_len 0 z.banks) ≡ false
+      → MayTake z room c block (record { frame = f; slot = s })
+  find_places s f e k l m = record {
+    no_cause = no_cause _ _ _ _ (registers_valid _ e) (ways_pending _ k) (queue_lacks f k ∙ le-ltb _ _ l)
+        (sym (bank-test z room block) ∙ m);
+    frame = frame_chosen f k;
+    slot = e;
+  }
+
+-- what a miss may take is there, by the parts
+pub record Takes (z : Sizes) (c : Cache) (room : ℕ → ℕ) (block : ℕ) (places : Places) : Type 0 where
+  pub there : places.frame < length c.directory.frames
+  pub of_set : places.frame / z.ways ≡ set_of c.directory block
+  pub idle : (frame_at c places.frame).pending ≡ false
+  pub slot : places.slot < length c.registers
+  pub free : (register_at c places.slot).valid ≡ false
+  pub queue : length c.queue + length (owed_words z.block_words c.directory places.frame) ≤ z.write_queue
+  pub banks : list_any (is_short room (block * z.block_words) z.block_words z.banks) (range_with_len 0 z.banks) ≡ false
+
+pub takes_from : (z : Sizes) (c : Cache) → IsSound z c → (room : ℕ → ℕ) (block : ℕ) (places : Places) → MayTake z room c block places
+    → Takes z c room block places
+takes_from z c h room block places m =
+    let chosen = sym (choose-shown z c h block) ∙ m.frame in
+    let same = ap (λ n. block % n) h.sets in
+    let there = subst (λ n. block % z.sets < n) (sym h.sets) (omega (arith, h.ranges.some_sets)) in
+    let can = chosen_can _ _ _ _ places.frame h.directory there chosen in
+    let found = free_slot-found _ places.slot (m.slot) in
+    let none = no_test _ _ _ _ m.no_cause in
+    let fits = ltb-false _ _ (sym (queue_lacks z c h room block places.frame (cc (same, chosen))) ∙ none.queue) in
+    let within = h.queue_sound.within in
+    record {
+      there = can.there;
+      of_set = can.in_set ∙ sym same;
+      idle = can.idle;
+      slot = found.0;
+      free = found.1;
+      queue = omega arith;
+      banks = bank-test z room block ∙ none.bank;
+    }
+
+-- ---- The words that a frame owes to memory are in memory.
+
+all_cons : (P : Queued → Type 0) (q : Queued) (xs : List Queued) → P q → All P xs → All P (q ∷ xs)
+all_cons P q xs p h zero e l = p
+all_cons P q xs p h (suc k) e l = h k e (omega arith)
+
+all_by : (P : Queued → Type 0) (b : Bool) (q : Queued) (xs : List Queued) → P q → All P xs → All P (if b then q ∷ xs else xs)
+all_by P true q xs p h = all_cons P q xs p h
+all_by P false q xs p h = h
+
+-- each is one of the block's words
+pub dirty_in_memory : (block at n : ℕ) (cells : List Cell) → at + length cells ≤ n
+    → All (λ (q : Queued). q.at < n) (dirty_from block at cells)
+dirty_in_memory block at n [] h = grind arith
+dirty_in_memory block at n (c ∷ cells) h =
+    all_by (λ q. q.at < n) _ (record { block = block; at = at; word = merged zero_word _ _; lanes = c.dirty }) _ (omega arith)
+    (dirty_in_memory block (at + 1) n cells (omega arith))
+
+-- ---- A block loses its frame.
+
+-- ---- the register of the block
+
+obsolete-field : (r : Register) (i : ℕ) → regs.field_of (made_obsolete r) i ≡ without_code (regs.field_of r i)
+unfolding made_obsolete
+obsolete-field r i = get_or-map without_code r.fields i regs.clear_field
+
+valid_kept : (r : Register) → (made_obsolete r).valid ≡ r.valid
+unfolding made_obsolete
+valid_kept r = refl
+
+count_kept : (r : Register) → length (made_obsolete r).fields ≡ length r.fields
+unfolding made_obsolete
+count_kept r = length-map r.fields without_code
+
+SameMarks-obsolete : (r : Register) → SameMarks r (made_obsolete r)
+SameMarks-obsolete r = grind (arith, valid_kept, count_kept, obsolete-field)
+
+loads-map : (p : ℕ → Bool) (fs : List Field) → sum_by (loads_of_field p) (map without_code fs) ≡ sum_by (loads_of_field p) fs
+loads-map p [] = refl
+loads-map p (f ∷ fs) =
+    let a = sum_by-cons (loads_of_field p) (without_code f) (map without_code fs) in
+    let b = sum_by-cons (loads_of_field p) f fs in
+    let r = loads-map p fs in
+    omega arith
+
+loads-obsolete : (p : ℕ → Bool) (r : Register) → loads_of p (made_obsolete r) ≡ loads_of p r
+unfolding made_obsolete
+loads-obsolete p r = loads-map p r.fields
+
+not_live : (r : Register) → is_live (made_obsolete r) ≡ false
+unfolding made_obsolete
+not_live r = grind arith
+
+-- ---- what still holds
+
+module _ (z : Sizes) (c : Cache) (h : IsSound z c) (block f : ℕ) (holds : frame_of c block ≡ Some f) where
+  abbrev fs' : List Frame
+  fs' = set c.directory.frames f empty_frame
+
+  -- the registers then
+  abbrev gone : List Register
+  gone = obsoleted c.registers (live_for c block)
+
+  f_holds : (frame_at c f).block ≡ Some block
+  f_holds = (frame_of-some _ block f holds).1
+
+  f_there : f < length c.directory.frames
+  f_there = (frame_of-some _ block f holds).0
+
+  -- the block's dirty words
+  abbrev dirty : List Queued
+  dirty = dirty_from block (block * z.block_words) (frame_at c f).cells
+
+  -- what lives now lived before, for another block
+  lived : (s : ℕ) → is_live (regs.register_at gone s) ≡ true → Since (register_at c s) (regs.register_at gone s) ×
+      ((register_at c s).block ≡ block → ⊥)
+  lived s = grind (arith, none_live, live_for-some, cases_eq, get_or-set_same, false≢true, not_live, get_or-set_other)
+
+  -- what lived for another block lives on
+  lives_on : (s : ℕ) → is_live (register_at c s) ≡ true → ((register_at c s).block ≡ block → ⊥) → regs.register_at gone s ≡ register_at c s
+  lives_on s l n = grind (arith, live_for-some, get_or-set_other)
+
+  -- a frame of another block is another one
+  other_frame : (s : ℕ) → is_live (register_at c s) ≡ true → ((register_at c s).block ≡ block → ⊥) → (register_at c s).frame ≡ f → ⊥
+  other_frame s l n e = grind (arith, frame_of-some, same_Some, f_holds)
+
+  unmoved : (g : ℕ) → (g ≡ f → ⊥) → dir.frame_at fs' g ≡ frame_at c g
+  unmoved g n = get_or-set_other _ f g empty_frame empty_frame n
+
+  still_there : (g b : ℕ) → (dir.frame_at fs' g).block ≡ Some b → (frame_at c g).block ≡ Some b
+  still_there g b e = grind (arith, cases_eq, get_or-set_same, f_there, none-some, unmoved)
+
+  tied_after : Tied fs' gone
+  tied_after = record {
+    frames = λ s l. (
+        let w = lived s l in
+        let x = h.tied.frames s w.0.live in
+        let n = other_frame s w.0.live w.1 in
+        let here = (frame_of-some _ _ _ x.holds).1 in
+        let same = unmoved (register_at c s).frame n in
+        let found = frame_of-is fs' (register_at c s).block (register_at c s).frame
+        (λ a b k p r. h.directory.alone a b k (still_there a k p) (still_there b k r)) (cc (same, here)) in
+        record {
+          holds = ap (dir.frame_of fs') w.0.block ∙ found ∙ ap Some (sym w.0.frame);
+          cells = cc (w.0.frame, same, x.cells, w.0.count);
+          pending = cc (w.0.frame, same, x.pending);
+        });
+    pending = λ g t. (
+        let p = pending_elsewhere _ f g empty_frame refl t in
+        let w = h.tied.pending g p.1 in
+        let n : (register_at c w.slot).block ≡ block
+        → ⊥ = λ b. p.0 (sym w.frame ∙ same_Some _ _ (sym (h.tied.frames w.slot w.live).holds ∙ ap (frame_of c) b ∙ holds)) in
+        let on = lives_on w.slot w.live n in
+        record { slot = w.slot; live = ap is_live on ∙ w.live; frame = cc (on, w.frame) });
+  }
+
+  marks_after : (s : ℕ) → SameMarks (register_at c s) (regs.register_at gone s)
+  marks_after s = go _ refl
+    where
+      go : (o : Option ℕ) → live_for c block ≡ o → SameMarks (register_at c s) (regs.register_at (obsoleted c.registers o) s)
+      go None e = SameMarks-self _
+      go (Some t) e = SameMarks-set _ t _ (live_for-some _ block t e).0 (SameMarks-obsolete _) s
+
+  owes_after : OwesSound z c.ready gone
+  owes_after = go _ refl
+    where
+      go : (o : Option ℕ) → live_for c block ≡ o → OwesSound z c.ready (obsoleted c.registers o)
+      go None e = h.owes
+      go (Some t) e = owes-same z _ _ t _ (live_for-some _ block t e).0 (λ p. loads-obsolete p _) h.owes
+
+  sets_after : length (dir.released z.ways c.directory f).orders ≡ z.sets
+  unfolding dir.released
+  sets_after = length-set _ _ _ ∙ h.sets
+
+  blocks_after : (g b : ℕ) → (dir.frame_at (dir.released z.ways c.directory f).frames g).block ≡ Some b → (frame_at c g).block ≡ Some b
+  unfolding dir.released
+  blocks_after g b e = still_there g b e
+
+  tied_released : Tied (dir.released z.ways c.directory f).frames gone
+  unfolding dir.released
+  tied_released = tied_after
+
+  pub IsSound-given_up : length c.queue + length dirty ≤ z.write_queue
+      → dir.IsWhole z.ways z.block_words (dir.released z.ways c.directory f) → IsWhole z.block_words z.regs gone
+      → IsSound z (record c { directory = dir.released z.ways c.directory f; registers = gone; queue = c.queue ++ dirty })
+  IsSound-given_up room wd wr = record {
+    ranges = h.ranges;
+    directory = wd;
+    sets = sets_after;
+    in_memory = λ g b e. h.in_memory g b (blocks_after g b e);
+    registers = wr;
+    stack_sound = StackSound-same _ _ _ marks_after h.stack_sound;
+    tied = tied_released;
+    queue_sound = record {
+      within = (
+          let a = length-append c.queue dirty in
+          omega arith);
+      addresses = (
+          let m = h.in_memory f block f_holds in
+          let n = h.directory.cells f block f_holds in
+          All-append (λ e. e.at < z.words) _ dirty h.queue_sound.addresses (dirty_in_memory block _ _ (frame_at c f).cells (omega arith)));
+    };
+    owes = owes_after;
+  }
+
+  -- ---- what the unit shows then
+
+  pub words-shown : dirty_words z c (Some f) ≡ dirty
+  words-shown = grind (arith, f_holds)
+
+  pub given_up-shown : (record c { directory = dir.released z.ways c.directory f; registers = gone; queue = c.queue ++ dirty })
+      ≡ evicted z c block f
+  unfolding evicted released
+  given_up-shown = grind (arith, words-shown)
+
+  -- ---- what the calls need
+
+  few_enough : (a b : ℕ) → nat_lt a b ≡ false → b ≤ a
+  few_enough a b e = grind arith
+
+  -- what the frame owes are the block's dirty words, and without it the frame is released
+  pub owes_block : owed_words z.block_words c.directory f ≡ dirty
+  owes_block = grind (arith, f_holds)
+
+  pub is_released : given_up z.ways c.directory f ≡ dir.released z.ways c.directory f
+  is_released = grind (arith, f_holds)
+
+  pub can_give_up : lacks_places z c (Some f) ≡ false → (f < length c.directory.frames) ×
+      ((b : ℕ) → (frame_at c f).block ≡ Some b → b * z.block_words + z.block_words < 4294967296) ×
+      (length c.queue + length dirty ≤ z.write_queue)
+  can_give_up e = grind (arith, few_enough, words-shown, frame_of-some)
+
+  more : (a b : ℕ) → a < b → nat_lt a b ≡ true
+  more a b l = grind arith
+
+  not_more : (a b : ℕ) → b ≤ a → nat_lt a b ≡ false
+  not_more a b l = grind arith
+
+  pub lacks-true : (n room : ℕ) → n ≡ length dirty → room ≡ z.write_queue - length c.queue → room < n → lacks_places z c (Some f) ≡ true
+  lacks-true n room e r l = grind (arith, words-shown, more)
+
+  pub lacks-false : (n room : ℕ) → n ≡ length dirty → room ≡ z.write_queue - length c.queue → n ≤ room → lacks_places z c (Some f) ≡ false
+  lacks-false n room e r l = grind (arith, words-shown, not_more)
+
+-- ---- A block that no frame holds.
+
+pub absent_frame : (c : Cache) (block : ℕ) → is_present c block ≡ false → frame_of c block ≡ None
+absent_frame c block e = go _ e
+  where
+    go : (o : Option ℕ) → is_some o ≡ false → o ≡ None
+    go None k = refl
+    go (Some f) k = absurd (false≢true (sym k))
+
+-- a live register's block is in a frame
+pub no_live : (fs : List Frame) (rs : List Register) (block : ℕ) → Tied fs rs → dir.frame_of fs block ≡ None → regs.live_for rs block ≡ None
+no_live fs rs block h absent = live_for-none rs block (λ s live e. none-some (regs.register_at rs s).frame
+    (sym absent ∙ ap (dir.frame_of fs) (sym e) ∙ (h.frames s live).holds))
+
+-- the reads that the step sends
+pub fetches-shown : (z : Sizes) (c : Cache) (block slot : ℕ) → is_present c block ≡ false → free_slot c ≡ Some slot
+    → block_reads slot (block * z.block_words) z.block_words z.banks z.block_words ≡ fetches z c block
+unfolding fetches
+fetches-shown z c block slot absent free = cc (free, absent)
+
+-- ---- A frame that was given up may take a block.
+
+pub given_may_install : (ways words : ℕ) (d : Frames) (f block : ℕ) → dir.IsWhole ways words d → dir.frame_of d.frames block ≡ None
+    → f < length d.frames → f / ways ≡ set_of d block → MayInstall ways (given_up ways d f) f block
+given_may_install ways words d f block whole absent there of_set = go _ refl
+  where
+    vacant : (o : Option ℕ) → is_some o ≡ false → o ≡ None
+    vacant None e = refl
+    vacant (Some b) e = absurd (false≢true (sym e))
+
+    go : (b : Bool) → is_held d f ≡ b → MayInstall ways (cond b (dir.released ways d f) d) f block
+    go true e = record {
+      there = rw (sym (released-frames ways d f)) at there;
+      free = ap (λ x. x.block) (released-here ways d f there);
+      of_set = cc (of_set, released-sets ways d f);
+      absent = released-absent ways d f block there absent;
+    }
+    go false e = record { there = there; free = vacant (dir.frame_at _ f).block e; of_set = of_set; absent = absent }
+
+pub installed_frames : (ways words : ℕ) (d : Frames) (f block : ℕ) → length (dir.installed ways words d f block).frames ≡ length d.frames
+unfolding dir.installed
+installed_frames ways words d f block = length-set _ f _
+
+-- ---- What the parts show is what the unit shows.
+
+-- ---- a register
+
+register-same : (c : Cache) (r : Register) → (is_live r ≡ true → frame_of c r.block ≡ Some r.frame)
+    → shows.shown_register r ≡ shown_register c r
+register-same c r h = grind arith
+
+pub register-shown : (z : Sizes) (c : Cache) (slot : ℕ) → IsSound z c → shows.register_view c.registers slot ≡ register_view c slot
+register-shown z c slot h = go _ refl
+  where
+    go : (o : Option Register) → slice_get c.registers slot ≡ o → option_map shows.shown_register o ≡ option_map (shown_register c) o
+    go None e = refl
+    go (Some r) e =
+        let at = get_or_from_slice_get _ slot r regs.free_register e in
+        ap Some (register-same c r (λ l. rw at at (h.tied.frames slot (ap is_live at ∙ l)).holds))
+
+-- a register that isn't shown isn't there
+pub not_shown : (rs : List Register) (slot : ℕ) → shows.register_view rs slot ≡ None → regs.register_at rs slot ≡ regs.free_register
+not_shown [] slot e = refl
+not_shown (r ∷ rs) zero e = cc
+not_shown (r ∷ rs) (suc slot) e = not_shown rs slot e
+
+-- ---- a word of a register
+
+field-same : (c : Cache) (slot i : ℕ) (f : Field) → is_some (stack_word c.stack slot i) ≡ f.in_stack
+    → shows.shown_field f ≡ shown_field c slot i f
+field-same c slot i f h = rw h refl
+
+if-same : {X : Type 0} (b : Bool) (x y : X) → x ≡ y → (if b then Some x else None) ≡ (if b then Some y else None)
+if-same b x y e = rw e refl
+
+pub field-shown : (z : Sizes) (c : Cache) (slot i : ℕ) → IsSound z c → shows.field_view z.block_words c.registers slot i
+    ≡ field_view z c slot i
+field-shown z c slot i h = grind (arith, if-same, field-same, in_stack-shown)
+
+pub target-shown : (c : Cache) (slot i place : ℕ) → shows.target_view c.registers slot i place ≡ target_view c slot i place
+target-shown c slot i place = refl
+
+-- ---- the buffer
+
+some-within : {X : Type 0} (xs : List X) (i : ℕ) → is_some (slice_get xs i) ≡ nat_lt i (length xs)
+some-within [] i = grind arith
+some-within (x ∷ xs) zero = grind arith
+some-within (x ∷ xs) (suc i) = some-within xs i ∙ grind (arith, nat_tests)
+
+-- a frame that holds a block has its words, and another has none
+pub has-cell : (ways words : ℕ) (d : Frames) (f i : ℕ) → dir.IsWhole ways words d
+    → is_some (slice_get (dir.frame_at d.frames f).cells i) ≡ (is_held d f && nat_lt i words)
+has-cell ways words d f i h = grind (arith, d.frames, some-within, h.cells)
+
+pub cells-shown : (c : Cache) (f i : ℕ) → cell_view c f i ≡ slice_get (frame_at c f).cells i
+cells-shown c f i = refl
+
+-- ---- nothing is dirty
+
+pub none_dirty : (block at : ℕ) (cells : List Cell)
+    → (length (dirty_from block at cells) == 0) ≡ list_all (λ cell. not (has_any cell.dirty)) cells
+none_dirty block at [] = refl
+none_dirty block at (x ∷ cells) = grind (arith, nat_tests, none_dirty block (at + 1) cells)
+
+-- what a unit shows is what its parts show
+pub of_parts : {X : Type 0} (z : Sizes) (c : Cache) (u : UnitState) (f : Sizes → Cache → X) → record { sizes = z; cache = c } ≡ u
+    → f z c ≡ f u.sizes u.cache
+of_parts z c u f e = grind arith
+
+-- a cell that is there is in a frame that holds a block, and is one of its words
+pub held-cell : (ways words : ℕ) (d : Frames) (f i : ℕ) → dir.IsWhole ways words d
+    → is_some (slice_get (dir.frame_at d.frames f).cells i) ≡ true → (is_held d f ≡ true) × (i < words)
+held-cell ways words d f i h e =
+    let p = and_parts _ _ (sym (has-cell ways words d f i h) ∙ e) in
+    (p.0, ltb-true i words p.1)
+
+pub cell-there : (cells : List Cell) (i : ℕ) → is_some (slice_get cells i) ≡ true → slice_get cells i ≡ Some (get_or cells i dir.zero_cell)
+cell-there cells i e = grind (arith, slice_get-get_or, some-within)
+
+-- ---- a clean unit
+
+abbrev pub all_free : List Register → Bool
+all_free rs = list_all (λ r. not r.valid) rs
+
+abbrev pub all_clean : List Frame → Bool
+all_clean fs = list_all (λ f. list_all (λ cell. not (has_any cell.dirty)) f.cells) fs
+
+pub clean_by : (c : Cache) (free clean none : Bool) → all_free c.registers ≡ free → all_clean c.directory.frames ≡ clean
+    → (length c.queue == 0) ≡ none → (free && (clean && none)) ≡ is_clean c
+clean_by c free clean none a b e = grind arith

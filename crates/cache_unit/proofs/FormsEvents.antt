@@ -1,29 +1,419 @@
 -- The events that move a word or a value: a drained write, a word that arrives, a value that is taken.
-use Rattle.std.proofs.Common.{◌≡◌, ℕ, ◌≤◌, Bool, true, false, cond, ◌==◌, List, [], ◌∷◌, ◌++◌, Option, Some}
-use Rattle.std.proofs.Common.{None}
-use Rattle.std.proofs.Common.{option_map, find, remove, slice_get, refl, sym, ap, ◌∙◌, arith, eq-eqb, eqb-true}
+use Rattle.std.proofs.Common.{◌≡◌, ℕ, Bool, ◌==◌, List, ◌++◌, map, length, Option, Some, None, option_map, find, refl, sym, ap, ap₂, ◌∙◌}
+use Rattle.std.proofs.Common.{filter, zero, suc, ◌+◌, ◌<◌, true, false, cond, not, ◌&&◌, nat_lt, is_some, [], ◌∷◌, get_or, set, length-set}
+use Rattle.std.proofs.Common.{⊎_elim, get_or-set_same, get_or-set_other, eq-eqb, ne_eqb, ◌≤◌, remove, slice_get, arith, eqb-true}
 use Rattle.std.specs.Option.{option_or}
 use Rattle.std.proofs.lemmas.List.Folds.{find-append}
+use Rattle.std.proofs.lemmas.List.{map-append}
+use Rattle.std.proofs.lemmas.Simd.{map-map}
 use Rattle.flat_model.specs.declared.Word.{Word}
+use Rattle.input_stack.specs.declared.Entry.{Entry}
+use Rattle.input_stack.specs.Stack.{stack_word}
+use Rattle.cache_unit.specs.declared.Reply.{Reply}
+use Rattle.cache_unit.specs.declared.Sizes.{Sizes}
+use Rattle.cache_unit.specs.State.{Target, Cache, field_at, frame_of, live_for, cell_in, cell_of, targets, tags, block_of, place_in, Frame}
+use Rattle.cache_unit.specs.State.{Field, Register, empty_frame, clear_field, free_register, frame_at, register_at, is_live, gathered}
+use Rattle.cache_unit.specs.State.{targets_of, targets_of_field}
+use Rattle.cache_unit.specs.Forms.{Form, bytes_of, missing_form, over_form, form_in, target_form, owed, coming_form, form, fill}
+use Rattle.cache_unit.specs.FormLaws.{form_where, form_at, forms, words_without, EvictForms, but_at, filled_form, DrainForms, ArriveForms}
+use Rattle.cache_unit.specs.FormLaws.{TakeForms, TakenForms}
+use Rattle.cache_unit.specs.Counts.{tally, bit}
+use Rattle.cache_unit.proofs.Lists.{tally-map, tally-filter, find-map, gathered_part, read_set, in_range, frame_of-some, live_for-some}
+use Rattle.cache_unit.proofs.Lists.{none_live, frame-stays, frame-goes, holds-not, live-stays, serves-not, waits_for, RegistersWithin}
+use Rattle.cache_unit.proofs.Lists.{registers_within-same, registers_within-set, Within, Adds, Adds-tally, Adds-find_other, Adds-find_same}
+use Rattle.cache_unit.proofs.Lists.{find_none, Adds-right, Adds-map, Adds-remove}
+use Rattle.std.proofs.lemmas.Bool.{cases_eq}
+use Rattle.flat_model.specs.declared.Cause.TheVariants.{OutOfRange, NotPresent, QueueFull}
+use Rattle.flat_model.specs.declared.Answer.TheVariants.{Accepted}
+use Rattle.cache_unit.specs.Causes.{evict_cause, lacks_places}
+use Rattle.miss_registers.specs.Registers.{without_code, made_obsolete, marked, field_of}
+use Rattle.cache_unit.specs.Steps.{Stepped, unless, obsoleted, released, evicted, evicted_from, evict_step, moved, drain_first, drain_step}
+use Rattle.cache_unit.specs.Steps.{arrived, arrive_step, take_reply, take_step}
+use Rattle.cache_unit.specs.SoundCache.{IsSoundCache}
 use Rattle.flat_model.specs.declared.Lanes.{Lanes}
 use Rattle.flat_model.specs.declared.Cause.{Cause}
 use Rattle.flat_model.specs.Words.{Lane}
-use Rattle.input_stack.specs.Stack.{stack_word}
 use Rattle.write_queue.specs.declared.Queued.{Queued}
-use Rattle.cache_directory.specs.Frames as dir
 use Rattle.miss_registers.specs.Registers as regs
-use Rattle.cache_unit.specs.declared.Reply.{Reply}
-use Rattle.cache_unit.specs.declared.Sizes.{Sizes}
-use Rattle.cache_unit.specs.State.{Target, Cache}
-use Rattle.cache_unit.specs.Steps.{unless, moved, drain_first, drain_step, arrived, arrive_step, take_reply, take_step}
-use Rattle.cache_unit.specs.Forms.{Form, bytes_of, coming_form, over_form, form, target_form, owed}
-use Rattle.cache_unit.specs.Forms.{fill}
-use Rattle.cache_unit.specs.FormLaws.{form_at, forms, but_at, filled_form, DrainForms, ArriveForms, TakeForms, TakenForms}
-use Rattle.cache_unit.specs.SoundCache.{IsSoundCache}
-use Rattle.cache_unit.specs.Counts.{tally, bit}
-use Rattle.cache_unit.proofs.FormsLists.{Adds, Adds-tally, Adds-find_other, Adds-find_same, find_none, Adds-right, Adds-map, Adds-remove}
-use Rattle.cache_unit.proofs.FormsSame.{Due, due_ready, dues, has_tag, due_in, owed-due, dues-tally, forms-from}
-use Rattle.cache_unit.proofs.Marks.{forms-marked}
+use Rattle.cache_directory.specs.Frames as dir
+
+-- ---- Two units with the same forms, and with the same owed.
+
+-- ---- words
+
+-- the form at an address goes by these parts alone
+pub form_at-same : (z : Sizes) (c d : Cache) (at : ℕ) → frame_of d (block_of z at) ≡ frame_of c (block_of z at)
+    → live_for d (block_of z at) ≡ live_for c (block_of z at)
+    → (cell_of d (block_of z at) (place_in z at)).word ≡ (cell_of c (block_of z at) (place_in z at)).word
+    → ((slot : ℕ) → live_for c (block_of z at) ≡ Some slot
+    → ((field_at d slot (place_in z at)).processed ≡ (field_at c slot (place_in z at)).processed)
+    × ((field_at d slot (place_in z at)).code ≡ (field_at c slot (place_in z at)).code)
+    × (stack_word d.stack slot (place_in z at) ≡ stack_word c.stack slot (place_in z at))) → form_at z d at ≡ form_at z c at
+unfolding form_at
+form_at-same z c d at ef el ec parts = ap (form_where z d at) ef ∙ go _
+  where
+    live : (o : Option ℕ) → live_for c (block_of z at) ≡ o → (w : Word) → form_in d o (place_in z at) w ≡ form_in c o (place_in z at) w
+    live None e w = refl
+    live (Some slot) e w =
+        let p = parts slot e in
+        cc (p.0, p.1, p.2)
+
+    go : (o : Option ℕ) → form_where z d at o ≡ form_where z c at o
+    go None = refl
+    go (Some f) = ap Some (ap (λ o. form_in d o (place_in z at) (cell_of d (block_of z at) (place_in z at)).word) el
+        ∙ live _ refl (cell_of d _ _).word ∙ ap (λ w. form_in c (live_for c (block_of z at)) (place_in z at) w) ec)
+
+-- a present word's form, with and without a live register
+pub form_at-live : (z : Sizes) (c : Cache) (at k s j : ℕ) → frame_of c (block_of z at) ≡ Some k → live_for c (block_of z at) ≡ Some s
+    → place_in z at ≡ j → form_at z c at ≡ Some (form_in c (Some s) j (cell_in c (Some k) j).word)
+unfolding form_at
+form_at-live z c at k s j ef el ej = cc (
+  ef,
+  ap Some (ap (λ o. form_in c (live_for c (block_of z at)) (place_in z at)
+      (cell_in c o (place_in z at)).word) ef ∙ ap (λ o. form_in c o (place_in z at) (cell_in c (Some k) (place_in z at)).word) el
+      ∙ ap (λ n. form_in c (Some s) n (cell_in c (Some k) n).word) ej),
+)
+
+pub form_at-resident : (z : Sizes) (c : Cache) (at k : ℕ) → frame_of c (block_of z at) ≡ Some k → live_for c (block_of z at) ≡ None
+    → form_at z c at ≡ Some (bytes_of (cell_in c (Some k) (place_in z at)).word)
+unfolding form_at
+form_at-resident z c at k ef el = cc (
+  ef,
+  ap Some (ap (λ o. form_in c (live_for c (block_of z at)) (place_in z at)
+      (cell_in c o (place_in z at)).word) ef ∙ ap (λ o. form_in c o (place_in z at) (cell_in c (Some k) (place_in z at)).word) el),
+)
+
+pub form_at-absent : (z : Sizes) (c : Cache) (at : ℕ) → frame_of c (block_of z at) ≡ None → form_at z c at ≡ None
+unfolding form_at
+form_at-absent z c at ef = ap (form_where z c at) ef
+
+-- ---- what is owed
+
+-- a tag, and the form that it is owed
+pub record Due : Type 0 where
+  pub tag : ℕ
+  pub form : Form
+
+abbrev pub due_ready : Reply → Due
+due_ready r = record { tag = r.tag; form = bytes_of r.word }
+
+abbrev pub due_to : List Entry → Target → Due
+due_to stack t = record {
+  tag = t.load.tag;
+  form = over_form t.load.lanes t.load.held (missing_form (stack_word stack t.slot t.i) t.slot t.i);
+}
+
+unfoldable pub dues : Cache → List Due
+dues c = map due_ready c.ready ++ map (due_to c.stack) (targets c.registers)
+
+abbrev pub has_tag : ℕ → Due → Bool
+has_tag tag d = d.tag == tag
+
+unfoldable pub due_in : List Due → ℕ → Option Form
+due_in ds tag = option_map (λ d. d.form) (find (has_tag tag) ds)
+
+pub owed-due : (c : Cache) (tag : ℕ) → owed c tag ≡ due_in (dues c) tag
+unfolding due_in dues
+owed-due c tag = cc (
+  go (find (λ r. r.tag == tag) _) (find (λ t. t.load.tag == tag) _),
+  ap₂ (λ a b. option_map (λ d. d.form) (option_or a b))
+      (sym (find-map due_ready (has_tag tag) c.ready))
+      (sym (find-map (due_to c.stack) (has_tag tag) (targets c.registers))),
+  sym
+      (find-append (has_tag tag) (map due_ready c.ready) (map (due_to c.stack) (targets c.registers))),
+)
+  where
+    go : (a : Option Reply) (b : Option Target) → option_or (option_map (λ r. bytes_of r.word) a) (option_map (target_form c) b)
+        ≡ option_map (λ d. d.form) (option_or (option_map due_ready a) (option_map (due_to c.stack) b))
+    go (Some r) b = refl
+    go None None = refl
+    go None (Some t) = refl
+
+-- the same ready replies, waiting loads and stack
+pub owed-same : (c d : Cache) → d.ready ≡ c.ready → targets d.registers ≡ targets c.registers → d.stack ≡ c.stack → (tag : ℕ)
+    → owed d tag ≡ owed c tag
+unfolding dues
+owed-same c d er et es tag = cc (owed-due d tag, same, owed-due c tag)
+  where
+    same : dues d ≡ dues c
+    same = cc (ap₂ (λ r t. map due_ready r ++ map (due_to d.stack) t) er et, es)
+
+-- the tags of what is owed
+pub tags-dues : (c : Cache) → map (λ d. d.tag) (dues c) ≡ tags c
+unfolding dues
+tags-dues c = map-append (λ (d : Due). d.tag) _ _ ∙ ap₂ ◌++◌ (map-map (λ d. d.tag) due_ready _) (map-map (λ (d : Due). d.tag) _ _)
+
+pub dues-passing : (p : ℕ → Bool) (c : Cache) → tally (λ (d : Due). p d.tag) (dues c) ≡ tally p (tags c)
+dues-passing p c = sym (tally-map (λ d. d.tag) p _) ∙ ap (tally p) (tags-dues c)
+
+pub dues-tally : (c : Cache) (tag : ℕ) → tally (has_tag tag) (dues c) ≡ length (filter (λ t. t == tag) (tags c))
+dues-tally c tag = dues-passing (λ t. t == tag) c ∙ sym (tally-filter (λ t. t == tag) _)
+
+-- ---- both
+
+pub forms-from : (z : Sizes) (d : Cache) (words owing : ℕ → Option Form) → ((at : ℕ) → form_at z d at ≡ words at)
+    → ((tag : ℕ) → owed d tag ≡ owing tag) → forms z d ≡ record { words = words; owing = owing }
+forms-from z d words owing w o = λ i. record { words = λ at. w at i; owing = λ tag. o tag i }
+
+-- ---- A block is given up.
+
+pub codeless_targets : (slot n : ℕ) (fields : List Field)
+    → gathered (targets_of_field slot) n (map without_code fields) ≡ gathered (targets_of_field slot) n fields
+codeless_targets slot n [] = refl
+codeless_targets slot n (f ∷ fields) = ap (λ l. targets_of_field slot n f ++ l) (codeless_targets slot _ fields)
+
+-- the word of another block stands in another frame
+pub cell-other : (z : Sizes) (c d : Cache) (at f : ℕ) (new : Frame) → d.directory.frames ≡ set c.directory.frames f new
+    → frame_of d (block_of z at) ≡ frame_of c (block_of z at) → ((frame_at c f).block ≡ Some (block_of z at) → ⊥)
+    → cell_of d (block_of z at) (place_in z at) ≡ cell_of c (block_of z at) (place_in z at)
+cell-other z c d at f new ed ef n = cc (ef, go _ refl)
+  where
+    go : (o : Option ℕ) → frame_of c (block_of z at) ≡ o → cell_in d o (place_in z at) ≡ cell_in c o (place_in z at)
+    go None e = refl
+    go (Some k) e =
+        let p = frame_of-some _ _ k e in
+        cc (ed, get_or-set_other _ f k new empty_frame (λ q. n (ap (λ x. (frame_at c x).block) (sym q) ∙ p.1)))
+
+codeless_processed : (fields : List Field) (j : ℕ)
+    → (get_or (map without_code fields) j clear_field).processed ≡ (get_or fields j clear_field).processed
+codeless_processed [] j = refl
+codeless_processed (f ∷ fields) zero = refl
+codeless_processed (f ∷ fields) (suc j) = codeless_processed fields j
+
+codeless_length : (fields : List Field) → length (map without_code fields) ≡ length fields
+codeless_length [] = refl
+codeless_length (f ∷ fields) = ap suc (codeless_length fields)
+
+abbrev pub waits_in : Sizes → ℕ → Register → Bool
+waits_in z j r = r.valid && (nat_lt j z.block_words && not (get_or r.fields j clear_field).processed)
+
+-- the unit once a block is given up
+pub record EvictedBy (z : Sizes) (c : Cache) (block : ℕ) (d : Cache) : Type 0 where
+  pub within : Within c d
+  pub waits : (t j : ℕ) → waits_for z d t j ≡ waits_for z c t j
+  pub after : forms z d ≡ record { words = words_without z (form_at z c) (Some block); owing = owed c }
+  pub same_tags : tags d ≡ tags c
+  pub absent : frame_of d block ≡ None
+  pub cells : (at : ℕ) → (block ≡ block_of z at → ⊥) → cell_of d (block_of z at) (place_in z at) ≡ cell_of c (block_of z at) (place_in z at)
+
+module _ (z : Sizes) (c : Cache) (h : IsSoundCache z c) (block : ℕ) where
+  -- what changes where the block's register becomes obsolete
+  pub record Retired (registers : List Register) : Type 0 where
+    pub stays : (b : ℕ) → (b ≡ block → ⊥) → (d : Cache) → d.registers ≡ registers → live_for d b ≡ live_for c b
+    pub others : (b t : ℕ) → (b ≡ block → ⊥) → live_for c b ≡ Some t → get_or registers t free_register ≡ register_at c t
+    pub same_targets : targets registers ≡ targets c.registers
+    pub within : RegistersWithin c.registers registers
+    pub not_live : (t : ℕ) → is_live (get_or registers t free_register) ≡ true → (register_at c t).block ≡ block → ⊥
+    pub waits : (t j : ℕ) → waits_in z j (get_or registers t free_register) ≡ waits_for z c t j
+
+  retired : (o : Option ℕ) → live_for c block ≡ o → Retired (obsoleted c.registers o)
+  unfolding targets regs.live_for made_obsolete
+  retired None e = record {
+    stays = λ b n d ed. ap (λ rs. live_for (record c { registers = rs }) b) ed;
+    others = λ b t n l. refl;
+    same_targets = refl;
+    within = registers_within-same _;
+    not_live = λ t l b. none_live _ block e t l b;
+    waits = λ t j. refl;
+  }
+  retired (Some s) e =
+      let r = register_at c s in
+      let p = live_for-some c block s e in
+      let there = in_range is_live free_register _ s refl p.0 in
+      let part = gathered_part targets_of free_register 0 _ s there in
+      let own = get_or-set_same _ s _ free_register there in
+      let within = registers_within-set _ s _ (λ l. let n = never r.valid in cc)
+      (λ v. (v, codeless_length r.fields)) in
+      record {
+        stays = λ b n d ed. live-stays c d s _ b ed
+            (cc (never r.valid, serves-not r b (λ l q. n (sym q ∙ p.1))));
+        others = λ b t n l. get_or-set_other _ s t _ free_register
+            (λ q. n (cc (sym (live_for-some c b t l).1, q, p.1)));
+        same_targets = cc (part.then _, codeless_targets _ 0 r.fields, part.now);
+        within = within;
+        not_live = λ t l b.
+            let q = h.live_apart t s (within.live t l).0 p.0 (b ∙ sym p.1) in
+            let dead =
+            ap (λ k. is_live (get_or (set c.registers s (made_obsolete r)) k free_register)) q ∙ ap is_live own ∙ never r.valid in
+            cc;
+        waits = λ t j. read_set (waits_in z j) free_register _ s _
+            (ap (λ y. r.valid && (nat_lt j z.block_words && not y)) (codeless_processed r.fields j)) t;
+      }
+    where
+      never : (b : Bool) → (b && false) ≡ false
+      never true = refl
+      never false = refl
+
+  module _ (f : ℕ) (found : frame_of c block ≡ Some f) where
+    abbrev gone : Cache
+    gone = evicted z c block f
+
+    word_gone : (at : ℕ) → form_at z gone at ≡ words_without z (form_at z c) (Some block) at
+    unfolding evicted released dir.released
+    word_gone at = ⊎_elim here there (cases_eq block _)
+      where
+        held : (f < length c.directory.frames) × ((frame_at c f).block ≡ Some block)
+        held = frame_of-some _ block f found
+
+        ret : Retired (obsoleted c.registers (live_for c block))
+        ret = retired _ refl
+
+        here : block ≡ block_of z at → form_at z gone at ≡ cond (block == block_of z at) None (form_at z c at)
+        here q = cc (
+          form_at-absent z gone at (frame-goes c gone f empty_frame _ refl held.0 (λ e. cc)
+              (λ k e. h.frames_apart k f _ e (held.1 ∙ ap Some q))),
+          eq-eqb block _ q,
+        )
+
+        there : (block ≡ block_of z at → ⊥) → form_at z gone at ≡ cond (block == block_of z at) None (form_at z c at)
+        there n =
+            let far : (frame_at c f).block ≡ Some (block_of z at) → ⊥ = λ e. let same = sym held.1
+            ∙ e in let q : block ≡ block_of z at = cc in n q in
+            let n' : block_of z at ≡ block → ⊥ = λ q. n (sym q) in
+            let ef = frame-stays c gone f empty_frame (block_of z at) refl (sym (holds-not (frame_at c f) _ far)) in
+            cc (
+              form_at-same z c gone at ef (ret.stays _ n' gone refl)
+                  (ap (λ x. x.word) (cell-other z c gone at f empty_frame refl ef far)) (λ t l.
+                  let same = ret.others (block_of z at) t n' l in (
+                    ap (λ r. (get_or r.fields (place_in z at) clear_field).processed) same,
+                    ap
+                        (λ r. (get_or r.fields (place_in z at) clear_field).code) same,
+                    refl,
+                  )),
+              ne_eqb block _ n,
+            )
+
+    gone_within : Within c gone
+    unfolding evicted released dir.released
+    gone_within = record {
+      frames = record {
+        number = length-set _ f empty_frame;
+        held = λ k b e. let same = elsewhere k (holds_other k b e) in
+            (cc (same, e), ap (λ x. length x.cells) same);
+      };
+      registers = ret.within;
+      stays = λ s k l e. (cc (
+        elsewhere k (λ q. ret.not_live s l (let p = sym e ∙ ap (λ x. (frame_at c x).block) q ∙ held.1 in cc)),
+        e,
+      ));
+    }
+      where
+        held : (f < length c.directory.frames) × ((frame_at c f).block ≡ Some block)
+        held = frame_of-some _ block f found
+
+        ret : Retired (obsoleted c.registers (live_for c block))
+        ret = retired _ refl
+
+        elsewhere : (k : ℕ) → (k ≡ f → ⊥) → get_or (set c.directory.frames f empty_frame) k empty_frame ≡ frame_at c k
+        elsewhere k n = get_or-set_other _ f k empty_frame empty_frame n
+
+        holds_other : (k b : ℕ) → (get_or (set c.directory.frames f empty_frame) k empty_frame).block ≡ Some b → (k ≡ f → ⊥)
+        holds_other k b e q =
+            let no = ap (λ x. (get_or (set c.directory.frames f empty_frame) x empty_frame).block) q
+            ∙ ap (λ x. x.block) (get_or-set_same _ f empty_frame empty_frame held.0) in
+            cc
+
+    pub evicted-by : EvictedBy z c block gone
+    unfolding evicted released dir.released
+    evicted-by = record {
+      within = gone_within;
+      waits = ret.waits;
+      after = forms-from z gone _ _ word_gone (owed-same c gone refl ret.same_targets refl);
+      same_tags = ap (λ ts. map (λ r. r.tag) c.ready ++ map (λ t. t.load.tag) ts) ret.same_targets;
+      absent = frame-goes c gone f empty_frame block refl held.0 (λ e. cc) (λ k e. h.frames_apart k f block e held.1);
+      cells = λ at n.
+          let far : (frame_at c f).block ≡ Some _ → ⊥ = λ e. let same : Some block ≡ Some (block_of z at) = sym held.1
+          ∙ e in let q : block ≡ block_of z at = cc in n q in
+          cell-other z c gone at f empty_frame refl
+          (frame-stays c gone f empty_frame _ refl (sym (holds-not (frame_at c f) _ far))) far;
+    }
+      where
+        held : (f < length c.directory.frames) × ((frame_at c f).block ≡ Some block)
+        held = frame_of-some _ block f found
+
+        ret : Retired (obsoleted c.registers (live_for c block))
+        ret = retired (live_for c block) refl
+
+pub evict_forms : (z : Sizes) (c : Cache) → IsSoundCache z c → (block : ℕ)
+    → EvictForms z c block (evict_step z c block).answer (evict_step z c block).cache
+unfolding EvictForms evict_step evict_cause
+evict_forms z c h block = go _ _ refl
+  where
+    accept : Option ℕ → Stepped
+    accept o = record { answer = Accepted; cache = evicted_from z c block o; sent = [] }
+
+    step : Bool → Option ℕ → Bool → Stepped
+    step x o y = unless (cond (not x) (Some OutOfRange) (cond (not (is_some o)) (Some NotPresent) (cond y (Some QueueFull) None))) c
+        (accept o)
+
+    by_room : (f : ℕ) → frame_of c block ≡ Some f → (y : Bool)
+        → EvictForms z c block (step true (Some f) y).answer (step true (Some f) y).cache
+    by_room f e true = refl
+    by_room f e false = (evicted-by z c h block f e).after
+
+    go : (x : Bool) (o : Option ℕ) → frame_of c block ≡ o
+        → EvictForms z c block (step x o (lacks_places z c o)).answer (step x o (lacks_places z c o)).cache
+    go false o e = refl
+    go true None e = refl
+    go true (Some f) e = by_room f e _
+
+-- ---- The mark of a word in the stack changes nothing but itself.
+
+-- what is gathered stays where a new element gives what the old one gave
+gathered-set : {X Y : Type 0} (f : ℕ → X → List Y) (d : X) (n : ℕ) (xs : List X) (s : ℕ) (y : X)
+    → ((k : ℕ) → f k y ≡ f k (get_or xs s d)) → gathered f n (set xs s y) ≡ gathered f n xs
+gathered-set f d n [] s y h = refl
+gathered-set f d n (x ∷ xs) zero y h = ap (λ l. l ++ gathered f (suc n) xs) (h n)
+gathered-set f d n (x ∷ xs) (suc s) y h = ap (λ l. f n x ++ l) (gathered-set f d _ xs s y h)
+
+targets_of-marked : (slot : ℕ) (r : Register) (i : ℕ) → targets_of slot (marked r i) ≡ targets_of slot r
+unfolding marked
+targets_of-marked slot r i = ap (λ l. cond r.valid l []) (gathered-set _ clear_field 0 r.fields i
+    (record (field_of r i) { in_stack = true }) (λ k. refl))
+
+-- what is read of a field but its mark
+pub field-marked : {Y : Type 0} (p : Field → Y) → ((f : Field) → p (record f { in_stack = true }) ≡ p f) → (r : Register) (i j : ℕ)
+    → p (get_or (marked r i).fields j clear_field) ≡ p (get_or r.fields j clear_field)
+unfolding marked
+field-marked p e r i j = read_set p clear_field r.fields i (record (field_of r i) { in_stack = true }) (e _) j
+
+module _ (c : Cache) (slot i : ℕ) where
+  abbrev pub with_mark : Cache
+  with_mark = record c { registers = set c.registers slot (marked (register_at c slot) i) }
+
+  pub targets-marked : targets with_mark.registers ≡ targets c.registers
+  unfolding targets
+  targets-marked = gathered-set targets_of free_register 0 _ slot _
+      (λ k. targets_of-marked k _ i)
+
+  pub read_marked : {Y : Type 0} (p : Field → Y) → ((f : Field) → p (record f { in_stack = true }) ≡ p f) → (s j : ℕ)
+      → p (field_at with_mark s j) ≡ p (field_at c s j)
+  read_marked p e s j = read_set (λ r. p (get_or r.fields j clear_field)) free_register _ slot _
+      (field-marked p e _ i j) s
+
+  pub within-marked : RegistersWithin c.registers with_mark.registers
+  unfolding marked
+  within-marked =
+      let r = register_at c slot in
+      registers_within-set _ slot _ (λ l. (l, refl))
+      (λ v. (v, length-set r.fields i (record (field_of r i) { in_stack = true })))
+
+  pub waits-marked : (z : Sizes) (s j : ℕ) → waits_for z with_mark s j ≡ waits_for z c s j
+  unfolding marked
+  waits-marked z s j =
+      let r = register_at c slot in
+      read_set (waits_in z j) free_register _ slot _
+      (ap (λ p. r.valid && (nat_lt j z.block_words && not p)) (field-marked (λ f. f.processed) (λ f. refl) r i j)) s
+
+  pub live-marked : (b : ℕ) → live_for with_mark b ≡ live_for c b
+  unfolding marked
+  live-marked b = live-stays c with_mark slot _ b refl refl
+
+  pub forms-marked : (z : Sizes) → forms z with_mark ≡ forms z c
+  unfolding dir.frame_of
+  forms-marked z = forms-from z with_mark _ _ (λ at. form_at-same z c with_mark at refl (live-marked _) refl
+      (λ s e. (read_marked (λ f. f.processed) (λ f. refl) s _, read_marked (λ f. f.code) (λ f. refl) s _, refl)))
+      (owed-same c with_mark refl targets-marked refl)
 
 -- ---- drain
 
@@ -73,16 +463,12 @@ owed_filled c slot i w tag = go (find (λ r. r.tag == tag) _)
     go None None = refl
     go None (Some t) = grind (arith, over_filled, t.load.lanes, t.load.held, coming_filled, t.slot)
 
-pub arrived_forms : (z : Sizes) (c : Cache) (slot i : ℕ) (w : Word)
-    → forms z (arrived c slot i w) ≡ record {
-      words = λ at. option_map (filled_form slot i w) (form_at z c at);
-      owing =
-          λ tag. option_map (filled_form slot i w) (owed c tag);
-    }
+pub arrived_forms : (z : Sizes) (c : Cache) (slot i : ℕ) (w : Word) → forms z (arrived c slot i w) ≡ record {
+  words = λ at. option_map (filled_form slot i w) (form_at z c at);
+  owing = λ tag. option_map (filled_form slot i w) (owed c tag);
+}
 unfolding arrived
-arrived_forms z c slot i w =
-    forms-marked _ slot i z
-    ∙ forms-from z _ _ _ (word_filled z c slot i w) (owed_filled c slot i w)
+arrived_forms z c slot i w = forms-marked _ slot i z ∙ forms-from z _ _ _ (word_filled z c slot i w) (owed_filled c slot i w)
 
 arrive_ok : (z : Sizes) (c : Cache) (slot i : ℕ) (w : Word) (o : Option Cause)
     → ArriveForms z c slot i w (unless o c (moved (arrived c slot i w))).answer (unless o c (moved (arrived c slot i w))).cache
@@ -109,10 +495,8 @@ unfolding due_in
 due_in-added r xs ys a none t = go _ refl
   where
     go : (b : Bool) → (t == r.tag) ≡ b → due_in ys t ≡ cond b (Some r.form) (due_in xs t)
-    go true e =
-        let same = sym (eqb-true t r.tag e) in
-        ap (option_map (λ x. x.form)) (Adds-find_same _ r xs ys a (tag_same r t e)
-        (rw same at none))
+    go true e = ap (option_map (λ x. x.form)) (Adds-find_same _ r xs ys a (tag_same r t e)
+        (rw (sym (eqb-true t r.tag e)) at none))
     go false e = ap (option_map (λ x. x.form)) (Adds-find_other _ r xs ys a (tag_other r t e))
 
 due_in-removed : (r : Due) (xs ys : List Due) → Adds r xs ys → tally (has_tag r.tag) ys ≤ 1 → (t : ℕ)
@@ -144,8 +528,7 @@ same_words z c ready at = refl
 fewer : (c : Cache) (place : ℕ) (r : Reply) → slice_get c.ready place ≡ Some r
     → Adds (due_ready r) (dues (record c { ready = remove c.ready place })) (dues c)
 unfolding dues
-fewer c place r e =
-    Adds-right _ _ _ _
+fewer c place r e = Adds-right _ _ _ _
     (Adds-map due_ready r _ _ (Adds-remove r _ place e))
 
 pub took_forms : (z : Sizes) (c : Cache) → IsSoundCache z c → (place : ℕ) (r : Reply) → slice_get c.ready place ≡ Some r

@@ -1,8 +1,7 @@
 -- A word of the stack is processed.
-use Rattle.std.proofs.Common.{◌≡◌, ℕ, zero, suc, ◌+◌, ◌<◌, Bool, true, false, cond, not, ◌&&◌, nat_lt, List, [], ◌∷◌, ◌++◌, map}
-use Rattle.std.proofs.Common.{length, get_or, set, Option, Some, None, option_map, find, remove, slice_get, refl, sym, ap, ap₂, ◌∙◌, subst}
-use Rattle.std.proofs.Common.{arith, length-set, ◌⊎◌, inl, inr, ⊎_elim, eqb-true, eq-eqb, mod-lt, get_or-set_same, get_or-set_other}
-use Rattle.std.proofs.Common.{ltb-true}
+use Rattle.std.proofs.Common.{◌≡◌, ℕ, zero, suc, ◌+◌, ◌<◌, Bool, true, false, cond, not, ◌&&◌, nat_lt, List, [], ◌∷◌, ◌++◌, map, length}
+use Rattle.std.proofs.Common.{get_or, set, Option, Some, None, option_map, find, remove, slice_get, refl, sym, ap, ap₂, ◌∙◌, subst, arith}
+use Rattle.std.proofs.Common.{length-set, ◌⊎◌, inl, inr, ⊎_elim, eqb-true, eq-eqb, mod-lt, get_or-set_same, get_or-set_other, ltb-true}
 use Rattle.std.specs.List.{list_all}
 use Rattle.std.proofs.lemmas.Bool.{cases_eq, cases_Bool, and_parts, false_from_ne_true}
 use Rattle.std.proofs.lemmas.List.{map-append}
@@ -13,29 +12,26 @@ use Rattle.input_stack.specs.declared.Entry.{Entry}
 use Rattle.input_stack.specs.Stack.{stack_word}
 use Rattle.miss_registers.specs.declared.Owed.{Owed}
 use Rattle.cache_directory.specs.declared.Cell.{Cell}
-use Rattle.cache_directory.specs.Frames as dir
 use Rattle.cache_unit.specs.declared.Sizes.{Sizes}
-use Rattle.cache_directory.specs.Frames.{zero_cell}
-use Rattle.cache_unit.specs.State.{Frame, Field, Register, Cache, empty_frame, clear_field, free_register, frame_at}
-use Rattle.cache_unit.specs.State.{frame_of, register_at, field_at, is_live, live_for, cell_in, cell_of, gathered, targets_of}
-use Rattle.cache_unit.specs.State.{targets_of_field, targets, tags, with_cell, block_of, place_in}
-use Rattle.cache_directory.specs.Frames.{settled}
+use Rattle.cache_directory.specs.Frames.{zero_cell, settled}
+use Rattle.cache_unit.specs.State.{Frame, Field, Register, Cache, empty_frame, clear_field, free_register, frame_at, frame_of, register_at}
+use Rattle.cache_unit.specs.State.{field_at, is_live, live_for, cell_in, cell_of, gathered, targets_of, targets_of_field, targets, tags}
+use Rattle.cache_unit.specs.State.{with_cell, block_of, place_in}
 use Rattle.miss_registers.specs.Registers.{finished, finished_field, finished_fields, is_done}
 use Rattle.cache_unit.specs.Steps.{answered, filled, filled_in, settled_in, settled_for, processed, process_entry, process_step}
 use Rattle.cache_unit.specs.Forms.{bytes_of, missing_form, coming_form, over_form, owed}
 use Rattle.cache_unit.specs.FormLaws.{form_at, forms, ProcessForms}
 use Rattle.cache_unit.specs.SoundCache.{HasWord, IsSoundCache}
 use Rattle.cache_unit.specs.Counts.{tally}
-use Rattle.cache_unit.proofs.FormsLists.{read_set, Adds, Adds-find_other, Adds-remove, find-only, gathered_part}
-use Rattle.cache_unit.proofs.FormsParts.{in_range, nested_same, nested_other, find_swapped, tally_swapped, targets_map, WordPart, word_part}
-use Rattle.cache_unit.proofs.FormsFinding.{frame_of-some, frame_of-is, live_for-some, live_for-is}
-use Rattle.cache_unit.proofs.FormsFields.{with_fields, with_field_in, same_at, field_elsewhere, field_here}
-use Rattle.cache_unit.proofs.FormsPlaces.{holds, frame-stays, live-stays, live-goes, serves, is_entry}
-use Rattle.cache_unit.proofs.FormsSame.{form_at-same, form_at-live, form_at-resident, form_at-absent, Due, due_ready, due_to, dues, has_tag}
-use Rattle.cache_unit.proofs.FormsSame.{due_in, owed-due, dues-passing, dues-tally, forms-from}
-use Rattle.cache_unit.proofs.Within.{waits_for, FramesLike, frames_like-set, RegistersWithin, registers_within-set}
-use Rattle.cache_unit.proofs.Within.{Within}
-use Rattle.cache_unit.proofs.FormsStoring.{bytes-merged, with_cells}
+use Rattle.cache_unit.proofs.Lists.{read_set, Adds, Adds-find_other, Adds-remove, find-only, gathered_part, in_range, nested_same}
+use Rattle.cache_unit.proofs.Lists.{nested_other, find_swapped, tally_swapped, targets_map, WordPart, word_part, frame_of-some}
+use Rattle.cache_unit.proofs.Lists.{frame_of-is, live_for-some, live_for-is, with_fields, with_field_in, same_at, field_elsewhere}
+use Rattle.cache_unit.proofs.Lists.{field_here, holds, frame-stays, live-stays, live-goes, serves, is_entry, waits_for, FramesLike}
+use Rattle.cache_unit.proofs.Lists.{frames_like-set, RegistersWithin, registers_within-set, Within}
+use Rattle.cache_unit.proofs.FormsEvents.{form_at-same, form_at-live, form_at-resident, form_at-absent, Due, due_ready, due_to, dues}
+use Rattle.cache_unit.proofs.FormsEvents.{has_tag, due_in, owed-due, dues-passing, dues-tally, forms-from}
+use Rattle.cache_unit.proofs.FormsWords.{bytes-merged, with_cells}
+use Rattle.cache_directory.specs.Frames as dir
 
 abbrev pub done : Field
 done = finished_field
@@ -97,13 +93,9 @@ pub filled_only : (c : Cache) (s i : ℕ) (w : Word)
 unfolding with_cell
 filled_only c s i w = grind arith
 
-pub settled_only : (c : Cache) (s i : ℕ) (w : Word)
-    → settled_for c s i (filled c s i w) ≡ record c {
-      directory = record c.directory {
-        frames = (settled_for c s i
-            (filled c s i w)).directory.frames;
-      };
-    }
+pub settled_only : (c : Cache) (s i : ℕ) (w : Word) → settled_for c s i (filled c s i w) ≡ record c {
+  directory = record c.directory { frames = (settled_for c s i (filled c s i w)).directory.frames };
+}
 settled_only c s i w = grind (arith, filled_only)
 
 module _ (z : Sizes) (c : Cache) (h : IsSoundCache z c) (place : ℕ) (e : Entry) (found : slice_get c.stack place ≡ Some e) where
@@ -133,8 +125,7 @@ module _ (z : Sizes) (c : Cache) (h : IsSoundCache z c) (place : ℕ) (e : Entry
 
   other_word : (t j : ℕ) → (t ≡ e.slot → j ≡ e.i → ⊥) → stack_word (remove c.stack place) t j ≡ stack_word c.stack t j
   unfolding stack_word
-  other_word t j n =
-      ap (option_map (λ x. x.word)) (sym (Adds-find_other _ e _ _ less_stack (false_from_ne_true _ differs)))
+  other_word t j n = ap (option_map (λ x. x.word)) (sym (Adds-find_other _ e _ _ less_stack (false_from_ne_true _ differs)))
     where
       differs : is_entry t j e ≡ true → ⊥
       differs k = grind arith
@@ -184,14 +175,13 @@ module _ (z : Sizes) (c : Cache) (h : IsSoundCache z c) (place : ℕ) (e : Entry
 
   module _ (frames : List Frame) (filling : Filling c e frames) where
     abbrev turned : List Register → Cache
-    turned registers =
-        record {
-          directory = record c.directory { frames = frames };
-          registers = registers;
-          stack = remove c.stack place;
-          queue = c.queue;
-          ready = c.ready ++ answered e.word fld.waiting;
-        }
+    turned registers = record {
+      directory = record c.directory { frames = frames };
+      registers = registers;
+      stack = remove c.stack place;
+      queue = c.queue;
+      ready = c.ready ++ answered e.word fld.waiting;
+    }
 
     -- this address has the word
     abbrev IsHit : ℕ → Type 0
@@ -202,8 +192,7 @@ module _ (z : Sizes) (c : Cache) (h : IsSoundCache z c) (place : ℕ) (e : Entry
 
     cell_other : (registers : List Register) (at : ℕ) → (IsHit at → ⊥)
         → cell_of (turned registers) (block_of z at) (place_in z at) ≡ cell_of c (block_of z at) (place_in z at)
-    cell_other registers at n =
-        cc (filling.stays (turned registers) refl _, go _ refl)
+    cell_other registers at n = cc (filling.stays (turned registers) refl _, go _ refl)
       where
         go : (o : Option ℕ) → frame_of c (block_of z at) ≡ o → cell_in (turned registers) o (place_in z at) ≡ cell_in c o (place_in z at)
         go None k = refl
@@ -256,8 +245,7 @@ module _ (z : Sizes) (c : Cache) (h : IsSoundCache z c) (place : ℕ) (e : Entry
             ∙ ap (λ w. Some (bytes_of w)) (hit_cell registers1 at hit) ∙ sym (hit_before at hit)
 
         elsewhere : (IsHit at → ⊥) → form_at z (turned registers1) at ≡ form_at z c at
-        elsewhere n =
-            form_at-same z c _ at (filling.stays (turned registers1) refl _) (live1 _)
+        elsewhere n = form_at-same z c _ at (filling.stays (turned registers1) refl _) (live1 _)
             (ap (λ x. x.word) (cell_other registers1 at n)) (λ t k.
             let l = live_for-some c _ t k in
             let differs : t ≡ e.slot → place_in z at ≡ e.i
@@ -289,8 +277,7 @@ module _ (z : Sizes) (c : Cache) (h : IsSoundCache z c) (place : ℕ) (e : Entry
             before = live_for-is c _ e.slot h.live_apart p.0 p.1
 
             frames_of : (o : Option ℕ) → frame_of c (block_of z at) ≡ o → form_at z (turned registers2) at ≡ form_at z c at
-            frames_of None q =
-                form_at-absent z _ at (filling.stays (turned registers2) refl _ ∙ q) ∙ sym (form_at-absent z c at q)
+            frames_of None q = form_at-absent z _ at (filling.stays (turned registers2) refl _ ∙ q) ∙ sym (form_at-absent z c at q)
             frames_of (Some k) q = ⊎_elim at_hit elsewhere (hit_or_not at)
               where
                 frame' : frame_of (turned registers2) (block_of z at) ≡ Some k
@@ -307,8 +294,7 @@ module _ (z : Sizes) (c : Cache) (h : IsSoundCache z c) (place : ℕ) (e : Entry
                 elsewhere n =
                     let w = (cell_in c (Some k) _).word in
                     let x = done_before all _ (mod-lt at h.some_words) (λ i. n (p.0, p.1, sym i)) in
-                    let same =
-                    ap (λ o. cell_in (turned registers2) o (place_in z at)) (sym frame') ∙ cell_other registers2 at n
+                    let same = ap (λ o. cell_in (turned registers2) o (place_in z at)) (sym frame') ∙ cell_other registers2 at n
                     ∙ ap (λ o. cell_in c o (place_in z at)) q in
                     form_at-resident z _ at k frame' gone ∙ ap (λ y. Some (bytes_of y.word)) same
                     ∙ sym (form_at-live z c at k e.slot _ q before refl
@@ -316,8 +302,7 @@ module _ (z : Sizes) (c : Cache) (h : IsSoundCache z c) (place : ℕ) (e : Entry
                     (coming_form c e.slot (place_in z at))))) x)
 
         other : serves (block_of z at) reg ≡ false → form_at z (turned registers2) at ≡ form_at z c at
-        other s =
-            form_at-same z c _ at (filling.stays (turned registers2) refl _)
+        other s = form_at-same z c _ at (filling.stays (turned registers2) refl _)
             (live-stays c (turned registers2) e.slot free_register _ refl (sym s))
             (ap (λ x. x.word) (cell_other registers2 at not_hit)) (λ t k.
             let l = live_for-some c _ t k in
@@ -345,8 +330,7 @@ module _ (z : Sizes) (c : Cache) (h : IsSoundCache z c) (place : ℕ) (e : Entry
     seg = map due_ready (answered e.word fld.waiting)
 
     seg_is : map (due_to c.stack) (targets_of_field e.slot e.i fld) ≡ seg
-    seg_is =
-        cc (waits.waits, go fld.waiting)
+    seg_is = cc (waits.waits, go fld.waiting)
       where
         one : (w : Owed) → over_form w.lanes w.held (missing_form (stack_word c.stack e.slot e.i) e.slot e.i)
             ≡ bytes_of (merged e.word w.held w.lanes)
@@ -411,8 +395,7 @@ module _ (z : Sizes) (c : Cache) (h : IsSoundCache z c) (place : ℕ) (e : Entry
     owed_same registers same tag =
         let count = dues-tally c tag in
         let one = h.once tag in
-        let n =
-        ap (tally (has_tag tag)) (sym dues_before) in
+        let n = ap (tally (has_tag tag)) (sym dues_before) in
         cc (
           owed-due (turned registers) tag,
           ap (find _) (dues_after registers same)
@@ -436,8 +419,7 @@ module _ (z : Sizes) (c : Cache) (h : IsSoundCache z c) (place : ℕ) (e : Entry
     own1 = grind (arith, own_field, never)
 
     waits1 : (t j : ℕ) → (t ≡ e.slot → j ≡ e.i → ⊥) → waits_for z (turned registers1) t j ≡ waits_for z c t j
-    waits1 t j n =
-        ap₂ (λ x y. x && (nat_lt j z.block_words && not y)) (same_at _ e.slot e.i done (λ r. r.valid) refl t)
+    waits1 t j n = ap₂ (λ x y. x && (nat_lt j z.block_words && not y)) (same_at _ e.slot e.i done (λ r. r.valid) refl t)
         (ap (λ x. x.processed) (other_field t j n))
 
     own2 : (j : ℕ) → waits_for z (turned registers2) e.slot j ≡ false
@@ -459,12 +441,8 @@ module _ (z : Sizes) (c : Cache) (h : IsSoundCache z c) (place : ℕ) (e : Entry
         come hit =
             let k = hit_frame at hit in
             let here = filling.here hit.0 k.0 (ap (frame_of c) hit.1 ∙ k.1) in
-            let cell =
-            ap₂ (λ o j. cell_in (turned registers) o j) (filling.stays (turned registers) refl _ ∙ k.1) (sym hit.2) ∙ here in
-            inr (record {
-              dirty = grind arith;
-              form = cc (same, hit_before at hit, cell);
-            })
+            let cell = ap₂ (λ o j. cell_in (turned registers) o j) (filling.stays (turned registers) refl _ ∙ k.1) (sym hit.2) ∙ here in
+            inr (record { dirty = grind arith; form = cc (same, hit_before at hit, cell) })
 
     -- ---- both cases
 
@@ -498,7 +476,7 @@ module _ (z : Sizes) (c : Cache) (h : IsSoundCache z c) (place : ℕ) (e : Entry
       go false l o q = unfilled (λ l' k p. cc)
       go true l None q = unfilled (λ l' k p. cc)
       go true l (Some f) q =
-          let at_f = frame_of-some c reg.block f q in
+          let at_f = frame_of-some c.directory.frames reg.block f q in
           let whole = h.cells f reg.block at_f.1 in
           let cell = get_or (frame_at c f).cells e.i zero_cell in
           let cell' : Cell = record { word = merged e.word cell.word fld.code; dirty = cell.dirty } in
@@ -539,8 +517,7 @@ module _ (z : Sizes) (c : Cache) (h : IsSoundCache z c) (place : ℕ) (e : Entry
       cell_settled : (fs : List Frame) (f k j : ℕ)
           → get_or (get_or (set fs f (settled (get_or fs f empty_frame))) k empty_frame).cells j zero_cell
           ≡ get_or (get_or fs k empty_frame).cells j zero_cell
-      cell_settled fs f k j =
-          read_set (λ x. get_or x.cells j zero_cell) empty_frame fs f _ refl k
+      cell_settled fs f k j = read_set (λ x. get_or x.cells j zero_cell) empty_frame fs f _ refl k
 
       frames_like-settled : (fs : List Frame) (f : ℕ) → FramesLike fs (set fs f (settled (get_or fs f empty_frame)))
       frames_like-settled fs f = frames_like-set fs f _ refl refl
@@ -565,12 +542,11 @@ module _ (z : Sizes) (c : Cache) (h : IsSoundCache z c) (place : ℕ) (e : Entry
       go false = filling_of
 
   after : Cache → Cache
-  after d =
-      record d {
-        stack = remove c.stack place;
-        ready = c.ready ++ answered e.word fld.waiting;
-        registers = set c.registers e.slot (finished reg e.i);
-      }
+  after d = record d {
+    stack = remove c.stack place;
+    ready = c.ready ++ answered e.word fld.waiting;
+    registers = set c.registers e.slot (finished reg e.i);
+  }
 
   pub processed-by : ProcessedBy z c place e (processed c place e)
   unfolding processed after

@@ -1,14 +1,60 @@
 -- A unit that holds nothing is sound.
-use Rattle.std.proofs.Common.{◌≡◌, ℕ, Bool, List, [], replicate, get_or, arith}
+use Rattle.std.proofs.Common.{◌≡◌, ℕ, ◌+◌, ◌-◌, ◌*◌, ◌/◌, ◌%◌, ◌≤◌, Bool, true, false, ◌&&◌, not, cond, ◌==◌, Option, Some, None, refl}
+use Rattle.std.proofs.Common.{arith, List, [], replicate, get_or}
+use Rattle.std.proofs.lemmas.Bool.{eqb-true, and_parts, false≢true, cases_lt}
+use Rattle.flat_model.specs.declared.limits.TheConstants.{MAX_BLOCK_WORDS, MAX_WAYS, MAX_CONST_WAYS, MAX_REGS, MAX_CONST_REGS, MAX_DEPTH}
+use Rattle.flat_model.specs.declared.limits.TheConstants.{MAX_CONST_DEPTH, MAX_WORDS, MAX_MEMORY}
+use Rattle.flat_model.specs.declared.ShapeField.{ShapeField}
+use Rattle.flat_model.specs.declared.ShapeField.TheVariants.{BlockWords, Ways, Regs, Depth, Words}
+use Rattle.flat_model.specs.Ranges.{is_between}
+use Rattle.flat_model.proofs.Ranges.{between}
+use Rattle.cache_unit.specs.declared.Sizes.{Sizes}
+use Rattle.cache_unit.specs.Sound.{InRange, owing, IsSound}
+use Rattle.cache_unit.specs.Limits.{bad_field, bad_size}
 use Rattle.std.proofs.lemmas.List.{get_or-replicate, get_or_past, length-replicate}
 use Rattle.std.proofs.lemmas.List.Folds.{sum_by-replicate}
-use Rattle.std.proofs.lemmas.Bool.{false≢true, cases_lt}
+use Rattle.miss_registers.specs.Whole.{IsWhole}
+use Rattle.cache_unit.specs.State.{opening_cache}
 use Rattle.cache_directory.specs.Frames as dir
 use Rattle.miss_registers.specs.Registers as regs
-use Rattle.miss_registers.specs.Whole.{IsWhole}
-use Rattle.cache_unit.specs.declared.Sizes.{Sizes}
-use Rattle.cache_unit.specs.State.{opening_cache}
-use Rattle.cache_unit.specs.Sound.{InRange, owing, IsSound}
+
+-- ---- What a shape with no bad number gives.
+
+-- so many commands at each bank are enough for a block
+enough : (words banks queue : ℕ) → 1 ≤ banks → (words + banks - 1) / banks ≤ queue → words ≤ queue * banks
+enough words banks queue some l = grind arith
+
+-- a test that is passed names no field
+passed : (test : Bool) (field : ShapeField) (rest : Option ShapeField) → cond (not test) (Some field) rest ≡ None → (test ≡ true) ×
+    (rest ≡ None)
+passed true field rest e = (refl, e)
+passed false field rest e = cc
+
+pub in_size : (z : Sizes) → bad_size z ≡ None → InRange z
+in_size z e = grind (arith, passed, and_parts, between, eqb-true, enough)
+
+-- numbers that are in range for a type are so at run time, where some may be larger
+pub looser : (z : Sizes) → bad_field z ≡ None → bad_size z ≡ None
+looser z e =
+    let block = passed (is_between z.block_words 1 MAX_BLOCK_WORDS) BlockWords _ e in
+    let ways = passed _ Ways _ block.1 in
+    let regs = passed _ Regs _ ways.1 in
+    let depth = passed _ Depth _ regs.1 in
+    let words = passed _ Words _ depth.1 in
+    let memory = and_parts _ _ words.0 in
+    let more_ways = wider z.ways MAX_CONST_WAYS MAX_WAYS (omega arith) ways.0 in
+    let more_regs = wider z.regs MAX_CONST_REGS MAX_REGS (omega arith) regs.0 in
+    let deeper = wider z.depth MAX_CONST_DEPTH MAX_DEPTH (omega arith) depth.0 in
+    let larger = wider z.words MAX_WORDS MAX_MEMORY (omega arith) memory.0 in
+    let fits : (is_between z.words 1 MAX_MEMORY && (z.words % z.block_words == 0)) ≡ true = rw (larger, memory.1) refl in
+    rw (block.0, more_ways, more_regs, deeper, fits) words.1
+  where
+    -- a number in a range is in a wider one
+    wider : (n most more : ℕ) → most ≤ more → is_between n 1 most ≡ true → is_between n 1 more ≡ true
+    wider n most more le is = grind arith
+
+pub in_range : (z : Sizes) → bad_field z ≡ None → InRange z
+in_range z e = in_size z (looser z e)
 
 -- each element of a list of equal ones, and what stands past its end
 pub all_same : {X : Type 0} (n k : ℕ) (x : X) → get_or (replicate n x) k x ≡ x

@@ -1,28 +1,437 @@
--- Requests, by their causes.
-use Rattle.std.proofs.Common.{◌≡◌, ℕ, ◌<◌, nat_lt, nat_le, not, ◌&&◌, Bool, true, false, cond, List, [], ◌∷◌, ◌++◌, map, length, Option}
-use Rattle.std.proofs.Common.{Some, None, refl, sym, ap, ap₂, ◌∙◌, leb-false}
-use Rattle.std.proofs.lemmas.Bool.{false≢true}
+-- Requests: what a missing block gets, what they make of the forms, and their causes in their order.
+use Rattle.std.proofs.Common.{◌≡◌, ℕ, zero, suc, ◌+◌, ◌*◌, ◌/◌, ◌%◌, ◌<◌, ◌≤◌, Bool, true, false, cond, not, ◌&&◌, ◌==◌, List, [], ◌∷◌}
+use Rattle.std.proofs.Common.{◌++◌, length, set, Option, Some, None, option_map, find, filter, is_some, is_none, refl, sym, ap, ◌∙◌, arith}
+use Rattle.std.proofs.Common.{◌⊎◌, inl, inr, mod-lt, mul-le-mul_right, eq-eqb, ◌||◌, map, ap₂, nat_lt, nat_le}
+use Rattle.std.specs.List.{range_with_len, list_all, list_any}
+use Rattle.std.specs.Option.{option_or}
+use native.Mathlib.Nat.{div-eq_of_lt-le}
+use Rattle.std.proofs.lemmas.Bool.{not-true, false≢true}
+use Rattle.std.proofs.lemmas.List.{set-set}
+use Rattle.flat_model.specs.Places.{place_of}
+use Rattle.flat_model.proofs.Places.{place_of-passes}
+use Rattle.write_queue.specs.declared.Queued.{Queued}
+use Rattle.cache_unit.specs.Begun.{begun_frame, begun_register}
+use Rattle.cache_directory.specs.Frames.{order_of}
+use Rattle.cache_unit.specs.declared.Sizes.{Sizes}
+use Rattle.cache_unit.specs.State.{Register, Cache, empty_frame, free_register, frame_at, frame_of, is_present, register_at, is_live}
+use Rattle.cache_unit.specs.State.{live_for, is_pending, is_pending_block, free_slot, Target, cell_of, block_of, place_in, UnitState}
+use Rattle.cache_unit.specs.State.{field_at, tags}
+use Rattle.cache_unit.specs.Causes.{choose, ways_of, is_resident_block, dirty_words, first_cause, miss_causes, is_in_use, found, load_cause}
+use Rattle.cache_unit.specs.Causes.{store_cause, prefetch_cause, evict_cause, lacks_places, Found, Here, Coming, found_missing, found_in}
+use Rattle.cache_unit.specs.Causes.{targets_full}
+use Rattle.cache_unit.specs.Steps.{released, installed, reads, fetched, fetches, unless, loaded, written, load_step, store_step}
+use Rattle.cache_unit.specs.Steps.{prefetch_step, request_step, Stepped, evict_step, evicted, missed}
+use Rattle.cache_unit.specs.FormLaws.{form_at, missed_words, fetched_words, LoadForms, StoreForms, PrefetchForms, RequestForms}
+use Rattle.cache_unit.specs.SoundCache.{IsSoundCache}
+use Rattle.cache_unit.proofs.Lists.{frame-comes, in_range, frame_of-some, none_in_frames, live_for-some}
+use Rattle.cache_unit.proofs.FormsWords.{FetchedBy, installed-by, MissedBy, missed-by, Hit, stored-by, loaded-by}
+use Rattle.cache_directory.proofs.Finds.{find-passes}
 use Rattle.flat_model.specs.declared.Word.{Word}
 use Rattle.flat_model.specs.declared.Lanes.{Lanes}
 use Rattle.flat_model.specs.declared.Cause.{Cause}
-use Rattle.flat_model.specs.declared.Cause.TheVariants.{OutOfRange, NoLanes, TagInUse, RepliesFull, TargetsFull}
-use Rattle.flat_model.specs.declared.Answer.TheVariants.{Accepted}
+use Rattle.flat_model.specs.declared.Cause.TheVariants.{OutOfRange, NoLanes, TagInUse, RepliesFull, NoRegister, SetPending, NotPresent}
+use Rattle.flat_model.specs.declared.Cause.TheVariants.{QueueFull, TargetsFull}
+use Rattle.flat_model.specs.declared.Answer.TheVariants.{Accepted, Refused}
+use Rattle.memory_banks.specs.declared.Command.{Command}
+use Rattle.cache_unit.specs.declared.Request.{Request}
+use Rattle.cache_unit.specs.declared.Request.TheVariants.{Load, Store, Prefetch}
+use Rattle.cache_unit.specs.Forms.{over_form, owed}
+use Rattle.cache_unit.proofs.FormsEvents.{dues-tally, owed-same, forms-from, drain_forms, arrive_forms, take_forms, evict_forms}
 use Rattle.flat_model.specs.Words.{has_any}
 use Rattle.input_stack.specs.Stack.{stack_word}
 use Rattle.miss_registers.specs.declared.TheConstants.{MAX_WAITING}
-use Rattle.cache_unit.specs.declared.Sizes.{Sizes}
-use Rattle.cache_unit.specs.State.{Cache, is_present, free_slot, field_at, live_for, cell_of, tags, block_of, place_in}
-use Rattle.cache_unit.specs.Causes.{first_cause, miss_causes, Found, Here, Coming, found_missing, found_in, found, targets_full, choose}
-use Rattle.cache_unit.specs.Causes.{is_in_use, load_cause, store_cause, prefetch_cause}
-use Rattle.cache_unit.specs.Steps.{Stepped, unless, missed, reads, fetched, fetches, loaded, written, load_step, store_step, prefetch_step}
 use Rattle.cache_unit.specs.Requests.{absence_cause, is_full_for, load_answer, load_present}
 use Rattle.cache_unit.specs.declared.unit.present.Finding.{Finding}
-use Rattle.cache_unit.specs.declared.unit.present.Finding.TheVariants as finding
 use Rattle.cache_unit.specs.Parts.{finding_of}
-use Rattle.cache_unit.specs.SoundCache.{IsSoundCache}
-use Rattle.cache_unit.proofs.FormsChoosing.{fetched-by}
-use Rattle.cache_unit.proofs.FormsRequests.{missing}
-use Rattle.cache_unit.proofs.Evicting.{refused}
+use Rattle.cache_unit.specs.UnitForms.{EachStepMakesForms}
+use Rattle.cache_unit.proofs.FormsProcessing.{process_forms}
+use Rattle.miss_registers.specs.Registers as regs
+use Rattle.cache_directory.specs.Frames as dir
+use Rattle.cache_unit.specs.declared.unit.present.Finding.TheVariants as finding
+
+-- ---- An accepted request finds a frame and a register for a missing block.
+
+-- ---- searches
+
+abbrev is_in : List ℕ → ℕ → Bool
+is_in order f = list_any (λ g. g == f) order
+
+-- a member that passes is enough for a search
+pub found_member : (p : ℕ → Bool) (order : List ℕ) (f : ℕ) → is_in order f ≡ true → p f ≡ true → is_some (find p order) ≡ true
+found_member p [] f e h = cc
+found_member p (x ∷ order) f e h = grind (arith, found_member p order f)
+
+-- where not all pass, one does not
+pub one_fails : (p : ℕ → Bool) (a n : ℕ) → list_all p (range_with_len a n) ≡ false
+    → (k : ℕ) × (a ≤ k) × (k < a + n) × (p k ≡ false) × (is_in (range_with_len a n) k ≡ true)
+one_fails p a zero e = cc
+one_fails p a (suc n) e = grind (arith, one_fails p (a + 1) n)
+
+pub find_range : (p : ℕ → Bool) (a n x : ℕ) → find p (range_with_len a n) ≡ Some x → (a ≤ x) × (x < a + n)
+find_range p a zero x e = cc
+find_range p a (suc n) x e = grind (arith, find_range p (a + 1) n x)
+
+-- ---- the frame that is chosen
+
+pub none_from : {X : Type 0} (o : Option X) → is_none o ≡ true → o ≡ None
+none_from None e = refl
+none_from (Some x) e = cc
+
+resident_from : (c : Cache) (o : Option ℕ) → is_resident_block c o ≡ true → (b : ℕ) × (o ≡ Some b) × (live_for c b ≡ None)
+resident_from c None e = cc
+resident_from c (Some b) e = grind arith
+
+-- what is found is a member
+member : (p : ℕ → Bool) (order : List ℕ) (f : ℕ) → find p order ≡ Some f → is_in order f ≡ true
+member p [] f e = cc
+member p (x ∷ order) f e = grind (arith, member p order f)
+
+-- a frame that holds nothing, or a block with no live register
+abbrev pub MayGo : Cache → ℕ → Type 0
+MayGo c f = ((frame_at c f).block ≡ None) ⊎ ((b : ℕ) × ((frame_at c f).block ≡ Some b) × (live_for c b ≡ None))
+
+-- a frame of the set, by its number or by the set's order
+abbrev pub OfSet : Sizes → Cache → ℕ → ℕ → Type 0
+OfSet z c s f = (f / z.ways ≡ s) ⊎ (is_in (order_of c.directory s) f ≡ true)
+
+chosen : (z : Sizes) (c : Cache) → IsSoundCache z c → (block f : ℕ) → choose z c block ≡ Some f
+    → (f < length c.directory.frames) × MayGo c f × OfSet z c (block % z.sets) f
+unfolding choose
+chosen z c h block f e = go _ refl _ refl e
+  where
+    ways : List ℕ
+    ways = range_with_len (block % z.sets * z.ways) z.ways
+
+    order : List ℕ
+    order = order_of c.directory (block % z.sets)
+
+    free : ℕ → Bool
+    free g = is_none (frame_at c g).block
+
+    resident : ℕ → Bool
+    resident g = is_resident_block c (frame_at c g).block
+
+    by_free : find free ways ≡ Some f → (f < length c.directory.frames) × MayGo c f × OfSet z c (block % z.sets) f
+    by_free q =
+        let r = find_range free _ _ f q in
+        let l = mod-lt block h.some_sets in
+        let k : suc _ * z.ways ≤ z.sets * z.ways = mul-le-mul_right _ l in
+        let n = h.frames_are in
+        let r1 = r.1 in
+        let own = div-eq_of_lt-le _ (let r0 = r.0 in omega arith) (let r2 = r.1 in omega arith) in
+        (omega arith, inl (none_from _ (find-passes free ways f q)), inl own)
+
+    by_resident : find resident order ≡ Some f → (f < length c.directory.frames) × MayGo c f × OfSet z c (block % z.sets) f
+    by_resident q =
+        let p = resident_from c (frame_at c f).block (find-passes resident order f q) in
+        (in_range (λ x. is_some x.block) empty_frame _ f refl (ap is_some p.1), inr p, inr (member resident order f q))
+
+    go : (a : Option ℕ) → find free ways ≡ a → (b : Option ℕ) → find resident order ≡ b → option_or a b ≡ Some f
+        → (f < length c.directory.frames) × MayGo c f × OfSet z c (block % z.sets) f
+    go (Some x) p b q r = by_free (p ∙ r)
+    go None p b q r = by_resident (q ∙ r)
+
+pub free_register_at : (c : Cache) (slot : ℕ) → free_slot c ≡ Some slot → (slot < length c.registers) × ((register_at c slot).valid ≡ false)
+unfolding regs.free_slot
+free_register_at c slot e =
+    let p = place_of-passes (λ r. not r.valid) _ slot free_register e in
+    (p.0, not-true (register_at c slot).valid p.1)
+
+-- ---- what the causes leave
+
+-- not every register is valid, and not every way is pending
+abbrev pub Able : Sizes → Cache → ℕ → Type 0
+Able z c block = ((length (filter (λ r. r.valid) c.registers) == z.regs) ≡ false) × (list_all (is_pending c) (ways_of z block) ≡ false)
+
+pub all_valid : (registers : List Register) → place_of (λ (r : Register). not r.valid) registers ≡ None
+    → length (filter (λ (r : Register). r.valid) registers) ≡ length registers
+all_valid [] e = refl
+all_valid (r ∷ registers) e = grind (arith, all_valid registers)
+
+some_slot : (z : Sizes) (c : Cache) → IsSoundCache z c → (length (filter (λ r. r.valid) c.registers) == z.regs) ≡ false
+    → is_none (free_slot c) ≡ false
+unfolding regs.free_slot
+some_slot z c h e = grind (arith, eq-eqb, all_valid)
+
+pub some_frame : (z : Sizes) (c : Cache) → IsSoundCache z c → (block : ℕ) → list_all (is_pending c) (ways_of z block) ≡ false
+    → is_none (choose z c block) ≡ false
+unfolding choose
+some_frame z c h block e = go (frame_at c x.0).block refl x.3
+  where
+    a : ℕ
+    a = block % z.sets * z.ways
+
+    x : (k : ℕ) × (a ≤ k) × (k < a + z.ways) × (is_pending c k ≡ false) × (is_in (range_with_len a z.ways) k ≡ true)
+    x = one_fails _ _ _ e
+
+    free : ℕ → Bool
+    free f = is_none (frame_at c f).block
+
+    resident : ℕ → Bool
+    resident f = is_resident_block c (frame_at c f).block
+
+    own : x.0 / z.ways ≡ block % z.sets
+    own = grind arith
+
+    left : (o p : Option ℕ) → is_some o ≡ true → is_none (option_or o p) ≡ false
+    left (Some k) p q = refl
+    left None p q = cc
+
+    right : (o p : Option ℕ) → is_some p ≡ true → is_none (option_or o p) ≡ false
+    right (Some k) p q = refl
+    right None (Some k) q = refl
+    right None None q = cc
+
+    none : (o : Option ℕ) → is_some o ≡ false → is_none o ≡ true
+    none None q = refl
+    none (Some k) q = cc
+
+    go : (o : Option ℕ) → (frame_at c x.0).block ≡ o → is_pending_block c (frame_at c x.0).block ≡ false
+        → is_none (option_or (find free (ways_of z block)) (find resident (order_of c.directory (block % z.sets)))) ≡ false
+    go None q r = left _ _ (found_member free _ x.0 x.4 (ap is_none q))
+    go (Some b) q r =
+        let here = ap (λ s. is_in (order_of c.directory s) x.0) (sym own) ∙ h.placed x.0 b q in
+        right _ _ (found_member resident _ x.0 here
+        (ap (is_resident_block c) q ∙ none _ (ap (is_pending_block c) (sym q) ∙ r)))
+
+-- ---- the block is fetched
+
+-- a missing block with the frame and the register that are chosen for it
+module _ (z : Sizes) (c : Cache) (h : IsSoundCache z c) (block f slot : ℕ) (absent : frame_of c block ≡ None)
+    (ef : choose z c block ≡ Some f) (es : free_slot c ≡ Some slot) where
+  queue_then : List Queued
+  queue_then = c.queue ++ dirty_words z c (Some f)
+
+  orders_then : List (List ℕ)
+  orders_then = (installed z (released z c f) block f slot).directory.orders
+
+  free : (slot < length c.registers) × ((register_at c slot).valid ≡ false)
+  free = free_register_at c slot es
+
+  -- the frame is cleared, and then taken
+  taken_is : installed z (released z c f) block f slot ≡ record {
+    directory = record { frames = set c.directory.frames f (begun_frame z.block_words queue_then block); orders = orders_then };
+    registers = set c.registers slot (begun_register z.block_words queue_then block f);
+    stack = c.stack;
+    queue = queue_then;
+    ready = c.ready;
+  }
+  unfolding installed released dir.released queue_then orders_then
+  taken_is = grind (arith, orders_then, queue_then, set-set)
+
+  pub fetched_is : fetched z c block ≡ installed z (released z c f) block f slot
+  unfolding fetched
+  fetched_is = grind arith
+
+  miss-parts : MissedBy z c block f slot (installed z (released z c f) block f slot)
+  unfolding queue_then
+  miss-parts = rw (sym taken_is) at (missed-by z c h block f slot absent (chosen z c h block f ef).0 free.0 free.1 orders_then)
+
+  miss-fetched : FetchedBy z c block (installed z (released z c f) block f slot)
+  unfolding queue_then
+  miss-fetched = rw (sym taken_is) at (installed-by z c h block f slot absent (chosen z c h block f ef).0 free.0 free.1 orders_then
+      _ refl words)
+    where
+      words : fetched_words z c block ≡ missed_words z c block (Some f) (Some slot)
+      words = grind arith
+
+-- a missing block that a frame and a register are found for, and what its fetch makes of the unit
+pub record Misses (z : Sizes) (c : Cache) (block : ℕ) : Type 0 where
+  pub frame : ℕ
+  pub slot : ℕ
+  pub may_go : MayGo c frame
+  pub of_set : OfSet z c (block % z.sets) frame
+  pub invalid : (register_at c slot).valid ≡ false
+  pub sent : fetches z c block ≡ reads z block (Some slot)
+  pub is : fetched z c block ≡ installed z (released z c frame) block frame slot
+  pub by : MissedBy z c block frame slot (fetched z c block)
+  pub fetched_by : FetchedBy z c block (fetched z c block)
+
+pub misses : (z : Sizes) (c : Cache) → IsSoundCache z c → (block : ℕ) → frame_of c block ≡ None → Able z c block → Misses z c block
+unfolding fetches
+misses z c h block absent able = go _ refl (some_frame z c h block able.1) _ refl (some_slot z c h able.0)
+  where
+    go : (o : Option ℕ) → choose z c block ≡ o → is_none o ≡ false → (s : Option ℕ) → free_slot c ≡ s → is_none s ≡ false → Misses z c block
+    go None ef p s es q = cc
+    go (Some f) ef p None es q = cc
+    go (Some f) ef p (Some slot) es q =
+        let way = chosen z c h block f ef in
+        let free = free_register_at c slot es in
+        let is = fetched_is z c h block f slot absent ef es in
+        record {
+          frame = f;
+          slot = slot;
+          may_go = way.1;
+          of_set = way.2;
+          invalid = free.1;
+          sent = cc (absent, es);
+          is = is;
+          by = rw (sym is) at (miss-parts z c h block f slot absent ef es);
+          fetched_by = rw (sym is) at (miss-fetched z c h block f slot absent ef es);
+        }
+
+pub fetched-by : (z : Sizes) (c : Cache) → IsSoundCache z c → (block : ℕ) → (is_present c block ≡ false → Able z c block)
+    → FetchedBy z c block (fetched z c block)
+unfolding fetched
+fetched-by z c h block able = go _ refl
+  where
+    there : (k : ℕ) → frame_of c block ≡ Some k → FetchedBy z c block c
+    there k e = record {
+      waits = grind arith;
+      words = λ at. sym (ap (λ o. cond (is_some o) (form_at z c) (missed_words z c block (choose z c block) (free_slot c)) at) e);
+      same_targets = refl;
+      same_ready = refl;
+      same_stack = refl;
+      frame = k;
+      present = e;
+      cells = h.cells k block (frame_of-some _ block k e).1;
+      fields = λ s l. h.fields s (valid_from (register_at c s) (live_for-some c block s l).0);
+    }
+      where
+        valid_from : (r : Register) → is_live r ≡ true → r.valid ≡ true
+        valid_from r l = grind arith
+
+    go : (o : Option ℕ) → frame_of c block ≡ o → FetchedBy z c block (fetched z c block)
+    go (Some k) e = rw (ap is_some e) (there k e)
+    go None e = (misses z c h block e (able (ap is_some e))).fetched_by
+
+-- a block that is fetched lies in the frame that was chosen for it
+pub fetched_frame : (z : Sizes) (c : Cache) → IsSoundCache z c → (block f slot : ℕ) → frame_of c block ≡ None → choose z c block ≡ Some f
+    → free_slot c ≡ Some slot → frame_of (fetched z c block) block ≡ Some f
+unfolding fetched installed released dir.released
+fetched_frame z c h block f slot absent ef es = cc (
+  fetched_is z c h block f slot absent ef es,
+  frame-comes c (installed z (released z c f) block f slot) f _ block frames
+      (chosen z c h block f ef).0 refl (λ k e. absurd (none_in_frames c block absent k e)),
+)
+  where
+    queue : List Queued
+    queue = c.queue ++ dirty_words z c (Some f)
+
+    frames : (installed z (released z c f) block f slot).directory.frames ≡ set c.directory.frames f (begun_frame z.block_words queue block)
+    frames = set-set _ f empty_frame _
+
+-- ---- What a request makes of the forms.
+
+-- ---- where there is no cause
+
+no-cause : (b : Bool) (k : Cause) (o : Option Cause) → cond b (Some k) o ≡ None → (b ≡ false) × (o ≡ None)
+no-cause true k o e = cc
+no-cause false k o e = (refl, e)
+
+able-from : (z : Sizes) (room : ℕ → ℕ) (c : Cache) (block : ℕ) → first_cause (miss_causes z room c block) ≡ None → Able z c block
+able-from z room c block e =
+    let p = no-cause _ NoRegister _ e in
+    (p.0, (no-cause _ SetPending _ p.1).0)
+
+-- a missing block meets the causes of a miss
+pub missing : (z : Sizes) (room : ℕ → ℕ) (c : Cache) (block : ℕ) (here : List (Bool × Cause))
+    → first_cause (cond (is_present c block) here (miss_causes z room c block)) ≡ None → is_present c block ≡ false → Able z c block
+missing z room c block here e q = able-from z room c block (rw q at e)
+
+pub none-counted : (p : ℕ → Bool) (xs : List ℕ) → list_any p xs ≡ false → length (filter p xs) ≡ 0
+none-counted p [] e = refl
+none-counted p (x ∷ xs) e = grind (arith, none-counted p xs)
+
+-- ---- after the fetch
+
+module _ (z : Sizes) (c : Cache) (h : IsSoundCache z c) (at : ℕ) (d : Cache) (fetch : FetchedBy z c (block_of z at) d) where
+  there : Hit z d (block_of z at)
+  there = record { frame = fetch.frame; present = fetch.present; cells = fetch.cells; fields = fetch.fields }
+
+  same_owed : (tag : ℕ) → owed d tag ≡ owed c tag
+  same_owed = owed-same c d fetch.same_ready fetch.same_targets fetch.same_stack
+
+  prefetch-ok : PrefetchForms z c at d
+  prefetch-ok = record { present = ap is_some fetch.present; after = forms-from z d _ _ fetch.words same_owed }
+
+  store-ok : (word : Word) (lanes : Lanes) → StoreForms z c at word lanes (written d (block_of z at) (place_in z at) word lanes)
+  store-ok word lanes =
+      let s = stored-by z h.some_words d at there word lanes in
+      record {
+        present = ap is_some s.present;
+        after = forms-from z (written d _ _ word lanes) _ _ (λ a. s.words a
+            ∙ ap₂ (λ o p. cond (a == at) (option_map (over_form lanes word) o) p) (fetch.words at) (fetch.words a))
+            (λ tag. s.owing tag ∙ same_owed tag);
+      }
+
+  load-ok : (tag : ℕ) → is_in_use c tag ≡ false
+      → LoadForms z c tag at (loaded d tag (place_in z at) (cell_of d (block_of z at) (place_in z at)).word
+      (found d (block_of z at) (place_in z at)))
+  load-ok tag unused =
+      let same = ap₂ (λ r (t : List Target). map (λ x. x.tag) r ++ map
+      (λ x. x.load.tag) t) fetch.same_ready fetch.same_targets in
+      let fresh = dues-tally d tag ∙ ap (λ ts. length (filter (λ t. t == tag) ts)) same ∙ none-counted (λ t. t == tag) _ unused in
+      let l = loaded-by z h.some_words d tag at there fresh in
+      record {
+        present = ap is_some l.present;
+        after = forms-from z (loaded d tag _ (cell_of d _ _).word _) _ _ (λ a. l.words a ∙ fetch.words a)
+            (λ t. l.owing t ∙ ap₂ (λ o p. cond (t == tag) o p) (fetch.words at) (same_owed t));
+      }
+
+-- ---- the steps
+
+-- a refusal changes nothing
+unless-ok : (z : Sizes) (c : Cache) (request : Request) (o : Option Cause) (d : Cache) (sent : List (ℕ × Command))
+    → (o ≡ None → RequestForms z c request Accepted d)
+    → RequestForms z c request (unless o c (record { answer = Accepted; cache = d; sent = sent })).answer
+    (unless o c (record { answer = Accepted; cache = d; sent = sent })).cache
+unfolding RequestForms
+unless-ok z c (Load tag at) (Some cause) d sent ok = refl
+unless-ok z c (Store at word lanes) (Some cause) d sent ok = refl
+unless-ok z c (Prefetch at) (Some cause) d sent ok = refl
+unless-ok z c request None d sent ok = ok refl
+
+module _ (z : Sizes) (room : ℕ → ℕ) (c : Cache) (h : IsSoundCache z c) where
+  pub request_forms : (request : Request) → RequestForms z c request (request_step z room c request).answer
+      (request_step z room c request).cache
+  unfolding RequestForms load_step store_step prefetch_step load_cause store_cause prefetch_cause
+  request_forms (Load tag at) = unless-ok z c (Load tag at) _ _ _ (λ e.
+      let q = no-cause _ TagInUse _ (no-cause _ OutOfRange _ e).1 in
+      load-ok z c h at _ (fetched-by z c h _ (missing z room c _ _ (no-cause _ RepliesFull _ q.1).1)) tag q.0)
+  request_forms (Store at word lanes) = unless-ok z c (Store at word lanes) _ _ _ (λ e.
+      store-ok z c h at _
+      (fetched-by z c h _ (missing z room c _ _ (no-cause _ NoLanes _ (no-cause _ OutOfRange _ e).1).1)) word lanes)
+  request_forms (Prefetch at) = unless-ok z c (Prefetch at) _ _ _ (λ e.
+      prefetch-ok z c h at _ (fetched-by z c h _ (missing z room c _ _ (no-cause _ OutOfRange _ e).1)))
+
+-- ---- What an eviction answers and leaves.
+
+-- a refusal leaves everything unchanged
+abbrev pub refused : Cause → Cache → Stepped
+refused cause c = record { answer = Refused cause; cache = c; sent = [] }
+
+below : (a b : ℕ) → a < b → nat_lt a b ≡ true
+below a b h = grind arith
+
+not_below : (a b : ℕ) → b ≤ a → nat_lt a b ≡ false
+not_below a b h = grind arith
+
+pub evict_outside : (z : Sizes) (c : Cache) (block : ℕ) → z.words ≤ block * z.block_words → evict_step z c block ≡ refused OutOfRange c
+unfolding evict_step evict_cause
+evict_outside z c block h = grind arith
+
+pub evict_absent : (z : Sizes) (c : Cache) (block : ℕ) → block * z.block_words < z.words → frame_of c block ≡ None
+    → evict_step z c block ≡ refused NotPresent c
+unfolding evict_step evict_cause
+evict_absent z c block h e = grind arith
+
+pub evict_full : (z : Sizes) (c : Cache) (block f : ℕ) → block * z.block_words < z.words → frame_of c block ≡ Some f
+    → lacks_places z c (Some f) ≡ true → evict_step z c block ≡ refused QueueFull c
+unfolding evict_step evict_cause
+evict_full z c block f h e l = grind arith
+
+pub evict_done : (z : Sizes) (c : Cache) (block f : ℕ) → block * z.block_words < z.words → frame_of c block ≡ Some f
+    → lacks_places z c (Some f) ≡ false → evict_step z c block ≡ record { answer = Accepted; cache = evicted z c block f; sent = [] }
+unfolding evict_step evict_cause
+evict_done z c block f h e l = grind arith
+
+-- what the step leaves, of the unit that the parts show
+pub evicted_is : (z : Sizes) (c : Cache) (u : UnitState) (block f : ℕ) → record { sizes = z; cache = c } ≡ u
+    → (evict_step z c block).cache ≡ evicted z c block f → evicted u.sizes u.cache block f ≡ (evict_step u.sizes u.cache block).cache
+evicted_is z c u block f e h = grind arith
+
+-- ---- Requests, by their causes.
 
 -- ---- the block
 
@@ -58,8 +467,7 @@ targets_free c block i h = go _ refl
     coming s e (Some w) = refl
     coming s e None = ap (λ l. nat_le MAX_WAITING (length l)) (h s e i)
 
-    by_field : (s : ℕ) → live_for c block ≡ Some s → (b : Bool)
-        → targets_full c i (cond b (Here (cell_of c block i).word)
+    by_field : (s : ℕ) → live_for c block ≡ Some s → (b : Bool) → targets_full c i (cond b (Here (cell_of c block i).word)
         (found_missing (stack_word c.stack s i) s (field_at c s i).code (cell_of c block i).word)) ≡ false
     by_field s e true = refl
     by_field s e false = coming s e _
@@ -120,152 +528,124 @@ rest_full true false ms e = absurd (false≢true e)
 rest_full false t ms e = absurd (false≢true e)
 
 module _ (z : Sizes) (room : ℕ → ℕ) (c : Cache) (at : ℕ) where
+  abbrev Inside : Type 0
+  Inside = not (nat_lt at z.words) ≡ false
+
+  abbrev absence : Option Cause
+  absence = absence_cause z room c (block_of z at)
+
+  abbrev is_full : Bool
+  is_full = is_full_for c (block_of z at) (place_in z at)
+
+  abbrev owes_all : Bool
+  owes_all = nat_le z.replies (length (tags c))
+
   abbrev load_last : Option Cause
-  load_last =
-      first_cause (cond (is_present c (block_of z at))
+  load_last = first_cause (cond (is_present c (block_of z at))
       ((targets_full c (place_in z at) (found c (block_of z at) (place_in z at)), TargetsFull) ∷ []) (miss_causes z room c (block_of z at)))
 
   -- ---- loads
 
   abbrev pub load_to : ℕ → Stepped
-  load_to tag =
-      record {
-        answer = Accepted;
-        cache = loaded (fetched z c (block_of z at)) tag (place_in z at)
-            (cell_of (fetched z c (block_of z at)) (block_of z at) (place_in z at)).word
-            (found (fetched z c (block_of z at)) (block_of z at) (place_in z at));
-        sent = fetches z c (block_of z at);
-      }
+  load_to tag = record {
+    answer = Accepted;
+    cache = loaded (fetched z c (block_of z at)) tag (place_in z at)
+        (cell_of (fetched z c (block_of z at)) (block_of z at) (place_in z at)).word
+        (found (fetched z c (block_of z at)) (block_of z at) (place_in z at));
+    sent = fetches z c (block_of z at);
+  }
 
-  load_by : (tag : ℕ) → load_step z room c tag at ≡ unless (load_tests (not (nat_lt at z.words)) (is_in_use c tag)
-      (nat_le z.replies (length (tags c))) load_last) c (load_to tag)
+  abbrev load_told : ℕ → Bool → Bool → Bool → Stepped
+  load_told tag a b k = unless (load_tests a b k load_last) c (load_to tag)
+
+  load_by : (tag : ℕ) → load_step z room c tag at ≡ load_told tag (not (nat_lt at z.words)) (is_in_use c tag) owes_all
   unfolding load_step load_cause
   load_by tag = refl
 
   pub load_outside : (tag : ℕ) → not (nat_lt at z.words) ≡ true → load_step z room c tag at ≡ refused OutOfRange c
-  load_outside tag e =
-      cc (load_by tag, e)
+  load_outside tag e = cc (load_by tag, e)
 
-  pub load_in_use : (tag : ℕ) → not (nat_lt at z.words) ≡ false → is_in_use c tag ≡ true → load_step z room c tag at ≡ refused TagInUse c
-  load_in_use tag e k =
-      load_by tag ∙ ap₂ (λ a b. unless (load_tests a b (nat_le z.replies (length (tags c))) load_last) c (load_to tag)) e k
+  pub load_in_use : (tag : ℕ) → Inside → is_in_use c tag ≡ true → load_step z room c tag at ≡ refused TagInUse c
+  load_in_use tag e k = load_by tag ∙ ap₂ (λ a b. load_told tag a b owes_all) e k
 
-  pub load_owes_all : (tag : ℕ) → not (nat_lt at z.words) ≡ false → is_in_use c tag ≡ false → nat_le z.replies (length (tags c)) ≡ true
-      → load_step z room c tag at ≡ refused RepliesFull c
-  load_owes_all tag e k l =
-      cc (load_by tag, ap₂ (λ a b. unless (load_tests a b (nat_le z.replies (length (tags c))) load_last) c (load_to tag)) e k, l)
+  pub load_owes_all : (tag : ℕ) → Inside → is_in_use c tag ≡ false → owes_all ≡ true → load_step z room c tag at ≡ refused RepliesFull c
+  load_owes_all tag e k l = cc (load_by tag, ap₂ (λ a b. load_told tag a b owes_all) e k, l)
 
-  load_rest : (tag : ℕ) (o : Option Cause) → not (nat_lt at z.words) ≡ false → is_in_use c tag ≡ false
-      → nat_le z.replies (length (tags c)) ≡ false → load_last ≡ o → load_step z room c tag at ≡ unless o c (load_to tag)
-  load_rest tag o e k l m =
-      load_by tag ∙ ap₂ (λ a b. unless (load_tests a b (nat_le z.replies (length (tags c))) load_last) c (load_to tag)) e k
+  load_rest : (tag : ℕ) (o : Option Cause) → Inside → is_in_use c tag ≡ false
+      → owes_all ≡ false → load_last ≡ o → load_step z room c tag at ≡ unless o c (load_to tag)
+  load_rest tag o e k l m = load_by tag ∙ ap₂ (λ a b. load_told tag a b owes_all) e k
       ∙ ap₂ (λ b r. unless (load_tests false false b r) c (load_to tag)) l m
 
-  pub load_targets_full : (tag : ℕ) → not (nat_lt at z.words) ≡ false → is_in_use c tag ≡ false → nat_le z.replies (length (tags c)) ≡ false
-      → is_full_for c (block_of z at) (place_in z at) ≡ true → load_step z room c tag at ≡ refused TargetsFull c
+  pub load_targets_full : (tag : ℕ) → Inside → is_in_use c tag ≡ false → owes_all ≡ false
+      → is_full ≡ true → load_step z room c tag at ≡ refused TargetsFull c
   load_targets_full tag e k l m =
       load_rest tag _ e k l (rest_full _ (targets_full c (place_in z at) (found c (block_of z at) (place_in z at)))
       (miss_causes z room c (block_of z at)) m)
 
-  pub load_absent : (tag : ℕ) (cause : Cause) → not (nat_lt at z.words) ≡ false → is_in_use c tag ≡ false
-      → nat_le z.replies (length (tags c)) ≡ false → is_full_for c (block_of z at) (place_in z at) ≡ false
-      → absence_cause z room c (block_of z at) ≡ Some cause → load_step z room c tag at ≡ refused cause c
-  load_absent tag cause e k l m n =
-      load_rest tag _ e k l (rest_is _ _ (miss_causes z room c (block_of z at)) (Some cause) m n)
-
-  pub load_done : (tag : ℕ) → not (nat_lt at z.words) ≡ false → is_in_use c tag ≡ false → nat_le z.replies (length (tags c)) ≡ false
-      → is_full_for c (block_of z at) (place_in z at) ≡ false → absence_cause z room c (block_of z at) ≡ None
-      → load_step z room c tag at ≡ load_to tag
-  load_done tag e k l m n =
-      load_rest tag None e k l (rest_is _ (targets_full c (place_in z at) (found c (block_of z at) (place_in z at)))
-      (miss_causes z room c (block_of z at)) None m n)
+  pub load_absent : (tag : ℕ) (cause : Cause) → Inside → is_in_use c tag ≡ false → owes_all ≡ false → is_full ≡ false
+      → absence ≡ Some cause → load_step z room c tag at ≡ refused cause c
+  load_absent tag cause e k l m n = load_rest tag _ e k l (rest_is _ _ (miss_causes z room c (block_of z at)) (Some cause) m n)
 
   -- a load of a block that is present or was brought in, by whether four loads wait for its word
   abbrev pub load_on : ℕ → Bool → Stepped
-  load_on tag full =
-      record {
-        answer = load_answer full;
-        cache = load_present (fetched z c (block_of z at)) tag (block_of z at) (place_in z at) full;
-        sent = fetches z c (block_of z at);
-      }
+  load_on tag full = record {
+    answer = load_answer full;
+    cache = load_present (fetched z c (block_of z at)) tag (block_of z at) (place_in z at) full;
+    sent = fetches z c (block_of z at);
+  }
 
   full_is : (tag : ℕ) → is_present c (block_of z at) ≡ true → refused TargetsFull c ≡ load_on tag true
   full_is tag here =
       let made : Cache → List _ → Stepped = λ d sent. record { answer = load_answer true; cache = d; sent = sent } in
       ap₂ made (sym (present_fetched z c _ here)) (sym (present_fetches z c _ here))
 
-  pub load_decided : (tag : ℕ) → not (nat_lt at z.words) ≡ false → is_in_use c tag ≡ false → nat_le z.replies (length (tags c)) ≡ false
-      → absence_cause z room c (block_of z at) ≡ None
-      → load_step z room c tag at ≡ load_on tag (is_full_for c (block_of z at) (place_in z at))
+  pub load_decided : (tag : ℕ) → Inside → is_in_use c tag ≡ false → owes_all ≡ false → absence ≡ None
+      → load_step z room c tag at ≡ load_on tag is_full
   load_decided tag e k l n = go _ refl
     where
-      go : (b : Bool) → is_full_for c (block_of z at) (place_in z at) ≡ b → load_step z room c tag at ≡ load_on tag b
+      go : (b : Bool) → is_full ≡ b → load_step z room c tag at ≡ load_on tag b
       go true q = load_targets_full tag e k l q ∙ full_is tag (present_where_full _ _ q)
-      go false q = load_done tag e k l q n
+      go false q = load_rest tag None e k l (rest_is _ (targets_full c (place_in z at) (found c (block_of z at) (place_in z at)))
+          (miss_causes z room c (block_of z at)) None q n)
 
   -- ---- stores
 
   abbrev pub store_to : Word → Lanes → Stepped
-  store_to word lanes =
-      record {
-        answer = Accepted;
-        cache = written (fetched z c (block_of z at)) (block_of z at) (place_in z at) word lanes;
-        sent = fetches z c (block_of z at);
-      }
+  store_to word lanes = record {
+    answer = Accepted;
+    cache = written (fetched z c (block_of z at)) (block_of z at) (place_in z at) word lanes;
+    sent = fetches z c (block_of z at);
+  }
 
   store_by : (word : Word) (lanes : Lanes) → store_step z room c at word lanes ≡ unless
-      (store_tests (not (nat_lt at z.words)) (not (has_any lanes)) (absence_cause z room c (block_of z at))) c (store_to word lanes)
+      (store_tests (not (nat_lt at z.words)) (not (has_any lanes)) absence) c (store_to word lanes)
   unfolding store_step store_cause
   store_by word lanes = refl
 
   pub store_outside : (word : Word) (lanes : Lanes) → not (nat_lt at z.words) ≡ true
       → store_step z room c at word lanes ≡ refused OutOfRange c
-  store_outside word lanes e =
-      cc (store_by word lanes, e)
+  store_outside word lanes e = cc (store_by word lanes, e)
 
-  pub store_no_lanes : (word : Word) (lanes : Lanes) → not (nat_lt at z.words) ≡ false → not (has_any lanes) ≡ true
+  pub store_no_lanes : (word : Word) (lanes : Lanes) → Inside → not (has_any lanes) ≡ true
       → store_step z room c at word lanes ≡ refused NoLanes c
-  store_no_lanes word lanes e k =
-      store_by word lanes ∙ ap₂ (λ a b. unless (store_tests a b (absence_cause z room c (block_of z at))) c (store_to word lanes)) e k
+  store_no_lanes word lanes e k = store_by word lanes ∙ ap₂ (λ a b. unless (store_tests a b absence) c (store_to word lanes)) e k
 
-  store_rest : (word : Word) (lanes : Lanes) (o : Option Cause) → not (nat_lt at z.words) ≡ false → not (has_any lanes) ≡ false
-      → absence_cause z room c (block_of z at) ≡ o → store_step z room c at word lanes ≡ unless o c (store_to word lanes)
-  store_rest word lanes o e k m =
-      cc (
-        store_by word lanes,
-        ap₂ (λ a b. unless (store_tests a b (absence_cause z room c (block_of z at))) c (store_to word lanes)) e k,
-        m,
-      )
-
-  pub store_absent : (word : Word) (lanes : Lanes) (cause : Cause) → not (nat_lt at z.words) ≡ false → not (has_any lanes) ≡ false
-      → absence_cause z room c (block_of z at) ≡ Some cause → store_step z room c at word lanes ≡ refused cause c
-  store_absent word lanes cause e k m = store_rest word lanes _ e k m
-
-  pub store_done : (word : Word) (lanes : Lanes) → not (nat_lt at z.words) ≡ false → not (has_any lanes) ≡ false
-      → absence_cause z room c (block_of z at) ≡ None → store_step z room c at word lanes ≡ store_to word lanes
-  store_done word lanes e k m = store_rest word lanes None e k m
+  pub store_rest : (word : Word) (lanes : Lanes) (o : Option Cause) → Inside → not (has_any lanes) ≡ false
+      → absence ≡ o → store_step z room c at word lanes ≡ unless o c (store_to word lanes)
+  store_rest word lanes o e k m = cc (store_by word lanes, ap₂ (λ a b. unless (store_tests a b absence) c (store_to word lanes)) e k, m)
 
   -- ---- prefetches
 
   abbrev pub prefetch_to : Stepped
-  prefetch_to =
-      record { answer = Accepted; cache = fetched z c (block_of z at); sent = fetches z c (block_of z at) }
+  prefetch_to = record { answer = Accepted; cache = fetched z c (block_of z at); sent = fetches z c (block_of z at) }
 
-  prefetch_by : (o : Option Cause) (b : Bool) → not (nat_lt at z.words) ≡ b → absence_cause z room c (block_of z at) ≡ o
+  pub prefetch_by : (o : Option Cause) (b : Bool) → not (nat_lt at z.words) ≡ b → absence ≡ o
       → prefetch_step z room c at ≡ unless (cond b (Some OutOfRange) o) c prefetch_to
   unfolding prefetch_step prefetch_cause
   prefetch_by o b e m = ap₂ (λ a r. unless (cond a (Some OutOfRange) r) c prefetch_to) e m
 
   pub prefetch_outside : not (nat_lt at z.words) ≡ true → prefetch_step z room c at ≡ refused OutOfRange c
   prefetch_outside e = prefetch_by _ true e refl
-
-  pub prefetch_absent : (cause : Cause) → not (nat_lt at z.words) ≡ false → absence_cause z room c (block_of z at) ≡ Some cause
-      → prefetch_step z room c at ≡ refused cause c
-  prefetch_absent cause e m = prefetch_by _ false e m
-
-  pub prefetch_done : not (nat_lt at z.words) ≡ false → absence_cause z room c (block_of z at) ≡ None
-      → prefetch_step z room c at ≡ prefetch_to
-  prefetch_done e m = prefetch_by None false e m
 
 -- ---- tests
 
@@ -275,5 +655,14 @@ not_set a b e k = ap not (sym e ∙ k)
 pub is_set : (a b : Bool) → b ≡ a → b ≡ true → not a ≡ false
 is_set a b e k = ap not (sym e ∙ k)
 
-pub less_from : (n k : ℕ) → nat_le n k ≡ false → k < n
-less_from n k e = leb-false n k e
+-- ---- What each step of a sound unit makes of the forms.
+
+pub each_step : EachStepMakesForms
+each_step z c h = record {
+  request = λ room asked. request_forms z room c h asked;
+  evict = λ block. evict_forms z c h block;
+  drain = λ room. drain_forms z room c;
+  arrive = λ slot i word. arrive_forms z c slot i word;
+  process = λ place. process_forms z c h place;
+  take = λ place. take_forms z c h place;
+}

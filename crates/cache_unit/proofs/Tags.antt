@@ -6,16 +6,18 @@ use Rattle.std.proofs.lemmas.Bool.{or_parts}
 use Rattle.std.proofs.lemmas.List.{map-append, length-map}
 use Rattle.std.proofs.lemmas.List.Sums.{sum_by-cons}
 use Rattle.std.proofs.lemmas.List.Folds.{list_any-append}
-use Rattle.miss_registers.specs.Registers as regs
 use Rattle.miss_registers.specs.Whole.{IsWhole, IsWholeRegister}
+use Rattle.miss_registers.proofs.Tags.{list_any-map, none_counted}
 use Rattle.miss_registers.specs.declared.Owed.{Owed}
 use Rattle.miss_registers.proofs.Tags.{count_by-append, count_by-map}
 use Rattle.cache_unit.specs.declared.Reply.{Reply}
 use Rattle.cache_unit.specs.declared.Sizes.{Sizes}
-use Rattle.cache_unit.specs.State.{Target, gathered, targets_of_field, targets_of, targets, tags, Cache}
+use Rattle.cache_unit.specs.State.{Target, gathered, targets_of_field, targets_of, targets, tags, Cache, Field, Register}
 use Rattle.cache_unit.specs.Causes.{is_in_use}
 use Rattle.cache_unit.specs.Sound.{loads_of_field, loads_of, owing, OwesSound, IsSound}
-use Rattle.cache_unit.proofs.Owing.{count_by-all, owing-set, loads-set}
+use Rattle.cache_unit.proofs.Keeps.{count_by-all, owing-set, loads-set}
+use Rattle.miss_registers.specs.Registers.{tags_of_field, tags_of, waiting_tags, tag_waits, register_at, awaited, field_of}
+use Rattle.miss_registers.specs.Registers as regs
 
 abbrev tag_of : Target → ℕ
 tag_of t = t.load.tag
@@ -26,107 +28,88 @@ same_tags : (slot i : ℕ) (ws : List Owed) → map tag_of (map (λ w. record { 
 same_tags slot i [] = refl
 same_tags slot i (w ∷ ws) = ap (λ l. w.tag ∷ l) (same_tags slot i ws)
 
-tags_of-field : (slot i : ℕ) (b : Bool) (f : regs.Field) → f.processed ≡ b → (f.processed ≡ true → f.waiting ≡ [])
-    → map tag_of (if b then [] else map (λ w. record { slot = slot; i = i; load = w }) f.waiting) ≡ regs.tags_of_field f
+tags_of-field : (slot i : ℕ) (b : Bool) (f : Field) → f.processed ≡ b → (f.processed ≡ true → f.waiting ≡ [])
+    → map tag_of (if b then [] else map (λ w. record { slot = slot; i = i; load = w }) f.waiting) ≡ tags_of_field f
 tags_of-field slot i true f e h = grind arith
 tags_of-field slot i false f e h = same_tags slot i f.waiting
 
-tags_of-fields : (slot n : ℕ) (fs : List regs.Field) → ((i : ℕ) → (get_or fs i regs.clear_field).processed ≡ true
-    → (get_or fs i regs.clear_field).waiting ≡ []) → map tag_of (gathered (targets_of_field slot) n fs) ≡ flat_map regs.tags_of_field fs
+tags_of-fields : (slot n : ℕ) (fs : List Field) → ((i : ℕ) → (get_or fs i regs.clear_field).processed ≡ true
+    → (get_or fs i regs.clear_field).waiting ≡ []) → map tag_of (gathered (targets_of_field slot) n fs) ≡ flat_map tags_of_field fs
 tags_of-fields slot n [] h = refl
-tags_of-fields slot n (f ∷ fs) h =
-    map-append tag_of _ (gathered (targets_of_field slot) (suc n) fs)
+tags_of-fields slot n (f ∷ fs) h = map-append tag_of _ (gathered (targets_of_field slot) (suc n) fs)
     ∙ ap₂ ◌++◌ (tags_of-field slot n f.processed f refl (h 0)) (tags_of-fields slot (suc n) fs (λ i. h (suc i)))
 
-tags_of-register : (words n : ℕ) (r : regs.Register) → IsWholeRegister words r → map tag_of (targets_of n r) ≡ regs.tags_of r
+tags_of-register : (words n : ℕ) (r : Register) → IsWholeRegister words r → map tag_of (targets_of n r) ≡ tags_of r
 tags_of-register words n r w = grind (arith, r.valid, r.fields, tags_of-fields, w.done)
 
-tags_of-registers : (words n : ℕ) (rs : List regs.Register) → ((s : ℕ) → IsWholeRegister words (get_or rs s regs.free_register))
-    → map tag_of (gathered targets_of n rs) ≡ flat_map regs.tags_of rs
+tags_of-registers : (words n : ℕ) (rs : List Register) → ((s : ℕ) → IsWholeRegister words (get_or rs s regs.free_register))
+    → map tag_of (gathered targets_of n rs) ≡ flat_map tags_of rs
 tags_of-registers words n [] h = refl
-tags_of-registers words n (r ∷ rs) h =
-    map-append tag_of _ (gathered targets_of (suc n) rs)
+tags_of-registers words n (r ∷ rs) h = map-append tag_of _ (gathered targets_of (suc n) rs)
     ∙ ap₂ ◌++◌ (tags_of-register words n r (h 0)) (tags_of-registers words (suc n) rs (λ s. h (suc s)))
 
-pub waiting-shown : (words regs' : ℕ) (rs : List regs.Register) → IsWhole words regs' rs → map tag_of (targets rs) ≡ regs.waiting_tags rs
-unfolding targets regs.waiting_tags
+pub waiting-shown : (words regs' : ℕ) (rs : List Register) → IsWhole words regs' rs → map tag_of (targets rs) ≡ waiting_tags rs
+unfolding targets waiting_tags
 waiting-shown words regs' rs w = tags_of-registers words 0 rs w.each
 
 pub tags-shown : {words regs' : ℕ} (c : Cache) → IsWhole words regs' c.registers → tags c ≡ map (λ r. r.tag) c.ready
-    ++ regs.waiting_tags c.registers
+    ++ waiting_tags c.registers
 tags-shown c w = ap (λ l. map (λ r. r.tag) c.ready ++ l) (waiting-shown _ _ _ w)
 
 -- ---- counts
 
-count-fields : (p : ℕ → Bool) (fs : List regs.Field) → count_by p (flat_map regs.tags_of_field fs) ≡ sum_by (loads_of_field p) fs
+count-fields : (p : ℕ → Bool) (fs : List Field) → count_by p (flat_map tags_of_field fs) ≡ sum_by (loads_of_field p) fs
 count-fields p [] = refl
 count-fields p (f ∷ fs) =
-    let a = count_by-append p (regs.tags_of_field f) (flat_map regs.tags_of_field fs) in
+    let a = count_by-append p (tags_of_field f) (flat_map tags_of_field fs) in
     let b = count_by-map p (λ w. w.tag) f.waiting in
     let c = sum_by-cons (loads_of_field p) f fs in
     let r = count-fields p fs in
     omega arith
 
-count-registers : (p : ℕ → Bool) (rs : List regs.Register) → count_by p (flat_map regs.tags_of rs) ≡ sum_by (loads_of p) rs
+count-registers : (p : ℕ → Bool) (rs : List Register) → count_by p (flat_map tags_of rs) ≡ sum_by (loads_of p) rs
 count-registers p [] = refl
 count-registers p (x ∷ rs) =
-    let a = count_by-append p (regs.tags_of x) (flat_map regs.tags_of rs) in
+    let a = count_by-append p (tags_of x) (flat_map tags_of rs) in
     let b = count-fields p x.fields in
     let c = sum_by-cons (loads_of p) x rs in
     let r = count-registers p rs in
     omega arith
 
-pub count-waiting : (p : ℕ → Bool) (rs : List regs.Register) → count_by p (regs.waiting_tags rs) ≡ sum_by (loads_of p) rs
-unfolding regs.waiting_tags
+pub count-waiting : (p : ℕ → Bool) (rs : List Register) → count_by p (waiting_tags rs) ≡ sum_by (loads_of p) rs
+unfolding waiting_tags
 count-waiting p rs = count-registers p rs
 
-pub owing-tags : (p : ℕ → Bool) (ready : List Reply) (rs : List regs.Register)
-    → owing p ready rs ≡ count_by p (map (λ r. r.tag) ready ++ regs.waiting_tags rs)
+pub owing-tags : (p : ℕ → Bool) (ready : List Reply) (rs : List Register)
+    → owing p ready rs ≡ count_by p (map (λ r. r.tag) ready ++ waiting_tags rs)
 owing-tags p ready rs = grind (arith, count_by-append, count_by-map, count-waiting)
 
 -- how many are owed
 pub owing-all : {words regs' : ℕ} (c : Cache) → IsWhole words regs' c.registers → owing (λ t. true) c.ready c.registers ≡ length (tags c)
 owing-all c w =
-    owing-tags (λ t. true) c.ready _ ∙ count_by-all (map (λ r. r.tag) _ ++ regs.waiting_tags _) ∙ ap length (sym (tags-shown c w))
+    owing-tags (λ t. true) c.ready _ ∙ count_by-all (map (λ r. r.tag) _ ++ waiting_tags _) ∙ ap length (sym (tags-shown c w))
 
 pub length-tags : {words regs' : ℕ} (c : Cache) → IsWhole words regs' c.registers
-    → length (tags c) ≡ length (regs.waiting_tags c.registers) + length c.ready
+    → length (tags c) ≡ length (waiting_tags c.registers) + length c.ready
 length-tags c w =
     let a = ap length (tags-shown c w) in
-    let b = length-append (map (λ r. r.tag) c.ready) (regs.waiting_tags c.registers) in
+    let b = length-append (map (λ r. r.tag) c.ready) (waiting_tags c.registers) in
     let n = length-map c.ready (λ r. r.tag) in
     omega arith
 
 -- ---- a tag in use
 
-pub any-map : {X Y : Type 0} (p : Y → Bool) (f : X → Y) (xs : List X) → list_any p (map f xs) ≡ list_any (λ x. p (f x)) xs
-any-map p f [] = refl
-any-map p f (x ∷ xs) = ap (λ b. p (f x) || b) (any-map p f xs)
-
 pub in_use-shown : {words regs' : ℕ} (c : Cache) (tag : ℕ) → IsWhole words regs' c.registers
-    → is_in_use c tag ≡ (list_any (λ r. r.tag == tag) c.ready || regs.tag_waits c.registers tag)
-in_use-shown c tag w =
-    ap (list_any (λ t. t == tag)) (tags-shown c w) ∙ list_any-append (λ t. t == tag) (map (λ r. r.tag) _) _
-    ∙ ap (λ b. b || regs.tag_waits c.registers tag) (any-map (λ t. t == tag) (λ r. r.tag) _)
-
-none_counted : {X : Type 0} (p : X → Bool) (xs : List X) → list_any p xs ≡ false → count_by p xs ≡ 0
-none_counted p [] h = refl
-none_counted p (x ∷ xs) h =
-    let c = sum_by-cons (λ y. cond (p y) 1 0) x xs in
-    go (p x) refl h c (none_counted p xs)
-  where
-    go : (b : Bool) → p x ≡ b → (p x || list_any p xs) ≡ false → count_by p (x ∷ xs) ≡ cond (p x) 1 0 + count_by p xs
-        → (list_any p xs ≡ false → count_by p xs ≡ 0) → count_by p (x ∷ xs) ≡ 0
-    go true e k c r = grind arith
-    go false e k c r = grind arith
+    → is_in_use c tag ≡ (list_any (λ r. r.tag == tag) c.ready || tag_waits c.registers tag)
+in_use-shown c tag w = ap (list_any (λ t. t == tag)) (tags-shown c w) ∙ list_any-append (λ t. t == tag) (map (λ r. r.tag) _) _
+    ∙ ap (λ b. b || tag_waits c.registers tag) (list_any-map (λ t. t == tag) (λ r. r.tag) _)
 
 pub not_waiting : {words regs' : ℕ} (c : Cache) (tag : ℕ) → IsWhole words regs' c.registers → is_in_use c tag ≡ false
-    → regs.tag_waits c.registers tag ≡ false
-not_waiting c tag w h =
-    (or_parts _ _ (sym (in_use-shown c tag w) ∙ h)).1
+    → tag_waits c.registers tag ≡ false
+not_waiting c tag w h = (or_parts _ _ (sym (in_use-shown c tag w) ∙ h)).1
 
 -- one value more is owed
-pub owes-added : (z : Sizes) (c : Cache) (rs : List regs.Register) (ready : List Reply) (tag : ℕ) → IsSound z c → is_in_use c tag ≡ false
+pub owes-added : (z : Sizes) (c : Cache) (rs : List Register) (ready : List Reply) (tag : ℕ) → IsSound z c → is_in_use c tag ≡ false
     → length (tags c) < z.replies → ((p : ℕ → Bool) → owing p ready rs ≡ owing p c.ready c.registers + (if p tag then 1 else 0))
     → OwesSound z ready rs
 owes-added z c rs ready tag h new room add = record {
@@ -142,8 +125,7 @@ owes-added z c rs ready tag h new room add = record {
         let same = eqb-true tag t e in
         let none =
         ap (list_any (λ x. x == t)) (sym (tags-shown c h.registers)) ∙ ap (λ n. list_any (λ x. x == n) (tags c)) (sym same) ∙ new in
-        let zero' = owing-tags (λ x. x == t) c.ready _
-        ∙ none_counted (λ x. x == t) (map (λ r. r.tag) _ ++ regs.waiting_tags _) none in
+        let zero' = owing-tags (λ x. x == t) c.ready _ ∙ none_counted (λ x. x == t) (map (λ r. r.tag) _ ++ waiting_tags _) none in
         let a = add (λ x. x == t) ∙ ap (λ v. owing (λ x. x == t) c.ready c.registers + cond v 1 0) e in
         omega arith
     go t false e =
@@ -152,20 +134,20 @@ owes-added z c rs ready tag h new room add = record {
         omega arith
 
 -- a reply goes last
-pub owing-push : (p : ℕ → Bool) (ready : List Reply) (rs : List regs.Register) (r : Reply)
+pub owing-push : (p : ℕ → Bool) (ready : List Reply) (rs : List Register) (r : Reply)
     → owing p (ready ++ r ∷ []) rs ≡ owing p ready rs + (if p r.tag then 1 else 0)
 owing-push p ready rs r = grind (arith, count_by-append, sum_by-cons)
 
 -- a load waits for a word too
-pub owing-awaited : (p : ℕ → Bool) (ready : List Reply) (rs : List regs.Register) (s i : ℕ) (o : Owed) → s < length rs
-    → i < length (regs.register_at rs s).fields → owing p ready (set rs s (regs.awaited (regs.register_at rs s) i o))
+pub owing-awaited : (p : ℕ → Bool) (ready : List Reply) (rs : List Register) (s i : ℕ) (o : Owed) → s < length rs
+    → i < length (register_at rs s).fields → owing p ready (set rs s (awaited (register_at rs s) i o))
     ≡ owing p ready rs + (if p o.tag then 1 else 0)
-unfolding regs.awaited
+unfolding awaited
 owing-awaited p ready rs s i o a b =
-    let r = regs.register_at rs s in
-    let f = record (regs.field_of r i) { waiting = (regs.field_of r i).waiting ++ o ∷ [] } in
+    let r = register_at rs s in
+    let f = record (field_of r i) { waiting = (field_of r i).waiting ++ o ∷ [] } in
     let x = owing-set p ready rs s (regs.with_field r i f) a in
     let y = loads-set p r i f b in
-    let n = count_by-append (λ w. p w.tag) (regs.field_of r i).waiting (o ∷ []) in
+    let n = count_by-append (λ w. p w.tag) (field_of r i).waiting (o ∷ []) in
     let m = sum_by-cons (λ w. cond (p w.tag) 1 0) o [] in
     omega arith

@@ -1,41 +1,76 @@
 -- The driver lowers the weight.
-use Rattle.std.proofs.Common.{◌≡◌, ℕ, zero, suc, ◌+◌, ◌-◌, ◌%◌, ◌<◌, ◌≤◌, Bool, true, false, cond, not, ◌&&◌}
-use Rattle.std.proofs.Common.{List, [], ◌∷◌, ◌++◌, length, get_or, set, Option, Some, None, option_map, find, remove, slice_get, refl, sym}
-use Rattle.std.proofs.Common.{ap, ap₂, ◌∙◌, arith, length-append, ◌⊎◌, inl, inr, lt-ltb, mod-lt, flat_map}
-use Rattle.std.specs.List.{range_with_len, list_all}
-use Rattle.std.proofs.lemmas.Bool.{lt-leb}
-use Rattle.std.proofs.lemmas.List.{nil_from_length}
+use Rattle.std.proofs.Common.{◌≡◌, ℕ, ◌+◌, ◌*◌, ◌<◌, cond, List, [], ◌∷◌, ◌++◌, length, get_or, take, refl, ap, arith, zero, suc, ◌-◌, ◌%◌}
+use Rattle.std.proofs.Common.{◌≤◌, Bool, true, false, not, ◌&&◌, set, Option, Some, None, option_map, find, remove, slice_get, sym, ap₂}
+use Rattle.std.proofs.Common.{◌∙◌, length-append, ◌⊎◌, inl, inr, lt-ltb, mod-lt, flat_map, nat_lt, ⊎_elim, le-ltb, ◌==◌}
+use Rattle.std.proofs.lemmas.List.{take_more, nil_from_length, length-map}
+use Rattle.std.proofs.lemmas.List.Sums.{sum_by-cons}
+use Rattle.std.specs.List.{count_by, range_with_len, list_all}
+use Rattle.memory_banks.specs.declared.Command.{Command}
+use Rattle.memory_banks.specs.declared.Command.TheVariants.{Read, Write}
+use Rattle.memory_banks.specs.Memory.{is_read}
+use Rattle.machine_core.specs.Pump.{total, command_weight, bank_weight, field_weight, register_weight, weight, lowest, has_items, when}
+use Rattle.machine_core.specs.Pump.{pumped, first_event}
+use Rattle.std.proofs.lemmas.Bool.{lt-leb, cases_lt, and_parts, ltb-true, cases_eq}
 use Rattle.flat_model.specs.declared.Event.{Event}
 use Rattle.flat_model.specs.declared.Event.TheVariants.{Take, Process, Arrive, Serve, Drain}
 use Rattle.flat_model.specs.declared.Word.{Word}
-use Rattle.memory_banks.specs.declared.Command.{Command}
 use Rattle.memory_banks.specs.declared.BankAnswer.{BankAnswer}
-use Rattle.memory_banks.specs.Banks.{Bank, bank_at, no_bank, pending, all_pending, answers_to, served, with_command}
+use Rattle.memory_banks.specs.Banks.{Bank, bank_at, no_bank, pending, all_pending, answers_to, served, with_command, room_in}
 use Rattle.cache_unit.specs.declared.Reply.{Reply}
 use Rattle.input_stack.specs.declared.Entry.{Entry}
 use Rattle.write_queue.specs.declared.Queued.{Queued}
 use Rattle.miss_registers.specs.declared.Owed.{Owed}
 use Rattle.cache_unit.specs.declared.Sizes.{Sizes}
-use Rattle.cache_unit.specs.State.{Field, Register, Cache, clear_field, free_register, register_at, field_at}
+use Rattle.cache_unit.specs.State.{Field, Register, Cache, clear_field, free_register, register_at, field_at, gathered, targets_of}
+use Rattle.cache_unit.specs.State.{targets_of_field, targets, tags}
 use Rattle.cache_unit.specs.Causes.{arrive_cause}
 use Rattle.miss_registers.specs.Registers.{finished, marked}
-use Rattle.cache_unit.specs.Steps.{answered, processed, arrived, take_step, process_step}
-use Rattle.cache_unit.specs.Steps.{drain_step}
+use Rattle.cache_unit.specs.Steps.{answered, processed, arrived, take_step, process_step, drain_step, Stepped, drain_first, process_entry}
 use Rattle.cache_unit.specs.Counts.{tally, bit}
-use Rattle.cache_unit.proofs.FormsProcessing.{all_processed, done}
-use Rattle.cache_unit.proofs.FormsFields.{with_fields}
-use Rattle.machine_core.specs.Machine.{Machine, apply}
-use Rattle.machine_core.specs.Pump.{total, command_weight, bank_weight, field_weight, register_weight, weight, lowest, has_items, when}
-use Rattle.machine_core.specs.Pump.{pumped, first_event}
-use Rattle.machine_core.specs.Law.{IsLawful, HasRoom, WalkIsDriven}
-use Rattle.machine_core.specs.Sound.{IsSound, is_entry_for, is_for}
-use Rattle.machine_core.proofs.Processing.{slot_there, field_there}
-use Rattle.machine_core.proofs.Units.{entry_waits}
-use Rattle.cache_unit.proofs.FormsProcessing.{settled_only}
-use Rattle.machine_core.proofs.Arriving.{not_stray}
-use Rattle.machine_core.proofs.Opening.{opening_sound}
-use Rattle.machine_core.proofs.Walking.{walk_sound}
-use Rattle.machine_core.proofs.Totals.{total-append}
+use Rattle.cache_unit.proofs.FormsProcessing.{all_processed, done, settled_only}
+use Rattle.cache_unit.proofs.Lists.{with_fields, in_range}
+use Rattle.machine_core.specs.Machine.{Machine, apply, joined_with}
+use Rattle.machine_core.specs.Law.{IsLawful, HasRoom, WalkIsDriven, most_weight}
+use Rattle.machine_core.specs.Sound.{IsSound, is_entry_for, is_for, wanted, IsBounded}
+use Rattle.machine_core.proofs.Walking.{slot_there, field_there, not_stray, walk_sound}
+use Rattle.machine_core.proofs.FromForms.{entry_waits, bit-pos, bit-le}
+use Rattle.machine_core.proofs.Requests.{sound_opening}
+use Rattle.flat_model.specs.declared.Answer.TheVariants.{Moved, Refused}
+use Rattle.flat_model.specs.declared.Cause.TheVariants.{BankFull}
+use Rattle.std.proofs.Math.Nat.{mul_assoc}
+use Rattle.flat_model.specs.Flat.{stored}
+
+-- ---- Sums that are taken one element after another.
+
+pub total-append : {X : Type 0} (f : X → ℕ) (xs ys : List X) → total f (xs ++ ys) ≡ total f xs + total f ys
+total-append f [] ys = omega arith
+total-append f (x ∷ xs) ys = let ih = total-append f xs ys in omega arith
+
+-- one element more
+pub total_more : {X : Type 0} (f : X → ℕ) (xs : List X) (k : ℕ) (d : X) (sum more : ℕ) → k < length xs → sum ≡ total f (take k xs)
+    → more ≡ sum + f (get_or xs k d) → more ≡ total f (take (k + 1) xs)
+total_more f xs k d sum more l so_far e =
+    let t = ap (total f) (take_more xs k d l) in
+    let a = total-append f (take k xs) (get_or xs k d ∷ []) in
+    omega arith
+
+-- 1 for a read
+abbrev read_counts : Command → ℕ
+read_counts c = cond (is_read c) 1 0
+
+-- 1 for each command, and 3 more for a read
+pub commands_weigh_all : (queue : List Command) → total command_weight queue ≡ length queue + 3 * count_by is_read queue
+commands_weigh_all [] = refl
+commands_weigh_all (Read slot i place ∷ rest) =
+    let ih = commands_weigh_all rest in
+    let one = sum_by-cons read_counts (Read slot i place) rest in
+    omega arith
+commands_weigh_all (Write place word lanes ∷ rest) =
+    let ih = commands_weigh_all rest in
+    let none = sum_by-cons read_counts (Write place word lanes) rest in
+    omega arith
+
+-- ---- Each event of the driver.
 
 -- ---- sums
 
@@ -52,35 +87,21 @@ total_same f d (x ∷ xs) (suc k) y e = ap (λ n. f x + n) (total_same f d xs k 
 
 total_none : {X : Type 0} (f : X → ℕ) (d : X) (xs : List X) → ((k : ℕ) → k < length xs → f (get_or xs k d) ≡ 0) → total f xs ≡ 0
 total_none f d [] h = refl
-total_none f d (x ∷ xs) h =
-    let a = h 0 (omega arith) in
-    let b = total_none f d xs (λ k l. h (suc k) (omega arith)) in
-    omega arith
+total_none f d (x ∷ xs) h = grind (arith, h 0, total_none f d xs (λ k l. h (suc k) (omega arith)))
 
 processed_weight : (fields : List Field) → list_all (λ f. f.processed) fields ≡ true → total field_weight fields ≡ 0
-processed_weight fields e =
-    total_none field_weight clear_field fields
+processed_weight fields e = total_none field_weight clear_field fields
     (λ k l. ap (λ b. cond b 0 (length (get_or fields k clear_field).waiting - 1)) (all_processed fields e k l))
 
 -- ---- searches for a bank
 
 find_first : (p : ℕ → Bool) (a n b : ℕ) → find p (range_with_len a n) ≡ Some b → (b < a + n) × (p b ≡ true)
 find_first p a zero b e = cc
-find_first p a (suc n) b e = go (p a) refl (find_first p (a + 1) n b) e
-  where
-    go : (x : Bool) → p a ≡ x → (find p (range_with_len (a + 1) n) ≡ Some b → (b < a + 1 + n) × (p b ≡ true))
-        → cond x (Some a) (find p (range_with_len (a + 1) n)) ≡ Some b → (b < a + suc n) × (p b ≡ true)
-    go true q rest r = grind arith
-    go false q rest r = grind arith
+find_first p a (suc n) b e = grind (arith, find_first p (a + 1) n b)
 
 find_nowhere : (p : ℕ → Bool) (a n k : ℕ) → find p (range_with_len a n) ≡ None → a ≤ k → k < a + n → p k ≡ false
 find_nowhere p a zero k e lo hi = absurd (omega arith)
-find_nowhere p a (suc n) k e lo hi = go (p a) refl (find_nowhere p (a + 1) n k) e
-  where
-    go : (x : Bool) → p a ≡ x → (find p (range_with_len (a + 1) n) ≡ None → a + 1 ≤ k → k < a + 1 + n → p k ≡ false)
-        → cond x (Some a) (find p (range_with_len (a + 1) n)) ≡ None → p k ≡ false
-    go true q rest r = cc
-    go false q rest r = grind arith
+find_nowhere p a (suc n) k e lo hi = grind (arith, find_nowhere p (a + 1) n k)
 
 items_none : {X : Type 0} (xs : List X) → has_items xs ≡ false → length xs ≡ 0
 items_none [] e = refl
@@ -107,14 +128,21 @@ registers-marked : (c : Cache) (slot i : ℕ)
     → total register_weight (set c.registers slot (marked (register_at c slot) i)) ≡ total register_weight c.registers
 registers-marked c slot i = grind (arith, total_same, register-marked)
 
+-- a bank of the machine at which a command waits
+abbrev pub HasCommand : Sizes → Machine → Type 0
+HasCommand z m = (b : ℕ) × (b < z.banks) × (has_items (bank_at m.banks b).queue ≡ true)
+
 -- ---- each event
 
 module _ (z : Sizes) (lawful : IsLawful z) (roomy : HasRoom z) (m : Machine) (h : IsSound z m) where
-  pub take_lowers : (r : Reply) (rest : List Reply) → m.cache.ready ≡ r ∷ rest → weight (apply z m (Take 0)).machine < weight m
+  abbrev Lowers : Event → Type 0
+  Lowers event = weight (apply z m event).machine < weight m
+
+  pub take_lowers : (r : Reply) (rest : List Reply) → m.cache.ready ≡ r ∷ rest → Lowers (Take 0)
   unfolding take_step
   take_lowers r rest e = grind arith
 
-  pub process_lowers : (x : Entry) (rest : List Entry) → m.cache.stack ≡ x ∷ rest → weight (apply z m (Process 0)).machine < weight m
+  pub process_lowers : (x : Entry) (rest : List Entry) → m.cache.stack ≡ x ∷ rest → Lowers (Process 0)
   unfolding processed process_step finished
   process_lowers x rest e =
       let c = m.cache in
@@ -132,10 +160,8 @@ module _ (z : Sizes) (lawful : IsLawful z) (roomy : HasRoom z) (m : Machine) (h 
       let by_register = total_set register_weight free_register _ x.slot (finished r x.i) there in
       let told = told_all x.word f.waiting in
       let ready = length-append c.ready (answered x.word f.waiting) in
-      let stack = ap (λ l. length (remove l 0) + 1) e
-      ∙ (let k : length rest + 1 ≡ suc _ = omega arith in k) ∙ sym (ap length e) in
-      let queue =
-      ap (λ (d : Cache). d.queue) (settled_only c x.slot x.i x.word) in
+      let stack = ap (λ l. length (remove l 0) + 1) e ∙ (let k : length rest + 1 ≡ suc _ = omega arith in k) ∙ sym (ap length e) in
+      let queue = ap (λ (d : Cache). d.queue) (settled_only c x.slot x.i x.word) in
       let queue' = ap length queue in
       rw found (omega arith)
     where
@@ -144,33 +170,29 @@ module _ (z : Sizes) (lawful : IsLawful z) (roomy : HasRoom z) (m : Machine) (h 
       told_all word (y ∷ ws) = ap suc (told_all word ws)
 
       fin : (b : Bool) → list_all (λ g. g.processed) (set (register_at m.cache x.slot).fields x.i done) ≡ b
-          → (register_at m.cache x.slot).valid ≡ true
-          → register_weight (cond b free_register (with_fields (register_at m.cache x.slot)
+          → (register_at m.cache x.slot).valid ≡ true → register_weight (cond b free_register (with_fields (register_at m.cache x.slot)
           (set (register_at m.cache x.slot).fields x.i done))) ≡ total field_weight (set (register_at m.cache x.slot).fields x.i done)
       fin true q v = sym (processed_weight _ q)
       fin false q v = grind (arith, x.i, done)
 
   -- an answer for which the stack has room
   pub arrive_lowers : (b : ℕ) (a : BankAnswer) (rest : List BankAnswer) → b < length m.banks → (bank_at m.banks b).answers ≡ a ∷ rest
-      → length m.cache.stack < z.depth → weight (apply z m (Arrive b 0)).machine < weight m
+      → length m.cache.stack < z.depth → Lowers (Arrive b 0)
   unfolding arrived arrive_cause
   arrive_lowers b a rest l e some = grind (arith, lt-leb, a.slot, not_stray, total_set, length-append, registers-marked, a.i)
 
   pub serve_lowers : (b : ℕ) (first : Command) (rest : List Command) → b < length m.banks → (bank_at m.banks b).queue ≡ first ∷ rest
-      → weight (apply z m (Serve b)).machine < weight m
+      → Lowers (Serve b)
   unfolding served
   serve_lowers b first rest l e = grind (arith, total_set, length-append)
 
   -- a write for which its bank has room
   pub drain_lowers : (q : Queued) (rest : List Queued) → m.cache.queue ≡ q ∷ rest
-      → length (bank_at m.banks (q.at % z.banks)).queue < z.bank_queue → weight (apply z m Drain).machine < weight m
+      → length (bank_at m.banks (q.at % z.banks)).queue < z.bank_queue → Lowers Drain
   unfolding with_command drain_step
   drain_lowers q rest e some = grind (arith, mod-lt, q.at, lt-ltb, q.word, q.lanes, total_set, total-append)
 
   -- ---- which event the driver picks
-
-  lowered : Event → Type 0
-  lowered event = weight (apply z m event).machine < weight m
 
   abbrev arrivals : Option ℕ
   arrivals = lowest z m (λ b. has_items b.answers)
@@ -199,16 +221,15 @@ module _ (z : Sizes) (lawful : IsLawful z) (roomy : HasRoom z) (m : Machine) (h 
   parts_of [] e = cc
   parts_of (x ∷ xs) e = (x, xs, refl)
 
-  pub pump_lowers : (event : Event) → pumped z m ≡ Some event → weight (apply z m event).machine < weight m
-  pump_lowers event e = go _ refl _ refl arrivals refl turns refl _ refl e
+  pub pumped_lowers : (event : Event) → pumped z m ≡ Some event → Lowers event
+  pumped_lowers event e = go _ refl _ refl arrivals refl turns refl _ refl e
     where
-      so : (picked_event : Event) → Some picked_event ≡ Some event → weight (apply z m picked_event).machine < weight m
-          → weight (apply z m event).machine < weight m
+      so : (picked_event : Event) → Some picked_event ≡ Some event → Lowers picked_event → Lowers event
       so x q k = let same : x ≡ event = cc in rw same at k
 
       go : (ready : List Reply) → m.cache.ready ≡ ready → (stack : List Entry) → m.cache.stack ≡ stack → (a : Option ℕ) → arrivals ≡ a
           → (t : Option ℕ) → turns ≡ t → (queue : List Queued) → m.cache.queue ≡ queue → picked ready stack a t queue ≡ Some event
-          → weight (apply z m event).machine < weight m
+          → Lowers event
       go (r ∷ rest) er stack es a ea t et queue eq q = so _ q (take_lowers r rest er)
       go [] er (x ∷ rest) es a ea t et queue eq q = so _ q (process_lowers x rest es)
       go [] er [] es (Some b) ea t et queue eq q =
@@ -225,8 +246,8 @@ module _ (z : Sizes) (lawful : IsLawful z) (roomy : HasRoom z) (m : Machine) (h 
       go [] er [] es None ea None et [] eq q = cc
 
   -- nothing is left where the driver has no event
-  pub pump_rests : pumped z m ≡ None → weight m ≡ 0
-  pump_rests e = go _ refl _ refl arrivals refl turns refl _ refl e
+  pub pumped_rests : pumped z m ≡ None → weight m ≡ 0
+  pumped_rests e = go _ refl _ refl arrivals refl turns refl _ refl e
     where
       go : (ready : List Reply) → m.cache.ready ≡ ready → (stack : List Entry) → m.cache.stack ≡ stack → (a : Option ℕ) → arrivals ≡ a
           → (t : Option ℕ) → turns ≡ t → (queue : List Queued) → m.cache.queue ≡ queue → picked ready stack a t queue ≡ None → weight m ≡ 0
@@ -247,8 +268,7 @@ module _ (z : Sizes) (lawful : IsLawful z) (roomy : HasRoom z) (m : Machine) (h 
           idle b l =
               let l' : b < z.banks = let n = h.banks_are in omega arith in
               let a = no_answer ea b l' in
-              let c =
-              ap (total command_weight) (nil_from_length _ (no_turn et b l')) in
+              let c = ap (total command_weight) (nil_from_length _ (no_turn et b l')) in
               omega arith
 
           nothing : all_pending m.banks ≡ []
@@ -268,8 +288,7 @@ module _ (z : Sizes) (lawful : IsLawful z) (roomy : HasRoom z) (m : Machine) (h 
                       let p = ap (tally (is_for s j)) nothing in
                       let t = ap (tally (is_entry_for s j)) es in
                       let in_block : j < z.block_words = let n = h.whole_registers s v in omega arith in
-                      let w =
-                      ap₂ (λ x y. bit (x && (y && not (field_at m.cache s j).processed))) v (lt-ltb j _ in_block) in
+                      let w = ap₂ (λ x y. bit (x && (y && not (field_at m.cache s j).processed))) v (lt-ltb j _ in_block) in
                       let zero_bit : bit _ ≡ 0 = omega arith in
                       by_mark (field_at m.cache s j).processed zero_bit
                     where
@@ -279,13 +298,11 @@ module _ (z : Sizes) (lawful : IsLawful z) (roomy : HasRoom z) (m : Machine) (h 
 
   -- a machine whose stack, replies and banks' answers are gone, and whose write queue waits for a bank if it isn't empty
   pub rests_or_waits : m.cache.ready ≡ [] → m.cache.stack ≡ [] → ((b : ℕ) → b < z.banks → (bank_at m.banks b).answers ≡ [])
-      → (m.cache.queue ≡ []) ⊎ ((b : ℕ) × (b < z.banks) × (has_items (bank_at m.banks b).queue ≡ true))
-      → (weight m ≡ 0) ⊎ ((b : ℕ) × (b < z.banks) × (has_items (bank_at m.banks b).queue ≡ true))
+      → (m.cache.queue ≡ []) ⊎ HasCommand z m → (weight m ≡ 0) ⊎ HasCommand z m
   rests_or_waits er es none (inr waits) = inr waits
   rests_or_waits er es none (inl eq) = go arrivals refl turns refl
     where
-      go : (a : Option ℕ) → arrivals ≡ a → (t : Option ℕ) → turns ≡ t
-          → (weight m ≡ 0) ⊎ ((b : ℕ) × (b < z.banks) × (has_items (bank_at m.banks b).queue ≡ true))
+      go : (a : Option ℕ) → arrivals ≡ a → (t : Option ℕ) → turns ≡ t → (weight m ≡ 0) ⊎ HasCommand z m
       go a ea (Some b) et =
           let p = first_turn b et in
           inr (b, let n = h.banks_are in let l = p.0 in omega arith, p.1)
@@ -295,15 +312,240 @@ module _ (z : Sizes) (lawful : IsLawful z) (roomy : HasRoom z) (m : Machine) (h 
           let no = ap has_items (none b l) in
           let yes = p.1 in
           cc
-      go None ea None et =
-          inl (pump_rests (cc (er, es, ea, et, eq)))
+      go None ea None et = inl (pumped_rests (cc (er, es, ea, et, eq)))
 
-  pub pump_at_rest : weight m ≡ 0 → pumped z m ≡ None
-  pump_at_rest w = go _ refl
+  pub pumped_at_rest : weight m ≡ 0 → pumped z m ≡ None
+  pumped_at_rest w = go _ refl
     where
       go : (o : Option Event) → pumped z m ≡ o → pumped z m ≡ None
       go None e = e
-      go (Some event) e = let l = pump_lowers event e in absurd (omega arith)
+      go (Some event) e = let l = pumped_lowers event e in absurd (omega arith)
 
 pub walk_is_driven : (z : Sizes) (image : List Word) (events : List Event) → WalkIsDriven z image events
-walk_is_driven z image events lawful roomy fits = grind (arith, walk_sound, opening_sound, pump_lowers, pump_rests, pump_at_rest)
+walk_is_driven z image events lawful roomy fits = grind (arith, walk_sound, sound_opening, pumped_lowers, pumped_rests, pumped_at_rest)
+
+-- ---- An event that moves something on lowers the weight; otherwise the machine stays as it was, and shows why.
+
+-- ---- the weight of any machine
+
+-- the most that can be on its way, whatever the numbers
+-- ---- one event
+
+-- the weight falls, or the machine stays and this is so
+abbrev pub FallsOr : Machine → Machine → Type 0 → Type 0
+FallsOr m after why = (weight after < weight m) ⊎ ((after ≡ m) × why)
+
+module _ (z : Sizes) (lawful : IsLawful z) (roomy : HasRoom z) (m : Machine) (h : IsSound z m) where
+  pub take_falls : FallsOr m (apply z m (Take 0)).machine (m.cache.ready ≡ [])
+  unfolding take_step
+  take_falls = go _ refl
+    where
+      go : (ready : List Reply) → m.cache.ready ≡ ready → FallsOr m (apply z m (Take 0)).machine (m.cache.ready ≡ [])
+      go [] e = grind arith
+      go (r ∷ rest) e = grind arith
+
+  pub process_falls : FallsOr m (apply z m (Process 0)).machine (m.cache.stack ≡ [])
+  unfolding process_step
+  process_falls = go _ refl
+    where
+      go : (stack : List Entry) → m.cache.stack ≡ stack → FallsOr m (apply z m (Process 0)).machine (m.cache.stack ≡ [])
+      go [] e = inr (ap (λ l. (joined_with m.banks (process_entry m.cache 0 (slice_get l 0))).machine) e, e)
+      go (x ∷ rest) e = inl (process_lowers z lawful roomy m h x rest e)
+
+  -- a bank with a command serves it
+  pub serve_falls : (b : ℕ) → b < z.banks → has_items (bank_at m.banks b).queue ≡ true → weight (apply z m (Serve b)).machine < weight m
+  serve_falls b l some = grind (arith, serve_lowers)
+
+  -- the write queue's front is drained if its bank has room
+  pub drain_falls : FallsOr m (apply z m Drain).machine ((m.cache.queue ≡ []) ⊎ HasCommand z m)
+  unfolding drain_step
+  drain_falls = go _ refl
+    where
+      full : (q : Queued) (rest : List Queued) → m.cache.queue ≡ q ∷ rest → z.bank_queue ≤ length (bank_at m.banks (q.at % z.banks)).queue
+          → FallsOr m (apply z m Drain).machine ((m.cache.queue ≡ []) ⊎ HasCommand z m)
+      full q rest e l =
+          let b = q.at % z.banks in
+          let within = mod-lt q.at lawful.some_banks in
+          let there : b < length _ = let n = h.banks_are in omega arith in
+          let room = ap (λ t. nat_lt 0 (cond t (z.bank_queue - length (bank_at m.banks b).queue) 0)) (lt-ltb b _ there)
+          ∙ le-ltb 0 _ (omega (arith, l)) in
+          let moved : Stepped = record {
+            answer = Moved;
+            cache = record m.cache { queue = rest };
+            sent = (b, Write _ q.word q.lanes) ∷ [];
+          } in
+          let kept : Stepped = record { answer = Refused BankFull; cache = m.cache; sent = [] } in
+          let same = ap (λ qs. (joined_with m.banks (drain_first z (room_in z.bank_queue m.banks) m.cache qs)).machine) e
+          ∙ ap (λ t. (joined_with m.banks (cond t moved kept)).machine) room in
+          inr (same, inr (b, within, some (bank_at _ b).queue (let k = some_queue z lawful roomy in omega (arith, k, l))))
+        where
+          some : {X : Type 0} (xs : List X) → 0 < length xs → has_items xs ≡ true
+          some [] k = absurd (omega arith)
+          some (x ∷ xs) k = refl
+
+      go : (queue : List Queued) → m.cache.queue ≡ queue → FallsOr m (apply z m Drain).machine ((m.cache.queue ≡ []) ⊎ HasCommand z m)
+      go [] e = inr (ap (λ qs. (joined_with m.banks (drain_first z (room_in z.bank_queue m.banks) m.cache qs)).machine) e, inl e)
+      go (q ∷ rest) e =
+          let waiting = length (bank_at _ (q.at % z.banks)).queue in
+          ⊎_elim (λ l. inl (drain_lowers z lawful roomy m h q rest e l)) (full q rest e) (cases_lt waiting z.bank_queue)
+
+-- ---- a command waits until its bank serves it
+
+-- whether an event is not this bank's serve
+abbrev pub leaves_commands : ℕ → Event → Type 0
+leaves_commands b (Serve k) = b ≡ k → ⊥
+leaves_commands b event = Unit {0}
+
+-- ---- How much the weight may be: what is on its way, counted by the words that registers wait for.
+
+-- ---- sums over the numbers below one
+
+below : ℕ → (ℕ → ℕ) → ℕ
+below zero f = 0
+below (suc n) f = below n f + f n
+
+below-le : (n c : ℕ) (f : ℕ → ℕ) → ((k : ℕ) → f k ≤ c) → below n f ≤ n * c
+unfolding below
+below-le zero c f h = omega arith
+below-le (suc n) c f h = let ih = below-le n c f h in let l = h n in omega arith
+
+below-add : (n : ℕ) (f g : ℕ → ℕ) → below n (λ k. f k + g k) ≡ below n f + below n g
+unfolding below
+below-add zero f g = refl
+below-add (suc n) f g = let ih = below-add n f g in omega arith
+
+below-same : (n : ℕ) (f g : ℕ → ℕ) → ((k : ℕ) → f k ≡ g k) → below n f ≡ below n g
+unfolding below
+below-same zero f g h = refl
+below-same (suc n) f g h = grind arith
+
+below-hit : (n : ℕ) (f : ℕ → ℕ) (k : ℕ) → k < n → 1 ≤ f k → 1 ≤ below n f
+unfolding below
+below-hit zero f k l h = absurd (omega arith)
+below-hit (suc n) f k l h = ⊎_elim (λ e. let h' = rw e at h in omega arith)
+    (λ d. let ih = below-hit n f k (omega arith) h in omega arith) (cases_eq k n)
+
+-- ---- a list whose elements have two numbers each
+
+module _ {X : Type 0} (a b : X → ℕ) where
+  abbrev has_numbers : ℕ → ℕ → X → Bool
+  has_numbers s i x = (a x == s) && (b x == i)
+
+  -- how many elements have these numbers, summed over all that are in range
+  abbrev summed : ℕ → ℕ → List X → ℕ
+  summed n w xs = below n (λ s. below w (λ i. tally (has_numbers s i) xs))
+
+  own : (x : X) → has_numbers (a x) (b x) x ≡ true
+  own x = grind arith
+
+  one_each : (n w : ℕ) (x : X) → a x < n → b x < w → 1 ≤ below n (λ s. below w (λ i. bit (has_numbers s i x)))
+  one_each n w x l k = below-hit n (λ s. below w (λ i. bit _)) (a x) l
+      (below-hit w (λ i. bit _) (b x) k (let e = ap bit (own x) in omega arith))
+
+  length-summed : (n w : ℕ) (xs : List X) → ((x : X) → 1 ≤ tally (has_numbers (a x) (b x)) xs → (a x < n) × (b x < w))
+      → length xs ≤ summed n w xs
+  length-summed n w [] h = omega arith
+  length-summed n w (x ∷ xs) h =
+      let p = h x (let e = ap bit (own x) in omega arith) in
+      let one = one_each n w x p.0 p.1 in
+      let ih = length-summed n w xs (λ y l. h y (omega arith)) in
+      let inner : summed n w (x ∷ xs) ≡ below n
+      (λ s. below w (λ i. bit _) + below w (λ i. tally _ xs)) =
+      below-same n _ _ (λ s. below-add w (λ i. bit _) (λ i. tally _ xs)) in
+      let outer = below-add n (λ s. below w (λ i. bit (has_numbers s i x))) (λ s. below w (λ i. tally (has_numbers s i) xs)) in
+      omega arith
+
+-- ---- words on their way
+
+wanted_in : (z : Sizes) (m : Machine) → IsSound z m → (s i : ℕ) → 1 ≤ wanted z (register_at m.cache s) i
+    → (s < z.regs) × (i < z.block_words)
+wanted_in z m sound s i l =
+    let w = bit-pos _ l in
+    let p = and_parts (register_at m.cache s).valid _ w in
+    let q = and_parts _ _ p.1 in
+    let there = in_range (λ (r : Register). r.valid) free_register _ s refl p.0 in
+    (let n = sound.registers_are in omega arith, ltb-true i _ q.0)
+
+-- at most one for each word of each register
+pub on_their_way : (z : Sizes) (m : Machine) → IsSound z m → length (all_pending m.banks) + length m.cache.stack ≤ z.regs * z.block_words
+on_their_way z m sound =
+    let pend = length-summed (λ (x : BankAnswer). x.slot) (λ (x : BankAnswer). x.i) _ _ (all_pending m.banks)
+    (λ x l. wanted_in z m sound x.slot x.i (let c = sound.counted x.slot x.i in omega arith)) in
+    let stack = length-summed (λ (x : Entry). x.slot) (λ (x : Entry). x.i) _ _ m.cache.stack
+    (λ x l. wanted_in z m sound x.slot x.i (let c = sound.counted x.slot x.i in omega arith)) in
+    let row : (s : ℕ) → below z.block_words (pending_for s) + below z.block_words (entries_for s) ≤ z.block_words =
+    λ s. (let e = below-add z.block_words (pending_for s) (entries_for s) in let l =
+    below-le z.block_words 1 (λ i. pending_for s i + entries_for s i)
+    (λ i. let c = sound.counted s i in let b =
+    bit-le ((register_at m.cache s).valid && (nat_lt i z.block_words && not (field_at m.cache s i).processed)) in omega arith) in
+    omega arith) in
+    let e = below-add z.regs (λ s. below z.block_words (pending_for s)) (λ s. below z.block_words (entries_for s)) in
+    let l = below-le z.regs _ (λ s. below z.block_words (pending_for s) + below z.block_words (entries_for s)) row in
+    omega arith
+  where
+    pending_for : ℕ → ℕ → ℕ
+    pending_for s i = tally (is_for s i) (all_pending m.banks)
+
+    entries_for : ℕ → ℕ → ℕ
+    entries_for s i = tally (is_entry_for s i) m.cache.stack
+
+-- ---- the parts of the weight
+
+commands_weigh : (words : List Word) (queue : List Command)
+    → total command_weight queue ≡ 3 * length (answers_to words queue) + length queue
+commands_weigh words [] = refl
+commands_weigh words (Read slot i place ∷ rest) = let ih = commands_weigh words rest in omega arith
+commands_weigh words (Write place word lanes ∷ rest) = let ih = commands_weigh (stored words place word lanes) rest in omega arith
+
+banks_weigh : (most : ℕ) (banks : List Bank) → ((b : ℕ) → length (bank_at banks b).queue ≤ most)
+    → total bank_weight banks ≤ 3 * length (flat_map pending banks) + length banks * most
+banks_weigh most [] h = omega arith
+banks_weigh most (b ∷ banks) h = grind (arith, h 0, commands_weigh, length-append, banks_weigh most banks (λ k. h (suc k)))
+
+field_weighs : (slot i : ℕ) (f : Field) → field_weight f ≤ length (targets_of_field slot i f) - 1
+field_weighs slot i f = grind (arith, length-map, f.waiting)
+
+fields_weigh : (slot n : ℕ) (fields : List Field) → total field_weight fields ≤ length (gathered (targets_of_field slot) n fields) - 1
+fields_weigh slot n [] = omega arith
+fields_weigh slot n (f ∷ fields) =
+    let ih = fields_weigh slot (suc n) fields in
+    let own = field_weighs slot n f in
+    let k = length-append (targets_of_field slot n f) (gathered (targets_of_field slot) (suc n) fields) in
+    omega arith
+
+register_weighs : (slot : ℕ) (r : Register) → register_weight r ≤ length (targets_of slot r) - 1
+register_weighs slot r = grind (arith, fields_weigh)
+
+-- a load weighs only behind another one
+registers_weigh : (n : ℕ) (registers : List Register) → total register_weight registers ≤ length (gathered targets_of n registers) - 1
+registers_weigh n [] = omega arith
+registers_weigh n (r ∷ registers) =
+    let ih = registers_weigh (suc n) registers in
+    let own = register_weighs n r in
+    let k = length-append (targets_of n r) (gathered targets_of (suc n) registers) in
+    omega arith
+
+tags_count : (c : Cache) → length (tags c) ≡ length c.ready + length (targets c.registers)
+tags_count c = grind (arith, length-append, length-map)
+
+-- where one load waits at most, none weighs
+pub none_behind : (c : Cache) → length (tags c) - length c.ready < 2 → total register_weight c.registers ≡ 0
+unfolding targets
+none_behind c few =
+    let registers = registers_weigh 0 c.registers in
+    let n = tags_count c in
+    omega arith
+
+pub weight_bound : (z : Sizes) (m : Machine) → IsSound z m → IsBounded z m → weight m ≤ most_weight z
+unfolding targets
+weight_bound z m sound bounded =
+    let way = on_their_way z m sound in
+    let banks = banks_weigh _ _ bounded.few_commands in
+    let registers = registers_weigh 0 m.cache.registers in
+    let n = tags_count m.cache in
+    let t = bounded.few_tags in
+    let q = bounded.few_queued in
+    let b = sound.banks_are in
+    let same = ap (λ k. k * z.bank_queue) b in
+    let four : 4 * z.regs * z.block_words ≡ 4 * (z.regs * z.block_words) = mul_assoc 4 _ _ in
+    omega arith

@@ -1,4 +1,2 @@
 pub mod Places
-pub mod Serving
 pub mod Sending
-mod Making

@@ -1,6 +1,6 @@
 -- Each step keeps the registers whole.
-use Rattle.std.proofs.Common.{◌≡◌, ℕ, ◌+◌, ◌<◌, ◌≤◌, ◌==◌, true, false, cond, List, [], ◌∷◌}
-use Rattle.std.proofs.Common.{length, set, replicate, None, refl, ap, sym, ◌∙◌, inl, inr, arith, length-set, length-append}
+use Rattle.std.proofs.Common.{◌≡◌, ℕ, ◌+◌, ◌<◌, ◌≤◌, ◌==◌, true, false, cond, List, [], ◌∷◌, length, set, replicate, None, refl, ap, sym}
+use Rattle.std.proofs.Common.{◌∙◌, inl, inr, arith, length-set, length-append}
 use Rattle.std.specs.List.{count_by}
 use Rattle.std.proofs.lemmas.Bool.{cases_eq, false≢true, both_ways, ne_eqb}
 use Rattle.std.proofs.lemmas.List.{get_or-set_same, get_or-set_other, length-replicate, length-map}
@@ -12,16 +12,13 @@ use Rattle.flat_model.specs.declared.limits.TheConstants.{MAX_BLOCK_WORDS, MAX_R
 use Rattle.flat_model.specs.Words.{no_lanes, joined}
 use Rattle.miss_registers.specs.declared.Owed.{Owed}
 use Rattle.miss_registers.specs.declared.TheConstants.{MAX_WAITING}
-use Rattle.miss_registers.specs.Registers.{Field, Register, free_register, clear_field, register_at, field_of, with_field, is_live}
-use Rattle.miss_registers.specs.Registers.{is_done, live_for, awaited, noted, marked, finished, finished_field}
-use Rattle.miss_registers.specs.Registers.{made_obsolete, without_code, fresh, expects, tags_of, tags_of_field, waiting_tags, tag_waits}
+use Rattle.miss_registers.specs.Registers.{Field, Register, free_register, clear_field, register_at, field_of, with_field, is_live, is_done}
+use Rattle.miss_registers.specs.Registers.{live_for, awaited, noted, marked, finished, finished_field, made_obsolete, without_code, fresh}
+use Rattle.miss_registers.specs.Registers.{expects, tags_of, tags_of_field, waiting_tags, tag_waits}
 use Rattle.miss_registers.specs.Whole.{IsWholeRegister, IsWhole}
-use Rattle.miss_registers.proofs.Each.{set-each, replicate-each}
+use Rattle.miss_registers.proofs.Tags.{set-each, replicate-each, in_stack_there, expects-parts, none_counted, Changes, same_loads-changes}
+use Rattle.miss_registers.proofs.Tags.{fresh-changes, obsolete-changes, awaited-changes, finished-changes, file-changes, waiting_tags-new}
 use Rattle.miss_registers.proofs.Places.{live_for-missing}
-use Rattle.miss_registers.proofs.Words.{in_stack_there, expects-parts}
-use Rattle.miss_registers.proofs.Tags.{none_counted, Changes}
-use Rattle.miss_registers.proofs.Counts.{same_loads-changes, fresh-changes, obsolete-changes, awaited-changes}
-use Rattle.miss_registers.proofs.Counts.{finished-changes, file-changes, waiting_tags-new}
 
 -- ---- a register
 
@@ -107,8 +104,7 @@ obsolete_not_live r = grind arith
 
 -- no other live register stands for the block of this one
 abbrev IsAlone : List Register → ℕ → Register → Type 0
-IsAlone rs slot r =
-    (k : ℕ) → (k ≡ slot → ⊥) → is_live r ≡ true → is_live (register_at rs k) ≡ true → r.block ≡ (register_at rs k).block → ⊥
+IsAlone rs slot r = (k : ℕ) → (k ≡ slot → ⊥) → is_live r ≡ true → is_live (register_at rs k) ≡ true → r.block ≡ (register_at rs k).block → ⊥
 
 stays_alone : (words regs : ℕ) (rs : List Register) (slot : ℕ) (r : Register) → IsWhole words regs rs → StaysLive (register_at rs slot) r
     → IsAlone rs slot r
@@ -117,13 +113,11 @@ stays_alone words regs rs slot r h stays k n a b s = grind arith
 -- a register is another, which lost these tags and got those
 set-kept : (words regs : ℕ) (rs : List Register) (slot : ℕ) (r : Register) (gone come : List ℕ) → IsWhole words regs rs → slot < length rs
     → IsWholeRegister words r → IsAlone rs slot r → Changes (tags_of (register_at rs slot)) (tags_of r) gone come
-    → ((tag : ℕ) → count_by (λ t. t == tag) (waiting_tags rs) + count_by (λ t. t == tag) come ≤ 1)
-    → IsWhole words regs (set rs slot r)
+    → ((tag : ℕ) → count_by (λ t. t == tag) (waiting_tags rs) + count_by (λ t. t == tag) come ≤ 1) → IsWhole words regs (set rs slot r)
 set-kept words regs rs slot r gone come h p w alone changes once =
     let all = file-changes rs slot r gone come p changes in
     let here : register_at _ slot ≡ r = get_or-set_same rs slot r free_register p in
-    let there : (k : ℕ) → (k ≡ slot → ⊥) → register_at _ k ≡ register_at rs k =
-    λ k n. get_or-set_other rs slot k r free_register n in
+    let there : (k : ℕ) → (k ≡ slot → ⊥) → register_at _ k ≡ register_at rs k = λ k n. get_or-set_other rs slot k r free_register n in
     record {
       registers_there = length-set rs slot r ∙ h.registers_there;
       some_register = h.some_register;
@@ -157,8 +151,7 @@ same_loads-kept words regs rs slot i f whole p v t u c e =
 -- ---- each step
 
 pub marked-kept : (words regs : ℕ) (rs : List Register) (slot i : ℕ) → IsWhole words regs rs → slot < length rs
-    → expects (register_at rs slot) i ≡ true
-    → IsWhole words regs (set rs slot (marked (register_at rs slot) i))
+    → expects (register_at rs slot) i ≡ true → IsWhole words regs (set rs slot (marked (register_at rs slot) i))
 unfolding marked
 marked-kept words regs rs slot i whole p x =
     let r = register_at rs slot in
@@ -177,8 +170,7 @@ noted-kept words regs rs slot i lanes whole p l t u =
     same_loads-kept words regs rs slot i f whole p q.0 t u (λ o. absurd (both_ways r.obsolete q.1 o)) refl
 
 pub obsolete-kept : (words regs : ℕ) (rs : List Register) (slot : ℕ) → IsWhole words regs rs → slot < length rs
-    → is_live (register_at rs slot) ≡ true
-    → IsWhole words regs (set rs slot (made_obsolete (register_at rs slot)))
+    → is_live (register_at rs slot) ≡ true → IsWhole words regs (set rs slot (made_obsolete (register_at rs slot)))
 obsolete-kept words regs rs slot h p l =
     let r = register_at rs slot in
     let w = obsolete-whole words r (h.each slot) (live-parts r l).0 in
@@ -194,8 +186,7 @@ awaited-kept words regs rs slot i owed h p l x room new =
     let e = expects-parts r i x in
     let w = awaited-whole words r i owed (h.each slot) e.valid e.there e.unprocessed room in
     let alone = stays_alone words regs rs slot (awaited r i owed) h (awaited-live r i owed) in
-    let changes = awaited-changes r i owed e.there in
-    set-kept words regs rs slot _ [] (owed.tag ∷ []) h p w alone changes once
+    set-kept words regs rs slot _ [] (owed.tag ∷ []) h p w alone (awaited-changes r i owed e.there) once
   where
     once : (tag : ℕ) → count_by (λ t. t == tag) (waiting_tags rs) + count_by (λ t. t == tag) (owed.tag ∷ []) ≤ 1
     once tag = elim (cases_eq owed.tag tag) [
@@ -209,15 +200,13 @@ awaited-kept words regs rs slot i owed h p l x room new =
     ]
 
 pub finished-kept : (words regs : ℕ) (rs : List Register) (slot i : ℕ) → IsWhole words regs rs → slot < length rs
-    → (field_of (register_at rs slot) i).in_stack ≡ true
-    → IsWhole words regs (set rs slot (finished (register_at rs slot) i))
+    → (field_of (register_at rs slot) i).in_stack ≡ true → IsWhole words regs (set rs slot (finished (register_at rs slot) i))
 finished-kept words regs rs slot i h p s =
     let r = register_at rs slot in
     let each = h.each slot in
     let there = in_stack_there r i s in
     let w = finished-whole words r i each (in_stack-valid words r i each s) there in
-    let changes = finished-changes r i each.done there in
-    lost-kept words regs rs slot _ (tags_of_field (field_of r i)) h p w (finished-live r i) changes
+    lost-kept words regs rs slot _ (tags_of_field (field_of r i)) h p w (finished-live r i) (finished-changes r i each.done there)
 
 fresh-alone : (rs : List Register) (slot words block frame : ℕ) → live_for rs block ≡ None → IsAlone rs slot (fresh words block frame)
 unfolding fresh

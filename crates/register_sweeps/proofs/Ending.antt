@@ -20,7 +20,10 @@ use Rattle.std.proofs.lemmas.Bool.{and_parts, true≢false as no}
 use Rattle.machine_core.specs.AnyMachine.{answered, after_event, after_some, pump_tells, pump_leaves, weight_of}
 use Rattle.machine_core.specs.Pump.{pumped, weight, when, first_event, has_items, lowest}
 use Rattle.machine_core.specs.Sound.{IsSound, IsBounded}
-use Rattle.machine_core.proofs.Contract.{sound_apply, bounded_apply, flat_apply, pumped_lowers, pumped_rests, pumped_at_rest, bound_at_rest}
+use Rattle.machine_core.proofs.Walking.{sound_apply, flat_apply}
+use Rattle.machine_core.proofs.Routing.{bounded_apply}
+use Rattle.machine_core.proofs.Weighing.{pumped_lowers, pumped_rests, pumped_at_rest}
+use Rattle.machine_core.proofs.Whole.{bound_at_rest}
 use Rattle.round_driver.specs.Rounds.{is_end}
 use Rattle.round_driver.specs.Walks.{is_request}
 use Rattle.round_driver.proofs.Requests.{request_stays, request_ends}

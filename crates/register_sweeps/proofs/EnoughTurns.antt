@@ -7,8 +7,9 @@ use Rattle.machine_core.specs.Machine.{MachineState}
 use Rattle.machine_core.specs.AnyMachine.{answered, after_event, after_some, pump_leaves, weight_of}
 use Rattle.machine_core.specs.Pump.{pumped, weight}
 use Rattle.machine_core.specs.Whole.{IsWholeState}
-use Rattle.machine_core.proofs.Contract.{sound_apply, bounded_apply, served_after_pumps}
-use Rattle.machine_core.proofs.Whole.{lawful, roomy}
+use Rattle.machine_core.proofs.Walking.{sound_apply}
+use Rattle.machine_core.proofs.Routing.{bounded_apply}
+use Rattle.machine_core.proofs.Whole.{served_after_pumps, lawful, roomy}
 use Rattle.round_driver.specs.Rounds.{is_end}
 use Rattle.round_driver.specs.Walks.{is_request}
 use Rattle.register_sweeps.specs.Sweep.{Course, pump_and_wait, ask, ends, ask_again}

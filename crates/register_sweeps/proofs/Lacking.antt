@@ -21,7 +21,7 @@ use Rattle.cache_unit.specs.declared.Sizes.{Sizes}
 use Rattle.cache_unit.specs.State.{Cache, Register, free_register, register_at, frame_at, live_for, is_present, is_pending_block}
 use Rattle.cache_unit.specs.State.{is_pending, block_of, place_in, order_of}
 use Rattle.miss_registers.specs.Registers.{marked}
-use Rattle.cache_unit.proofs.Marks.{live-marked}
+use Rattle.cache_unit.proofs.FormsEvents.{live-marked}
 use Rattle.cache_unit.specs.Causes.{first_cause, miss_causes, choose, is_resident_block, ways_of, lacks_places, targets_full, found}
 use Rattle.cache_unit.specs.Causes.{load_cause, store_cause, prefetch_cause, arrive_cause}
 use Rattle.cache_unit.specs.Steps.{Stepped, unless, load_step, store_step, prefetch_step, take_step, take_reply, arrived}

@@ -9,9 +9,9 @@ use Rattle.shape_files.specs.MachineFile.{bad_machine}
 use Rattle.shape_files.proofs.Fits.{at_run_time}
 use Rattle.cache_unit.specs.Sound.{InRange}
 use Rattle.cache_unit.specs.declared.Sizes.{Sizes}
-use Rattle.cache_unit.proofs.Numbers as numbers
-use Rattle.machine_core.proofs.Contract.{sound_opening, bounded_opening, flat_opening}
-use Rattle.machine_core.proofs.Whole.{lawful, roomy}
+use Rattle.cache_unit.proofs.Made as numbers
+use Rattle.machine_core.proofs.Requests.{sound_opening, flat_opening}
+use Rattle.machine_core.proofs.Whole.{bounded_opening, lawful, roomy}
 use Rattle.round_driver.specs.Walks.{is_request}
 use Rattle.register_sweeps.specs.declared.row.Row.{Row}
 use Rattle.register_sweeps.specs.declared.sweeps.SweepFault.{SweepFault}

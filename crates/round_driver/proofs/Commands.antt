@@ -13,7 +13,7 @@ use Rattle.cache_unit.specs.Causes.{arrive_cause}
 use Rattle.cache_unit.specs.Steps.{load_step, store_step, prefetch_step, evict_step, drain_step, process_step, take_step}
 use Rattle.memory_banks.specs.Memory.{without_answer}
 use Rattle.machine_core.specs.Machine.{Machine, apply, serve_from, arrive_from, take_in}
-use Rattle.machine_core.proofs.Moving.{leaves_commands}
+use Rattle.machine_core.proofs.Weighing.{leaves_commands}
 
 -- at least n commands wait at a bank
 abbrev pub HasCommands : ℕ → Bank → Type 0

@@ -15,11 +15,8 @@ use Rattle.machine_core.specs.Pump.{weight}
 use Rattle.machine_core.specs.Law.{ServesRequests, most_weight}
 use Rattle.machine_core.specs.Whole.{IsWholeState}
 use Rattle.machine_core.specs.AnyMachine.{answered, after_event, weight_of}
-use Rattle.machine_core.proofs.Contract.{bound_at_rest}
-use Rattle.machine_core.proofs.Whole.{lawful, roomy}
-use Rattle.machine_core.proofs.Counting.{weight_bound}
-use Rattle.machine_core.proofs.Weighing.{rests_or_waits}
-use Rattle.machine_core.proofs.Moving.{HasCommand, leaves_commands}
+use Rattle.machine_core.proofs.Whole.{bound_at_rest, lawful, roomy}
+use Rattle.machine_core.proofs.Weighing.{weight_bound, rests_or_waits, HasCommand, leaves_commands}
 use Rattle.round_driver.specs.Rounds.{Course, course, Run, is_end, ends, begun_at, first_begun, next_round, moves, ask, asked, after_round}
 use Rattle.round_driver.specs.Rounds.{is_empty, is_over, rounds_until_over, opening, start_of, most_moves, most_rounds, whole_run}
 use Rattle.round_driver.specs.Walks.{is_request, RequestsEnd}

@@ -15,10 +15,11 @@ use Rattle.machine_core.specs.Pump.{weight, has_items}
 use Rattle.machine_core.specs.Law.{IsLawful, HasRoom}
 use Rattle.machine_core.specs.Whole.{IsWholeState}
 use Rattle.machine_core.specs.AnyMachine.{after_event}
-use Rattle.machine_core.proofs.Contract.{sound_apply, bounded_apply}
+use Rattle.machine_core.proofs.Walking.{sound_apply}
+use Rattle.machine_core.proofs.Routing.{bounded_apply}
 use Rattle.machine_core.proofs.Whole.{lawful, roomy}
 use Rattle.machine_core.proofs.Weighing.{arrive_lowers}
-use Rattle.machine_core.proofs.Moving.{FallsOr, HasCommand, take_falls, process_falls, serve_falls, drain_falls, leaves_commands}
+use Rattle.machine_core.proofs.Weighing.{FallsOr, HasCommand, take_falls, process_falls, serve_falls, drain_falls, leaves_commands}
 use Rattle.round_driver.specs.declared.schedule.Schedule.{Schedule}
 use Rattle.round_driver.specs.Machines.{command_count, has_answer, has_stack_room}
 use Rattle.round_driver.specs.Rounds.{Course, scheduled, begun_at, with_begun, first_begun, is_free_since, is_free, with_begin}

@@ -15,7 +15,7 @@ use Rattle.cache_unit.specs.declared.Sizes.{Sizes}
 use Rattle.cache_unit.specs.State.{Cache}
 use Rattle.cache_unit.specs.Steps.{Stepped, unless, reads, fetches, load_step, store_step, prefetch_step, drain_step}
 use Rattle.cache_unit.specs.Steps.{arrive_step}
-use Rattle.machine_core.proofs.Stepping.{evict_silent, process_silent, take_silent}
+use Rattle.machine_core.proofs.Whole.{evict_silent, process_silent, take_silent}
 use Rattle.station_journal.specs.declared.journal.Entry.{Entry}
 use Rattle.station_journal.specs.declared.journal.Entry.TheVariants.{Step, Ended}
 use Rattle.station_journal.specs.Journal.{Stand, Brings, step, is_full, after_entry, Walks}

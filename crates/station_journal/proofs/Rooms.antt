@@ -11,7 +11,7 @@ use Rattle.cache_unit.specs.State.{Cache, block_of, place_in, first_of}
 use Rattle.cache_unit.specs.Causes.{addresses, lacks_room}
 use Rattle.cache_unit.specs.Causes.{load_cause, store_cause, prefetch_cause}
 use Rattle.cache_unit.specs.Steps.{load_step, store_step, prefetch_step, drain_step, unless, written, fetched, fetches}
-use Rattle.machine_core.proofs.Resting.{spread_evenly, any_false}
+use Rattle.machine_core.proofs.Whole.{spread_evenly, any_false}
 use Rattle.station_journal.specs.Journal.{ample}
 
 -- ---- rooms in which no block is too large

@@ -8,7 +8,7 @@ use Rattle.memory_banks.specs.declared.Command.{Command}
 use Rattle.memory_banks.specs.Banks.{Bank, no_bank, bank_at, words_after, pending, served}
 use Rattle.cache_unit.specs.declared.Sizes.{Sizes}
 use Rattle.machine_core.specs.Machine.{Machine, apply, serve_from, flat_of}
-use Rattle.machine_core.proofs.Serving.{served-pending}
+use Rattle.machine_core.proofs.Walking.{served-pending}
 use Rattle.station_journal.proofs.FlatFrom.{FlatFrom, flat_event, flat_from_next, some_same}
 
 -- a bank that has served all that waits

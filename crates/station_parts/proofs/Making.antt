@@ -24,7 +24,7 @@ use Rattle.cache_unit.specs.declared.Sizes.{Sizes}
 use Rattle.cache_unit.specs.State.{UnitState, opening_cache}
 use Rattle.cache_unit.specs.Sound.{InRange}
 use Rattle.cache_unit.specs.Limits as limits
-use Rattle.cache_unit.proofs.Numbers.{in_range}
+use Rattle.cache_unit.proofs.Made.{in_range}
 use Rattle.station_journal.specs.Journal.{opening_stand}
 use Rattle.station_journal.specs.Side.{SideTells}
 use Rattle.station_journal.specs.declared.asks.Ask.{Ask}

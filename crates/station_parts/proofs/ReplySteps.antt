@@ -10,7 +10,7 @@ use Rattle.memory_banks.specs.declared.BankAnswer.{BankAnswer}
 use Rattle.cache_unit.specs.State.{Cache, UnitState}
 use Rattle.cache_unit.specs.Steps.{take_step}
 use Rattle.cache_unit.specs.Views.{reply_view}
-use Rattle.machine_core.proofs.Stepping.{take_silent}
+use Rattle.machine_core.proofs.Whole.{take_silent}
 use Rattle.station_journal.specs.declared.journal.Source.TheVariants as sources
 use Rattle.station_journal.specs.declared.journal.Entry.{Entry}
 use Rattle.station_journal.specs.declared.journal.Entry.TheVariants.{Step}

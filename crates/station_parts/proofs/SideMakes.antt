@@ -21,7 +21,7 @@ use Rattle.cache_unit.specs.Views.{is_empty, reply_view}
 use Rattle.cache_unit.specs.Steps as unit
 use Rattle.cache_unit.specs.SoundCache.{IsSoundCache}
 use Rattle.cache_unit.specs.declared.Request.TheVariants as requests
-use Rattle.cache_unit.proofs.UnitForms.{each_step}
+use Rattle.cache_unit.proofs.Requesting.{each_step}
 use Rattle.station_journal.specs.declared.asks.Ask.{Ask}
 use Rattle.station_journal.specs.declared.asks.Ask.TheVariants.{Load, Store, Prefetch, Evict, Done}
 use Rattle.station_journal.specs.declared.journal.Source.{Source}

@@ -1,7 +1,6 @@
 use Rattle.std.proofs.Common.{length, set, ap, ap₂, ◌∙◌, arith, length-set}
 use Rattle.cache_directory.specs.Frames.{frame_at, with_frame, filled}
-use Rattle.miss_registers.specs.Registers.{register_at, field_of, is_live, noted}
-use Rattle.miss_registers.specs.Registers.{clear_field}
+use Rattle.miss_registers.specs.Registers.{register_at, field_of, is_live, noted, clear_field}
 use Rattle.cache_unit.proofs.Begins.{begun-length, frame_first, register_first, frame_next, register_next, register_now, field_waits}
 use Rattle.cache_unit.proofs.Begins.{frame_whole, register_whole}
 use Rattle.cache_unit.proofs.begin.begin_words.Goals as goal
@@ -47,9 +46,7 @@ loop-i-preserved c =
     )
 
 pub returns-clause-directory : goal.returns-clause-directory
-returns-clause-directory c =
-    c.loop-i.invariant.0 ∙ ap (λ f. with_frame c.args.directory.now c.args.frame f)
-    (frame_whole _ c.args.queue.now.entries _ c.loop-i.i (omega arith))
+returns-clause-directory c = grind (arith, c.args.directory.now, c.args.frame, frame_whole, c.args.queue.now.entries, c.loop-i.i)
 
 pub returns-clause-registers : goal.returns-clause-registers
 returns-clause-registers c =

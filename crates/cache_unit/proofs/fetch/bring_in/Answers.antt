@@ -1,38 +1,34 @@
 use Rattle.std.proofs.Common.{◌<◌, length, sym, ap, ◌∙◌, subst, length-set}
 use Rattle.std.proofs.lemmas.List.{get_or-set_same}
-use Rattle.cache_directory.specs.Frames as dir
 use Rattle.cache_directory.proofs.Misses.{MayInstall, installed-here}
+use Rattle.cache_unit.proofs.Choosing.{given_may_install, installed_frames}
+use Rattle.cache_directory.specs.Frames as dir
 use Rattle.miss_registers.specs.Registers as regs
-use Rattle.cache_unit.proofs.Giving.{given_may_install, installed_frames}
 use Rattle.cache_unit.proofs.fetch.bring_in.Goals as goal
 
 pub install-requires : goal.install-requires
 install-requires g c =
-    let d = c.args.directory.now in
     let f = c.args.places.frame in
-    let m = given_may_install _ _ d f _ c.requires.whole c.requires.absent c.requires.frame c.requires.of_set in
-    let given = sym c.vacate.ensures.directory in
+    let m = given_may_install _ _ c.args.directory.now f _ c.requires.whole c.requires.absent c.requires.frame c.requires.of_set in
     let P : dir.Frames → Type 0 = λ x. MayInstall c.args.sizes.now.ways x f c.args.block in
-    let n = subst P given m in
+    let n = subst P (sym c.vacate.ensures.directory) m in
     record { whole = c.vacate.ensures.whole; frame = n.there; free = n.free; of_set = n.of_set; absent = n.absent }
 
 pub allocate-requires : goal.allocate-requires
-allocate-requires g c =
-    record {
-      few_words = c.requires.whole_file.few_words;
-      slot = c.requires.slot;
-      free = (c.requires.whole_file.each _).free c.requires.free;
-      absent = c.requires.no_live;
-    }
+allocate-requires g c = record {
+  few_words = c.requires.whole_file.few_words;
+  slot = c.requires.slot;
+  free = (c.requires.whole_file.each _).free c.requires.free;
+  absent = c.requires.no_live;
+}
 
 pub begin_words-requires : goal.begin_words-requires
 begin_words-requires g c =
-    let d = c.args.directory.now in
     let f = c.args.places.frame in
     let slot = c.args.places.slot in
     let rs = c.args.registers.now in
     let given = c.vacate.new.directory in
-    let m = given_may_install _ _ d f _ c.requires.whole c.requires.absent c.requires.frame c.requires.of_set in
+    let m = given_may_install _ _ c.args.directory.now f _ c.requires.whole c.requires.absent c.requires.frame c.requires.of_set in
     let P : dir.Frames → Type 0 = λ x. MayInstall c.args.sizes.now.ways x f c.args.block in
     let n = subst P (sym c.vacate.ensures.directory) m in
     let there : f < length _ = rw (sym (ap (λ x. length x.frames) c.install.ensures.installed ∙ installed_frames _ _ given f _)) at

@@ -1,7 +1,7 @@
-use Rattle.std.proofs.Common.{◌%◌, ◌==◌, nat_lt, length, sym, ap, ◌∙◌, arith, below_more}
+use Rattle.std.proofs.Common.{◌%◌, ◌==◌, nat_lt, length, sym, ap, ◌∙◌, arith}
 use Rattle.std.specs.List.{filter}
 use Rattle.cache_unit.specs.Reads.{is_short}
-use Rattle.cache_unit.proofs.Ranges.{any_found, none_found}
+use Rattle.cache_unit.proofs.Fetching.{any_found, none_found}
 use Rattle.cache_unit.proofs.reads.lacks_room.Goals as goal
 
 pub returns-then-is_short : goal.returns-then-is_short
@@ -12,11 +12,7 @@ returns-then-is_short g c =
     ∙ c.if-is_short.true))
 
 pub loop-bank-preserved : goal.loop-bank-preserved
-loop-bank-preserved g c =
-    let share = length (filter (λ at. at % c.args.banks == c.loop-bank.bank) _) in
-    below_more _ _ c.loop-bank.invariant (ap (λ r. nat_lt r share) (sym c.room.ensures) ∙ sym c.is_short.ensures ∙ c.if-is_short.false)
+loop-bank-preserved g c = grind arith
 
 pub returns : goal.returns
-returns g c =
-    let p = is_short _ _ _ _ in
-    sym (none_found p _ (λ k h. c.loop-bank.invariant k (omega arith)))
+returns g c = grind (arith, none_found, c.loop-bank.invariant)

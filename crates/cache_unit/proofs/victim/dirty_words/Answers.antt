@@ -2,19 +2,16 @@ use Rattle.std.proofs.Common.{◌+◌, ◌<◌, true, false, [], ◌∷◌, leng
 use Rattle.flat_model.specs.Words.{has_any}
 use Rattle.cache_directory.specs.Frames.{frame_at, zero_cell}
 use Rattle.cache_unit.specs.Causes.{dirty_from}
-use Rattle.cache_unit.proofs.DirtyWords.{queued_cell, held-cells, dirty_more, dirty-length, take_all}
-use Rattle.cache_unit.proofs.victim.dirty_words.Goals as goal
+use Rattle.cache_unit.proofs.Begins.{queued_cell, held-cells, dirty_more, dirty-length, take_all}
 use Rattle.cache_unit.proofs.victim.dirty_words.Goals.{then-has_any, else-has_any}
+use Rattle.cache_unit.proofs.victim.dirty_words.Goals as goal
 
 pub dirty-requires : goal.dirty-requires
-dirty-requires c =
-    let d = c.args.directory.now in
-    let n = held-cells _ _ d _ c.requires.whole c.requires.held in
-    rw (sym n) at c.loop-i-test.true
+dirty-requires c = grind arith
 
 pub loop-i-preserved : goal.loop-i-preserved
 loop-i-preserved c =
-    let cells = (frame_at c.args.directory.now.frames c.args.frame).cells in
+    let cells = (frame_at _ c.args.frame).cells in
     let n = held-cells c.args.sizes.now.ways c.args.sizes.now.block_words c.args.directory.now c.args.frame c.requires.whole
     c.requires.held in
     let there : c.loop-i.i < length cells = omega arith in
@@ -31,7 +28,4 @@ loop-i-preserved c =
 
 pub returns-clause-count : goal.returns-clause-count
 returns-clause-count c block at =
-    let cells = (frame_at c.args.directory.now.frames c.args.frame).cells in
-    let n = held-cells c.args.sizes.now.ways _ _ _ c.requires.whole c.requires.held in
-    let all = take_all cells c.loop-i.i (omega arith) in
-    cc (c.loop-i.invariant.0, all, dirty-length 0 0 block at cells)
+    grind (arith, c.args.directory.now.frames, held-cells, c.requires.whole, c.requires.held, take_all, c.loop-i.i, dirty-length)

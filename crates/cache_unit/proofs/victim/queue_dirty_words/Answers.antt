@@ -3,25 +3,19 @@ use Rattle.flat_model.specs.Words.{has_any, zero_word}
 use Rattle.cache_directory.specs.Frames.{frame_at}
 use Rattle.write_queue.specs.Queue.{queue as queue_of}
 use Rattle.cache_unit.specs.Causes.{dirty_from}
-use Rattle.cache_unit.proofs.DirtyWords.{queue_one_more, held-cells, dirty_more, dirty_within, take_all}
-use Rattle.cache_unit.proofs.victim.queue_dirty_words.Goals as goal
+use Rattle.cache_unit.proofs.Begins.{queue_one_more, held-cells, dirty_more, dirty_within, take_all}
 use Rattle.cache_unit.proofs.victim.queue_dirty_words.Goals.{then-has_any, else-has_any}
+use Rattle.cache_unit.proofs.victim.queue_dirty_words.Goals as goal
 
 pub dirty-lanes-requires : goal.dirty-lanes-requires
-dirty-lanes-requires c =
-    let d = c.args.directory.now in
-    let n = held-cells _ _ d _ c.requires.whole c.requires.held in
-    rw (sym n) at c.loop-i-test.true
+dirty-lanes-requires c = grind arith
 
 pub word-requires : goal.word-requires
-word-requires c =
-    let d = c.args.directory.now in
-    let n = held-cells _ _ d _ c.requires.whole c.requires.held in
-    rw (sym n) at c.loop-i-test.true
+word-requires c = grind arith
 
 pub push-requires : goal.push-requires
 push-requires c =
-    let cells = (frame_at c.args.directory.now.frames c.args.frame).cells in
+    let cells = (frame_at _ c.args.frame).cells in
     let block = c.args.block in
     let first = c.args.block * c.args.sizes.now.block_words in
     let n = held-cells c.args.sizes.now.ways c.args.sizes.now.block_words _ _ c.requires.whole c.requires.held in
@@ -36,7 +30,7 @@ push-requires c =
 
 pub loop-i-preserved : goal.loop-i-preserved
 loop-i-preserved c =
-    let cells = (frame_at c.args.directory.now.frames c.args.frame).cells in
+    let cells = (frame_at _ c.args.frame).cells in
     let block = c.args.block in
     let first = c.args.block * c.args.sizes.now.block_words in
     let old = c.args.queue.now in
@@ -56,8 +50,4 @@ loop-i-preserved c =
     ]
 
 pub returns : goal.returns
-returns c =
-    let cells = (frame_at c.args.directory.now.frames c.args.frame).cells in
-    let n = held-cells c.args.sizes.now.ways _ _ _ c.requires.whole c.requires.held in
-    let all = take_all cells c.loop-i.i (omega arith) in
-    cc (c.loop-i.invariant, all)
+returns c = grind (arith, c.args.directory.now.frames, held-cells, c.requires.whole, c.requires.held, take_all, c.loop-i.i)

@@ -5,6 +5,5 @@ use Rattle.cache_unit.specs.Causes.{dirty_from}
 use Rattle.cache_unit.proofs.victim.queue_dirty_words.Given as goal
 
 abbrev pub invariant-loop-i : goal.invariant-loop-i
-invariant-loop-i l =
-    l.queue ≡ queue_of (l.fn.queue.entries ++ dirty_from l.block (l.block * l.fn.sizes.block_words)
+invariant-loop-i l = l.queue ≡ queue_of (l.fn.queue.entries ++ dirty_from l.block (l.block * l.fn.sizes.block_words)
     (take l.i (frame_at l.directory.frames l.frame).cells)) l.fn.queue.limit

@@ -1,4 +1,4 @@
-use Rattle.machine_core.proofs.Resting.{requests_are_served}
+use Rattle.machine_core.proofs.Whole.{requests_are_served}
 use Rattle.machine_core.proofs.laws.requests_are_served.Goals as goal
 
 pub returns : goal.returns

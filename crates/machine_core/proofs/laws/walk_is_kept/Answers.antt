@@ -1,4 +1,4 @@
-use Rattle.machine_core.proofs.Keeping.{walk_is_kept}
+use Rattle.machine_core.proofs.Whole.{walk_is_kept}
 use Rattle.machine_core.proofs.laws.walk_is_kept.Goals as goal
 
 pub returns : goal.returns

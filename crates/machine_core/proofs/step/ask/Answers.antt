@@ -1,5 +1,5 @@
 use Rattle.cache_unit.specs.Steps.{request_step}
-use Rattle.machine_core.proofs.Stepping.{joins}
+use Rattle.machine_core.proofs.Whole.{joins}
 use Rattle.machine_core.proofs.step.ask.Goals as goal
 
 pub returns : goal.returns

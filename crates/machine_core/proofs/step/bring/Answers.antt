@@ -1,5 +1,5 @@
 use Rattle.std.proofs.Common.{sym, ◌∙◌}
-use Rattle.machine_core.proofs.Stepping.{brought, left}
+use Rattle.machine_core.proofs.Whole.{brought, left}
 use Rattle.machine_core.proofs.step.bring.Goals as goal
 
 pub returns-in-Moved : goal.returns-in-Moved

@@ -1,4 +1,4 @@
-use Rattle.machine_core.proofs.Stepping.{evict_silent, process_silent, take_silent, joins_silent, of_event}
+use Rattle.machine_core.proofs.Whole.{evict_silent, process_silent, take_silent, joins_silent, of_event}
 use Rattle.machine_core.proofs.step.step.Goals as goal
 
 pub returns-in-Evict : goal.returns-in-Evict

@@ -1,6 +1,6 @@
 use Rattle.std.proofs.Common.{arith}
 use Rattle.std.proofs.lemmas.List.{take_more}
-use Rattle.machine_core.proofs.Stepping.{walk_told, walk_unit, walk_banks}
+use Rattle.machine_core.proofs.Whole.{walk_told, walk_unit, walk_banks}
 use Rattle.machine_core.proofs.step.walk.Goals as goal
 
 pub loop-event-preserved : goal.loop-event-preserved

@@ -1,7 +1,7 @@
 use Rattle.std.proofs.Common.{◌+◌, ap, arith}
 use Rattle.memory_banks.specs.Banks.{no_bank}
 use Rattle.machine_core.specs.Pump.{bank_weight}
-use Rattle.machine_core.proofs.Totals.{total_more}
+use Rattle.machine_core.proofs.Weighing.{total_more}
 use Rattle.machine_core.proofs.weigh.weight_of_banks.Goals as goal
 
 pub loop-bank-preserved : goal.loop-bank-preserved

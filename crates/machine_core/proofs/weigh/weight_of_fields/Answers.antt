@@ -2,7 +2,7 @@ use Rattle.std.proofs.Common.{◌+◌, ap, arith}
 use Rattle.cache_unit.specs.declared.Sizes.{Sizes}
 use Rattle.cache_unit.specs.State.{register_at, clear_field}
 use Rattle.machine_core.specs.Pump.{field_weight}
-use Rattle.machine_core.proofs.Totals.{total_more}
+use Rattle.machine_core.proofs.Weighing.{total_more}
 use Rattle.machine_core.proofs.weigh.weight_of_fields.Goals as goal
 
 pub loop-i-preserved : goal.loop-i-preserved

@@ -1,6 +1,6 @@
 use Rattle.std.proofs.Common.{◌+◌, ◌*◌}
 use Rattle.flat_model.specs.Flat.{word_at}
-use Rattle.memory_banks.proofs.Making.{one_more}
+use Rattle.memory_banks.proofs.Sending.{one_more}
 use Rattle.memory_banks.proofs.bank.share.Goals as goal
 
 pub loop-k-preserved : goal.loop-k-preserved

@@ -1,4 +1,4 @@
-use Rattle.memory_banks.proofs.Making.{one_more_bank}
+use Rattle.memory_banks.proofs.Sending.{one_more_bank}
 use Rattle.memory_banks.proofs.memory.opening_banks.Goals as goal
 
 pub loop-bank-preserved : goal.loop-bank-preserved

@@ -1,6 +1,6 @@
 use Rattle.std.proofs.Common.{◌++◌, ◌+◌, length, sym, ap, subst, ◌∙◌, append-nil, add-zero}
 use Rattle.memory_banks.specs.Banks.{commands_for}
-use Rattle.machine_core.proofs.Stepping.{evict_silent}
+use Rattle.machine_core.proofs.Whole.{evict_silent}
 use Rattle.cache_unit.specs.Makes.{Makes}
 use Rattle.cache_unit.specs.Steps.{Stepped}
 use Rattle.station_journal.specs.declared.asks.Ask.{Ask}

@@ -11,6 +11,5 @@ returns-clause-whole c =
 pub push-requires : goal.push-requires
 push-requires c =
     let q = c.requires in
-    let inside = whole_inside _ _ _ _ c.self.view_is q.whole in
     let may = may_install _ _ _ _ _ c.self.view_is q.frame q.free q.of_set q.absent in
-    install_room _ _ _ _ _ _ inside may c.index_mut-order.ensures.value
+    install_room _ _ _ _ _ _ (whole_inside _ _ _ _ c.self.view_is q.whole) may c.index_mut-order.ensures.value

@@ -1,9 +1,9 @@
-use Rattle.std.proofs.Common.{suc, List, [], ◌∷◌, drop, ap, ◌∙◌, arith, rules}
+use Rattle.std.proofs.Common.{suc, List, [], ◌∷◌, drop, arith, rules}
 use Rattle.write_queue.specs.declared.Queued.{Queued}
 use Rattle.cache_unit.specs.Sound.{QueueSound}
 use Rattle.cache_unit.specs.declared.Sizes.{Sizes}
 use Rattle.cache_unit.specs.Steps.{drain_step}
-use Rattle.cache_unit.proofs.Making.{sound_of}
+use Rattle.cache_unit.proofs.Fetching.{sound_of}
 use Rattle.cache_unit.proofs.unit.ShapedUnit.drain.Goals as goal
 
 -- the write queue without its front
@@ -29,14 +29,14 @@ invariant_of-self g c =
         queue_sound = rw c.pop.ensures.rest (queue_less s.sizes s.queue.entries h.queue_sound);
         owes = h.owes;
       };
-      limit = ap (λ x. x.limit) c.pop.ensures.rest ∙ c.self.invariant.limit;
+      limit = grind arith;
     }
 
 pub returns-in_default : goal.returns-in_default
 unfolding drain_step
 returns-in_default g c =
     let sound = sound_of _ c.self.invariant _ c.self.view_is in
-    record { made = record { sound = sound; answer = search rules; unit = search rules }; lines = search rules }
+    record { made = grind arith; lines = search rules }
 
 pub returns-then-room-eq0 : goal.returns-then-room-eq0
 unfolding drain_step

@@ -1,18 +1,14 @@
-use Rattle.std.proofs.Common.{◌≡◌, ◌+◌, ◌*◌, ◌%◌, ◌<◌, ◌≤◌, ℕ, List, Some, arith, ap, sym, ◌∙◌, subst}
+use Rattle.std.proofs.Common.{◌≡◌, ◌+◌, ◌*◌, ◌%◌, ◌<◌, ℕ, Some, arith, ap, sym, ◌∙◌, subst}
 use Rattle.memory_banks.specs.Banks.{HasSent}
-use Rattle.cache_directory.specs.Frames as dir
-use Rattle.miss_registers.specs.Registers as regs
 use Rattle.miss_registers.specs.Whole.{IsWhole}
 use Rattle.cache_unit.specs.View.{cache_of}
 use Rattle.cache_unit.specs.State.{UnitState, is_present}
 use Rattle.cache_unit.specs.Steps.{fetched, fetches}
 use Rattle.cache_unit.specs.Miss.{MayTake}
-use Rattle.cache_unit.proofs.Stepping.{cache_by, value_by}
-use Rattle.cache_unit.proofs.SentReads.{room_for_all}
-use Rattle.cache_unit.proofs.FetchShown.{fetched-shown}
-use Rattle.cache_unit.proofs.FetchSound.{IsSound-missed}
-use Rattle.cache_unit.proofs.Placing.{takes_from}
-use Rattle.cache_unit.proofs.Missing.{absent_frame, no_live, fetches-shown}
+use Rattle.cache_unit.proofs.Fetching.{cache_by, value_by, room_for_all, fetched-shown, IsSound-missed}
+use Rattle.cache_unit.proofs.Choosing.{takes_from, absent_frame, no_live, fetches-shown}
+use Rattle.cache_directory.specs.Frames as dir
+use Rattle.miss_registers.specs.Registers as regs
 use Rattle.cache_unit.proofs.unit.ShapedUnit.fetch.Goals as goal
 
 pub bring_in-requires : goal.bring_in-requires
@@ -25,7 +21,7 @@ bring_in-requires g c =
     let t = takes_from z _ h room _ _ (subst P (sym c.self.view_is) c.requires.may_take) in
     let absent = absent_frame (cache_of s) _ (ap (λ v. is_present v.cache c.args.block) c.self.view_is ∙ c.requires.absent) in
     let live = no_live s.directory.frames s.registers _ h.tied absent in
-    let in_memory : c.args.block * s.sizes.block_words + s.sizes.block_words ≤ s.sizes.words =
+    let in_memory =
     rw (sym c.self.view_is) at c.requires.in_memory in
     let little = h.ranges.little_memory in
     let small : c.args.block * s.sizes.block_words + s.sizes.block_words < 4294967296 = omega arith in
@@ -59,14 +55,14 @@ invariant_of-self g c =
     let P : UnitState → Type 0 = λ v. MayTake v.sizes room v.cache c.args.block c.args.places in
     let t = takes_from z _ h room _ _ (subst P (sym c.self.view_is) c.requires.may_take) in
     let absent = absent_frame (cache_of s) _ (ap (λ v. is_present v.cache c.args.block) c.self.view_is ∙ c.requires.absent) in
-    let in_memory : c.args.block * s.sizes.block_words + s.sizes.block_words ≤ s.sizes.words =
+    let in_memory =
     rw (sym c.self.view_is) at c.requires.in_memory in
     let b = c.bring_in.ensures in
-    let D : dir.Frames → Type 0 = dir.IsWhole s.sizes.ways s.sizes.block_words in
-    let R : List regs.Register → Type 0 = IsWhole s.sizes.block_words s.sizes.regs in
+    let D = dir.IsWhole s.sizes.ways s.sizes.block_words in
+    let R = IsWhole s.sizes.block_words s.sizes.regs in
     let all = IsSound-missed z _ _ f slot h t.there t.idle absent t.slot t.free in_memory t.queue (subst D b.directory b.whole)
     (subst R b.registers b.whole_file) in
-    record { sound = rw (b.directory, b.registers, b.queue) all; limit = ap (λ q. q.limit) b.queue ∙ c.self.invariant.limit }
+    record { sound = grind arith; limit = grind arith }
 
 pub returns-clause-unit : goal.returns-clause-unit
 returns-clause-unit g c =
@@ -97,5 +93,5 @@ returns-clause-lines g c =
     let absent = ap (λ v. is_present v.cache c.args.block) c.self.view_is ∙ c.requires.absent in
     let sent = fetches-shown z now _ _ absent may.slot in
     let all = value_by z now _ (λ y k. fetches y k c.args.block) _ c.self.view_is sent in
-    let Q : List _ → Type 0 = HasSent g.L.Lines.sent_to g.L.Lines.room_of g.L.Lines.same _ _ in
+    let Q = HasSent g.L.Lines.sent_to g.L.Lines.room_of g.L.Lines.same _ _ in
     subst Q all c.bring_in.ensures.lines

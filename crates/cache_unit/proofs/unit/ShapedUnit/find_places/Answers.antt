@@ -3,32 +3,20 @@ use Rattle.cache_unit.specs.View.{cache_of}
 use Rattle.cache_unit.specs.State.{UnitState}
 use Rattle.cache_unit.specs.Causes.{first_cause, miss_causes}
 use Rattle.cache_unit.specs.Miss.{MayTake}
-use Rattle.cache_unit.proofs.Stepping.{value_by}
-use Rattle.cache_unit.proofs.Choosing.{chosen_can}
-use Rattle.cache_unit.proofs.Placing.{find_no_register, find_set_pending, find_queue_full, find_bank_full, find_places}
+use Rattle.cache_unit.proofs.Fetching.{value_by}
+use Rattle.cache_unit.proofs.Choosing.{chosen_can, find_no_register, find_set_pending, find_queue_full, find_bank_full, find_places}
 use Rattle.cache_unit.proofs.unit.ShapedUnit.find_places.Goals as goal
 
 pub returns-in_default-clause-refused : goal.returns-in_default-clause-refused
 returns-in_default-clause-refused g c =
-    let s = c.self.inside in
-    let z = s.sizes in
-    let now = cache_of s in
-    let room = g.L.Lines.room_of _ in
-    let t = find_no_register z _ c.self.invariant.sound room _ (sym c.free_slot.ensures.answer ∙ c.in_default.is) in
-    sym (value_by z now _ (λ y k. first_cause (miss_causes y room k c.args.block)) _ c.self.view_is (sym t))
+    grind (arith, c.self.inside, g.L.Lines.room_of, find_no_register, c.self.invariant.sound, value_by, c.self.view_is)
 
 pub returns-in_default-choose_frame-clause-refused : goal.returns-in_default-choose_frame-clause-refused
 returns-in_default-choose_frame-clause-refused g c =
-    let s = c.self.inside in
-    let z = s.sizes in
-    let now = cache_of s in
-    let room = g.L.Lines.room_of _ in
-    let t = find_set_pending z _ c.self.invariant.sound room _ c.in-Some.slot (sym c.in-Some.ensures.answer)
-    (sym c.choose_frame.ensures ∙ c.in_default-choose_frame.is) in
-    sym (value_by z now _ (λ y k. first_cause (miss_causes y room k c.args.block)) _ c.self.view_is (sym t))
+    grind (arith, c.self.inside, g.L.Lines.room_of, find_set_pending, c.self.invariant.sound, c.in-Some.slot, value_by, c.self.view_is)
 
 pub choose_frame-requires : goal.choose_frame-requires
-choose_frame-requires g c = c.self.invariant.sound.directory
+choose_frame-requires g c = grind arith
 
 pub words_owed-requires : goal.words_owed-requires
 words_owed-requires g c =

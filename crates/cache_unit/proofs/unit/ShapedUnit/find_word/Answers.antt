@@ -1,17 +1,16 @@
 use Rattle.std.proofs.Common.{is_some, ap, ap₂, sym, ◌∙◌}
 use Rattle.flat_model.specs.Words.{zero_word, merged}
-use Rattle.cache_unit.specs.declared.unit.present.Finding.TheVariants as finding
 use Rattle.cache_unit.specs.State.{frame_of}
 use Rattle.cache_unit.specs.Causes.{found}
 use Rattle.cache_unit.specs.Parts.{finding_of}
 use Rattle.cache_unit.specs.View.{cache_of}
-use Rattle.cache_unit.proofs.Same.{live_for-some}
-use Rattle.cache_unit.proofs.DirtyWords.{held-cells}
-use Rattle.cache_unit.proofs.Keeps.{frame_of-some}
-use Rattle.cache_unit.proofs.Stepping.{value_by}
-use Rattle.cache_unit.proofs.Present.{cell_found, finding-processed, finding-written, finding-stacked, finding-coming, finding-resident}
-use Rattle.cache_unit.proofs.Present.{zero_from}
+use Rattle.cache_unit.proofs.Present.{live_for-some, cell_found, finding-processed, finding-written, finding-stacked, finding-coming}
+use Rattle.cache_unit.proofs.Present.{finding-resident, zero_from}
+use Rattle.cache_unit.proofs.Begins.{held-cells}
+use Rattle.cache_unit.proofs.Fetching.{value_by}
+use Rattle.cache_unit.specs.declared.unit.present.Finding.TheVariants.{Here, Coming}
 use Rattle.cache_unit.proofs.unit.ShapedUnit.find_word.Goals as goal
+use Rattle.cache_unit.proofs.Lists.{frame_of-some}
 
 pub word-buffer-requires : goal.word-buffer-requires
 word-buffer-requires c =
@@ -24,13 +23,11 @@ word-buffer-requires c =
 pub returns-in_default : goal.returns-in_default
 returns-in_default c =
     let s = c.self.inside in
-    let z = s.sizes in
     let now = cache_of s in
     let held = ap (λ v. frame_of v.cache c.args.block) c.self.view_is ∙ c.requires.held in
     let buffer = c.word-buffer.ensures.word ∙ sym (ap (λ x. x.word) (cell_found now _ _ _ held)) in
-    let is = finding-resident now _ _ (sym c.live_for.ensures.answer ∙ c.in_default.is) in
-    value_by z now _ (λ y k. finding_of k c.args.block c.args.i (found k c.args.block c.args.i)) _ c.self.view_is
-    (ap finding.Here buffer ∙ sym is)
+    value_by s.sizes now _ (λ y k. finding_of k c.args.block c.args.i (found k c.args.block c.args.i)) _ c.self.view_is
+    (ap Here buffer ∙ sym (finding-resident now _ _ (sym c.live_for.ensures.answer ∙ c.in_default.is)))
 
 pub missing_code-requires : goal.missing_code-requires
 missing_code-requires c = (live_for-some _ _ c.in-Some.slot (sym c.in-Some.ensures.answer)).0
@@ -38,26 +35,24 @@ missing_code-requires c = (live_for-some _ _ c.in-Some.slot (sym c.in-Some.ensur
 pub returns-in_default-missing_code : goal.returns-in_default-missing_code
 returns-in_default-missing_code c =
     let s = c.self.inside in
-    let z = s.sizes in
     let now = cache_of s in
     let held = ap (λ v. frame_of v.cache c.args.block) c.self.view_is ∙ c.requires.held in
     let buffer = c.word-buffer.ensures.word ∙ sym (ap (λ x. x.word) (cell_found now _ _ _ held)) in
     let is = finding-processed now _ _ c.in-Some.slot (sym c.in-Some.ensures.answer)
     (sym c.missing_code.ensures ∙ c.in_default-missing_code.is) in
-    value_by z now _ (λ y k. finding_of k c.args.block c.args.i (found k c.args.block c.args.i)) _ c.self.view_is
-    (ap finding.Here buffer ∙ sym is)
+    value_by s.sizes now _ (λ y k. finding_of k c.args.block c.args.i (found k c.args.block c.args.i)) _ c.self.view_is
+    (ap Here buffer ∙ sym is)
 
 pub returns-then-has_all : goal.returns-then-has_all
 returns-then-has_all c =
     let s = c.self.inside in
-    let z = s.sizes in
     let now = cache_of s in
     let held = ap (λ v. frame_of v.cache c.args.block) c.self.view_is ∙ c.requires.held in
     let buffer = c.word-buffer.ensures.word ∙ sym (ap (λ x. x.word) (cell_found now _ _ _ held)) in
     let is = finding-written now _ _ c.in-Some.slot (sym c.in-Some.ensures.answer) c.in-Some-missing_code.code
     (sym c.in-Some-missing_code.ensures) (sym c.has_all.ensures ∙ c.if-has_all.true) in
-    value_by z now _ (λ y k. finding_of k c.args.block c.args.i (found k c.args.block c.args.i)) _ c.self.view_is
-    (ap finding.Here buffer ∙ sym is)
+    value_by s.sizes now _ (λ y k. finding_of k c.args.block c.args.i (found k c.args.block c.args.i)) _ c.self.view_is
+    (ap Here buffer ∙ sym is)
 
 pub returns-in-Some-find : goal.returns-in-Some-find
 returns-in-Some-find c =
@@ -71,7 +66,7 @@ returns-in-Some-find c =
     let is = finding-stacked now _ _ c.in-Some.slot (sym c.in-Some.ensures.answer) code
     (sym c.in-Some-missing_code.ensures) word (sym c.has_all.ensures ∙ c.if-has_all.false) (sym c.in-Some-find.ensures) in
     value_by z now _ (λ y k. finding_of k c.args.block c.args.i (found k c.args.block c.args.i)) _ c.self.view_is
-    (ap finding.Here (cc (c.merge.ensures, buffer)) ∙ sym is)
+    (ap Here (cc (c.merge.ensures, buffer)) ∙ sym is)
 
 pub waiting-requires : goal.waiting-requires
 waiting-requires c = (live_for-some _ _ c.in-Some.slot (sym c.in-Some.ensures.answer)).0
@@ -79,7 +74,6 @@ waiting-requires c = (live_for-some _ _ c.in-Some.slot (sym c.in-Some.ensures.an
 pub returns-in-None : goal.returns-in-None
 returns-in-None c =
     let s = c.self.inside in
-    let z = s.sizes in
     let now = cache_of s in
     let held = ap (λ v. frame_of v.cache c.args.block) c.self.view_is ∙ c.requires.held in
     let buffer = c.word-buffer.ensures.word ∙ sym (ap (λ x. x.word) (cell_found now _ _ _ held)) in
@@ -88,5 +82,5 @@ returns-in-None c =
     (sym c.in-Some-missing_code.ensures) (sym c.has_all.ensures ∙ c.if-has_all.false) (sym c.find.ensures ∙ c.in-None.is) in
     let held_bytes = c.merge-in-None.ensures ∙ ap (λ w. merged w c.word-buffer.result code) (zero_from _ c.default.ensures)
     ∙ ap (λ w. merged zero_word w code) buffer in
-    value_by z now _ (λ y k. finding_of k c.args.block c.args.i (found k c.args.block c.args.i)) _ c.self.view_is
-    (ap₂ (λ w n. finding.Coming c.in-Some.slot w code n) held_bytes c.waiting.ensures ∙ sym is)
+    value_by s.sizes now _ (λ y k. finding_of k c.args.block c.args.i (found k c.args.block c.args.i)) _ c.self.view_is
+    (ap₂ (λ w n. Coming c.in-Some.slot w code n) held_bytes c.waiting.ensures ∙ sym is)

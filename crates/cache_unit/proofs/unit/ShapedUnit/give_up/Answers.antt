@@ -4,24 +4,18 @@ use Rattle.cache_unit.specs.View.{cache_of}
 use Rattle.cache_unit.specs.State.{frame_of}
 use Rattle.cache_unit.specs.Causes.{lacks_places}
 use Rattle.cache_unit.specs.Steps.{evicted}
-use Rattle.cache_unit.proofs.Stepping.{cache_by}
-use Rattle.cache_unit.proofs.GiveUp.{owes_block, is_released, can_give_up, IsSound-given_up, given_up-shown}
+use Rattle.cache_unit.proofs.Fetching.{cache_by}
+use Rattle.cache_unit.proofs.Choosing.{owes_block, is_released, can_give_up, IsSound-given_up, given_up-shown}
 use Rattle.cache_unit.proofs.unit.ShapedUnit.give_up.Goals as goal
 
 pub vacate-requires : goal.vacate-requires
 vacate-requires c =
-    let s = c.self.inside in
-    let z = s.sizes in
+    let z = c.self.inside.sizes in
     let holds = ap (λ v. frame_of v.cache c.args.block) c.self.view_is ∙ c.requires.holds in
     let room = ap (λ v. lacks_places v.sizes v.cache (Some c.args.frame)) c.self.view_is ∙ c.requires.room in
     let r = can_give_up z _ c.self.invariant.sound _ _ holds room in
     let owes = owes_block z _ c.self.invariant.sound _ _ holds in
-    record {
-      whole = c.self.invariant.sound.directory;
-      frame = r.0;
-      fits = r.1;
-      room = rw (owes, c.self.invariant.limit) r.2;
-    }
+    record { whole = c.self.invariant.sound.directory; frame = r.0; fits = r.1; room = rw (owes, c.self.invariant.limit) r.2 }
 
 pub retire-requires : goal.retire-requires
 retire-requires c =

@@ -1,31 +1,28 @@
-use Rattle.std.proofs.Common.{◌≡◌, ◌<◌, ◌==◌, ℕ, length, refl, ap, ap₂, sym, ◌∙◌, subst, Bool}
+use Rattle.std.proofs.Common.{◌≡◌, ◌<◌, ◌==◌, ℕ, length, refl, ap, ap₂, sym, ◌∙◌, subst, Bool, leb-false}
 use Rattle.std.specs.List.{list_any}
 use Rattle.cache_unit.specs.State.{UnitState, Cache, block_of, place_in, tags}
 use Rattle.cache_unit.specs.Requests.{is_full_for, load_answer, load_present}
-use Rattle.cache_unit.proofs.Making.{steps, refuses}
-use Rattle.cache_unit.proofs.Requesting.{load_outside, load_in_use, load_owes_all, load_absent, load_decided, absent_not_full, less_from}
+use Rattle.cache_unit.proofs.Fetching.{steps, refuses}
+use Rattle.cache_unit.proofs.Requesting.{load_outside, load_in_use, load_owes_all, load_absent, load_decided, absent_not_full}
 use Rattle.cache_unit.proofs.unit.ShapedUnit.load.Goals as goal
 
 pub returns-then-is_outside : goal.returns-then-is_outside
 returns-then-is_outside g c =
     let u = c.args.self.now in
-    let room = g.L.Lines.room_of _ in
-    let is = load_outside u.sizes room u.cache _ _ (sym c.is_outside.ensures.outside ∙ c.if-is_outside.true) in
+    let is = load_outside u.sizes (g.L.Lines.room_of _) u.cache _ _ (sym c.is_outside.ensures.outside ∙ c.if-is_outside.true) in
     refuses _ _ _ u _ c.is_outside.ensures.sound _ (g.met.L.Lines.same_self _) _ is _ _ refl refl
 
 pub returns-then-is_in_use : goal.returns-then-is_in_use
 returns-then-is_in_use g c =
     let u = c.args.self.now in
-    let room = g.L.Lines.room_of _ in
-    let is = load_in_use u.sizes room u.cache _ _ (sym c.is_outside.ensures.outside ∙ c.if-is_outside.false)
+    let is = load_in_use u.sizes (g.L.Lines.room_of _) u.cache _ _ (sym c.is_outside.ensures.outside ∙ c.if-is_outside.false)
     (sym c.is_in_use.ensures ∙ c.if-is_in_use.true) in
     refuses _ _ _ u _ c.is_outside.ensures.sound _ (g.met.L.Lines.same_self _) _ is _ _ refl refl
 
 pub returns-then-owes_all : goal.returns-then-owes_all
 returns-then-owes_all g c =
     let u = c.args.self.now in
-    let room = g.L.Lines.room_of _ in
-    let is = load_owes_all u.sizes room u.cache _ _ (sym c.is_outside.ensures.outside ∙ c.if-is_outside.false)
+    let is = load_owes_all u.sizes (g.L.Lines.room_of _) u.cache _ _ (sym c.is_outside.ensures.outside ∙ c.if-is_outside.false)
     (sym c.is_in_use.ensures ∙ c.if-is_in_use.false) (sym c.owes_all.ensures ∙ c.if-owes_all.true) in
     refuses _ _ _ u _ c.is_outside.ensures.sound _ (g.met.L.Lines.same_self _) _ is _ _ refl refl
 
@@ -49,15 +46,14 @@ load_present-requires g c =
     let free = ap (λ l. list_any (λ t. t == c.args.tag) l) c.in-Ok.ensures.tags_kept ∙ sym c.is_in_use.ensures ∙ c.if-is_in_use.false in
     let few = rw (sym c.in-Ok.ensures.tags_kept) at
     (subst (λ x. length (tags u.cache) < x.sizes.replies) (sym c.in-Ok.ensures.unit)
-    (less_from u.sizes.replies _ (sym c.owes_all.ensures ∙ c.if-owes_all.false))) in
+    (leb-false u.sizes.replies _ (sym c.owes_all.ensures ∙ c.if-owes_all.false))) in
     record { word = word; held = c.in-Ok.ensures.held; new_tag = free; replies = few }
 
 pub returns-in-Ok : goal.returns-in-Ok
 returns-in-Ok g c =
     let u = c.args.self.now in
-    let room = g.L.Lines.room_of _ in
     let none = rw c.block_of-block.ensures.value at c.in-Ok.ensures.no_cause in
-    let is = load_decided u.sizes room u.cache _ _ (sym c.is_outside.ensures.outside ∙ c.if-is_outside.false)
+    let is = load_decided u.sizes (g.L.Lines.room_of _) u.cache _ _ (sym c.is_outside.ensures.outside ∙ c.if-is_outside.false)
     (sym c.is_in_use.ensures ∙ c.if-is_in_use.false) (sym c.owes_all.ensures ∙ c.if-owes_all.false) none in
     let v = c.make_present.new.self in
     let w = c.load_present.new.self in

@@ -2,21 +2,21 @@ use Rattle.std.proofs.Common.{◌≡◌, ℕ, nat_le, false, set, ap, sym, ◌�
 use Rattle.std.proofs.lemmas.Bool.Decides.{nat_tests}
 use Rattle.flat_model.specs.declared.Word.{Word}
 use Rattle.flat_model.specs.declared.Lanes.{Lanes}
-use Rattle.miss_registers.specs.Registers as regs
 use Rattle.miss_registers.specs.declared.TheConstants.{MAX_WAITING}
 use Rattle.miss_registers.specs.declared.Owed.{Owed}
 use Rattle.cache_unit.specs.View.{cache_of}
 use Rattle.cache_unit.specs.declared.Reply.{Reply}
-use Rattle.cache_unit.specs.declared.unit.present.Finding.TheVariants as finding
 use Rattle.cache_unit.specs.State.{Cache, cell_of}
 use Rattle.cache_unit.specs.Causes.{Found, Here, Coming, found, targets_full}
 use Rattle.cache_unit.specs.Steps.{loaded}
 use Rattle.cache_unit.specs.Parts.{finding_of}
 use Rattle.cache_unit.specs.Requests.{load_present}
 use Rattle.cache_unit.proofs.Requesting.{awaited_by_most, awaited_full}
-use Rattle.cache_unit.proofs.Stepping.{cache_by, IsSound-ready}
+use Rattle.cache_unit.proofs.Fetching.{cache_by, IsSound-ready}
 use Rattle.cache_unit.proofs.Tags.{length-tags, owes-added, owing-push, owing-awaited, not_waiting}
 use Rattle.cache_unit.proofs.Present.{says_coming, coming_from, can_await, few_wait, awaited-shown, IsSound-awaited}
+use Rattle.miss_registers.specs.Registers as regs
+use Rattle.cache_unit.specs.declared.unit.present.Finding.TheVariants as finding
 use Rattle.cache_unit.proofs.unit.ShapedUnit.load_present.Goals as goal
 
 pub invariant_of-self : goal.invariant_of-self
@@ -49,14 +49,7 @@ await_word-requires c =
     let tag = not_waiting now _ c.self.invariant.sound.registers new_tag in
     let owed = length-tags now c.self.invariant.sound.registers in
     let most = c.self.invariant.sound.ranges.few_replies in
-    record {
-      slot = can.slot_there;
-      live = can.live;
-      expected = can.expected;
-      room = few;
-      few = grind arith;
-      new_tag = tag;
-    }
+    record { slot = can.slot_there; live = can.live; expected = can.expected; room = few; few = grind arith; new_tag = tag }
 
 pub invariant_of-self-in-Coming : goal.invariant_of-self-in-Coming
 invariant_of-self-in-Coming c =
@@ -70,10 +63,9 @@ invariant_of-self-in-Coming c =
     let there = rw (sym c.self.view_is) at c.requires.word in
     let can = can_await z now c.self.invariant.sound _ _ c.in-Coming.slot (coming_from now _ _ c.in-Coming.slot says.coming) there in
     let o : Owed = record { tag = c.args.tag; held = c.in-Coming.held; lanes = c.in-Coming.code } in
-    let rs' = set s.registers c.in-Coming.slot _ in
     let w = rw c.await_word.ensures.registers at (c.await_word.ensures.whole s.sizes.block_words s.sizes.regs
     c.self.invariant.sound.registers) in
-    let owes = owes-added z now rs' s.ready.items _ c.self.invariant.sound new_tag room
+    let owes = owes-added z now (set s.registers c.in-Coming.slot _) s.ready.items _ c.self.invariant.sound new_tag room
     (λ p. owing-awaited p s.ready.items s.registers c.in-Coming.slot _ o can.slot_there can.there) in
     record {
       sound = rw c.await_word.ensures.registers (IsSound-awaited z now c.in-Coming.slot _ o can.slot_there w owes c.self.invariant.sound);
@@ -88,14 +80,11 @@ here_from c block i (Coming slot) w e = cc
 pub returns-in-Here-clause-unit : goal.returns-in-Here-clause-unit
 returns-in-Here-clause-unit c =
     let s = c.self.inside in
-    let z = s.sizes in
     let now = cache_of s in
     let said = rw (sym c.self.view_is) at (sym c.find_word.ensures ∙ c.in-Here.is) in
     let here = here_from now _ _ _ c.in-Here.word said in
-    let not_full = ap (targets_full now _) here in
-    let buffer = (cell_of now _ _).word in
-    let e = ap (loaded now _ _ buffer) (sym here) ∙ ap (load_present now _ _ _) (sym not_full) in
-    rw c.push.ensures.items (cache_by z now _ _ (λ y k. load_present k c.args.tag c.args.block c.args.i
+    let e = ap (loaded now _ _ ((cell_of now _ _).word)) (sym here) ∙ ap (load_present now _ _ _) (sym (ap (targets_full now _) here)) in
+    rw c.push.ensures.items (cache_by s.sizes now _ _ (λ y k. load_present k c.args.tag c.args.block c.args.i
     (targets_full k c.args.i (found k c.args.block c.args.i))) c.self.view_is e)
 
 pub returns-else-waiting-clause-unit : goal.returns-else-waiting-clause-unit

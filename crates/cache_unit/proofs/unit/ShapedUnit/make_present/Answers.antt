@@ -3,45 +3,38 @@ use Rattle.memory_banks.specs.Banks.{HasSent}
 use Rattle.cache_unit.specs.State.{UnitState, is_present, frame_of, tags}
 use Rattle.cache_unit.specs.Causes.{found, targets_full}
 use Rattle.cache_unit.specs.Requests.{absence_cause}
-use Rattle.cache_unit.proofs.Making.{sound_of}
-use Rattle.cache_unit.proofs.FormsChoosing.{fetched_frame}
-use Rattle.cache_unit.proofs.SentReads.{HasSent-none}
-use Rattle.cache_unit.proofs.Requesting.{present_cause, absent_cause, present_fetched, present_fetches, tags_kept, targets_kept}
+use Rattle.cache_unit.proofs.Fetching.{sound_of, HasSent-none}
+use Rattle.cache_unit.proofs.Requesting.{fetched_frame, present_cause, absent_cause, present_fetched, present_fetches, tags_kept}
+use Rattle.cache_unit.proofs.Requesting.{targets_kept}
 use Rattle.cache_unit.proofs.unit.ShapedUnit.make_present.Goals as goal
 
 pub returns-in-Some-clause-no_cause : goal.returns-in-Some-clause-no_cause
 returns-in-Some-clause-no_cause g c =
     let s = c.self.inside in
     let u = c.args.self.now in
-    let room = g.L.Lines.room_of _ in
-    let look = sym c.in-Some.ensures.found in
-    let here = ap (λ v. is_present v.cache c.args.block) (sym c.self.view_is) ∙ ap is_some look in
-    present_cause u.sizes room u.cache _ here
+    let here = ap (λ v. is_present v.cache c.args.block) (sym c.self.view_is) ∙ ap is_some (sym c.in-Some.ensures.found) in
+    present_cause u.sizes (g.L.Lines.room_of _) u.cache _ here
 
 pub returns-in-Some-clause-unit : goal.returns-in-Some-clause-unit
 returns-in-Some-clause-unit g c =
     let s = c.self.inside in
     let u = c.args.self.now in
-    let look = sym c.in-Some.ensures.found in
-    let here = ap (λ v. is_present v.cache c.args.block) (sym c.self.view_is) ∙ ap is_some look in
+    let here = ap (λ v. is_present v.cache c.args.block) (sym c.self.view_is) ∙ ap is_some (sym c.in-Some.ensures.found) in
     ap (λ x. let v : UnitState = record { sizes = u.sizes; cache = x } in v) (sym (present_fetched u.sizes u.cache _ here))
 
 pub returns-in-Some-clause-lines : goal.returns-in-Some-clause-lines
 returns-in-Some-clause-lines g c =
     let s = c.self.inside in
     let u = c.args.self.now in
-    let look = sym c.in-Some.ensures.found in
-    let here = ap (λ v. is_present v.cache c.args.block) (sym c.self.view_is) ∙ ap is_some look in
+    let here = ap (λ v. is_present v.cache c.args.block) (sym c.self.view_is) ∙ ap is_some (sym c.in-Some.ensures.found) in
     let none = HasSent-none g.L.Lines.sent_to g.L.Lines.room_of g.L.Lines.same _ (g.met.L.Lines.same_self _) in
-    let Q = HasSent g.L.Lines.sent_to g.L.Lines.room_of g.L.Lines.same _ _ in
-    subst Q (sym (present_fetches u.sizes u.cache _ here)) none
+    subst (HasSent g.L.Lines.sent_to g.L.Lines.room_of g.L.Lines.same _ _) (sym (present_fetches u.sizes u.cache _ here)) none
 
 pub returns-in-Some-clause-targets : goal.returns-in-Some-clause-targets
 returns-in-Some-clause-targets g c i =
     let s = c.self.inside in
     let u = c.args.self.now in
-    let look = sym c.in-Some.ensures.found in
-    let here = ap (λ v. is_present v.cache c.args.block) (sym c.self.view_is) ∙ ap is_some look in
+    let here = ap (λ v. is_present v.cache c.args.block) (sym c.self.view_is) ∙ ap is_some (sym c.in-Some.ensures.found) in
     sym (ap (λ b. b && targets_full u.cache i (found u.cache c.args.block i)) here)
 
 -- a refusal that is passed on is the same
@@ -54,40 +47,32 @@ returns-in_err-places-clause-cause g c =
     let s = c.self.inside in
     let u = c.args.self.now in
     let room = g.L.Lines.room_of _ in
-    let look = sym c.look.ensures.found ∙ c.in_default.is in
-    let here = ap (λ v. is_present v.cache c.args.block) (sym c.self.view_is) ∙ ap is_some look in
-    let cause = c.in_err-places.field-0.0 in
+    let here = ap (λ v. is_present v.cache c.args.block) (sym c.self.view_is) ∙ ap is_some (sym c.look.ensures.found ∙ c.in_default.is) in
     let refused = absent_cause u.sizes room u.cache _ _ here c.in_err-places.ensures.refused in
-    passed_on _ cause (λ e. absence_cause u.sizes room u.cache _ ≡ Some e) c.from_residual.ensures.1 refused
+    passed_on _ c.in_err-places.field-0.0 (λ e. absence_cause u.sizes room u.cache _ ≡ Some e) c.from_residual.ensures.1 refused
 
 pub fetch-requires : goal.fetch-requires
 fetch-requires g c =
     let s = c.self.inside in
     let u = c.args.self.now in
-    let look = sym c.look.ensures.found ∙ c.in_default.is in
-    let here = ap (λ v. is_present v.cache c.args.block) (sym c.self.view_is) ∙ ap is_some look in
-    let may = c.in_ok-places.ensures.found in
-    record { absent = here; in_memory = c.requires; may_take = may }
+    let here = ap (λ v. is_present v.cache c.args.block) (sym c.self.view_is) ∙ ap is_some (sym c.look.ensures.found ∙ c.in_default.is) in
+    record { absent = here; in_memory = c.requires; may_take = c.in_ok-places.ensures.found }
 
 pub returns-clause-tags_kept : goal.returns-clause-tags_kept
 returns-clause-tags_kept g c =
-    let s = c.self.inside in
     let u = c.args.self.now in
     let room = g.L.Lines.room_of _ in
-    let look = sym c.look.ensures.found ∙ c.in_default.is in
-    let here = ap (λ v. is_present v.cache c.args.block) (sym c.self.view_is) ∙ ap is_some look in
-    let h = sound_of s c.self.invariant u c.self.view_is in
+    let here = ap (λ v. is_present v.cache c.args.block) (sym c.self.view_is) ∙ ap is_some (sym c.look.ensures.found ∙ c.in_default.is) in
+    let h = sound_of c.self.inside c.self.invariant u c.self.view_is in
     let none = absent_cause u.sizes room u.cache _ None here c.in_ok-places.ensures.found.no_cause in
     ap (λ v. tags v.cache) c.fetch.ensures.unit ∙ tags_kept u.sizes room u.cache _ h none
 
 pub returns-clause-targets : goal.returns-clause-targets
 returns-clause-targets g c i =
-    let s = c.self.inside in
     let u = c.args.self.now in
     let room = g.L.Lines.room_of _ in
-    let look = sym c.look.ensures.found ∙ c.in_default.is in
-    let here = ap (λ v. is_present v.cache c.args.block) (sym c.self.view_is) ∙ ap is_some look in
-    let h = sound_of s c.self.invariant u c.self.view_is in
+    let here = ap (λ v. is_present v.cache c.args.block) (sym c.self.view_is) ∙ ap is_some (sym c.look.ensures.found ∙ c.in_default.is) in
+    let h = sound_of c.self.inside c.self.invariant u c.self.view_is in
     let none = absent_cause u.sizes room u.cache _ None here c.in_ok-places.ensures.found.no_cause in
     let full = ap (λ b. b && targets_full u.cache i (found u.cache c.args.block i)) here in
     ap (λ v. targets_full v.cache i (found v.cache c.args.block i)) c.fetch.ensures.unit ∙ targets_kept u.sizes room u.cache _ h none i full
@@ -96,15 +81,12 @@ returns-clause-targets g c i =
 pub returns-in-Some-clause-held : goal.returns-in-Some-clause-held
 returns-in-Some-clause-held g c =
     let s = c.self.inside in
-    let look = sym c.in-Some.ensures.found in
-    ap (λ v. frame_of v.cache c.args.block) (sym c.self.view_is) ∙ look
+    ap (λ v. frame_of v.cache c.args.block) (sym c.self.view_is) ∙ (sym c.in-Some.ensures.found)
 
 pub returns-clause-held : goal.returns-clause-held
 returns-clause-held g c =
-    let s = c.self.inside in
     let u = c.args.self.now in
-    let look = sym c.look.ensures.found ∙ c.in_default.is in
-    let none = ap (λ v. frame_of v.cache c.args.block) (sym c.self.view_is) ∙ look in
-    let h = sound_of s c.self.invariant u c.self.view_is in
+    let none = ap (λ v. frame_of v.cache c.args.block) (sym c.self.view_is) ∙ (sym c.look.ensures.found ∙ c.in_default.is) in
+    let h = sound_of c.self.inside c.self.invariant u c.self.view_is in
     let may = c.in_ok-places.ensures.found in
     ap (λ v. frame_of v.cache c.args.block) c.fetch.ensures.unit ∙ fetched_frame u.sizes u.cache h _ _ _ none may.frame may.slot

@@ -1,6 +1,5 @@
 use Rattle.std.proofs.Common.{◌∙◌, refl, sym, ap}
-use Rattle.cache_unit.proofs.Numbers.{in_size}
-use Rattle.cache_unit.proofs.Made.{IsSound-opening}
+use Rattle.cache_unit.proofs.Made.{in_size, IsSound-opening}
 use Rattle.cache_unit.proofs.unit.ShapedUnit.new.Goals as goal
 
 pub invariant_of-result : goal.invariant_of-result

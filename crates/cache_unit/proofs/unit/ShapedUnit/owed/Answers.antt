@@ -1,9 +1,8 @@
 use Rattle.std.proofs.Common.{length, arith}
 use Rattle.cache_unit.specs.View.{cache_of}
 use Rattle.cache_unit.specs.State.{tags}
-use Rattle.cache_unit.proofs.Stepping.{value_by}
+use Rattle.cache_unit.proofs.Fetching.{value_by, sound_of}
 use Rattle.cache_unit.proofs.Tags.{owing-all, length-tags}
-use Rattle.cache_unit.proofs.Making.{sound_of}
 use Rattle.cache_unit.proofs.unit.ShapedUnit.owed.Goals as goal
 
 pub overflow_add-result : goal.overflow_add-result
@@ -34,6 +33,4 @@ returns-clause-few c =
     rw (← c.self.view_is) (omega arith)
 
 pub returns-clause-sound : goal.returns-clause-sound
-returns-clause-sound c =
-    let s = c.self.inside in
-    sound_of s c.self.invariant _ c.self.view_is
+returns-clause-sound c = sound_of c.self.inside c.self.invariant _ c.self.view_is

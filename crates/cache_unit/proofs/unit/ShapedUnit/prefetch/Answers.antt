@@ -1,13 +1,12 @@
 use Rattle.std.proofs.Common.{refl, sym, ◌∙◌}
-use Rattle.cache_unit.proofs.Making.{steps, refuses}
-use Rattle.cache_unit.proofs.Requesting.{prefetch_outside, prefetch_absent, prefetch_done}
+use Rattle.cache_unit.proofs.Fetching.{steps, refuses}
+use Rattle.cache_unit.proofs.Requesting.{prefetch_outside, prefetch_by}
 use Rattle.cache_unit.proofs.unit.ShapedUnit.prefetch.Goals as goal
 
 pub returns-then-is_outside : goal.returns-then-is_outside
 returns-then-is_outside g c =
     let u = c.args.self.now in
-    let room = g.L.Lines.room_of _ in
-    let is = prefetch_outside u.sizes room u.cache _ (sym c.is_outside.ensures.outside ∙ c.if-is_outside.true) in
+    let is = prefetch_outside u.sizes (g.L.Lines.room_of _) u.cache _ (sym c.is_outside.ensures.outside ∙ c.if-is_outside.true) in
     refuses _ _ _ u _ c.is_outside.ensures.sound _ (g.met.L.Lines.same_self _) _ is _ _ refl refl
 
 pub returns-in-Err : goal.returns-in-Err
@@ -15,17 +14,15 @@ returns-in-Err g c =
     let u = c.args.self.now in
     let room = g.L.Lines.room_of _ in
     let cause = rw c.block_of-block.ensures.value at c.in-Err.ensures.cause in
-    let is = prefetch_absent u.sizes room u.cache _ c.in-Err.cause (sym c.is_outside.ensures.outside
-    ∙ c.if-is_outside.false) cause in
+    let is = prefetch_by u.sizes room u.cache _ _ _ (sym c.is_outside.ensures.outside ∙ c.if-is_outside.false) cause in
     refuses _ _ _ u _ c.is_outside.ensures.sound _ (g.met.L.Lines.same_self _) _ is _ _
     c.in-Err.ensures.unit_kept c.in-Err.ensures.lines_kept
 
 pub returns-in-Ok : goal.returns-in-Ok
 returns-in-Ok g c =
     let u = c.args.self.now in
-    let room = g.L.Lines.room_of _ in
     let none = rw c.block_of-block.ensures.value at c.in-Ok.ensures.no_cause in
-    let is = prefetch_done u.sizes room u.cache _ (sym c.is_outside.ensures.outside ∙ c.if-is_outside.false) none in
+    let is = prefetch_by u.sizes (g.L.Lines.room_of _) u.cache _ _ _ (sym c.is_outside.ensures.outside ∙ c.if-is_outside.false) none in
     let unit = rw c.block_of-block.ensures.value at c.in-Ok.ensures.unit in
     let sent = rw c.block_of-block.ensures.value at c.in-Ok.ensures.lines in
     steps _ _ _ u _ c.is_outside.ensures.sound _ _ is _ _ unit sent

@@ -1,9 +1,9 @@
 use Rattle.std.proofs.Common.{rules, sym, ◌∙◌, refl, subst}
+use Rattle.cache_unit.specs.Steps.{process_step}
+use Rattle.cache_unit.proofs.Keeps.{Taken-from, can_finish, can_fill, can_answer, sound_after, shown_after, processes}
+use Rattle.cache_unit.proofs.Fetching.{makes, sound_of}
 use Rattle.cache_directory.specs.Frames as dir
 use Rattle.miss_registers.specs.Registers as regs
-use Rattle.cache_unit.specs.Steps.{process_step}
-use Rattle.cache_unit.proofs.Calls.{Taken-from, can_finish, can_fill, can_answer, sound_after, shown_after, processes}
-use Rattle.cache_unit.proofs.Making.{makes, sound_of}
 use Rattle.cache_unit.proofs.unit.ShapedUnit.process.Goals as goal
 
 pub finish_word-end-requires : goal.finish_word-end-requires
@@ -30,16 +30,14 @@ pub invariant_of-self-2 : goal.invariant_of-self-2
 invariant_of-self-2 c =
     let s = c.self.inside in
     let e = c.in-Some.e in
-    let t = Taken-from s.stack _ e (sym c.remove.ensures.value ∙ c.in-Some.is) in
     let f = c.finish_word-end.ensures in
-    let z = s.sizes in
     let r = regs.register_at s.registers e.slot in
     let d = subst (λ x. dir.IsWhole s.sizes.ways s.sizes.block_words x) (c.fill_live.ensures.filled ∙ rw (f.live, f.keep, f.last) refl)
     (c.fill_live.ensures.whole s.sizes.ways s.sizes.block_words c.self.invariant.sound.directory) in
     let w = rw f.registers at (f.whole s.sizes.block_words s.sizes.regs c.self.invariant.sound.registers) in
     record {
       sound = rw (c.fill_live.ensures.filled, f.registers, c.in-Some.ensures.taken, f.live, f.keep, f.last, c.answer_all.ensures, f.send)
-          (sound_after z _ _ e _ c.self.invariant.sound t d w);
+          (sound_after s.sizes _ _ e _ c.self.invariant.sound (Taken-from s.stack _ e (sym c.remove.ensures.value ∙ c.in-Some.is)) d w);
       limit = c.self.invariant.limit;
     }
 
@@ -48,13 +46,11 @@ returns c =
     let s = c.self.inside in
     let e = c.in-Some.e in
     let some = sym c.remove.ensures.value ∙ c.in-Some.is in
-    let is = processes _ _ e some in
     let shown = shown_after s.sizes _ _ e c.self.invariant.sound some in
     let f = c.finish_word-end.ensures in
     rw (c.fill_live.ensures.filled, f.registers, c.in-Some.ensures.taken, c.answer_all.ensures, f.send, f.live, f.keep, f.last)
-    (makes s c.self.invariant _ c.self.view_is (λ z k. process_step k c.args.place) _ _ _ is _ shown)
+    (makes s c.self.invariant _ c.self.view_is (λ z k. process_step k c.args.place) _ _ _ (processes _ _ e some) _ shown)
 
 pub returns-in_default : goal.returns-in_default
 unfolding process_step
-returns-in_default c =
-    record { sound = sound_of _ c.self.invariant _ c.self.view_is; answer = search rules; unit = search rules }
+returns-in_default c = record { sound = sound_of _ c.self.invariant _ c.self.view_is; answer = search rules; unit = search rules }

@@ -2,24 +2,20 @@ use Rattle.std.proofs.Common.{◌≡◌, refl, sym, ◌∙◌, subst}
 use Rattle.memory_banks.specs.Banks.{HasSent}
 use Rattle.cache_unit.specs.State.{block_of, place_in}
 use Rattle.cache_unit.specs.Steps.{fetches, written}
-use Rattle.cache_unit.proofs.Making.{steps, refuses}
-use Rattle.cache_unit.proofs.Requesting.{store_outside, store_no_lanes, store_absent, store_done, not_set, is_set}
+use Rattle.cache_unit.proofs.Fetching.{steps, refuses}
+use Rattle.cache_unit.proofs.Requesting.{store_outside, store_no_lanes, store_rest, not_set, is_set}
 use Rattle.cache_unit.proofs.unit.ShapedUnit.store.Goals as goal
 
 pub returns-then-is_outside : goal.returns-then-is_outside
 returns-then-is_outside g c =
     let u = c.args.self.now in
-    let room = g.L.Lines.room_of _ in
-    let is = store_outside u.sizes room u.cache _ _ _ (sym c.is_outside.ensures.outside
-    ∙ c.if-is_outside.true) in
+    let is = store_outside u.sizes (g.L.Lines.room_of _) u.cache _ _ _ (sym c.is_outside.ensures.outside ∙ c.if-is_outside.true) in
     refuses _ _ _ u _ c.is_outside.ensures.sound _ (g.met.L.Lines.same_self _) _ is _ _ refl refl
 
 pub returns-then-not-has_any : goal.returns-then-not-has_any
 returns-then-not-has_any g c =
     let u = c.args.self.now in
-    let room = g.L.Lines.room_of _ in
-    let is = store_no_lanes u.sizes room u.cache _ _ _ (sym c.is_outside.ensures.outside
-    ∙ c.if-is_outside.false)
+    let is = store_no_lanes u.sizes (g.L.Lines.room_of _) u.cache _ _ _ (sym c.is_outside.ensures.outside ∙ c.if-is_outside.false)
     (not_set _ _ c.has_any.ensures c.if-not-has_any.true) in
     refuses _ _ _ u _ c.is_outside.ensures.sound _ (g.met.L.Lines.same_self _) _ is _ _ refl refl
 
@@ -29,29 +25,24 @@ returns-in-Err g c =
     let room = g.L.Lines.room_of _ in
     let cause = rw c.block_of-block.ensures.value at c.in-Err.ensures.cause in
     let some = is_set _ _ c.has_any.ensures c.if-not-has_any.false in
-    let is = store_absent u.sizes room u.cache _ _ _ c.in-Err.cause (sym c.is_outside.ensures.outside
-    ∙ c.if-is_outside.false) some cause in
+    let is = store_rest u.sizes room u.cache _ _ _ _ (sym c.is_outside.ensures.outside ∙ c.if-is_outside.false) some cause in
     refuses _ _ _ u _ c.is_outside.ensures.sound _ (g.met.L.Lines.same_self _) _ is _ _
     c.in-Err.ensures.unit_kept c.in-Err.ensures.lines_kept
 
 pub returns-in-Ok : goal.returns-in-Ok
 returns-in-Ok g c =
     let u = c.args.self.now in
-    let room = g.L.Lines.room_of _ in
     let none = rw c.block_of-block.ensures.value at c.in-Ok.ensures.no_cause in
     let some = is_set _ _ c.has_any.ensures c.if-not-has_any.false in
-    let is = store_done u.sizes room u.cache _ _ _ (sym c.is_outside.ensures.outside
-    ∙ c.if-is_outside.false) some none in
+    let is = store_rest u.sizes (g.L.Lines.room_of _) u.cache _ _ _ _
+    (sym c.is_outside.ensures.outside ∙ c.if-is_outside.false) some none in
     let v = c.make_present.new.self in
     let w = c.store_present.new.self in
     let block = block_of u.sizes _ in
     let unit = rw c.block_of-block.ensures.value at c.in-Ok.ensures.unit in
     let stored = rw c.block_of-block.ensures.value at c.store_present.ensures in
     let placed = subst (λ i. w ≡ record v { cache = written v.cache block i c.args.word c.args.lanes }) c.place_in-i.ensures.value stored in
-    let made = subst (λ x. w ≡ record x {
-      cache = written x.cache block (place_in u.sizes c.args.at)
-          c.args.word c.args.lanes;
-    })
+    let made = subst (λ x. w ≡ record x { cache = written x.cache block (place_in u.sizes c.args.at) c.args.word c.args.lanes })
     unit placed in
     let sent = subst (λ b. HasSent g.L.Lines.sent_to g.L.Lines.room_of g.L.Lines.same c.args.lines.now c.make_present.new.lines
     (fetches u.sizes u.cache b)) c.block_of-block.ensures.value c.in-Ok.ensures.lines in

@@ -3,11 +3,11 @@ use Rattle.cache_unit.specs.View.{cache_of}
 use Rattle.cache_unit.specs.State.{frame_of}
 use Rattle.cache_unit.specs.Steps.{written}
 use Rattle.cache_unit.specs.Parts.{written_for, noted_for}
-use Rattle.cache_unit.proofs.Keeps.{frame_of-some}
-use Rattle.cache_unit.proofs.DirtyWords.{held-cells}
-use Rattle.cache_unit.proofs.Stepping.{cache_by}
+use Rattle.cache_unit.proofs.Begins.{held-cells}
+use Rattle.cache_unit.proofs.Fetching.{cache_by}
 use Rattle.cache_unit.proofs.Present.{IsSound-stored, stored-shown}
 use Rattle.cache_unit.proofs.unit.ShapedUnit.store_present.Goals as goal
+use Rattle.cache_unit.proofs.Lists.{frame_of-some}
 
 pub write-requires : goal.write-requires
 write-requires c =
@@ -32,11 +32,10 @@ invariant_of-self c =
 pub returns : goal.returns
 returns c =
     let s = c.self.inside in
-    let z = s.sizes in
     let now = cache_of s in
     let held = ap (λ v. frame_of v.cache c.args.block) c.self.view_is ∙ c.requires.held in
     let rs = noted_for s.registers _ _ _ in
     let e = ap (λ o. record now { directory = written_for s.directory o c.args.i c.args.word c.args.lanes; registers = rs }) (sym held)
     ∙ stored-shown now _ _ _ _ in
     rw (c.write.ensures.written, c.note_code.ensures.noted)
-    (cache_by z now _ _ (λ y k. written k c.args.block c.args.i c.args.word c.args.lanes) c.self.view_is e)
+    (cache_by s.sizes now _ _ (λ y k. written k c.args.block c.args.i c.args.word c.args.lanes) c.self.view_is e)

@@ -1,10 +1,8 @@
-use Rattle.std.proofs.Common.{refl, arith}
+use Rattle.std.proofs.Common.{refl, arith, ap}
 use Rattle.cache_unit.specs.View.{cache_of}
 use Rattle.cache_unit.specs.Steps.{take_step}
-use Rattle.std.proofs.Common.{ap}
-use Rattle.cache_unit.proofs.Making.{makes, keeps}
-use Rattle.cache_unit.proofs.Owing.{owes-remove}
-use Rattle.cache_unit.proofs.Stepping.{taken, none_taken, IsSound-ready}
+use Rattle.cache_unit.proofs.Fetching.{makes, keeps, taken, none_taken, IsSound-ready}
+use Rattle.cache_unit.proofs.Keeps.{owes-remove}
 use Rattle.cache_unit.proofs.unit.ShapedUnit.take.Goals as goal
 
 pub invariant_of-self : goal.invariant_of-self
@@ -12,10 +10,7 @@ invariant_of-self c =
     let s = c.self.inside in
     let z = s.sizes in
     let o = owes-remove z s.ready.items s.registers _ c.self.invariant.sound.owes in
-    record {
-      sound = rw c.remove-reply.ensures.items (IsSound-ready z _ _ o c.self.invariant.sound);
-      limit = c.self.invariant.limit;
-    }
+    record { sound = rw c.remove-reply.ensures.items (IsSound-ready z _ _ o c.self.invariant.sound); limit = c.self.invariant.limit }
 
 pub returns-then-place-len : goal.returns-then-place-len
 returns-then-place-len c =

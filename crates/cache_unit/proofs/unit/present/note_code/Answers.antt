@@ -1,9 +1,7 @@
-use Rattle.std.proofs.Common.{◌≡◌, ◌<◌, ◌&&◌, not, if◌then◌else◌, Bool, true, false, length, set, ap, sym, ◌∙◌, arith, refl}
+use Rattle.std.proofs.Common.{◌≡◌, ◌<◌, ◌&&◌, not, Bool, true, false, length, sym, arith, refl}
 use Rattle.std.proofs.lemmas.Bool.{false≢true}
+use Rattle.cache_unit.proofs.Present.{live_for-some, missing_parts}
 use Rattle.miss_registers.specs.Registers as regs
-use Rattle.cache_unit.specs.Parts.{noted_for}
-use Rattle.cache_unit.proofs.Same.{live_for-some}
-use Rattle.cache_unit.proofs.Present.{missing_parts, none_missing}
 use Rattle.cache_unit.proofs.unit.present.note_code.Goals as goal
 
 valid_by : (v o : Bool) → (v && not o) ≡ true → v ≡ true
@@ -26,21 +24,10 @@ note_store-requires c =
     record { slot = p.0; live = p.1; there = there; unprocessed = e.0 }
 
 pub returns-in_default-missing_code-clause-noted : goal.returns-in_default-missing_code-clause-noted
-returns-in_default-missing_code-clause-noted c =
-    let rs = c.args.registers.now in
-    let slot = c.in-Some.slot in
-    let done = none_missing (regs.field_at rs slot _) (sym c.missing_code.ensures ∙ c.in_default-missing_code.is) in
-    let noted = set rs slot _ in
-    sym (ap (λ o. noted_for rs o c.args.i c.args.lanes) (sym c.in-Some.ensures.answer) ∙ ap (λ b. if b then rs else noted) done)
+returns-in_default-missing_code-clause-noted c = grind arith
 
 pub returns-clause-noted : goal.returns-clause-noted
-returns-clause-noted c =
-    let rs = c.args.registers.now in
-    let slot = c.in-Some.slot in
-    let e = missing_parts (regs.field_at rs slot _) _ (sym c.in-Some-missing_code.ensures) in
-    let noted = set rs slot _ in
-    c.note_store.ensures.registers ∙ sym (ap (λ o. noted_for rs o c.args.i c.args.lanes) (sym c.in-Some.ensures.answer)
-    ∙ ap (λ b. if b then rs else noted) e.0)
+returns-clause-noted c = grind arith
 
 pub returns-clause-whole : goal.returns-clause-whole
 returns-clause-whole c = c.note_store.ensures.whole _ _ c.requires.whole

@@ -2,7 +2,7 @@ use Rattle.std.proofs.Common.{◌≡◌, ◌≤◌, length, sym, ◌∙◌, ap, 
 use Rattle.flat_model.specs.declared.limits.TheConstants.{MAX_MEMORY, MAX_BANKS, MAX_BANK_QUEUE}
 use Rattle.flat_model.specs.declared.Shape.{Shape}
 use Rattle.memory_banks.specs.Memory.{fault_of}
-use Rattle.cache_unit.proofs.Numbers.{in_size}
+use Rattle.cache_unit.proofs.Made.{in_size}
 use Rattle.machine_core.proofs.Whole.{memory_of_shape, fits_image, whole_opening, flat_new, is_kept, some_queue}
 use Rattle.machine_core.proofs.machine.ShapedMachine.new.Goals as goal
 

@@ -1,5 +1,5 @@
 use Rattle.std.proofs.Common.{sym, ◌∙◌}
-use Rattle.memory_banks.proofs.Making.{in_range}
+use Rattle.memory_banks.proofs.Sending.{in_range}
 use Rattle.memory_banks.proofs.memory.Banks.new.Goals as goal
 
 pub over-requires : goal.over-requires

@@ -1,6 +1,6 @@
 use Rattle.std.proofs.Common.{◌≤◌, sym, subst}
 use Rattle.flat_model.specs.declared.limits.TheConstants.{MAX_MEMORY}
-use Rattle.memory_banks.proofs.Making.{InRange, made_memory}
+use Rattle.memory_banks.proofs.Sending.{InRange, made_memory}
 use Rattle.memory_banks.proofs.memory.Banks.over.Goals as goal
 
 pub opening_banks-requires-clause-fits : goal.opening_banks-requires-clause-fits

@@ -1,7 +1,7 @@
 use Rattle.std.proofs.Common.{◌<◌, length, ap, ◌∙◌, arith}
 use Rattle.memory_banks.specs.Banks.{bank_at, words_after, pending}
 use Rattle.memory_banks.specs.Memory.{Memory}
-use Rattle.memory_banks.proofs.Serving.{served-memory, served-words_after, served-pending}
+use Rattle.memory_banks.proofs.Sending.{served-memory, served-words_after, served-pending}
 use Rattle.memory_banks.proofs.memory.Banks.serve.Goals as goal
 
 pub invariant_of-self : goal.invariant_of-self

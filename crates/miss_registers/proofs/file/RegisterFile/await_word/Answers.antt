@@ -1,4 +1,4 @@
-use Rattle.miss_registers.proofs.Awaiting.{few_wait}
+use Rattle.miss_registers.proofs.Tags.{few_wait}
 use Rattle.miss_registers.proofs.file.RegisterFile.await_word.Goals as goal
 
 pub await_word-requires-clause-few : goal.await_word-requires-clause-few

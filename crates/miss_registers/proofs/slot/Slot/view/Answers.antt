@@ -7,8 +7,7 @@ use Rattle.miss_registers.proofs.slot.Slot.view.Goals as goal
 
 processed_shown-count : (fields : List Field) → count_by (λ f. f.processed) fields ≡ processed_shown fields
 processed_shown-count [] = refl
-processed_shown-count (f ∷ rest) =
-    cc (sum_by-cons (λ x. cond x.processed 1 0) f rest, processed_shown-count rest)
+processed_shown-count (f ∷ rest) = cc (sum_by-cons (λ x. cond x.processed 1 0) f rest, processed_shown-count rest)
 
 pub returns : goal.returns
 returns c =

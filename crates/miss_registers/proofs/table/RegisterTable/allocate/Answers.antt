@@ -1,5 +1,5 @@
 use Rattle.std.proofs.Common.{◌≡◌, ◌∙◌}
-use Rattle.miss_registers.proofs.Awaiting.{allocated-count}
+use Rattle.miss_registers.proofs.Tags.{allocated-count}
 use Rattle.miss_registers.proofs.Whole.{allocated-kept}
 use Rattle.miss_registers.proofs.table.RegisterTable.allocate.Goals as goal
 

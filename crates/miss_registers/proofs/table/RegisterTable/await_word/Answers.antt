@@ -1,9 +1,7 @@
 use Rattle.std.proofs.Common.{◌≡◌, arith}
 use Rattle.miss_registers.specs.declared.Owed.{Owed}
 use Rattle.miss_registers.specs.Registers.{free_register, register_at}
-use Rattle.miss_registers.proofs.Each.{element_is}
-use Rattle.miss_registers.proofs.Words.{expects-parts}
-use Rattle.miss_registers.proofs.Awaiting.{awaited-count}
+use Rattle.miss_registers.proofs.Tags.{element_is, expects-parts, awaited-count}
 use Rattle.miss_registers.proofs.Whole.{awaited-kept}
 use Rattle.miss_registers.proofs.table.RegisterTable.await_word.Goals as goal
 

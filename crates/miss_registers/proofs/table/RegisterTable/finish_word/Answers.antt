@@ -1,17 +1,14 @@
 use Rattle.std.proofs.Common.{◌≡◌, ◌∙◌, length, ap, refl, arith}
 use Rattle.miss_registers.specs.Registers.{free_register, field_at}
-use Rattle.miss_registers.proofs.Each.{element_is}
-use Rattle.miss_registers.proofs.Words.{in_stack_there}
-use Rattle.miss_registers.proofs.Awaiting.{finished-count}
+use Rattle.miss_registers.proofs.Tags.{element_is, in_stack_there, finished-count}
 use Rattle.miss_registers.proofs.Whole.{finished-kept}
 use Rattle.miss_registers.proofs.table.RegisterTable.finish_word.Goals as goal
 
 pub finish_word-end-requires : goal.finish_word-end-requires
 finish_word-end-requires c =
-    let xs = c.self.inside.slots.items in
     let register = c.index_mut-register in
     let v = c.self.view_is in
-    let e = element_is xs _ _ register.result.now free_register v c.requires.slot register.ensures.value in
+    let e = element_is c.self.inside.slots.items _ _ register.result.now free_register v c.requires.slot register.ensures.value in
     record { there = in_stack_there register.result.now _ (rw e c.requires.in_stack) }
 
 pub overflow_sub-self : goal.overflow_sub-self

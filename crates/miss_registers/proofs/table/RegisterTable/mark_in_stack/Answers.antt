@@ -1,18 +1,15 @@
 use Rattle.std.proofs.Common.{◌≡◌, ◌∙◌}
 use Rattle.miss_registers.specs.Registers.{free_register, register_at}
-use Rattle.miss_registers.proofs.Each.{element_is}
-use Rattle.miss_registers.proofs.Words.{expects-parts}
-use Rattle.miss_registers.proofs.Awaiting.{marked-count}
+use Rattle.miss_registers.proofs.Tags.{element_is, expects-parts, marked-count}
 use Rattle.miss_registers.proofs.Whole.{marked-kept}
 use Rattle.miss_registers.proofs.table.RegisterTable.mark_in_stack.Goals as goal
 
 pub invariant_of-self : goal.invariant_of-self
 invariant_of-self c =
-    let xs = c.self.inside.slots.items in
     let v = c.self.view_is in
     let register = c.index_mut-register in
     let q = c.requires in
-    let e = element_is xs _ _ register.result.now free_register v q.slot register.ensures.value in
+    let e = element_is c.self.inside.slots.items _ _ register.result.now free_register v q.slot register.ensures.value in
     let counted = rw v at c.self.invariant in
     let word = expects-parts (register_at c.args.self.now c.args.slot) _ q.expected in
     rw (c.mark_in_stack.ensures, e, v) (counted ∙ marked-count _ _ _ q.slot word.there)

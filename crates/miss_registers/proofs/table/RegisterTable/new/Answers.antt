@@ -1,5 +1,5 @@
 use Rattle.std.proofs.Common.{length, ap, sym}
-use Rattle.miss_registers.proofs.Counts.{waiting_tags-new}
+use Rattle.miss_registers.proofs.Tags.{waiting_tags-new}
 use Rattle.miss_registers.proofs.Whole.{new-kept}
 use Rattle.miss_registers.proofs.table.RegisterTable.new.Goals as goal
 

@@ -1,7 +1,6 @@
 use Rattle.std.proofs.Common.{◌≡◌, ◌==◌, ◌≤◌, ℕ, zero, suc, nat_lt, false, refl, sym, ◌∙◌, arith}
 use Rattle.miss_registers.specs.Registers.{waiting_tags, tags_of}
-use Rattle.miss_registers.proofs.Tags.{list_any-flat_map}
-use Rattle.miss_registers.proofs.Awaiting.{none_has_tag}
+use Rattle.miss_registers.proofs.Tags.{list_any-flat_map, none_has_tag}
 use Rattle.miss_registers.proofs.table.RegisterTable.tag_waits.Goals as goal
 
 none_more : (n : ℕ) → n ≤ 0 → nat_lt 0 n ≡ false

@@ -12,7 +12,7 @@ use Rattle.cache_unit.specs.State.{UnitState}
 use Rattle.cache_unit.specs.Steps.{arrive_step}
 use Rattle.cache_unit.specs.Sound.{InRange}
 use Rattle.cache_unit.specs.Views.{is_empty}
-use Rattle.cache_unit.proofs.UnitForms.{each_step}
+use Rattle.cache_unit.proofs.Requesting.{each_step}
 use Rattle.station_journal.specs.declared.journal.Source.TheVariants as sources
 use Rattle.station_journal.specs.declared.journal.SideFault.TheVariants.{Uncalled, Stray}
 use Rattle.station_journal.proofs.Bringing.{none_popped, uncalled, called, stray, refused, side_stray, side_word, counts}

@@ -7,7 +7,7 @@ use Rattle.cache_unit.specs.declared.Sizes.{Sizes}
 use Rattle.cache_unit.specs.State.{UnitState}
 use Rattle.cache_unit.specs.Steps.{drain_step}
 use Rattle.cache_unit.specs.Sound.{InRange}
-use Rattle.cache_unit.proofs.UnitForms.{each_step}
+use Rattle.cache_unit.proofs.Requesting.{each_step}
 use Rattle.station_journal.specs.declared.journal.Source.TheVariants as sources
 use Rattle.station_journal.proofs.Sides.{side_drain, side_looked}
 use Rattle.station_parts.specs.declared.parts.Stepped.TheVariants.{Did}

@@ -5,8 +5,8 @@ use Rattle.flat_model.specs.declared.Event.TheVariants.{Process}
 use Rattle.memory_banks.specs.Banks.{commands_for}
 use Rattle.cache_unit.specs.State.{UnitState}
 use Rattle.cache_unit.specs.Steps.{process_step}
-use Rattle.cache_unit.proofs.UnitForms.{each_step}
-use Rattle.machine_core.proofs.Stepping.{process_silent}
+use Rattle.cache_unit.proofs.Requesting.{each_step}
+use Rattle.machine_core.proofs.Whole.{process_silent}
 use Rattle.station_journal.specs.declared.journal.Source.TheVariants.{Stack}
 use Rattle.station_journal.proofs.Sides.{side_process}
 use Rattle.station_parts.specs.declared.parts.Stepped.TheVariants.{Did}

@@ -8,8 +8,8 @@ use Rattle.cache_unit.specs.declared.Sizes.{Sizes}
 use Rattle.cache_unit.specs.State.{UnitState}
 use Rattle.cache_unit.specs.Steps.{take_step}
 use Rattle.cache_unit.specs.Sound.{InRange}
-use Rattle.cache_unit.proofs.UnitForms.{each_step}
-use Rattle.machine_core.proofs.Stepping.{take_silent}
+use Rattle.cache_unit.proofs.Requesting.{each_step}
+use Rattle.machine_core.proofs.Whole.{take_silent}
 use Rattle.station_journal.specs.declared.journal.Source.TheVariants as sources
 use Rattle.station_journal.specs.declared.journal.Entry.TheVariants.{Step}
 use Rattle.station_parts.specs.declared.parts.Stepped.TheVariants.{Did}
