@@ -6,7 +6,7 @@ use Rattle.std.proofs.lemmas.Bool.{and_parts}
 use Rattle.std.proofs.lemmas.List.{length-replicate}
 use Rattle.flat_model.specs.declared.limits.TheConstants.{MAX_BANKS}
 use Rattle.flat_model.specs.declared.Event.{Event}
-use Rattle.flat_model.specs.declared.Event.TheVariants.{Load, Store, Prefetch, Evict, Drain, Serve, Arrive, Process, Take}
+use Rattle.flat_model.specs.declared.Event.TheVariants.{Serve}
 use Rattle.memory_banks.specs.Banks.{bank_at}
 use Rattle.cache_unit.specs.Sound.{InRange}
 use Rattle.cache_unit.proofs.Made.{all_same}
@@ -32,21 +32,14 @@ use Rattle.round_driver.proofs.Moves.{steady_after, round_moves}
 -- ---- one request
 
 -- where nothing is on its way, requests are served
-serves : (s : MachineState) → IsWholeState s → weight s.machine ≡ 0 → ServesRequests s.sizes s.machine
+pub serves : (s : MachineState) → IsWholeState s → weight s.machine ≡ 0 → ServesRequests s.sizes s.machine
 serves s whole rest =
     bound_at_rest s.sizes (lawful s.sizes whole.in_range) (roomy s.sizes whole.in_range) s.machine whole.sound whole.bounded rest
 
 -- a request leaves each bank its commands
 request_leaves : (event : Event) → is_request event ≡ true → (b : ℕ) → leaves_commands b event
-request_leaves (Load tag at) r b = tt
-request_leaves (Store at word lanes) r b = tt
-request_leaves (Prefetch at) r b = tt
-request_leaves (Evict block) r b = tt
-request_leaves Drain r b = cc
 request_leaves (Serve bank) r b = cc
-request_leaves (Arrive bank place) r b = cc
-request_leaves (Process place) r b = cc
-request_leaves (Take place) r b = cc
+request_leaves event r b = tt
 
 -- ---- what a run may still take
 
@@ -154,8 +147,7 @@ stands_waits c d steady stands =
     none (inr answers) = answers
     none (inl full) =
         let empty = ap length stands.processed in
-        let some = range.some_depth in
-        absurd (omega (arith, full, empty, some))
+        absurd (omega (arith, full, empty, range.some_depth))
 
 -- the first course of the next round
 abbrev begun : Run → Course
@@ -163,7 +155,7 @@ begun r = course r.state (next_round r.schedule) []
 
 later_by : (round : ℕ) (begun : List ℕ) → AreBy round begun → AreBy (round + 1) begun
 later_by round [] h = tt
-later_by round (t ∷ ts) h = let early = h.0 in (omega (arith, early), later_by round ts h.1)
+later_by round (t ∷ ts) h = (omega (arith, h.0), later_by round ts h.1)
 
 begun_steady : (r : Run) → IsSound r → IsSteady r.state (next_round r.schedule)
 begun_steady r sound =
@@ -200,8 +192,8 @@ module _ (d : ℕ) (r : Run) (sound : IsSound r) (quiet : IsQuietFor d r) (next 
   nearer same b t there busy early begins due = go d refl due
     where
       go : (n : ℕ) → d ≡ n → (t + r.schedule.timing.latency ≤ r.schedule.round + d + 1) ⊎ (r.schedule.timing.latency ≤ d) → Goes d r next
-      go zero e (inl l) = let a = move.round in let c = move.latency in absurd (omega (arith, e, l, early, a, c))
-      go zero e (inr l) = let c = move.latency in absurd (omega (arith, e, l, early, c))
+      go zero e (inl l) = let a = move.round in absurd (omega (arith, e, l, early, a, move.latency))
+      go zero e (inr l) = absurd (omega (arith, e, l, early, move.latency))
       go (suc n) e o = later (sooner o)
         where
           sooner : (t + r.schedule.timing.latency ≤ r.schedule.round + d + 1) ⊎ (r.schedule.timing.latency ≤ d)
@@ -232,25 +224,22 @@ module _ (d : ℕ) (r : Run) (sound : IsSound r) (quiet : IsQuietFor d r) (next 
           → Goes d r next
       long_quiet enough (inl rest) = absurd (busy rest)
       long_quiet enough (inr x) =
-          let l = x.1 in
           let sizes = ap (λ s. s.sizes.banks) same in
-          let there : x.0 < r.state.sizes.banks = omega (arith, l, sizes) in
+          let there : x.0 < r.state.sizes.banks = omega (arith, x.1, sizes) in
           let begins = stands.begins x.0 there (subst (λ s. Waits s x.0) same x.2) in
           let early = (first_waits behind.state behind.schedule move.steady x.0 begins.0 begins.1).0 in
-          let time = move.round in
-          nearer same x.0 begins.0 there begins.1 begins.2 (omega (arith, early, time)) (inr enough)
+          nearer same x.0 begins.0 there begins.1 begins.2 (omega (arith, early, move.round)) (inr enough)
 
       go : IsQuietFor d r → Goes d r next
       go (inl enough) = long_quiet enough (stands_waits (begun r) behind move.steady stands)
       go (inr x) =
           let before = first_waits r.state r.schedule sound.steady x.0 x.1 x.3 in
-          let early = before.0 in
           let still = stands.kept x.0 x.1 x.3 in
           let begins = stands.begins x.0 x.2 before.1 in
           let is : Some begins.0 ≡ Some x.1 = sym begins.1 ∙ still in
           let time : begins.0 ≡ x.1 = cc in
           let not_due = subst (λ t. behind.schedule.round - t < behind.schedule.timing.latency) time begins.2 in
-          nearer same x.0 x.1 x.2 still not_due (omega (arith, early)) (inl x.4)
+          nearer same x.0 x.1 x.2 still not_due (omega (arith, before.0)) (inl x.4)
 
   goes_on : (behind.state ≡ r.state → weight behind.state.machine ≡ 0 → ⊥) → Goes d r next
   goes_on busy = go move.lighter
@@ -261,13 +250,9 @@ module _ (d : ℕ) (r : Run) (sound : IsSound r) (quiet : IsQuietFor d r) (next 
           lighter d r next latency round sizes next_sound as_many (omega (arith, less, weighs))
       go (inr x) = stood x.0 x.1 (busy x.0)
 
-sizes_stay : (s : MachineState) (event : Event) → (after_event s event).sizes ≡ s.sizes
-unfolding after_event
-sizes_stay s event = refl
-
 -- a run that isn't over takes fewer rounds behind the next one
 round_goes : (d : ℕ) (r : Run) → IsSound r → IsQuietFor d r → is_over r ≡ false → Goes d r (after_round r)
-unfolding after_round ask weight_of
+unfolding after_round ask weight_of after_event
 round_goes d r sound quiet going = go r.left refl sound.requests
   where
     behind : Course
@@ -299,7 +284,7 @@ round_goes d r sound quiet going = go r.left refl sound.requests
     asks event rest e request requests true h =
         let sound : IsSound (next event rest true) =
         record { steady = steady_then event (request_leaves event request); requests = requests } in
-        shorter d r (next event rest true) move.latency move.round (sizes_stay behind.state event ∙ move.sizes) sound (ap length e)
+        shorter d r (next event rest true) move.latency move.round move.sizes sound (ap length e)
     asks event rest e request requests false h =
         let same : after_event behind.state event ≡ behind.state = request_stays behind.state event request h in
         let all : list_all is_request (event ∷ rest) ≡ true = ap₂ (λ a b. a && b) request requests in
@@ -346,12 +331,9 @@ over_within (suc n) d r sound quiet few =
     go later true e = over_now (suc n) r e
     go later false e =
         let more = round_goes d r sound quiet e in
-        let cheaper = more.cheaper in
-        let round = more.round in
-        let rest = later more.quiet more.sound more.is_quiet (omega (arith, cheaper, few)) in
+        let rest = later more.quiet more.sound more.is_quiet (omega (arith, more.cheaper, few)) in
         let same = ap (λ q. q.schedule.round) (goes n r e) in
-        let in_time = rest.in_time in
-        record { over = ap is_over (goes n r e) ∙ rest.over; in_time = omega (arith, same, in_time, round) }
+        record { over = ap is_over (goes n r e) ∙ rest.over; in_time = omega (arith, same, rest.in_time, more.round) }
 
 pub requests_end : (timing : Timing) (s : MachineState) (requests : List Event) → IsWholeState s → RequestsEnd timing s requests
 requests_end timing s requests whole all =
@@ -359,8 +341,7 @@ requests_end timing s requests whole all =
     let same : whole_run timing s requests ≡ rounds_until_over most start =
     round_over most (most_rounds s.sizes timing.latency (length requests)) start (omega (arith, below)) rest.over in
     let round = ap (λ r. r.schedule.round) same in
-    let in_time = rest.in_time in
-    record { over = ap is_over same ∙ rest.over; in_time = omega (arith, round, in_time, below) }
+    record { over = ap is_over same ∙ rest.over; in_time = omega (arith, round, rest.in_time, below) }
   where
     start : Run
     start = start_of timing s requests

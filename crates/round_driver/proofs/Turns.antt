@@ -4,7 +4,7 @@ use Rattle.machine_core.specs.Machine.{MachineState}
 use Rattle.round_driver.specs.Machines.{has_answer, used_at, used_among}
 use Rattle.round_driver.specs.Rounds.{Course, begin, serve_due, bank_turns, first_with_answer}
 
-left : (n i : ℕ) → i < n → n - i ≡ suc (n - (i + 1))
+pub left : (n i : ℕ) → i < n → n - i ≡ suc (n - (i + 1))
 left n i h = omega arith
 
 -- ---- banks

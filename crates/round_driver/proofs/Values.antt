@@ -1,10 +1,10 @@
 -- A round answers one load at most.
-use Rattle.std.proofs.Common.{◌≡◌, ◌≤◌, ℕ, zero, suc, ◌+◌, nat_lt, ◌%◌, Bool, true, false, cond, List, [], ◌∷◌, ◌++◌, length, append-nil}
+use Rattle.std.proofs.Common.{◌≡◌, ◌≤◌, ℕ, nat_lt, ◌%◌, Bool, true, false, cond, List, [], ◌∷◌, ◌++◌, length, append-nil}
 use Rattle.std.proofs.Common.{Option, Some, None, refl, sym, ap, subst, ◌∙◌, arith}
 use Rattle.std.specs.Prelude.{slice_get}
 use Rattle.std.specs.List.{list_all}
 use Rattle.std.proofs.lemmas.List.Elements.{filter-append}
-use Rattle.std.proofs.lemmas.Bool.{and_parts}
+use Rattle.std.proofs.lemmas.Bool.{and_parts, false≢true as no}
 use Rattle.flat_model.specs.declared.Event.{Event}
 use Rattle.flat_model.specs.declared.Event.TheVariants.{Load, Store, Prefetch, Evict, Drain, Serve, Arrive, Process, Take}
 use Rattle.flat_model.specs.declared.Answer.TheVariants.{Accepted}
@@ -22,15 +22,12 @@ use Rattle.cache_unit.specs.Steps.{process_entry, process_step}
 use Rattle.machine_core.specs.Machine.{Machine, MachineState, joined_with, serve_from, take_in, arrive_from}
 use Rattle.machine_core.specs.AnyMachine.{answered}
 use Rattle.round_driver.specs.declared.note.Note.{Note}
-use Rattle.round_driver.specs.declared.schedule.Schedule.{Schedule}
-use Rattle.round_driver.specs.Rounds.{Course, course, is_done, note_of, request_note, attempt, ask, scheduled, begin, serve_due, bank_turns}
-use Rattle.round_driver.specs.Rounds.{arrive_from as arrive_at, arrive, moves, asked, after_round, next_round}
+use Rattle.round_driver.specs.Rounds.{Course, course, is_done, note_of, request_note, attempt, ask, bank_turns}
+use Rattle.round_driver.specs.Rounds.{arrive, moves, asked, after_round, next_round}
 use Rattle.round_driver.specs.Walks.{is_request}
 use Rattle.round_driver.proofs.Walks.{sent_first, kept_first}
+use Rattle.round_driver.proofs.Kept.{arrives}
 use Rattle.round_driver.specs.Stepping.{RoundsState, offered, is_value, answers, AnswersOneLoad}
-
-no : false ≡ true → ⊥
-no e = cc
 
 -- ---- events that never answer a load
 
@@ -97,11 +94,7 @@ request_is_quiet (Store at word lanes) h s =
 request_is_quiet (Prefetch at) h s =
     refused_quiet s.machine.banks s.machine.cache (prefetch_cause s.sizes (rooms s) s.machine.cache at) _ refl
 request_is_quiet (Evict block) h s = refused_quiet s.machine.banks s.machine.cache (evict_cause s.sizes s.machine.cache block) _ refl
-request_is_quiet Drain h s = absurd (no h)
-request_is_quiet (Serve b) h s = absurd (no h)
-request_is_quiet (Arrive b place) h s = absurd (no h)
-request_is_quiet (Process place) h s = absurd (no h)
-request_is_quiet (Take place) h s = absurd (no h)
+request_is_quiet event h s = absurd (no h)
 
 -- ---- what was answered in a round so far
 
@@ -124,34 +117,6 @@ module _ (before : List Note) where
       go : (b : Bool) → answers (cond b (c.notes ++ note_of c event ∷ []) c.notes) ≡ answers c.notes
       go true = quiet_note (note_of c event) c.notes (quiet c.state)
       go false = refl
-
-  one_of : (b : Bool) (c d : Course) → Answered before c → Answered before d → Answered before (cond b c d)
-  one_of true c d p q = p
-  one_of false c d p q = q
-
-  rescheduled : (p : Schedule) (c : Course) → Answered before c → Answered before (scheduled p c)
-  rescheduled p c w = record { same = w.same }
-
-  begun : (b : ℕ) (c : Course) → Answered before c → Answered before (begin b c)
-  unfolding begin
-  begun b c w = one_of _ _ c (rescheduled _ c w) w
-
-  served : (b : ℕ) (c : Course) → Answered before c → Answered before (serve_due b c)
-  unfolding serve_due
-  served b c w = one_of _ _ c (attempted (Serve b) _ (serve_is_quiet b) (rescheduled _ c w)) w
-
-  all_served : (n b : ℕ) (c : Course) → Answered before c → Answered before (bank_turns n b c)
-  unfolding bank_turns
-  all_served zero b c w = w
-  all_served (suc n) b c w = all_served n (b + 1) _ (served b _ (begun b c w))
-
-  one_arrived : (o : Option ℕ) (c : Course) → Answered before c → Answered before (arrive_at o c)
-  one_arrived None c w = w
-  one_arrived (Some b) c w = attempted (Arrive b 0) _ (arrive_is_quiet b 0) (rescheduled _ c w)
-
-  arrives : (c : Course) → Answered before c → Answered before (arrive c)
-  unfolding arrive
-  arrives c w = one_of _ _ c (one_arrived _ c w) w
 
 one_note : (b : Bool) (n : Note) → length (cond b (n ∷ []) []) ≤ 1
 one_note true n = omega arith
@@ -176,8 +141,9 @@ moved : (c : Course) → so_far c ≡ [] → length (so_far (moves c)) ≤ 1
 unfolding moves
 moved c none =
     let before = attempt (Process 0) (arrive (bank_turns c.state.sizes.banks 0 c)) in
-    let turns : Answered [] (bank_turns c.state.sizes.banks 0 c) = all_served [] _ 0 c (record { same = none }) in
-    let quiet : Answered [] before = attempted [] (Process 0) _ (process_is_quiet 0) (arrives [] _ turns) in
+    let arrived = arrives (Answered []) (λ p c w. record { same = w.same }) (λ b c w. attempted [] (Serve b) c (serve_is_quiet b) w)
+    (λ b c w. attempted [] (Arrive b 0) c (arrive_is_quiet b 0) w) _ 0 c (record { same = none }) in
+    let quiet : Answered [] before = attempted [] (Process 0) _ (process_is_quiet 0) arrived in
     let behind = attempt (Take 0) before in
     let same : Answered (so_far behind) behind = record { same = refl } in
     let drained : Answered (so_far behind) (attempt Drain behind) = attempted (so_far behind) Drain behind drain_is_quiet same in
