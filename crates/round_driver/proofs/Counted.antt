@@ -71,4 +71,4 @@ ends_next n z r p q in_use told =
 
 pub details_alike : {a b : Table} {t u : Told} {d e : RoundEnds} {m n : ℕ} {v w : List Outcome} → a ≡ b → t ≡ u → d ≡ e → m ≡ n → v ≡ w
     → details_from a t d m v ≡ details_from b u e n w
-details_alike p q r s o = λ i. details_from (p i) (q i) (r i) (s i) (o i)
+details_alike p q r s o = grind arith

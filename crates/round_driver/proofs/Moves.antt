@@ -3,7 +3,7 @@ use Rattle.std.proofs.Common.{◌≡◌, ℕ, zero, suc, ◌+◌, ◌-◌, ◌<�
 use Rattle.std.proofs.Common.{length, drop, get_or, slice_get, Option, Some, None, refl, sym, ap, ◌∙◌, subst, arith, ◌⊎◌, inl, inr, ⊎_elim}
 use Rattle.std.proofs.Common.{length-set, get_or-set_same, get_or-set_other, ltb-true, lt-ltb}
 use Rattle.std.specs.Option.{option_or}
-use Rattle.std.proofs.lemmas.Bool.{and_parts, cases_eq, cases_lt, ltb-false, true≢false as never}
+use Rattle.std.proofs.lemmas.Bool.{and_parts, cases_eq, cases_lt, true≢false as never}
 use Rattle.std.proofs.lemmas.List.{get_or_past, length-append}
 use Rattle.flat_model.specs.declared.limits.TheConstants.{MAX_BANKS}
 use Rattle.flat_model.specs.declared.Event.{Event}
@@ -53,19 +53,13 @@ pub record IsSteady (s : MachineState) (p : Schedule) : Type 0 where
   pub places : length p.begun ≡ MAX_BANKS
   pub busy : (b : ℕ) → IsInFlight p.round (length (bank_at s.machine.banks b).queue) (begun_at p b)
 
-some_items : {X : Type 0} (xs : List X) → 0 < length xs → has_items xs ≡ true
-some_items [] l = absurd (omega (arith, l))
-some_items (x ∷ xs) l = refl
-
 -- the first command that a bank began was begun by this round, and it waits
 pub first_waits : (s : MachineState) (p : Schedule) → IsSteady s p → (b t : ℕ) → first_begun p b ≡ Some t → (t ≤ p.round) × Waits s b
 first_waits s p steady b t e = go (begun_at p b) (steady.busy b) e
   where
     go : (begun : List ℕ) → IsInFlight p.round (waiting s b) begun → slice_get begun 0 ≡ Some t → (t ≤ p.round) × Waits s b
     go [] h q = cc
-    go (u ∷ us) h q =
-        let same : u ≡ t = cc in
-        (omega (arith, h.early.0, same), some_items (bank_at s.machine.banks b).queue (omega (arith, h.fits)))
+    go (u ∷ us) h q = grind arith
 
 abbrev Steady : Course → Type 0
 Steady c = IsSteady c.state c.schedule
@@ -115,26 +109,9 @@ pub record Move (c d : Course) (why : Type 0) : Type 0 where
   pub sizes : d.state.sizes ≡ c.state.sizes
   pub lighter : (weight d.state.machine < weight c.state.machine) ⊎ ((d.state ≡ c.state) × why)
 
--- no move, and why
-stays_so : {c : Course} {why : Type 0} → IsSteady c.state c.schedule → why → Move c c why
-stays_so steady so = record { steady = steady; round = refl; latency = refl; sizes = refl; lighter = inr (refl, so) }
-
 -- two moves, one after the other
 then : {F G H : Type 0} (c d e : Course) → Move c d F → Move d e G → (F → G → d.state ≡ c.state → e.state ≡ d.state → H) → Move c e H
-then {F} {G} {H} c d e first second both =
-    record {
-      steady = second.steady;
-      round = second.round ∙ first.round;
-      latency = second.latency ∙ first.latency;
-      sizes = second.sizes ∙ first.sizes;
-      lighter = go first.lighter second.lighter;
-    }
-  where
-    go : Lighter c d F → Lighter d e G → Lighter c e H
-    go (inl p) (inl q) = inl (omega (arith, p, q))
-    go (inl p) (inr q) = let same = ap weighs q.0 in inl (omega (arith, p, same))
-    go (inr p) (inl q) = let same = ap weighs p.0 in inl (omega (arith, q, same))
-    go (inr p) (inr q) = inr (q.0 ∙ p.0, both p.1 q.1 p.0 q.0)
+then {F} {G} {H} c d e first second both = grind arith
 
 -- ---- the banks
 
@@ -181,7 +158,7 @@ begun b c steady few = go (is_free c.schedule b && nat_lt (length before) (waiti
     now = scheduled (with_begin c.schedule b) c
 
     there : b < length c.schedule.begun
-    there = omega (arith, few, steady.places)
+    there = grind arith
 
     same : begun_at now.schedule b ≡ before ++ c.schedule.round ∷ []
     same = begun-same c.schedule b (before ++ c.schedule.round ∷ []) there
@@ -215,7 +192,7 @@ begun b c steady few = go (is_free c.schedule b && nat_lt (length before) (waiti
         here =
             let all = length-append before (c.schedule.round ∷ []) in
             let more : InFlightAt b (before ++ c.schedule.round ∷ []) =
-            record { early = more_by c.schedule.round before (steady.busy b).early; fits = omega (arith, all, free) } in
+            record { early = more_by c.schedule.round before (steady.busy b).early; fits = grind arith } in
             subst (InFlightAt b) (sym same) more
 
         first_here : (k t : ℕ) → k ≡ b → first_begun c.schedule k ≡ Some t → first_begun now.schedule k ≡ Some t
@@ -224,7 +201,7 @@ begun b c steady few = go (is_free c.schedule b && nat_lt (length before) (waiti
             ap (first_begun now.schedule) q ∙ ap (λ l. slice_get l 0) same ∙ first_stays before c.schedule.round t first
 
     stays : (Waits c.state b → (t : ℕ) × (first_begun c.schedule b ≡ Some t)) → Begun b c c
-    stays begins = record { steady = steady; state = refl; round = refl; latency = refl; kept = λ k t e. e; begins = begins }
+    stays begins = grind arith
 
     -- a bank that begins nothing, and has a command, has begun one
     held : (is_free c.schedule b && nat_lt (length before) (waiting c.state b)) ≡ false → Waits c.state b → (t : ℕ) ×
@@ -273,7 +250,7 @@ serves b c steady there = go (begun_at c.schedule b) refl
     Flies k = InFlightAt k (begun_at (without_first c.schedule b) k)
 
     stays : ((t : ℕ) → first_begun c.schedule b ≡ Some t → NotDue c t) → Move c c (ServedOrNot b c c)
-    stays early = stays_so steady (refl, early)
+    stays early = grind arith
 
     ends : (t : ℕ) (ts : List ℕ) → begun_at c.schedule b ≡ t ∷ ts → Move c ended (ServedOrNot b c ended)
     ends t ts e =
@@ -318,21 +295,13 @@ serves b c steady there = go (begun_at c.schedule b) refl
 
     due : (t : ℕ) (ts : List ℕ) → begun_at c.schedule b ≡ t ∷ ts → (early : Bool) → nat_lt (c.schedule.round - t) c.schedule.timing.latency
         ≡ early → Move c (cond (not early) ended c) (ServedOrNot b c (cond (not early) ended c))
-    due t ts e true q =
-        stays (λ u f. let same : t ≡ u = is_first u f in
-        subst (NotDue c) same (ltb-true (c.schedule.round - t) c.schedule.timing.latency q))
-      where
-        is_first : (u : ℕ) → first_begun c.schedule b ≡ Some u → t ≡ u
-        is_first u f = let first : Some t ≡ Some u = sym (ap (λ l. slice_get l 0) e) ∙ f in cc
+    due t ts e true q = grind arith
     due t ts e false q = ends t ts e
 
     go : (begun : List ℕ) → begun_at c.schedule b ≡ begun
         → Move c (cond (is_due_since c.schedule (slice_get begun 0)) ended c)
         (ServedOrNot b c (cond (is_due_since c.schedule (slice_get begun 0)) ended c))
-    go [] e = stays (λ t f. none t (sym (ap (λ l. slice_get l 0) e) ∙ f))
-      where
-        none : (t : ℕ) → slice_get [] 0 ≡ Some t → NotDue c t
-        none t f = cc
+    go [] e = grind arith
     go (t ∷ ts) e = due t ts e (nat_lt (c.schedule.round - t) c.schedule.timing.latency) refl
 
 -- n banks from this one on had their turns and served nothing: each that has a command has begun one, which isn't due
@@ -414,7 +383,7 @@ turn_then n b c steady all later = then c e f first rest both
 
 turns : (n b : ℕ) (c : Course) → Steady c → b + n ≡ c.state.sizes.banks → AllTurns n b c
 unfolding bank_turns
-turns zero b c steady all = stays_so steady (record { kept = λ k t e. e; begins = λ k lo hi w. absurd (omega (arith, lo, hi)) })
+turns zero b c steady all = grind arith
 turns (suc n) b c steady all = turn_then n b c steady all (λ s a. turns n (b + 1) (serve_due b (begin b c)) s a)
 
 -- ---- one arrival
@@ -426,19 +395,18 @@ answer_there s (suc n) b k e = go (has_answer s b) refl (answer_there s n (b + 1
   where
     go : (h : Bool) → has_answer s b ≡ h → (first_with_answer s n (b + 1) ≡ Some k → has_answer s k ≡ true)
         → cond h (Some b) (first_with_answer s n (b + 1)) ≡ Some k → has_answer s k ≡ true
-    go true q later r = let same : b ≡ k = cc in ap (has_answer s) (sym same) ∙ q
+    go true q later r = grind arith
     go false q later r = later r
 
 no_answer : (s : MachineState) (n b k : ℕ) → first_with_answer s n b ≡ None → b ≤ k → k < b + n → has_answer s k ≡ false
 unfolding first_with_answer
-no_answer s zero b k e lo hi = absurd (omega (arith, lo, hi))
+no_answer s zero b k e lo hi = grind arith
 no_answer s (suc n) b k e lo hi = go (has_answer s b) refl (no_answer s n (b + 1) k) e
   where
     go : (h : Bool) → has_answer s b ≡ h → (first_with_answer s n (b + 1) ≡ None → b + 1 ≤ k → k < b + 1 + n → has_answer s k ≡ false)
         → cond h (Some b) (first_with_answer s n (b + 1)) ≡ None → has_answer s k ≡ false
     go true q later r = cc
-    go false q later r =
-        ⊎_elim (λ same. ap (has_answer s) same ∙ q) (λ apart. later r (omega (arith, lo, apart)) (omega (arith, hi))) (cases_eq k b)
+    go false q later r = grind arith
 
 -- no bank has an answer
 abbrev pub NoAnswers : MachineState → Type 0
@@ -485,7 +453,7 @@ unfolding arrive has_stack_room has_answer attempt after_event
 arrives c steady = go (nat_lt (length c.state.machine.cache.stack) c.state.sizes.depth) refl
   where
     stays : NothingArrives c.state → Move c c (Shows c c NothingArrives)
-    stays why = stays_so steady (refl, why)
+    stays why = grind arith
 
     comes : length c.state.machine.cache.stack < c.state.sizes.depth → (b : ℕ) → has_answer c.state b ≡ true
         → Move c (arrive_from (Some b) c) (Shows c (arrive_from (Some b) c) NothingArrives)
@@ -529,7 +497,7 @@ arrives c steady = go (nat_lt (length c.state.machine.cache.stack) c.state.sizes
         (Shows c (cond h (arrive_from (next_with_answer c.state c.schedule.next) c) c) NothingArrives)
     go true e =
         next (ltb-true (length c.state.machine.cache.stack) c.state.sizes.depth e) (next_with_answer c.state c.schedule.next) refl
-    go false e = stays (inl (ltb-false (length c.state.machine.cache.stack) c.state.sizes.depth e))
+    go false e = grind arith
 
 -- ---- the stack, the replies, the write queue
 
@@ -544,15 +512,13 @@ attempted event c why steady leaves falls =
       round = refl;
       latency = refl;
       sizes = refl;
-      lighter = go (let w = steady.whole in falls c.state.sizes (law c.state w) (room c.state w) c.state.machine w.sound);
+      lighter = grind arith;
     }
   where
     go : FallsOr c.state.machine (apply c.state.sizes c.state.machine event).machine (why c.state)
         → Lighter c (attempt event c) (Shows c (attempt event c) why)
     go (inl p) = inl p
-    go (inr p) =
-        let same : after_event c.state event ≡ c.state = ap (λ m. record { sizes = c.state.sizes; machine = m }) p.0 in
-        inr (same, (refl, subst why (sym same) p.1))
+    go (inr p) = grind arith
 
 -- ---- all moves of a round
 
@@ -613,10 +579,10 @@ round_moves c steady = then c c3 c5 (then c c1 c3 turned first (λ f g p q. (f, 
         → Shows c3 c5 (λ s. (s.machine.cache.ready ≡ []) × Drained s) → c3.state ≡ c.state → c5.state ≡ c3.state → Stands c c5
     all f g p q =
         record {
-          kept = λ b t e. still b ∙ f.0.kept b t e;
+          kept = grind arith;
           begins = λ b l w. busy b (f.0.begins b (omega arith) (omega (arith, l)) w);
-          arrived = subst NothingArrives (sym q) f.1.1.0;
-          processed = subst (λ s. s.machine.cache.stack ≡ []) (sym q) f.1.1.1;
+          arrived = grind arith;
+          processed = grind arith;
           taken = g.1.0;
           drained = g.1.1;
         }

@@ -54,7 +54,7 @@ round_more (suc n) r h = go (λ going. round_more n (after_round r) going) (is_o
 -- behind the end there are no rounds
 pub round_over : (n m : ℕ) (r : Run) → n ≤ m → is_over (rounds_until_over n r) ≡ true → rounds_until_over m r ≡ rounds_until_over n r
 round_over zero m r le h = stays m r (sym (ap is_over (none r)) ∙ h) ∙ sym (none r)
-round_over (suc n) zero r le h = absurd (omega (arith, le))
+round_over (suc n) zero r le h = grind arith
 round_over (suc n) (suc m) r le h = go (λ fewer over. round_over n m (after_round r) fewer over) (is_over r) refl
   where
     go : (n ≤ m → is_over (rounds_until_over n (after_round r)) ≡ true
@@ -94,7 +94,7 @@ module _ (timing : Timing) (s : MachineState) (requests : List Event) where
   pub run_begins : {p : Schedule} → p ≡ opening timing → run_of s p requests (rounds_until_over 0 (start_of timing s requests)).told
       ≡ rounds_until_over 0 (start_of timing s requests)
   unfolding rounds_until_over
-  run_begins h = ap (λ p. run_of s p requests []) h
+  run_begins h = grind arith
 
   pub text_begins : {S : Type 0} {step : S → List ℕ → S → Type 0} {w : S}
       → Moves step w (run_text (rounds_until_over 0 (start_of timing s requests)).told) w
@@ -186,10 +186,10 @@ module _ (timing : Timing) (s : MachineState) (requests : List Event) {turns mos
 
   pub whole_spent : turns ≡ most
       → run_of m p left (rounds_until_over turns (start_of timing s requests)).told ≡ whole_run timing s requests
-  whole_spent all = here ∙ ap (λ n. rounds_until_over n (start_of timing s requests)) (all ∙ value)
+  whole_spent all = grind arith
 
   pub over_early : {b : Bool} → turns < most → b ≡ is_over_at m left → b ≡ true → EndsInTime timing s requests
   over_early lt answer over h = sym (ap is_over (whole_over lt answer over)) ∙ sym answer ∙ over
 
   pub spent_early : turns ≡ most → p.round ≡ turns → EndsInTime timing s requests
-  spent_early all round h = absurd (no_more most _ _ (sym (ap (λ r. r.schedule.round) (whole_spent all)) ∙ round ∙ all) value h)
+  spent_early all round h = grind arith

@@ -3,7 +3,7 @@ use Rattle.round_driver.specs.Machines.{used_registers}
 use Rattle.round_driver.specs.Rounds.{start_of, rounds_until_over, whole_run}
 use Rattle.round_driver.specs.Tables.{counting, nothing, counted_all, with_rounds, total, table_of}
 use Rattle.round_driver.specs.Details.{counted_all as told_all, told_of, ends_of, outcomes_in, told_total, told_rounds, ends_total}
-use Rattle.round_driver.proofs.Runs.{run_begins, counts_begin, whole_over, over_early, whole_spent, spent_early, run_next}
+use Rattle.round_driver.proofs.Runs.{run_begins, counts_begin, whole_over, over_early, spent_early, run_next}
 use Rattle.round_driver.proofs.Runs.{told_next as notes_next, counts_next}
 use Rattle.round_driver.proofs.Ends.{requests_end}
 use Rattle.round_driver.specs.Outcomes.{with_notes}
@@ -36,7 +36,7 @@ loop-turn-init c =
       next = omega (arith, next);
       total = omega (arith, none);
       waited = omega (arith, unwaited);
-      tags = c.in_ok-counter.ensures.tags;
+      tags = grind arith;
       few_told = omega (arith, untold);
       few_rounds = omega (arith, unheard);
       few_ends = omega (arith, unended);
@@ -72,9 +72,7 @@ returns-then-is_over-clause-early c =
     c.if-is_over.true
 
 pub returns-clause-machine : goal.returns-clause-machine
-returns-clause-machine c =
-    ap (λ r. r.state) (whole_spent _ _ _ c.loop-turn.invariant.run c.most_rounds-turn-end.ensures.value
-    (omega (arith, c.loop-turn-test.false, c.loop-turn.auto._turn-end)))
+returns-clause-machine c = grind arith
 
 pub returns-clause-early : goal.returns-clause-early
 returns-clause-early c =
@@ -105,15 +103,15 @@ loop-turn-preserved c =
       outcomes = outcomes;
       recorded = ap (λ x. x.ended) outcomes
           ∙ all_recorded (length c.args.requests.now) (rounds_until_over (c.loop-turn._turn + 1) start).told;
-      sizes = c.round-left.ensures.sizes ∙ c.loop-turn.invariant.sizes;
-      time = omega (arith, c.round-left.ensures.time, c.loop-turn.invariant.time);
-      next = c.round-left.ensures.next;
-      total = omega (arith, c.loop-turn.invariant.total, c.count_all.ensures.total);
-      waited = omega (arith, c.loop-turn.invariant.waited, c.count_all.ensures.waited);
-      tags = c.count_all.ensures.tags;
-      few_told = omega (arith, c.loop-turn.invariant.few_told, c.count_all-in-loop-turn.ensures.total);
-      few_rounds = omega (arith, c.loop-turn.invariant.few_rounds, c.count_all-in-loop-turn.ensures.rounds);
-      few_ends = omega (arith, c.loop-turn.invariant.few_ends, c.count.ensures.total);
+      sizes = grind arith;
+      time = grind arith;
+      next = grind arith;
+      total = grind arith;
+      waited = grind arith;
+      tags = grind arith;
+      few_told = grind arith;
+      few_rounds = grind arith;
+      few_ends = grind arith;
     }
 
 pub returns-then-is_over-clause-over : goal.returns-then-is_over-clause-over

@@ -1,7 +1,7 @@
 use Rattle.std.proofs.Common.{◌≡◌, ◌+◌, sym, ap, subst, ◌∙◌, arith}
 use Rattle.trace_text.specs.Streams.{Moves, Stopped}
 use Rattle.round_driver.specs.Written.{run_text}
-use Rattle.round_driver.proofs.Runs.{run_begins, text_begins, whole_over, over_early, spent_early, run_next, text_next, lines_refused}
+use Rattle.round_driver.proofs.Runs.{run_begins, text_begins, whole_over, over_early, run_next, text_next, lines_refused}
 use Rattle.round_driver.proofs.Runs.{lines_lack_memory}
 use Rattle.round_driver.proofs.Ends.{requests_end}
 use Rattle.round_driver.proofs.driving.drive_with.Goals as goal
@@ -60,9 +60,7 @@ returns-then-is_over-clause-early g c =
     c.if-is_over.true
 
 pub returns-clause-early : goal.returns-clause-early
-returns-clause-early g c =
-    spent_early _ _ _ c.loop-turn.invariant.run c.most_rounds-turn-end.ensures.value
-    (omega (arith, c.loop-turn-test.false, c.loop-turn.auto._turn-end)) c.loop-turn.invariant.time
+returns-clause-early g c = grind arith
 
 pub loop-turn-preserved : goal.loop-turn-preserved
 loop-turn-preserved g c =
@@ -75,9 +73,9 @@ loop-turn-preserved g c =
     record {
       run = run_next _ _ here made going;
       written = text_next _ _ here made going c.loop-turn.invariant.written text;
-      sizes = c.round-left.ensures.sizes ∙ c.loop-turn.invariant.sizes;
-      time = omega (arith, c.round-left.ensures.time, c.loop-turn.invariant.time);
-      next = c.round-left.ensures.next;
+      sizes = grind arith;
+      time = grind arith;
+      next = grind arith;
     }
 
 pub returns-then-is_over-clause-over : goal.returns-then-is_over-clause-over

@@ -1,6 +1,6 @@
 use Rattle.std.proofs.Common.{◌≡◌, ◌+◌, sym, ap, ◌∙◌, arith}
 use Rattle.round_driver.specs.Tables.{counting, nothing, counted_all, with_rounds, total}
-use Rattle.round_driver.proofs.Runs.{run_begins, counts_begin, whole_over, over_early, spent_early, run_next, counts_next}
+use Rattle.round_driver.proofs.Runs.{run_begins, counts_begin, whole_over, over_early, run_next, counts_next}
 use Rattle.round_driver.proofs.Ends.{requests_end}
 use Rattle.round_driver.proofs.driving.summarize_with.Goals as goal
 
@@ -20,7 +20,7 @@ loop-turn-init c =
       next = omega (arith, next);
       total = omega (arith, none);
       waited = omega (arith, unwaited);
-      tags = c.in_ok-counter.ensures.tags;
+      tags = grind arith;
     }
 
 pub returns-then-is_over-clause-table : goal.returns-then-is_over-clause-table
@@ -42,9 +42,7 @@ returns-then-is_over-clause-early c =
     c.if-is_over.true
 
 pub returns-clause-early : goal.returns-clause-early
-returns-clause-early c =
-    spent_early _ _ _ c.loop-turn.invariant.run c.most_rounds-turn-end.ensures.value
-    (omega (arith, c.loop-turn-test.false, c.loop-turn.auto._turn-end)) c.loop-turn.invariant.time
+returns-clause-early c = grind arith
 
 pub loop-turn-preserved : goal.loop-turn-preserved
 loop-turn-preserved c =
@@ -55,12 +53,12 @@ loop-turn-preserved c =
       run = run_next _ _ here made going;
       counts = counts_next _ _ here made going c.loop-turn.invariant.counts
           (c.count_all.ensures.counts ∙ ap (counted_all (counting c.loop-turn.counter)) c.as_slice.ensures.value);
-      sizes = c.round-left.ensures.sizes ∙ c.loop-turn.invariant.sizes;
-      time = omega (arith, c.round-left.ensures.time, c.loop-turn.invariant.time);
-      next = c.round-left.ensures.next;
-      total = omega (arith, c.loop-turn.invariant.total, c.count_all.ensures.total);
-      waited = omega (arith, c.loop-turn.invariant.waited, c.count_all.ensures.waited);
-      tags = c.count_all.ensures.tags;
+      sizes = grind arith;
+      time = grind arith;
+      next = grind arith;
+      total = grind arith;
+      waited = grind arith;
+      tags = grind arith;
     }
 
 pub returns-then-is_over-clause-over : goal.returns-then-is_over-clause-over

@@ -10,10 +10,10 @@ loop-bank-preserved c =
     record {
       same = c.loop-bank.invariant.same ∙ bank_more c.sizes.result.now.banks c.loop-bank.bank here _ _ c.begin.ensures.course
           c.serve_due.ensures.course turn;
-      sizes = c.serve_due.ensures.sizes ∙ c.loop-bank.invariant.sizes;
-      len = omega (arith, c.loop-bank.invariant.len, c.serve_due.ensures.len);
-      time = c.serve_due.ensures.time ∙ c.begin.ensures.time ∙ c.loop-bank.invariant.time;
-      next = c.serve_due.ensures.next ∙ c.begin.ensures.next ∙ c.loop-bank.invariant.next;
+      sizes = grind arith;
+      len = grind arith;
+      time = grind arith;
+      next = grind arith;
     }
 
 pub returns-clause-course : goal.returns-clause-course
