@@ -3,7 +3,7 @@ use Rattle.std.proofs.Common.{◌≡◌, ℕ, true, List, [], ◌∷◌, ◌≤�
 use Rattle.std.specs.List.{AllByRecursion, list_all}
 use Rattle.std.specs.Prelude.{Result, Ok, Err, IfErr}
 use Rattle.flat_model.specs.declared.Event.{Event}
-use Rattle.flat_model.specs.declared.Event.TheVariants.{Load, Store, Prefetch, Evict, Drain, Serve, Arrive, Process, Take}
+use Rattle.flat_model.specs.declared.Event.TheVariants.{Load, Store, Prefetch, Evict}
 use Rattle.machine_core.specs.Machine.{MachineState}
 use Rattle.trace_text.specs.Requests.{IsRequest}
 use Rattle.trace_text.specs.declared.fault.TraceFault.{TraceFault}
@@ -29,11 +29,7 @@ all_requests (Load tag at ∷ events) all = all_requests events all.1
 all_requests (Store at word lanes ∷ events) all = all_requests events all.1
 all_requests (Prefetch at ∷ events) all = all_requests events all.1
 all_requests (Evict block ∷ events) all = all_requests events all.1
-all_requests (Drain ∷ events) all = absurd all.0
-all_requests (Serve bank ∷ events) all = absurd all.0
-all_requests (Arrive bank place ∷ events) all = absurd all.0
-all_requests (Process place ∷ events) all = absurd all.0
-all_requests (Take place ∷ events) all = absurd all.0
+all_requests (event ∷ events) all = absurd all.0
 
 -- a log has as many requests at most as a trace has lines
 pub log_few : {R : Type 0} (gave : R → List ℕ → R → Type 0) (access_in : List ℕ → Result (Option Access) LineFault) (room : ℕ) (r r' : R)

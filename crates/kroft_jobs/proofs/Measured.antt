@@ -12,7 +12,7 @@ use Rattle.machine_core.specs.Whole.{IsWholeState}
 use Rattle.trace_text.specs.Codes.{most_lines}
 use Rattle.trace_text.specs.Streams.{Moves, Stopped}
 use Rattle.trace_text.specs.declared.fault.TraceFault.{TraceFault}
-use Rattle.trace_text.specs.declared.fault.TraceFault.TheVariants.{Line, Read, Write, OutOfMemory, TooManyLines}
+use Rattle.trace_text.specs.declared.fault.TraceFault.TheVariants.{Write, OutOfMemory}
 use Rattle.round_driver.specs.declared.note.Note.{Note}
 use Rattle.round_driver.specs.declared.timing.Timing.{Timing}
 use Rattle.round_driver.specs.Rounds.{Run, Course, asked, moves, course, next_round, after_round, is_over, rounds_until_over, start_of}
@@ -37,7 +37,7 @@ measured_none s = record { lines = omega arith; kept = λ is. (is, sym (append-n
 
 measured_then : (s t u : RunMeasure) (xs ys : List ℕ) → Measured s xs t → Measured t ys u → Measured s (xs ++ ys) u
 measured_then s t u xs ys p q = record {
-  lines = let first = p.lines in let second = q.lines in let both = lines_then xs ys in omega (arith, first, second, both);
+  lines = let both = lines_then xs ys in omega (arith, p.lines, q.lines, both);
   kept = λ is.
       let later = q.kept is in
       let before = p.kept later.0 in
@@ -127,7 +127,7 @@ module _ (timing : Timing) (s : MachineState) (requests : List Event) where
       measured = measured_all first last (whole_text timing s requests) driven.0
 
       count : last.lines ≡ line_count (whole_text timing s requests)
-      count = let lines = measured.lines in omega (arith, lines, none)
+      count = omega (arith, measured.lines, none)
 
       go : (long : Bool) → nat_lt most_lines last.lines ≡ long → (kept : Bool) → last.is_kept ≡ kept
           → IsMeasured timing s requests (if long then TooLong else (if kept then Kept last.text rounds else Readable))
@@ -146,9 +146,8 @@ module _ (timing : Timing) (s : MachineState) (requests : List Event) where
       go broken =
           let stopped = broken.0 in
           let lines = (measured_all first stopped.last stopped.front stopped.moved).lines in
-          let refused = stopped.refusal in
           let all = ap line_count stopped.whole ∙ lines_then stopped.front stopped.back in
-          omega (arith, none, lines, refused, all)
+          omega (arith, none, lines, stopped.refusal, all)
 
   -- ---- what is written
 
@@ -176,9 +175,7 @@ module _ (timing : Timing) (s : MachineState) (requests : List Event) where
         )
     run_driven all whole left (Err OutOfMemory) count over written broken =
         inr (broken.0, broken.1, requests_end timing s requests whole all)
-    run_driven all whole left (Err Read) count over written broken = absurd broken.1
-    run_driven all whole left (Err TooManyLines) count over written broken = absurd broken.1
-    run_driven all whole left (Err (Line n f)) count over written broken = absurd broken.1
+    run_driven all whole left (Err fault) count over written broken = absurd broken.1
 
     -- a run that was kept is written, and not told of
     pub kept_driven : {E : Type 0} (noted : E → List ℕ → E → Type 0) (unnoted unsettled : E → E → Type 0) (errors : E)

@@ -1,19 +1,11 @@
 -- The tags below a number that are owed a value, and those below the next.
-use Rattle.std.proofs.Common.{◌≡◌, ℕ, suc, zero, ◌+◌, Bool, cond, [], ◌∷◌, ◌++◌, refl, sym, ap, ◌∙◌, arith, add-zero, add-one}
+use Rattle.std.proofs.Common.{◌≡◌, ℕ, ◌+◌, Bool, cond, [], ◌∷◌, ◌++◌, refl, ap, ◌∙◌, arith}
 use Rattle.std.specs.Prelude.{is_some}
 use Rattle.std.specs.List.{filter, range_with_len}
 use Rattle.std.proofs.lemmas.List.Elements.{filter-append}
 use Rattle.flat_model.specs.Flat.{Flat}
+use Rattle.cache_unit.proofs.Fetching.{range_more}
 use Rattle.kroft_jobs.specs.Answering.{owed_below}
-
-range_last : (a n : ℕ) → range_with_len a (suc n) ≡ range_with_len a n ++ (a + n) ∷ []
-range_last a zero = ap (λ x. x ∷ []) (sym (add-zero a))
-range_last a (suc n) =
-    let e : a + 1 + n ≡ a + suc n = omega arith in
-    ap (λ l. a ∷ l) (range_last (a + 1) n ∙ ap (λ k. range_with_len (a + 1) n ++ k ∷ []) e)
-
-range_more : (n : ℕ) → range_with_len 0 (n + 1) ≡ range_with_len 0 n ++ n ∷ []
-range_more n = ap (range_with_len 0) (add-one n) ∙ range_last 0 n ∙ ap (λ k. range_with_len 0 n ++ k ∷ []) (omega arith)
 
 -- below 0 there are none
 pub owed_first : (f : Flat) → owed_below f 0 ≡ []
@@ -26,5 +18,7 @@ pub owed_more : (f : Flat) (n : ℕ) (b : Bool) → is_some (f.due n) ≡ b
 unfolding owed_below
 owed_more f n b e =
     let owed = λ (tag : ℕ). is_some (f.due tag) in
-    ap (filter owed) (range_more n) ∙ filter-append owed (range_with_len 0 n) (n ∷ [])
+    let more : range_with_len 0 (n + 1) ≡ range_with_len 0 n ++ n ∷ [] = range_more 0 n
+    ∙ ap (λ k. range_with_len 0 n ++ k ∷ []) (omega arith) in
+    ap (filter owed) more ∙ filter-append owed (range_with_len 0 n) (n ∷ [])
     ∙ ap (λ v. filter owed (range_with_len 0 n) ++ cond v (n ∷ []) []) e

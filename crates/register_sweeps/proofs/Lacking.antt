@@ -1,7 +1,8 @@
 -- A request that lacks room for a miss is refused again until a word is processed or a queued word is drained.
 use Rattle.std.proofs.Common.{◌≡◌, ℕ, zero, suc, ◌+◌, ◌%◌, ◌==◌, Bool, true, false, ◌&&◌, cond, not, nat_lt, List, [], ◌∷◌, length, get_or}
 use Rattle.std.proofs.Common.{set, take, Option, Some, None, is_some, is_none, find, filter, slice_get, refl, sym, ap, subst, ◌∙◌}
-use Rattle.std.proofs.lemmas.Bool.{and_parts, true≢false as no}
+use Rattle.std.specs.Cmp.Derive.{both_true}
+use Rattle.std.proofs.lemmas.Bool.{and_parts, not-false, not_from_false, true≢false as no}
 use Rattle.flat_model.specs.Causes.{ends_request}
 use Rattle.flat_model.specs.Words.{has_any}
 use Rattle.flat_model.specs.declared.Word.{Word}
@@ -10,9 +11,9 @@ use Rattle.flat_model.specs.declared.Cause.{Cause}
 use Rattle.flat_model.specs.declared.Cause.TheVariants.{OutOfRange, NoLanes, TagInUse, RepliesFull, TargetsFull, NoRegister, SetPending}
 use Rattle.flat_model.specs.declared.Cause.TheVariants.{QueueFull, BankFull}
 use Rattle.flat_model.specs.declared.Event.{Event}
-use Rattle.flat_model.specs.declared.Event.TheVariants.{Load, Store, Prefetch, Evict, Drain, Serve, Arrive, Process, Take}
+use Rattle.flat_model.specs.declared.Event.TheVariants.{Load, Store, Prefetch, Serve, Arrive, Take}
 use Rattle.flat_model.specs.declared.Answer.{Answer}
-use Rattle.flat_model.specs.declared.Answer.TheVariants.{Accepted, Moved, Value, Nothing, Refused}
+use Rattle.flat_model.specs.declared.Answer.TheVariants.{Accepted, Refused}
 use Rattle.memory_banks.specs.declared.Command.{Command}
 use Rattle.memory_banks.specs.declared.BankAnswer.{BankAnswer}
 use Rattle.memory_banks.specs.Banks.{Bank, bank_at}
@@ -56,16 +57,6 @@ one_of_three false true q r c l h = refl
 one_of_three false false true r c l h = refl
 one_of_three false false false r c l h = let none = (other r BankFull None c refl l h).1 in cc
 
-both : (x y : Bool) → x ≡ true → y ≡ true → (x && y) ≡ true
-both x y e f = ap (λ b. b && y) e ∙ f
-
-not_false : (x : Bool) → x ≡ false → not x ≡ true
-not_false x e = ap not e
-
-true_of_not : (x : Bool) → not x ≡ false → x ≡ true
-true_of_not true e = refl
-true_of_not false e = absurd (no e)
-
 module _ (z : Sizes) (room : ℕ → ℕ) (c : Cache) (at : ℕ) (x : Cause) (lack : is_lack x ≡ true) where
   abbrev block : ℕ
   block = block_of z at
@@ -76,7 +67,7 @@ module _ (z : Sizes) (room : ℕ → ℕ) (c : Cache) (at : ℕ) (x : Cause) (la
   within inside here nothing true e h = absurd (nothing h)
   within inside here nothing false e h =
       let three = one_of_three _ _ _ _ x lack h in
-      both _ _ (true_of_not (nat_lt at z.words) inside) (both _ _ (not_false (is_present c block) e) three)
+      both_true (not-false _ inside) (both_true (not_from_false _ e) three)
 
   load_lacks : (tag : ℕ) → load_cause z room c tag at ≡ Some x → lacks_room_at z c at ≡ true
   unfolding load_cause
@@ -94,7 +85,7 @@ module _ (z : Sizes) (room : ℕ → ℕ) (c : Cache) (at : ℕ) (x : Cause) (la
       let inside = other _ OutOfRange _ x refl lack h in
       let some = other _ NoLanes _ x refl lack inside.1 in
       let lacks = within inside.0 [] (λ t. absurd cc) (is_present c block) refl some.1 in
-      both (has_any lanes) _ (true_of_not (has_any lanes) some.0) lacks
+      both_true (not-false _ some.0) lacks
 
   prefetch_lacks : prefetch_cause z room c at ≡ Some x → lacks_room_at z c at ≡ true
   unfolding prefetch_cause
@@ -117,20 +108,12 @@ refused_lacks s (Store at word lanes) x l h = store_lacks s.sizes _ s.machine.ca
     (cause_of s.machine.banks s.machine.cache _ _ x refl h)
 refused_lacks s (Prefetch at) x l h = prefetch_lacks s.sizes _ s.machine.cache at x l
     (cause_of s.machine.banks s.machine.cache _ _ x refl h)
-refused_lacks s (Evict block) x l h = cc
-refused_lacks s Drain x l h = cc
-refused_lacks s (Serve bank) x l h = cc
-refused_lacks s (Arrive bank place) x l h = cc
-refused_lacks s (Process place) x l h = cc
-refused_lacks s (Take place) x l h = cc
+refused_lacks s event x l h = cc
 
 pub lacks_where_refused : (s : MachineState) (event : Event) (a : Answer) → answered s event ≡ a → is_refused_room event a ≡ true
     → lacks_room s event ≡ true
 lacks_where_refused s event (Refused x) e h = refused_lacks s event x h e
-lacks_where_refused s event Accepted e h = cc
-lacks_where_refused s event Moved e h = cc
-lacks_where_refused s event Nothing e h = cc
-lacks_where_refused s event (Value tag word) e h = cc
+lacks_where_refused s event a e h = cc
 
 -- ---- a request that lacks room waits
 
@@ -195,27 +178,13 @@ lacking_waits s (Store at word lanes) h =
     let parts = and_parts (has_any lanes) _ h in
     (refl, passes_on s.machine.banks s.machine.cache _ _ (store_passes s.sizes _ s.machine.cache at parts.1 lanes parts.0))
 lacking_waits s (Prefetch at) h = (refl, passes_on s.machine.banks s.machine.cache _ _ (prefetch_passes s.sizes _ s.machine.cache at h))
-lacking_waits s (Evict block) h = cc
-lacking_waits s Drain h = cc
-lacking_waits s (Serve bank) h = cc
-lacking_waits s (Arrive bank place) h = cc
-lacking_waits s (Process place) h = cc
-lacking_waits s (Take place) h = cc
+lacking_waits s event h = cc
 
 -- so to ask it changes nothing
 pub lacking_stays : (c : Course) (event : Event) → lacks_room c.state event ≡ true → (ends event c ≡ false) × (ask event c ≡ c)
 lacking_stays c event h = let w = lacking_waits c.state event h in (w.1, waits event c w.0 w.1)
 
 -- ---- events that leave room alone
-
--- tests that say the same of each element
-all_same : {X : Type 0} (p q : X → Bool) → ((x : X) → p x ≡ q x) → (xs : List X) → list_all p xs ≡ list_all q xs
-all_same p q e [] = refl
-all_same p q e (x ∷ xs) = ap (λ b. b && list_all p xs) (e x) ∙ ap (λ b. q x && b) (all_same p q e xs)
-
-find_same : {X : Type 0} (p q : X → Bool) → ((x : X) → p x ≡ q x) → (xs : List X) → find p xs ≡ find q xs
-find_same p q e [] = refl
-find_same p q e (x ∷ xs) = ap (λ b. cond b (Some x) (find p xs)) (e x) ∙ ap (λ o. cond (q x) (Some x) o) (find_same p q e xs)
 
 -- an element that passes as the one before it did leaves as many that pass
 one_more : {X : Type 0} (b : Bool) (x y : X) (xs ys : List X) → length xs ≡ length ys
@@ -237,12 +206,7 @@ module _ (z : Sizes) (c : Cache) where
   with_ready ready (Load tag at) = refl
   with_ready ready (Store at word lanes) = refl
   with_ready ready (Prefetch at) = refl
-  with_ready ready (Evict block) = refl
-  with_ready ready Drain = refl
-  with_ready ready (Serve bank) = refl
-  with_ready ready (Arrive bank place) = refl
-  with_ready ready (Process place) = refl
-  with_ready ready (Take place) = refl
+  with_ready ready event = refl
 
   -- nor is a word that arrives, which is only marked in its register
   module _ (slot i : ℕ) (word : Word) where
@@ -265,12 +229,11 @@ module _ (z : Sizes) (c : Cache) where
     unfolding choose arrived
     chosen block =
         ap (option_or (find (λ f. is_none (frame_at c f).block) (ways_of z block)))
-        (find_same (λ f. is_resident_block after (frame_at c f).block) (λ f. is_resident_block c (frame_at c f).block)
-        (λ f. resident (frame_at c f).block) (order_of c.directory (block % z.sets)))
+        (λ i. find (λ f. resident (frame_at c f).block i) (order_of c.directory (block % z.sets)))
 
     all_pending : (block : ℕ) → list_all (is_pending after) (ways_of z block) ≡ list_all (is_pending c) (ways_of z block)
     unfolding arrived
-    all_pending block = all_same (is_pending after) (is_pending c) (λ f. pending (frame_at c f).block) (ways_of z block)
+    all_pending block = λ i. list_all (λ f. pending (frame_at c f).block i) (ways_of z block)
 
     taken_registers : length (filter (λ (r : Register). r.valid) after.registers) ≡ length (filter (λ (r : Register). r.valid) c.registers)
     unfolding arrived marked
@@ -280,24 +243,15 @@ module _ (z : Sizes) (c : Cache) where
     unfolding arrived
     room_at at =
         let block = block_of z at in
-        let said : ℕ → Bool → Option ℕ → Bool = λ n p o.
-        nat_lt at z.words && (not (is_present c block) && is_some (first_cause
-        ((n == z.regs, NoRegister) ∷ (p, SetPending) ∷ (lacks_places z c o, QueueFull) ∷ []))) in
-        ap (λ n. said n (list_all (is_pending after) (ways_of z block)) (choose z after block)) taken_registers
-        ∙ ap (λ p. said (length (filter (λ (r : Register). r.valid) c.registers)) p (choose z after block)) (all_pending block)
-        ∙ ap (λ o. said (length (filter (λ (r : Register). r.valid) c.registers)) (list_all (is_pending c) (ways_of z block)) o)
-        (chosen block)
+        λ i. nat_lt at z.words && (not (is_present c block) && is_some (first_cause
+        ((taken_registers i == z.regs, NoRegister) ∷ (all_pending block i, SetPending)
+        ∷ (lacks_places z c (chosen block i), QueueFull) ∷ [])))
 
     with_arrived : (event : Event) → lacks_room_in z after event ≡ lacks_room_in z c event
     with_arrived (Load tag at) = room_at at
     with_arrived (Store at w lanes) = ap (λ b. has_any lanes && b) (room_at at)
     with_arrived (Prefetch at) = room_at at
-    with_arrived (Evict block) = refl
-    with_arrived Drain = refl
-    with_arrived (Serve bank) = refl
-    with_arrived (Arrive bank place) = refl
-    with_arrived (Process place) = refl
-    with_arrived (Take place) = refl
+    with_arrived event = refl
 
 module _ (z : Sizes) (m : Machine) (event : Event) where
   abbrev Keeps : Machine → Type 0
@@ -324,12 +278,7 @@ module _ (z : Sizes) (m : Machine) (event : Event) where
   made (Take place) h = taken place (slice_get m.cache.ready place)
   made (Serve bank) h = served bank (bank_at m.banks bank).queue
   made (Arrive bank place) h = came bank place (slice_get (bank_at m.banks bank).answers place)
-  made (Load tag at) h = cc
-  made (Store at word lanes) h = cc
-  made (Prefetch at) h = cc
-  made (Evict block) h = cc
-  made Drain h = cc
-  made (Process place) h = cc
+  made event h = cc
 
 -- a pump that doesn't make room leaves a request without it
 pub still_lacks : (s : MachineState) (event : Event) → may_make_room (pump_tells s) ≡ false → lacks_room s event ≡ true
@@ -339,7 +288,7 @@ still_lacks s event none h = go (pumped s.sizes s.machine) none
   where
     go : (o : Option Event) → may_make_room (option_map (λ e. (e, answered s e)) o) ≡ false → lacks_room (after_some s o) event ≡ true
     go None n = h
-    go (Some e) n = made s.sizes s.machine event e (true_of_not (leaves_room e) n) ∙ h
+    go (Some e) n = made s.sizes s.machine event e (not-false _ n) ∙ h
 
 -- behind an ask that was refused room, too
 pub asked_lacks : (s : MachineState) (row : Row) (event : Event) (a : Answer) → answered s event ≡ a → is_refused_room event a ≡ true

@@ -1,6 +1,6 @@
 -- A machine whose numbers are in their ranges keeps what machines keep.
 use Rattle.std.proofs.Common.{◌≡◌, true, List, map, get_or, replicate, is_some, None, Result, Ok, Err, IfOk, Vec, Global, sym, ap, subst}
-use Rattle.std.proofs.Common.{◌∙◌, arith}
+use Rattle.std.proofs.Common.{◌∙◌}
 use Rattle.std.specs.List.{list_all}
 use Rattle.std.proofs.lemmas.List.{length-replicate, get_or-map}
 use Rattle.flat_model.specs.declared.Event.{Event}
@@ -10,20 +10,20 @@ use Rattle.shape_files.proofs.Fits.{at_run_time}
 use Rattle.cache_unit.specs.Sound.{InRange}
 use Rattle.cache_unit.specs.declared.Sizes.{Sizes}
 use Rattle.cache_unit.proofs.Made as numbers
+use Rattle.machine_core.specs.Whole.{IsWholeState}
 use Rattle.machine_core.proofs.Requests.{sound_opening, flat_opening}
-use Rattle.machine_core.proofs.Whole.{bounded_opening, lawful, roomy}
+use Rattle.machine_core.proofs.Whole.{bounded_opening, lawful}
 use Rattle.round_driver.specs.Walks.{is_request}
 use Rattle.register_sweeps.specs.declared.row.Row.{Row}
 use Rattle.register_sweeps.specs.declared.sweeps.SweepFault.{SweepFault}
 use Rattle.register_sweeps.specs.Sweep.{new_machine, row_of, CountsAll, EachCountsAll, AreGood}
-use Rattle.register_sweeps.proofs.Ending.{Good, row_counts}
+use Rattle.register_sweeps.proofs.Ending.{row_counts}
 
-good_machine : (z : Sizes) → InRange z → Good (new_machine z)
+good_machine : (z : Sizes) → InRange z → IsWholeState (new_machine z)
 good_machine z r =
     let words = length-replicate z.words zero_word in
     record {
-      lawful = lawful z r;
-      roomy = roomy z r;
+      in_range = r;
       sound = sound_opening z (lawful z r) (replicate z.words zero_word) words;
       bounded = bounded_opening z (lawful z r) (replicate z.words zero_word) words;
     }
@@ -34,8 +34,7 @@ pub counts_all : (z : Sizes) (events : List Event) → bad_machine z ≡ None �
 counts_all z events h r =
     let range = numbers.in_size z (at_run_time z h) in
     let opened = flat_opening z (lawful z range) (replicate z.words zero_word) (length-replicate z.words zero_word) in
-    let words = range.some_memory in
-    let counts = row_counts (new_machine z) z.regs events (good_machine z range) (omega (arith, words))
+    let counts = row_counts (new_machine z) z.regs events (good_machine z range)
     (λ tag. ap (λ f. is_some (f.due tag)) opened) r in
     record { each_ends = counts.0; each_is_paid = counts.1; nothing_left = counts.2 }
 

@@ -1,6 +1,7 @@
 -- The tags that flat memory owes a word, as a list.
 use Rattle.std.proofs.Common.{◌≡◌, ℕ, suc, Bool, true, false, cond, ◌||◌, ◌==◌, List, [], ◌∷◌, length, Option, Some, None, is_some, is_none}
 use Rattle.std.proofs.Common.{refl, sym, ap, ◌∙◌, arith}
+use Rattle.std.proofs.lemmas.Bool.{true≢false as no}
 use Rattle.std.proofs.lemmas.Grind.{common_steps}
 use Rattle.flat_model.specs.declared.Word.{Word}
 use Rattle.flat_model.specs.Flat.{with_due}
@@ -91,7 +92,4 @@ all_paid due [] h none = refl
 all_paid due (t ∷ ts) h none =
     let here : has t (t ∷ ts) ≡ true = grind (arith, common_steps) in
     let owed : is_some (due t) ≡ true = h.owed t ∙ here in
-    absurd (true_false (sym owed ∙ none t))
-  where
-    true_false : true ≡ false → ⊥
-    true_false e = cc
+    absurd (no (sym owed ∙ none t))

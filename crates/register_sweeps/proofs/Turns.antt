@@ -1,5 +1,5 @@
 -- The turns of a sweep's loops, one at a time, and that none changes a machine's sizes.
-use Rattle.std.proofs.Common.{◌≡◌, ℕ, suc, ◌+◌, ◌-◌, ◌<◌, ◌≤◌, true, false, cond, Option, Some, None, refl, sym, ap, ◌∙◌, arith}
+use Rattle.std.proofs.Common.{◌≡◌, ℕ, zero, suc, ◌+◌, ◌-◌, ◌<◌, ◌≤◌, Bool, true, false, cond, Option, Some, None, refl, sym, ap, ◌∙◌, arith}
 use Rattle.flat_model.specs.declared.Event.{Event}
 use Rattle.machine_core.specs.Machine.{MachineState}
 use Rattle.machine_core.specs.AnyMachine.{answered, after_event, after_some, pump_tells, pump_leaves}
@@ -8,36 +8,32 @@ use Rattle.machine_core.specs.Pump.{pumped}
 use Rattle.machine_core.specs.Whole.{with_answer}
 use Rattle.std.specs.Option.{option_map}
 use Rattle.register_sweeps.specs.declared.row.Row.{Row}
+use Rattle.round_driver.proofs.Turns.{left}
 use Rattle.register_sweeps.specs.Sweep.{Course, course, pump_once, pump_and_wait, ask, ends, ask_again, pump_times}
 
 pub waited : (s t : MachineState) (row told : Row) → course t told ≡ pump_once (course s row)
     → course t (record told { waited = told.waited + 1 }) ≡ pump_and_wait (course s row)
 waited s t row told h = ap (λ c. course c.state (record c.row { waited = c.row.waited + 1 })) h
 
-left : (n i : ℕ) → i < n → n - i ≡ suc (n - (i + 1))
-left n i h = omega arith
-
-more : (n : ℕ) (event : Event) (c : Course) → ask_again (suc n) event c ≡ cond (ends event (pump_and_wait c)) (ask event (pump_and_wait c))
-    (ask_again n event (ask event (pump_and_wait c)))
+pub ask_again_step : (n : ℕ) (event : Event) (c : Course) (b : Bool) → ends event (pump_and_wait c) ≡ b
+    → ask_again (suc n) event c ≡ cond b (ask event (pump_and_wait c)) (ask_again n event (ask event (pump_and_wait c)))
 unfolding ask_again
-more n event c = refl
+ask_again_step n event c b e = ap (λ x. cond x (ask event (pump_and_wait c)) (ask_again n event (ask event (pump_and_wait c)))) e
 
 module _ (n i : ℕ) (event : Event) (c d e : Course) (pumped : d ≡ pump_and_wait c) (asked : e ≡ ask event d) (turn : i < n) where
   told : e ≡ ask event (pump_and_wait c)
   told = asked ∙ ap (ask event) pumped
 
+  once : (b : Bool) → ends event d ≡ b → ask_again (n - i) event c
+      ≡ cond b (ask event (pump_and_wait c)) (ask_again (n - (i + 1)) event (ask event (pump_and_wait c)))
+  once b h =
+      ap (λ k. ask_again k event c) (left n i turn) ∙ ask_again_step (n - (i + 1)) event c b (sym (ap (ends event) pumped) ∙ h)
+
   pub turn_ends : ends event d ≡ true → ask_again (n - i) event c ≡ e
-  turn_ends h =
-      let h : ends event (pump_and_wait c) ≡ true = sym (ap (ends event) pumped) ∙ h in
-      ap (λ k. ask_again k event c) (left n i turn) ∙ more (n - (i + 1)) event c
-      ∙ ap (λ b. cond b (ask event (pump_and_wait c)) (ask_again (n - (i + 1)) event (ask event (pump_and_wait c)))) h ∙ sym told
+  turn_ends h = once true h ∙ sym told
 
   pub turn_goes_on : ends event d ≡ false → ask_again (n - i) event c ≡ ask_again (n - (i + 1)) event e
-  turn_goes_on h =
-      let h : ends event (pump_and_wait c) ≡ false = sym (ap (ends event) pumped) ∙ h in
-      ap (λ k. ask_again k event c) (left n i turn) ∙ more (n - (i + 1)) event c
-      ∙ ap (λ b. cond b (ask event (pump_and_wait c)) (ask_again (n - (i + 1)) event (ask event (pump_and_wait c)))) h
-      ∙ ap (ask_again (n - (i + 1)) event) (sym told)
+  turn_goes_on h = once false h ∙ ap (ask_again (n - (i + 1)) event) (sym told)
 
 pub no_turn_left : (n i : ℕ) (event : Event) (c : Course) → n ≤ i → ask_again (n - i) event c ≡ c
 unfolding ask_again
@@ -51,17 +47,32 @@ pub no_pump_left : (n i : ℕ) (c : Course) → n ≤ i → pump_times (n - i) c
 unfolding pump_times
 no_pump_left n i c h = let e : n - i ≡ 0 = omega arith in ap (λ k. pump_times k c) e
 
-pub event_sizes : (s : MachineState) (event : Event) → (after_event s event).sizes ≡ s.sizes
-unfolding after_event
-event_sizes s event = refl
+-- what each event keeps, a pump keeps, and so do turns
+module _ (Keeps : MachineState → Type 0) (event_keeps : (s : MachineState) (event : Event) → Keeps s → Keeps (after_event s event)) where
+  pub pump_keeps : (s : MachineState) → Keeps s → Keeps (pump_leaves s)
+  unfolding pump_leaves
+  pump_keeps s k = go (pumped s.sizes s.machine)
+    where
+      go : (o : Option Event) → Keeps (after_some s o)
+      go None = k
+      go (Some event) = event_keeps s event k
 
-pub pump_sizes : (s : MachineState) → (pump_leaves s).sizes ≡ s.sizes
-unfolding pump_leaves after_event
-pump_sizes s = go (pumped s.sizes s.machine)
-  where
-    go : (o : Option Event) → (after_some s o).sizes ≡ s.sizes
-    go None = refl
-    go (Some event) = refl
+  pub turns_keep : (n : ℕ) (event : Event) (c : Course) → Keeps c.state → Keeps (ask_again n event c).state
+  unfolding ask_again
+  turns_keep zero event c k = k
+  turns_keep (suc n) event c k = go (ends event (pump_and_wait c)) (turns_keep n event (ask event (pump_and_wait c)) asked)
+    where
+      asked : Keeps (ask event (pump_and_wait c)).state
+      asked = event_keeps _ event (pump_keeps c.state k)
+
+      go : (b : Bool) → Keeps (ask_again n event (ask event (pump_and_wait c))).state
+          → Keeps (cond b (ask event (pump_and_wait c)) (ask_again n event (ask event (pump_and_wait c)))).state
+      go true rest = asked
+      go false rest = rest
+
+pub again_sizes : (n : ℕ) (event : Event) (c : Course) → (ask_again n event c).state.sizes ≡ c.state.sizes
+unfolding after_event
+again_sizes n event c = turns_keep (λ s. s.sizes ≡ c.state.sizes) (λ s event e. e) n event c refl
 
 -- what a pump of the machine leaves and tells, by its state
 pub left_by_pump : (s : MachineState) → record s { machine = driver.after_event s.sizes s.machine (pumped s.sizes s.machine) }

@@ -74,7 +74,7 @@ unfolding served
 one_served z m b n w = go (bank_at m.banks b).queue refl
   where
     go : (queue : List Command) → (bank_at m.banks b).queue ≡ queue → HasCommands n (bank_at (serve_from m b queue).machine.banks b)
-    go [] e = let none = ap length e in absurd (omega (arith, none, w))
+    go [] e = grind arith
     go (first ∷ rest) e =
         let all = ap length e in
         let less : n ≤ length rest = omega (arith, all, w) in

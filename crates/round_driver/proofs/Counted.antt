@@ -1,5 +1,5 @@
 -- What is counted of rounds beside their table, one round after another.
-use Rattle.std.proofs.Common.{◌≡◌, ℕ, zero, suc, ◌+◌, List, [], ◌∷◌, ◌++◌, replicate, refl, sym, ap, ap₂, ◌∙◌, arith}
+use Rattle.std.proofs.Common.{◌≡◌, ℕ, zero, suc, ◌+◌, List, [], ◌∷◌, ◌++◌, replicate, refl, sym, ap, ◌∙◌, arith}
 use Rattle.std.specs.List.{sum}
 use Rattle.flat_model.specs.declared.Event.{Event}
 use Rattle.machine_core.specs.Machine.{MachineState}
@@ -32,13 +32,13 @@ nothing_has_ended z =
     omega (arith, registers, owed)
 
 module _ (timing : Timing) (s : MachineState) (requests : List Event) (z : MachineNumbers) where
-  pub told_begins : (t : Told) → t ≡ nothing_told z → t ≡ told_of z (rounds_until_over 0 (start_of timing s requests))
+  pub told_begins : {t : Told} → t ≡ nothing_told z → t ≡ told_of z (rounds_until_over 0 (start_of timing s requests))
   unfolding rounds_until_over
-  told_begins t h = h
+  told_begins h = h
 
-  pub ends_begin : (e : RoundEnds) → e ≡ no_ends z → e ≡ ends_of 0 z (start_of timing s requests)
+  pub ends_begin : {e : RoundEnds} → e ≡ no_ends z → e ≡ ends_of 0 z (start_of timing s requests)
   unfolding ends_of
-  ends_begin e h = h
+  ends_begin h = h
 
 -- ---- one round more
 
@@ -46,9 +46,9 @@ counted_then : (z : MachineNumbers) (t : Told) (xs ys : List Note) → counted_a
 counted_then z t [] ys = refl
 counted_then z t (x ∷ xs) ys = counted_then z (counted z t x) xs ys
 
-pub told_next : (z : MachineNumbers) (before notes after : List Note) (t u : Told) → after ≡ before ++ notes
+pub told_next : (z : MachineNumbers) (before notes : List Note) {after : List Note} {t u : Told} → after ≡ before ++ notes
     → t ≡ counted_all z (nothing_told z) before → u ≡ counted_all z t notes → u ≡ counted_all z (nothing_told z) after
-told_next z before notes after t u more p q =
+told_next z before notes more p q =
     q ∙ ap (λ x. counted_all z x notes) p ∙ sym (counted_then z (nothing_told z) before notes)
     ∙ ap (counted_all z (nothing_told z)) (sym more)
 
@@ -58,20 +58,17 @@ ended_once : (n : ℕ) (z : MachineNumbers) (r : Run)
 unfolding ends_of
 ended_once n z r = refl
 
-pub ends_next : (n : ℕ) (z : MachineNumbers) (r : Run) (d e : RoundEnds) (t : Told) (used : ℕ) → d ≡ ends_of n z r
+pub ends_next : (n : ℕ) (z : MachineNumbers) (r : Run) {d e : RoundEnds} {t : Told} {used : ℕ} → d ≡ ends_of n z r
     → e ≡ with_end d used (owed_of t) → used ≡ used_registers (rounds_until_over (n + 1) r).state
     → t ≡ told_of z (rounds_until_over (n + 1) r) → e ≡ ends_of (n + 1) z r
-ends_next n z r d e t used p q in_use told =
+ends_next n z r p q in_use told =
     let next : n + 1 ≡ suc n = omega arith in
-    let here = λ (k : ℕ). with_end (ends_of n z r) (used_registers (rounds_until_over k r).state)
+    let at = λ (k : ℕ). with_end (ends_of n z r) (used_registers (rounds_until_over k r).state)
     (owed_of (told_of z (rounds_until_over k r))) in
-    let made : e ≡ here (n + 1) = q ∙ ap (λ x. with_end x used (owed_of t)) p
-    ∙ ap₂ (λ a b. with_end (ends_of n z r) a (owed_of b)) in_use told in
-    made ∙ ap here next ∙ sym (ended_once n z r) ∙ ap (λ k. ends_of k z r) (sym next)
+    q ∙ (λ i. with_end (p i) (in_use i) (owed_of (told i))) ∙ ap at next ∙ sym (ended_once n z r) ∙ ap (λ k. ends_of k z r) (sym next)
 
 -- ---- the end
 
-pub details_alike : (a b : Table) (t u : Told) (d e : RoundEnds) (m n : ℕ) (v w : List Outcome) → a ≡ b → t ≡ u → d ≡ e → m ≡ n → v ≡ w
+pub details_alike : {a b : Table} {t u : Told} {d e : RoundEnds} {m n : ℕ} {v w : List Outcome} → a ≡ b → t ≡ u → d ≡ e → m ≡ n → v ≡ w
     → details_from a t d m v ≡ details_from b u e n w
-details_alike a b t u d e m n v w p q r s o =
-    ap₂ (λ x y. details_from x y d m v) p q ∙ ap₂ (λ x y. details_from b u x y v) r s ∙ ap (details_from b u e n) o
+details_alike p q r s o = grind arith

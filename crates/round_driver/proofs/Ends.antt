@@ -1,15 +1,11 @@
 -- Every run of requests ends: among any latency + 1 rounds there is one in which the weight falls or a request ends.
 use Rattle.std.proofs.Common.{◌≡◌, ℕ, zero, suc, ◌+◌, ◌-◌, ◌*◌, ◌<◌, ◌≤◌, Bool, true, false, cond, ◌&&◌, List, [], ◌∷◌, ◌++◌, length, Some}
-use Rattle.std.proofs.Common.{refl, sym, ap, ap₂, ◌∙◌, subst, arith, ◌⊎◌, inl, inr, eq-eqb, mul-le-mul_right}
+use Rattle.std.proofs.Common.{refl, sym, ap, ap₂, ◌∙◌, subst, arith, ◌⊎◌, inl, inr, mul-le-mul_right}
 use Rattle.std.specs.List.{list_all}
 use Rattle.std.proofs.lemmas.Bool.{and_parts}
-use Rattle.std.proofs.lemmas.List.{length-replicate}
-use Rattle.flat_model.specs.declared.limits.TheConstants.{MAX_BANKS}
 use Rattle.flat_model.specs.declared.Event.{Event}
-use Rattle.flat_model.specs.declared.Event.TheVariants.{Load, Store, Prefetch, Evict, Drain, Serve, Arrive, Process, Take}
-use Rattle.memory_banks.specs.Banks.{bank_at}
+use Rattle.flat_model.specs.declared.Event.TheVariants.{Serve}
 use Rattle.cache_unit.specs.Sound.{InRange}
-use Rattle.cache_unit.proofs.Made.{all_same}
 use Rattle.machine_core.specs.Machine.{MachineState}
 use Rattle.machine_core.specs.Pump.{weight}
 use Rattle.machine_core.specs.Law.{ServesRequests, most_weight}
@@ -18,32 +14,25 @@ use Rattle.machine_core.specs.AnyMachine.{answered, after_event, weight_of}
 use Rattle.machine_core.proofs.Whole.{bound_at_rest, lawful, roomy}
 use Rattle.machine_core.proofs.Weighing.{weight_bound, rests_or_waits, HasCommand, leaves_commands}
 use Rattle.round_driver.specs.Rounds.{Course, course, Run, is_end, ends, begun_at, first_begun, next_round, moves, ask, asked, after_round}
-use Rattle.round_driver.specs.Rounds.{is_empty, is_over, rounds_until_over, opening, start_of, most_moves, most_rounds, whole_run}
+use Rattle.round_driver.specs.Rounds.{is_over, rounds_until_over, opening, start_of, most_moves, most_rounds, whole_run}
 use Rattle.round_driver.specs.Walks.{is_request, RequestsEnd}
 use Rattle.round_driver.specs.declared.timing.Timing.{Timing}
 use Rattle.round_driver.proofs.Requests.{request_stays, request_ends}
 use Rattle.round_driver.proofs.Runs.{stays, goes, round_over}
-use Rattle.round_driver.proofs.Moves.{Waits, AreBy, IsSteady, IsInFlight, first_waits, Move, Stands, NothingArrives, NoAnswers}
+use Rattle.round_driver.proofs.Moves.{Waits, AreBy, IsSteady, first_waits, Move, Stands, NothingArrives, NoAnswers}
 use Rattle.round_driver.proofs.Moves.{steady_after, round_moves}
 
 -- ---- one request
 
 -- where nothing is on its way, requests are served
-serves : (s : MachineState) → IsWholeState s → weight s.machine ≡ 0 → ServesRequests s.sizes s.machine
+pub serves : (s : MachineState) → IsWholeState s → weight s.machine ≡ 0 → ServesRequests s.sizes s.machine
 serves s whole rest =
     bound_at_rest s.sizes (lawful s.sizes whole.in_range) (roomy s.sizes whole.in_range) s.machine whole.sound whole.bounded rest
 
 -- a request leaves each bank its commands
 request_leaves : (event : Event) → is_request event ≡ true → (b : ℕ) → leaves_commands b event
-request_leaves (Load tag at) r b = tt
-request_leaves (Store at word lanes) r b = tt
-request_leaves (Prefetch at) r b = tt
-request_leaves (Evict block) r b = tt
-request_leaves Drain r b = cc
 request_leaves (Serve bank) r b = cc
-request_leaves (Arrive bank place) r b = cc
-request_leaves (Process place) r b = cc
-request_leaves (Take place) r b = cc
+request_leaves event r b = tt
 
 -- ---- what a run may still take
 
@@ -59,7 +48,7 @@ cheap s k whole =
     shared (weight s.machine) (most_weight s.sizes) bound
   where
     shared : (n most : ℕ) → n ≤ most → n * k + k ≤ (most + 1) * k
-    shared n most le = let l = mul-le-mul_right k le in omega (arith, l)
+    shared n most le = grind arith
 
 -- nothing need move in the next d rounds at most: these are as many as a bank takes, or a bank is due then
 abbrev IsQuietFor : ℕ → Run → Type 0
@@ -71,15 +60,10 @@ record IsSound (r : Run) : Type 0 where
   steady : IsSteady r.state r.schedule
   requests : list_all is_request r.left ≡ true
 
--- where the requests' rounds stay and those of a move fall away
-less_work : (left left' moving moving' weight latency d : ℕ) → left' ≡ left → moving' ≡ weight * (latency + 1)
-    → suc weight * (latency + 1) ≤ moving → left' + moving' + latency < left + moving + d
-less_work left left' moving moving' weight latency d same is fall = omega (arith, same, is, fall)
-
 -- where those of a request fall away, and some of it are for what is on its way
 one_less : (n each left left' moving moving' weight latency d : ℕ) → left' ≡ n * each → left ≡ suc n * each
     → moving' ≡ weight * (latency + 1) → weight * (latency + 1) + (latency + 1) ≤ each → left' + moving' + latency < left + moving + d
-one_less n each left left' moving moving' weight latency d after before is few = omega (arith, after, before, is, few)
+one_less n each left left' moving moving' weight latency d after before is few = grind arith
 
 -- behind a round the run may take fewer rounds
 record Goes (d : ℕ) (r next : Run) : Type 0 where
@@ -96,7 +80,7 @@ module _ (d : ℕ) (r next : Run) (latency : next.schedule.timing.latency ≡ r.
   each = most_moves r.state.sizes * (r.schedule.timing.latency + 1)
 
   same_each : most_moves next.state.sizes * (next.schedule.timing.latency + 1) ≡ each
-  same_each = ap₂ (λ z l. most_moves z * (l + 1)) sizes latency
+  same_each = grind arith
 
   -- the same requests, with less on its way
   lighter : length next.left ≡ length r.left → weight next.state.machine < weight r.state.machine → Goes d r next
@@ -110,9 +94,8 @@ module _ (d : ℕ) (r next : Run) (latency : next.schedule.timing.latency ≡ r.
         sound = sound;
         round = round;
         quiet = r.schedule.timing.latency;
-        is_quiet = inl (omega (arith, latency));
-        cheaper = less_work (length r.left * each) _ (weight r.state.machine * k) _ (weight next.state.machine) r.schedule.timing.latency d
-            left moving fall;
+        is_quiet = grind arith;
+        cheaper = grind arith;
       }
 
   -- a request less
@@ -129,9 +112,8 @@ module _ (d : ℕ) (r next : Run) (latency : next.schedule.timing.latency ≡ r.
         sound = sound;
         round = round;
         quiet = r.schedule.timing.latency;
-        is_quiet = inl (omega (arith, latency));
-        cheaper = one_less (length next.left) each _ _ (weight r.state.machine * k) _ (weight next.state.machine) r.schedule.timing.latency
-            d left before moving most;
+        is_quiet = grind arith;
+        cheaper = grind arith;
       }
 
 -- ---- a round
@@ -149,10 +131,7 @@ stands_waits c d steady stands =
 
     none : NothingArrives d.state → NoAnswers d.state
     none (inr answers) = answers
-    none (inl full) =
-        let empty = ap length stands.processed in
-        let some = range.some_depth in
-        absurd (omega (arith, full, empty, some))
+    none (inl full) = grind arith
 
 -- the first course of the next round
 abbrev begun : Run → Course
@@ -160,7 +139,7 @@ begun r = course r.state (next_round r.schedule) []
 
 later_by : (round : ℕ) (begun : List ℕ) → AreBy round begun → AreBy (round + 1) begun
 later_by round [] h = tt
-later_by round (t ∷ ts) h = let early = h.0 in (omega (arith, early), later_by round ts h.1)
+later_by round (t ∷ ts) h = (omega (arith, h.0), later_by round ts h.1)
 
 begun_steady : (r : Run) → IsSound r → IsSteady r.state (next_round r.schedule)
 begun_steady r sound =
@@ -179,16 +158,16 @@ module _ (d : ℕ) (r : Run) (sound : IsSound r) (quiet : IsQuietFor d r) (next 
   behind = moves (begun r)
 
   round : next.schedule.round ≡ r.schedule.round + 1
-  round = ap (λ p. p.round) schedule ∙ move.round
+  round = grind arith
 
   latency : next.schedule.timing.latency ≡ r.schedule.timing.latency
-  latency = ap (λ p. p.timing.latency) schedule ∙ move.latency
+  latency = grind arith
 
   sizes : next.state.sizes ≡ r.state.sizes
-  sizes = ap (λ s. s.sizes) state ∙ move.sizes
+  sizes = grind arith
 
   banks : next.state.sizes.banks ≡ r.state.sizes.banks
-  banks = ap (λ z. z.banks) sizes
+  banks = grind arith
 
   -- a busy bank is due a round sooner
   nearer : behind.state ≡ r.state → (b t : ℕ) → b < r.state.sizes.banks → first_begun behind.schedule b ≡ Some t
@@ -197,8 +176,8 @@ module _ (d : ℕ) (r : Run) (sound : IsSound r) (quiet : IsQuietFor d r) (next 
   nearer same b t there busy early begins due = go d refl due
     where
       go : (n : ℕ) → d ≡ n → (t + r.schedule.timing.latency ≤ r.schedule.round + d + 1) ⊎ (r.schedule.timing.latency ≤ d) → Goes d r next
-      go zero e (inl l) = let a = move.round in let c = move.latency in absurd (omega (arith, e, l, early, a, c))
-      go zero e (inr l) = let c = move.latency in absurd (omega (arith, e, l, early, c))
+      go zero e (inl l) = grind arith
+      go zero e (inr l) = grind arith
       go (suc n) e o = later (sooner o)
         where
           sooner : (t + r.schedule.timing.latency ≤ r.schedule.round + d + 1) ⊎ (r.schedule.timing.latency ≤ d)
@@ -217,8 +196,8 @@ module _ (d : ℕ) (r : Run) (sound : IsSound r) (quiet : IsQuietFor d r) (next 
                 sound = next_sound;
                 round = round;
                 quiet = n;
-                is_quiet = inr (b, t, omega (arith, there, banks), still, omega (arith, l, e, round, latency));
-                cheaper = omega (arith, cost_same, e);
+                is_quiet = grind arith;
+                cheaper = grind arith;
               }
 
   -- where no move did anything, a bank is busy, and comes nearer to its service
@@ -229,25 +208,22 @@ module _ (d : ℕ) (r : Run) (sound : IsSound r) (quiet : IsQuietFor d r) (next 
           → Goes d r next
       long_quiet enough (inl rest) = absurd (busy rest)
       long_quiet enough (inr x) =
-          let l = x.1 in
           let sizes = ap (λ s. s.sizes.banks) same in
-          let there : x.0 < r.state.sizes.banks = omega (arith, l, sizes) in
+          let there : x.0 < r.state.sizes.banks = omega (arith, x.1, sizes) in
           let begins = stands.begins x.0 there (subst (λ s. Waits s x.0) same x.2) in
           let early = (first_waits behind.state behind.schedule move.steady x.0 begins.0 begins.1).0 in
-          let time = move.round in
-          nearer same x.0 begins.0 there begins.1 begins.2 (omega (arith, early, time)) (inr enough)
+          nearer same x.0 begins.0 there begins.1 begins.2 (omega (arith, early, move.round)) (inr enough)
 
       go : IsQuietFor d r → Goes d r next
       go (inl enough) = long_quiet enough (stands_waits (begun r) behind move.steady stands)
       go (inr x) =
           let before = first_waits r.state r.schedule sound.steady x.0 x.1 x.3 in
-          let early = before.0 in
           let still = stands.kept x.0 x.1 x.3 in
           let begins = stands.begins x.0 x.2 before.1 in
           let is : Some begins.0 ≡ Some x.1 = sym begins.1 ∙ still in
           let time : begins.0 ≡ x.1 = cc in
           let not_due = subst (λ t. behind.schedule.round - t < behind.schedule.timing.latency) time begins.2 in
-          nearer same x.0 x.1 x.2 still not_due (omega (arith, early)) (inl x.4)
+          nearer same x.0 x.1 x.2 still not_due (omega (arith, before.0)) (inl x.4)
 
   goes_on : (behind.state ≡ r.state → weight behind.state.machine ≡ 0 → ⊥) → Goes d r next
   goes_on busy = go move.lighter
@@ -258,13 +234,9 @@ module _ (d : ℕ) (r : Run) (sound : IsSound r) (quiet : IsQuietFor d r) (next 
           lighter d r next latency round sizes next_sound as_many (omega (arith, less, weighs))
       go (inr x) = stood x.0 x.1 (busy x.0)
 
-sizes_stay : (s : MachineState) (event : Event) → (after_event s event).sizes ≡ s.sizes
-unfolding after_event
-sizes_stay s event = refl
-
 -- a run that isn't over takes fewer rounds behind the next one
 round_goes : (d : ℕ) (r : Run) → IsSound r → IsQuietFor d r → is_over r ≡ false → Goes d r (after_round r)
-unfolding after_round ask weight_of
+unfolding after_round ask weight_of after_event
 round_goes d r sound quiet going = go r.left refl sound.requests
   where
     behind : Course
@@ -274,10 +246,7 @@ round_goes d r sound quiet going = go r.left refl sound.requests
     move = round_moves (begun r) (begun_steady r sound)
 
     over : r.left ≡ [] → behind.state ≡ r.state → weight behind.state.machine ≡ 0 → ⊥
-    over e same rest =
-        let light : weight r.state.machine ≡ 0 = sym (ap (λ s. weight s.machine) same) ∙ rest in
-        let yes : is_over r ≡ true = ap₂ (λ a b. a && b) (ap is_empty e) (eq-eqb (weight r.state.machine) 0 light) in
-        cc
+    over e same rest = grind arith
 
     next : Event → List Event → Bool → Run
     next event rest b =
@@ -296,7 +265,7 @@ round_goes d r sound quiet going = go r.left refl sound.requests
     asks event rest e request requests true h =
         let sound : IsSound (next event rest true) =
         record { steady = steady_then event (request_leaves event request); requests = requests } in
-        shorter d r (next event rest true) move.latency move.round (sizes_stay behind.state event ∙ move.sizes) sound (ap length e)
+        shorter d r (next event rest true) move.latency move.round move.sizes sound (ap length e)
     asks event rest e request requests false h =
         let same : after_event behind.state event ≡ behind.state = request_stays behind.state event request h in
         let all : list_all is_request (event ∷ rest) ≡ true = ap₂ (λ a b. a && b) request requests in
@@ -343,12 +312,9 @@ over_within (suc n) d r sound quiet few =
     go later true e = over_now (suc n) r e
     go later false e =
         let more = round_goes d r sound quiet e in
-        let cheaper = more.cheaper in
-        let round = more.round in
-        let rest = later more.quiet more.sound more.is_quiet (omega (arith, cheaper, few)) in
+        let rest = later more.quiet more.sound more.is_quiet (omega (arith, more.cheaper, few)) in
         let same = ap (λ q. q.schedule.round) (goes n r e) in
-        let in_time = rest.in_time in
-        record { over = ap is_over (goes n r e) ∙ rest.over; in_time = omega (arith, same, in_time, round) }
+        record { over = ap is_over (goes n r e) ∙ rest.over; in_time = grind arith }
 
 pub requests_end : (timing : Timing) (s : MachineState) (requests : List Event) → IsWholeState s → RequestsEnd timing s requests
 requests_end timing s requests whole all =
@@ -356,8 +322,7 @@ requests_end timing s requests whole all =
     let same : whole_run timing s requests ≡ rounds_until_over most start =
     round_over most (most_rounds s.sizes timing.latency (length requests)) start (omega (arith, below)) rest.over in
     let round = ap (λ r. r.schedule.round) same in
-    let in_time = rest.in_time in
-    record { over = ap is_over same ∙ rest.over; in_time = omega (arith, round, in_time, below) }
+    record { over = grind arith; in_time = grind arith }
   where
     start : Run
     start = start_of timing s requests
@@ -370,19 +335,10 @@ requests_end timing s requests whole all =
     none = []
 
     idle : (b : ℕ) → begun_at (opening timing) b ≡ none
-    idle b = all_same MAX_BANKS b none
+    idle b = grind arith
 
     sound : IsSound start
-    sound =
-        record {
-          steady = record {
-            whole = whole;
-            places = length-replicate MAX_BANKS none;
-            busy = λ b. subst (IsInFlight 0 (length (bank_at s.machine.banks b).queue)) (sym (idle b))
-                (record { early = tt; fits = omega arith });
-          };
-          requests = all;
-        }
+    sound = grind arith
 
     little : weight s.machine * (timing.latency + 1) + (timing.latency + 1) ≤ most_moves s.sizes * (timing.latency + 1)
     little = cheap s (timing.latency + 1) whole
@@ -390,7 +346,7 @@ requests_end timing s requests whole all =
     -- of a request more than there are, all rounds but one are enough for what is on its way
     with_room : (n each moving latency : ℕ) → moving + (latency + 1) ≤ each
         → ((n + 1) * each - 1 < (n + 1) * each) × (n * each + moving + latency ≤ (n + 1) * each - 1)
-    with_room n each moving latency h = (omega (arith, h), omega (arith, h))
+    with_room n each moving latency h = grind arith
 
     room : (most < most_rounds s.sizes timing.latency (length requests)) × (cost start + timing.latency ≤ most)
     room =

@@ -1,6 +1,7 @@
 pub mod Turns
 pub mod Requests
 pub mod Runs
+pub mod Kept
 pub mod Walks
 pub mod Commands
 pub mod Moves

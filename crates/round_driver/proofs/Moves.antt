@@ -3,16 +3,18 @@ use Rattle.std.proofs.Common.{◌≡◌, ℕ, zero, suc, ◌+◌, ◌-◌, ◌<�
 use Rattle.std.proofs.Common.{length, drop, get_or, slice_get, Option, Some, None, refl, sym, ap, ◌∙◌, subst, arith, ◌⊎◌, inl, inr, ⊎_elim}
 use Rattle.std.proofs.Common.{length-set, get_or-set_same, get_or-set_other, ltb-true, lt-ltb}
 use Rattle.std.specs.Option.{option_or}
-use Rattle.std.proofs.lemmas.Bool.{and_parts, cases_eq, cases_lt, ltb-false}
+use Rattle.std.proofs.lemmas.Bool.{and_parts, cases_eq, cases_lt, true≢false as never}
 use Rattle.std.proofs.lemmas.List.{get_or_past, length-append}
 use Rattle.flat_model.specs.declared.limits.TheConstants.{MAX_BANKS}
 use Rattle.flat_model.specs.declared.Event.{Event}
 use Rattle.flat_model.specs.declared.Event.TheVariants.{Drain, Serve, Arrive, Process, Take}
 use Rattle.memory_banks.specs.declared.BankAnswer.{BankAnswer}
 use Rattle.memory_banks.specs.Banks.{bank_at, no_bank}
-use Rattle.machine_core.specs.Machine.{MachineState, apply}
+use Rattle.cache_unit.specs.declared.Sizes.{Sizes}
+use Rattle.machine_core.specs.Machine.{Machine, MachineState, apply}
 use Rattle.machine_core.specs.Pump.{weight, has_items}
 use Rattle.machine_core.specs.Law.{IsLawful, HasRoom}
+use Rattle.machine_core.specs.Sound.{IsSound}
 use Rattle.machine_core.specs.Whole.{IsWholeState}
 use Rattle.machine_core.specs.AnyMachine.{after_event}
 use Rattle.machine_core.proofs.Walking.{sound_apply}
@@ -52,21 +54,13 @@ pub record IsSteady (s : MachineState) (p : Schedule) : Type 0 where
   pub places : length p.begun ≡ MAX_BANKS
   pub busy : (b : ℕ) → IsInFlight p.round (length (bank_at s.machine.banks b).queue) (begun_at p b)
 
-some_items : {X : Type 0} (xs : List X) → 0 < length xs → has_items xs ≡ true
-some_items [] l = absurd (omega (arith, l))
-some_items (x ∷ xs) l = refl
-
 -- the first command that a bank began was begun by this round, and it waits
 pub first_waits : (s : MachineState) (p : Schedule) → IsSteady s p → (b t : ℕ) → first_begun p b ≡ Some t → (t ≤ p.round) × Waits s b
 first_waits s p steady b t e = go (begun_at p b) (steady.busy b) e
   where
     go : (begun : List ℕ) → IsInFlight p.round (waiting s b) begun → slice_get begun 0 ≡ Some t → (t ≤ p.round) × Waits s b
     go [] h q = cc
-    go (u ∷ us) h q =
-        let same : u ≡ t = cc in
-        let early = h.early.0 in
-        let fits = h.fits in
-        (omega (arith, early, same), some_items (bank_at s.machine.banks b).queue (omega (arith, fits)))
+    go (u ∷ us) h q = grind arith
 
 abbrev Steady : Course → Type 0
 Steady c = IsSteady c.state c.schedule
@@ -77,7 +71,7 @@ law s whole = lawful s.sizes whole.in_range
 abbrev room : (s : MachineState) → IsWholeState s → HasRoom s.sizes
 room s whole = roomy s.sizes whole.in_range
 
-whole_after : (s : MachineState) (event : Event) → IsWholeState s → IsWholeState (after_event s event)
+pub whole_after : (s : MachineState) (event : Event) → IsWholeState s → IsWholeState (after_event s event)
 unfolding after_event
 whole_after s event h =
     record {
@@ -118,20 +112,7 @@ pub record Move (c d : Course) (why : Type 0) : Type 0 where
 
 -- two moves, one after the other
 then : {F G H : Type 0} (c d e : Course) → Move c d F → Move d e G → (F → G → d.state ≡ c.state → e.state ≡ d.state → H) → Move c e H
-then {F} {G} {H} c d e first second both =
-    record {
-      steady = second.steady;
-      round = second.round ∙ first.round;
-      latency = second.latency ∙ first.latency;
-      sizes = second.sizes ∙ first.sizes;
-      lighter = go first.lighter second.lighter;
-    }
-  where
-    go : Lighter c d F → Lighter d e G → Lighter c e H
-    go (inl p) (inl q) = inl (omega (arith, p, q))
-    go (inl p) (inr q) = let same = ap weighs q.0 in inl (omega (arith, p, same))
-    go (inr p) (inl q) = let same = ap weighs p.0 in inl (omega (arith, q, same))
-    go (inr p) (inr q) = inr (q.0 ∙ p.0, both p.1 q.1 p.0 q.0)
+then {F} {G} {H} c d e first second both = grind arith
 
 -- ---- the banks
 
@@ -158,9 +139,6 @@ long : {X : Type 0} (xs : List X) → has_items xs ≡ true → 0 < length xs
 long [] e = cc
 long (x ∷ xs) e = omega arith
 
-never : true ≡ false → ⊥
-never e = cc
-
 -- behind its begin a bank at which a command waits has begun one
 record Begun (b : ℕ) (c d : Course) : Type 0 where
   steady : IsSteady d.state d.schedule
@@ -181,7 +159,7 @@ begun b c steady few = go (is_free c.schedule b && nat_lt (length before) (waiti
     now = scheduled (with_begin c.schedule b) c
 
     there : b < length c.schedule.begun
-    there = let n = steady.places in omega (arith, few, n)
+    there = grind arith
 
     same : begun_at now.schedule b ≡ before ++ c.schedule.round ∷ []
     same = begun-same c.schedule b (before ++ c.schedule.round ∷ []) there
@@ -215,7 +193,7 @@ begun b c steady few = go (is_free c.schedule b && nat_lt (length before) (waiti
         here =
             let all = length-append before (c.schedule.round ∷ []) in
             let more : InFlightAt b (before ++ c.schedule.round ∷ []) =
-            record { early = more_by c.schedule.round before (steady.busy b).early; fits = omega (arith, all, free) } in
+            record { early = more_by c.schedule.round before (steady.busy b).early; fits = grind arith } in
             subst (InFlightAt b) (sym same) more
 
         first_here : (k t : ℕ) → k ≡ b → first_begun c.schedule k ≡ Some t → first_begun now.schedule k ≡ Some t
@@ -224,7 +202,7 @@ begun b c steady few = go (is_free c.schedule b && nat_lt (length before) (waiti
             ap (first_begun now.schedule) q ∙ ap (λ l. slice_get l 0) same ∙ first_stays before c.schedule.round t first
 
     stays : (Waits c.state b → (t : ℕ) × (first_begun c.schedule b ≡ Some t)) → Begun b c c
-    stays begins = record { steady = steady; state = refl; round = refl; latency = refl; kept = λ k t e. e; begins = begins }
+    stays begins = grind arith
 
     -- a bank that begins nothing, and has a command, has begun one
     held : (is_free c.schedule b && nat_lt (length before) (waiting c.state b)) ≡ false → Waits c.state b → (t : ℕ) ×
@@ -245,8 +223,12 @@ begun b c steady few = go (is_free c.schedule b && nat_lt (length before) (waiti
     go false e = stays (held e)
 
 -- a command that isn't due yet
-abbrev NotDue : Course → ℕ → Type 0
+abbrev pub NotDue : Course → ℕ → Type 0
 NotDue c t = c.schedule.round - t < c.schedule.timing.latency
+
+-- a bank has begun a command that isn't due
+abbrev pub IsBusy : Course → ℕ → Type 0
+IsBusy c b = (t : ℕ) × (first_begun c.schedule b ≡ Some t) × NotDue c t
 
 -- behind its turn a bank has served the first command that it began, or that isn't due
 abbrev ServedOrNot : ℕ → Course → Course → Type 0
@@ -269,7 +251,7 @@ serves b c steady there = go (begun_at c.schedule b) refl
     Flies k = InFlightAt k (begun_at (without_first c.schedule b) k)
 
     stays : ((t : ℕ) → first_begun c.schedule b ≡ Some t → NotDue c t) → Move c c (ServedOrNot b c c)
-    stays early = record { steady = steady; round = refl; latency = refl; sizes = refl; lighter = inr (refl, (refl, early)) }
+    stays early = grind arith
 
     ends : (t : ℕ) (ts : List ℕ) → begun_at c.schedule b ≡ t ∷ ts → Move c ended (ServedOrNot b c ended)
     ends t ts e =
@@ -286,7 +268,7 @@ serves b c steady there = go (begun_at c.schedule b) refl
         }
       where
         within : b < length c.schedule.begun
-        within = let n = steady.places in let few = steady.whole.in_range.few_banks in omega (arith, there, n, few)
+        within = omega (arith, there, steady.places, steady.whole.in_range.few_banks)
 
         rest : begun_at (without_first c.schedule b) b ≡ ts
         rest = begun-same c.schedule b (drop 1 (begun_at c.schedule b)) within ∙ ap (drop 1) e
@@ -314,28 +296,19 @@ serves b c steady there = go (begun_at c.schedule b) refl
 
     due : (t : ℕ) (ts : List ℕ) → begun_at c.schedule b ≡ t ∷ ts → (early : Bool) → nat_lt (c.schedule.round - t) c.schedule.timing.latency
         ≡ early → Move c (cond (not early) ended c) (ServedOrNot b c (cond (not early) ended c))
-    due t ts e true q =
-        stays (λ u f. let same : t ≡ u = is_first u f in
-        subst (NotDue c) same (ltb-true (c.schedule.round - t) c.schedule.timing.latency q))
-      where
-        is_first : (u : ℕ) → first_begun c.schedule b ≡ Some u → t ≡ u
-        is_first u f = let first : Some t ≡ Some u = sym (ap (λ l. slice_get l 0) e) ∙ f in cc
+    due t ts e true q = grind arith
     due t ts e false q = ends t ts e
 
     go : (begun : List ℕ) → begun_at c.schedule b ≡ begun
         → Move c (cond (is_due_since c.schedule (slice_get begun 0)) ended c)
         (ServedOrNot b c (cond (is_due_since c.schedule (slice_get begun 0)) ended c))
-    go [] e = stays (λ t f. none t (sym (ap (λ l. slice_get l 0) e) ∙ f))
-      where
-        none : (t : ℕ) → slice_get [] 0 ≡ Some t → NotDue c t
-        none t f = cc
+    go [] e = grind arith
     go (t ∷ ts) e = due t ts e (nat_lt (c.schedule.round - t) c.schedule.timing.latency) refl
 
 -- n banks from this one on had their turns and served nothing: each that has a command has begun one, which isn't due
 pub record Turned (from n : ℕ) (c d : Course) : Type 0 where
   pub kept : (b t : ℕ) → first_begun c.schedule b ≡ Some t → first_begun d.schedule b ≡ Some t
-  pub begins : (b : ℕ) → from ≤ b → b < from + n → Waits c.state b → (t : ℕ) × (first_begun d.schedule b ≡ Some t) ×
-      (d.schedule.round - t < d.schedule.timing.latency)
+  pub begins : (b : ℕ) → from ≤ b → b < from + n → Waits c.state b → IsBusy d b
 
 abbrev AllTurns : ℕ → ℕ → Course → Type 0
 AllTurns n b c = Move c (bank_turns n b c) (Turned b n c (bank_turns n b c))
@@ -351,7 +324,7 @@ turn_then n b c steady all later = then c e f first rest both
     there = omega (arith, all)
 
     begins : Begun b c (begin b c)
-    begins = begun b c steady (let few = steady.whole.in_range.few_banks in omega (arith, there, few))
+    begins = begun b c steady (omega (arith, there, steady.whole.in_range.few_banks))
 
     d : Course
     d = begin b c
@@ -395,14 +368,12 @@ turn_then n b c steady all later = then c e f first rest both
         still : (k : ℕ) → first_begun e.schedule k ≡ first_begun d.schedule k
         still k = ap (λ l. slice_get (get_or l k []) 0) served.0
 
-        there_too : (k : ℕ) → b ≤ k → k < b + suc n → (k ≡ b → ⊥) → Waits c.state k → (t : ℕ) × (first_begun f.schedule k ≡ Some t) ×
-            (f.schedule.round - t < f.schedule.timing.latency)
+        there_too : (k : ℕ) → b ≤ k → k < b + suc n → (k ≡ b → ⊥) → Waits c.state k → IsBusy f k
         there_too k lo hi apart w =
             let waits = subst (λ s. Waits s k) (sym same) w in
             turned.begins k (omega (arith, lo, apart)) (omega (arith, hi)) waits
 
-        here : (k : ℕ) → k ≡ b → Waits c.state k → (t : ℕ) × (first_begun f.schedule k ≡ Some t) ×
-            (f.schedule.round - t < f.schedule.timing.latency)
+        here : (k : ℕ) → k ≡ b → Waits c.state k → IsBusy f k
         here k q w =
             let at = begins.begins (subst (Waits c.state) q w) in
             let early = served.1 at.0 at.1 in
@@ -413,14 +384,7 @@ turn_then n b c steady all later = then c e f first rest both
 
 turns : (n b : ℕ) (c : Course) → Steady c → b + n ≡ c.state.sizes.banks → AllTurns n b c
 unfolding bank_turns
-turns zero b c steady all =
-    record {
-      steady = steady;
-      round = refl;
-      latency = refl;
-      sizes = refl;
-      lighter = inr (refl, record { kept = λ k t e. e; begins = λ k lo hi w. absurd (omega (arith, lo, hi)) });
-    }
+turns zero b c steady all = grind arith
 turns (suc n) b c steady all = turn_then n b c steady all (λ s a. turns n (b + 1) (serve_due b (begin b c)) s a)
 
 -- ---- one arrival
@@ -432,19 +396,18 @@ answer_there s (suc n) b k e = go (has_answer s b) refl (answer_there s n (b + 1
   where
     go : (h : Bool) → has_answer s b ≡ h → (first_with_answer s n (b + 1) ≡ Some k → has_answer s k ≡ true)
         → cond h (Some b) (first_with_answer s n (b + 1)) ≡ Some k → has_answer s k ≡ true
-    go true q later r = let same : b ≡ k = cc in ap (has_answer s) (sym same) ∙ q
+    go true q later r = grind arith
     go false q later r = later r
 
 no_answer : (s : MachineState) (n b k : ℕ) → first_with_answer s n b ≡ None → b ≤ k → k < b + n → has_answer s k ≡ false
 unfolding first_with_answer
-no_answer s zero b k e lo hi = absurd (omega (arith, lo, hi))
+no_answer s zero b k e lo hi = grind arith
 no_answer s (suc n) b k e lo hi = go (has_answer s b) refl (no_answer s n (b + 1) k) e
   where
     go : (h : Bool) → has_answer s b ≡ h → (first_with_answer s n (b + 1) ≡ None → b + 1 ≤ k → k < b + 1 + n → has_answer s k ≡ false)
         → cond h (Some b) (first_with_answer s n (b + 1)) ≡ None → has_answer s k ≡ false
     go true q later r = cc
-    go false q later r =
-        ⊎_elim (λ same. ap (has_answer s) same ∙ q) (λ apart. later r (omega (arith, lo, apart)) (omega (arith, hi))) (cases_eq k b)
+    go false q later r = grind arith
 
 -- no bank has an answer
 abbrev pub NoAnswers : MachineState → Type 0
@@ -491,7 +454,7 @@ unfolding arrive has_stack_room has_answer attempt after_event
 arrives c steady = go (nat_lt (length c.state.machine.cache.stack) c.state.sizes.depth) refl
   where
     stays : NothingArrives c.state → Move c c (Shows c c NothingArrives)
-    stays why = record { steady = steady; round = refl; latency = refl; sizes = refl; lighter = inr (refl, (refl, why)) }
+    stays why = grind arith
 
     comes : length c.state.machine.cache.stack < c.state.sizes.depth → (b : ℕ) → has_answer c.state b ≡ true
         → Move c (arrive_from (Some b) c) (Shows c (arrive_from (Some b) c) NothingArrives)
@@ -535,12 +498,13 @@ arrives c steady = go (nat_lt (length c.state.machine.cache.stack) c.state.sizes
         (Shows c (cond h (arrive_from (next_with_answer c.state c.schedule.next) c) c) NothingArrives)
     go true e =
         next (ltb-true (length c.state.machine.cache.stack) c.state.sizes.depth e) (next_with_answer c.state c.schedule.next) refl
-    go false e = stays (inl (ltb-false (length c.state.machine.cache.stack) c.state.sizes.depth e))
+    go false e = grind arith
 
 -- ---- the stack, the replies, the write queue
 
 attempted : (event : Event) (c : Course) (why : MachineState → Type 0) → Steady c → ((b : ℕ) → leaves_commands b event)
-    → FallsOr c.state.machine (apply c.state.sizes c.state.machine event).machine (why c.state)
+    → ((z : Sizes) → IsLawful z → HasRoom z → (m : Machine) → IsSound z m
+    → FallsOr m (apply z m event).machine (why (record { sizes = z; machine = m })))
     → Move c (attempt event c) (Shows c (attempt event c) why)
 unfolding attempt after_event
 attempted event c why steady leaves falls =
@@ -549,15 +513,13 @@ attempted event c why steady leaves falls =
       round = refl;
       latency = refl;
       sizes = refl;
-      lighter = go falls;
+      lighter = grind arith;
     }
   where
     go : FallsOr c.state.machine (apply c.state.sizes c.state.machine event).machine (why c.state)
         → Lighter c (attempt event c) (Shows c (attempt event c) why)
     go (inl p) = inl p
-    go (inr p) =
-        let same : after_event c.state event ≡ c.state = ap (λ m. record { sizes = c.state.sizes; machine = m }) p.0 in
-        inr (same, (refl, subst why (sym same) p.1))
+    go (inr p) = grind arith
 
 -- ---- all moves of a round
 
@@ -567,8 +529,7 @@ Drained s = (s.machine.cache.queue ≡ []) ⊎ HasCommand s.sizes s.machine
 -- why no move of a round did anything
 pub record Stands (c d : Course) : Type 0 where
   pub kept : (b t : ℕ) → first_begun c.schedule b ≡ Some t → first_begun d.schedule b ≡ Some t
-  pub begins : (b : ℕ) → b < c.state.sizes.banks → Waits c.state b → (t : ℕ) × (first_begun d.schedule b ≡ Some t) ×
-      (d.schedule.round - t < d.schedule.timing.latency)
+  pub begins : (b : ℕ) → b < c.state.sizes.banks → Waits c.state b → IsBusy d b
   pub arrived : NothingArrives d.state
   pub processed : d.state.machine.cache.stack ≡ []
   pub taken : d.state.machine.cache.ready ≡ []
@@ -600,22 +561,13 @@ round_moves c steady = then c c3 c5 (then c c1 c3 turned first (λ f g p q. (f, 
     arrival = arrives c1 turned.steady
 
     processing : Move c2 c3 (Shows c2 c3 (λ s. s.machine.cache.stack ≡ []))
-    processing =
-        let w = arrival.steady.whole in
-        let falls = process_falls c2.state.sizes (law c2.state w) (room c2.state w) c2.state.machine w.sound in
-        attempted (Process 0) c2 (λ s. s.machine.cache.stack ≡ []) arrival.steady (λ b. tt) falls
+    processing = attempted (Process 0) c2 (λ s. s.machine.cache.stack ≡ []) arrival.steady (λ b. tt) process_falls
 
     taking : Move c3 c4 (Shows c3 c4 (λ s. s.machine.cache.ready ≡ []))
-    taking =
-        let w = processing.steady.whole in
-        let falls = take_falls c3.state.sizes (law c3.state w) (room c3.state w) c3.state.machine w.sound in
-        attempted (Take 0) c3 (λ s. s.machine.cache.ready ≡ []) processing.steady (λ b. tt) falls
+    taking = attempted (Take 0) c3 (λ s. s.machine.cache.ready ≡ []) processing.steady (λ b. tt) take_falls
 
     draining : Move c4 c5 (Shows c4 c5 Drained)
-    draining =
-        let w = taking.steady.whole in
-        let falls = drain_falls c4.state.sizes (law c4.state w) (room c4.state w) c4.state.machine w.sound in
-        attempted Drain c4 Drained taking.steady (λ b. tt) falls
+    draining = attempted Drain c4 Drained taking.steady (λ b. tt) drain_falls
 
     first : Move c1 c3 (Shows c1 c3 (λ s. NothingArrives s × (s.machine.cache.stack ≡ [])))
     first = then c1 c2 c3 arrival processing (λ f g p q. (g.0 ∙ f.0, (subst NothingArrives (sym q) f.1, g.1)))
@@ -628,10 +580,10 @@ round_moves c steady = then c c3 c5 (then c c1 c3 turned first (λ f g p q. (f, 
         → Shows c3 c5 (λ s. (s.machine.cache.ready ≡ []) × Drained s) → c3.state ≡ c.state → c5.state ≡ c3.state → Stands c c5
     all f g p q =
         record {
-          kept = λ b t e. still b ∙ f.0.kept b t e;
+          kept = grind arith;
           begins = λ b l w. busy b (f.0.begins b (omega arith) (omega (arith, l)) w);
-          arrived = subst NothingArrives (sym q) f.1.1.0;
-          processed = subst (λ s. s.machine.cache.stack ≡ []) (sym q) f.1.1.1;
+          arrived = grind arith;
+          processed = grind arith;
           taken = g.1.0;
           drained = g.1.1;
         }
@@ -645,6 +597,5 @@ round_moves c steady = then c c3 c5 (then c c1 c3 turned first (λ f g p q. (f, 
         latency : c5.schedule.timing.latency ≡ c1.schedule.timing.latency
         latency = last.latency ∙ first.latency
 
-        busy : (b : ℕ) → (t : ℕ) × (first_begun c1.schedule b ≡ Some t) × (c1.schedule.round - t < c1.schedule.timing.latency) → (t : ℕ) ×
-            (first_begun c5.schedule b ≡ Some t) × (c5.schedule.round - t < c5.schedule.timing.latency)
-        busy b x = let early = x.2 in (x.0, still b ∙ x.1, omega (arith, early, round, latency))
+        busy : (b : ℕ) → IsBusy c1 b → IsBusy c5 b
+        busy b x = (x.0, still b ∙ x.1, omega (arith, x.2, round, latency))

@@ -61,14 +61,14 @@ recorded_then : (r : Recorded) (xs ys : List Note) → with_notes r (xs ++ ys) �
 recorded_then r [] ys = refl
 recorded_then r (x ∷ xs) ys = recorded_then (with_note r x) xs ys
 
-pub recording_begins : (timing : Timing) (s : MachineState) (requests : List Event) (r : Recorded) → r ≡ nothing_recorded (length requests)
+pub recording_begins : (timing : Timing) (s : MachineState) (requests : List Event) {r : Recorded} → r ≡ nothing_recorded (length requests)
     → r ≡ with_notes (nothing_recorded (length requests)) (rounds_until_over 0 (start_of timing s requests)).told
 unfolding rounds_until_over
-recording_begins timing s requests r h = h
+recording_begins timing s requests h = h
 
-pub recorded_next : (room : ℕ) (before notes after : List Note) (r u : Recorded) → after ≡ before ++ notes
+pub recorded_next : (room : ℕ) (before notes : List Note) {after : List Note} {r u : Recorded} → after ≡ before ++ notes
     → r ≡ with_notes (nothing_recorded room) before → u ≡ with_notes r notes
     → u ≡ with_notes (nothing_recorded room) after
-recorded_next room before notes after r u more p q =
+recorded_next room before notes more p q =
     q ∙ ap (λ x. with_notes x notes) p ∙ sym (recorded_then (nothing_recorded room) before notes)
     ∙ ap (with_notes (nothing_recorded room)) (sym more)

@@ -1,13 +1,13 @@
 -- A request that isn't ended leaves the machine as it was, and one to a machine at rest ends.
-use Rattle.std.proofs.Common.{◌≡◌, ℕ, ◌<◌, ◌≤◌, Bool, true, false, cond, not, nat_lt, List, Option, Some, None, refl, ap, ◌∙◌, ⊎_elim}
+use Rattle.std.proofs.Common.{◌≡◌, ℕ, ◌<◌, ◌≤◌, Bool, true, false, not, nat_lt, List, Option, Some, None, refl, ap, ◌∙◌, ⊎_elim}
 use Rattle.std.proofs.Common.{lt-ltb, le-ltb}
 use Rattle.std.proofs.lemmas.Bool.{cases_lt}
 use Rattle.flat_model.specs.declared.Cause.{Cause}
 use Rattle.flat_model.specs.declared.Cause.TheVariants as cause
 use Rattle.flat_model.specs.declared.Event.{Event}
-use Rattle.flat_model.specs.declared.Event.TheVariants.{Load, Store, Prefetch, Evict, Drain, Serve, Arrive, Process, Take}
+use Rattle.flat_model.specs.declared.Event.TheVariants.{Load, Store, Prefetch, Evict}
 use Rattle.flat_model.specs.declared.Answer.{Answer}
-use Rattle.flat_model.specs.declared.Answer.TheVariants.{Accepted, Moved, Value, Nothing, Refused}
+use Rattle.flat_model.specs.declared.Answer.TheVariants.{Accepted, Refused}
 use Rattle.flat_model.specs.Words.{has_any}
 use Rattle.flat_model.specs.declared.Word.{Word}
 use Rattle.flat_model.specs.declared.Lanes.{Lanes}
@@ -45,11 +45,7 @@ request_stays s event r h = ap (λ m. record { sizes = s.sizes; machine = m }) (
         k
     go (Prefetch at) q k = refused_stays s.machine.banks s.machine.cache (prefetch_cause s.sizes rooms s.machine.cache at) _ refl k
     go (Evict block) q k = refused_stays s.machine.banks s.machine.cache (evict_cause s.sizes s.machine.cache block) _ refl k
-    go Drain q k = cc
-    go (Serve bank) q k = cc
-    go (Arrive bank place) q k = cc
-    go (Process place) q k = cc
-    go (Take place) q k = cc
+    go event q k = cc
 
 -- ---- a request ends where the machine serves requests, as it does where nothing is on its way
 
@@ -58,14 +54,6 @@ denied_ends : (banks : List Bank) (c : Cache) (why : Option Cause) (x : Cause) (
 denied_ends banks c None x step e q = cc
 denied_ends banks c (Some y) x step e q = let same : y ≡ x = cc in ap (λ a. is_end (Refused a)) same ∙ e
 
-so : {X : Type 0} (b : Bool) (x y : X) → b ≡ true → cond b x y ≡ x
-so true x y e = refl
-so false x y e = cc
-
-not_so : {X : Type 0} (b : Bool) (x y : X) → b ≡ false → cond b x y ≡ y
-not_so false x y e = refl
-not_so true x y e = cc
-
 -- memory has no such word, or a store has no lane
 module _ (z : Sizes) (rooms : ℕ → ℕ) (c : Cache) (at : ℕ) where
   outside : z.words ≤ at → not (nat_lt at z.words) ≡ true
@@ -73,38 +61,26 @@ module _ (z : Sizes) (rooms : ℕ → ℕ) (c : Cache) (at : ℕ) where
 
   load_outside : (tag : ℕ) → z.words ≤ at → load_cause z rooms c tag at ≡ Some cause.OutOfRange
   unfolding load_cause
-  load_outside tag l = so _ (Some cause.OutOfRange) _ (outside l)
+  load_outside tag l = rw (outside l) refl
 
   store_outside : (lanes : Lanes) → z.words ≤ at → store_cause z rooms c at lanes ≡ Some cause.OutOfRange
   unfolding store_cause
-  store_outside lanes l = so _ (Some cause.OutOfRange) _ (outside l)
+  store_outside lanes l = rw (outside l) refl
 
   laneless : (lanes : Lanes) → at < z.words → has_any lanes ≡ false → store_cause z rooms c at lanes ≡ Some cause.NoLanes
   unfolding store_cause
-  laneless lanes l e = not_so _ (Some cause.OutOfRange) _ (ap not (lt-ltb at z.words l)) ∙ so _ (Some cause.NoLanes) _ (ap not e)
+  laneless lanes l e = rw (lt-ltb at z.words l, e) refl
 
   prefetch_outside : z.words ≤ at → prefetch_cause z rooms c at ≡ Some cause.OutOfRange
   unfolding prefetch_cause
-  prefetch_outside l = so _ (Some cause.OutOfRange) _ (outside l)
+  prefetch_outside l = rw (outside l) refl
 
 eviction_ends : (answer : Answer) → serves_eviction answer ≡ true → is_end answer ≡ true
 eviction_ends Accepted e = refl
-eviction_ends Moved e = cc
-eviction_ends (Value tag word) e = cc
-eviction_ends Nothing e = cc
 eviction_ends (Refused cause.OutOfRange) e = refl
 eviction_ends (Refused cause.NoLanes) e = refl
 eviction_ends (Refused cause.NotPresent) e = refl
-eviction_ends (Refused cause.TagInUse) e = cc
-eviction_ends (Refused cause.RepliesFull) e = cc
-eviction_ends (Refused cause.TargetsFull) e = cc
-eviction_ends (Refused cause.BlockQueued) e = cc
-eviction_ends (Refused cause.NoRegister) e = cc
-eviction_ends (Refused cause.SetPending) e = cc
-eviction_ends (Refused cause.QueueFull) e = cc
-eviction_ends (Refused cause.BankFull) e = cc
-eviction_ends (Refused cause.StackFull) e = cc
-eviction_ends (Refused cause.StrayWord) e = cc
+eviction_ends answer e = cc
 
 module _ (s : MachineState) (served : ServesRequests s.sizes s.machine) where
   abbrev rooms_now : ℕ → ℕ
@@ -154,8 +130,4 @@ module _ (s : MachineState) (served : ServesRequests s.sizes s.machine) where
   request_ends (Store at word lanes) r = store_ends at word lanes
   request_ends (Prefetch at) r = prefetch_ends at
   request_ends (Evict block) r = eviction_ends (apply s.sizes s.machine (Evict block)).answer (served.evictions block)
-  request_ends Drain r = cc
-  request_ends (Serve bank) r = cc
-  request_ends (Arrive bank place) r = cc
-  request_ends (Process place) r = cc
-  request_ends (Take place) r = cc
+  request_ends event r = cc

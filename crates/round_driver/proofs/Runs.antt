@@ -1,6 +1,7 @@
 -- Rounds, one after another.
 use Rattle.std.proofs.Common.{◌≡◌, ℕ, zero, suc, ◌+◌, ◌≤◌, Bool, true, false, cond, List, [], ◌∷◌, ◌++◌, append_assoc, append-nil, take}
 use Rattle.std.proofs.Common.{length, length-append, get_or, ◌<◌, Result, Ok, Err, IfErr, IsErrAnd, refl, sym, ap, ap₂, subst, ◌∙◌, arith}
+use Rattle.std.proofs.lemmas.Bool.{true≢false as no}
 use Rattle.std.proofs.lemmas.List.{take_more}
 use Rattle.flat_model.specs.declared.Event.{Event}
 use Rattle.machine_core.specs.Machine.{MachineState}
@@ -31,9 +32,6 @@ stays (suc n) r h = once n r ∙ ap (λ b. cond b r (rounds_until_over n (after_
 pub goes : (n : ℕ) (r : Run) → is_over r ≡ false → rounds_until_over (suc n) r ≡ rounds_until_over n (after_round r)
 goes n r h = once n r ∙ ap (λ b. cond b r (rounds_until_over n (after_round r))) h
 
-no : true ≡ false → ⊥
-no e = cc
-
 -- one round more
 pub round_more : (n : ℕ) (r : Run) → is_over (rounds_until_over n r) ≡ false
     → rounds_until_over (n + 1) r ≡ after_round (rounds_until_over n r)
@@ -56,7 +54,7 @@ round_more (suc n) r h = go (λ going. round_more n (after_round r) going) (is_o
 -- behind the end there are no rounds
 pub round_over : (n m : ℕ) (r : Run) → n ≤ m → is_over (rounds_until_over n r) ≡ true → rounds_until_over m r ≡ rounds_until_over n r
 round_over zero m r le h = stays m r (sym (ap is_over (none r)) ∙ h) ∙ sym (none r)
-round_over (suc n) zero r le h = absurd (omega (arith, le))
+round_over (suc n) zero r le h = grind arith
 round_over (suc n) (suc m) r le h = go (λ fewer over. round_over n m (after_round r) fewer over) (is_over r) refl
   where
     go : (n ≤ m → is_over (rounds_until_over n (after_round r)) ≡ true
@@ -93,28 +91,28 @@ counted_then c (x ∷ xs) ys = counted_then (counted c x) xs ys
 -- ---- before the first round
 
 module _ (timing : Timing) (s : MachineState) (requests : List Event) where
-  pub run_begins : (p : Schedule) → p ≡ opening timing → run_of s p requests (rounds_until_over 0 (start_of timing s requests)).told
+  pub run_begins : {p : Schedule} → p ≡ opening timing → run_of s p requests (rounds_until_over 0 (start_of timing s requests)).told
       ≡ rounds_until_over 0 (start_of timing s requests)
   unfolding rounds_until_over
-  run_begins p h = ap (λ p. run_of s p requests []) h
+  run_begins h = grind arith
 
-  pub text_begins : {S : Type 0} (step : S → List ℕ → S → Type 0) (w : S)
+  pub text_begins : {S : Type 0} {step : S → List ℕ → S → Type 0} {w : S}
       → Moves step w (run_text (rounds_until_over 0 (start_of timing s requests)).told) w
   unfolding rounds_until_over
-  text_begins step w = moved_none w
+  text_begins {w} = moved_none w
 
-  pub counts_begin : (c : Counting) → c ≡ nothing → c ≡ counted_all nothing (rounds_until_over 0 (start_of timing s requests)).told
+  pub counts_begin : {c : Counting} → c ≡ nothing → c ≡ counted_all nothing (rounds_until_over 0 (start_of timing s requests)).told
   unfolding rounds_until_over
-  counts_begin c h = h
+  counts_begin h = h
 
 -- ---- a turn of the loop: i rounds of a run, and one more
 
-module _ (i : ℕ) (start : Run) (s : MachineState) (p : Schedule) (left : List Event)
+module _ (i : ℕ) (start : Run) {s : MachineState} {p : Schedule} {left : List Event}
     (here : run_of s p left (rounds_until_over i start).told ≡ rounds_until_over i start) where
   over_here : (n : ℕ) → i ≤ n → is_over_at s left ≡ true → run_of s p left (rounds_until_over i start).told ≡ rounds_until_over n start
   over_here n le over = here ∙ sym (round_over i n start le (sym (ap is_over here) ∙ over))
 
-  module _ (s' : MachineState) (p' : Schedule) (left' : List Event) (notes : List Note)
+  module _ {s' : MachineState} {p' : Schedule} {left' : List Event} {notes : List Note}
       (made : (told : List Note) → run_of s' p' left' (told ++ notes) ≡ after_round (run_of s p left told))
       (going : is_over_at s left ≡ false) where
     behind : run_of s' p' left' ((rounds_until_over i start).told ++ notes) ≡ rounds_until_over (i + 1) start
@@ -130,26 +128,26 @@ module _ (i : ℕ) (start : Run) (s : MachineState) (p : Schedule) (left : List 
     state_next = ap (λ r. r.state) behind
 
     -- for the lines of the round that was made there is no memory
-    pub lines_lack_memory : {W : Type 0} (took : W → List ℕ → W → Type 0) (refused : W → W → Type 0) (u v : W)
+    pub lines_lack_memory : {W : Type 0} {took : W → List ℕ → W → Type 0} (refused : W → W → Type 0) {u v : W}
         (result : Result ℕ TraceFault) → Moves took u (run_text (rounds_until_over i start).told) v
         → IsErrAnd result (λ fault. fault ≡ OutOfMemory)
         → IfErr result (BreaksOff took refused u start v s')
-    lines_lack_memory took refused u v (Ok rounds) written told = tt
-    lines_lack_memory took refused u v (Err f) written told =
+    lines_lack_memory refused (Ok rounds) written told = tt
+    lines_lack_memory {took} refused {u} {v} (Err f) written told =
         subst (BreaksOff took refused u start v s') (sym told) (i, written, state_next)
 
     text : run_text (rounds_until_over (i + 1) start).told ≡ run_text (rounds_until_over i start).told ++ run_text notes
     text = ap run_text told_next ∙ text_then (rounds_until_over i start).told notes
 
-    pub text_next : {S : Type 0} (step : S → List ℕ → S → Type 0) (u v w : S) → Moves step u (run_text (rounds_until_over i start).told) v
+    pub text_next : {S : Type 0} {step : S → List ℕ → S → Type 0} {u v w : S} → Moves step u (run_text (rounds_until_over i start).told) v
         → Moves step v (run_text notes) w → Moves step u (run_text (rounds_until_over (i + 1) start).told) w
-    text_next step u v w a b = subst (λ t. Moves step u t w) (sym text) (moved_then a b)
+    text_next {step} {u} {w} a b = subst (λ t. Moves step u t w) (sym text) (moved_then a b)
 
     -- a write of the lines of the round that was made is refused
-    pub lines_refused : {W : Type 0} (took : W → List ℕ → W → Type 0) (refused : W → W → Type 0) (u v w : W)
+    pub lines_refused : {W : Type 0} {took : W → List ℕ → W → Type 0} {refused : W → W → Type 0} {u v w : W}
         → Moves took u (run_text (rounds_until_over i start).told) v → Stopped took refused v (run_text notes) w
         → BreaksOff took refused u start w s' Write
-    lines_refused took refused u v w written stopped =
+    lines_refused written stopped =
         let before = run_text (rounds_until_over i start).told in
         let whole = text ∙ ap (λ l. before ++ l) stopped.whole ∙ sym (append_assoc before stopped.front stopped.back) in
         let moved = moved_then written stopped.moved in (
@@ -168,9 +166,9 @@ module _ (i : ℕ) (start : Run) (s : MachineState) (p : Schedule) (left : List 
           state_next,
         )
 
-    pub counts_next : (c d : Counting) → c ≡ counted_all nothing (rounds_until_over i start).told → d ≡ counted_all c notes
+    pub counts_next : {c d : Counting} → c ≡ counted_all nothing (rounds_until_over i start).told → d ≡ counted_all c notes
         → d ≡ counted_all nothing (rounds_until_over (i + 1) start).told
-    counts_next c d p q =
+    counts_next p q =
         q ∙ ap (λ x. counted_all x notes) p ∙ sym (counted_then nothing (rounds_until_over i start).told notes)
         ∙ ap (counted_all nothing) (sym told_next)
 
@@ -183,15 +181,15 @@ module _ (timing : Timing) (s : MachineState) (requests : List Event) {turns mos
   pub whole_over : {b : Bool} → turns < most → b ≡ is_over_at m left → b ≡ true
       → run_of m p left (rounds_until_over turns (start_of timing s requests)).told ≡ whole_run timing s requests
   whole_over lt answer over =
-      over_here turns (start_of timing s requests) m p left here most (omega (arith, lt)) (sym answer ∙ over)
+      over_here _ _ here most (omega (arith, lt)) (sym answer ∙ over)
       ∙ ap (λ n. rounds_until_over n (start_of timing s requests)) value
 
   pub whole_spent : turns ≡ most
       → run_of m p left (rounds_until_over turns (start_of timing s requests)).told ≡ whole_run timing s requests
-  whole_spent all = here ∙ ap (λ n. rounds_until_over n (start_of timing s requests)) (all ∙ value)
+  whole_spent all = grind arith
 
   pub over_early : {b : Bool} → turns < most → b ≡ is_over_at m left → b ≡ true → EndsInTime timing s requests
   over_early lt answer over h = sym (ap is_over (whole_over lt answer over)) ∙ sym answer ∙ over
 
   pub spent_early : turns ≡ most → p.round ≡ turns → EndsInTime timing s requests
-  spent_early all round h = absurd (no_more most _ _ (sym (ap (λ r. r.schedule.round) (whole_spent all)) ∙ round ∙ all) value h)
+  spent_early all round h = grind arith

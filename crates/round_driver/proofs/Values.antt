@@ -1,107 +1,54 @@
 -- A round answers one load at most.
-use Rattle.std.proofs.Common.{◌≡◌, ◌≤◌, ℕ, zero, suc, ◌+◌, nat_lt, ◌%◌, Bool, true, false, cond, List, [], ◌∷◌, ◌++◌, length, append-nil}
+use Rattle.std.proofs.Common.{◌≡◌, ◌≤◌, ℕ, Bool, true, false, cond, List, [], ◌∷◌, ◌++◌, length, append-nil}
 use Rattle.std.proofs.Common.{Option, Some, None, refl, sym, ap, subst, ◌∙◌, arith}
-use Rattle.std.specs.Prelude.{slice_get}
 use Rattle.std.specs.List.{list_all}
 use Rattle.std.proofs.lemmas.List.Elements.{filter-append}
-use Rattle.std.proofs.lemmas.Bool.{and_parts}
+use Rattle.std.proofs.lemmas.Bool.{and_parts, false≢true as no}
 use Rattle.flat_model.specs.declared.Event.{Event}
 use Rattle.flat_model.specs.declared.Event.TheVariants.{Load, Store, Prefetch, Evict, Drain, Serve, Arrive, Process, Take}
-use Rattle.flat_model.specs.declared.Answer.TheVariants.{Accepted}
-use Rattle.flat_model.specs.declared.Cause.{Cause}
-use Rattle.memory_banks.specs.declared.Command.{Command}
-use Rattle.memory_banks.specs.declared.BankAnswer.{BankAnswer}
-use Rattle.memory_banks.specs.Banks.{Bank, bank_at, room_in}
-use Rattle.input_stack.specs.declared.Entry.{Entry}
-use Rattle.write_queue.specs.declared.Queued.{Queued}
-use Rattle.cache_unit.specs.declared.Sizes.{Sizes}
-use Rattle.cache_unit.specs.State.{Cache}
-use Rattle.cache_unit.specs.Causes.{load_cause, store_cause, prefetch_cause, evict_cause, arrive_cause}
-use Rattle.cache_unit.specs.Steps.{Stepped, unless, load_step, store_step, prefetch_step, evict_step, drain_first, drain_step}
-use Rattle.cache_unit.specs.Steps.{process_entry, process_step}
-use Rattle.machine_core.specs.Machine.{Machine, MachineState, joined_with, serve_from, take_in, arrive_from}
+use Rattle.memory_banks.specs.Banks.{room_in}
+use Rattle.cache_unit.specs.Steps.{load_step, store_step, prefetch_step, evict_step, drain_step}
+use Rattle.cache_unit.specs.Steps.{process_step}
+use Rattle.machine_core.specs.Machine.{MachineState}
 use Rattle.machine_core.specs.AnyMachine.{answered}
 use Rattle.round_driver.specs.declared.note.Note.{Note}
-use Rattle.round_driver.specs.declared.schedule.Schedule.{Schedule}
-use Rattle.round_driver.specs.Rounds.{Course, course, is_done, note_of, request_note, attempt, ask, scheduled, begin, serve_due, bank_turns}
-use Rattle.round_driver.specs.Rounds.{arrive_from as arrive_at, arrive, moves, asked, after_round, next_round}
+use Rattle.round_driver.specs.Rounds.{Course, course, is_done, note_of, request_note, attempt, ask, bank_turns}
+use Rattle.round_driver.specs.Rounds.{arrive, moves, asked, after_round, next_round}
 use Rattle.round_driver.specs.Walks.{is_request}
-use Rattle.round_driver.proofs.Walks.{sent_first, kept_first}
+use Rattle.round_driver.proofs.Kept.{arrives}
 use Rattle.round_driver.specs.Stepping.{RoundsState, offered, is_value, answers, AnswersOneLoad}
-
-no : false ≡ true → ⊥
-no e = cc
 
 -- ---- events that never answer a load
 
 abbrev IsQuiet : Event → Type 0
 IsQuiet event = (s : MachineState) → is_value (answered s event) ≡ false
 
-refused_quiet : (banks : List Bank) (c : Cache) (why : Option Cause) (x : Stepped) → x.answer ≡ Accepted
-    → is_value (joined_with banks (unless why c x)).answer ≡ false
-refused_quiet banks c None x h = ap is_value h
-refused_quiet banks c (Some cause) x h = refl
-
-served_quiet : (m : Machine) (b : ℕ) (q : List Command) → is_value (serve_from m b q).answer ≡ false
-served_quiet m b [] = refl
-served_quiet m b (c ∷ cs) = refl
-
-took_quiet : (z : Sizes) (m : Machine) (b place : ℕ) (a : BankAnswer) (cause : Option Cause)
-    → is_value (take_in z m b place a cause).answer ≡ false
-took_quiet z m b place a (Some cause) = refl
-took_quiet z m b place a None = refl
-
-arrived_quiet : (z : Sizes) (m : Machine) (b place : ℕ) (o : Option BankAnswer) → is_value (arrive_from z m b place o).answer ≡ false
-arrived_quiet z m b place None = refl
-arrived_quiet z m b place (Some a) = took_quiet z m b place a (arrive_cause z m.cache a.slot a.i)
-
-processed_quiet : (banks : List Bank) (c : Cache) (place : ℕ) (o : Option Entry)
-    → is_value (joined_with banks (process_entry c place o)).answer ≡ false
-processed_quiet banks c place None = refl
-processed_quiet banks c place (Some e) = refl
-
-drained_quiet : (z : Sizes) (room : ℕ → ℕ) (banks : List Bank) (c : Cache) (q : List Queued)
-    → is_value (joined_with banks (drain_first z room c q)).answer ≡ false
-drained_quiet z room banks c [] = refl
-drained_quiet z room banks c (q ∷ rest) = go (nat_lt 0 (room (q.at % z.banks)))
-  where
-    go : (b : Bool) → is_value (cond b (sent_first z c q rest) (kept_first c)).answer ≡ false
-    go true = refl
-    go false = refl
-
 serve_is_quiet : (b : ℕ) → IsQuiet (Serve b)
 unfolding answered
-serve_is_quiet b s = served_quiet s.machine b (bank_at s.machine.banks b).queue
+serve_is_quiet b s = grind arith
 
 arrive_is_quiet : (b place : ℕ) → IsQuiet (Arrive b place)
 unfolding answered
-arrive_is_quiet b place s = arrived_quiet s.sizes s.machine b place (slice_get (bank_at s.machine.banks b).answers place)
+arrive_is_quiet b place s = grind arith
 
 process_is_quiet : (place : ℕ) → IsQuiet (Process place)
 unfolding answered process_step
-process_is_quiet place s = processed_quiet s.machine.banks s.machine.cache place (slice_get s.machine.cache.stack place)
+process_is_quiet place s = grind arith
 
 abbrev rooms : MachineState → ℕ → ℕ
 rooms s = room_in s.sizes.bank_queue s.machine.banks
 
 drain_is_quiet : IsQuiet Drain
 unfolding answered drain_step
-drain_is_quiet s = drained_quiet s.sizes (rooms s) s.machine.banks s.machine.cache s.machine.cache.queue
+drain_is_quiet s = grind arith
 
 request_is_quiet : (event : Event) → is_request event ≡ true → IsQuiet event
 unfolding answered load_step store_step prefetch_step evict_step
-request_is_quiet (Load tag at) h s =
-    refused_quiet s.machine.banks s.machine.cache (load_cause s.sizes (rooms s) s.machine.cache tag at) _ refl
-request_is_quiet (Store at word lanes) h s =
-    refused_quiet s.machine.banks s.machine.cache (store_cause s.sizes (rooms s) s.machine.cache at lanes) _ refl
-request_is_quiet (Prefetch at) h s =
-    refused_quiet s.machine.banks s.machine.cache (prefetch_cause s.sizes (rooms s) s.machine.cache at) _ refl
-request_is_quiet (Evict block) h s = refused_quiet s.machine.banks s.machine.cache (evict_cause s.sizes s.machine.cache block) _ refl
-request_is_quiet Drain h s = absurd (no h)
-request_is_quiet (Serve b) h s = absurd (no h)
-request_is_quiet (Arrive b place) h s = absurd (no h)
-request_is_quiet (Process place) h s = absurd (no h)
-request_is_quiet (Take place) h s = absurd (no h)
+request_is_quiet (Load tag at) h s = grind arith
+request_is_quiet (Store at word lanes) h s = grind arith
+request_is_quiet (Prefetch at) h s = grind arith
+request_is_quiet (Evict block) h s = grind arith
+request_is_quiet event h s = absurd (no h)
 
 -- ---- what was answered in a round so far
 
@@ -124,34 +71,6 @@ module _ (before : List Note) where
       go : (b : Bool) → answers (cond b (c.notes ++ note_of c event ∷ []) c.notes) ≡ answers c.notes
       go true = quiet_note (note_of c event) c.notes (quiet c.state)
       go false = refl
-
-  one_of : (b : Bool) (c d : Course) → Answered before c → Answered before d → Answered before (cond b c d)
-  one_of true c d p q = p
-  one_of false c d p q = q
-
-  rescheduled : (p : Schedule) (c : Course) → Answered before c → Answered before (scheduled p c)
-  rescheduled p c w = record { same = w.same }
-
-  begun : (b : ℕ) (c : Course) → Answered before c → Answered before (begin b c)
-  unfolding begin
-  begun b c w = one_of _ _ c (rescheduled _ c w) w
-
-  served : (b : ℕ) (c : Course) → Answered before c → Answered before (serve_due b c)
-  unfolding serve_due
-  served b c w = one_of _ _ c (attempted (Serve b) _ (serve_is_quiet b) (rescheduled _ c w)) w
-
-  all_served : (n b : ℕ) (c : Course) → Answered before c → Answered before (bank_turns n b c)
-  unfolding bank_turns
-  all_served zero b c w = w
-  all_served (suc n) b c w = all_served n (b + 1) _ (served b _ (begun b c w))
-
-  one_arrived : (o : Option ℕ) (c : Course) → Answered before c → Answered before (arrive_at o c)
-  one_arrived None c w = w
-  one_arrived (Some b) c w = attempted (Arrive b 0) _ (arrive_is_quiet b 0) (rescheduled _ c w)
-
-  arrives : (c : Course) → Answered before c → Answered before (arrive c)
-  unfolding arrive
-  arrives c w = one_of _ _ c (one_arrived _ c w) w
 
 one_note : (b : Bool) (n : Note) → length (cond b (n ∷ []) []) ≤ 1
 one_note true n = omega arith
@@ -176,8 +95,9 @@ moved : (c : Course) → so_far c ≡ [] → length (so_far (moves c)) ≤ 1
 unfolding moves
 moved c none =
     let before = attempt (Process 0) (arrive (bank_turns c.state.sizes.banks 0 c)) in
-    let turns : Answered [] (bank_turns c.state.sizes.banks 0 c) = all_served [] _ 0 c (record { same = none }) in
-    let quiet : Answered [] before = attempted [] (Process 0) _ (process_is_quiet 0) (arrives [] _ turns) in
+    let arrived = arrives (Answered []) (λ p c w. record { same = w.same }) (λ b c w. attempted [] (Serve b) c (serve_is_quiet b) w)
+    (λ b c w. attempted [] (Arrive b 0) c (arrive_is_quiet b 0) w) _ 0 c (record { same = none }) in
+    let quiet : Answered [] before = attempted [] (Process 0) _ (process_is_quiet 0) arrived in
     let behind = attempt (Take 0) before in
     let same : Answered (so_far behind) behind = record { same = refl } in
     let drained : Answered (so_far behind) (attempt Drain behind) = attempted (so_far behind) Drain behind drain_is_quiet same in

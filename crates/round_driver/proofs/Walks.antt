@@ -1,11 +1,11 @@
 -- What is told of a run is the machine's walk, and each request ends once.
-use Rattle.std.proofs.Common.{◌≡◌, ℕ, zero, suc, ◌+◌, ◌/◌, ◌%◌, nat_lt, Bool, true, false, ◌&&◌, cond, List, [], ◌∷◌, ◌++◌, Option, Some}
+use Rattle.std.proofs.Common.{◌≡◌, ℕ, zero, suc, ◌/◌, ◌%◌, nat_lt, Bool, true, false, ◌&&◌, cond, List, [], ◌∷◌, ◌++◌, Option, Some}
 use Rattle.std.proofs.Common.{None, append_assoc, append-nil, refl, sym, ap, ap₂, subst, ◌∙◌}
 use Rattle.std.specs.Prelude.{slice_get}
 use Rattle.std.specs.List.{list_all}
-use Rattle.std.proofs.lemmas.Bool.{and_parts}
+use Rattle.std.proofs.lemmas.Bool.{and_parts, true≢false as no}
 use Rattle.flat_model.specs.declared.Event.{Event}
-use Rattle.flat_model.specs.declared.Event.TheVariants.{Load, Store, Prefetch, Evict, Drain, Serve, Arrive, Process, Take}
+use Rattle.flat_model.specs.declared.Event.TheVariants.{Drain, Serve, Arrive, Process, Take}
 use Rattle.flat_model.specs.declared.Answer.TheVariants.{Moved, Refused}
 use Rattle.flat_model.specs.declared.Cause.{Cause}
 use Rattle.flat_model.specs.declared.Cause.TheVariants.{BankFull}
@@ -23,15 +23,11 @@ use Rattle.cache_unit.specs.Steps.{Stepped, drain_first, drain_step, process_ent
 use Rattle.machine_core.specs.Machine.{Machine, MachineState, apply, joined_with, serve_from, take_in, arrive_from, walked, told}
 use Rattle.machine_core.specs.AnyMachine.{answered, after_event}
 use Rattle.round_driver.specs.declared.note.Note.{Note}
-use Rattle.round_driver.specs.declared.schedule.Schedule.{Schedule}
 use Rattle.round_driver.specs.declared.timing.Timing.{Timing}
-use Rattle.round_driver.specs.Rounds.{Course, course, Run, is_done, is_end, note_of, request_note, attempt, ask, scheduled, begin}
-use Rattle.round_driver.specs.Rounds.{serve_due, bank_turns, arrive_from as arrive_at, arrive, moves, asked, after_round, is_over}
-use Rattle.round_driver.specs.Rounds.{rounds_until_over, start_of}
+use Rattle.round_driver.specs.Rounds.{Course, course, Run, is_done, is_end, note_of, request_note, attempt, ask}
+use Rattle.round_driver.specs.Rounds.{moves, asked, after_round, is_over, rounds_until_over, start_of}
+use Rattle.round_driver.proofs.Kept.{arrives}
 use Rattle.round_driver.specs.Walks.{events_of, answers_of, IsWalk, is_request, ended, RunIsTold}
-
-no : true ≡ false → ⊥
-no e = cc
 
 -- ---- an event that does nothing leaves the machine as it was
 
@@ -84,15 +80,12 @@ arrived_nothing z m b place (Some a) h = took_nothing z m b place a (arrive_caus
 nothing_done : (z : Sizes) (m : Machine) (event : Event) → is_request event ≡ false → is_done (apply z m event).answer ≡ false
     → (apply z m event).machine ≡ m
 unfolding drain_step process_step take_step
-nothing_done z m (Load tag at) r h = absurd (no r)
-nothing_done z m (Store at word lanes) r h = absurd (no r)
-nothing_done z m (Prefetch at) r h = absurd (no r)
-nothing_done z m (Evict block) r h = absurd (no r)
 nothing_done z m Drain r h = drained_nothing z (room_in z.bank_queue m.banks) m.banks m.cache m.cache.queue h
 nothing_done z m (Serve b) r h = served_nothing m b (bank_at m.banks b).queue h
 nothing_done z m (Arrive b place) r h = arrived_nothing z m b place (slice_get (bank_at m.banks b).answers place) h
 nothing_done z m (Process place) r h = processed_nothing m.banks m.cache place (slice_get m.cache.stack place) h
 nothing_done z m (Take place) r h = replied_nothing m.banks m.cache place (slice_get m.cache.ready place) h
+nothing_done z m event r h = absurd (no r)
 
 unchanged : (s : MachineState) (event : Event) → is_request event ≡ false → is_done (answered s event) ≡ false → after_event s event ≡ s
 unfolding answered after_event
@@ -147,10 +140,6 @@ record IsWalked (s : MachineState) (before : List Note) (c : Course) : Type 0 wh
   none_ended : ended (before ++ c.notes) ≡ ended before
 
 module _ (s : MachineState) (before : List Note) where
-  one_of : (b : Bool) (c d : Course) → IsWalked s before c → IsWalked s before d → IsWalked s before (cond b c d)
-  one_of true c d p q = p
-  one_of false c d p q = q
-
   attempted : (event : Event) (c : Course) → is_request event ≡ false → IsWalked s before c → IsWalked s before (attempt event c)
   unfolding attempt
   attempted event c r w = go (is_done (answered c.state event)) refl
@@ -171,33 +160,12 @@ module _ (s : MachineState) (before : List Note) where
         none_ended = w.none_ended;
       }
 
-  rescheduled : (p : Schedule) (c : Course) → IsWalked s before c → IsWalked s before (scheduled p c)
-  rescheduled p c w = record { walks = w.walks; none_ended = w.none_ended }
-
-  begun : (b : ℕ) (c : Course) → IsWalked s before c → IsWalked s before (begin b c)
-  unfolding begin
-  begun b c w = one_of _ _ c (rescheduled _ c w) w
-
-  served : (b : ℕ) (c : Course) → IsWalked s before c → IsWalked s before (serve_due b c)
-  unfolding serve_due
-  served b c w = one_of _ _ c (attempted (Serve b) _ refl (rescheduled _ c w)) w
-
-  all_served : (n b : ℕ) (c : Course) → IsWalked s before c → IsWalked s before (bank_turns n b c)
-  unfolding bank_turns
-  all_served zero b c w = w
-  all_served (suc n) b c w = all_served n (b + 1) _ (served b _ (begun b c w))
-
-  one_arrived : (o : Option ℕ) (c : Course) → IsWalked s before c → IsWalked s before (arrive_at o c)
-  one_arrived None c w = w
-  one_arrived (Some b) c w = attempted (Arrive b 0) _ refl (rescheduled _ c w)
-
-  arrives : (c : Course) → IsWalked s before c → IsWalked s before (arrive c)
-  unfolding arrive
-  arrives c w = one_of _ _ c (one_arrived _ c w) w
-
   moved : (c : Course) → IsWalked s before c → IsWalked s before (moves c)
   unfolding moves
-  moved c w = attempted Drain _ refl (attempted (Take 0) _ refl (attempted (Process 0) _ refl (arrives _ (all_served _ 0 c w))))
+  moved c w =
+      let arrived = arrives (IsWalked s before) (λ p c w. record { walks = w.walks; none_ended = w.none_ended })
+      (λ b c w. attempted (Serve b) c refl w) (λ b c w. attempted (Arrive b 0) c refl w) _ 0 c w in
+      attempted Drain _ refl (attempted (Take 0) _ refl (attempted (Process 0) _ refl arrived))
 
 -- ---- whole rounds
 

@@ -20,11 +20,9 @@ loop-turn-preserved c =
     let goes = sym c.turn-asked.ensures.ends ∙ sym c.is_ended.ensures ∙ c.if-is_ended.false in
     let goes_on = turn_goes_on c.most_turns-turn-end.result c.loop-turn._turn c.args.event here (pump_and_wait here) _ refl
     c.turn-asked.ensures.course turn goes in
-    let before = c.loop-turn.invariant.total in
-    let made = c.turn-asked.ensures.total in
     record {
       course = c.loop-turn.invariant.course ∙ goes_on;
-      total = omega (arith, before, made);
+      total = omega (arith, c.loop-turn.invariant.total, c.turn-asked.ensures.total);
       lacks = c.turn-asked.ensures.lacks;
     }
 

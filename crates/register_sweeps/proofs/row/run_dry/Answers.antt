@@ -9,9 +9,7 @@ loop-turn-preserved c =
     let here = course c.loop-turn.machine c.loop-turn.row in
     let turn : c.loop-turn._turn < c.weight-turn-end.result = c.loop-turn-test.true in
     let goes_on = pump_turn c.weight-turn-end.result c.loop-turn._turn here _ c.pump_once-made_room.ensures.course turn in
-    let before = c.loop-turn.invariant.1 in
-    let pump = c.pump_once-made_room.ensures.total in
-    (c.loop-turn.invariant.0 ∙ goes_on, omega (arith, before, pump))
+    (c.loop-turn.invariant.0 ∙ goes_on, omega (arith, c.loop-turn.invariant.1, c.pump_once-made_room.ensures.total))
 
 pub returns : goal.returns
 unfolding weight_of

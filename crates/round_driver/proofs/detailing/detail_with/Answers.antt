@@ -1,9 +1,9 @@
-use Rattle.std.proofs.Common.{◌≡◌, ◌+◌, ◌≤◌, length, sym, ap, ◌∙◌, arith}
+use Rattle.std.proofs.Common.{◌≡◌, ◌+◌, length, sym, ap, ◌∙◌, arith}
 use Rattle.round_driver.specs.Machines.{used_registers}
-use Rattle.round_driver.specs.Rounds.{start_of, rounds_until_over, is_over, whole_run}
+use Rattle.round_driver.specs.Rounds.{start_of, rounds_until_over, whole_run}
 use Rattle.round_driver.specs.Tables.{counting, nothing, counted_all, with_rounds, total, table_of}
 use Rattle.round_driver.specs.Details.{counted_all as told_all, told_of, ends_of, outcomes_in, told_total, told_rounds, ends_total}
-use Rattle.round_driver.proofs.Runs.{run_begins, counts_begin, whole_over, over_early, whole_spent, spent_early, run_next}
+use Rattle.round_driver.proofs.Runs.{run_begins, counts_begin, whole_over, over_early, spent_early, run_next}
 use Rattle.round_driver.proofs.Runs.{told_next as notes_next, counts_next}
 use Rattle.round_driver.proofs.Ends.{requests_end}
 use Rattle.round_driver.specs.Outcomes.{with_notes}
@@ -23,20 +23,20 @@ loop-turn-init c =
     let time : c.new-schedule.result.round ≡ 0 = ap (λ p. p.round) c.new-schedule.ensures in
     let next : c.new-schedule.result.next ≡ 0 = ap (λ p. p.next) c.new-schedule.ensures in
     let room = length c.args.requests.now in
-    let outcomes = recording_begins c.args.timing s c.args.requests.now c.in_ok-outcomes.outcomes c.in_ok-outcomes.ensures in
     record {
-      run = run_begins c.args.timing s c.args.requests.now c.new-schedule.result c.new-schedule.ensures;
-      counts = counts_begin c.args.timing s c.args.requests.now (counting c.in_ok-counter.counter) fresh;
-      told = told_begins c.args.timing s c.args.requests.now c.numbers_of-numbers.result c.in_ok-told.told c.in_ok-told.ensures;
-      ends = ends_begin c.args.timing s c.args.requests.now c.numbers_of-numbers.result c.in_ok-ends.ends c.in_ok-ends.ensures;
-      outcomes = outcomes;
-      recorded = ap (λ x. x.ended) outcomes ∙ all_recorded room (rounds_until_over 0 (start_of c.args.timing s c.args.requests.now)).told;
+      run = run_begins _ _ _ c.new-schedule.ensures;
+      counts = counts_begin _ _ _ fresh;
+      told = told_begins _ _ _ _ c.in_ok-told.ensures;
+      ends = ends_begin _ _ _ _ c.in_ok-ends.ensures;
+      outcomes = recording_begins _ _ _ c.in_ok-outcomes.ensures;
+      recorded = ap (λ x. x.ended) (recording_begins _ _ _ c.in_ok-outcomes.ensures)
+          ∙ all_recorded room (rounds_until_over 0 (start_of c.args.timing s c.args.requests.now)).told;
       sizes = λ i. s.sizes;
       time = omega (arith, time);
       next = omega (arith, next);
       total = omega (arith, none);
       waited = omega (arith, unwaited);
-      tags = c.in_ok-counter.ensures.tags;
+      tags = grind arith;
       few_told = omega (arith, untold);
       few_rounds = omega (arith, unheard);
       few_ends = omega (arith, unended);
@@ -58,7 +58,7 @@ returns-then-is_over-clause-details c =
     ∙ ap (λ z. ends_of (whole_run c.args.timing s c.args.requests.now).schedule.round z start) c.numbers_of-numbers.ensures in
     let in_use = c.used_registers.ensures ∙ ap (λ r. used_registers r.state) whole in
     let outcomes = c.finish.ensures ∙ c.loop-turn.invariant.recorded ∙ ap (outcomes_in (length c.args.requests.now)) whole in
-    c.details_from.ensures ∙ details_alike _ _ _ _ _ _ _ _ _ _ table told ends in_use outcomes
+    c.details_from.ensures ∙ details_alike table told ends in_use outcomes
 
 pub returns-then-is_over-clause-machine : goal.returns-then-is_over-clause-machine
 returns-then-is_over-clause-machine c =
@@ -72,9 +72,7 @@ returns-then-is_over-clause-early c =
     c.if-is_over.true
 
 pub returns-clause-machine : goal.returns-clause-machine
-returns-clause-machine c =
-    ap (λ r. r.state) (whole_spent _ _ _ c.loop-turn.invariant.run c.most_rounds-turn-end.ensures.value
-    (omega (arith, c.loop-turn-test.false, c.loop-turn.auto._turn-end)))
+returns-clause-machine c = grind arith
 
 pub returns-clause-early : goal.returns-clause-early
 returns-clause-early c =
@@ -87,53 +85,33 @@ loop-turn-preserved c =
     let here = c.loop-turn.invariant.run in
     let going = sym c.is_over.ensures ∙ c.if-is_over.false in
     let made = c.round-left.ensures.run in
-    let time = c.round-left.ensures.time in
-    let before = c.loop-turn.invariant.time in
-    let total = c.loop-turn.invariant.total in
-    let more = c.count_all.ensures.total in
-    let waited = c.loop-turn.invariant.waited in
-    let longer = c.count_all.ensures.waited in
-    let run = run_next c.loop-turn._turn start c.loop-turn.machine c.loop-turn.schedule c.loop-turn.left.now here c.round-left.new.machine
-    c.round-left.new.schedule c.round-left.result.now c.round-left.new.notes.items made going in
-    let notes = notes_next c.loop-turn._turn start c.loop-turn.machine c.loop-turn.schedule c.loop-turn.left.now here
-    c.round-left.new.machine c.round-left.new.schedule c.round-left.result.now c.round-left.new.notes.items made going in
-    let told = told_next c.numbers_of-numbers.result (rounds_until_over c.loop-turn._turn start).told c.round-left.new.notes.items
-    (rounds_until_over (c.loop-turn._turn + 1) start).told c.loop-turn.told c.count_all-in-loop-turn.new.self notes
-    c.loop-turn.invariant.told (c.count_all-in-loop-turn.ensures.counts ∙ ap (λ ns. told_all c.numbers_of-numbers.result
-    c.loop-turn.told ns) c.as_slice-in-loop-turn.ensures.value) in
-    let room = length c.args.requests.now in
-    let before_it = rounds_until_over c.loop-turn._turn start in
-    let behind_it = rounds_until_over (c.loop-turn._turn + 1) start in
+    let run = run_next _ _ here made going in
+    let before = (rounds_until_over c.loop-turn._turn start).told in
+    let told_now = c.round-left.new.notes.items in
+    let notes = notes_next _ _ here made going in
+    let told = told_next _ before told_now notes c.loop-turn.invariant.told (c.count_all-in-loop-turn.ensures.counts
+    ∙ ap (told_all c.numbers_of-numbers.result c.loop-turn.told) c.as_slice-in-loop-turn.ensures.value) in
     let recorded = c.record_all.ensures ∙ ap (with_notes c.loop-turn.outcomes) c.as_slice-in-loop-turn-2.ensures.value in
-    let outcomes = recorded_next room before_it.told c.round-left.new.notes.items behind_it.told c.loop-turn.outcomes c.record_all.new.self
-    notes c.loop-turn.invariant.outcomes recorded in
-    let few_told = c.loop-turn.invariant.few_told in
-    let more_told = c.count_all-in-loop-turn.ensures.total in
-    let few_rounds = c.loop-turn.invariant.few_rounds in
-    let more_rounds = c.count_all-in-loop-turn.ensures.rounds in
-    let few_ends = c.loop-turn.invariant.few_ends in
-    let more_ends = c.count.ensures.total in
+    let outcomes = recorded_next _ before told_now notes c.loop-turn.invariant.outcomes recorded in
     record {
       run = run;
-      counts = counts_next c.loop-turn._turn start c.loop-turn.machine c.loop-turn.schedule c.loop-turn.left.now here
-          c.round-left.new.machine c.round-left.new.schedule c.round-left.result.now c.round-left.new.notes.items made going
-          (counting c.loop-turn.counter) (counting c.count_all.new.self) c.loop-turn.invariant.counts
+      counts = counts_next _ _ here made going c.loop-turn.invariant.counts
           (c.count_all.ensures.counts ∙ ap (counted_all (counting c.loop-turn.counter)) c.as_slice.ensures.value);
       told = told;
-      ends = ends_next c.loop-turn._turn c.numbers_of-numbers.result start c.loop-turn.ends c.count.new.self
-          c.count_all-in-loop-turn.new.self c.used_registers-in-loop-turn.result c.loop-turn.invariant.ends c.count.ensures.value
+      ends = ends_next _ _ _ c.loop-turn.invariant.ends c.count.ensures.value
           (c.used_registers-in-loop-turn.ensures ∙ ap (λ r. used_registers r.state) run) told;
       outcomes = outcomes;
-      recorded = ap (λ x. x.ended) outcomes ∙ all_recorded room behind_it.told;
-      sizes = c.round-left.ensures.sizes ∙ c.loop-turn.invariant.sizes;
-      time = omega (arith, time, before);
-      next = c.round-left.ensures.next;
-      total = omega (arith, total, more);
-      waited = omega (arith, waited, longer);
-      tags = c.count_all.ensures.tags;
-      few_told = omega (arith, few_told, more_told);
-      few_rounds = omega (arith, few_rounds, more_rounds);
-      few_ends = omega (arith, few_ends, more_ends);
+      recorded = ap (λ x. x.ended) outcomes
+          ∙ all_recorded (length c.args.requests.now) (rounds_until_over (c.loop-turn._turn + 1) start).told;
+      sizes = grind arith;
+      time = grind arith;
+      next = grind arith;
+      total = grind arith;
+      waited = grind arith;
+      tags = grind arith;
+      few_told = grind arith;
+      few_rounds = grind arith;
+      few_ends = grind arith;
     }
 
 pub returns-then-is_over-clause-over : goal.returns-then-is_over-clause-over

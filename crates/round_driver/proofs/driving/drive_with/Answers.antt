@@ -1,8 +1,7 @@
-use Rattle.std.proofs.Common.{◌≡◌, ◌+◌, ◌≤◌, sym, ap, subst, ◌∙◌, arith}
+use Rattle.std.proofs.Common.{◌≡◌, ◌+◌, sym, ap, subst, ◌∙◌, arith}
 use Rattle.trace_text.specs.Streams.{Moves, Stopped}
-use Rattle.round_driver.specs.Rounds.{start_of, is_over}
 use Rattle.round_driver.specs.Written.{run_text}
-use Rattle.round_driver.proofs.Runs.{run_begins, text_begins, whole_over, over_early, spent_early, run_next, text_next, lines_refused}
+use Rattle.round_driver.proofs.Runs.{run_begins, text_begins, whole_over, over_early, run_next, text_next, lines_refused}
 use Rattle.round_driver.proofs.Runs.{lines_lack_memory}
 use Rattle.round_driver.proofs.Ends.{requests_end}
 use Rattle.round_driver.proofs.driving.drive_with.Goals as goal
@@ -13,8 +12,8 @@ loop-turn-init g c =
     let time : c.new-schedule.result.round ≡ 0 = ap (λ p. p.round) c.new-schedule.ensures in
     let next : c.new-schedule.result.next ≡ 0 = ap (λ p. p.next) c.new-schedule.ensures in
     record {
-      run = run_begins c.args.timing s c.args.requests.now c.new-schedule.result c.new-schedule.ensures;
-      written = text_begins c.args.timing s c.args.requests.now g.W.Sink.took c.args.writer.now;
+      run = run_begins _ _ _ c.new-schedule.ensures;
+      written = text_begins _ _ _;
       sizes = λ i. s.sizes;
       time = omega (arith, time);
       next = omega (arith, next);
@@ -40,7 +39,6 @@ returns-then-is_over-clause-written g c =
 
 pub returns-in-Err-clause-fault : goal.returns-in-Err-clause-fault
 returns-in-Err-clause-fault g c =
-    let start = start_of c.args.timing c.args.machine.now c.args.requests.now in
     let here = c.loop-turn.invariant.run in
     let going = sym c.is_over.ensures ∙ c.if-is_over.false in
     let made = c.round-left.ensures.run in
@@ -48,18 +46,13 @@ returns-in-Err-clause-fault g c =
     ∙ ap run_text c.as_slice.ensures.value in
     let stops = subst (λ t. Stopped g.W.Sink.took g.W.Sink.refused c.loop-turn.writer t c.write_whole.new.writer) bytes
     c.in-Err.ensures.err in
-    lines_refused c.loop-turn._turn start c.loop-turn.machine c.loop-turn.schedule c.loop-turn.left.now here
-    c.round-left.new.machine c.round-left.new.schedule c.round-left.result.now c.round-left.new.notes.items made going g.W.Sink.took
-    g.W.Sink.refused c.args.writer.now c.loop-turn.writer c.write_whole.new.writer c.loop-turn.invariant.written stops
+    lines_refused _ _ here made going c.loop-turn.invariant.written stops
 
 pub returns-in_err-text-clause-fault : goal.returns-in_err-text-clause-fault
 returns-in_err-text-clause-fault g c =
-    let start = start_of c.args.timing c.args.machine.now c.args.requests.now in
     let here = c.loop-turn.invariant.run in
     let going = sym c.is_over.ensures ∙ c.if-is_over.false in
-    lines_lack_memory c.loop-turn._turn start c.loop-turn.machine c.loop-turn.schedule c.loop-turn.left.now here c.round-left.new.machine
-    c.round-left.new.schedule c.round-left.result.now c.round-left.new.notes.items c.round-left.ensures.run going g.W.Sink.took
-    g.W.Sink.refused c.args.writer.now c.loop-turn.writer _ c.loop-turn.invariant.written c.from_residual.ensures.1
+    lines_lack_memory _ _ here c.round-left.ensures.run going _ _ c.loop-turn.invariant.written c.from_residual.ensures.1
 
 pub returns-then-is_over-clause-early : goal.returns-then-is_over-clause-early
 returns-then-is_over-clause-early g c =
@@ -67,30 +60,22 @@ returns-then-is_over-clause-early g c =
     c.if-is_over.true
 
 pub returns-clause-early : goal.returns-clause-early
-returns-clause-early g c =
-    spent_early _ _ _ c.loop-turn.invariant.run c.most_rounds-turn-end.ensures.value
-    (omega (arith, c.loop-turn-test.false, c.loop-turn.auto._turn-end)) c.loop-turn.invariant.time
+returns-clause-early g c = grind arith
 
 pub loop-turn-preserved : goal.loop-turn-preserved
 loop-turn-preserved g c =
-    let start = start_of c.args.timing c.args.machine.now c.args.requests.now in
     let here = c.loop-turn.invariant.run in
     let going = sym c.is_over.ensures ∙ c.if-is_over.false in
     let made = c.round-left.ensures.run in
-    let time = c.round-left.ensures.time in
-    let before = c.loop-turn.invariant.time in
     let bytes : c.as_bytes.result.now ≡ run_text c.round-left.new.notes.items = c.as_bytes.ensures.value ∙ c.in_ok-text.ensures
     ∙ ap run_text c.as_slice.ensures.value in
     let text = subst (λ t. Moves g.W.Sink.took c.loop-turn.writer t c.write_whole.new.writer) bytes c.in-Ok.ensures.ok in
     record {
-      run = run_next c.loop-turn._turn start c.loop-turn.machine c.loop-turn.schedule c.loop-turn.left.now here c.round-left.new.machine
-          c.round-left.new.schedule c.round-left.result.now c.round-left.new.notes.items made going;
-      written = text_next c.loop-turn._turn start c.loop-turn.machine c.loop-turn.schedule c.loop-turn.left.now here
-          c.round-left.new.machine c.round-left.new.schedule c.round-left.result.now c.round-left.new.notes.items made going g.W.Sink.took
-          c.args.writer.now c.loop-turn.writer c.write_whole.new.writer c.loop-turn.invariant.written text;
-      sizes = c.round-left.ensures.sizes ∙ c.loop-turn.invariant.sizes;
-      time = omega (arith, time, before);
-      next = c.round-left.ensures.next;
+      run = run_next _ _ here made going;
+      written = text_next _ _ here made going c.loop-turn.invariant.written text;
+      sizes = grind arith;
+      time = grind arith;
+      next = grind arith;
     }
 
 pub returns-then-is_over-clause-over : goal.returns-then-is_over-clause-over

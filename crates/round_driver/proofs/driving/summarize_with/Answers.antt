@@ -1,7 +1,6 @@
-use Rattle.std.proofs.Common.{◌≡◌, ◌+◌, ◌≤◌, sym, ap, ◌∙◌, arith}
-use Rattle.round_driver.specs.Rounds.{start_of, is_over}
+use Rattle.std.proofs.Common.{◌≡◌, ◌+◌, sym, ap, ◌∙◌, arith}
 use Rattle.round_driver.specs.Tables.{counting, nothing, counted_all, with_rounds, total}
-use Rattle.round_driver.proofs.Runs.{run_begins, counts_begin, whole_over, over_early, spent_early, run_next, counts_next}
+use Rattle.round_driver.proofs.Runs.{run_begins, counts_begin, whole_over, over_early, run_next, counts_next}
 use Rattle.round_driver.proofs.Ends.{requests_end}
 use Rattle.round_driver.proofs.driving.summarize_with.Goals as goal
 
@@ -14,14 +13,14 @@ loop-turn-init c =
     let time : c.new-schedule.result.round ≡ 0 = ap (λ p. p.round) c.new-schedule.ensures in
     let next : c.new-schedule.result.next ≡ 0 = ap (λ p. p.next) c.new-schedule.ensures in
     record {
-      run = run_begins c.args.timing s c.args.requests.now c.new-schedule.result c.new-schedule.ensures;
-      counts = counts_begin c.args.timing s c.args.requests.now (counting c.in_ok-counter.counter) fresh;
+      run = run_begins _ _ _ c.new-schedule.ensures;
+      counts = counts_begin _ _ _ fresh;
       sizes = λ i. s.sizes;
       time = omega (arith, time);
       next = omega (arith, next);
       total = omega (arith, none);
       waited = omega (arith, unwaited);
-      tags = c.in_ok-counter.ensures.tags;
+      tags = grind arith;
     }
 
 pub returns-then-is_over-clause-table : goal.returns-then-is_over-clause-table
@@ -43,35 +42,23 @@ returns-then-is_over-clause-early c =
     c.if-is_over.true
 
 pub returns-clause-early : goal.returns-clause-early
-returns-clause-early c =
-    spent_early _ _ _ c.loop-turn.invariant.run c.most_rounds-turn-end.ensures.value
-    (omega (arith, c.loop-turn-test.false, c.loop-turn.auto._turn-end)) c.loop-turn.invariant.time
+returns-clause-early c = grind arith
 
 pub loop-turn-preserved : goal.loop-turn-preserved
 loop-turn-preserved c =
-    let start = start_of c.args.timing c.args.machine.now c.args.requests.now in
     let here = c.loop-turn.invariant.run in
     let going = sym c.is_over.ensures ∙ c.if-is_over.false in
     let made = c.round-left.ensures.run in
-    let time = c.round-left.ensures.time in
-    let before = c.loop-turn.invariant.time in
-    let total = c.loop-turn.invariant.total in
-    let more = c.count_all.ensures.total in
-    let waited = c.loop-turn.invariant.waited in
-    let longer = c.count_all.ensures.waited in
     record {
-      run = run_next c.loop-turn._turn start c.loop-turn.machine c.loop-turn.schedule c.loop-turn.left.now here c.round-left.new.machine
-          c.round-left.new.schedule c.round-left.result.now c.round-left.new.notes.items made going;
-      counts = counts_next c.loop-turn._turn start c.loop-turn.machine c.loop-turn.schedule c.loop-turn.left.now here
-          c.round-left.new.machine c.round-left.new.schedule c.round-left.result.now c.round-left.new.notes.items made going
-          (counting c.loop-turn.counter) (counting c.count_all.new.self) c.loop-turn.invariant.counts
+      run = run_next _ _ here made going;
+      counts = counts_next _ _ here made going c.loop-turn.invariant.counts
           (c.count_all.ensures.counts ∙ ap (counted_all (counting c.loop-turn.counter)) c.as_slice.ensures.value);
-      sizes = c.round-left.ensures.sizes ∙ c.loop-turn.invariant.sizes;
-      time = omega (arith, time, before);
-      next = c.round-left.ensures.next;
-      total = omega (arith, total, more);
-      waited = omega (arith, waited, longer);
-      tags = c.count_all.ensures.tags;
+      sizes = grind arith;
+      time = grind arith;
+      next = grind arith;
+      total = grind arith;
+      waited = grind arith;
+      tags = grind arith;
     }
 
 pub returns-then-is_over-clause-over : goal.returns-then-is_over-clause-over

@@ -5,16 +5,13 @@ use Rattle.round_driver.proofs.machine.used_among.Goals as goal
 pub loop-slot-preserved : goal.loop-slot-preserved
 loop-slot-preserved c =
     let turn : c.loop-slot.slot < c.args.number = c.loop-slot-test.true in
-    let more = one_register c.args.machine.now c.args.number c.loop-slot.slot turn in
-    let here = c.used_at-used.ensures.used in
-    let few = c.used_at-used.ensures.few in
-    let all = c.loop-slot.invariant.0 in
-    let small = c.loop-slot.invariant.1 in
-    (omega (arith, more, here, all), omega (arith, few, small))
+    let more = one_register c.args.machine.now c.args.number c.loop-slot.slot turn in (
+      omega (arith, more, c.used_at-used.ensures.used, c.loop-slot.invariant.0),
+      omega (arith, c.used_at-used.ensures.few, c.loop-slot.invariant.1),
+    )
 
 pub returns : goal.returns
 returns c =
     let over : c.args.number ≤ c.loop-slot.slot = omega (arith, c.loop-slot-test.false) in
     let none = no_register_left c.args.machine.now c.args.number c.loop-slot.slot over in
-    let all = c.loop-slot.invariant.0 in
-    omega (arith, none, all)
+    omega (arith, none, c.loop-slot.invariant.0)

@@ -7,15 +7,13 @@ pub loop-bank-preserved : goal.loop-bank-preserved
 loop-bank-preserved c =
     let here = course c.loop-bank.machine c.loop-bank.schedule c.loop-bank.notes.items in
     let turn : c.loop-bank.bank < c.sizes.result.now.banks = c.loop-bank-test.true in
-    let before = c.loop-bank.invariant.len in
-    let told = c.serve_due.ensures.len in
     record {
       same = c.loop-bank.invariant.same ∙ bank_more c.sizes.result.now.banks c.loop-bank.bank here _ _ c.begin.ensures.course
           c.serve_due.ensures.course turn;
-      sizes = c.serve_due.ensures.sizes ∙ c.loop-bank.invariant.sizes;
-      len = omega (arith, before, told);
-      time = c.serve_due.ensures.time ∙ c.begin.ensures.time ∙ c.loop-bank.invariant.time;
-      next = c.serve_due.ensures.next ∙ c.begin.ensures.next ∙ c.loop-bank.invariant.next;
+      sizes = grind arith;
+      len = grind arith;
+      time = grind arith;
+      next = grind arith;
     }
 
 pub returns-clause-course : goal.returns-clause-course

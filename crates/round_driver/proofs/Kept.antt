@@ -1,0 +1,34 @@
+-- What the turns of the banks and an arrival keep of a course.
+use Rattle.std.proofs.Common.{ℕ, zero, suc, ◌+◌, Bool, true, false, cond, Option, Some, None}
+use Rattle.flat_model.specs.declared.Event.TheVariants.{Serve, Arrive}
+use Rattle.round_driver.specs.declared.schedule.Schedule.{Schedule}
+use Rattle.round_driver.specs.Rounds.{Course, attempt, scheduled, begin, serve_due, bank_turns, arrive_from, arrive}
+
+module _ (Keeps : Course → Type 0) (rescheduled : (p : Schedule) (c : Course) → Keeps c → Keeps (scheduled p c))
+    (served : (b : ℕ) (c : Course) → Keeps c → Keeps (attempt (Serve b) c))
+    (arrived : (b : ℕ) (c : Course) → Keeps c → Keeps (attempt (Arrive b 0) c)) where
+  one_of : (b : Bool) (c d : Course) → Keeps c → Keeps d → Keeps (cond b c d)
+  one_of true c d p q = p
+  one_of false c d p q = q
+
+  begun : (b : ℕ) (c : Course) → Keeps c → Keeps (begin b c)
+  unfolding begin
+  begun b c k = one_of _ _ c (rescheduled _ c k) k
+
+  had_turn : (b : ℕ) (c : Course) → Keeps c → Keeps (serve_due b c)
+  unfolding serve_due
+  had_turn b c k = one_of _ _ c (served b _ (rescheduled _ c k)) k
+
+  had_turns : (n b : ℕ) (c : Course) → Keeps c → Keeps (bank_turns n b c)
+  unfolding bank_turns
+  had_turns zero b c k = k
+  had_turns (suc n) b c k = had_turns n (b + 1) _ (had_turn b _ (begun b c k))
+
+  one_arrived : (o : Option ℕ) (c : Course) → Keeps c → Keeps (arrive_from o c)
+  one_arrived None c k = k
+  one_arrived (Some b) c k = arrived b _ (rescheduled _ c k)
+
+  -- the first moves of a round
+  pub arrives : (n b : ℕ) (c : Course) → Keeps c → Keeps (arrive (bank_turns n b c))
+  unfolding arrive
+  arrives n b c k = let turned = had_turns n b c k in one_of _ _ _ (one_arrived _ _ turned) turned
