@@ -135,6 +135,30 @@ def by_facts_behind_where(item):
     yield from shorter(item, cases(item, True), lambda text: facts_in(item, text))
 
 
+def by_recursion(item):
+    yield from shorter(item, cases(item, False), lambda text: calls_in(item, text))
+
+
+def calls_in(item, text):
+    """A call of `grind` with a text's calls of the item itself, and with what else the text cites; None if it has none."""
+    own = re.compile(r"(?<![\w.≡₂\-])" + re.escape(item.name) + r"(?![\w≡₂\-])")
+    calls = list(dict.fromkeys(applied(text, found.start()) for found in own.finditer(text)))
+    others = facts_in(item, text)
+    if not 0 < len(calls) < 4 or any("λ" in it or "_" in it.split() for it in calls):
+        return None
+    return f"{others[:-1]}, {', '.join(calls)})" if others else f"grind (arith, {', '.join(calls)})"
+
+
+def applied(text, at):
+    """The application that begins with the word at this place."""
+    end = re.compile(r"[^\s()\[\]{};,]+").match(text, at).end()
+    while more := re.compile(r"\s+(?=[\w(])(?!(?:in|at|as|where)\b)").match(text, end):
+        begin = more.end()
+        closed = close_of(text, begin) if text[begin] == "(" else None
+        end = closed + 1 if closed else re.compile(r"[\w.'\-]+").match(text, begin).end()
+    return re.sub(r"\s+", " ", text[at:end])
+
+
 def facts_in(item, text):
     """A call of `grind` with the lemmas and the laws of hypotheses that a text cites; None for none, or too many."""
     named = set(re.findall(r"[a-z][\w']*", " ".join(line[: equals_in(line) or 0] for line in item.lines())))
@@ -204,5 +228,6 @@ FORMS = {
     "terms": [arguments, types_of_lets, types_of_binders],
     "tactics": [whole, fields, behind_where],
     "facts": [by_facts, by_facts_behind_where],
+    "recursion": [by_recursion],
     "chains": [chains, rewrites],
 }

@@ -25,6 +25,10 @@ class Item:
         line = self.text.partition("\n")[0]
         return self.name is not None and "abbrev " not in line and not is_data(signature(self.lines(), 0))
 
+    def is_answer(self):
+        """Whether it answers a goal of a function, under its name."""
+        return self.is_proof() and " : goal." in self.text.partition("\n")[0]
+
     def lines(self):
         return self.text.split("\n")
 
@@ -93,7 +97,8 @@ def is_data(text):
         if char == "→" and depth == 0:
             last = at + 1
     end = kind[last:].strip()
-    return end != "⊥" and bool(DATA.match(end))
+    # (a goal's name stands for what it says)
+    return end != "⊥" and not end.startswith("goal.") and bool(DATA.match(end))
 
 
 # ---- imports and lines
