@@ -3,11 +3,10 @@ use Rattle.std.proofs.Common.{◌≡◌, ℕ, zero, suc, ◌+◌, ◌-◌, ◌<�
 use Rattle.std.proofs.Common.{None, is_some, is_none, refl, sym, ap, subst, ◌∙◌, arith}
 use Rattle.flat_model.specs.declared.Word.{Word}
 use Rattle.flat_model.specs.declared.Event.{Event}
-use Rattle.flat_model.specs.declared.Event.TheVariants.{Load, Drain, Serve, Arrive, Process, Take}
+use Rattle.flat_model.specs.declared.Event.TheVariants.{Load, Take}
 use Rattle.flat_model.specs.declared.Answer.{Answer}
 use Rattle.flat_model.specs.declared.Answer.TheVariants.{Accepted, Value, Refused}
 use Rattle.flat_model.specs.declared.Cause.{Cause}
-use Rattle.flat_model.specs.Causes.{ends_request}
 use Rattle.flat_model.specs.Memory.{is_load}
 use Rattle.flat_model.specs.Flat.{Flat, may_answer, flat_after, flat_step, word_at, is_owed}
 use Rattle.cache_unit.specs.declared.Sizes.{Sizes}
@@ -17,7 +16,7 @@ use Rattle.std.specs.Option.{option_map}
 use Rattle.std.specs.List.{list_all}
 use Rattle.std.proofs.lemmas.Bool.{and_parts, true≢false as no}
 use Rattle.machine_core.specs.AnyMachine.{answered, after_event, after_some, pump_tells, pump_leaves, weight_of}
-use Rattle.machine_core.specs.Pump.{pumped, weight, when, first_event, has_items, lowest}
+use Rattle.machine_core.specs.Pump.{pumped, weight}
 use Rattle.machine_core.specs.Whole.{IsWholeState}
 use Rattle.machine_core.proofs.Walking.{flat_apply}
 use Rattle.machine_core.proofs.Weighing.{pumped_lowers, pumped_rests, pumped_at_rest}
@@ -82,7 +81,7 @@ record IsCounted (s : MachineState) (all values ended loads : ℕ) : Type 0 wher
 
 with_counts : {s : MachineState} {all values m n ended loads : ℕ} → IsCounted s all values m n → m ≡ ended → n ≡ loads
     → IsCounted s all values ended loads
-with_counts k p q = record { good = k.good; ends = k.ends ∙ p; tags = k.tags; owes = k.owes; paid = k.paid ∙ q }
+with_counts k p q = grind arith
 
 abbrev Counted : Course → ℕ → ℕ → Type 0
 Counted c ended loads = IsCounted c.state (c.row.accepted + c.row.denied) c.row.values ended loads
@@ -117,32 +116,16 @@ abbrev Moves : Option Event → Type 0
 Moves None = Unit {0}
 Moves (Some event) = is_load event ≡ false
 
-driven_moves : (ready stack : Bool) (answers commands : Option ℕ) (queue : Bool)
-    → Moves (first_event (when ready (Take 0) ∷ when stack (Process 0) ∷ option_map (λ b. Arrive b 0) answers ∷ option_map
-    (λ b. Serve b) commands ∷ when queue Drain ∷ []))
-driven_moves true stack answers commands queue = refl
-driven_moves false true answers commands queue = refl
-driven_moves false false (Some b) commands queue = refl
-driven_moves false false None (Some b) queue = refl
-driven_moves false false None None true = refl
-driven_moves false false None None false = tt
-
 pumped_moves : (z : Sizes) (m : Machine) → Moves (pumped z m)
-pumped_moves z m =
-    driven_moves (has_items m.cache.ready) (has_items m.cache.stack) (lowest z m (λ b. has_items b.answers))
-    (lowest z m (λ b. has_items b.queue)) (has_items m.cache.queue)
+pumped_moves z m = grind arith
 
 pump_ends : (row : Row) (a : Answer) → (with_pump row a).accepted + (with_pump row a).denied ≡ row.accepted + row.denied
 pump_ends row (Value t w) = refl
 pump_ends row a = refl
 
-pump_accepts : (row : Row) (a : Answer) → (with_pump row a).accepted ≡ row.accepted
-pump_accepts row (Value t w) = refl
-pump_accepts row a = refl
-
 pumped_accepts : (row : Row) (o : Option (Event × Answer)) → (with_pumped row o).accepted ≡ row.accepted
 pumped_accepts row None = refl
-pumped_accepts row (Some told) = pump_accepts row told.1
+pumped_accepts row (Some told) = grind arith
 
 -- a pump ends no request, and pays what it takes
 counted_pump : (c : Course) (ended loads : ℕ) → Counted c ended loads → Counted (pump_once c) ended loads
@@ -178,20 +161,12 @@ end_waits row (Refused cause) h = rw h refl
 end_waits row a h = refl
 
 end_values : (row : Row) (a : Answer) → (with_end row a).values ≡ row.values
-end_values row (Refused cause) = of (ends_request cause)
-  where
-    of : (b : Bool) → (cond b (record row { denied = row.denied + 1 }) row).values ≡ row.values
-    of true = refl
-    of false = refl
+end_values row (Refused cause) = grind arith
 end_values row a = refl
 
 -- a refusal accepts nothing
 refused_accepts : (row : Row) (cause : Cause) → (with_end row (Refused cause)).accepted ≡ row.accepted
-refused_accepts row cause = of (ends_request cause)
-  where
-    of : (b : Bool) → (cond b (record row { denied = row.denied + 1 }) row).accepted ≡ row.accepted
-    of true = refl
-    of false = refl
+refused_accepts row cause = grind arith
 
 -- what an answer to a request leaves owed: an accepted load's tag more
 record Taken (due : ℕ → Option Word) (tags : List ℕ) (event : Event) (row : Row) (a : Answer) : Type 0 where
@@ -284,7 +259,7 @@ served event c ended loads r k = go (ends event c) refl
 
 counted_all : (events : List Event) (c : Course) (ended loads : ℕ) → list_all is_request events ≡ true → Counted c ended loads
     → Counted (serve_all events c) (ended + length events) (loads + accepted_loads events c)
-counted_all [] c ended loads r k = with_counts k (omega arith) (omega arith)
+counted_all [] c ended loads r k = grind arith
 counted_all (event ∷ events) c ended loads r k =
     let requests = and_parts (is_request event) (list_all is_request events) r in
     let one = served event c ended loads requests.0 k in

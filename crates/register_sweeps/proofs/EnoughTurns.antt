@@ -23,7 +23,7 @@ still_waits event c request h = ap (ends event) (waits event c request h) ∙ h
 -- two numbers of turns, neither below the weight, do the same
 same_turns : (n m : ℕ) (event : Event) (c : Course) → is_request event ≡ true → IsWholeState c.state → 0 < weight c.state.machine
     → weight c.state.machine ≤ n → weight c.state.machine ≤ m → ask_again n event c ≡ ask_again m event c
-same_turns zero m event c request whole some first second = absurd (omega (arith, some, first))
+same_turns zero m event c request whole some first second = grind arith
 same_turns (suc n) zero event c request whole some first second = absurd (omega (arith, some, second))
 same_turns (suc n) (suc m) event c request whole some first second = go (ends event p) refl (same_turns n m event p request pumped)
   where

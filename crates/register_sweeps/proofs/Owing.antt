@@ -1,7 +1,6 @@
 -- The tags that flat memory owes a word, as a list.
 use Rattle.std.proofs.Common.{◌≡◌, ℕ, suc, Bool, true, false, cond, ◌||◌, ◌==◌, List, [], ◌∷◌, length, Option, Some, None, is_some, is_none}
 use Rattle.std.proofs.Common.{refl, sym, ap, ◌∙◌, arith}
-use Rattle.std.proofs.lemmas.Bool.{true≢false as no}
 use Rattle.std.proofs.lemmas.Grind.{common_steps}
 use Rattle.flat_model.specs.declared.Word.{Word}
 use Rattle.flat_model.specs.Flat.{with_due}
@@ -19,21 +18,10 @@ pub record Owing (due : ℕ → Option Word) (tags : List ℕ) : Type 0 where
   pub apart : Differ tags
   pub owed : (t : ℕ) → is_some (due t) ≡ has t tags
 
-same_tag : (t u : ℕ) → (t == u) ≡ (u == t)
-same_tag t u = grind (arith, common_steps)
-
 -- a tag more is owed
 pub owe : (due : ℕ → Option Word) (tags : List ℕ) (tag : ℕ) (w : Word) → Owing due tags → is_none (due tag) ≡ true
     → Owing (with_due due tag (Some w)) (tag ∷ tags)
-owe due tags tag w h free = record { apart = (sym (h.owed tag) ∙ not_some (due tag) free, h.apart); owed = λ t. one (t == tag) t refl }
-  where
-    not_some : (o : Option Word) → is_none o ≡ true → is_some o ≡ false
-    not_some None e = refl
-    not_some (Some v) e = cc
-
-    one : (b : Bool) (t : ℕ) → (t == tag) ≡ b → is_some (with_due due tag (Some w) t) ≡ ((tag == t) || has t tags)
-    one true t e = rw (e, same_tag tag t, e) refl
-    one false t e = rw (e, same_tag tag t, e) (h.owed t)
+owe due tags tag w h free = grind arith
 
 abbrev without : ℕ → List ℕ → List ℕ
 without t [] = []
@@ -89,7 +77,4 @@ pay due tags tag h owed = (
 -- where nothing is owed, no tag is
 pub all_paid : (due : ℕ → Option Word) (tags : List ℕ) → Owing due tags → ((t : ℕ) → is_some (due t) ≡ false) → length tags ≡ 0
 all_paid due [] h none = refl
-all_paid due (t ∷ ts) h none =
-    let here : has t (t ∷ ts) ≡ true = grind (arith, common_steps) in
-    let owed : is_some (due t) ≡ true = h.owed t ∙ here in
-    absurd (no (sym owed ∙ none t))
+all_paid due (t ∷ ts) h none = grind arith

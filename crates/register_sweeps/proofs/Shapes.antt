@@ -56,7 +56,7 @@ module _ {A : Type 0} (gives : Sizes → A) (shows : Sizes → Type 0) where
   each_row : (ts : List Sizes) (rows : List A) → length rows ≡ length ts
       → ((i : ℕ) (t : Sizes) (r : A) → i < length ts → get_or rows i r ≡ gives (get_or ts i t)) → rows ≡ map gives ts
   each_row [] [] h e = refl
-  each_row [] (r ∷ rows) h e = absurd (omega (arith, h))
+  each_row [] (r ∷ rows) h e = grind arith
   each_row (t ∷ ts) [] h e = absurd (omega (arith, h))
   each_row (t ∷ ts) (r ∷ rows) h e =
       let first : r ≡ gives t = e 0 t r (omega arith) in
@@ -73,7 +73,7 @@ module _ {A : Type 0} (gives : Sizes → A) (shows : Sizes → Type 0) where
       (i : ℕ) (d : Result A Stop) (t : Sizes) → i < length ts → IfOk (get_or answers i d) (IsRow (get_or ts i t))
 
   if_ok : (P : A → Type 0) (a : Result A Stop) (r : A) → a ≡ Ok r → IfOk a P → P r
-  if_ok P a r e h = subst (λ x. IfOk x P) e h
+  if_ok P a r e h = grind arith
 
   some_row : (rows : List A) (i : ℕ) → i < length rows → A
   some_row [] i l = absurd (omega (arith, l))

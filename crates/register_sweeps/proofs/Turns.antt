@@ -1,8 +1,8 @@
 -- The turns of a sweep's loops, one at a time, and that none changes a machine's sizes.
-use Rattle.std.proofs.Common.{◌≡◌, ℕ, zero, suc, ◌+◌, ◌-◌, ◌<◌, ◌≤◌, Bool, true, false, cond, Option, Some, None, refl, sym, ap, ◌∙◌, arith}
+use Rattle.std.proofs.Common.{◌≡◌, ℕ, zero, suc, ◌+◌, ◌-◌, ◌<◌, ◌≤◌, Bool, true, false, cond, refl, sym, ap, ◌∙◌, arith}
 use Rattle.flat_model.specs.declared.Event.{Event}
 use Rattle.machine_core.specs.Machine.{MachineState}
-use Rattle.machine_core.specs.AnyMachine.{answered, after_event, after_some, pump_tells, pump_leaves}
+use Rattle.machine_core.specs.AnyMachine.{answered, after_event, pump_tells, pump_leaves}
 use Rattle.machine_core.specs.Pump as driver
 use Rattle.machine_core.specs.Pump.{pumped}
 use Rattle.machine_core.specs.Whole.{with_answer}
@@ -18,11 +18,11 @@ waited s t row told h = ap (λ c. course c.state (record c.row { waited = c.row.
 pub ask_again_step : (n : ℕ) (event : Event) (c : Course) (b : Bool) → ends event (pump_and_wait c) ≡ b
     → ask_again (suc n) event c ≡ cond b (ask event (pump_and_wait c)) (ask_again n event (ask event (pump_and_wait c)))
 unfolding ask_again
-ask_again_step n event c b e = ap (λ x. cond x (ask event (pump_and_wait c)) (ask_again n event (ask event (pump_and_wait c)))) e
+ask_again_step n event c b e = grind arith
 
 module _ (n i : ℕ) (event : Event) (c d e : Course) (pumped : d ≡ pump_and_wait c) (asked : e ≡ ask event d) (turn : i < n) where
   told : e ≡ ask event (pump_and_wait c)
-  told = asked ∙ ap (ask event) pumped
+  told = grind arith
 
   once : (b : Bool) → ends event d ≡ b → ask_again (n - i) event c
       ≡ cond b (ask event (pump_and_wait c)) (ask_again (n - (i + 1)) event (ask event (pump_and_wait c)))
@@ -37,25 +37,21 @@ module _ (n i : ℕ) (event : Event) (c d e : Course) (pumped : d ≡ pump_and_w
 
 pub no_turn_left : (n i : ℕ) (event : Event) (c : Course) → n ≤ i → ask_again (n - i) event c ≡ c
 unfolding ask_again
-no_turn_left n i event c h = let e : n - i ≡ 0 = omega arith in ap (λ k. ask_again k event c) e
+no_turn_left n i event c h = grind arith
 
 pub pump_turn : (n i : ℕ) (c d : Course) → d ≡ pump_once c → i < n → pump_times (n - i) c ≡ pump_times (n - (i + 1)) d
 unfolding pump_times
-pump_turn n i c d h turn = ap (λ k. pump_times k c) (left n i turn) ∙ ap (pump_times (n - (i + 1))) (sym h)
+pump_turn n i c d h turn = grind arith
 
 pub no_pump_left : (n i : ℕ) (c : Course) → n ≤ i → pump_times (n - i) c ≡ c
 unfolding pump_times
-no_pump_left n i c h = let e : n - i ≡ 0 = omega arith in ap (λ k. pump_times k c) e
+no_pump_left n i c h = grind arith
 
 -- what each event keeps, a pump keeps, and so do turns
 module _ (Keeps : MachineState → Type 0) (event_keeps : (s : MachineState) (event : Event) → Keeps s → Keeps (after_event s event)) where
   pub pump_keeps : (s : MachineState) → Keeps s → Keeps (pump_leaves s)
   unfolding pump_leaves
-  pump_keeps s k = go (pumped s.sizes s.machine)
-    where
-      go : (o : Option Event) → Keeps (after_some s o)
-      go None = k
-      go (Some event) = event_keeps s event k
+  pump_keeps s k = grind arith
 
   pub turns_keep : (n : ℕ) (event : Event) (c : Course) → Keeps c.state → Keeps (ask_again n event c).state
   unfolding ask_again
@@ -78,11 +74,7 @@ again_sizes n event c = turns_keep (λ s. s.sizes ≡ c.state.sizes) (λ s event
 pub left_by_pump : (s : MachineState) → record s { machine = driver.after_event s.sizes s.machine (pumped s.sizes s.machine) }
     ≡ pump_leaves s
 unfolding pump_leaves after_event
-left_by_pump s = go (pumped s.sizes s.machine)
-  where
-    go : (o : Option Event) → record s { machine = driver.after_event s.sizes s.machine o } ≡ after_some s o
-    go None = refl
-    go (Some event) = refl
+left_by_pump s = grind arith
 
 pub told_by_pump : (s : MachineState) → option_map (with_answer s.sizes s.machine) (pumped s.sizes s.machine) ≡ pump_tells s
 unfolding pump_tells answered
