@@ -2,7 +2,9 @@
 use Rattle.std.specs.Prelude.{◌≡◌, ℕ, ◌+◌, ◌<◌, ◌≤◌, max, true, List, [], length, slice_index_or}
 use Rattle.std.specs.Global.{Vec}
 use Rattle.std.specs.Int.{div_ceil}
+use Rattle.std.specs.List.{All}
 use Rattle.station_journal.specs.declared.asks.Ask.{Ask}
+use Rattle.station_journal.specs.declared.asks.Told.{Told}
 use Rattle.ring_station.specs.declared.crew.PortRun.{PortRun}
 use Rattle.ring_station.specs.declared.crew.BankRun.{BankRun}
 use Rattle.station_parts.specs.declared.port.Port.{Port}
@@ -32,6 +34,10 @@ pub record EachRanFrom (scripts : List (Vec Ask)) (start turns : ℕ) (old new :
   pub number : length new ≡ length old
   pub each : (k : ℕ) (s : Vec Ask) (d : PortRun) → k < length old
       → RanScript (slice_index_or scripts (start + k) s).items turns (slice_index_or old k d) (slice_index_or new k d)
+
+-- the gate has heard each telling in the lists of these ports, the first of which has this number
+abbrev pub EachHeard : (ℕ → Told → Type 0) → ℕ → List PortRun → Type 0
+EachHeard HasHeard start runs = (k : ℕ) (d : PortRun) → k < length runs → All (HasHeard (start + k)) (slice_index_or runs k d).list.items
 
 -- the run of a port that hasn't begun
 pub record HasNotBegun (run : PortRun) : Type 0 where

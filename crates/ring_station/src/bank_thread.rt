@@ -1,11 +1,12 @@
 //! The thread of a bank, or of several.
-ghost use Rattle.std.specs.Prelude.{◌≡◌, ◌+◌, ◌<◌, ◌≤◌, if◌then◌else◌, List, true, false, length, None, IfSome};
+ghost use Rattle.std.specs.Prelude.{◌≡◌, ◌↔◌, ◌+◌, ◌<◌, ◌≤◌, if◌then◌else◌, List, true, false, length, None, IfSome};
 ghost use Rattle.std.specs.List.{All};
 ghost use Rattle.flat_model.specs.declared.limits.TheConstants.{MAX_BANKS};
 ghost use Rattle.station_parts.specs.Ids.{bank_id};
 ghost use Rattle.station_parts.specs.Words.{received_by};
 ghost use Rattle.ring_station.specs.declared.crew.BankRun.{BankRun};
-ghost use Rattle.ring_station.specs.Turns.{IsTurn, BankSteps};
+ghost use Rattle.ring_station.specs.declared.gate.Actor.{Actor};
+ghost use Rattle.ring_station.specs.Turns.{IsTurn, BankSteps, BankHasTurn, BanksHaveTurns};
 ghost use Rattle.ring_station.specs.PortRuns.{moves_in};
 ghost use Rattle.ring_station.specs.Ends.{goes_on, not_begun};
 ghost use Rattle.ring_station.specs.Crew.{EachServed, ServesOn, EachServesOn};
@@ -109,7 +110,8 @@ fn turn_of_banks<G: Gate>(
     requires few { start + length runs.old ≤ MAX_BANKS }
     requires turn { turn < u64.MAX }
     ensures on { EachServesOn turn runs.old runs.new }
-    ensures over { result ≡ None → All (λ r. goes_on r.end.fault ≡ false) runs.new }
+    ensures turns { BanksHaveTurns (G.can_answer gate.now) start is_done turn runs.old runs.new result }
+    ensures over { (result ≡ None) ↔ All (λ r. goes_on r.end.fault ≡ false) runs.new }
 {
     let mut all = None;
     for k in 0..runs.len() {
@@ -130,6 +132,7 @@ fn turn_of_bank<G: Gate>(
 ) -> Option<Turn>
     requires { turn < u64.MAX }
     ensures on { ServesOn turn run.old run.new }
+    ensures turn { BankHasTurn (G.can_answer gate.now (Actor.Bank number)) is_done turn run.old run.new result }
     ensures over { result ≡ None → goes_on run.new.end.fault ≡ false }
     ensures unmoved { goes_on run.old.end.fault ≡ false → (run.new ≡ run.old) × (result ≡ None) }
     ensures counted { goes_on run.old.end.fault ≡ true → run.new.end.turns ≡ turn + 1 }

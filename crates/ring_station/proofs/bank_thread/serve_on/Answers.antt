@@ -18,5 +18,5 @@ returns g c = λ first h.
 
 pub returns-in_default : goal.returns-in_default
 returns-in_default g c = λ first h.
-    served_out _ _ first _ (search rules) (c.turn_of_banks.ensures.over (search rules))
+    served_out _ _ first _ (search rules) (c.turn_of_banks.ensures.over.0 (search rules))
     (served_more _ first _ _ c.turn_of_banks.ensures.on (c.loop-turn.invariant.served first h))
