@@ -1,12 +1,14 @@
 -- A turn of each part of a thread, one part after another.
-use Rattle.std.proofs.Common.{◌≡◌, ◌↔◌, ◌<◌, ◌+◌, ℕ, List, [], ◌∷◌, ◌++◌, slice_index_or, refl, sym, ap, ◌∙◌, subst, arith, below_more, set, length}
-use Rattle.std.specs.Prelude.{true, false, Option, Some, None, IfSome, fold}
+use Rattle.std.proofs.Common.{◌≡◌, ◌↔◌, ◌<◌, ◌+◌, ℕ, List, [], ◌∷◌, ◌++◌, slice_index_or, refl, sym, ap, ◌∙◌, subst, arith}
+use Rattle.std.proofs.Common.{below_more, set, length, inl, inr, add-one}
+use Rattle.std.specs.List.{All}
+use Rattle.std.specs.Prelude.{true, false, Option, Some, None, IfSome}
 use Rattle.std.proofs.lemmas.List.{get_or-set_same, get_or-set_other, get_or_default, get_or_append_left, length-append}
 use Rattle.std.proofs.lemmas.List.Sums.{fold-append}
 use Rattle.std.proofs.Math.Seq.{get_or-append_seam}
 use Rattle.ring_station.specs.declared.idle.Turn.{Turn}
 use Rattle.ring_station.specs.Idle.{turn_of_both}
-use Rattle.ring_station.specs.Turns.{HadTurns}
+use Rattle.ring_station.specs.Turns.{HadTurns, TakeTurns, TakeAllTurns}
 
 pub no_turns : {X : Type 0} (R : ℕ → X → X → Option Turn → Type 0) (xs : List X) → HadTurns R 0 xs xs None
 no_turns R xs = record {
@@ -88,3 +90,33 @@ turns_so R S k old now all so h = record {
   behind = h.behind;
   all_is = h.all_is;
 }
+
+-- ---- turn by turn
+
+-- the parts of a thread have come to this turn, from the one behind so many
+pub record HaveCome {Part : Type 0} (Takes : ℕ → List Part → List Part → Type 0) (had turn : ℕ) (first last : List Part) : Type 0 where
+  pub count : ℕ
+  pub at : turn ≡ had + count
+  pub taken : TakeTurns Takes had count first last
+
+pub come_at_first : {Part : Type 0} (Takes : ℕ → List Part → List Part → Type 0) (had : ℕ) (xs : List Part) → HaveCome Takes had had xs xs
+come_at_first Takes had xs = record { count = 0; at = omega arith; taken = refl }
+
+pub come_further : {Part : Type 0} (Takes : ℕ → List Part → List Part → Type 0) (had turn : ℕ) (first before last : List Part)
+    → HaveCome Takes had turn first before → Takes turn before last → HaveCome Takes had (turn + 1) first last
+come_further Takes had turn first before last h taken =
+    let at = h.at in
+    record {
+      count = h.count + 1;
+      at = omega arith;
+      taken = subst (λ n. TakeTurns Takes had n first last) (sym (add-one h.count))
+          (before, h.taken, subst (λ t. Takes t before last) at taken);
+    }
+
+pub come_to_last : {Part : Type 0} (Takes : ℕ → List Part → List Part → Type 0) (IsOver : Part → Type 0) (had turn turns : ℕ)
+    (first last : List Part) → turn ≡ turns → HaveCome Takes had turn first last → TakeAllTurns Takes IsOver had turns first last
+come_to_last Takes IsOver had turn turns first last e h = record { count = h.count; taken = h.taken; ended = inl (sym h.at ∙ e) }
+
+pub come_to_end : {Part : Type 0} (Takes : ℕ → List Part → List Part → Type 0) (IsOver : Part → Type 0) (had turn turns : ℕ)
+    (first last : List Part) → All IsOver last → HaveCome Takes had turn first last → TakeAllTurns Takes IsOver had turns first last
+come_to_end Takes IsOver had turn turns first last over h = record { count = h.count; taken = h.taken; ended = inr over }

@@ -1,6 +1,7 @@
 -- What a run of the threads makes of the ports and the banks.
-use Rattle.std.specs.Prelude.{◌≡◌, ℕ, ◌+◌, ◌<◌, ◌≤◌, max, true, List, [], length, slice_index_or}
+use Rattle.std.specs.Prelude.{◌≡◌, ℕ, ◌+◌, ◌*◌, ◌<◌, ◌≤◌, max, true, List, [], length, slice_index_or}
 use Rattle.std.specs.Global.{Vec}
+use Rattle.std.specs.Fork.{slice_chunk}
 use Rattle.std.specs.Int.{div_ceil}
 use Rattle.std.specs.List.{All}
 use Rattle.station_journal.specs.declared.asks.Ask.{Ask}
@@ -18,6 +19,12 @@ use Rattle.ring_station.specs.PartRuns.{BankRan}
 -- how many parts each of so many threads has that share them: as many as the others, but for the last one, which has what is left
 abbrev pub parts_a_thread : ℕ → ℕ → ℕ
 parts_a_thread parts threads = max (div_ceil parts (max threads 1)) 1
+
+-- each of so many threads, among which the parts are shared out, did this with its share, from the place on at which that begins
+abbrev pub EachShare : {Part : Type 0} → (ℕ → List Part → List Part → Type 0) → ℕ → List Part → List Part → Type 0
+EachShare Does threads old new = (n : ℕ) → n * parts_a_thread (length old) threads < length old
+    → Does (n * parts_a_thread (length old) threads) (slice_chunk old (parts_a_thread (length old) threads) n)
+    (slice_chunk new (parts_a_thread (length old) threads) n)
 
 -- a port ran this script in so many turns
 abbrev pub RanScript : List Ask → ℕ → PortRun → PortRun → Type 0

@@ -1,7 +1,7 @@
 -- One turn of a thread.
-use Rattle.std.specs.Prelude.{◌≡◌, ℕ, ◌+◌, ◌<◌, ◌≤◌, Bool, true, false, List, length, slice_index_or, Option, Some, None, IfSome, IfNone}
+use Rattle.std.specs.Prelude.{◌≡◌, ◌⊎◌, ℕ, zero, suc, ◌+◌, ◌<◌, ◌≤◌, Bool, true, false, List, length, slice_index_or}
+use Rattle.std.specs.Prelude.{Option, Some, None, IfSome, IfNone}
 use Rattle.std.specs.List.{All}
-use Rattle.station_journal.specs.declared.asks.Told.{Told}
 use Rattle.station_journal.specs.declared.journal.Source.{Source}
 use Rattle.station_parts.specs.declared.bank.BankSide.{BankSide}
 use Rattle.station_parts.specs.declared.parts.CacheSide.{CacheSide}
@@ -101,3 +101,30 @@ pub record PortHasTurn (CanAnswer : Bool → Type 0) (old new : PortRun) (made :
 abbrev pub PortsHaveTurns : (Actor → Bool → Type 0) → ℕ → List PortRun → List PortRun → Option Turn → Type 0
 PortsHaveTurns CanAnswer start old new all =
     HadTurns (λ k. PortHasTurn (CanAnswer (actors.Port (start + k)))) (length old) old new all
+
+-- ---- turn by turn
+
+-- so many turns of the parts of a thread, behind so many that they have had
+abbrev pub TakeTurns : {Part : Type 0} → (ℕ → List Part → List Part → Type 0) → ℕ → ℕ → List Part → List Part → Type 0
+TakeTurns Takes had zero first last = last ≡ first
+TakeTurns {Part} Takes had (suc count) first last =
+    (before : List Part) × TakeTurns Takes had count first before × Takes (had + count) before last
+
+-- they have them until they have had so many, or the runs of all are over
+pub record TakeAllTurns {Part : Type 0} (Takes : ℕ → List Part → List Part → Type 0) (IsOver : Part → Type 0) (had turns : ℕ)
+    (first last : List Part) : Type 0 where
+  pub count : ℕ
+  pub taken : TakeTurns Takes had count first last
+  pub ended : (had + count ≡ turns) ⊎ All IsOver last
+
+-- the thread of banks, the first of which has this number
+abbrev pub BanksTakeTurns : (Actor → Bool → Type 0) → ℕ → ℕ → ℕ → List BankRun → List BankRun → Type 0
+BanksTakeTurns CanAnswer start had turns first last =
+    TakeAllTurns (λ turn old new. (is_done : Bool) × (all : Option Turn) × BanksHaveTurns CanAnswer start is_done turn old new all)
+    (λ r. goes_on r.end.fault ≡ false) had turns first last
+
+-- and of ports
+abbrev pub PortsTakeTurns : (Actor → Bool → Type 0) → ℕ → ℕ → List PortRun → List PortRun → Type 0
+PortsTakeTurns CanAnswer start turns first last =
+    TakeAllTurns (λ turn old new. (all : Option Turn) × PortsHaveTurns CanAnswer start old new all) (λ r. goes_on r.end.fault ≡ false) 0
+    turns first last

@@ -8,7 +8,7 @@ ghost use Rattle.station_parts.specs.Words.{known_places, known_tellings, has_en
 ghost use Rattle.ring_station.specs.declared.talk.Phase.{Phase};
 ghost use Rattle.ring_station.specs.declared.gate.Actor.{Actor};
 ghost use Rattle.ring_station.specs.PortRuns.{IsOnItsWay, FindsNothing, moves_of, moves_in};
-ghost use Rattle.ring_station.specs.Turns.{PortHasTurn, PortsHaveTurns};
+ghost use Rattle.ring_station.specs.Turns.{PortHasTurn, PortsHaveTurns, PortsTakeTurns};
 ghost use Rattle.ring_station.specs.Ends.{goes_on};
 ghost use Rattle.ring_station.specs.Crew.{HasNotBegun, EachRanFrom, IsReady, EachIsReady, GoesOn, EachGoesOn, EachHeard};
 
@@ -34,7 +34,9 @@ pub(crate) fn run_port_thread<R: Clock, G: Gate>(
     requires scripts { start + length runs.old ≤ length scripts.now }
     requires few { length scripts.now ≤ MAX_PORTS }
     requires begun { All HasNotBegun runs.old }
-    ensures { EachRanFrom scripts.now start turns runs.old runs.new }
+    ensures ran { EachRanFrom scripts.now start turns runs.old runs.new }
+    ensures turns { PortsTakeTurns (G.can_answer gate.now) start turns runs.old runs.new }
+    ensures heard { EachHeard (G.has_heard gate.now) start runs.new }
 {
     let mut idling = Idling::of_side();
     for turn in 0..turns {

@@ -21,7 +21,7 @@ returns-clause-turn g c =
     bank_had_turn _ _ _ _ _ _ _ c.may.ensures c.take_turn-stepped.ensures.turn
     (ap (λ t. Some t) c.turn_of.ensures
     ∙ bank_is_not_over _ _ (λ done idle. elim c.else-is_done.branch [
-        else-is_done-via-then-is_done+else-eq w ↦ search rules
+      | else-is_done-via-then-is_done+else-eq w ↦ search rules
       | else-is_done-via-else-is_done w ↦ search rules
     ]))
     c.stopped-run.ensures (search rules)

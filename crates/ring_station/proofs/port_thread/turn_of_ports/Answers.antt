@@ -1,4 +1,4 @@
-use Rattle.std.proofs.Common.{◌≡◌, ◌<◌, ◌+◌, false, length, slice_index_or, refl, rules, arith, ◌∙◌, ap}
+use Rattle.std.proofs.Common.{◌≡◌, ◌<◌, ◌+◌, false, length, refl, rules, arith, ◌∙◌, ap}
 use Rattle.std.specs.Prelude.{None}
 use Rattle.std.specs.Global.{Vec}
 use Rattle.station_journal.specs.declared.asks.Ask.{Ask}
@@ -23,7 +23,7 @@ loop-k-preserved g c =
     let made = c.turn_of_port-made.ensures in
     let less : k < length now = search rules in
     let on = goes_on_at c.args.scripts.now (c.args.start + k) c.args.turn c.index-scripts-p.result _ _ _
-        (c.as_slice.ensures.value ∙ ap (λ (v : Vec Ask). v.items) c.index-scripts-p.is) (search rules) made.on in
+    (c.as_slice.ensures.value ∙ ap (λ (v : Vec Ask). v.items) c.index-scripts-p.is) (search rules) made.on in
     record {
       turns = rw c.turn_of_both-all.ensures
           (one_turn _ k c.args.runs.now now _ _ _ _ less (on, made.turn, made.heard) c.loop-k.invariant.turns);
