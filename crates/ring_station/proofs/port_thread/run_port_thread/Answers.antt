@@ -1,4 +1,4 @@
-use Rattle.std.proofs.Common.{◌≡◌, rules}
+use Rattle.std.proofs.Common.{◌≡◌, ◌+◌, rules}
 use Rattle.ring_station.proofs.PortRunning.{come_at_first, ran_longer, heard_none}
 use Rattle.ring_station.proofs.Sharing.{come_further, come_to_last, come_to_end}
 use Rattle.ring_station.proofs.Sharing as sharing
@@ -7,7 +7,7 @@ use Rattle.ring_station.proofs.port_thread.run_port_thread.Goals as goal
 pub loop-turn-init : goal.loop-turn-init
 loop-turn-init g c = record {
   each = λ k s d less. come_at_first _ _ (c.requires.begun k d less);
-  heard = λ k d less. heard_none _ _ (c.requires.begun k d less).list;
+  heard = λ k d less. heard_none (g.G.Gate.has_heard c.args.gate.now (c.args.start + k)) _ (c.requires.begun k d less).list;
   come = sharing.come_at_first _ _ _;
 }
 
