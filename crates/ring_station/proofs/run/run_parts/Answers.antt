@@ -48,7 +48,8 @@ returns-clause-ports g c =
 
 pub returns-clause-heard : goal.returns-clause-heard
 returns-clause-heard g c =
-    lists_heard (g.G.Gate.has_heard c.args.gate.now) c.run_crew-end.new.ports.items _ c.dismiss_ports.ensures.lists c.in_ok-cache.ensures.heard
+    lists_heard (g.G.Gate.has_heard c.args.gate.now) c.run_crew-end.new.ports.items _ c.dismiss_ports.ensures.lists
+    c.in_ok-cache.ensures.heard
 
 pub returns-clause-banks : goal.returns-clause-banks
 returns-clause-banks g c =

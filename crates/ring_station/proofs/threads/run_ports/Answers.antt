@@ -18,12 +18,13 @@ pub returns-clause-heard : goal.returns-clause-heard
 returns-clause-heard g c = λ p d less.
     let at = (c.for_each_share.ensures.each p d (search rules)).1 in
     let there = subst (λ n. at.offset < n) (sym at.call.0.number) at.offset_in_chunk in
-    chunk_heard (g.G.Gate.has_heard c.args.gate.now) at.start at.offset p _ _ at.start_plus_offset at.new_element (at.call.2 at.offset d there)
+    chunk_heard (g.G.Gate.has_heard c.args.gate.now) at.start at.offset p _ _ at.start_plus_offset at.new_element
+    (at.call.1.1 at.offset d there)
 
 pub returns-clause-threads : goal.returns-clause-threads
 returns-clause-threads g c = λ n less.
     let at = c.for_each_share.ensures.shares n less in
-    rw (← at.argument_is, ← at.left) at.call.1
+    rw (← at.argument_is, ← at.left) at.call.1.0
 
 pub for_each_share-requires-send-T : goal.for_each_share-requires-send-T
 for_each_share-requires-send-T g c κs within = search (sendable, crosses, port_run_sent) depth 40
