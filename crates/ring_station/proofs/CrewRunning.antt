@@ -3,12 +3,17 @@ use Rattle.std.proofs.Common.{◌≡◌, ◌<◌, ◌+◌, ℕ, List, [], length
 use Rattle.std.specs.Global.{Vec}
 use Rattle.std.specs.List.{All}
 use Rattle.std.proofs.lemmas.List.{get_or_default}
+use Rattle.std.proofs.Math.ListN.{get_or-map}
+use Rattle.std.proofs.lemmas.List.{length-map}
+use Rattle.std.proofs.Common.{map, zero-add}
 use Rattle.station_journal.specs.declared.asks.Ask.{Ask}
+use Rattle.station_journal.specs.declared.asks.Told.{Told}
 use Rattle.ring_station.specs.declared.crew.PortRun.{PortRun}
 use Rattle.ring_station.specs.declared.crew.BankRun.{BankRun}
-use Rattle.ring_station.specs.PortRuns.{PortRan}
+use Rattle.ring_station.specs.PortRuns.{PortRan, AreHeard}
 use Rattle.ring_station.specs.PartRuns.{BankRan}
-use Rattle.ring_station.specs.Crew.{HasNotBegun, RanScript, EachRanScript, EachIsSame, IsReady, EachIsReady, GoesOn}
+use Rattle.ring_station.specs.Crew.{HasNotBegun, RanScript, EachRanScript, EachIsSame, IsReady, EachIsReady, GoesOn, EachHeard}
+use Rattle.ring_station.proofs.StationRunning.{default_of}
 use Rattle.ring_station.specs.Scripts.{HasTalked}
 use Rattle.ring_station.specs.declared.talk.Phase.TheVariants.{Offering}
 
@@ -17,6 +22,25 @@ pub chunk_ran : (scripts : List (Vec Ask)) (turns start offset p : ℕ) (s : Vec
     → old ≡ old' → new ≡ new' → RanScript (slice_index_or scripts (start + offset) s).items turns old new
     → RanScript (slice_index_or scripts p s).items turns old' new'
 chunk_ran scripts turns start offset p s old old' new new' e o n h = rw (← e, ← o, ← n) h
+
+-- and what the gate has heard
+pub chunk_heard : (HasHeard : ℕ → Told → Type 0) (start offset p : ℕ) (new new' : PortRun) → start + offset ≡ p → new ≡ new'
+    → All (HasHeard (start + offset)) new.list.items → All (HasHeard (0 + p)) new'.list.items
+chunk_heard HasHeard start offset p new new' e n h =
+    subst (λ (r : PortRun). All (HasHeard (0 + p)) r.list.items) n
+    (subst (λ i. All (HasHeard i) new.list.items) (e ∙ sym (zero-add p)) h)
+
+-- the lists that came back of their runs
+pub lists_heard : (HasHeard : ℕ → Told → Type 0) (runs : List PortRun) (lists : List (Vec Told)) → lists ≡ map (λ r. r.list) runs
+    → EachHeard HasHeard 0 runs → AreHeard HasHeard lists
+lists_heard HasHeard runs lists took heard = λ p l less.
+    let list : PortRun → Vec Told = λ r. r.list in
+    let there : p < length runs = subst (λ n. p < n) (ap length took ∙ length-map runs list) less in
+    let run = default_of runs p there in
+    let at : list (slice_index_or runs p run) ≡ slice_index_or lists p (list run) =
+    sym (get_or-map list runs p run) ∙ ap (λ (x : List (Vec Told)). slice_index_or x p (list run)) (sym took) in
+    subst (λ i. All (HasHeard i) (slice_index_or lists p l).items) (zero-add p)
+    (subst (λ (v : Vec Told). All (HasHeard (0 + p)) v.items) (at ∙ get_or_default lists p (list run) l less) (heard p run there))
 
 -- and of a bank
 pub chunk_served : (turns : ℕ) (old old' new new' : BankRun) → old ≡ old' → new ≡ new' → BankRan turns old.bank new.bank new.end

@@ -1,6 +1,7 @@
 -- The run of a port, from its first turn to its last.
 use Rattle.std.proofs.Common.{◌≡◌, ◌<◌, ◌≤◌, ◌+◌, ℕ, List, [], ◌++◌, refl, sym, ap, ◌∙◌, subst, append-nil, arith}
 use Rattle.std.specs.Prelude.{false, Option, Some, None}
+use Rattle.std.specs.List.{All}
 use Rattle.station_journal.specs.declared.asks.Ask.{Ask}
 use Rattle.station_journal.specs.declared.asks.Told.{Told}
 use Rattle.station_parts.specs.declared.port.Port.{Port}
@@ -52,6 +53,10 @@ come_at_first script run h =
       ready = record { owed = omega arith; placed = λ w. let e : Offering ≡ Awaiting = sym h.phase ∙ w in cc };
       on = λ goes. on;
     }
+
+-- of nothing that was taken all was heard
+pub heard_none : (HasHeard : Told → Type 0) (list : List Told) → list ≡ [] → All HasHeard list
+heard_none HasHeard list empty = subst (All HasHeard) (sym empty) (λ k d less. absurd (omega arith))
 
 -- a run that is over stands as it did if there are more turns
 pub over_longer : (over memory full : Type 0) (turn turns begun : ℕ) (fault : Option ThreadFault) → goes_on fault ≡ false

@@ -1,29 +1,47 @@
 -- A turn of each part of a thread, one part after another.
-use Rattle.std.proofs.Common.{◌≡◌, ◌<◌, ◌≤◌, ◌+◌, ℕ, List, slice_index_or, refl, sym, ◌∙◌, subst, arith, below_more, set, length}
-use Rattle.std.specs.Prelude.{Option, Some, None}
-use Rattle.std.proofs.lemmas.List.{get_or-set_same, get_or-set_other, get_or_default}
+use Rattle.std.proofs.Common.{◌≡◌, ◌↔◌, ◌<◌, ◌+◌, ℕ, List, [], ◌∷◌, ◌++◌, slice_index_or, refl, sym, ap, ◌∙◌, subst, arith}
+use Rattle.std.proofs.Common.{below_more, set, length, inl, inr, add-one}
+use Rattle.std.specs.List.{All}
+use Rattle.std.specs.Prelude.{true, false, Option, Some, None, IfSome}
+use Rattle.std.proofs.lemmas.List.{get_or-set_same, get_or-set_other, get_or_default, get_or_append_left, length-append}
+use Rattle.std.proofs.lemmas.List.Sums.{fold-append}
+use Rattle.std.proofs.Math.Seq.{get_or-append_seam}
 use Rattle.ring_station.specs.declared.idle.Turn.{Turn}
 use Rattle.ring_station.specs.Idle.{turn_of_both}
+use Rattle.ring_station.specs.Turns.{HadTurns, TakeTurns, TakeAllTurns}
 
--- so many parts at first have had their turns, and the others haven't yet
-pub record HadTurns {X : Type 0} (R : ℕ → X → X → Type 0) (k : ℕ) (old now : List X) : Type 0 where
-  pub before : (j : ℕ) (d : X) → j < k → R j (slice_index_or old j d) (slice_index_or now j d)
-  pub behind : (j : ℕ) (d : X) → k ≤ j → slice_index_or now j d ≡ slice_index_or old j d
-
-pub no_turns : {X : Type 0} (R : ℕ → X → X → Type 0) (xs : List X) → HadTurns R 0 xs xs
-no_turns R xs = record { before = λ j d less. absurd (omega arith); behind = λ j d less. refl }
+pub no_turns : {X : Type 0} (R : ℕ → X → X → Option Turn → Type 0) (xs : List X) → HadTurns R 0 xs xs None
+no_turns R xs = record {
+  made = [];
+  number = refl;
+  before = λ j d m less. absurd (omega arith);
+  behind = λ j d less. refl;
+  all_is = refl;
+}
 
 -- the next one has its turn
-pub one_turn : {X : Type 0} (R : ℕ → X → X → Type 0) (k : ℕ) (old now : List X) (e y : X) → k < length now
-    → R k (slice_index_or now k e) y → HadTurns R k old now → HadTurns R (k + 1) old (set now k y)
-one_turn R k old now e y less turn h = record {
-  before = λ j d u. below_more (λ i. R i (slice_index_or old i d) (slice_index_or (set now k y) i d)) k
-      (λ i v. subst (R i (slice_index_or old i d)) (sym (get_or-set_other now k i y d (λ q. omega arith))) (h.before i d v))
-      (subst (R k (slice_index_or old k d)) (sym (get_or-set_same now k y d less))
-      (subst (λ x. R k x y) (get_or_default now k e d less ∙ h.behind k d (omega arith)) turn))
-      j u;
-  behind = λ j d u. get_or-set_other now k j y d (λ q. omega arith) ∙ h.behind j d (omega arith);
-}
+pub one_turn : {X : Type 0} (R : ℕ → X → X → Option Turn → Type 0) (k : ℕ) (old now : List X) (e y : X) (all m : Option Turn)
+    → k < length now → R k (slice_index_or now k e) y m → HadTurns R k old now all
+    → HadTurns R (k + 1) old (set now k y) (turn_of_both all m)
+one_turn R k old now e y all m less turn h =
+    let made = h.made ++ m ∷ [] in
+    record {
+      made = made;
+      number = length-append h.made (m ∷ []) ∙ ap (λ n. n + 1) h.number;
+      before = λ j d n u. below_more (λ i. R i (slice_index_or old i d) (slice_index_or (set now k y) i d) (slice_index_or made i n)) k
+          (λ i v.
+          subst (R i (slice_index_or old i d) (slice_index_or (set now k y) i d))
+          (sym (get_or_append_left h.made (m ∷ []) n i (subst (λ l. i < l) (sym h.number) v)))
+          (subst (λ x. R i (slice_index_or old i d) x (slice_index_or h.made i n)) (sym (get_or-set_other now k i y d (λ q. omega arith)))
+          (h.before i d n v)))
+          (subst (R k (slice_index_or old k d) (slice_index_or (set now k y) k d))
+          (sym (subst (λ i. slice_index_or made i n ≡ m) h.number (get_or-append_seam h.made m [] n)))
+          (subst (λ x. R k (slice_index_or old k d) x m) (sym (get_or-set_same now k y d less))
+          (subst (λ x. R k x y m) (get_or_default now k e d less ∙ h.behind k d (omega arith)) turn)))
+          j u;
+      behind = λ j d u. get_or-set_other now k j y d (λ q. omega arith) ∙ h.behind j d (omega arith);
+      all_is = ap (λ a. turn_of_both a m) h.all_is ∙ sym (fold-append turn_of_both None h.made (m ∷ []));
+    }
 
 -- what holds of each that has had its turn, and of the next one
 pub one_more : {X : Type 0} (P : X → Type 0) (k : ℕ) (now : List X) (y : X) → k < length now
@@ -35,8 +53,70 @@ one_more P k now y less before here = λ j d u.
     (subst P (sym (get_or-set_same now k y d less)) here) j u
 
 -- what two turns come to is `None` only if each is
-pub both_none : (one other : Option Turn) → turn_of_both one other ≡ None → (one ≡ None) × (other ≡ None)
+both_none : (one other : Option Turn) → turn_of_both one other ≡ None → (one ≡ None) × (other ≡ None)
 both_none None None e = (refl, refl)
 both_none None (Some other) e = cc
 both_none (Some one) None e = cc
 both_none (Some one) (Some other) e = cc
+
+none_of_both : (one other : Option Turn) → one ≡ None → other ≡ None → turn_of_both one other ≡ None
+none_of_both None None e f = refl
+none_of_both (Some one) other e f = cc
+none_of_both None (Some other) e f = cc
+
+-- all turns come to `None` if and only if each of the runs is over
+pub over_more : {X : Type 0} (P : X → Type 0) (k : ℕ) (now : List X) (y : X) (all m : Option Turn) → k < length now
+    → ((m ≡ None) ↔ P y) → ((all ≡ None) ↔ ((j : ℕ) (d : X) → j < k → P (slice_index_or now j d)))
+    → (turn_of_both all m ≡ None) ↔ ((j : ℕ) (d : X) → j < k + 1 → P (slice_index_or (set now k y) j d))
+over_more P k now y all m less here before = (
+  λ none. let both = both_none all m none in one_more P k now y less (before.0 both.0) (here.0 both.1),
+  λ over. none_of_both all m
+      (before.1 (λ j d u. subst P (get_or-set_other now k j y d (λ q. omega arith)) (over j d (omega arith))))
+      (here.1 (subst P (get_or-set_same now k y y less) (over k y (omega arith)))),
+)
+
+-- a turn behind which the run goes on comes to something
+pub none_if_over : (Q : Turn → Type 0) (m : Option Turn) {goes : _} → IfSome m (λ made. (goes ≡ true) × Q made) → goes ≡ false → m ≡ None
+none_if_over Q None h e = refl
+none_if_over Q (Some made) h e = let on = h.0 in cc
+
+-- what each turn was is also what follows of it
+pub turns_so : {X : Type 0} (R S : ℕ → X → X → Option Turn → Type 0) (k : ℕ) (old now : List X) (all : Option Turn)
+    → ((j : ℕ) (x y : X) (m : Option Turn) → R j x y m → S j x y m) → HadTurns R k old now all → HadTurns S k old now all
+turns_so R S k old now all so h = record {
+  made = h.made;
+  number = h.number;
+  before = λ j d m less. so _ _ _ _ (h.before j d m less);
+  behind = h.behind;
+  all_is = h.all_is;
+}
+
+-- ---- turn by turn
+
+-- the parts of a thread have come to this turn, from the one behind so many
+pub record HaveCome {Part : Type 0} (Takes : ℕ → List Part → List Part → Type 0) (had turn : ℕ) (first last : List Part) : Type 0 where
+  pub count : ℕ
+  pub at : turn ≡ had + count
+  pub taken : TakeTurns Takes had count first last
+
+pub come_at_first : {Part : Type 0} (Takes : ℕ → List Part → List Part → Type 0) (had : ℕ) (xs : List Part) → HaveCome Takes had had xs xs
+come_at_first Takes had xs = record { count = 0; at = omega arith; taken = refl }
+
+pub come_further : {Part : Type 0} (Takes : ℕ → List Part → List Part → Type 0) (had turn : ℕ) (first before last : List Part)
+    → HaveCome Takes had turn first before → Takes turn before last → HaveCome Takes had (turn + 1) first last
+come_further Takes had turn first before last h taken =
+    let at = h.at in
+    record {
+      count = h.count + 1;
+      at = omega arith;
+      taken = subst (λ n. TakeTurns Takes had n first last) (sym (add-one h.count))
+          (before, h.taken, subst (λ t. Takes t before last) at taken);
+    }
+
+pub come_to_last : {Part : Type 0} (Takes : ℕ → List Part → List Part → Type 0) (IsOver : Part → Type 0) (had turn turns : ℕ)
+    (first last : List Part) → turn ≡ turns → HaveCome Takes had turn first last → TakeAllTurns Takes IsOver had turns first last
+come_to_last Takes IsOver had turn turns first last e h = record { count = h.count; taken = h.taken; ended = inl (sym h.at ∙ e) }
+
+pub come_to_end : {Part : Type 0} (Takes : ℕ → List Part → List Part → Type 0) (IsOver : Part → Type 0) (had turn turns : ℕ)
+    (first last : List Part) → All IsOver last → HaveCome Takes had turn first last → TakeAllTurns Takes IsOver had turns first last
+come_to_end Takes IsOver had turn turns first last over h = record { count = h.count; taken = h.taken; ended = inr over }

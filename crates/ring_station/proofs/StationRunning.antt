@@ -1,11 +1,12 @@
 -- From what each thread did to what a run did of the station.
 use Rattle.std.proofs.Common.{◌≡◌, ℕ, ◌<◌, ◌≤◌, List, [], ◌∷◌, ◌++◌, length, map, slice_index_or, refl, sym, ap, ap₂, ◌∙◌, subst, arith}
-use Rattle.std.proofs.Common.{suc, zero}
+use Rattle.std.proofs.Common.{suc}
 use Rattle.std.specs.Prelude.{vec_len, Result, Ok, Err, OnErr}
 use Rattle.std.specs.Global.{Vec}
 use Rattle.std.specs.List.{All}
 use Rattle.std.proofs.Math.ListN.{get_or-map}
 use Rattle.std.proofs.lemmas.List.{length-map}
+use Rattle.std.proofs.lemmas.List as lemmas
 use Rattle.station_journal.specs.declared.asks.Ask.{Ask}
 use Rattle.station_journal.specs.declared.asks.Told.{Told}
 use Rattle.station_parts.specs.declared.port.Port.{Port}
@@ -152,13 +153,6 @@ one_station_kept cache cache' ports ports' banks banks' c p b h =
     (subst (λ x. BelongTogether (cache_id cache) x (map bank_id banks')) (sym p)
     (subst (λ x. BelongTogether (cache_id cache) (map port_id ports) x) (sym b) h))
 
--- what a row has at a place, by what f shows of it
-shown_at : {X Y : Type 0} (f : X → Y) (e : Y) (xs : List X) (p : ℕ) (d : X) → p < length xs
-    → slice_index_or (map f xs) p e ≡ f (slice_index_or xs p d)
-shown_at f e [] p d l = absurd (omega arith)
-shown_at f e (x ∷ xs) zero d l = refl
-shown_at f e (x ∷ xs) (suc p) d l = shown_at f e xs p d (omega arith)
-
 -- the conversation of a port that was new before its run
 module _ (scripts : List (Vec Ask)) (old new : List Port) (lists : List (Vec Told)) (count : length scripts ≡ length old)
     (alike : length new ≡ length old) (run : HaveRun scripts old new lists) (fresh : All IsNewPort old) (p : ℕ) (l : p < length new)
@@ -186,13 +180,13 @@ module _ (scripts : List (Vec Ask)) (old new : List Port) (lists : List (Vec Tol
     ran = run.each p script port list there
 
     script_is : list_in scripts p ≡ (slice_index_or scripts p script).items
-    script_is = shown_at (λ (v : Vec Ask). v.items) [] scripts p script scripted
+    script_is = lemmas.get_or-map (λ (v : Vec Ask). v.items) scripts p script [] scripted
 
     list_is : list_in lists p ≡ (slice_index_or lists p list).items
-    list_is = shown_at (λ (v : Vec Told). v.items) [] lists p list listed
+    list_is = lemmas.get_or-map (λ (v : Vec Told). v.items) lists p list [] listed
 
     said_is : slice_index_or (map offered new) p [] ≡ ran.said
-    said_is = shown_at offered [] new p port l ∙ ran.offered_is ∙ ap (λ xs. xs ++ ran.said) (fresh p port there).offered
+    said_is = lemmas.get_or-map offered new p port [] l ∙ ran.offered_is ∙ ap (λ xs. xs ++ ran.said) (fresh p port there).offered
 
     talked_new : Converses (list_in scripts p) (slice_index_or (map offered new) p []) (list_in lists p)
     talked_new =
@@ -202,7 +196,8 @@ module _ (scripts : List (Vec Ask)) (old new : List Port) (lists : List (Vec Tol
 
     took_new : slice_index_or (map taken new) p [] ≡ list_in lists p
     took_new =
-        shown_at taken [] new p port l ∙ ran.taken_is ∙ ap (λ xs. xs ++ (slice_index_or lists p list).items) (fresh p port there).taken
+        lemmas.get_or-map taken new p port [] l ∙ ran.taken_is
+        ∙ ap (λ xs. xs ++ (slice_index_or lists p list).items) (fresh p port there).taken
         ∙ sym list_is
 
 -- since they were made, where they were new

@@ -21,7 +21,12 @@ use Rattle.station_parts.specs.SideSteps.{word_fault, StepMakes}
 use Rattle.station_parts.specs.Ids.{bank_id, cache_id}
 use Rattle.station_parts.specs.Rest.{is_at_rest}
 use Rattle.station_parts.specs.Words.{earlier_of, held_of, journal_limit, cache_in, fault_in, received_by}
-use Rattle.ring_station.specs.Turns.{IsTurn, SideSteps, BankSteps, IsStuck}
+use Rattle.ring_station.specs.Turns.{IsTurn, SideSteps, BankSteps, IsStuck, bank_turn, end_behind, BankHasTurn, PortHasTurn}
+use Rattle.ring_station.specs.Idle.{turn_of}
+use Rattle.ring_station.specs.PortRuns.{FindsNothing}
+use Rattle.ring_station.specs.declared.idle.Turn.{Turn}
+use Rattle.ring_station.specs.declared.idle.Turn.TheVariants.{Held}
+use Rattle.ring_station.specs.declared.crew.PortRun.{PortRun}
 use Rattle.ring_station.specs.declared.thread_end.ThreadEnd.{ThreadEnd}
 use Rattle.ring_station.specs.declared.thread_end.ThreadFault.{ThreadFault}
 use Rattle.ring_station.specs.Ends.{Stands, goes_on, not_begun}
@@ -229,6 +234,43 @@ bank_took_turn turn old new may result fault e same made stands = λ first h.
     let before : length (received_by old.bank) ≤ length (received_by first) + turn = omega arith in
     bank_ran (turn + 1) (turn + 1) first new.bank new.end fault e (omega arith) stands (same ∙ h.same)
     (served_more may old.bank new.bank result (length (received_by first)) turn made before)
+
+-- one of a run that goes on asked the gate
+pub bank_had_turn : (CanAnswer : Bool → Type 0) (is_done : Bool) (turn : ℕ) (old new : BankRun) (made : Option Turn) {may : Bool}
+    (stepped : Option Stepped) → CanAnswer may → IsTurn BankSteps may old.bank new.bank stepped → made ≡ bank_turn is_done stepped
+    → new.end ≡ end_behind (turn + 1) made → goes_on old.end.fault ≡ true → BankHasTurn CanAnswer is_done turn old new made
+bank_had_turn CanAnswer is_done turn old new made {may} stepped answered made_turn is end on = record {
+  over = λ over. absurd (cc);
+  on = λ goes. record {
+    may = may;
+    answered = answered;
+    stepped = stepped;
+    turn_is = made_turn;
+    made_is = is;
+    end_is = end;
+  };
+}
+
+pub bank_is_over : (is_done : Bool) (stepped : Option Stepped) → is_done ≡ true → stepped ≡ Some Idle → None ≡ bank_turn is_done stepped
+bank_is_over is_done stepped done idle = rw (done, idle) refl
+
+pub bank_is_not_over : (is_done : Bool) (stepped : Option Stepped) → (is_done ≡ true → stepped ≡ Some Idle → ⊥)
+    → Some (turn_of stepped) ≡ bank_turn is_done stepped
+bank_is_not_over false stepped on = refl
+bank_is_not_over true None on = refl
+bank_is_not_over true (Some Did) on = refl
+bank_is_not_over true (Some Idle) on = absurd (on refl refl)
+bank_is_not_over true (Some JournalFull) on = refl
+bank_is_not_over true (Some Faulted) on = refl
+
+pub port_had_turn : (CanAnswer : Bool → Type 0) (old new : PortRun) (made : Option Turn) (may : Bool) → goes_on old.end.fault ≡ true
+    → CanAnswer may
+    → (may ≡ false → (new.port ≡ old.port) × (new.list ≡ old.list) × (new.talk ≡ old.talk) × IfSome made (λ m. m ≡ Held))
+    → (may ≡ true → IfSome made (λ m. FindsNothing m old.talk.phase new.port)) → PortHasTurn CanAnswer old new made
+port_had_turn CanAnswer old new made may on answered held found = record {
+  over = λ over. absurd (cc);
+  on = λ goes. record { may = may; answered = answered; held = held; found = found };
+}
 
 pub cache_ran : {W B R D : ℕ} (ports turns begun : ℕ) (old new : CacheSide W B R D) (end : ThreadEnd) (fault : Option ThreadFault)
     → end ≡ record { turns = begun; fault = fault } → begun ≤ turns

@@ -1,8 +1,11 @@
 -- What a run of the threads makes of the ports and the banks.
-use Rattle.std.specs.Prelude.{◌≡◌, ℕ, ◌+◌, ◌<◌, ◌≤◌, max, true, List, [], length, slice_index_or}
+use Rattle.std.specs.Prelude.{◌≡◌, ℕ, ◌+◌, ◌*◌, ◌<◌, ◌≤◌, max, true, List, [], length, slice_index_or}
 use Rattle.std.specs.Global.{Vec}
+use Rattle.std.specs.Fork.{slice_chunk}
 use Rattle.std.specs.Int.{div_ceil}
+use Rattle.std.specs.List.{All}
 use Rattle.station_journal.specs.declared.asks.Ask.{Ask}
+use Rattle.station_journal.specs.declared.asks.Told.{Told}
 use Rattle.ring_station.specs.declared.crew.PortRun.{PortRun}
 use Rattle.ring_station.specs.declared.crew.BankRun.{BankRun}
 use Rattle.station_parts.specs.declared.port.Port.{Port}
@@ -16,6 +19,12 @@ use Rattle.ring_station.specs.PartRuns.{BankRan}
 -- how many parts each of so many threads has that share them: as many as the others, but for the last one, which has what is left
 abbrev pub parts_a_thread : ℕ → ℕ → ℕ
 parts_a_thread parts threads = max (div_ceil parts (max threads 1)) 1
+
+-- each of so many threads, among which the parts are shared out, did this with its share, from the place on at which that begins
+abbrev pub EachShare : {Part : Type 0} → (ℕ → List Part → List Part → Type 0) → ℕ → List Part → List Part → Type 0
+EachShare Does threads old new = (n : ℕ) → n * parts_a_thread (length old) threads < length old
+    → Does (n * parts_a_thread (length old) threads) (slice_chunk old (parts_a_thread (length old) threads) n)
+    (slice_chunk new (parts_a_thread (length old) threads) n)
 
 -- a port ran this script in so many turns
 abbrev pub RanScript : List Ask → ℕ → PortRun → PortRun → Type 0
@@ -32,6 +41,10 @@ pub record EachRanFrom (scripts : List (Vec Ask)) (start turns : ℕ) (old new :
   pub number : length new ≡ length old
   pub each : (k : ℕ) (s : Vec Ask) (d : PortRun) → k < length old
       → RanScript (slice_index_or scripts (start + k) s).items turns (slice_index_or old k d) (slice_index_or new k d)
+
+-- the gate has heard each telling in the lists of these ports, the first of which has this number
+abbrev pub EachHeard : (ℕ → Told → Type 0) → ℕ → List PortRun → Type 0
+EachHeard HasHeard start runs = (k : ℕ) (d : PortRun) → k < length runs → All (HasHeard (start + k)) (slice_index_or runs k d).list.items
 
 -- the run of a port that hasn't begun
 pub record HasNotBegun (run : PortRun) : Type 0 where

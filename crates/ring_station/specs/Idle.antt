@@ -1,5 +1,6 @@
 -- What a turn came to, and how many went by without a step.
 use Rattle.std.specs.Prelude.{ℕ, ◌+◌, ◌*◌, ◌-◌, ◌/◌, ◌%◌, ◌^◌, ◌==◌, ◌&&◌, if◌then◌else◌, min, nat_le, nat_lt, Option, Some, None}
+use Rattle.std.specs.Prelude.{List, fold}
 use Rattle.station_parts.specs.declared.parts.Stepped.{Stepped}
 use Rattle.station_parts.specs.declared.parts.Stepped.TheVariants.{Did}
 use Rattle.ring_station.specs.declared.idle.Turn.{Turn}
@@ -28,6 +29,10 @@ abbrev pub turn_of_both : Option Turn → Option Turn → Option Turn
 turn_of_both None other = other
 turn_of_both (Some one) None = Some one
 turn_of_both (Some one) (Some other) = Some (joint_turn one other)
+
+-- and of all parts of a thread, one after another
+abbrev pub turn_of_all : List (Option Turn) → Option Turn
+turn_of_all made = fold turn_of_both None made
 
 abbrev pub turn_beside : Turn → Option Turn → Turn
 turn_beside one None = one

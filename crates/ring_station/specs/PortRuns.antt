@@ -1,6 +1,7 @@
 -- What a run makes of a port.
 use Rattle.std.specs.Prelude.{◌≡◌, ℕ, ◌+◌, ◌<◌, ◌≤◌, ◌++◌, false, List, [], length, slice_index_or}
 use Rattle.std.specs.Global.{Vec}
+use Rattle.std.specs.List.{All}
 use Rattle.station_journal.specs.declared.asks.Ask.{Ask}
 use Rattle.station_journal.specs.declared.asks.Told.{Told}
 use Rattle.station_journal.specs.Conversation.{Converses}
@@ -68,6 +69,10 @@ pub record PortRan (script : List Ask) (turns : ℕ) (old new : Port) (list : Li
   pub took : taken new ≡ taken old ++ list
   pub moved : moves_of new ≤ moves_of old + end.turns
   pub ended : HasEnded (HasRun script old new list) (0 < end.turns) ⊥ turns end
+
+-- the gate has heard each telling of these lists, one of each port
+abbrev pub AreHeard : (ℕ → Told → Type 0) → List (Vec Told) → Type 0
+AreHeard HasHeard lists = (p : ℕ) (l : Vec Told) → p < length lists → All (HasHeard p) (slice_index_or lists p l).items
 
 -- each port
 pub record PortsRan (scripts : List (Vec Ask)) (turns : ℕ) (old new : List Port) (lists : List (Vec Told)) (ends : List ThreadEnd) : Type 0

@@ -143,19 +143,21 @@ pub record Standing (W B R D : ℕ) : Type 0 where
 abbrev pub standing_first : {W B R D : ℕ} → ℕ → ℕ → CacheSide W B R D → Standing W B R D
 standing_first ports banks cache = record { round = first_round ports banks; stepped = None; had = 0; cache = cache }
 
--- a turn: the banks have theirs first, if it is due
-pub record TakesTurn {W B R D : ℕ} (old new : Standing W B R D) : Type 0 where
+-- a turn: the banks have theirs first, if it is due; then the gate is asked
+pub record TakesTurn {W B R D : ℕ} (CanAnswer : Bool → Type 0) (old new : Standing W B R D) : Type 0 where
   pub may : Bool
+  pub answered : CanAnswer may
   pub had : new.had ≡ (if are_banks_due old.round old.stepped then old.had + 1 else old.had)
   pub turns : TurnsRound may old.round new.round old.cache new.cache new.stepped
 
-abbrev pub TakesTurns : {W B R D : ℕ} → ℕ → Standing W B R D → Standing W B R D → Type 0
-TakesTurns zero first last = last ≡ first
-TakesTurns {W} {B} {R} {D} (suc turns) first last = (before : Standing W B R D) × TakesTurns turns first before × TakesTurn before last
+abbrev pub TakesTurns : {W B R D : ℕ} → (Bool → Type 0) → ℕ → Standing W B R D → Standing W B R D → Type 0
+TakesTurns CanAnswer zero first last = last ≡ first
+TakesTurns {W} {B} {R} {D} CanAnswer (suc turns) first last =
+    (before : Standing W B R D) × TakesTurns CanAnswer turns first before × TakesTurn CanAnswer before last
 
 -- so many turns of the thread, in which the banks beside it had so many
-pub record HasGoneRound {W B R D : ℕ} (ports banks turns had : ℕ) (old new : CacheSide W B R D) : Type 0 where
+pub record HasGoneRound {W B R D : ℕ} (CanAnswer : Bool → Type 0) (ports banks turns had : ℕ) (old new : CacheSide W B R D) : Type 0 where
   pub last : Standing W B R D
-  pub taken : TakesTurns turns (standing_first ports banks old) last
+  pub taken : TakesTurns CanAnswer turns (standing_first ports banks old) last
   pub had_is : last.had ≡ had
   pub cache_is : last.cache ≡ new

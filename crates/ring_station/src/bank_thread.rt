@@ -1,11 +1,12 @@
 //! The thread of a bank, or of several.
-ghost use Rattle.std.specs.Prelude.{◌≡◌, ◌+◌, ◌<◌, ◌≤◌, if◌then◌else◌, List, true, false, length, None, IfSome};
+ghost use Rattle.std.specs.Prelude.{◌≡◌, ◌↔◌, ◌+◌, ◌<◌, ◌≤◌, if◌then◌else◌, List, true, false, length, None, IfSome};
 ghost use Rattle.std.specs.List.{All};
 ghost use Rattle.flat_model.specs.declared.limits.TheConstants.{MAX_BANKS};
 ghost use Rattle.station_parts.specs.Ids.{bank_id};
 ghost use Rattle.station_parts.specs.Words.{received_by};
 ghost use Rattle.ring_station.specs.declared.crew.BankRun.{BankRun};
-ghost use Rattle.ring_station.specs.Turns.{IsTurn, BankSteps};
+ghost use Rattle.ring_station.specs.declared.gate.Actor.{Actor};
+ghost use Rattle.ring_station.specs.Turns.{IsTurn, BankSteps, BankHasTurn, BanksHaveTurns, BanksTakeTurns};
 ghost use Rattle.ring_station.specs.PortRuns.{moves_in};
 ghost use Rattle.ring_station.specs.Ends.{goes_on, not_begun};
 ghost use Rattle.ring_station.specs.Crew.{EachServed, ServesOn, EachServesOn};
@@ -31,7 +32,8 @@ pub(crate) fn run_bank_thread<R: Clock, G: Gate>(
 )
     requires few { start + length runs.old ≤ MAX_BANKS }
     requires begun { All (λ r. r.end ≡ not_begun) runs.old }
-    ensures { EachServed turns runs.old runs.new }
+    ensures served { EachServed turns runs.old runs.new }
+    ensures turns { BanksTakeTurns (G.can_answer gate.now) start 0 turns runs.old runs.new }
 {
     serve_on(rt, gate, start, 0, turns, done, runs);
 }
@@ -48,7 +50,8 @@ pub(crate) fn serve_on<R: Clock, G: Gate>(
 )
     requires few { start + length runs.old ≤ MAX_BANKS }
     requires within { had ≤ turns }
-    ensures { (first : List BankRun) → EachServed had first runs.old → EachServed turns first runs.new }
+    ensures on { (first : List BankRun) → EachServed had first runs.old → EachServed turns first runs.new }
+    ensures turns { BanksTakeTurns (G.can_answer gate.now) start had turns runs.old runs.new }
 {
     let mut idling = Idling::of_side();
     for turn in had..turns {
@@ -83,6 +86,7 @@ pub(crate) fn serve_beside<G: Gate>(
     ensures on { (first : List BankRun) → EachServed had first runs.old
         → EachServed result.turns first runs.new }
     ensures counted { result.turns ≡ (if is_due then had + 1 else had) }
+    ensures due { is_due ≡ true → BanksHaveTurns (G.can_answer gate.now) 0 false had runs.old runs.new result.made }
     ensures undue { is_due ≡ false → (runs.new ≡ runs.old) × (result.made ≡ None) }
 {
     if !is_due {
@@ -109,7 +113,8 @@ fn turn_of_banks<G: Gate>(
     requires few { start + length runs.old ≤ MAX_BANKS }
     requires turn { turn < u64.MAX }
     ensures on { EachServesOn turn runs.old runs.new }
-    ensures over { result ≡ None → All (λ r. goes_on r.end.fault ≡ false) runs.new }
+    ensures turns { BanksHaveTurns (G.can_answer gate.now) start is_done turn runs.old runs.new result }
+    ensures over { (result ≡ None) ↔ All (λ r. goes_on r.end.fault ≡ false) runs.new }
 {
     let mut all = None;
     for k in 0..runs.len() {
@@ -130,6 +135,7 @@ fn turn_of_bank<G: Gate>(
 ) -> Option<Turn>
     requires { turn < u64.MAX }
     ensures on { ServesOn turn run.old run.new }
+    ensures turn { BankHasTurn (G.can_answer gate.now (Actor.Bank number)) is_done turn run.old run.new result }
     ensures over { result ≡ None → goes_on run.new.end.fault ≡ false }
     ensures unmoved { goes_on run.old.end.fault ≡ false → (run.new ≡ run.old) × (result ≡ None) }
     ensures counted { goes_on run.old.end.fault ≡ true → run.new.end.turns ≡ turn + 1 }

@@ -3,6 +3,7 @@ ghost use Rattle.std.specs.Prelude.{◌≡◌, ◌-◌, ◌≤◌, length, if◌
 ghost use Rattle.std.specs.List.{All};
 ghost use Rattle.flat_model.specs.declared.limits.TheConstants.{MAX_BANKS};
 ghost use Rattle.station_parts.specs.Ids.{cache_id};
+ghost use Rattle.ring_station.specs.declared.gate.Actor.{Actor};
 ghost use Rattle.ring_station.specs.Turns.{IsTurn, SideSteps};
 ghost use Rattle.ring_station.specs.Round.{TurnsRound, HasGoneRound};
 ghost use Rattle.station_parts.specs.Words.{held_of};
@@ -76,7 +77,7 @@ fn go_round<
     ensures cache { CacheRan ports turns cache.old cache.new result.0 }
     ensures banks { EachServed result.1 own.old own.new }
     ensures within { result.1 ≤ turns }
-    ensures round { HasGoneRound ports banks result.0.turns result.1 cache.old cache.new }
+    ensures round { HasGoneRound (G.can_answer gate.now Actor.Cache) ports banks result.0.turns result.1 cache.old cache.new }
 {
     let mut round = Round::new(ports, banks);
     let mut open_ports = ports;

@@ -1,14 +1,16 @@
 //! The thread of a port, or of several.
-ghost use Rattle.std.specs.Prelude.{◌≡◌, ◌<◌, ◌≤◌, ◌+◌, [], List, length, true, false, Ok, IfOk, OnErr, IfSome, None};
+ghost use Rattle.std.specs.Prelude.{◌≡◌, ◌↔◌, ◌<◌, ◌≤◌, ◌+◌, [], List, length, true, false, Ok, IfOk, OnErr, IfSome, None};
 ghost use Rattle.std.specs.List.{All};
 ghost use Rattle.station_journal.specs.declared.asks.Told.{Told};
 ghost use Rattle.station_parts.specs.declared.make.TheConstants.{MAX_PORTS};
 ghost use Rattle.station_parts.specs.declared.port.Port.{Port};
 ghost use Rattle.station_parts.specs.Words.{known_places, known_tellings, has_ended};
 ghost use Rattle.ring_station.specs.declared.talk.Phase.{Phase};
+ghost use Rattle.ring_station.specs.declared.gate.Actor.{Actor};
 ghost use Rattle.ring_station.specs.PortRuns.{IsOnItsWay, FindsNothing, moves_of, moves_in};
+ghost use Rattle.ring_station.specs.Turns.{PortHasTurn, PortsHaveTurns, PortsTakeTurns};
 ghost use Rattle.ring_station.specs.Ends.{goes_on};
-ghost use Rattle.ring_station.specs.Crew.{HasNotBegun, EachRanFrom, IsReady, EachIsReady, GoesOn, EachGoesOn};
+ghost use Rattle.ring_station.specs.Crew.{HasNotBegun, EachRanFrom, IsReady, EachIsReady, GoesOn, EachGoesOn, EachHeard};
 
 use crate::crew::PortRun;
 use crate::gate::{Actor, Gate};
@@ -32,7 +34,9 @@ pub(crate) fn run_port_thread<R: Clock, G: Gate>(
     requires scripts { start + length runs.old ≤ length scripts.now }
     requires few { length scripts.now ≤ MAX_PORTS }
     requires begun { All HasNotBegun runs.old }
-    ensures { EachRanFrom scripts.now start turns runs.old runs.new }
+    ensures ran { EachRanFrom scripts.now start turns runs.old runs.new }
+    ensures turns { PortsTakeTurns (G.can_answer gate.now) start turns runs.old runs.new }
+    ensures heard { EachHeard (G.has_heard gate.now) start runs.new }
 {
     let mut idling = Idling::of_side();
     for turn in 0..turns {
@@ -56,7 +60,9 @@ fn turn_of_ports<G: Gate>(
     requires turn { turn < u64.MAX }
     requires ready { EachIsReady scripts.now start turn runs.old }
     ensures on { EachGoesOn scripts.now start turn runs.old runs.new }
-    ensures over { result ≡ None → All (λ r. goes_on r.end.fault ≡ false) runs.new }
+    ensures turns { PortsHaveTurns (G.can_answer gate.now) start runs.old runs.new result }
+    ensures heard { EachHeard (G.has_heard gate.now) start runs.old → EachHeard (G.has_heard gate.now) start runs.new }
+    ensures over { (result ≡ None) ↔ All (λ r. goes_on r.end.fault ≡ false) runs.new }
 {
     let mut all = None;
     for k in 0..runs.len() {
@@ -78,6 +84,8 @@ fn turn_of_port<G: Gate>(
     requires turn { turn < u64.MAX }
     requires ready { IsReady script.now turn run.old }
     ensures on { GoesOn script.now turn run.old run.new }
+    ensures turn { PortHasTurn (G.can_answer gate.now (Actor.Port number)) run.old run.new result }
+    ensures heard { All (G.has_heard gate.now number) run.old.list.items → All (G.has_heard gate.now number) run.new.list.items }
     ensures over { result ≡ None → goes_on run.new.end.fault ≡ false }
     ensures unmoved { goes_on run.old.end.fault ≡ false → (run.new ≡ run.old) × (result ≡ None) }
     ensures counted { goes_on run.old.end.fault ≡ true → run.new.end.turns ≡ turn + 1 }
@@ -122,6 +130,7 @@ fn take_turn<G: Gate>(
     requires placed { talk.old.phase ≡ Phase.Awaiting → talk.old.next < length script.now }
     ensures on { (first : Port) → IsOnItsWay script.now talk.old first port.old list.old.items
         → IsOnItsWay script.now talk.new first port.new list.new.items }
+    ensures heard { All (G.has_heard gate.now number) list.old.items → All (G.has_heard gate.now number) list.new.items }
     ensures owed { talk.new.owed ≤ talk.old.owed + 1 }
     ensures placed { talk.new.phase ≡ Phase.Awaiting → talk.new.next < length script.now }
 
@@ -172,6 +181,7 @@ fn take_one<G: Gate>(
     requires placed { talk.old.phase ≡ Phase.Awaiting → talk.old.next < length script.now }
     ensures on { (first : Port) → IsOnItsWay script.now talk.old first port.old list.old.items
         → IsOnItsWay script.now talk.new first port.new list.new.items }
+    ensures heard { All (G.has_heard gate.now number) list.old.items → All (G.has_heard gate.now number) list.new.items }
     ensures owed { talk.new.owed ≤ talk.old.owed + 1 }
     ensures placed { talk.new.phase ≡ Phase.Awaiting → talk.new.next < length script.now }
     ensures one { IfOk result (λ made. moves_of port.new ≡ moves_of port.old + moves_in made) }

@@ -15,8 +15,8 @@ ghost use Rattle.station_parts.specs.Runs.{HaveConversed};
 ghost use Rattle.station_parts.specs.Station.{AreOneStation};
 ghost use Rattle.station_parts.specs.Words.{cache_in, journal_of, sizes_in};
 ghost use Rattle.ring_station.specs.PartRuns.{BanksRan, CacheRan};
-ghost use Rattle.ring_station.specs.PortRuns.{HaveRun, PortsRan};
-ghost use Rattle.ring_station.specs.Crew.{HasNotBegun, EachRanScript, EachIsSame, EachServed};
+ghost use Rattle.ring_station.specs.PortRuns.{HaveRun, PortsRan, AreHeard};
+ghost use Rattle.ring_station.specs.Crew.{HasNotBegun, EachRanScript, EachIsSame, EachServed, EachHeard};
 ghost use Rattle.ring_station.specs.Ends.{not_begun};
 ghost use Rattle.ring_station.specs.Run.{HaveFinished};
 ghost use Rattle.ring_station.specs.Within.{KeepsTo};
@@ -87,6 +87,7 @@ pub fn run_threads<
     ensures conversed { IfOk result
         (λ lists. All IsNewPort station.old.ports.items
         → HaveConversed scripts.now station.new.ports.items lists.items) }
+    ensures heard { IfOk result (λ lists. AreHeard (G.has_heard gate.now) lists.items) }
 
     // Then nothing is under way in the unit, and each bank's last step found nothing to serve. A run
     // without a turn comes to no end.
@@ -161,6 +162,7 @@ pub fn run_and_audit<
     // What each thread did, how it ended, and after how many turns.
     ensures ports { IfOk result (λ run. PortsRan scripts.now turns
         station.old.ports.items station.new.ports.items run.lists.items run.ports.items) }
+    ensures heard { IfOk result (λ run. AreHeard (G.has_heard gate.now) run.lists.items) }
     ensures cache { IfOk result (λ run. CacheRan (length station.old.ports.items) turns
         station.old.cache station.new.cache run.cache) }
     ensures banks { IfOk result (λ run. BanksRan turns
@@ -239,6 +241,7 @@ fn run_parts<
     ensures unmoved_banks { OnErr result (banks.new.items ≡ banks.old.items) }
     ensures ports { IfOk result (λ ends. PortsRan scripts.now turns
         ports.old.items ports.new.items ends.lists.items ends.ports.items) }
+    ensures heard { IfOk result (λ ends. AreHeard (G.has_heard gate.now) ends.lists.items) }
     ensures cache { IfOk result
         (λ ends. CacheRan (length ports.old.items) turns cache.old cache.new ends.cache) }
     ensures banks { IfOk result
@@ -307,6 +310,7 @@ fn run_crew<
     ensures unmoved_banks { OnErr result (banks.new ≡ banks.old) }
     ensures cache { IfOk result (λ end. CacheRan (vec_len ports.old) turns cache.old cache.new end) }
     ensures ports { OnOk result (EachRanScript scripts.now turns ports.old.items ports.new.items) }
+    ensures heard { OnOk result (EachHeard (G.has_heard gate.now) 0 ports.new.items) }
     ensures banks { OnOk result (EachServed turns banks.old.items banks.new.items) }
 {
     reserve_lists(scripts, ports)?;

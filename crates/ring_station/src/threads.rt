@@ -7,7 +7,8 @@ ghost use Rattle.station_parts.specs.declared.make.TheConstants.{MAX_PORTS};
 ghost use Rattle.flat_model.specs.declared.limits.TheConstants.{MAX_BANKS};
 ghost use Rattle.ring_station.specs.Ends.{not_begun};
 ghost use Rattle.ring_station.specs.PartRuns.{CacheRan};
-ghost use Rattle.ring_station.specs.Crew.{parts_a_thread, HasNotBegun, EachRanFrom, EachRanScript, EachServed};
+ghost use Rattle.ring_station.specs.Crew.{parts_a_thread, HasNotBegun, EachRanFrom, EachRanScript, EachServed, EachHeard, EachShare};
+ghost use Rattle.ring_station.specs.Turns.{PortsTakeTurns, BanksTakeTurns};
 
 use crate::bank_thread::run_bank_thread;
 use crate::cache_thread::run_cache;
@@ -47,6 +48,9 @@ pub(crate) fn run_all<
     requires banks { All (λ r. r.end ≡ not_begun) banks.old.items }
     ensures cache { CacheRan (vec_len ports.old) turns cache.old cache.new result }
     ensures ports { EachRanScript scripts.now turns ports.old.items ports.new.items }
+    ensures heard { EachHeard (G.has_heard gate.now) 0 ports.new.items }
+    ensures port_threads { EachShare (λ start. PortsTakeTurns (G.can_answer gate.now) start turns) crew.port_threads
+        ports.old.items ports.new.items }
     ensures banks { EachServed turns banks.old.items banks.new.items }
 {
     let done = AtomicBool::new(false);
@@ -66,6 +70,9 @@ pub(crate) fn run_all<
                 × (vec_len ports.now ≤ MAX_PORTS) × (length others.now ≤ MAX_BANKS)
                 × All HasNotBegun ports.now.items × All (λ r. r.end ≡ not_begun) others.now }
             ensures ports { EachRanScript scripts.entry.now turns ports.entry.now.items ports.exit.now.items }
+            ensures heard { EachHeard (G.has_heard gate.entry.now) 0 ports.exit.now.items }
+            ensures port_threads { EachShare (λ start. PortsTakeTurns (G.can_answer gate.entry.now) start turns) crew.port_threads
+                ports.entry.now.items ports.exit.now.items }
             ensures banks { EachServed turns others.entry.now others.exit.now }
         { run_sides(rt, gate, scripts, turns, crew, &done, ports, others) },
     );
@@ -89,19 +96,29 @@ fn run_sides<R: Clock + Threads + Sync, G: Gate>(
     requires ports { All HasNotBegun ports.old.items }
     requires banks { All (λ r. r.end ≡ not_begun) banks.old }
     ensures ports { EachRanScript scripts.now turns ports.old.items ports.new.items }
+    ensures heard { EachHeard (G.has_heard gate.now) 0 ports.new.items }
+    ensures port_threads { EachShare (λ start. PortsTakeTurns (G.can_answer gate.now) start turns) crew.port_threads
+        ports.old.items ports.new.items }
     ensures banks { EachServed turns banks.old banks.new }
+    ensures bank_threads { EachShare (λ start. BanksTakeTurns (G.can_answer gate.now) start 0 turns) crew.bank_threads
+        banks.old banks.new }
 {
     join_mut(
         rt,
         &mut ||
             requires { IsSync R.row × (length banks.now ≤ MAX_BANKS)
                 × All (λ r. r.end ≡ not_begun) banks.now }
-            ensures { EachServed turns banks.entry.now banks.exit.now }
+            ensures banks { EachServed turns banks.entry.now banks.exit.now }
+            ensures bank_threads { EachShare (λ start. BanksTakeTurns (G.can_answer gate.entry.now) start 0 turns) crew.bank_threads
+                banks.entry.now banks.exit.now }
         { run_banks(rt, gate, turns, crew.bank_threads, done, banks) },
         &mut ||
             requires { IsSync R.row × (length scripts.now ≡ vec_len ports.now)
                 × (vec_len ports.now ≤ MAX_PORTS) × All HasNotBegun ports.now.items }
-            ensures { EachRanScript scripts.entry.now turns ports.entry.now.items ports.exit.now.items }
+            ensures ports { EachRanScript scripts.entry.now turns ports.entry.now.items ports.exit.now.items }
+            ensures heard { EachHeard (G.has_heard gate.entry.now) 0 ports.exit.now.items }
+            ensures port_threads { EachShare (λ start. PortsTakeTurns (G.can_answer gate.entry.now) start turns) crew.port_threads
+                ports.entry.now.items ports.exit.now.items }
         { run_ports(rt, gate, scripts, turns, crew.port_threads, ports) },
     );
 }
@@ -117,7 +134,9 @@ fn run_ports<R: Clock + Threads + Sync, G: Gate>(
     requires scripts { length scripts.now ≡ length ports.old }
     requires few { length ports.old ≤ MAX_PORTS }
     requires begun { All HasNotBegun ports.old }
-    ensures { EachRanScript scripts.now turns ports.old ports.new }
+    ensures ran { EachRanScript scripts.now turns ports.old ports.new }
+    ensures heard { EachHeard (G.has_heard gate.now) 0 ports.new }
+    ensures threads { EachShare (λ start. PortsTakeTurns (G.can_answer gate.now) start turns) threads ports.old ports.new }
 {
     for_each_share(
         rt,
@@ -126,7 +145,9 @@ fn run_ports<R: Clock + Threads + Sync, G: Gate>(
         &|start: usize, runs: &mut [PortRun]|
             requires { (start + length runs.old ≤ length scripts.now)
                 × (length scripts.now ≤ MAX_PORTS) × All HasNotBegun runs.old }
-            ensures { EachRanFrom scripts.entry.now start turns runs.old runs.new }
+            ensures ran { EachRanFrom scripts.entry.now start turns runs.old runs.new }
+            ensures turns { PortsTakeTurns (G.can_answer gate.entry.now) start turns runs.old runs.new }
+            ensures heard { EachHeard (G.has_heard gate.entry.now) start runs.new }
         { run_port_thread(rt, gate, start, scripts, turns, runs) },
     );
 }
@@ -141,7 +162,8 @@ fn run_banks<R: Clock + Threads + Sync, G: Gate>(
 )
     requires few { length banks.old ≤ MAX_BANKS }
     requires begun { All (λ r. r.end ≡ not_begun) banks.old }
-    ensures { EachServed turns banks.old banks.new }
+    ensures served { EachServed turns banks.old banks.new }
+    ensures threads { EachShare (λ start. BanksTakeTurns (G.can_answer gate.now) start 0 turns) threads banks.old banks.new }
 {
     for_each_share(
         rt,
@@ -149,7 +171,8 @@ fn run_banks<R: Clock + Threads + Sync, G: Gate>(
         threads,
         &|start: usize, runs: &mut [BankRun]|
             requires { (start + length runs.old ≤ MAX_BANKS) × All (λ r. r.end ≡ not_begun) runs.old }
-            ensures { EachServed turns runs.old runs.new }
+            ensures served { EachServed turns runs.old runs.new }
+            ensures turns { BanksTakeTurns (G.can_answer gate.entry.now) start 0 turns runs.old runs.new }
         { run_bank_thread(rt, gate, start, turns, done, runs) },
     );
 }

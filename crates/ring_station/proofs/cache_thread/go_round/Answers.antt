@@ -14,8 +14,8 @@ loop-turn-preserved g c =
       noted = noted_more _ _ _ _ notes (noted_still _ _ _ _ made.looks.held c.loop-turn.invariant.noted);
       banks = c.serve_beside-served.ensures.on _ c.loop-turn.invariant.banks;
       within = counted_within _ _ _ _ c.serve_beside-served.ensures.counted c.loop-turn.invariant.within;
-      round = turned _ _ _ _ c.loop-turn.invariant.round
-          (takes_turn _ _ _ _ c.are_banks_due.ensures c.serve_beside-served.ensures.counted made);
+      round = turned _ _ _ _ _ c.loop-turn.invariant.round
+          (takes_turn _ _ _ _ _ c.may.ensures c.are_banks_due.ensures c.serve_beside-served.ensures.counted made);
       ended = ended_more _ _ _ _ _ _ _ notes place c.has_ended_port.ensures c.still_open-open_ports.ensures
           (ended_still _ _ _ _ made.looks.held c.loop-turn.invariant.ended);
     }
@@ -54,8 +54,8 @@ returns-then-is_at_rest-clause-within g c =
 
 pub returns-then-is_at_rest-clause-round : goal.returns-then-is_at_rest-clause-round
 returns-then-is_at_rest-clause-round g c =
-    gone_round _ _ _ _ _ _ _ c.over.ensures c.loop-turn.invariant.round
-    (takes_turn _ _ _ _ c.are_banks_due.ensures c.serve_beside-served.ensures.counted c.turn_round-stepped.ensures.turn)
+    gone_round _ _ _ _ _ _ _ _ c.over.ensures c.loop-turn.invariant.round
+    (takes_turn _ _ _ _ _ c.may.ensures c.are_banks_due.ensures c.serve_beside-served.ensures.counted c.turn_round-stepped.ensures.turn)
 
 pub returns-then-eq-clause-banks : goal.returns-then-eq-clause-banks
 returns-then-eq-clause-banks g c = c.serve_beside-served.ensures.on _ c.loop-turn.invariant.banks
@@ -66,8 +66,8 @@ returns-then-eq-clause-within g c =
 
 pub returns-then-eq-clause-round : goal.returns-then-eq-clause-round
 returns-then-eq-clause-round g c =
-    gone_round _ _ _ _ _ _ _ c.stopped.ensures c.loop-turn.invariant.round
-    (takes_turn _ _ _ _ c.are_banks_due.ensures c.serve_beside-served.ensures.counted c.turn_round-stepped.ensures.turn)
+    gone_round _ _ _ _ _ _ _ _ c.stopped.ensures c.loop-turn.invariant.round
+    (takes_turn _ _ _ _ _ c.may.ensures c.are_banks_due.ensures c.serve_beside-served.ensures.counted c.turn_round-stepped.ensures.turn)
 
 pub entries-entries-requires : goal.entries-entries-requires
 entries-entries-requires g c = lit< tt
@@ -82,4 +82,4 @@ pub is_at_rest-requires : goal.is_at_rest-requires
 is_at_rest-requires g c = lit< tt
 
 pub returns-clause-round : goal.returns-clause-round
-returns-clause-round g c = gone_out _ _ _ _ _ _ _ c.stopped-2.ensures (search rules) c.loop-turn.invariant.round
+returns-clause-round g c = gone_out _ _ _ _ _ _ _ _ c.stopped-2.ensures (search rules) c.loop-turn.invariant.round

@@ -10,6 +10,7 @@ use Rattle.ring_station.specs.declared.crew.BankRun.{BankRun}
 use Rattle.ring_station.proofs.StationRunning.{ports_back, banks_back, ports_unmoved, banks_unmoved, same_shown, same_id, on_err}
 use Rattle.ring_station.proofs.StationRunning.{cache_counted, port_ids, bank_ids, one_station_kept, few_ports_of, few_banks_of}
 use Rattle.ring_station.proofs.StationRunning.{enlisted_count}
+use Rattle.ring_station.proofs.CrewRunning.{lists_heard}
 use Rattle.ring_station.proofs.run.run_parts.Goals as goal
 
 pub run_crew-end-requires-after_bounds : goal.run_crew-end-requires-after_bounds
@@ -44,6 +45,11 @@ returns-clause-ports g c =
     ports_back c.args.scripts.now c.args.turns c.enlist_ports.new.runs.items c.run_crew-end.new.ports.items _ _ _ _
     (sym (c.enlist_ports.ensures.ports ∙ ap (λ (v : Vec Port). v.items) c.replace.ensures.value))
     c.in_ok-cache.ensures.ports c.dismiss_ports.ensures.ports c.dismiss_ports.ensures.lists c.dismiss_ports.ensures.ends
+
+pub returns-clause-heard : goal.returns-clause-heard
+returns-clause-heard g c =
+    lists_heard (g.G.Gate.has_heard c.args.gate.now) c.run_crew-end.new.ports.items _ c.dismiss_ports.ensures.lists
+    c.in_ok-cache.ensures.heard
 
 pub returns-clause-banks : goal.returns-clause-banks
 returns-clause-banks g c =
