@@ -79,7 +79,7 @@ module _ (unit : UnitPlace) (number : ℕ) (m : UnitMemory) (opened : Opened) (l
   unfolding is_numbered
   alone =
       alone_unmapped load_key is_numbered _
-      (rw (sym link.loads) at (alone_mapped key is_numbered (filter (is_of unit) opened.loads)
+      (rw (sym link.loads) at (alone_mapped key is_numbered _
       (alone_filtered (has_number number) (is_of unit) opened.loads (alone_operation number opened.loads distinct))))
 
   -- each has the address of the operation

@@ -93,14 +93,14 @@ from_law unit number bytes e (l ∷ ls) [] h t = absurd h
 from_law unit number bytes e (l ∷ ls) (m ∷ ms) h t =
     let p = and_parts _ (list_all (law unit number bytes) ms) t in
     let rest = from_law unit number bytes e ls ms h.1 p.1 in
-    elim (cases_Bool (is_watched number l)) [
+    elim (cases_Bool _) [
       | inr f ↦ rw f rest
       | inl u ↦
           let v = ap (λ n. n == number) (sym h.0.0) ∙ u in
           let got = rw v at p.0 in
           let have =
           got_have unit bytes e l m.got (cc (h.0.1, got)) h.0.2 in
-          and_from (judge unit number bytes e l) (list_all (judge unit number bytes e) ls)
+          and_from _ _
           (or_right (not (is_watched number l)) (may_have unit bytes e l) have) rest
     ]
 
@@ -129,7 +129,7 @@ with_answers unit number bytes e (l ∷ ls) ns t h =
           let m : OpenLoad = record { number = l.number; address = l.address; got = Some v.0 } in (
             m ∷ r.0,
             ((refl, refl, v.2), r.1),
-            and_from (law unit number bytes m) (list_all (law unit number bytes) r.0)
+            and_from _ _
                 (or_right (not (is_load number m)) (is_word_of unit.first v.0 l.address bytes) v.1) r.2,
             filter_drops number m r.0 ns u r.3,
           )

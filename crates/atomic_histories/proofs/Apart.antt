@@ -1,7 +1,7 @@
 -- Each pair is followed once, and the open stores of all pairs are the same, but for whether they have taken effect.
 use Rattle.std.proofs.Common.{◌≡◌, ℕ, zero, suc, Bool, true, false, ◌&&◌, ◌||◌, not, ◌==◌, if◌then◌else◌, List, [], ◌∷◌, ◌++◌, map, filter}
-use Rattle.std.proofs.Common.{fold, Option, Some, None, is_some, inl, inr, refl, sym, ap, ap₂, ◌∙◌}
-use Rattle.std.specs.List.{list_any, find}
+use Rattle.std.proofs.Common.{fold, Option, Some, None, inl, inr, refl, sym, ap, ap₂, ◌∙◌}
+use Rattle.std.specs.List.{find}
 use Rattle.std.specs.Option.{option_eq}
 use Rattle.std.specs.Cmp.Lexicographic.{pointwise}
 use mathlib.Core.Bool.{beq}
@@ -14,12 +14,11 @@ use Rattle.atomic_histories.specs.declared.unit.UnitPlace.{UnitPlace}
 use Rattle.atomic_histories.specs.declared.unit.WatchedLoad.{WatchedLoad}
 use Rattle.atomic_histories.specs.Words.{at_unit, stored_byte, is_word_of}
 use Rattle.atomic_histories.specs.Law.{is_store, may_answer_store}
-use Rattle.atomic_histories.specs.Pasts.{Past, oldest}
+use Rattle.atomic_histories.specs.Pasts.{Past}
 use Rattle.atomic_histories.specs.Followed.{Pair, Ways, Aim, is_same_word, is_same_store, is_same_pair, with_pair, with_pairs}
 use Rattle.atomic_histories.specs.Followed.{effect_aim, word_aim, next_of, out_after, met, rounds, is_under, pair_on}
 use Rattle.atomic_histories.specs.Followed.{pair_got, pair_missed, cons_any, gathered, with_hope, answered_load, answered_store}
 use Rattle.atomic_histories.specs.Followed.{pair_without_store, pair_with_store, pair_cut, ways_with_load, ways_with_store, ways_after}
-use Rattle.atomic_histories.specs.Followed.{loads_without}
 use Rattle.atomic_histories.specs.Stands.{Each, IsAsked, IsOther, AreApart, store_key, IsOfStores}
 use Rattle.atomic_histories.proofs.Lists.{each_weaker, each_map, each_filter, each_both}
 use Rattle.atomic_histories.proofs.Found.{IsJoint, IsKept, each_with, met_sound}
@@ -291,10 +290,10 @@ pub event_shaped : (unit : UnitPlace) (event : HistoryEvent) (u : Ways) → Each
 event_shaped unit (LoadRequest number address n) u asked s = load_shaped _ number address u s
 event_shaped unit (LoadResponse number bytes) u asked s =
     let r = answered_shape unit bytes.now _ u asked s in
-    let c = cut_shaped _ (oldest (loads_without number u.loads)) s.alike.0
+    let c = cut_shaped _ _ s.alike.0
     (answered_load unit bytes.now (find (is_under number) u.loads) u) r.0 r.1 in
     record { apart = c.0; alike = (s.alike.0, c.1) }
 event_shaped unit (StoreRequest number address bytes enables) u asked s =
     let stored = at_unit unit (stored_byte address bytes.now enables) in
-    store_shaped (list_any is_some stored) number stored u s
+    store_shaped _ number stored u s
 event_shaped unit (StoreResponse number) u asked s = let r = store_answered number u asked s in record { apart = r.0; alike = r.1 }

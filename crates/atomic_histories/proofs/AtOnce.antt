@@ -1,6 +1,6 @@
 -- Events that a unit takes where it stands: what the search would find, and what is kept of the units.
-use Rattle.std.proofs.Common.{◌≡◌, ◌≢◌, ℕ, zero, suc, ◌+◌, ◌*◌, ◌/◌, ◌<◌, ◌≤◌, Bool, true, false}
-use Rattle.std.proofs.Common.{List, [], ◌∷◌, length, take, get_or, Option, Some, None, Result, Ok, Err, IfOk, OnErr}
+use Rattle.std.proofs.Common.{◌≡◌, ◌≢◌, ℕ, zero, suc, ◌*◌, ◌/◌, ◌<◌, ◌≤◌, Bool, true, false}
+use Rattle.std.proofs.Common.{List, [], ◌∷◌, length, take, get_or, Option, Some, None, Result, Ok, Err, IfOk}
 use Rattle.std.proofs.Common.{inl, inr, refl, sym, ap, ap₂, ◌∙◌, subst, arith}
 use Rattle.std.specs.List.{find}
 use Rattle.std.proofs.lemmas.List.{length-take-le, take-take, get_or-take}
@@ -27,8 +27,8 @@ use Rattle.atomic_histories.specs.Followed.{Pair, Ways, Aim, first_ways, has_way
 use Rattle.atomic_histories.specs.Followed.{out_after, met, found, is_over, needs_more, load_needs_more, needs_too_many, ways_after}
 use Rattle.atomic_histories.specs.Followed.{is_under, loads_without, moment_with, pair_missed, gathered}
 use Rattle.atomic_histories.specs.Followed.{with_hope, answered_load, answered_store, ways_without_load}
-use Rattle.atomic_histories.specs.Held.{Held, covered, units_of, is_without, is_stuck, is_over_at, first_halt}
-use Rattle.atomic_histories.specs.Few.{IsFewFor, AreFew}
+use Rattle.atomic_histories.specs.Held.{Held, covered, units_of, is_without, is_stuck, is_over_at}
+use Rattle.atomic_histories.specs.Few.{IsFewFor}
 use Rattle.atomic_histories.specs.Told.{GoOn}
 use Rattle.atomic_histories.specs.Judge.{bytes_of, kept_or, kept_at, words_of, IsTaken}
 use Rattle.atomic_histories.specs.Shown.{past_at, past_of, pasts, shown, shown_all}
@@ -53,7 +53,7 @@ out_here goal e t = grind arith
 -- a pair that meets what is wanted is the one that is found
 found_here : (loads : List WatchedLoad) (moment : ℕ) (aim : Aim) (e : Pair) → aim.goal e ≡ true
     → found loads moment aim [] (e ∷ []) ≡ e ∷ []
-found_here loads moment aim e t = grind (arith, aim.hope, out_here, aim.goal, met_alone)
+found_here loads moment aim e t = grind (arith, out_here, met_alone)
 
 -- so is what its one store makes of a pair that doesn't
 found_next : (loads : List WatchedLoad) (moment : ℕ) (aim : Aim) (e : Pair) (s : OpenStore) → e.stores ≡ s ∷ [] → s.is_done ≡ false
@@ -71,7 +71,7 @@ over_alone limit loads moment (suc n) aim e l = grind (arith, over_alone limit l
 
 few_here : (limit : ℕ) (loads : List WatchedLoad) (moment : ℕ) (aim : Aim) (e : Pair) → 0 < limit → aim.goal e ≡ true
     → needs_more limit loads moment aim [] (e ∷ []) ≡ false
-few_here limit loads moment aim e l t = grind (arith, aim.hope, out_here, aim.goal, over_alone)
+few_here limit loads moment aim e l t = grind (arith, out_here, over_alone)
 
 few_next : (limit : ℕ) (loads : List WatchedLoad) (moment : ℕ) (aim : Aim) (e : Pair) (s : OpenStore) → 0 < limit → e.stores ≡ s ∷ []
     → aim.goal e ≡ false → needs_more limit loads moment aim [] (e ∷ []) ≡ false
@@ -81,7 +81,7 @@ few_next limit loads moment aim e s l one f = grind arith
 pub few_effects : (limit number : ℕ) (u : Ways) (e : Pair) → 0 < limit → u.pairs ≡ e ∷ [] → may_answer_store number e.stores ≡ true
     → needs_more limit u.loads u.moment (effect_aim number) [] u.pairs ≡ false
 few_effects limit number u e l one t =
-    ap (needs_more limit u.loads u.moment (effect_aim number) []) one ∙ few_here limit u.loads u.moment (effect_aim number) e l t
+    ap (needs_more limit u.loads u.moment (effect_aim number) []) one ∙ few_here limit u.loads u.moment _ e l t
 
 pub few_last : (limit number : ℕ) (loads : List WatchedLoad) (moment : ℕ) (ss : List Stretch) (ps : List FollowedPair) → length ps ≡ 1
     → ((d : FollowedPair) → length (get_or ps 0 d).stores.items ≡ 1)
@@ -93,8 +93,8 @@ few_last limit number loads moment ss (p ∷ []) h one waits l = go p.stores.ite
     go : (xs : List OpenStore) → p.stores.items ≡ xs → length p.stores.items ≡ 1
         → needs_more limit loads moment (effect_aim number) [] (shown ss p ∷ []) ≡ false
     go [] e n = grind arith
-    go (x ∷ []) e n = few_next limit loads moment (effect_aim number) (shown ss p) x l e (waits p)
-    go (x ∷ y ∷ xs) e n = grind arith
+    go (x ∷ []) e n = grind arith
+    go _ e n = grind arith
 few_last limit number loads moment ss (p ∷ q ∷ ps) h one waits l = grind arith
 
 -- Loads. ----
@@ -119,10 +119,6 @@ stood_at ss end i d b earlier word moment l le is at_ =
 pub got_here : (is : Stood → Bool) (p q : Past) (word : Word) (moment : ℕ) → p ≡ after word moment q → is (stood word moment) ≡ true
     → got is p ≡ Some p
 got_here is p q word moment e t = grind arith
-
-pub got_later : (is : Stood → Bool) (p q : Past) (word : Word) (moment : ℕ) → p ≡ after word moment q → is (stood word moment) ≡ false
-    → got is q ≡ Some q → got is p ≡ Some p
-got_later is p q word moment e f g = grind arith
 
 pub missed_here : (is : Stood → Bool) (p q : Past) (word : Word) (moment : ℕ) → p ≡ after word moment q → is (stood word moment) ≡ true
     → missed is p ≡ None
@@ -218,8 +214,7 @@ pub later_taken : (unit : UnitPlace) (bytes : List ℕ) (number : ℕ) (l : Watc
         past = overwritten (loads_without number u.loads) u.moment e.word begins;
       } ∷ [];
     } ≡ ways_without_load number u (answered_load unit bytes (Some l) u)
-later_taken unit bytes number l u e s one store open_ past is f t cut_ =
-    grind (arith, behind, u.moment, u.loads, u.pairs, e.word, s.bytes, load_next)
+later_taken unit bytes number l u e s one store open_ past is f t cut_ = grind (arith, behind, load_next)
 
 pub load_left : (number : ℕ) (u : Ways) (e : Pair) → has_way (ways_without_load number u (e ∷ [])) ≡ true
 load_left number u e = grind arith
@@ -290,21 +285,10 @@ taken_at (Ok true) image rest size opened event f g number here one taken words 
     (λ k n. ap (λ x. kept_or x (first_ways image rest (unit_at size k))) (others k n)) refl refl refl refl
 
 -- and it halted nowhere
-one_halt : (limit : ℕ) (h : Held) (event : HistoryEvent) (number : ℕ) → number ≡ (covered h.opened event).0 / h.size
-    → units_of h.size (covered h.opened event).0 (covered h.opened event).1 ≡ 1
-    → is_stuck h event number ≡ false → is_over_at limit h event number ≡ false → first_halt limit h event ≡ None
-one_halt limit h event number here one stuck over = grind arith
-
-one_few : (h : Held) (event : HistoryEvent) (number n first : ℕ) → number ≡ first → n ≡ 1 → IsFewFor (h.units number) event
-    → AreFew h event first (first + n)
-one_few h event number n first here one few = λ j l m.
-    let same : number ≡ j = omega arith in subst (λ k. IsFewFor (h.units k) event) same few
-
 one_goes_on : (limit : ℕ) (h : Held) (event : HistoryEvent) (number : ℕ) → number ≡ (covered h.opened event).0 / h.size
     → units_of h.size (covered h.opened event).0 (covered h.opened event).1 ≡ 1 → IsFewFor (h.units number) event
     → is_stuck h event number ≡ false → is_over_at limit h event number ≡ false → GoOn limit h event
-one_goes_on limit h event number here one few stuck over =
-    (one_halt limit h event number here one stuck over, one_few h event number _ _ here one few)
+one_goes_on limit h event number here one few stuck over = grind arith
 
 pub not_halted_at : {E : Type 0} (r : Result Bool E) (limit : ℕ) (image : List ℕ) (rest : Rest) (size : ℕ) (opened : Opened)
     (event : HistoryEvent) (f g : ℕ → Option KeptUnit) (number : ℕ) (place : UnitPlace) → place ≡ unit_at size number
@@ -317,17 +301,10 @@ pub not_halted_at : {E : Type 0} (r : Result Bool E) (limit : ℕ) (image : List
 not_halted_at (Err e) limit image rest size opened event f g number place at_ here one taken few words = tt
 not_halted_at (Ok false) limit image rest size opened event f g number place at_ here one taken few words = λ t. cc
 not_halted_at (Ok true) limit image rest size opened event f g number place at_ here one taken few words = λ t.
-    let u : Ways = kept_or (f number) (first_ways image rest (unit_at size number)) in
+    let u = kept_or _ (first_ways image rest (unit_at size number)) in
     one_goes_on limit (kept image rest size opened f) event number here one (words refl (first_ways image rest (unit_at size number)))
     (subst (λ p. is_without u (ways_after p u event) ≡ false) at_ (taken (first_ways image rest (unit_at size number))).1)
     (subst (λ p. needs_too_many limit p u event ≡ false) at_ (few refl (first_ways image rest (unit_at size number))))
-
-pub untaken_at : {E : Type 0} (r : Result Bool E) (image : List ℕ) (rest : Rest) (size : ℕ) (opened : Opened) (f g : ℕ → Option KeptUnit)
-    (number : ℕ) → OnErr r ((first : Ways) → kept_or (g number) first ≡ kept_or (f number) first)
-    → OnErr r (words_of (g number) ≡ words_of (f number))
-    → ((k : ℕ) → k ≢ number → g k ≡ f k) → OnErr r (kept image rest size opened g ≡ kept image rest size opened f)
-untaken_at (Ok taken) image rest size opened f g number same words others = tt
-untaken_at (Err e) image rest size opened f g number same words others = grind arith
 
 -- the operations that are open change behind the units
 pub taken_open : (h room mid next : Held) (event : HistoryEvent) → room ≡ h → AreTaken room event mid

@@ -134,13 +134,13 @@ leads_without_store_at number {e} {m} g (later before s after split open_ r) =
     let kept : filter keep e.stores ≡ filter keep before ++ s ∷ filter keep after =
     ap (filter keep) split ∙ (filter-append keep before _ ∙ rw other refl) in
     let kept_done : filter keep (before ++ done_store s ∷ after) ≡ filter keep before ++ done_store s ∷ filter keep after =
-    filter-append keep before (done_store s ∷ after) ∙ rw other refl in
-    let again : may_answer_store number (before ++ done_store s ∷ after) ≡ true =
-    list_all-append may before (done_store s ∷ after)
-    ∙ and_from (list_all may before) (may (done_store s) && list_all may after) p.0
+    filter-append keep before _ ∙ rw other refl in
+    let again : may_answer_store number _ ≡ true =
+    list_all-append may before _
+    ∙ and_from _ _ p.0
     (and_from (may (done_store s)) (list_all may after) (or-true (not (is_store number s))) q.1) in
-    let rest : Leads (branch_without_store number d) (without_store number m) = leads_without_store_at number again r in
-    later (filter keep before) s (filter keep after) kept open_
+    let rest : Leads _ _ = leads_without_store_at number again r in
+    later _ s _ kept open_
     (rw kept_done at rest)
 
 pub leads_without_store : (number : ℕ) (e : Branch) (m : UnitMemory) → has_effect number e ≡ true → Leads e m

@@ -102,7 +102,7 @@ requested_load_leads number address true m n h u by o =
       p.0.1,
       subst (λ b. Leads b n) (sym (way_requested number address u.moment u.loads e p.0.0
           (path_by u.moment e.past p.0.0 p.1 p.0.1)))
-          (rw same at (leads_with_load number address (way_on u.loads e p.0.0) m p.0.2)),
+          (rw same at (leads_with_load number address _ m p.0.2)),
     )) u.pairs
     (one_each (OneWay u.loads (λ b. Leads b m)) _ u.pairs o by)
 requested_load_leads number address false m n h u by o = let same : m ≡ n = cc in subst (LeadsTo u) same o
@@ -307,7 +307,7 @@ pub event_leads : (unit : UnitPlace) (event : HistoryEvent) (m n : UnitMemory) �
 event_leads unit (LoadRequest number address k) m n h u asked by o =
     requested_load_leads number address _ m n h u by o
 event_leads unit (LoadResponse number bytes) m n h u asked by o =
-    let p = some_if _ (without_load number m) n h in
+    let p = some_if _ _ n h in
     subst (LeadsTo (ways_after unit u (LoadResponse number bytes))) p.1 (answered_load_leads unit number bytes.now m p.0 u asked o)
 event_leads unit (StoreRequest number address bytes enables) m n h u asked by o =
     let stored = at_unit unit (stored_byte address bytes.now enables) in
@@ -320,7 +320,7 @@ event_leads unit (StoreResponse number) m n h u asked by o =
 
 -- a step on one of the ways
 one_step : (u : Ways) (m n : UnitMemory) → HiddenStep m n → LeadsTo u m → LeadsTo u n
-one_step u m n step o = grind (arith, one_weaker, u.loads, leads_on, u.pairs)
+one_step u m n step o = grind (arith, one_weaker, leads_on)
 
 first_complete : (image : List ℕ) (rest : Rest) (unit : UnitPlace) (xs : List HistoryEvent) (m : UnitMemory)
     → MayBe unit (untouched image rest unit) xs m → xs ≡ [] → LeadsTo (first_ways image rest unit) m
@@ -373,7 +373,7 @@ stands_after start unit u history event alone s =
     let next : Fits Q _ =
     event_fits unit P Q (λ m n r step. steps history m n r step) (λ m n r step. steps _ m n r step) event
     (λ m n r e. sees history event m n r e) u alone fits in
-    let shape : IsShaped (ways_after unit u event) = event_shaped unit event u s.asked (record { apart = s.apart; alike = s.alike }) in
+    let shape : IsShaped _ = event_shaped unit event u s.asked (record { apart = s.apart; alike = s.alike }) in
     record {
       asked = next.asked;
       timely = next.timely;
@@ -447,4 +447,4 @@ pub stands_by : (image : List ℕ) (rest : Rest) (unit : UnitPlace) (history : L
     → AlwaysAlone unit (first_ways image rest unit) history
     → StandsFor (untouched image rest unit) unit (fold (ways_after unit) (first_ways image rest unit) history) history
 stands_by image rest unit history a =
-    stands_from _ unit (first_ways image rest unit) [] history a (stands_first image rest unit)
+    stands_from _ unit _ [] history a (stands_first image rest unit)

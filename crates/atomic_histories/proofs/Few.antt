@@ -48,38 +48,33 @@ among_new : (ps : List Past) (s : Stretch) → Each (AreAmong (words_of ps)) ps
     → AreAmong (words_of ps ++ words_of (past_of ps s ∷ [])) (past_of ps s)
 among_new ps (Overwritten word moment before) h =
     let p = past_at ps before in (
-      one_last (λ q. after word moment p ≡ q) (words_of ps) (after word moment p) refl,
-      among_more (words_of ps) (after word moment p ∷ []) p (among_past (words_of ps) ps before h),
+      one_last (λ q. after word moment p ≡ q) _ _ refl,
+      among_more _ _ p (among_past (words_of ps) ps before h),
     )
 among_new ps (Either one other) h = (
-  among_more (words_of ps) [] (past_at ps one) (among_past (words_of ps) ps one h),
-  among_more (words_of ps) [] (past_at ps other) (among_past (words_of ps) ps other h),
+  among_more _ [] (past_at ps one) (among_past (words_of ps) ps one h),
+  among_more _ [] (past_at ps other) (among_past (words_of ps) ps other h),
 )
 
 among_push : (ps : List Past) (s : Stretch) → Each (AreAmong (words_of ps)) ps
     → Each (AreAmong (words_of (more_past ps s))) (more_past ps s)
-among_push ps s h =
-    let more = words_of (past_of ps s ∷ []) in
-    rw (filter-append is_word ps (past_of ps s ∷ []))
-    (each_append (AreAmong (words_of ps ++ more)) ps (past_of ps s ∷ [])
-    (each_weaker (AreAmong (words_of ps)) (AreAmong (words_of ps ++ more)) (among_more (words_of ps) more) ps h)
-    (among_new ps s h, tt))
+among_push ps s h = grind (arith, filter-append, each_append, each_weaker, among_more, among_new)
 
 among_all : (ps : List Past) (ss : List Stretch) → Each (AreAmong (words_of ps)) ps
     → Each (AreAmong (words_of (fold more_past ps ss))) (fold more_past ps ss)
 among_all ps [] h = h
-among_all ps (s ∷ ss) h = among_all (more_past ps s) ss (among_push ps s h)
+among_all ps (s ∷ ss) h = among_all _ ss (among_push ps s h)
 
 -- How many there are. ----
 
 count_words : (ps : List Past) (ss : List Stretch) → length (words_of (fold more_past ps ss)) ≡ fold count_word (length (words_of ps)) ss
 count_words ps [] = refl
 count_words ps (Overwritten word moment before ∷ ss) =
-    let more = after word moment (past_at ps before) ∷ [] in
+    let more = after word moment _ ∷ [] in
     subst (λ n. length (words_of (fold more_past (ps ++ more) ss)) ≡ fold count_word n ss)
     (grind (arith, filter-append, length-append)) (count_words (ps ++ more) ss)
 count_words ps (Either one other ∷ ss) =
-    let more = either (past_at ps one) (past_at ps other) ∷ [] in
+    let more = either _ _ ∷ [] in
     subst (λ n. length (words_of (fold more_past (ps ++ more) ss)) ≡ fold count_word n ss)
     (grind (arith, filter-append, length-append)) (count_words (ps ++ more) ss)
 
@@ -93,15 +88,15 @@ words_below n (Either one other ∷ ss) = omega (arith, words_below n ss)
 pairs_among : (words : List Past) (ss : List Stretch) (ps : List FollowedPair) → Each (AreAmong words) (pasts ss)
     → Each (λ e. AreAmong words e.past) (shown_all ss ps)
 pairs_among words ss [] h = tt
-pairs_among words ss (p ∷ ps) h = (among_past words (pasts ss) p.past h, pairs_among words ss ps h)
+pairs_among words ss (p ∷ ps) h = (among_past words _ p.past h, pairs_among words ss ps h)
 
 pub few_words : (u : KeptUnit) → words_in u.stretches.items ≤ MOST_WORDS → KeepsFew (shown_unit u)
 few_words u l =
     let ss = u.stretches.items in
-    (words_of (pasts ss), omega (arith, count_words [] ss, l), pairs_among (words_of (pasts ss)) ss u.pairs.items (among_all [] ss tt))
+    (words_of (pasts ss), omega (arith, count_words [] ss, l), pairs_among _ ss u.pairs.items (among_all [] ss tt))
 
 pub few_stretches : (u : KeptUnit) → length u.stretches.items ≤ MOST_WORDS → KeepsFew (shown_unit u)
-few_stretches u l = few_words u (omega (arith, words_below 0 u.stretches.items, l))
+few_stretches u l = grind (arith, few_words, words_below)
 
 -- a unit that was forgotten
 pub few_ways : (u : KeptUnit) → length u.pairs.items ≡ 0 → KeepsFew (shown_unit u)
@@ -109,14 +104,14 @@ few_ways u e = ([], omega arith, none u.stretches.items u.pairs.items e)
   where
     none : (ss : List Stretch) (ps : List FollowedPair) → length ps ≡ 0 → Each (λ x. AreAmong [] x.past) (shown_all ss ps)
     none ss [] e = tt
-    none ss (p ∷ ps) e = absurd (omega arith)
+    none ss _ e = absurd (omega arith)
 
 -- what is shown of a copy is shown of the unit
 pub few_copy : (u copy : KeptUnit) → shown_unit copy ≡ shown_unit u → words_in copy.stretches.items ≤ MOST_WORDS → KeepsFew (shown_unit u)
-few_copy u copy same l = subst KeepsFew same (few_words copy l)
+few_copy u copy same l = grind (arith, few_words)
 
 pub few_copied : (u copy : KeptUnit) → shown_unit copy ≡ shown_unit u → length copy.stretches.items ≤ MOST_WORDS → KeepsFew (shown_unit u)
-few_copied u copy same l = subst KeepsFew same (few_stretches copy l)
+few_copied u copy same l = grind (arith, few_stretches)
 
 pub few_more : (h : Held) (event : HistoryEvent) (from end next : ℕ) → next ≡ end + 1 → AreFew h event from end
     → IsFewFor (h.units end) event → AreFew h event from next

@@ -20,7 +20,7 @@ use Rattle.atomic_histories.proofs.Paths.{some_path, merged_has, has_merged, by_
 
 pub pair_parts : (f e : Pair) → is_same_pair f e ≡ true → (f.word ≡ e.word) × (f.stores ≡ e.stores)
 unfolding is_same_pair
-pair_parts f e h = grind (arith, and_parts, same_word, f.word, e.word, same_stores, f.stores, e.stores)
+pair_parts f e h = grind (arith, and_parts, same_word, same_stores)
 
 -- what holds of one of two holds of the two merged
 abbrev pub IsTaken : (Pair → Type 0) → Type 0
@@ -37,7 +37,7 @@ same_way loads f e path h = grind (arith, pair_parts)
 
 pub one_taken : (loads : List WatchedLoad) (P : Branch → Type 0) → IsTaken (OneWay loads P)
 one_taken loads P f e h (inl o) = (o.0, merged_has f.past e.past o.0 (inl o.1), o.2)
-one_taken loads P f e h (inr o) = grind (arith, merged_has, f.past, e.past, same_way)
+one_taken loads P f e h (inr o) = grind (arith, merged_has, same_way)
 
 pub each_joint : (loads : List WatchedLoad) (P : Branch → Type 0) → IsJoint (EachWay loads P)
 each_joint loads P f e h a b = λ path has. elim (has_merged f.past e.past path has) [
@@ -202,7 +202,7 @@ module _ (loads : List WatchedLoad) (moment : ℕ) (asked : Each (IsAsked moment
           × (way_on ls (pair_after (overwritten ls moment e.word e.past) e before s after) more
           ≡ effect_of (way_on ls e path) before s after)
       made [] a g = let r = some_path e.past in (r.0, r.1, refl)
-      made (l ∷ ls) a g = grind (arith, watched_more, e.word)
+      made _ a g = grind (arith, watched_more, e.word)
 
   -- what holds of the pairs on, if it is kept when a store takes effect
   abbrev pub IsKept : (Pair → Type 0) → Type 0

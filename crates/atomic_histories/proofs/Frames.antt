@@ -56,8 +56,7 @@ more_in ps (s ∷ ss) h =
     more_in _ ss (each_append (λ p. is_beginning p ≡ false) ps _ h (more_of ps s, tt))
 
 pub more_behind : (ss : List Stretch) (place : ℕ) → place < length ss → is_beginning (past_at (pasts ss) (Behind place)) ≡ false
-more_behind ss place i =
-    each_nth (λ p. is_beginning p ≡ false) (pasts ss) place begins (omega (arith, length_pasts ss, i)) (more_in [] ss tt)
+more_behind ss place i = grind (arith, each_nth, length_pasts, more_in)
 
 merged_first : (p q : Past) → is_beginning p ≡ false → merged p q ≡ either p q
 merged_first p q h = rw h refl

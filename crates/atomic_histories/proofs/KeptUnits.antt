@@ -30,7 +30,7 @@ changed_more {X} {Y} s f xs i v d h e = rw add-one (more xs i h e)
         → map s (take (suc i) (set xs i v)) ++ map f (map s (drop (suc i) (set xs i v)))
         ≡ map s (take i xs) ++ map f (map s (drop i xs))
     more [] i h e = absurd (omega arith)
-    more (x ∷ xs) zero h e = grind arith
+    more _ zero h e = grind arith
     more (x ∷ xs) (suc i) h e = ap (λ ys. s x ∷ ys) (more xs i (omega arith) e)
 
 -- one that shows what it did
@@ -60,8 +60,8 @@ made_more s g ys i d x xs more whole h e same inv =
     let rest : map g _ ≡ g _ ∷ map g _ = rw (add-one, drop-cons ys i d h) refl in
     ap (λ zs. map s zs ++ map g (drop (i + 1) ys)) e
     ∙ (cc (
-      map-append s xs (x ∷ []),
-      (append_assoc (map s xs) (s x ∷ []) (map g (drop (i + 1) ys))
+      map-append s xs _,
+      (append_assoc _ (s x ∷ []) _
           ∙ (ap (λ z. map s xs ++ z ∷ map g (drop (i + 1) ys)) same ∙ (ap (λ zs. map s xs ++ zs) (sym rest) ∙ inv))),
     ))
 

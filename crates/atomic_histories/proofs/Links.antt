@@ -1,5 +1,5 @@
 -- What is open at a unit is what is open in the history and has a byte there.
-use Rattle.std.proofs.Common.{◌≡◌, ℕ, ◌+◌, ◌-◌, ◌/◌, ◌<◌, ◌≤◌, Bool, true, false, ◌||◌, not, ◌==◌, if◌then◌else◌, nat_lt}
+use Rattle.std.proofs.Common.{◌≡◌, ℕ, ◌+◌, ◌-◌, ◌/◌, ◌<◌, ◌≤◌, Bool, true, false, ◌||◌, not, ◌==◌, if◌then◌else◌}
 use Rattle.std.proofs.Common.{List, [], ◌∷◌, ◌++◌, map, fold, length, filter, Option, Some, None, is_none, is_some}
 use Rattle.std.proofs.Common.{inl, inr, refl, sym, ap, ◌∙◌, subst, append-nil, eqb-true, eq-eqb}
 use Rattle.std.proofs.Common.{arith}
@@ -13,16 +13,16 @@ use Rattle.std.proofs.lemmas.Option.{slice_get_past, same_Some}
 use Rattle.memory_histories.specs.declared.events.HistoryEvent.{HistoryEvent}
 use Rattle.memory_histories.specs.declared.events.HistoryEvent.TheVariants.{LoadRequest, LoadResponse, StoreRequest, StoreResponse}
 use Rattle.memory_histories.specs.declared.events.Rest.{Rest}
-use Rattle.memory_histories.specs.Regular.{is_inside, has_enabled, load_request_fault, store_request_fault, store_response_fault}
+use Rattle.memory_histories.specs.Regular.{is_inside, load_request_fault, store_request_fault, store_response_fault}
 use Rattle.atomic_histories.specs.declared.unit.OpenStore.{OpenStore}
 use Rattle.atomic_histories.specs.declared.unit.Operation.{Operation}
 use Rattle.atomic_histories.specs.declared.unit.UnitPlace.{UnitPlace}
 use Rattle.atomic_histories.specs.Words.{at_unit, at_lane, stored_byte, is_at}
 use Rattle.atomic_histories.specs.Operations.{Opened, none_opened, opened_after, opened_by, has_number, without_number, answer_fault}
 use Rattle.atomic_histories.specs.Operations.{form_fault}
-use Rattle.atomic_histories.specs.Law.{OpenLoad, UnitMemory, HiddenStep, MayBe, starts, steps, sees, untouched, done_store}
-use Rattle.atomic_histories.specs.Law.{is_store, is_load, may_answer_load, may_answer_store, with_load, with_store, without_load}
-use Rattle.atomic_histories.specs.Law.{without_store, seen, unit_at, is_formed}
+use Rattle.atomic_histories.specs.Law.{OpenLoad, UnitMemory, HiddenStep, MayBe, starts, steps, sees, untouched}
+use Rattle.atomic_histories.specs.Law.{is_store, is_load, may_answer_load, may_answer_store, with_load, with_store}
+use Rattle.atomic_histories.specs.Law.{seen, unit_at, is_formed}
 use Rattle.atomic_histories.specs.Stands.{Each, One}
 use Rattle.atomic_histories.specs.Held.{covered, units_of, is_among}
 use Rattle.atomic_histories.proofs.Lists.{one_left, one_last, each_weaker, each_append, each_filter, each_replace, none_filtered}
@@ -44,13 +44,13 @@ lane_inside unit address bytes enables k h = elim (cases_lt k unit.size) [
         let e = sym h ∙ x in cc
     | inr above ↦ elim (cases_lt (unit.first + k - address) (length bytes)) [
       | inl inside ↦
-          and_from (nat_lt address (unit.first + unit.size)) (nat_lt unit.first (address + length bytes))
+          and_from _ _
           (lt-ltb address (unit.first + unit.size) (omega arith))
           (lt-ltb unit.first (address + length bytes) (omega arith))
       | inr outside ↦
-          let none = slice_get_past bytes (unit.first + k - address) outside in
-          let x : is_some (at_lane unit (stored_byte address bytes enables) k) ≡ false =
-          rw (lt-ltb k unit.size within, le-leb address (unit.first + k) above, none)
+          let none = slice_get_past bytes _ outside in
+          let x : is_some _ ≡ false =
+          rw (lt-ltb k unit.size within, le-leb address _ above, none)
           (nothing (bit_at enables (unit.first + k - address) == 1) None refl) in
           let e = sym h ∙ x in cc
     ]
@@ -95,7 +95,7 @@ distinct_push [] o d n = (refl, tt)
 distinct_push (x ∷ xs) o d n =
     let p = or_parts _ _ n in
     let first =
-    list_any-append (has_number x.number) xs (o ∷ []) ∙ or_from (list_any (has_number x.number) xs) ((o.number == x.number) || false) d.0
+    list_any-append _ xs _ ∙ or_from _ _ d.0
     (or_from (o.number == x.number) false (eq_false_sym x.number o.number p.0) refl) in
     (first, distinct_push xs o d.1 p.1)
 
@@ -103,7 +103,7 @@ distinct_filtered : (number : ℕ) (os : List Operation) → AreDistinct os → 
 distinct_filtered number [] d = tt
 distinct_filtered number (x ∷ xs) d = elim (cases_Bool (has_number number x)) [
   | inl t ↦ rw t (distinct_filtered number xs d.1)
-  | inr f ↦ rw f (none_filtered (has_number x.number) _ xs d.0, distinct_filtered number xs d.1)
+  | inr f ↦ rw f (none_filtered _ _ xs d.0, distinct_filtered number xs d.1)
 ]
 
 inside_filtered : (number : ℕ) (os : List Operation) → Each IsInside os → Each IsInside (without_number number os)
@@ -126,9 +126,9 @@ fit_push : (os : List Operation) (o : Operation) → AreFit os → IsInside o �
 fit_push os o a i n = grind (arith, distinct_push, each_append)
 
 fit_after : (o : Opened) (event : HistoryEvent) → IsFit o → form_fault o event ≡ None → IsFit (opened_after o event)
-fit_after o (LoadRequest number address n) a f = grind (arith, load_allowed, fit_push, o.loads, a.loads)
+fit_after o (LoadRequest number address n) a f = grind (arith, load_allowed, fit_push)
 fit_after o (LoadResponse number bytes) a f = grind (arith, distinct_filtered, o.loads, inside_filtered)
-fit_after o (StoreRequest number address bytes enables) a f = grind (arith, store_allowed, fit_push, o.stores, a.stores)
+fit_after o (StoreRequest number address bytes enables) a f = grind (arith, store_allowed, fit_push)
 fit_after o (StoreResponse number) a f = grind (arith, distinct_filtered, o.stores, inside_filtered)
 
 pub none_is : {X : Type 0} (o : Option X) → is_none o ≡ true → o ≡ None
@@ -317,7 +317,7 @@ linked_step : (unit : UnitPlace) (m n : UnitMemory) (o : Opened) → IsLinked un
 linked_step unit m n o h (inl (before, s, after, split, undone, made)) =
     let a = subst (Each (HasStore unit o.stores)) split h.stores in
     subst (λ y. IsLinked unit y o) (sym made)
-    (record { loads = h.loads; stores = each_replace (HasStore unit o.stores) before s (done_store s) after (λ p. p) a })
+    (record { loads = h.loads; stores = each_replace _ before s _ after (λ p. p) a })
 linked_step unit m n o h (inr (before, l, after, split, undone, made)) =
     let same =
     map-append load_key before _ ∙ sym (map-append load_key before (l ∷ after)) in
@@ -452,18 +452,18 @@ passes size k m o (LoadResponse number bytes) pos fit link f out =
     not_at size x.address x.length k pos (inside_end x.address x.length (found_fit number o.loads x fit.loads.1 r.1))
     (rw r.1 at out) in
     let none =
-    any_key number m.loads ∙ no_key unit number o.loads x fit.loads.0 r.1 no (map load_key m.loads) link.loads in
-    let q = loads_pass unit number bytes.now m.loads none in
-    then_some (may_answer_load unit number bytes.now m.loads) (without_load number m) q.0
+    any_key number _ ∙ no_key unit number o.loads x fit.loads.0 r.1 no _ link.loads in
+    let q = loads_pass unit number bytes.now _ none in
+    then_some _ _ q.0
     ∙ ap (λ ls. Some (record { word = m.word; stores = m.stores; loads = ls })) q.1
 passes size k m o (StoreRequest number address bytes enables) pos fit link f out =
     let unit = unit_at size k in
     let stored = at_unit unit (stored_byte address bytes.now enables) in
-    let p = store_allowed (is_inside address (length bytes.now)) (has_enabled bytes.now enables)
-    (list_any (has_number number) o.stores) f in
+    let p = store_allowed _ _
+    _ f in
     let no =
-    not_at size address (length bytes.now) k pos (inside_end address (length bytes.now) p.0) out in
-    let none : list_any is_some stored ≡ false = elim (cases_Bool (list_any is_some stored)) [
+    not_at size address _ k pos (inside_end address (length bytes.now) p.0) out in
+    let none : list_any is_some stored ≡ false = elim (cases_Bool _) [
       | inr n ↦ n
       | inl t ↦ let y = sym (any_lane unit address bytes.now enables (range_with_len 0 8) t) ∙ no in cc
     ] in
@@ -475,6 +475,6 @@ passes size k m o (StoreResponse number) pos fit link f out =
     let no =
     not_at size x.address x.length k pos (inside_end x.address x.length (found_fit number o.stores x fit.stores.1 r.1))
     (rw r.1 at out) in
-    let q = stores_pass number m.stores (no_store unit number o.stores x fit.stores.0 r.1 no m.stores link.stores) in
-    then_some (may_answer_store number m.stores) (without_store number m) q.0
+    let q = stores_pass number _ (no_store unit number o.stores x fit.stores.0 r.1 no m.stores link.stores) in
+    then_some _ _ q.0
     ∙ ap (λ ss. Some (record { word = m.word; stores = ss; loads = m.loads })) q.1

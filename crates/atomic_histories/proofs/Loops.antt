@@ -11,7 +11,7 @@ use Rattle.atomic_histories.specs.declared.pairs.FollowedPair.{FollowedPair}
 use Rattle.atomic_histories.specs.Law.{done_store}
 use Rattle.atomic_histories.specs.Pasts.{Past}
 use Rattle.atomic_histories.specs.Followed.{Pair, Aim, with_pairs, cons_effect, pair_after, effects_from, out_of, next_of, out_after}
-use Rattle.atomic_histories.specs.Followed.{next_after, met, are_too_many, is_over, never}
+use Rattle.atomic_histories.specs.Followed.{next_after, are_too_many, is_over, never}
 use Rattle.atomic_histories.specs.May.{reached_in, is_reach_over}
 use Rattle.atomic_histories.specs.Shown.{past_at, pasts, shown, shown_all, IsIn, AreIn, Grows}
 use Rattle.atomic_histories.proofs.Lists.{each_replace}
@@ -128,12 +128,6 @@ pub over_go : (limit : ℕ) (ls : List WatchedLoad) (moment n : ℕ) (aim : Aim)
 over_go limit ls moment zero aim out es h p = absurd (omega arith)
 over_go limit ls moment (suc n) aim out es h p = grind arith
 
--- the pairs once one round more has gone
-pub met_go : (ls : List WatchedLoad) (moment n : ℕ) (aim : Aim) (out es : List Pair) → 0 < n
-    → met ls moment n aim out es ≡ met ls moment (n - 1) aim (out_after aim.goal out es) (next_after ls moment aim es)
-met_go ls moment zero aim out es p = absurd (omega arith)
-met_go ls moment (suc n) aim out es p = grind arith
-
 -- the pairs that are followed to see what a load may get
 pub reach_stop : (limit : ℕ) (ls : List WatchedLoad) (moment n : ℕ) (es next : List Pair) → next ≡ next_after ls moment never es
     → are_too_many limit next ≡ true → 0 < n → is_reach_over limit ls moment n es ≡ true
@@ -162,7 +156,7 @@ pub reached_more : (ls : List WatchedLoad) (moment n : ℕ) (ss ts : List Stretc
     → shown_all ts both ++ reached_in ls moment (n - 1) (shown_all ts (drop (length all) both)) ≡ whole
 reached_more ls moment n ss ts grown all from next both whole a b p e w =
     rw (b, behind_all all next, map-append _ all next, shown_grown ss ts grown all a, append_assoc)
-    (cc (reached_go ls moment n (shown_all ss from) (shown_all ts next) e p, w))
+    (cc (reached_go ls moment n _ _ e p, w))
 
 -- the pairs from a place on
 pub slice_from : (xs ys : List FollowedPair) (i : ℕ) → xs ≡ ys → take (length xs - i) (drop i xs) ≡ drop i ys

@@ -45,7 +45,7 @@ no_mark ms at n h = grind (arith, drop_all)
 
 before_other : (ms : List ℕ) (n k d : ℕ) → k < before_mark n ms → (get_or ms k d == n) ≡ false
 before_other [] n k d h = grind arith
-before_other (m ∷ ms) n zero d h = grind (arith, cases_Bool)
+before_other (m ∷ ms) n zero d h = grind arith
 before_other (m ∷ ms) n (suc k) d h = elim (cases_Bool (m == n)) [
   | inl t ↦ let x = rw t at h in absurd (omega (arith, x))
   | inr o ↦ let x = rw o at h in before_other ms n k d (omega (arith, x))

@@ -1,6 +1,6 @@
 -- A way on which no more stores can make the word of an answer isn't followed, and nothing is lost by that.
 use Rattle.std.proofs.Common.{◌≡◌, ℕ, zero, suc, ◌+◌, ◌⊎◌, Bool, true, false, ◌&&◌, ◌||◌, not, List, [], ◌∷◌, ◌++◌, get_or, Option, Some}
-use Rattle.std.proofs.Common.{None, inl, inr, refl, sym, ap, ◌∙◌, subst, arith}
+use Rattle.std.proofs.Common.{None, inl, inr, refl, sym, ap, ◌∙◌, arith}
 use Rattle.std.specs.List.{list_all, list_any, find, range_with_len}
 use Rattle.std.proofs.lemmas.Bool.{cases_Bool, and_parts, and_from, or_cases, or_left, or_right}
 use Rattle.std.proofs.lemmas.List.Folds.{list_any-append, list_all-map}
@@ -47,25 +47,14 @@ any_between p before s after h = list_any-append p before _ ∙ h
 any_undone : (k : ℕ) (answer : Option ℕ) (before : List OpenStore) (s : OpenStore) (after : List OpenStore)
     → list_any (writes k answer) (before ++ done_store s ∷ after) ≡ true
     → list_any (writes k answer) (before ++ s ∷ after) ≡ true
-any_undone k answer before s after h =
-    let p = writes k answer in
-    elim (or_cases _ _ (sym (list_any-append p before (done_store s ∷ after)) ∙ h)) [
-      | inl t ↦ any_between p before s after (or_left (list_any p before) (p s || list_any p after) t)
-      | inr t ↦ any_between p before s after
-          (or_right (list_any p before) (p s || list_any p after) (or_right (p s) (list_any p after) t))
-    ]
+any_undone k answer before s after h = grind (arith, or_cases, list_any-append, any_between, or_left, or_right)
 
 -- what an effect writes in a lane, the store may still write before it
 new_before : (k b : ℕ) (word : Word) (before : List OpenStore) (s : OpenStore) (after : List OpenStore) (answer : Option ℕ)
     → s.is_done ≡ false → get_or s.bytes k None ≡ Some b → is_as_it_stood (Some b) answer ≡ true
     → may_come_in k word (before ++ s ∷ after) answer ≡ true
 new_before k b word before s after None open_ w t = or_left _ _ (none_asked (get_or word k None))
-new_before k b word before s after (Some c) open_ w t =
-    let p = writes k _ in
-    let here : p s ≡ true = rw (open_, w) t in
-    or_right _ _
-    (any_between p before s after
-    (or_right (list_any p before) (p s || list_any p after) (or_left (p s) (list_any p after) here)))
+new_before k b word before s after (Some c) open_ w t = grind (arith, or_right, any_between, or_left)
 
 come_before : (k : ℕ) (word : Word) (before : List OpenStore) (s : OpenStore) (after : List OpenStore) (answer : Option ℕ)
     → s.is_done ≡ false → may_come_in k (written s.bytes word) (before ++ done_store s ∷ after) answer ≡ true
@@ -87,9 +76,7 @@ pub effect_comes : (unit : UnitPlace) (address : ℕ) (bytes : List ℕ) (word :
     (after : List OpenStore) → s.is_done ≡ false → is_word_of unit.first (written s.bytes word) address bytes ≡ true
     → may_come unit address bytes word (before ++ s ∷ after) ≡ true
 effect_comes unit address bytes word before s after open_ h =
-    always_all (λ k. may_come_in k word (before ++ s ∷ after) _)
-    (λ k. come_before k word before s after (byte_for address bytes (unit.first + k)) open_
-    (or_left _ _ (word_lane unit.first (written s.bytes word) address bytes k h))) (range_with_len 0 8)
+    grind (arith, always_all, come_before, or_left, word_lane, unit.first, s.bytes)
 
 -- One load. ----
 
@@ -112,9 +99,7 @@ module _ (unit : UnitPlace) (number : ℕ) (bytes : List ℕ) (e : Branch) (befo
   come : (l : Watched) (k : ℕ) → may_come_in k on.word on.stores (byte_for l.address bytes (unit.first + k)) ≡ true
       → may_come_in k e.word e.stores (byte_for l.address bytes (unit.first + k)) ≡ true
   unfolding on
-  come l k h =
-      subst (λ ss. may_come_in k e.word ss (byte_for l.address bytes (unit.first + k)) ≡ true) (sym split)
-      (come_before k e.word before s after (byte_for l.address bytes (unit.first + k)) open_ h)
+  come l k h = grind (arith, l.address, come_before)
 
   all_come : (l : Watched) → comes unit bytes on (with_word e.word l) ≡ true → comes unit bytes e l ≡ true
   all_come l h =
@@ -124,34 +109,14 @@ module _ (unit : UnitPlace) (number : ℕ) (bytes : List ℕ) (e : Branch) (befo
   -- the word of an answer that an effect makes may come before it
   word_comes : (l : Watched) → is_word_of unit.first on.word l.address bytes ≡ true → comes unit bytes e l ≡ true
   unfolding on
-  word_comes l h =
-      subst (λ ss. may_come unit l.address bytes e.word ss ≡ true) (sym split)
-      (effect_comes unit l.address bytes e.word before s after open_ h)
+  word_comes l h = grind (arith, l.address, effect_comes)
 
   hopes_before : (l : Watched) → hopes unit number bytes on (with_word e.word l) ≡ true → hopes unit number bytes e l ≡ true
-  hopes_before l h =
-      let is : Word → Bool = λ w. is_word_of unit.first w l.address bytes in
-      let have = may_have unit bytes e l in
-      let may = comes unit bytes e l in
-      let done = or_right _ _ in
-      elim (or_cases _
-      _ h) [
-        | inl t ↦ or_left _ _ t
-        | inr a ↦ elim (or_cases _ _ a) [
-          | inr c ↦ done (or_right have may (all_come l c))
-          | inl b ↦ elim (or_cases _ _ b) [
-            | inl c ↦ done (or_right have may (word_comes l c))
-            | inr c ↦ done (or_left have may c)
-          ]
-        ]
-      ]
+  hopes_before l h = grind (arith, l.address, or_right, or_cases, or_left, all_come, word_comes)
 
   pub hope_before : has_hope unit number bytes (effect_of e before s after) ≡ true → has_hope unit number bytes e ≡ true
   unfolding on
-  hope_before h =
-      all_weaker (λ l. hopes unit number bytes (effect_of e before s after) (with_word e.word l))
-      _ hopes_before e.loads
-      (sym (list_all-map (hopes unit number bytes (effect_of e before s after)) (with_word e.word) e.loads) ∙ h)
+  hope_before h = grind (arith, all_weaker, hopes_before, list_all-map)
 
 -- All loads. ----
 
@@ -161,7 +126,7 @@ answer_hopes unit number bytes e h =
     all_weaker (λ l. not _ || may_have unit bytes e l) _ weaker e.loads h
   where
     weaker : (l : Watched) → (not (is_watched number l) || may_have unit bytes e l) ≡ true → hopes unit number bytes e l ≡ true
-    weaker l t = elim (or_cases _ (may_have unit bytes e l) t) [
+    weaker l t = elim (or_cases _ _ t) [
       | inl a ↦ or_left (not (is_watched number l)) _ a
       | inr b ↦ or_right (not (is_watched number l)) _ (or_left (may_have unit bytes e l) (comes unit bytes e l) b)
     ]
@@ -178,7 +143,7 @@ hope_leads unit number bytes {e} {m} g (later before s after split open_ r) =
 -- the word that stands there may come to be one of an answer if it is one
 pub word_may_come : (unit : UnitPlace) (address : ℕ) (bytes : List ℕ) (word : Word) (stores : List OpenStore)
     → is_word_of unit.first word address bytes ≡ true → may_come unit address bytes word stores ≡ true
-word_may_come unit address bytes word stores h = grind (arith, always_all, or_left, word_lane, unit.first)
+word_may_come unit address bytes word stores h = grind (arith, always_all, or_left, word_lane)
 
 all_found : (p q : Watched → Bool) (ls : List Watched) (l : Watched) → list_all p ls ≡ true → find q ls ≡ Some l
     → (p l ≡ true) × (q l ≡ true)

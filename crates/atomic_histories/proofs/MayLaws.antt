@@ -133,7 +133,7 @@ same_word unit w a bs cs lanes same h = lane_word unit.first w a cs (λ j. lane 
   where
     lane : (j : ℕ) (x : Option ℕ) → lane_of j w ≡ x → is_as_it_stood (lane_of j w) (byte_for a cs (unit.first + j)) ≡ true
     lane j None e = rw e refl
-    lane j (Some b) e = grind (arith, word_lane, unit.first)
+    lane j _ e = grind (arith, word_lane, unit.first)
 
 -- a load that may be answered so may be answered with the same bytes in the unit
 same_lets : (unit : UnitPlace) (number a : ℕ) (bs cs : List ℕ)
@@ -159,9 +159,9 @@ same_for size k address bs cs same j l = elim (cases_lt _ address) [
   | inl below ↦ rw (lt-leb address (k * size + j) below) refl
   | inr above ↦
       let at : address + (k * size + j - address) ≡ k * size + j = omega arith in
-      let e : slice_get bs (k * size + j - address) ≡ slice_get cs (k * size + j - address) =
-      same (k * size + j - address) (cc (at, div-mul-add k size j l)) in
-      rw (le-leb address (k * size + j) above) e
+      let e : slice_get bs _ ≡ slice_get cs _ =
+      same _ (cc (at, div-mul-add k size j l)) in
+      rw (le-leb address _ above) e
 ]
 
 pub byte_inside : (a : ℕ) (bs : List ℕ) (i : ℕ) → byte_for a bs (a + i) ≡ slice_get bs i
@@ -274,7 +274,7 @@ module _ (lost : List ℕ) (image : List ℕ) (rest : Rest) (size : ℕ) (histor
 
   load_gets : (k j b : ℕ) (answer : List ℕ) → byte_for o.address answer (k * size + j) ≡ Some b → (l : OpenLoad)
       → is_load number l ≡ true → lets (unit k) number answer l ≡ true → l.address ≡ o.address → got_byte number j b l ≡ true
-  load_gets k j b answer e l t h at = grind (arith, got_some, l.address, l.got, word_lane, and_from, shows_stood)
+  load_gets k j b answer e l t h at = grind (arith, got_some, word_lane, and_from, shows_stood)
 
   gets_at : (k j b : ℕ) (answer : Bor (List ℕ)) → byte_for o.address answer.now (k * size + j) ≡ Some b → is_of (unit k) o ≡ true
       → IsAtomicAt image rest (unit k) (more answer) → MayGet image rest history (unit k) number j b
@@ -406,7 +406,7 @@ module _ (lost : List ℕ) (image : List ℕ) (rest : Rest) (size : ℕ) (histor
       | inl t ↦ rw t small
       | inr f ↦
           let a = o.address + x in
-          let c = chosen _ in rw f (is_small (lane_of (a % size) c.0) (λ d e. (c.1 (a % size) d e).1))
+          let c = chosen _ in rw f (is_small _ (λ d e. (c.1 (a % size) d e).1))
     ]
 
     are_bytes : All IsByte answer
@@ -448,18 +448,18 @@ module _ (lost : List ℕ) (image : List ℕ) (rest : Rest) (size : ℕ) (histor
         ap (λ y. is_as_it_stood y (byte_for o.address answer (k * size + j))) e
         ∙ elim (cases_lt _ o.address) [
           | inl below ↦ rw (lt-leb o.address (k * size + j) below) refl
-          | inr above ↦ elim (cases_lt (k * size + j - o.address) o.length) [
+          | inr above ↦ elim (cases_lt _ o.length) [
             | inr past ↦
-                let none : slice_get answer (k * size + j - o.address) ≡ None =
-                slice_get_past answer (k * size + j - o.address) (rw (sym is_long) at past) in
-                let all : byte_for o.address answer (k * size + j) ≡ None = rw (le-leb o.address (k * size + j) above) none in
+                let none : slice_get answer _ ≡ None =
+                slice_get_past answer _ (rw (sym is_long) at past) in
+                let all : byte_for o.address answer _ ≡ None = rw (le-leb o.address _ above) none in
                 ap (is_as_it_stood (Some c)) all
             | inl within ↦
                 let x : ℕ = k * size + j - o.address in
                 let place : o.address + (k * size + j - o.address) ≡ k * size + j = omega arith in
-                let all : byte_for o.address answer (k * size + j) ≡ Some (byte_at (k * size + j - o.address)) =
-                rw (le-leb o.address (k * size + j) above) (at_place (k * size + j - o.address) within) in
-                ap (is_as_it_stood (Some c)) all ∙ agrees k j c (k * size + j - o.address) ((chosen k).1 j c e).0 e place
+                let all : byte_for o.address answer _ ≡ Some _ =
+                rw (le-leb o.address _ above) (at_place (k * size + j - o.address) within) in
+                ap (is_as_it_stood (Some c)) all ∙ agrees k j c _ ((chosen k).1 j c e).0 e place
           ]
         ]
 

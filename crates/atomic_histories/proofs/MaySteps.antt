@@ -1,6 +1,6 @@
 -- Steps towards what an open load may return: the sets of its bytes one after the other, and why there are none.
 use Rattle.std.proofs.Common.{◌≡◌, ℕ, zero, suc, ◌+◌, ◌-◌, ◌/◌, ◌%◌, ◌<◌, List, [], ◌∷◌, ◌++◌, length}
-use Rattle.std.proofs.Common.{Option, None, refl, ◌∙◌, arith, Some, false, is_some}
+use Rattle.std.proofs.Common.{Option, None, refl, ◌∙◌, arith, Some, false}
 use Rattle.std.specs.List.{find}
 use Rattle.std.proofs.lemmas.Bool.{lt-ltb}
 use Rattle.memory_histories.specs.declared.sets.ByteSet.{ByteSet}
@@ -69,14 +69,14 @@ untouched_narrow (Some u) image rest unit limit number h = cc
 
 pub forgotten_narrow : (limit number : ℕ) (ss : List Stretch) (ps : List FollowedPair) (loads : List WatchedLoad) (moment : ℕ)
     → length ps ≡ 0 → is_wide_for limit number (record { loads = loads; moment = moment; pairs = shown_all ss ps }) ≡ false
-forgotten_narrow limit number ss [] loads moment h = and-false (is_some (find (is_under number) loads))
+forgotten_narrow limit number ss [] loads moment h = and-false _
 forgotten_narrow limit number ss (p ∷ ps) loads moment h = absurd (omega arith)
 
 pub unknown_narrow : (limit number : ℕ) (u : Ways) → find (is_under number) u.loads ≡ None → is_wide_for limit number u ≡ false
 unknown_narrow limit number u f = rw f refl
 
 pub known_narrow : (limit number : ℕ) (u : Ways) → is_reach_wide limit u ≡ false → is_wide_for limit number u ≡ false
-known_narrow limit number u f = rw f (and-false (is_some (find (is_under number) u.loads)))
+known_narrow limit number u f = grind arith
 
 pub narrow_more : (limit : ℕ) (h : Held) (number a n : ℕ) → AreNarrow limit h number a n
     → is_wide_at limit h number (address_of a n) ≡ false → AreNarrow limit h number a (n + 1)

@@ -34,7 +34,7 @@ nowhere p xs d e k h = elim (cases_Bool (nat_lt (position_or_len p xs) (length x
       let x : position p xs ≡ Some _ = rw t refl in
       let y : None ≡ Some (position_or_len p xs) = e ∙ x in
       cc
-  | inr l ↦ fails_before_first p xs k d (omega (arith, ltb-false (position_or_len p xs) (length xs) l, h))
+  | inr l ↦ fails_before_first p xs k d (omega (arith, ltb-false _ _ l, h))
 ]
 
 -- Pairs that are put to others. ----

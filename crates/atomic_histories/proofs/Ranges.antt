@@ -1,8 +1,8 @@
 -- The units that bytes lie in, and steps of the loops over units.
 use Rattle.std.proofs.Common.{◌≡◌, ℕ, zero, suc, ◌+◌, ◌-◌, ◌*◌, ◌/◌, ◌<◌, ◌≤◌, true, false, ◌&&◌, ◌||◌, ◌==◌, if◌then◌else◌}
 use Rattle.std.proofs.Common.{nat_lt, nat_le, List, [], ◌∷◌, ◌++◌, map, length, Option, None, Some, inl, inr, refl, sym, ap, ◌∙◌}
-use Rattle.std.proofs.Common.{ne_eqb, eq-eqb, append_assoc, ltb-true, arith, ◌⊎◌, Result, Ok, Err, IfErr, OnOk, subst}
-use Rattle.std.proofs.lemmas.Bool.{cases_Bool, cases_eq, cases_lt, and_from, and_parts, or_cases, or_left, or_right}
+use Rattle.std.proofs.Common.{ne_eqb, eq-eqb, append_assoc, arith, ◌⊎◌, Result, IfErr, OnOk}
+use Rattle.std.proofs.lemmas.Bool.{cases_Bool, cases_eq, cases_lt, and_from, or_left, or_right}
 use Rattle.std.proofs.lemmas.Bool.{lt-ltb, le-ltb, lt-leb, le-leb}
 use Rattle.std.proofs.lemmas.List.{map-append}
 use Rattle.memory_histories.specs.declared.events.HistoryEvent.{HistoryEvent}
@@ -86,9 +86,9 @@ halt_here limit h event k (suc n) l t = rw t refl
 pub wide_cases : (limit : ℕ) (unit : UnitPlace) (words : ℕ) (u : Ways) (event : HistoryEvent) → is_too_wide limit unit words u event ≡ true
     → (MOST_WORDS < words) ⊎ (needs_too_many limit unit u event ≡ true)
 wide_cases limit unit words u (LoadRequest number address n) t = cc
-wide_cases limit unit words u (LoadResponse number bytes) t = grind (arith, or_cases, and_parts, ltb-true)
+wide_cases limit unit words u (LoadResponse number bytes) t = grind arith
 wide_cases limit unit words u (StoreRequest number address bytes enables) t = cc
-wide_cases limit unit words u (StoreResponse number) t = grind (arith, or_cases, and_parts, ltb-true)
+wide_cases limit unit words u (StoreResponse number) t = grind arith
 
 pub halt_at : (fault : AtomicFault) (limit : ℕ) (h : Held) (event : HistoryEvent) (from count j : ℕ) → j < count
     → halt_from limit h event (from + j) (count - j) ≡ halt_from limit h event from count → AreFew h event from (from + j)
@@ -99,7 +99,7 @@ halt_at (Refused cause) limit h event from count j l same few f = (
   sym same ∙ halt_here limit h event _ _ (omega arith) (or_left _ _ f.0),
   f.2,
   f.1,
-  few_more h event from (from + j) _ refl few f.3,
+  few_more h event from _ _ refl few f.3,
 )
 halt_at (Undecided address) limit h event from count j l same few f = (
   from + j,
@@ -107,7 +107,7 @@ halt_at (Undecided address) limit h event from count j l same few f = (
   omega arith,
   f.0,
   f.1,
-  elim (wide_cases limit (unit_at h.size (from + j)) (h.words (from + j)) (h.units (from + j)) event f.1) [
+  elim (wide_cases limit (unit_at h.size (from + j)) _ _ event f.1) [
     | inl many ↦ inr many
     | inr over ↦ inl (sym same ∙ halt_here limit h event _ _ (omega arith) (or_right _ _ over), over)
   ],
@@ -120,18 +120,7 @@ pub told_from : {A : Type 0} (r : Result A AtomicFault) (limit : ℕ) (h : Held)
     → (address, length) ≡ covered h.opened event → from ≡ address / h.size → count ≡ units_of h.size address length
     → form_fault h.opened event ≡ None → OnOk r (halt_from limit h event from count ≡ None)
     → OnOk r (AreFew h event from (from + count)) → IfErr r (HaltIs limit h event from count) → IsToldOf limit h event (result_err r)
-told_from r limit h event from count address length at_ here many formed = told r
-  where
-    there : (P : ℕ → ℕ → Type 0) → P from count → P ((covered h.opened event).0 / h.size)
-        (units_of h.size (covered h.opened event).0 (covered h.opened event).1)
-    there P p =
-        subst (λ (a : ℕ × ℕ). P (a.0 / h.size) (units_of h.size a.0 a.1)) at_
-        (subst (λ k. P k (units_of h.size address length)) here (subst (P from) many p))
-
-    told : {A : Type 0} (r : Result A AtomicFault) → OnOk r (halt_from limit h event from count ≡ None)
-        → OnOk r (AreFew h event from (from + count)) → IfErr r (HaltIs limit h event from count) → IsToldOf limit h event (result_err r)
-    told (Ok x) halt few e = (formed, (there (λ k n. halt_from limit h event k n ≡ None) halt, there (λ k n. AreFew h event k (k + n)) few))
-    told (Err x) halt few e = inr (formed, there (λ k n. HaltIs limit h event k n x) e)
+told_from r limit h event from count address length at_ here many formed = grind arith
 
 -- Units that are put one by one, the last first. ----
 
@@ -191,7 +180,7 @@ pub taken_unit : (h : Held) (event : HistoryEvent) (f g : ℕ → Option KeptUni
     → map shown_unit us ≡ ways_from h event ((covered h.opened event).0 / h.size)
     (units_of h.size (covered h.opened event).0 (covered h.opened event).1)
     → kept_or (f k) d ≡ h.units k → kept_or (g k) d ≡ unit_after h event k
-taken_unit h event f g d from us k put same e kept = grind (arith, h.opened, h.size, put_shown)
+taken_unit h event f g d from us k put same e kept = grind (arith, put_shown)
 
 pub forgotten_unit : (f : ℕ → Option KeptUnit) (d : Ways) (number k : ℕ) (u : KeptUnit) → shown_unit u ≡ no_ways
     → kept_or (put_from f number (u ∷ []) k) d ≡ (if number == k then no_ways else kept_or (f k) d)

@@ -129,7 +129,7 @@ past_shows is since (after w t p) h = elim (or_cases _ _ h) [
       | inl s ↦ rw s (or_right (is w) (list_any is (seen_since since path)) y)
       | inr s ↦ rw s y
     ]
-past_shows is since (either p q) h = elim (or_cases (shows is since p) (shows is since q) h) [
+past_shows is since (either p q) h = elim (or_cases _ _ h) [
   | inl y ↦ let r = past_shows is since p y in (r.0, inl r.1, r.2)
   | inr y ↦ let r = past_shows is since q y in (r.0, inr r.1, r.2)
 ]
@@ -196,7 +196,7 @@ module _ (loads : List WatchedLoad) (moment : ℕ) (asked : Each (IsAsked moment
         let r = past_shows is l.since e.past y in (
           r.0,
           r.1,
-          found_any (shows_load number k b (way_on loads e r.0)) (map (watched r.0) loads) (watched r.0 l) (is_watched number)
+          found_any _ _ (watched r.0 l) (is_watched number)
               (find_watched number r.0 loads l open_)
               (and_from (is_watched number (watched r.0 l)) _ (found_is (is_under number) loads l open_)
               (or_right (is e.word) (list_any is (seen_since l.since r.0)) r.2)),
@@ -246,8 +246,8 @@ module _ (loads : List WatchedLoad) (moment : ℕ) (asked : Each (IsAsked moment
               let same = a.0 p.0 in
               let there =
               ap (λ y. is e.word || list_any is (seen_since y.since path)) (sym same) ∙ p.1 in
-              elim (or_cases _ (list_any is (seen_since l.since path)) there) [
-                | inl y ↦ or_left (is e.word) (shows is l.since e.past) y
+              elim (or_cases _ _ there) [
+                | inl y ↦ or_left _ (shows is l.since e.past) y
                 | inr y ↦ or_right (is e.word) (shows is l.since e.past) (shows_past is l.since e.past path has y)
               ]
         ]

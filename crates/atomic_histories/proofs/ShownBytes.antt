@@ -59,11 +59,11 @@ module _ (since k b : ℕ) (l : b < 256) where
       → has (stretch_set since k sets s) b ≡ shows is since (past_of ps s)
   one_agrees sets ps a (Overwritten word moment before) = elim (cases_Bool (nat_le since moment)) [
     | inl t ↦ rw t (has_lane _ _ b l
-        ∙ (cc (agree_of sets ps a before, or_comm _ (is word))))
+        ∙ (cc (agree_of sets ps a before, or_comm _ _)))
     | inr f ↦ rw f (agree_of sets ps a before)
   ]
   one_agrees sets ps a (Either one other) =
-      has-union (set_of sets one) (set_of sets other) b
+      has-union _ _ b
       ∙ (cc (agree_of sets ps a one, agree_of sets ps a other))
 
   all_agree : (sets : List ByteSet) (ps : List Past) → Agree sets ps → (ss : List Stretch)
@@ -91,7 +91,7 @@ module _ (since k b : ℕ) (l : b < 256) where
   pairs_bytes ss set [] = sym (or-false (has set b))
   pairs_bytes ss set (p ∷ ps) =
       pairs_bytes ss (with_pair_bytes k (stretch_sets since k ss) set p) ps
-      ∙ (cc (pair_bytes ss set p, or_assoc _ (shows_byte since k b (shown ss p)) (list_any (shows_byte since k b) (shown_all ss ps))))
+      ∙ (cc (pair_bytes ss set p, or_assoc _ _ _))
 
 -- the set of what a load since a moment may have got on the ways to some pairs
 pub pairs_shown : (since k : ℕ) (ss : List Stretch) (ps : List FollowedPair)

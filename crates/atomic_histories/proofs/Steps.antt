@@ -42,7 +42,7 @@ leads_on {e} {m} n (now o) (inl (before, s, after, split, open_, made)) =
     subst (λ x. Leads e x) (sym made) (later before s after (o.stores ∙ split) open_ (now on))
 leads_on {e} {m} n (now o) (inr (before, l, after, split, open_, made)) =
     let h = subst (λ x. AreWatched e.word e.loads x) split o.loads in
-    let t : AreWatched e.word e.loads _ =
+    let t =
     subst (λ x. AreWatched e.word e.loads (before ++ done_load x l ∷ after)) o.word (load_took e.word e.loads before l after h) in
     let on : IsOn e (record { word = m.word; stores = m.stores; loads = before ++ done_load _ l ∷ after }) =
     record { word = o.word; stores = o.stores; loads = t } in

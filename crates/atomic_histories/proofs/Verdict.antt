@@ -59,7 +59,7 @@ answer_never (Some o) n place h = length_never _ place h
 
 never_wrong : (o : Opened) (event : HistoryEvent) (place : ℕ) → form_fault o event ≡ Some (WrongByte place) → ⊥
 never_wrong o (LoadRequest number address n) place h = load_never _ _ place h
-never_wrong o (LoadResponse number bytes) place h = answer_never (find (has_number number) o.loads) (length bytes.now) place h
+never_wrong o (LoadResponse number bytes) place h = answer_never _ (length bytes.now) place h
 never_wrong o (StoreRequest number address bytes enables) place h =
     store_never (is_inside address (length bytes.now)) (has_enabled bytes.now enables) (list_any (has_number number) o.stores) place h
 never_wrong o (StoreResponse number) place h = response_never (list_any (has_number number) o.stores) place h
@@ -94,7 +94,7 @@ wrong lost limit h (LoadResponse number bytes) k f e few history s =
     let event = LoadResponse number bytes in
     let r = refused_at h lost history event s f limit k e few in
     let same = ap (λ o. form_fault o event) (sym s.opened) ∙ f in
-    let o = open_load (find (has_number number) h.opened.loads) (length bytes.now) f in
+    let o = open_load _ _ f in
     let found =
     ap (λ x. find (has_number number) x.loads) (sym s.opened) ∙ o.1 in
     let place = ap (λ x. place_from x (k * h.size)) o.1 in

@@ -129,7 +129,7 @@ finish P closed loads before (s ∷ after) w d p = elim (cases_Bool s.is_done) [
   | inr f ↦
       let q : P (record { word = written s.bytes w; stores = before ++ done_store s ∷ after; loads = loads }) =
       closed (record { word = w; stores = before ++ s ∷ after; loads = loads }) _ p (inl (before, s, after, refl, f, refl)) in
-      finish P closed loads (before ++ done_store s ∷ []) after (written s.bytes w) (done_more before (done_store s) d refl)
+      finish P closed loads _ after (written s.bytes w) (done_more before (done_store s) d refl)
       (rw (sym (append_assoc before (done_store s ∷ []) after)) at q)
 ]
 
@@ -190,7 +190,7 @@ pub stuck_some : (limit : ℕ) (h : Held) (event : HistoryEvent) (k n i : ℕ) �
     → is_over_at limit h event i ≡ false
     → (is_stuck h event i ≡ true) × ((j : ℕ) → k ≤ j → j < i → is_stuck h event j ≡ false)
 stuck_some limit h event k zero i e few = cc
-stuck_some limit h event k (suc n) i e few = elim (cases_Bool (is_stuck h event k || is_over_at limit h event k)) [
+stuck_some limit h event k (suc n) i e few = elim (cases_Bool _) [
   | inl t ↦
       let x : Some k ≡ Some i = rw t at e in
       let same : k ≡ i = cc in
@@ -292,7 +292,7 @@ module _ (h : Held) (lost : List ℕ) (history : List HistoryEvent) (event : His
 
   touched : (k : ℕ) → Stands h.image h.rest history (unit_at h.size k) (h.units k) → has_way (h.units k) ≡ true → Now k (changed h event k)
   touched k a way =
-      stands_after _ _ (h.units k) history event
+      stands_after _ _ _ history event
       (alone_for h.image h.rest (unit_at h.size k) history event (h.units k) s.formed formless a way) a
 
   range : (k : ℕ) → is_among h.size (covered h.opened event) k ≡ true → (first ≤ k) × (k < first + count)

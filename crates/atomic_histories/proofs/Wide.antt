@@ -1,6 +1,6 @@
 -- Where a search would follow more pairs than the limit, the unit may be in as many states that differ.
 use Rattle.std.proofs.Common.{◌≡◌, ℕ, zero, suc, ltb-true, ◌/◌, ◌<◌, ◌⊎◌, true, false, nat_lt, List, [], ◌∷◌, map, length}
-use Rattle.std.proofs.Common.{Option, Some, None, inl, inr, refl, sym, ap, ◌∙◌, subst, arith}
+use Rattle.std.proofs.Common.{Option, Some, None, inl, inr, refl, sym, ◌∙◌, subst, arith}
 use Rattle.std.specs.List.{find}
 use Rattle.std.proofs.Math.Nat.{mul-div_cancel}
 use Rattle.std.proofs.lemmas.List.{length-map}
@@ -133,7 +133,7 @@ module _ (image : List ℕ) (rest : Rest) (unit : UnitPlace) (history : List His
 
   pub much_at : (limit : ℕ) (event : HistoryEvent) → needs_too_many limit unit u event ≡ true → MayBeMany limit image rest unit history
   much_at limit (LoadRequest number address n) t = cc
-  much_at limit (LoadResponse number bytes) t = load_much limit number bytes.now (find (is_under number) u.loads) refl t
+  much_at limit (LoadResponse number bytes) t = load_much limit number bytes.now _ refl t
   much_at limit (StoreRequest number address bytes enables) t = cc
   much_at limit (StoreResponse number) t = store_much limit number t
 
@@ -160,19 +160,16 @@ no_store limit number loads moment es h = grind arith
 no_way_over : (limit : ℕ) (unit : UnitPlace) (u : Ways) (event : HistoryEvent) → has_way u ≡ false
     → needs_too_many limit unit u event ≡ false
 no_way_over limit unit u (LoadRequest number address n) h = refl
-no_way_over limit unit u (LoadResponse number bytes) h =
-    no_load limit unit bytes.now (find (is_under number) u.loads) u.loads u.moment u.pairs (no_pair u.pairs h)
+no_way_over limit unit u (LoadResponse number bytes) h = grind arith
 no_way_over limit unit u (StoreRequest number address bytes enables) h = refl
-no_way_over limit unit u (StoreResponse number) h = no_store limit number u.loads u.moment u.pairs (no_pair u.pairs h)
+no_way_over limit unit u (StoreResponse number) h = grind arith
 
 no_way_wide : (limit : ℕ) (unit : UnitPlace) (words : ℕ) (u : Ways) (event : HistoryEvent) → has_way u ≡ false
     → is_too_wide limit unit words u event ≡ false
 no_way_wide limit unit words u (LoadRequest number address n) h = refl
-no_way_wide limit unit words u (LoadResponse number bytes) h =
-    let none = no_way_over limit unit u (LoadResponse number bytes) h in grind arith
+no_way_wide limit unit words u (LoadResponse number bytes) h = grind arith
 no_way_wide limit unit words u (StoreRequest number address bytes enables) h = refl
-no_way_wide limit unit words u (StoreResponse number) h =
-    let none = no_way_over limit unit u (StoreResponse number) h in grind arith
+no_way_wide limit unit words u (StoreResponse number) h = grind arith
 
 -- All units. ----
 
@@ -182,8 +179,8 @@ module _ (limit : ℕ) (h : Held) (lost : List ℕ) (history : List HistoryEvent
 
   by_event : (k : ℕ) (event : HistoryEvent) → is_over_at limit h event k ≡ true → MayBeMany limit h.image h.rest (unit_at h.size k) history
   by_event k event t = elim (s.units k) [
-    | inl a ↦ let none = no_way_over limit (unit_at h.size k) (h.units k) event a.1 in let x = sym t ∙ none in cc
-    | inr a ↦ much_at h.image h.rest (unit_at h.size k) history (h.units k) a.1.0 limit event t
+    | inl a ↦ let none = no_way_over limit (unit_at h.size k) _ event a.1 in let x = sym t ∙ none in cc
+    | inr a ↦ much_at h.image h.rest _ history _ a.1.0 limit event t
   ]
 
   by_reach : (k : ℕ) → is_reach_wide limit (h.units k) ≡ true → MayBeMany limit h.image h.rest (unit_at h.size k) history
@@ -194,11 +191,11 @@ module _ (limit : ℕ) (h : Held) (lost : List ℕ) (history : List HistoryEvent
         (sym (no_pair (h.units k).pairs a.1)) refl in
         let x = sym t ∙ none in
         cc
-    | inr a ↦ reach_much h.image h.rest (unit_at h.size k) history (h.units k) a.1.0 limit t
+    | inr a ↦ reach_much h.image h.rest _ history _ a.1.0 limit t
   ]
 
   wide_much : (k : ℕ) (event : HistoryEvent) → is_too_wide limit (unit_at h.size k) (h.words k) (h.units k) event ≡ true → Much k
-  wide_much k event t = elim (wide_cases limit (unit_at h.size k) (h.words k) (h.units k) event t) [
+  wide_much k event t = elim (wide_cases limit (unit_at h.size k) _ _ event t) [
     | inl y ↦ inl y
     | inr y ↦ inr (by_event k event y)
   ]
@@ -206,13 +203,7 @@ module _ (limit : ℕ) (h : Held) (lost : List ℕ) (history : List HistoryEvent
 -- the unit for whose sake an event is undecided was not forgotten
 pub wide_kept : (limit : ℕ) (h : Held) (lost : List ℕ) (history : List HistoryEvent) (event : HistoryEvent) (address : ℕ)
     → StandsBut h lost history → IsWide limit h event address → is_lost (address / h.size) lost ≡ false
-wide_kept limit h lost history event address s w =
-    let number : address / h.size ≡ w.0 = ap (λ a. a / h.size) w.3 ∙ mul-div_cancel w.0 s.sized in
-    subst (λ k. is_lost k lost ≡ false) (sym number) (elim (s.units w.0) [
-      | inl a ↦ let none = no_way_wide limit (unit_at h.size w.0) (h.words w.0) (h.units w.0) event a.1 in
-          let wide = w.4 in cc
-      | inr a ↦ a.0
-    ])
+wide_kept limit h lost history event address s w = grind (arith, h.size, mul-div_cancel, s.sized, s.units, no_way_wide, h.words, h.units)
 
 pub undecided_much : (limit : ℕ) (h : Held) (lost : List ℕ) (history : List HistoryEvent) (event : HistoryEvent) (address : ℕ)
     → UndecidedIsMuch limit h lost history event address

@@ -12,8 +12,8 @@ parts : (c : After-as_slice)
     → AreParts c.args.unit c.args.bytes.now c.args.load.now c.split_stretches.new.stretches.items c.in_ok-split.split
     c.args.kept.now.pairs.items
 parts c =
-    are_parts c.args.unit c.args.bytes.now c.args.load.now c.args.kept.now.stretches.items c.split_stretches.new.stretches.items
-    c.in_ok-split.split c.in_ok-split.ensures.grows c.in_ok-split.ensures.got c.in_ok-split.ensures.missed c.args.kept.now.pairs.items
+    are_parts _ _ _ _ _
+    c.in_ok-split.split c.in_ok-split.ensures.grows c.in_ok-split.ensures.got c.in_ok-split.ensures.missed _
     c.requires
 
 pub search-requires-clause-found : goal.search-requires-clause-found

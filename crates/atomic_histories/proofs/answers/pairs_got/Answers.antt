@@ -1,8 +1,7 @@
 use Rattle.std.proofs.Common.{◌<◌, [], length, arith}
-use Rattle.atomic_histories.specs.Followed.{cons_any, gathered, pair_got, pair_on}
+use Rattle.atomic_histories.specs.Followed.{cons_any, pair_got}
 use Rattle.atomic_histories.specs.Parts.{IsPart}
-use Rattle.atomic_histories.specs.Shares.{past_any}
-use Rattle.atomic_histories.specs.Shown.{pasts, shown, shown_all}
+use Rattle.atomic_histories.specs.Shown.{shown}
 use Rattle.std.proofs.Common.{ap, subst, sym}
 use Rattle.atomic_histories.proofs.Lists.{each_nth}
 use Rattle.atomic_histories.proofs.Parts.{part_more, got_step}
@@ -24,9 +23,9 @@ loop-pair-preserved c =
           let part =
           subst (IsPart unit bytes load ss split) (sym c.pair-item.is)
           (each_nth (IsPart unit bytes load ss split) pairs i pair below parts) in
-          part_more (gathered f) (λ e. cons_any (f e) []) (got_step f) ss pairs i pair (shown_all ss c.loop-pair.parts.items)
-          (cons_any (pair_on (shown ss pair) (past_any (pasts ss) c.past_got-past.result)) []) (shown_all ss c.add_part.new.parts.items)
-          (gathered f (shown_all ss pairs)) below c.pair-item.is (c.in_ok-add_part.ensures.shown ss)
+          part_more _ (λ e. cons_any (f e) []) (got_step f) ss pairs i pair _
+          _ _
+          _ below c.pair-item.is (c.in_ok-add_part.ensures.shown ss)
           (ap (λ x. cons_any x []) (c.past_got-past.ensures.pair ss part)) (c.loop-pair.invariant.shown ss parts);
       are_in = λ ss parts.
           let part =

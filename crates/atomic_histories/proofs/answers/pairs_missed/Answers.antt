@@ -1,8 +1,7 @@
-use Rattle.std.proofs.Common.{◌<◌, [], length, filter, sym, subst, arith}
-use Rattle.atomic_histories.specs.Followed.{cons_any, gathered, pair_missed, pair_on, with_hope, word_aim}
+use Rattle.std.proofs.Common.{◌<◌, length, filter, sym, subst, arith}
+use Rattle.atomic_histories.specs.Followed.{pair_missed, with_hope, word_aim}
 use Rattle.atomic_histories.specs.Parts.{IsPart}
-use Rattle.atomic_histories.specs.Shares.{past_any}
-use Rattle.atomic_histories.specs.Shown.{pasts, shown, shown_all}
+use Rattle.atomic_histories.specs.Shown.{shown}
 use Rattle.atomic_histories.proofs.Lists.{each_nth}
 use Rattle.atomic_histories.proofs.Parts.{part_more, missed_step}
 use Rattle.atomic_histories.proofs.answers.pairs_missed.Goals as goal
@@ -24,10 +23,10 @@ loop-pair-preserved c =
           let part =
           subst (IsPart unit bytes load ss split) (sym c.pair-item.is)
           (each_nth (IsPart unit bytes load ss split) pairs i pair below parts) in
-          part_more (λ es. with_hope aim (gathered f es)) (λ e. filter aim.hope (cons_any (f e) [])) (missed_step aim f) ss pairs i pair
-          (shown_all ss c.loop-pair.parts.items)
-          (cons_any (pair_on (shown ss pair) (past_any (pasts ss) c.past_missed-past.result)) []) (shown_all ss c.add_part.new.parts.items)
-          (with_hope aim (gathered f (shown_all ss pairs))) below c.pair-item.is (c.in_ok-add_part.ensures.shown ss)
+          part_more (λ es. with_hope aim _) (λ e. filter aim.hope _) (missed_step aim f) ss pairs i pair
+          _
+          _ _
+          _ below c.pair-item.is (c.in_ok-add_part.ensures.shown ss)
           (c.past_missed-past.ensures.pair ss part) (c.loop-pair.invariant.shown ss parts);
       are_in = λ ss parts.
           let part =

@@ -4,10 +4,10 @@ use Rattle.atomic_histories.proofs.answers.past_missed.Goals as goal
 
 pub returns-then-hopes-clause-pair : goal.returns-then-hopes-clause-pair
 returns-then-hopes-clause-pair c = λ ss part.
-    missed_part c.args.unit c.args.bytes.now c.args.load.now ss c.args.split.now c.args.pair.now c.missed.result part c.missed.ensures
+    missed_part _ _ _ ss _ _ _ part c.missed.ensures
     (sym c.is_word_of.ensures ∙ c.if-is_word_of.false) (sym (c.hopes.ensures ss) ∙ c.if-hopes.true)
 
 pub returns-else-hopes-clause-pair : goal.returns-else-hopes-clause-pair
 returns-else-hopes-clause-pair c = λ ss part.
-    lost_part c.args.unit c.args.bytes.now c.args.load.now ss c.args.pair.now
+    lost_part c.args.unit _ c.args.load.now ss c.args.pair.now
     (sym c.is_word_of.ensures ∙ c.if-is_word_of.false) (sym (c.hopes.ensures ss) ∙ c.if-hopes.false)

@@ -1,6 +1,6 @@
 use Rattle.std.proofs.Common.{subst}
-use Rattle.atomic_histories.specs.Followed.{Ways, is_too_wide}
-use Rattle.atomic_histories.specs.Shown.{shown_unit, StopIs, words_in}
+use Rattle.atomic_histories.specs.Followed.{is_too_wide}
+use Rattle.atomic_histories.specs.Shown.{StopIs, words_in}
 use Rattle.atomic_histories.proofs.Parts.{pass_on}
 use Rattle.atomic_histories.proofs.answers.ways_after.Goals as goal
 
@@ -9,7 +9,7 @@ returns-in_err-follow-clause-stop c =
     let u = c.args.kept.now in
     let words = words_in u.stretches.items in
     let stop = c.in_err-follow.field-0.0 in
-    pass_on c.from_residual-in_err-follow.result stop (StopIs (is_too_wide c.args.limit c.args.unit words (shown_unit u) c.args.event))
+    pass_on c.from_residual-in_err-follow.result stop _
     c.from_residual-in_err-follow.ensures.1
-    (subst (λ (w : Ways). StopIs (is_too_wide c.args.limit c.args.unit words w c.args.event) stop) c.in_ok-after.ensures.same
+    (subst (λ w. StopIs (is_too_wide c.args.limit c.args.unit words w c.args.event) stop) c.in_ok-after.ensures.same
     (c.in_err-follow.ensures.stop words))

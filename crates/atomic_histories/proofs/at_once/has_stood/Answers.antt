@@ -1,10 +1,8 @@
-use Rattle.std.proofs.Common.{◌≡◌, take, sym, ◌∙◌, arith, []}
-use Rattle.atomic_histories.specs.declared.stretches.Before.TheVariants.{Nothing}
-use Rattle.atomic_histories.specs.declared.stretches.Stretch.TheVariants.{Overwritten}
+use Rattle.std.proofs.Common.{◌≡◌, take, sym, ◌∙◌, arith}
 use Rattle.atomic_histories.specs.Pasts.{after}
 use Rattle.atomic_histories.specs.Followed.{is_answer}
 use Rattle.atomic_histories.specs.Shown.{past_at, pasts}
-use Rattle.atomic_histories.proofs.AtOnce.{stood_at, got_here, got_later, missed_here, missed_later}
+use Rattle.atomic_histories.proofs.AtOnce.{stood_at, got_here, missed_here, missed_later}
 use Rattle.atomic_histories.proofs.at_once.has_stood.Goals.{After-is_answer}
 use Rattle.atomic_histories.proofs.at_once.has_stood.Goals as goal
 
@@ -12,9 +10,7 @@ use Rattle.atomic_histories.proofs.at_once.has_stood.Goals as goal
 here : (c : After-is_answer) → past_at (pasts (take c.loop-before.end c.args.stretches.now)) c.loop-before.before
     ≡ after c.in-Overwritten.word c.in-Overwritten.moment
     (past_at (pasts (take c.in-Behind.i c.args.stretches.now)) c.in-Overwritten.earlier)
-here c =
-    stood_at c.args.stretches.now c.loop-before.end c.in-Behind.i (Overwritten [] 0 Nothing) _ _ _ _ (omega (arith, c.if-i-end.false))
-    c.loop-before.invariant.within c.in-Overwritten.is c.in-Behind.is
+here c = grind (arith, stood_at, c.loop-before.end, c.in-Behind.i, c.loop-before.invariant.within, c.in-Overwritten.is)
 
 pub returns-then-is_answer-clause-got : goal.returns-then-is_answer-clause-got
 returns-then-is_answer-clause-got c = λ t. c.loop-before.invariant.got
@@ -31,11 +27,11 @@ returns-then-is_answer-clause-missed c = λ t. c.loop-before.invariant.missed
 pub loop-before-preserved : goal.loop-before-preserved
 loop-before-preserved c =
     let kept = c.loop-before.invariant in
-    let is = is_answer c.args.place c.args.load.now.address c.args.load.now.since c.args.bytes.now in
+    let is = is_answer c.args.place _ _ _ in
     let there = here (goal.at.loop-before-preserved c).After-is_answer in
     let not_ = sym c.is_answer.ensures ∙ c.if-is_answer.false in
     record {
-      got = λ g. kept.got (got_later is _ _ _ _ there not_ g);
+      got = grind arith;
       missed = λ m. kept.missed (missed_later is _ _ _ _ there not_ m);
       within = omega (arith, kept.within, c.if-i-end.false);
     }

@@ -13,10 +13,10 @@ loop-pair-preserved c =
     let below : i < length pairs = omega (arith, c.loop-pair-test.true) in
     let to = c.in_ok-same.ensures.past ∙ c.place.ensures in
     record {
-      shown = λ ss. made_more (shown ss) (λ p. shown ss (moved_pair m p)) pairs i pair same c.loop-pair.copied.items c.push.new.self.items
+      shown = λ ss. made_more _ (λ p. shown ss (moved_pair m p)) pairs i pair same c.loop-pair.copied.items _
           _ below c.in_ok-push.ensures.items
           (copied_pair ss same (moved_pair m pair) c.in_ok-same.ensures.word c.in_ok-same.ensures.stores to
           ∙ ap (λ p. shown ss (moved_pair m p)) c.pair-item.is) (c.loop-pair.invariant.shown ss);
-      are_in = λ ss h. are_in_more ss c.loop-pair.copied.items c.push.new.self.items same _ c.in_ok-push.ensures.items
+      are_in = λ ss h. are_in_more ss c.loop-pair.copied.items _ same _ c.in_ok-push.ensures.items
           to (c.loop-pair.invariant.are_in ss h) (h pair.past);
     }

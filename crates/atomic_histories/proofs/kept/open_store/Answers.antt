@@ -1,8 +1,7 @@
 use Rattle.std.proofs.Common.{◌<◌, length, get_or, ap, ◌∙◌, arith}
 use Rattle.std.specs.Prelude.{vec_len, vec_capacity}
 use Rattle.atomic_histories.specs.declared.pairs.FollowedPair.{FollowedPair}
-use Rattle.atomic_histories.specs.Followed.{pair_with_store}
-use Rattle.atomic_histories.specs.Shown.{past_at, pasts, shown}
+use Rattle.atomic_histories.specs.Shown.{past_at}
 use Rattle.atomic_histories.proofs.KeptUnits.{changed_more, all_behind}
 use Rattle.atomic_histories.proofs.kept.open_store.Goals as goal
 
@@ -16,8 +15,8 @@ loop-pair-preserved c =
     let below : i < length pairs = omega (arith, c.loop-pair-test.true, c.loop-pair.auto.pairs) in
     let kept = c.loop-pair.invariant in
     record {
-      kept = λ ss. changed_more (shown ss) (pair_with_store c.args.number c.args.bytes) pairs i next d below
-          (ap (λ stores. record { word = pair.word; stores = stores; past = past_at (pasts ss) pair.past }) c.push_reserved.ensures.items)
+      kept = λ ss. changed_more _ _ pairs i next d below
+          (ap (λ stores. record { word = pair.word; stores = stores; past = past_at _ pair.past }) c.push_reserved.ensures.items)
           ∙ kept.kept ss;
-      room = all_behind (λ (p : FollowedPair). vec_len p.stores < vec_capacity p.stores) pairs i next d below kept.room;
+      room = all_behind (λ p. vec_len p.stores < vec_capacity p.stores) pairs i next d below kept.room;
     }

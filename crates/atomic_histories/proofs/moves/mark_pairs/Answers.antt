@@ -6,6 +6,6 @@ pub loop-pair-preserved : goal.loop-pair-preserved
 loop-pair-preserved c =
     let p = c.pair-item in
     let went = c.mark.ensures in
-    let long : length c.mark.new.used ≡ length c.loop-pair.used = search rules in
-    pairs_more c.loop-pair.used c.mark.new.used c.args.pairs.now p.result c.loop-pair.pair-index (length c.loop-pair.used)
+    let long : length _ ≡ length c.loop-pair.used = search rules in
+    pairs_more c.loop-pair.used _ _ p.result c.loop-pair.pair-index _
     c.loop-pair-test.true p.is long went.stay went.marked c.loop-pair.invariant

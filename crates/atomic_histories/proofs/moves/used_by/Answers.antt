@@ -4,5 +4,5 @@ use Rattle.atomic_histories.proofs.moves.used_by.Goals as goal
 
 pub returns-clause-used : goal.returns-clause-used
 returns-clause-used c =
-    let long : length c.mark_all.new.used ≡ c.in_ok-used.used.len = search rules in
-    used_written c.mark_all.new.used c.in_ok-used.used.items c.in_ok-used.used.len c.args.pairs.now long c.mark_all.ensures.used
+    let long : length _ ≡ c.in_ok-used.used.len = search rules in
+    used_written _ c.in_ok-used.used.items c.in_ok-used.used.len _ long c.mark_all.ensures.used

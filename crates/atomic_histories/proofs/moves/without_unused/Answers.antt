@@ -1,7 +1,6 @@
 use Rattle.std.proofs.Common.{◌≡◌, ◌<◌, ◌++◌, ◌∷◌, [], true, get_or, length, refl, ap, ◌∙◌, arith}
 use Rattle.atomic_histories.specs.declared.stretches.Before.TheVariants.{Nothing}
 use Rattle.atomic_histories.specs.declared.stretches.Stretch.TheVariants.{Overwritten}
-use Rattle.atomic_histories.specs.Shares.{is_used}
 use Rattle.atomic_histories.proofs.Moving.{moved_more, moved_all, kept_law, pairs_moved}
 use Rattle.atomic_histories.proofs.Loops.{same_default}
 use Rattle.atomic_histories.proofs.moves.without_unused.Goals as goal
@@ -19,7 +18,7 @@ loop-place-preserved c =
     let flag = c.index.result.now in
     let within : i < length used = omega (arith, here, c.in_ok-used.ensures.count) in
     let stands = same_default ss i none s here in
-    moved_more (is_used used) (λ p. p) i ss s old (record { stretches = c.keep.new.self.stretches; places = c.push.new.self })
+    moved_more _ (λ p. p) i ss s old (record { stretches = c.keep.new.self.stretches; places = c.push.new.self })
     c.in_ok-moved_to.moved_to here stands refl c.loop-place.invariant went.grows
     (c.in_ok-push.ensures.items ∙ ap (λ xs. xs ++ c.in_ok-moved_to.moved_to ∷ []) went.places) went.is_in
     (λ u. went.past (c.index.ensures ∙ same_default used i flag true within ∙ u)
@@ -31,5 +30,5 @@ returns-clause-same c =
     let used = c.in_ok-used.used.items in
     let moved = c.loop-place.moved in
     let at : c.loop-place.place ≡ length ss = omega arith in
-    pairs_moved used ss moved c.args.pairs.now (moved_all (is_used used) (λ p. p) c.loop-place.place ss moved at c.loop-place.invariant)
+    pairs_moved used ss moved _ (moved_all _ (λ p. p) c.loop-place.place ss moved at c.loop-place.invariant)
     c.in_ok-used.ensures.used

@@ -3,4 +3,4 @@ use Rattle.atomic_histories.proofs.Loops.{finished}
 use Rattle.atomic_histories.proofs.pairs.finish_store.Goals as goal
 
 pub returns : goal.returns
-returns c = λ d. finished c.args.stores.now c.args.i d (record { number = 0; bytes = []; is_done = false }) c.requires
+returns c = λ d. finished _ _ d (record { number = 0; bytes = []; is_done = false }) c.requires

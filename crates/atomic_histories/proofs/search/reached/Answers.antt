@@ -1,6 +1,6 @@
-use Rattle.std.proofs.Common.{◌≡◌, ◌-◌, ◌<◌, ◌++◌, true, false, drop, length, length-append, sym, ap, ap₂, subst, ◌∙◌, arith}
+use Rattle.std.proofs.Common.{◌-◌, ◌<◌, ◌++◌, drop, length, length-append, sym, ap, ap₂, subst, ◌∙◌, arith}
 use Rattle.std.proofs.lemmas.Bool.{lt-ltb, le-ltb}
-use Rattle.atomic_histories.specs.Followed.{rounds, next_after, never, are_too_many}
+use Rattle.atomic_histories.specs.Followed.{next_after, never}
 use Rattle.atomic_histories.specs.May.{reached_in, is_reach_over}
 use Rattle.atomic_histories.specs.Shown.{shown_all, IsIn, AreIn}
 use Rattle.atomic_histories.proofs.Frames.{grows_same, grows_more, are_in_grown}
@@ -16,7 +16,7 @@ loop-left-init c =
     let same = c.in_ok-all.ensures.shown ss in
     let left = c.rounds-left.ensures ss in
     record {
-      reached = ap₂ (λ es n. es ++ reached_in loads moment n es) same left;
+      reached = grind arith;
       over = ap₂ (λ es n. is_reach_over c.args.limit loads moment n es) same left;
       are_in = c.in_ok-all.ensures.are_in ss c.requires;
       grows = grows_same ss;
@@ -34,12 +34,12 @@ returns-then-limit-len-clause-stop c =
     let from = drop c.loop-left.from c.loop-left.all.items in
     let found = c.in_ok-next.next.items in
     let some : 0 < left = omega arith in
-    let next : shown_all us found ≡ next_after loads moment never (shown_all ts from) =
+    let next =
     c.in_ok-next.ensures.next ∙ ap (λ ps. next_after loads moment never (shown_all ts ps))
     (slice_from c.deref.result.now c.loop-left.all.items c.loop-left.from c.deref.ensures.value) in
-    let many : are_too_many limit (shown_all us found) ≡ true =
-    lt-ltb limit (length (shown_all us found)) (omega (arith, length_shown us found, c.in_ok-next.next.ok)) in
-    sym c.loop-left.invariant.over ∙ reach_stop limit loads moment left (shown_all ts from) (shown_all us found) next many some
+    let many =
+    lt-ltb limit _ (omega (arith, length_shown us found, c.in_ok-next.next.ok)) in
+    sym c.loop-left.invariant.over ∙ reach_stop limit loads moment left _ _ next many some
 
 pub loop-left-preserved : goal.loop-left-preserved
 loop-left-preserved c =
@@ -57,19 +57,18 @@ loop-left-preserved c =
     let went = c.in_ok-next.ensures in
     let kept = c.loop-left.invariant in
     let some : 0 < left = omega arith in
-    let next : shown_all us found ≡ next_after loads moment never (shown_all ts from) =
+    let next =
     went.next ∙ ap (λ ps. next_after loads moment never (shown_all ts ps))
     (slice_from c.deref.result.now all c.loop-left.from c.deref.ensures.value) in
-    let few : are_too_many limit (shown_all us found) ≡ false =
-    le-ltb limit (length (shown_all us found)) (omega (arith, length_shown us found, c.in_ok-next.next.ok)) in
-    let more : both ≡ all ++ found = c.in_ok-append.ensures.items in
-    let count : c.len-from.result ≡ length all = c.len-from.ensures ∙ c.loop-left.all.ok.0 in
-    let behind : drop c.len-from.result both ≡ found = ap₂ drop count more ∙ behind_all all found in
+    let few =
+    le-ltb limit _ (omega (arith, length_shown us found, c.in_ok-next.next.ok)) in
+    let more = c.in_ok-append.ensures.items in
+    let count = c.len-from.ensures ∙ c.loop-left.all.ok.0 in
+    let behind = ap₂ drop count more ∙ behind_all all found in
     record {
       reached = ap (λ n. shown_all us both ++ reached_in loads moment (left - 1) (shown_all us (drop n both))) count
           ∙ reached_more loads moment left ts us went.grows all from found both
-          (shown_all ss c.args.pairs.now
-          ++ reached_in loads moment (rounds (shown_all ss c.args.pairs.now)) (shown_all ss c.args.pairs.now))
+          _
           kept.are_in more some next kept.reached;
       over = ap (λ ps. is_reach_over limit loads moment (left - 1) (shown_all us ps)) behind
           ∙ sym (reach_go limit loads moment left (shown_all ts from) (shown_all us found) next few some) ∙ kept.over;

@@ -8,6 +8,6 @@ returns-in_default-clause-past c =
     let p = c.push.ensures.past in
     elim c.in_default.branch [
       | in_default-via-in-Nothing+in_default w ↦ let e =
-          merged_other ss c.args.one c.args.other _ w.in_default.is-1 c.requires.other in rw e p
-      | in_default-via-in_default w ↦ let e = merged_one ss c.args.one c.args.other _ w.in_default.is-0 c.requires.one in rw e p
+          merged_other ss c.args.one _ _ w.in_default.is-1 c.requires.other in rw e p
+      | in_default-via-in_default w ↦ let e = merged_one ss _ c.args.other _ w.in_default.is-0 c.requires.one in rw e p
     ]

@@ -7,7 +7,7 @@ use Rattle.atomic_histories.proofs.followed.Followed.add_to_marked.Goals as goal
 pub merge_at-requires-clause-place : goal.merge_at-requires-clause-place
 merge_at-requires-clause-place c =
     let ss = c.args.stretches.now.items in
-    is_inside ss c.args.pair c.args.self.now.pairs.items c.as_slice.result.now c.in-Some.place c.as_slice.ensures.value
+    is_inside ss c.args.pair _ _ c.in-Some.place c.as_slice.ensures.value
     (c.in-Some.ensures ss)
 
 pub returns-in-Some-clause-pairs : goal.returns-in-Some-clause-pairs

@@ -3,10 +3,10 @@ use Rattle.atomic_histories.proofs.kept.KeptUnit.answer_last_store.Goals as goal
 
 pub returns-in_err-past-clause-few : goal.returns-in_err-past-clause-few
 returns-in_err-past-clause-few c = λ limit.
-    few_last limit c.args.number c.args.self.now.loads.items c.args.self.now.moment c.args.self.now.stretches.items
-    c.args.self.now.pairs.items c.requires.one c.requires.last c.requires.waits
+    few_last limit _ _ _ c.args.self.now.stretches.items
+    _ c.requires.one c.requires.last c.requires.waits
 
 pub returns-clause-few : goal.returns-clause-few
 returns-clause-few c = λ limit.
-    few_last limit c.args.number c.args.self.now.loads.items c.args.self.now.moment c.args.self.now.stretches.items
-    c.args.self.now.pairs.items c.requires.one c.requires.last c.requires.waits
+    few_last limit _ _ _ c.args.self.now.stretches.items
+    _ c.requires.one c.requires.last c.requires.waits

@@ -1,7 +1,6 @@
-use Rattle.std.proofs.Common.{◌+◌, ◌-◌, ◌++◌, ◌∷◌, [], map, length, ap, ◌∙◌, length-append, arith}
+use Rattle.std.proofs.Common.{◌+◌, ◌-◌, ◌++◌, map, length, ap, ◌∙◌, length-append, arith}
 use Rattle.atomic_histories.specs.Held.{ways_from}
 use Rattle.atomic_histories.specs.Judge.{held, limit_of}
-use Rattle.atomic_histories.specs.Told.{HaltIs}
 use Rattle.atomic_histories.specs.Shown.{shown_unit}
 use Rattle.atomic_histories.proofs.Ranges.{ways_more, halt_step, halt_at}
 use Rattle.atomic_histories.proofs.Few.{few_more}
@@ -13,17 +12,17 @@ loop-j-preserved c =
     let h = held c.args.self.now in
     let items = c.in_ok-add_unit.ensures in
     let many = ap length items in
-    let sum = length-append c.loop-j.changes.items (c.in_ok-unit.unit ∷ []) in
+    let sum = length-append c.loop-j.changes.items _ in
     let before = c.loop-j.invariant.many in
-    let rest = ways_from h c.args.event (c.args.from + (c.loop-j.j + 1)) (c.args.count - (c.loop-j.j + 1)) in
+    let rest = ways_from h _ _ _ in
     record {
       ways = ap (λ us. map shown_unit us ++ rest) items
-          ∙ (ways_more h c.args.event c.loop-j.changes.items c.in_ok-unit.unit c.args.from c.args.count c.loop-j.j c.loop-j-test.true
+          ∙ (ways_more h _ c.loop-j.changes.items c.in_ok-unit.unit _ _ c.loop-j.j c.loop-j-test.true
           c.in_ok-unit.ensures.unit ∙ c.loop-j.invariant.ways);
-      halt = halt_step (limit_of c.args.self.now) h c.args.event c.args.from c.args.count c.loop-j.j c.loop-j-test.true
+      halt = halt_step _ h _ _ _ c.loop-j.j c.loop-j-test.true
           c.in_ok-unit.ensures.left c.in_ok-unit.ensures.few
           ∙ c.loop-j.invariant.halt;
-      few = few_more h c.args.event c.args.from (c.args.from + c.loop-j.j) _ (omega arith) c.loop-j.invariant.few
+      few = few_more h _ _ _ _ (omega arith) c.loop-j.invariant.few
           c.in_ok-unit.ensures.words;
       many = many ∙ (sum ∙ ap (λ n. n + 1) before);
     }
@@ -31,8 +30,8 @@ loop-j-preserved c =
 pub returns-in_err-unit-clause-halt : goal.returns-in_err-unit-clause-halt
 returns-in_err-unit-clause-halt c =
     let m = c.args.self.now in
-    pass_on c.from_residual.result c.in_err-unit.field-0.0
-    (HaltIs (limit_of m) (held m) c.args.event c.args.from c.args.count) c.from_residual.ensures.1
+    pass_on _ c.in_err-unit.field-0.0
+    _ c.from_residual.ensures.1
     (halt_at c.in_err-unit.field-0.0 (limit_of m) (held m) c.args.event c.args.from c.args.count c.loop-j.j
     (omega arith) c.loop-j.invariant.halt c.loop-j.invariant.few c.in_err-unit.ensures.fault)
 

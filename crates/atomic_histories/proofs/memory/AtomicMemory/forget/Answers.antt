@@ -1,5 +1,5 @@
 use Rattle.std.proofs.Common.{◌/◌, OnOk, subst}
-use Rattle.atomic_histories.specs.Judge.{held, bytes_of, IsForgotten}
+use Rattle.atomic_histories.specs.Judge.{held, IsForgotten}
 use Rattle.atomic_histories.proofs.Whole.{forgotten_law}
 use Rattle.atomic_histories.proofs.Verdict.{same_forgotten}
 use Rattle.atomic_histories.proofs.memory.AtomicMemory.forget.Goals as goal
@@ -8,10 +8,10 @@ pub returns-clause-ok : goal.returns-clause-ok
 returns-clause-ok c =
     let h = held c.args.self.now in
     let next = held c.kept_forget.new.self in
-    forgotten_law c.kept_forget.result h next (c.args.address / bytes_of c.args.self.now.size)
+    forgotten_law _ h next _
     (subst (λ n. OnOk c.kept_forget.result (IsForgotten h (c.args.address / n) next)) c.bytes.ensures.bytes c.kept_forget.ensures.ok)
 
 pub returns-clause-memory : goal.returns-clause-memory
 returns-clause-memory c =
-    same_forgotten c.kept_forget.result (held c.args.self.now) (held c.kept_forget.new.self)
-    (c.args.address / c.bytes.result) c.kept_forget.ensures.ok c.kept_forget.ensures.unchanged
+    same_forgotten _ _ _
+    _ c.kept_forget.ensures.ok c.kept_forget.ensures.unchanged

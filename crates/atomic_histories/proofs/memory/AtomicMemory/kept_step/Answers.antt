@@ -6,8 +6,8 @@ use Rattle.atomic_histories.proofs.memory.AtomicMemory.kept_step.Goals as goal
 
 pub returns-clause-ok : goal.returns-clause-ok
 returns-clause-ok c =
-    taken_open (held c.args.self.now) (held c.reserve_open.new.self) (held c.take_units.new.self) (held c.open_or_close.new.self)
-    c.args.event c.in_ok-reserve_open.ensures.held c.in_ok-take_units.ensures.ok c.open_or_close.ensures.held
+    taken_open _ _ _ _
+    _ c.in_ok-reserve_open.ensures.held c.in_ok-take_units.ensures.ok c.open_or_close.ensures.held
 
 pub returns-clause-told : goal.returns-clause-told
 returns-clause-told c =

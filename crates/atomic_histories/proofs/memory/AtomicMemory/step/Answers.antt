@@ -4,22 +4,22 @@ use Rattle.atomic_histories.proofs.memory.AtomicMemory.step.Goals as goal
 
 pub returns-clause-ok : goal.returns-clause-ok
 returns-clause-ok c =
-    accepted_law c.kept_step.result c.args.self.now.limit (held c.args.self.now) (held c.kept_step.new.self) c.args.event
+    accepted_law _ _ _ (held c.kept_step.new.self) c.args.event
     c.kept_step.ensures.told c.kept_step.ensures.ok
 
 pub returns-clause-fault : goal.returns-clause-fault
-returns-clause-fault c = refused_law c.kept_step.result c.args.self.now.limit (held c.args.self.now) c.args.event c.kept_step.ensures.told
+returns-clause-fault c = refused_law _ _ (held c.args.self.now) c.args.event c.kept_step.ensures.told
 
 pub returns-clause-ok_but : goal.returns-clause-ok_but
 returns-clause-ok_but c =
-    accepted_but c.kept_step.result c.args.self.now.limit (held c.args.self.now) (held c.kept_step.new.self) c.args.event
+    accepted_but _ _ _ (held c.kept_step.new.self) c.args.event
     c.kept_step.ensures.told c.kept_step.ensures.ok
 
 pub returns-clause-fault_but : goal.returns-clause-fault_but
 returns-clause-fault_but c =
-    refused_but c.kept_step.result c.args.self.now.limit (held c.args.self.now) c.args.event c.kept_step.ensures.told
+    refused_but _ _ (held c.args.self.now) c.args.event c.kept_step.ensures.told
 
 pub returns-clause-memory : goal.returns-clause-memory
 returns-clause-memory c =
-    same_memory c.kept_step.result (held c.args.self.now)
-    (held c.kept_step.new.self) c.args.event c.kept_step.ensures.ok c.kept_step.ensures.unchanged
+    same_memory _ _
+    _ _ c.kept_step.ensures.ok c.kept_step.ensures.unchanged

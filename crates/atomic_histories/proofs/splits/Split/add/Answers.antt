@@ -1,4 +1,4 @@
-use Rattle.std.proofs.Common.{◌≡◌, take, refl, sym, ap, ◌∙◌, Some, None, true, false}
+use Rattle.std.proofs.Common.{◌≡◌, take, refl, sym, ap, ◌∙◌, Some, None, false}
 use Rattle.atomic_histories.specs.declared.stretches.Before.TheVariants.{Nothing, Behind}
 use Rattle.atomic_histories.specs.Pasts.{after, either, stood, got, missed}
 use Rattle.atomic_histories.specs.Followed.{is_answer}
@@ -12,12 +12,12 @@ use Rattle.atomic_histories.proofs.splits.Split.add.Goals as goal
 pub returns-then-is_answer-clause-split : goal.returns-then-is_answer-clause-split
 returns-then-is_answer-clause-split c =
     let ss = c.args.stretches.now.items in
-    let is = is_answer c.args.unit c.args.load.now.address c.args.load.now.since c.args.bytes.now in
+    let is = is_answer c.args.unit _ _ _ in
     let o = c.in-Overwritten in
     let place = c.args.place in
-    let answers : is (stood o.word o.moment) ≡ true = sym c.is_answer.ensures ∙ c.if-is_answer.true in
-    let past = after o.word o.moment (past_at (pasts (take place ss)) o.before) in
-    on_ok_both c.push.result
+    let answers = sym c.is_answer.ensures ∙ c.if-is_answer.true in
+    let past = after o.word o.moment _ in
+    on_ok_both _
     (split_more is place ss ss c.index.result.now c.args.self.now c.push.new.self past (Some (Behind place)) None c.requires.place
     c.index.ensures (ap (past_of (pasts (take place ss))) o.is) (grows_same ss) c.requires.split
     (whole_got is ss place c.index.result.now o.word o.moment o.before c.requires.place c.index.ensures o.is answers)
@@ -28,7 +28,7 @@ pub left_of_word-requires-clause-same : goal.left_of_word-requires-clause-same
 left_of_word-requires-clause-same c =
     let ss = c.args.stretches.now.items in
     let o = c.in-Overwritten in
-    word_same None c.args.place ss ss c.index.result.now o.word o.moment o.before c.args.self.now.got.items c.got-got.result none_got
+    word_same None _ ss ss _ o.word o.moment o.before _ c.got-got.result none_got
     c.requires.place c.index.ensures (grows_same ss) o.is c.requires.split.got_places c.got-got.ensures
 
 pub left_of_word-requires-in-Overwritten-clause-same : goal.left_of_word-requires-in-Overwritten-clause-same
@@ -41,7 +41,7 @@ left_of_word-requires-in-Overwritten-clause-same c =
 pub left_of_two-requires-clause-same : goal.left_of_two-requires-clause-same
 left_of_two-requires-clause-same c =
     let ss = c.args.stretches.now.items in
-    two_same None c.args.place ss ss c.index.result.now c.in-Either.one c.in-Either.other c.args.self.now.got.items c.got.result
+    two_same None _ ss ss _ c.in-Either.one c.in-Either.other _ _
     c.got-in-Either.result none_got c.requires.place c.index.ensures
     (grows_same ss) c.in-Either.is c.requires.split.got_places c.got.ensures
     c.got-in-Either.ensures
