@@ -1,6 +1,6 @@
 -- An answer ends its store, which is found from the places of the open stores.
 use Rattle.std.proofs.Common.{◌≡◌, ℕ, zero, suc, ◌+◌, ◌-◌, ◌<◌, ◌≤◌, ◌==◌, ◌||◌, not, if◌then◌else◌, Bool, true, false, List, [], ◌∷◌, ◌++◌}
-use Rattle.std.proofs.Common.{map, take, drop, length, get_or, slice_get, Option, Some, None, inl, inr, refl, sym, ◌∙◌, ap, ap₂, subst}
+use Rattle.std.proofs.Common.{map, take, drop, length, get_or, slice_get, Option, Some, None, inl, inr, refl, sym, ◌∙◌, ap, subst}
 use Rattle.std.proofs.Common.{arith, length-drop, length-append}
 use Rattle.std.specs.Prelude.{is_none, set}
 use Rattle.std.specs.List.{filter, list_any, copy_within}
@@ -217,10 +217,7 @@ rest_found ps xs c h k d l none = grind (arith, length-drop, get_or-drop, moved_
 -- if none is forgotten, each stays where it is
 pub not_moved : (c : ℕ) (ps : List StorePlace) → c ≡ 0 → ps ≡ map (moved_down c) ps
 not_moved c [] e = refl
-not_moved c (p ∷ ps) e =
-    let same : p.first ≡ p.first - c = omega arith in
-    ap₂ (λ (n : ℕ) (qs : List StorePlace). (record { number = p.number; address = p.address; first = n; most = p.most }) ∷ qs) same
-    (not_moved c ps e)
+not_moved c (p ∷ ps) e = grind (arith, not_moved c ps e)
 
 -- the first are forgotten where those behind them are copied over them
 pub copied_down : (xs : List KeptStore) (c n : ℕ) → c ≤ length xs → n ≡ length xs → take (n - c) (copy_within xs c n 0) ≡ drop c xs

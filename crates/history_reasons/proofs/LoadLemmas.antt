@@ -1,9 +1,9 @@
 -- The bytes of the open loads of a log.
 use Rattle.std.proofs.Common.{◌≡◌, ℕ, zero, suc, ◌+◌, ◌-◌, ◌<◌, ◌≤◌, ◌==◌, not, if◌then◌else◌, Bool, true, false, List, [], ◌∷◌, ◌++◌}
-use Rattle.std.proofs.Common.{Option, Some, None, inl, inr, refl, sym, ◌∙◌, ap, arith}
+use Rattle.std.proofs.Common.{Some, None, inl, inr, refl, sym, ◌∙◌, ap, arith}
 use Rattle.std.specs.Prelude.{nat_le, nat_lt}
 use Rattle.std.specs.List.{filter, find}
-use Rattle.std.specs.Option.{option_map, option_or}
+use Rattle.std.specs.Option.{option_map}
 use Rattle.std.proofs.lemmas.Bool.{cases_Bool, leb-true, eqb-true, eqb-false, eq-eqb, ne_eqb, false≢true, le-leb, ltb-false}
 use Rattle.std.proofs.lemmas.Bool.Decides.{Decides-ltb}
 use Rattle.std.proofs.lemmas.List.{flat_map_more}
@@ -72,15 +72,7 @@ of_load number address l = elim (cases_Bool (l.number == number)) [
 pub byte_found : (number address : ℕ) (loads : List OpenLoad)
     → option_map (byte_at address) (find (asks_for number address) loads) ≡ find (is_at number address) (all_bytes_of loads)
 byte_found number address [] = refl
-byte_found number address (l ∷ ls) =
-    let split : find (is_at number address) (all_bytes_of (l ∷ ls))
-    ≡ option_or (if asks_for number address l then Some (byte_at address l) else None) (find (is_at number address) (all_bytes_of ls)) =
-    find-append (is_at number address) (bytes_of l) (all_bytes_of ls)
-    ∙ ap (λ (o : Option LoadByte). option_or o (find (is_at number address) (all_bytes_of ls))) (of_load number address l) in
-    let first : option_map (byte_at address) (find (asks_for number address) (l ∷ ls))
-    ≡ option_or (if asks_for number address l then Some (byte_at address l) else None) (find (is_at number address) (all_bytes_of ls)) =
-    elim (cases_Bool (asks_for number address l)) [ inl e ↦ rw e refl | inr e ↦ rw e (byte_found number address ls) ] in
-    first ∙ sym split
+byte_found number address (l ∷ ls) = grind (arith, find-append, of_load, cases_Bool, byte_found number address ls)
 
 -- Events. ----
 
@@ -91,7 +83,7 @@ module _ (number m t : ℕ) where
 
   all_kept : (m == number) ≡ false → (a n : ℕ) → filter (λ l. not (is_of number l)) (load_bytes m a n t) ≡ load_bytes m a n t
   all_kept e a zero = refl
-  all_kept e a (suc n) = rw e (ap (λ (ls : List LoadByte). (record { number = m; address = a; began = t }) ∷ ls) (all_kept e (a + 1) n))
+  all_kept e a (suc n) = grind (arith, all_kept e (a + 1) n)
 
 kept : (number : ℕ) (loads : List OpenLoad)
     → all_bytes_of (without_load number loads) ≡ filter (λ l. not (is_of number l)) (all_bytes_of loads)

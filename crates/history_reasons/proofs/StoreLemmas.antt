@@ -25,9 +25,7 @@ use Rattle.history_reasons.specs.Log.{shortened}
 pub lane_get : (a : ℕ) (ls : List (Option ℕ)) (k : ℕ) → lane_at a ls (a + k) ≡ get_or ls k None
 lane_get a [] k = refl
 lane_get a (x ∷ ls) zero = rw (eq-eqb a (a + 0) (omega arith)) refl
-lane_get a (x ∷ ls) (suc k) =
-    let s : a + suc k ≡ (a + 1) + k = omega arith in
-    rw (ne_eqb a (a + suc k) (λ e. omega arith), s) (lane_get (a + 1) ls k)
+lane_get a (x ∷ ls) (suc k) = grind (arith, ne_eqb, lane_get (a + 1) ls k)
 
 pub enabled_lane : (bs : List ℕ) (e k : ℕ) → get_or (lanes_of bs e) k None ≡ (if bit_at e k == 1 then slice_get bs k else None)
 enabled_lane bs e k = sym (lane_get 0 (lanes_of bs e) k) ∙ lane_stored 0 bs e k
@@ -58,14 +56,7 @@ lane_count-length n a (Some b ∷ ls) t o = ap suc (lane_count-length n (a + 1) 
 pub lane_count-ones : (bs : List ℕ) (e : ℕ) → lane_count (lanes_of bs e) ≡ ones_in (length bs) e
 unfolding ones_in
 lane_count-ones [] e = refl
-lane_count-ones (b ∷ bs) e =
-    let more = lane_count-ones bs (e / 2) in
-    elim (cases_Bool (e % 2 == 1)) [
-      | inl h ↦ let one = eqb-true (e % 2) 1 h in rw h (omega arith)
-      | inr h ↦
-          let not_one = eqb-false (e % 2) 1 h in
-          let d = div-add-mod' e 2 in rw h (omega arith)
-    ]
+lane_count-ones (b ∷ bs) e = grind (arith, cases_Bool, eqb-true, eqb-false, div-add-mod', lane_count-ones bs (e / 2))
 
 lane_counted : (x : Option ℕ) (ls : List (Option ℕ)) → lane_count (x ∷ ls) ≡ (if is_some x then 1 else 0) + lane_count ls
 lane_counted None ls = omega arith
@@ -74,9 +65,7 @@ lane_counted (Some b) ls = omega arith
 pub few_ones : (n e : ℕ) → ones_in n e ≤ n
 unfolding ones_in
 few_ones zero e = omega arith
-few_ones (suc n) e =
-    let more = few_ones n (e / 2) in
-    let d = div-add-mod' e 2 in omega arith
+few_ones (suc n) e = grind (arith, div-add-mod', few_ones n (e / 2))
 
 one_bit : (r : ℕ) → r < 2 → count_ones r ≡ r
 unfolding ones ones_in
@@ -143,17 +132,13 @@ module _ (number moment n t : ℕ) (o : Option ℕ) where
       → lane_bytes n a ls t (Some moment) ≡ map (after_response number moment) (lane_bytes n a ls t o)
   ends e a [] = refl
   ends e a (None ∷ ls) = ends e (a + 1) ls
-  ends e a (Some b ∷ ls) =
-      rw e (ap (λ (xs : List StoreByte). (record { number = n; address = a; byte = b; began = t; ended = Some moment }) ∷ xs)
-      (ends e (a + 1) ls))
+  ends e a (Some b ∷ ls) = grind (arith, ends e (a + 1) ls)
 
   stays : (is_none o && (n == number)) ≡ false → (a : ℕ) (ls : List (Option ℕ))
       → lane_bytes n a ls t o ≡ map (after_response number moment) (lane_bytes n a ls t o)
   stays e a [] = refl
   stays e a (None ∷ ls) = stays e (a + 1) ls
-  stays e a (Some b ∷ ls) =
-      rw e (ap (λ (xs : List StoreByte). (record { number = n; address = a; byte = b; began = t; ended = o }) ∷ xs)
-      (stays e (a + 1) ls))
+  stays e a (Some b ∷ ls) = grind (arith, stays e (a + 1) ls)
 
 one_answered : (number moment : ℕ) (s : KeptStore)
     → bytes_of (after_answer number moment s) ≡ map (after_response number moment) (bytes_of s)
@@ -165,9 +150,7 @@ one_answered number moment s = elim (cases_Bool (is_open_store number s)) [
 pub all_answered : (number moment : ℕ) (xs : List KeptStore)
     → all_bytes (map (after_answer number moment) xs) ≡ map (after_response number moment) (all_bytes xs)
 all_answered number moment [] = refl
-all_answered number moment (s ∷ xs) =
-    ap₂ (λ (bs cs : List StoreByte). bs ++ cs) (one_answered number moment s) (all_answered number moment xs)
-    ∙ sym (map-append (after_response number moment) (bytes_of s) (all_bytes xs))
+all_answered number moment (s ∷ xs) = grind (arith, one_answered, map-append, all_answered number moment xs)
 
 -- What is forgotten. ----
 
@@ -175,12 +158,8 @@ lanes_gone : (n a t : ℕ) (o : Option ℕ) (count : ℕ) (ls : List (Option ℕ
     → lane_bytes n (a + lanes_with count ls) (drop (lanes_with count ls) ls) t o ≡ drop count (lane_bytes n a ls t o)
 lanes_gone n a t o zero ls = ap (λ i. lane_bytes n i ls t o) (let e : a + 0 ≡ a = omega arith in e)
 lanes_gone n a t o (suc count) [] = refl
-lanes_gone n a t o (suc count) (None ∷ ls) =
-    let e : a + suc (lanes_with (suc count) ls) ≡ a + 1 + lanes_with (suc count) ls = omega arith in
-    ap (λ i. lane_bytes n i (drop (lanes_with (suc count) ls) ls) t o) e ∙ lanes_gone n (a + 1) t o (suc count) ls
-lanes_gone n a t o (suc count) (Some b ∷ ls) =
-    let e : a + suc (lanes_with count ls) ≡ a + 1 + lanes_with count ls = omega arith in
-    ap (λ i. lane_bytes n i (drop (lanes_with count ls) ls) t o) e ∙ lanes_gone n (a + 1) t o count ls
+lanes_gone n a t o (suc count) (None ∷ ls) = grind (arith, lanes_gone n (a + 1) t o (suc count) ls)
+lanes_gone n a t o (suc count) (Some b ∷ ls) = grind (arith, lanes_gone n (a + 1) t o count ls)
 
 first_gone : (count : ℕ) (s : KeptStore) → bytes_of (without_first count s) ≡ drop count (bytes_of s)
 first_gone count s =

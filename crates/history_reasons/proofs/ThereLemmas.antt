@@ -13,7 +13,7 @@ use Rattle.memory_histories.specs.Regular.{is_before, is_overwritten, is_left, i
 use Rattle.memory_histories.specs.Parts.{lane_bytes, lane_at}
 use Rattle.memory_histories.proofs.Lists.{list_any-kept, list_any-same, filter-kept, filter-filter, filter-map}
 use Rattle.history_reasons.specs.declared.stores.KeptStore.{KeptStore}
-use Rattle.history_reasons.specs.Stores.{bytes_of, all_bytes, stored_there, last_there, first_in, lanes_in}
+use Rattle.history_reasons.specs.Stores.{all_bytes, stored_there, last_there, first_in, lanes_in}
 use Rattle.history_reasons.specs.declared.Reason.{Reason}
 use Rattle.history_reasons.specs.Reasons.{stores_byte, covers, last_that, reason_by, last_reason}
 use Rattle.history_reasons.proofs.Reasons.{last_there as last_one}
@@ -32,7 +32,7 @@ module _ (n t : ℕ) (o : Option ℕ) (x : ℕ) where
   none_there : (a : ℕ) (ls : List (Option ℕ)) → x < a → filter (is_there x) (lane_bytes n a ls t o) ≡ []
   none_there a [] h = refl
   none_there a (None ∷ ls) h = none_there (a + 1) ls (omega arith)
-  none_there a (Some b ∷ ls) h = rw (ne_eqb a x (λ e. omega arith)) (none_there (a + 1) ls (omega arith))
+  none_there a (Some b ∷ ls) h = grind (arith, ne_eqb, none_there (a + 1) ls (omega arith))
 
   lane_there : (a : ℕ) (ls : List (Option ℕ)) → filter (is_there x) (lane_bytes n a ls t o) ≡ one (lane_at a ls x)
   lane_there a [] = refl
@@ -55,12 +55,7 @@ joined s x (Some b) ss e = rw e refl
 
 pub bytes_there : (x : ℕ) (ss : List KeptStore) → stored_there x ss ≡ filter (is_there x) (all_bytes ss)
 bytes_there x [] = refl
-bytes_there x (s ∷ ss) =
-    let here : filter (is_there x) (bytes_of s) ≡ one s.number s.began s.ended x (lane_at (first_in s) (lanes_in s) x) =
-    lane_there s.number s.began s.ended x (first_in s) (lanes_in s) in
-    sym (joined s x (lane_at (first_in s) (lanes_in s) x) ss refl)
-    ∙ ap₂ (λ (bs cs : List StoreByte). bs ++ cs) (sym here) (bytes_there x ss)
-    ∙ sym (filter-append (is_there x) (bytes_of s) (all_bytes ss))
+bytes_there x (s ∷ ss) = grind (arith, s.number, s.began, s.ended, lane_there, joined, filter-append, bytes_there x ss)
 
 -- Searches. ----
 
