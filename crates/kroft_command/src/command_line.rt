@@ -9,9 +9,8 @@ ghost use Rattle.kroft_command.specs.Tool.{IsInRange, IsTimely, latency_or_usual
 ghost use Rattle.kroft_command.specs.Tool.{words_or_most, latency_in, ascends, is_too_busy};
 ghost use Rattle.kroft_command.specs.Tool.{AreInOrder, AreSwept, AreRows, HasUnit, IsJudged, IsAllowed, MayBegin};
 
-use crate::commands::{
-    BUSY, FILE, LATENCY, LOG, MACHINE, REGISTERS, SVG, Subcommand, program, shown,
-};
+use crate::commands::{Subcommand, program, shown};
+use crate::options::{BUSY, FILE, LATENCY, LOG, MACHINE, REGISTERS, SVG};
 use access_logs::MAX_WORDS;
 use atomic_histories::{DEFAULT_LIMIT, UnitSize};
 use clap::error::ErrorKind;

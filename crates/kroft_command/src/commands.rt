@@ -4,35 +4,15 @@ use crate::notes::{
     CHECK_NOTES, DRIVE_NOTES, EXPLAIN_NOTES, GRADE_NOTES, HISTORY_NOTES, PROGRAM_NOTES,
     REQUESTS_NOTES, RUN_NOTES, SHOW_NOTES, SWEEP_NOTES,
 };
-use access_logs::MAX_WORDS;
-use clap::{Arg, ArgAction, Command};
-use flat_model::MAX_REGS;
-use round_driver::MOST_LATENCY;
+use crate::options::{
+    CHECK, CommandOption, DRIVE, EXPLAIN, GRADE, HISTORY, REQUESTS, RUN, SHAPE, SHOW, SWEEP,
+    argument, file_argument,
+};
+use clap::{Arg, Command};
 use std::alloc::{AllocError, Global};
 
 /// What the user calls the program.
 const PROGRAM: &str = "kroft";
-
-/// The name of the argument for the machine file.
-pub(crate) const MACHINE: &str = "machine";
-
-/// The name of the argument for the rows of a sweep.
-pub(crate) const REGISTERS: &str = "registers";
-
-/// The name of the argument for the latency of rounds.
-pub(crate) const LATENCY: &str = "latency";
-
-/// The name of the argument for the rounds between two begins of a bank.
-pub(crate) const BUSY: &str = "busy";
-
-/// The argument that names a log's format, where a log takes the place of a trace.
-pub(crate) const LOG: &str = "log";
-
-/// The name of the argument for a figure.
-pub(crate) const SVG: &str = "svg";
-
-/// The name of the argument that stands for files' names.
-pub(crate) const FILE: &str = "file";
 
 /// A command of the program.
 #[derive(Clone, Copy)]
@@ -134,6 +114,21 @@ impl Subcommand {
         }
     }
 
+    // Its options, in the order in which help lists them.
+    fn options(self) -> &'static [CommandOption] {
+        match self {
+            Subcommand::Run => &RUN,
+            Subcommand::Check => &CHECK,
+            Subcommand::Sweep => &SWEEP,
+            Subcommand::Explain => &EXPLAIN,
+            Subcommand::Grade => &GRADE,
+            Subcommand::Drive => &DRIVE,
+            Subcommand::Requests => &REQUESTS,
+            Subcommand::Show => &SHOW,
+            Subcommand::History => &HISTORY,
+        }
+    }
+
     // What its help says below its options.
     fn notes(self) -> &'static str {
         match self {
@@ -150,353 +145,6 @@ impl Subcommand {
     }
 }
 
-// The argument for the shape file. It may stand before or behind the command.
-fn shape_argument<'a>(alloc: Global) -> Arg<'a> {
-    Arg::new(alloc, "shape")
-        .long("shape")
-        .value_name("FILE")
-        .action(ArgAction::Set)
-        .help("The TOML file with the machine's numbers")
-}
-
-// The argument for the machine file. It stands behind the command.
-fn machine_argument<'a>(alloc: Global) -> Arg<'a> {
-    Arg::new(alloc, MACHINE)
-        .long(MACHINE)
-        .value_name("FILE")
-        .action(ArgAction::Set)
-        .help("The TOML file with all numbers of a machine, in place of a shape file")
-}
-
-// The argument for the rows of a sweep.
-fn registers_argument<'a>(alloc: Global) -> Arg<'a> {
-    Arg::new(alloc, REGISTERS)
-        .long(REGISTERS)
-        .value_name("N")
-        .action(ArgAction::Set)
-        .value_parser(clap::value_parser!(u32).range(1..=MAX_REGS as i64))
-        .value_delimiter(',')
-        .help("The rows: up to 16 ascending numbers of registers: 1,2,4,8,16 [default: 1,2,4,8]")
-}
-
-// The argument for what a machine's memory has before the first store.
-fn memory_argument<'a>(alloc: Global) -> Arg<'a> {
-    Arg::new(alloc, "image")
-        .long("image")
-        .value_name("address|FILE")
-        .action(ArgAction::Set)
-        .help("What memory has in place of zeros: each word its own address, or a file's bytes")
-}
-
-// The argument for the latency of rounds.
-fn latency_argument<'a>(alloc: Global, help: &'a str) -> Arg<'a> {
-    Arg::new(alloc, LATENCY)
-        .long(LATENCY)
-        .value_name("L")
-        .action(ArgAction::Set)
-        .value_parser(clap::value_parser!(u64).range(0..=MOST_LATENCY as i64))
-        .help(help)
-}
-
-// The argument for the rounds between two begins of a bank.
-fn busy_argument<'a>(alloc: Global) -> Arg<'a> {
-    Arg::new(alloc, BUSY)
-        .long(BUSY)
-        .value_name("B")
-        .action(ArgAction::Set)
-        .value_parser(clap::value_parser!(u64).range(1..=MOST_LATENCY as i64))
-        .help("Rounds from one command that a bank begins to its next, 1 to L [default: L]")
-}
-
-// An argument that is given or not.
-fn flag<'a>(alloc: Global, name: &'a str, help: &'a str) -> Arg<'a> {
-    Arg::new(alloc, name)
-        .long(name)
-        .action(ArgAction::SetTrue)
-        .help(help)
-}
-
-// The argument for lines in place of a page.
-fn text_argument<'a>(alloc: Global) -> Arg<'a> {
-    flag(
-        alloc,
-        "text",
-        "Write lines for a terminal in place of the page",
-    )
-}
-
-// The argument for a waveform in place of a page.
-fn waveform_argument<'a>(alloc: Global) -> Result<Arg<'a>, AllocError> {
-    flag(alloc, "vcd", "Write a waveform in place of the page").conflicts_with("text")
-}
-
-// The argument for what wrote a log.
-fn log_argument<'a>(alloc: Global, is_required: bool) -> Arg<'a> {
-    Arg::new(alloc, "from")
-        .long("from")
-        .value_name("FORMAT")
-        .action(ArgAction::Set)
-        .required(is_required)
-        .value_parser(["lackey", "din"].as_slice())
-        .help("What wrote the log")
-}
-
-// The argument for a log in place of a trace.
-fn drive_log<'a>(alloc: Global) -> Arg<'a> {
-    Arg::new(alloc, LOG)
-        .long(LOG)
-        .value_name("FORMAT")
-        .action(ArgAction::Set)
-        .value_parser(["lackey", "din"].as_slice())
-        .help("Read a log of accesses in place of a trace, and count them with --summary --all")
-}
-
-// The argument for the words of memory.
-fn words_argument<'a>(alloc: Global) -> Arg<'a> {
-    Arg::new(alloc, "words")
-        .long("words")
-        .value_name("N")
-        .action(ArgAction::Set)
-        .value_parser(clap::value_parser!(u32).range(1..=MAX_WORDS as i64))
-        .help("Words of memory, a multiple of 4, at most 1048576 [default: 1048576]")
-}
-
-// The names of files, where a user gives some.
-fn file_argument<'a>(alloc: Global) -> Arg<'a> {
-    Arg::new(alloc, FILE)
-        .action(ArgAction::Set)
-        .num_args(1..)
-        .hide(true)
-}
-
-// The argument for the latencies of a sweep.
-fn sweep_latency<'a>(alloc: Global) -> Arg<'a> {
-    latency_argument(
-        alloc,
-        "Count rounds, with this many from a command's begin to its service, 0 to 1000, or up to 8 ascending ones: 5,20,80",
-    )
-    .value_delimiter(',')
-}
-
-// The argument for the latency of a drive.
-fn drive_latency<'a>(alloc: Global) -> Arg<'a> {
-    latency_argument(
-        alloc,
-        "Rounds from a command's begin to its service, 0 to 1000 [default: 10]",
-    )
-}
-
-// What the helps say of `--format`.
-const VERDICT_FORMAT: &str = "How the verdict is written [default: text]";
-
-const EXPLANATION_FORMAT: &str = "How the explanation is written [default: text]";
-
-const GRADE_FORMAT: &str = "How the grade is written [default: text]";
-
-// Adds the argument for how what is found is written.
-fn push_format<'a>(
-    alloc: Global,
-    args: &mut Vec<Arg<'a>>,
-    help: &'a str,
-) -> Result<(), AllocError> {
-    args.push(format_argument(alloc, help))?;
-    Ok(())
-}
-
-// Adds the options of `check` alone.
-fn push_check<'a>(alloc: Global, args: &mut Vec<Arg<'a>>) -> Result<(), AllocError> {
-    args.push(flag(
-        alloc,
-        "all-answered",
-        "End with status 1 if loads are open at the end, and tell their tags",
-    ))?;
-    push_format(alloc, args, VERDICT_FORMAT)
-}
-
-// The argument for how what is found is written.
-fn format_argument<'a>(alloc: Global, help: &'a str) -> Arg<'a> {
-    Arg::new(alloc, "format")
-        .long("format")
-        .value_name("FORMAT")
-        .action(ArgAction::Set)
-        .value_parser(["text", "csv", "json"].as_slice())
-        .help(help)
-}
-
-// The argument for a figure. It stands for itself: no format goes with it.
-fn svg_argument<'a>(alloc: Global, help: &'a str) -> Result<Arg<'a>, AllocError> {
-    flag(alloc, SVG, help).conflicts_with("format")
-}
-
-// Adds the options of `sweep` alone. Without a latency it makes no rounds, so no bank is busy.
-fn push_sweep<'a>(alloc: Global, args: &mut Vec<Arg<'a>>) -> Result<(), AllocError> {
-    args.push(sweep_latency(alloc))?;
-    args.push(busy_argument(alloc).requires_arg(LATENCY)?)?;
-    args.push(counts_format(alloc))?;
-    let figure = "Draw the rounds by the number of registers, a line for each latency";
-    let svg = svg_argument(alloc, figure)?.requires_arg(LATENCY)?;
-    // The figure has a column for each of the usual numbers.
-    args.push(svg.conflicts_with(REGISTERS)?)?;
-    args.push(registers_argument(alloc))?;
-    Ok(())
-}
-
-// The argument for how counts are written.
-fn counts_format<'a>(alloc: Global) -> Arg<'a> {
-    format_argument(alloc, "How the counts are written [default: text]")
-}
-
-// The flag for all details of a drive.
-fn all_argument<'a>(alloc: Global) -> Result<Arg<'a>, AllocError> {
-    let all = flag(
-        alloc,
-        "all",
-        "Count more: by kind and set, rounds by registers in use and loads owed, loads by wait",
-    );
-    all.requires_arg("summary")
-}
-
-// Adds the options of `drive` alone.
-fn push_drive<'a>(alloc: Global, args: &mut Vec<Arg<'a>>) -> Result<(), AllocError> {
-    args.push(drive_log(alloc))?;
-    args.push(drive_latency(alloc))?;
-    args.push(busy_argument(alloc))?;
-    args.push(flag(alloc, "summary", "Write counts in place of the run"))?;
-    args.push(all_argument(alloc)?)?;
-    args.push(counts_format(alloc).requires_arg("summary")?)?;
-    let figure = "Draw the rounds that were lost, a bar for each cause";
-    args.push(svg_argument(alloc, figure)?.requires_arg("summary")?)?;
-    Ok(())
-}
-
-// Adds the options of `requests`. It knows no shape.
-fn push_requests<'a>(
-    alloc: Global,
-    args: &mut Vec<Arg<'a>>,
-    takes_file: bool,
-) -> Result<(), AllocError> {
-    args.push(log_argument(alloc, !takes_file))?;
-    args.push(words_argument(alloc))?;
-    Ok(())
-}
-
-// Adds the options of `show` alone.
-fn push_show<'a>(alloc: Global, args: &mut Vec<Arg<'a>>) -> Result<(), AllocError> {
-    args.push(text_argument(alloc))?;
-    args.push(waveform_argument(alloc)?)?;
-    Ok(())
-}
-
-// The argument for the law of a history.
-fn law_argument<'a>(alloc: Global) -> Arg<'a> {
-    Arg::new(alloc, "law")
-        .long("law")
-        .value_name("LAW")
-        .action(ArgAction::Set)
-        .value_parser(["flat", "atomic", "regular"].as_slice())
-        .help("The law that the history is judged by [default: regular]")
-}
-
-// The argument for the size of a unit.
-fn unit_argument<'a>(alloc: Global) -> Arg<'a> {
-    Arg::new(alloc, "unit")
-        .long("unit")
-        .value_name("N")
-        .action(ArgAction::Set)
-        .value_parser(["1", "2", "4", "8"].as_slice())
-        .help("How many bytes take effect at one moment, with --law atomic [default: 8]")
-}
-
-// The argument for what memory had before the first store.
-fn image_argument<'a>(alloc: Global) -> Arg<'a> {
-    Arg::new(alloc, "image")
-        .long("image")
-        .value_name("FILE")
-        .action(ArgAction::Set)
-        .help("The file whose bytes memory has from address 0 on, in place of zeros")
-}
-
-// The argument for memory of which nothing is known.
-fn unknown_argument<'a>(alloc: Global) -> Result<Arg<'a>, AllocError> {
-    flag(
-        alloc,
-        "unknown",
-        "Memory may have had anything before the first store",
-    )
-    .conflicts_with("image")
-}
-
-// Adds the options of `history`. It knows no shape.
-fn push_history<'a>(alloc: Global, args: &mut Vec<Arg<'a>>) -> Result<(), AllocError> {
-    args.push(law_argument(alloc))?;
-    args.push(unit_argument(alloc))?;
-    args.push(image_argument(alloc))?;
-    args.push(unknown_argument(alloc)?)?;
-    args.push(flag(
-        alloc,
-        "all-answered",
-        "End with status 1 if operations are open at the end",
-    ))?;
-    args.push(flag(
-        alloc,
-        "values",
-        "Write each line, and behind a load's response what it may have returned",
-    ))?;
-    push_format(alloc, args, VERDICT_FORMAT)
-}
-
-// Adds the options that only one command takes.
-fn push_own_options<'a>(
-    alloc: Global,
-    args: &mut Vec<Arg<'a>>,
-    subcommand: Subcommand,
-    takes_file: bool,
-) -> Result<(), AllocError> {
-    match subcommand {
-        Subcommand::Run => Ok(()),
-        Subcommand::Explain => push_format(alloc, args, EXPLANATION_FORMAT),
-        Subcommand::Grade => push_format(alloc, args, GRADE_FORMAT),
-        Subcommand::Check => push_check(alloc, args),
-        Subcommand::Sweep => push_sweep(alloc, args),
-        Subcommand::Drive => push_drive(alloc, args),
-        Subcommand::Requests => push_requests(alloc, args, takes_file),
-        Subcommand::Show => push_show(alloc, args),
-        Subcommand::History => push_history(alloc, args),
-    }
-}
-
-fn push_argument<'a>(args: &mut Vec<Arg<'a>>, arg: Arg<'a>) -> Result<(), AllocError> {
-    Ok(args.push(arg)?)
-}
-
-// Adds the arguments for the files of the machine's numbers. Only `requests` and `history` take none.
-fn push_machine<'a>(
-    alloc: Global,
-    args: &mut Vec<Arg<'a>>,
-    subcommand: Subcommand,
-) -> Result<(), AllocError> {
-    match subcommand {
-        Subcommand::Requests | Subcommand::History => Ok(()),
-        _ => {
-            push_argument(args, shape_argument(alloc))?;
-            push_argument(args, machine_argument(alloc))
-        }
-    }
-}
-
-// Adds the argument for what a machine's memory begins with. A sweep's counts don't depend on it, and a
-// history has one of its own.
-fn push_image<'a>(
-    alloc: Global,
-    args: &mut Vec<Arg<'a>>,
-    subcommand: Subcommand,
-) -> Result<(), AllocError> {
-    match subcommand {
-        Subcommand::Sweep | Subcommand::Requests | Subcommand::History => Ok(()),
-        _ => push_argument(args, memory_argument(alloc)),
-    }
-}
-
 // The options of a command, and the name of a file behind them if one is taken.
 fn arguments_of<'a>(
     alloc: Global,
@@ -504,11 +152,11 @@ fn arguments_of<'a>(
     takes_file: bool,
 ) -> Result<Vec<Arg<'a>>, AllocError> {
     let mut args = Vec::new(alloc);
-    push_machine(alloc, &mut args, subcommand)?;
-    push_image(alloc, &mut args, subcommand)?;
-    push_own_options(alloc, &mut args, subcommand, takes_file)?;
+    for option in subcommand.options() {
+        args.push(argument(alloc, option, takes_file)?)?;
+    }
     if takes_file {
-        push_argument(&mut args, file_argument(alloc))?;
+        args.push(file_argument(alloc))?;
     }
     Ok(args)
 }
@@ -567,7 +215,7 @@ fn base<'a>(alloc: Global) -> Result<Command<'a>, AllocError> {
         .no_binary_name(true)
         .subcommand_required(true)
         .disable_help_subcommand(true)
-        .arg(shape_argument(alloc))
+        .arg(argument(alloc, &SHAPE, false)?)
 }
 
 /// The program's whole command line. No command takes a file's name: only to tell of one are they

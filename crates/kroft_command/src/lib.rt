@@ -7,6 +7,7 @@ mod commands;
 mod fault;
 mod notes;
 mod one_try;
+mod options;
 mod program;
 mod tasks;
 

@@ -1,6 +1,6 @@
 -- What a job tells of what was seen of it.
 use Rattle.std.specs.Prelude.{◌≡◌, ◌≤◌, ◌==◌, ◌&&◌, ℕ, ◌+◌, ◌-◌, ◌^◌, min, Bool, true, false, if◌then◌else◌}
-use Rattle.std.specs.Prelude.{List, [], ◌++◌, length, Option, ⊤}
+use Rattle.std.specs.Prelude.{List, [], ◌++◌, length, Option, Some, None, ⊤}
 use Rattle.std.specs.Global.{Vec}
 use Rattle.std.specs.declared.time.Duration.{Duration}
 use Rattle.std.specs.Io.KnownBytes.{Appends}
@@ -26,6 +26,15 @@ use Rattle.station_tour.specs.Soaks.{soak_text}
 -- known bytes grow by some that end in this text
 abbrev pub EndsIn : Option (List ℕ) → Option (List ℕ) → List ℕ → Type 0
 EndsIn old new text = (front : List ℕ) × Appends old new (front ++ text)
+
+-- known bytes grow by some
+unfoldable pub HasGrown : Option (List ℕ) → Option (List ℕ) → Type 0
+HasGrown old new = (text : List ℕ) × Appends old new text
+
+-- a story grows behind each segment, and ends behind the last one with what was found
+abbrev pub GoesOn : Bool → Option (List ℕ) → Option (List ℕ) → Option Findings → Type 0
+GoesOn story old new None = HasGrown old new
+GoesOn story old new (Some found) = story ≡ true → EndsIn old new (findings_text found)
 
 -- behind the first segment of a story its beginning is told
 abbrev pub begin_text : Bool → ℕ → Plan → List (Vec Ask) → List (Vec Told) → List ℕ

@@ -49,13 +49,6 @@ const NAME: &str = "kroft-station";
 // The name of a file that stands for standard output.
 const STANDARD_OUTPUT: &str = "-";
 
-const ASKS_HELP: &str = "How often each port asks, 1 to 4294967295 [default: 12]";
-
-// The most asks of a port that are measured.
-const MEASURED_ASKS: i64 = 10_000;
-
-const MEASURED_ASKS_HELP: &str = "How often each port asks, 1 to 10000 [default: 12]";
-
 // The most threads of a tour: one for the cache side, one for each port and one for each of its four banks.
 const MOST_THREADS: u32 = MAX_PORTS + 5;
 
@@ -87,13 +80,72 @@ The status is 1 if there was one: a station whose audit isn't clean, whose journ
 one of whose ports' lists isn't the journal's part of it.";
 
 // An argument that takes a whole number.
-fn number<'a>(alloc: Global, name: &'a str, most: i64, help: &'a str) -> Arg<'a> {
-    Arg::new(alloc, name)
-        .long(name)
+#[derive(Clone, Copy)]
+struct Number {
+    name: &'static str,
+    least: i64,
+    most: i64,
+    help: &'static str,
+}
+
+const PORTS: Number = Number {
+    name: "ports",
+    least: 1,
+    most: MAX_PORTS as i64,
+    help: "How many ports ask, 1 to 16 [default: 4]",
+};
+
+const ASKS: Number = Number {
+    name: "asks",
+    least: 1,
+    most: u32::MAX as i64,
+    help: "How often each port asks, 1 to 4294967295 [default: 12]",
+};
+
+// The asks of a port that are measured are fewer.
+const MEASURED_ASKS: Number = Number {
+    most: 10_000,
+    help: "How often each port asks, 1 to 10000 [default: 12]",
+    ..ASKS
+};
+
+const SEED: Number = Number {
+    name: "seed",
+    least: 1,
+    most: u32::MAX as i64,
+    help: "What the numbers and scripts are drawn by, 1 to 4294967295 [default: 1]",
+};
+
+const THREADS: Number = Number {
+    name: "threads",
+    least: FEWEST_THREADS as i64,
+    most: MOST_THREADS as i64,
+    help: "How many threads there are, 2 to 21 [default: as many as processors]",
+};
+
+const STATIONS: Number = Number {
+    name: "stations",
+    least: 1,
+    most: 1_000_000,
+    help: "How many stations are run, 1 to 1000000 [default: 4]",
+};
+
+fn number_argument<'a>(alloc: Global, number: &Number) -> Arg<'a> {
+    Arg::new(alloc, number.name)
+        .long(number.name)
         .value_name("N")
         .action(ArgAction::Set)
-        .value_parser(clap::value_parser!(u32).range(1..=most))
-        .help(help)
+        .value_parser(clap::value_parser!(u32).range(number.least..=number.most))
+        .help(number.help)
+}
+
+// The arguments that take these numbers.
+fn number_arguments<'a>(alloc: Global, numbers: &[Number]) -> Result<Vec<Arg<'a>>, AllocError> {
+    let mut args = Vec::new(alloc);
+    for number in numbers {
+        args.push(number_argument(alloc, number))?;
+    }
+    Ok(args)
 }
 
 fn flag<'a>(alloc: Global, name: &'a str, help: &'a str) -> Arg<'a> {
@@ -101,49 +153,6 @@ fn flag<'a>(alloc: Global, name: &'a str, help: &'a str) -> Arg<'a> {
         .long(name)
         .action(ArgAction::SetTrue)
         .help(help)
-}
-
-// How often each port asks, at most so often.
-fn asks<'a>(alloc: Global, most: i64, help: &'a str) -> Arg<'a> {
-    number(alloc, "asks", most, help)
-}
-
-fn seed<'a>(alloc: Global) -> Arg<'a> {
-    number(
-        alloc,
-        "seed",
-        i64::from(u32::MAX),
-        "What the numbers and scripts are drawn by, 1 to 4294967295 [default: 1]",
-    )
-}
-
-fn stations<'a>(alloc: Global) -> Arg<'a> {
-    number(
-        alloc,
-        "stations",
-        1_000_000,
-        "How many stations are run, 1 to 1000000 [default: 4]",
-    )
-}
-
-fn ports<'a>(alloc: Global) -> Arg<'a> {
-    number(
-        alloc,
-        "ports",
-        i64::from(MAX_PORTS),
-        "How many ports ask, 1 to 16 [default: 4]",
-    )
-}
-
-fn threads<'a>(alloc: Global) -> Arg<'a> {
-    Arg::new(alloc, "threads")
-        .long("threads")
-        .value_name("N")
-        .action(ArgAction::Set)
-        .value_parser(clap::value_parser!(u32).range(
-            i64::from(FEWEST_THREADS)..=i64::from(MOST_THREADS),
-        ))
-        .help("How many threads there are, 2 to 21 [default: as many as processors]")
 }
 
 fn journal<'a>(alloc: Global) -> Arg<'a> {
@@ -175,39 +184,22 @@ fn hand_once<'a>(alloc: Global) -> Result<Arg<'a>, AllocError> {
 
 // The arguments go into a list and to their command in one call: each call that takes a command and
 // gives it back makes the proof dearer.
-fn push_argument<'a>(args: &mut Vec<Arg<'a>>, arg: Arg<'a>) -> Result<(), AllocError> {
-    Ok(args.push(arg)?)
-}
-
-fn soak_arguments<'a>(alloc: Global) -> Result<Vec<Arg<'a>>, AllocError> {
-    let mut args = Vec::new(alloc);
-    push_argument(&mut args, stations(alloc))?;
-    push_argument(&mut args, seed(alloc))?;
-    Ok(args)
-}
-
 fn rates_arguments<'a>(alloc: Global) -> Result<Vec<Arg<'a>>, AllocError> {
-    let mut args = Vec::new(alloc);
-    push_argument(&mut args, asks(alloc, MEASURED_ASKS, MEASURED_ASKS_HELP))?;
-    push_argument(&mut args, seed(alloc))?;
-    push_argument(&mut args, core_once(alloc))?;
-    push_argument(&mut args, hand_once(alloc)?)?;
+    let mut args = number_arguments(alloc, &[MEASURED_ASKS, SEED])?;
+    args.push(core_once(alloc))?;
+    args.push(hand_once(alloc)?)?;
     Ok(args)
 }
 
 fn tour_arguments<'a>(alloc: Global) -> Result<Vec<Arg<'a>>, AllocError> {
-    let mut args = Vec::new(alloc);
-    push_argument(&mut args, ports(alloc))?;
-    push_argument(&mut args, asks(alloc, i64::from(u32::MAX), ASKS_HELP))?;
-    push_argument(&mut args, seed(alloc))?;
-    push_argument(&mut args, threads(alloc))?;
-    push_argument(&mut args, journal(alloc))?;
+    let mut args = number_arguments(alloc, &[PORTS, ASKS, SEED, THREADS])?;
+    args.push(journal(alloc))?;
     Ok(args)
 }
 
 // The subcommand that runs stations at random.
 fn soak_command<'a>(alloc: Global) -> Result<Command<'a>, AllocError> {
-    let args = soak_arguments(alloc)?;
+    let args = number_arguments(alloc, &[STATIONS, SEED])?;
     Command::new(alloc, SOAK)
         .about("Run stations at random on threads, and look at each")
         .after_help(SOAK_NOTES)

@@ -2,8 +2,9 @@
 //! it; a soak of many at random; and how many asks a second are served.
 #![tactic(auto)]
 
-ghost use Rattle.std.specs.Prelude.{◌≡◌, IfOk};
-ghost use Rattle.station_tour.specs.Shown.{IsTold, EndsAsShown, shows_story, shows_journal};
+ghost use Rattle.std.specs.Prelude.{◌≡◌, ◌≤◌, true, IfOk};
+ghost use Rattle.station_checks.specs.Stories.{findings_text};
+ghost use Rattle.station_tour.specs.Shown.{IsTold, EndsAsShown, EndsIn, shows_story, shows_journal};
 ghost use Rattle.station_tour.specs.Statuses.{ComesTo};
 
 mod command_line;
@@ -151,23 +152,36 @@ fn show_tour<R: AllocGlobal + Clock + Env + Files + Threads + Sync, W: Write, E:
     ensures { IfOk result
         (λ found. EndsAsShown show.now plan.now (W.contents output.old) (W.contents output.new) found) }
 {
-    let alloc = rt.alloc();
     let pages = pages_of(show, env::var(rt, PROGRESS).is_ok());
     // What isn't shown isn't written there either.
-    let mut nowhere: Vec<u8> = Vec::new(alloc);
+    let mut nowhere: Vec<u8> = Vec::new(rt.alloc());
     match show {
         Show::Story => tour(rt, output, &mut nowhere, errors, plan, threads, pages),
         Show::Journal => tour(rt, &mut nowhere, output, errors, plan, threads, pages),
         Show::StoryAndFile(name) => {
-            let journal = fs::create(rt, name.as_str()).map_err(|fault| StationFault::Journal(
-                fault,
-            ))?;
-            let mut file = BufWriter::new(alloc, journal)?;
-            let found = tour(rt, output, &mut file, errors, plan, threads, pages)?;
-            file.flush().map_err(|fault| StationFault::Journal(fault))?;
-            Ok(found)
+            tour_into_file(rt, output, errors, plan, threads, pages, name.as_str())
         }
     }
+}
+
+// Makes a tour whose journal goes into a file of this name.
+fn tour_into_file<R: AllocGlobal + Clock + Files + Threads + Sync, W: Write, E: Write>(
+    rt: &R,
+    output: &mut W,
+    errors: &mut E,
+    plan: &Plan,
+    threads: u32,
+    pages: Pages,
+    name: &str,
+) -> Result<Findings, StationFault>
+    ensures { IfOk result (λ found. pages.story ≡ true → 1 ≤ plan.now.asks
+        → EndsIn (W.contents output.old) (W.contents output.new) (findings_text found)) }
+{
+    let journal = fs::create(rt, name).map_err(|fault| StationFault::Journal(fault))?;
+    let mut file = BufWriter::new(rt.alloc(), journal)?;
+    let found = tour(rt, output, &mut file, errors, plan, threads, pages)?;
+    file.flush().map_err(|fault| StationFault::Journal(fault))?;
+    Ok(found)
 }
 
 // What is written of a tour of which this is shown.

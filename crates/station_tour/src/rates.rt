@@ -119,9 +119,9 @@ impl Timing {
     // Every server, before its first run.
     fn of_servers(alloc: Global) -> Result<Vec<Timing>, AllocError> {
         let mut timings = Vec::new(alloc);
-        for server in SERVERS {
+        for server in &SERVERS {
             timings.push(Timing {
-                server,
+                server: *server,
                 times: Vec::new(alloc),
             })?;
         }

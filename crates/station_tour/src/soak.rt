@@ -1,7 +1,7 @@
 //! A soak: many stations, each with numbers, scripts and a gate at random, run on threads to its
 //! end and looked at.
 
-ghost use Rattle.std.specs.Prelude.{◌≡◌, ◌<◌, vec_len, IfOk, OnOk};
+ghost use Rattle.std.specs.Prelude.{◌≡◌, ◌<◌, length, vec_len, IfOk, OnOk};
 ghost use Rattle.std.specs.Io.KnownBytes.{Appends};
 ghost use Rattle.station_parts.specs.Station.{AreOneStation};
 ghost use Rattle.station_tour.specs.Soaks.{stations_in, with_outcome, soak_text, looked_text, looked_outcome, step_text};
@@ -13,8 +13,7 @@ use crate::fault::StationFault;
 use crate::soak::random_gate::RandomGate;
 use crate::soak::trial::{Draws, Trial};
 use ring_station::{
-    BankSide, CacheSide, Port, Run, RunFault, Station, Told, audit, run_and_audit, run_threads,
-    station,
+    Ask, Crew, RunFault, Station, Told, audit, run_and_audit, run_threads, station,
 };
 use station_checks::{Findings, FindingsText, Outcome, read_journal};
 use std::alloc::{AllocError, Global};
@@ -184,79 +183,36 @@ fn run_any<R: AllocGlobal + Clock + Threads + Sync>(
     seed: u64,
     number: u32,
 ) -> Result<Looked, StationFault> {
-    let draws = Draws::new(seed, number);
+    let mut draws = Draws::new(seed, number);
     match number % 4 {
-        0 => run_least(rt, draws),
-        1 => run_most(rt, draws),
-        2 => run_common(rt, draws),
-        _ => run_uneven(rt, draws),
+        0 => run_trial::<R, 1, 1, 1, 1>(rt, &mut draws, 1),
+        1 => run_trial::<R, 8, 16, 16, 16>(rt, &mut draws, 16),
+        2 => run_trial::<R, 2, 4, 4, 4>(rt, &mut draws, 4),
+        _ => run_trial::<R, 3, 2, 5, 1>(rt, &mut draws, 2),
     }
 }
 
-// Makes a station of drawn numbers over the given ways, words of a block, registers and places of the
-// stack, runs it, and looks at what the run left.
-macro_rules! run_station {
-    ($rt:ident, $draws:ident, $ways:literal, $words:literal, $regs:literal, $depth:literal) => {{
-        let trial = Trial::draw(&mut $draws, $words);
-        let mut station = station::<$ways, $words, $regs, $depth>(
-            $rt.alloc(),
-            trial.shape,
-            trial.ports,
-            trial.journal,
-        )?;
-        let ran = run_one($rt, &mut $draws, &trial, &mut station)?;
-        let findings = look_at(
-            $rt.alloc(),
-            &mut station.cache,
-            &mut station.ports,
-            &mut station.banks,
-            trial.shape.words,
-            ran,
-        )?;
-        Ok(Looked {
-            findings,
-            has_to_end: trial.has_to_end(),
-        })
-    }};
+// Makes a station of drawn numbers, with so many words in a block, runs it, and looks at what the run
+// left.
+fn run_trial<
+    R: AllocGlobal + Clock + Threads + Sync,
+    const WAYS: usize,
+    const WORDS: usize,
+    const REGS: usize,
+    const DEPTH: usize,
+>(rt: &R, draws: &mut Draws, block_words: u32) -> Result<Looked, StationFault> {
+    let trial = Trial::draw(draws, block_words);
+    let mut station: Station<WAYS, WORDS, REGS, DEPTH> = station(
+        rt.alloc(),
+        trial.shape,
+        trial.ports,
+        trial.journal,
+    )?;
+    run_and_look(rt, draws, &trial, &mut station)
 }
 
-// One station with the least of each.
-fn run_least<R: AllocGlobal + Clock + Threads + Sync>(
-    rt: &R,
-    mut draws: Draws,
-) -> Result<Looked, StationFault> {
-    run_station!(rt, draws, 1, 1, 1, 1)
-}
-
-// One station with the most of each.
-fn run_most<R: AllocGlobal + Clock + Threads + Sync>(
-    rt: &R,
-    mut draws: Draws,
-) -> Result<Looked, StationFault> {
-    run_station!(rt, draws, 8, 16, 16, 16)
-}
-
-// One station with the program's usual numbers.
-fn run_common<R: AllocGlobal + Clock + Threads + Sync>(
-    rt: &R,
-    mut draws: Draws,
-) -> Result<Looked, StationFault> {
-    run_station!(rt, draws, 2, 4, 4, 4)
-}
-
-// One station whose numbers are no powers of two.
-fn run_uneven<R: AllocGlobal + Clock + Threads + Sync>(
-    rt: &R,
-    mut draws: Draws,
-) -> Result<Looked, StationFault> {
-    run_station!(rt, draws, 3, 2, 5, 1)
-}
-
-// What a run gave: a list for each port, or why it gave none.
-type Ran = Result<Vec<Vec<Told>>, RunFault>;
-
-// Runs a new station with scripts and a gate that are drawn.
-fn run_one<
+// Runs a new station, and looks at what the run left.
+fn run_and_look<
     R: AllocGlobal + Clock + Threads + Sync,
     const WAYS: usize,
     const WORDS: usize,
@@ -267,50 +223,100 @@ fn run_one<
     draws: &mut Draws,
     trial: &Trial,
     station: &mut Station<WAYS, WORDS, REGS, DEPTH>,
-) -> Result<Ran, AllocError>
+) -> Result<Looked, StationFault>
+    requires one { AreOneStation station.old.cache station.old.ports.items station.old.banks.items }
+    requires ports { vec_len station.old.ports ≡ trial.now.ports }
+{
+    let lists = run_drawn(rt, draws, trial, station)?;
+    let lists = lists.as_ref().map(|lists| lists.as_slice());
+    let findings = look_at(rt.alloc(), station, trial.shape.words, lists)?;
+    Ok(Looked {
+        findings,
+        has_to_end: trial.has_to_end(),
+    })
+}
+
+// What each port took in a run that came to its end; nothing of one that came to its limit.
+type Lists = Option<Vec<Vec<Told>>>;
+
+// Runs a new station with scripts and a gate that are drawn.
+fn run_drawn<
+    R: AllocGlobal + Clock + Threads + Sync,
+    const WAYS: usize,
+    const WORDS: usize,
+    const REGS: usize,
+    const DEPTH: usize,
+>(
+    rt: &R,
+    draws: &mut Draws,
+    trial: &Trial,
+    station: &mut Station<WAYS, WORDS, REGS, DEPTH>,
+) -> Result<Lists, StationFault>
     requires one { AreOneStation station.old.cache station.old.ports.items station.old.banks.items }
     requires ports { vec_len station.old.ports ≡ trial.now.ports }
     ensures { AreOneStation station.new.cache station.new.ports.items station.new.banks.items }
 {
-    let alloc = rt.alloc();
-    let scripts = trial.scripts(alloc, draws)?;
-    let gate = RandomGate::draw(alloc, draws)?;
-    let turns = trial.turns;
-    match trial.crew(draws) {
-        None => Ok(run_threads(rt, alloc, station, &scripts, turns, &gate)),
+    let scripts = trial.scripts(rt.alloc(), draws)?;
+    let gate = RandomGate::draw(rt.alloc(), draws)?;
+    let crew = trial.crew(draws);
+    lists_of(run_by(rt, station, &scripts, trial.turns, crew, &gate))
+}
+
+// Runs a station on the threads of a crew, or on one for each part.
+fn run_by<
+    R: AllocGlobal + Clock + Threads + Sync,
+    const WAYS: usize,
+    const WORDS: usize,
+    const REGS: usize,
+    const DEPTH: usize,
+>(
+    rt: &R,
+    station: &mut Station<WAYS, WORDS, REGS, DEPTH>,
+    scripts: &[Vec<Ask>],
+    turns: u64,
+    crew: Option<Crew>,
+    gate: &RandomGate,
+) -> Result<Vec<Vec<Told>>, RunFault>
+    requires one { AreOneStation station.old.cache station.old.ports.items station.old.banks.items }
+    requires scripts { length scripts.now ≡ vec_len station.old.ports }
+    ensures { AreOneStation station.new.cache station.new.ports.items station.new.banks.items }
+{
+    match crew {
+        None => run_threads(rt, rt.alloc(), station, scripts, turns, gate),
         Some(crew) => {
-            let run = run_and_audit(rt, alloc, station, &scripts, turns, crew, &gate)?;
-            Ok(ran(run))
+            let run = run_and_audit(rt, rt.alloc(), station, scripts, turns, crew, gate)?;
+            match run.fault() {
+                Some(fault) => Err(fault),
+                None => Ok(run.lists),
+            }
         }
     }
 }
 
-// What a run comes to that is told whole.
-fn ran(run: Run) -> Ran {
-    match run.fault() {
-        Some(fault) => Err(fault),
-        None => Ok(run.lists),
+// The lists of a run, if there was memory for it.
+fn lists_of(ran: Result<Vec<Vec<Told>>, RunFault>) -> Result<Lists, StationFault> {
+    match ran {
+        Ok(lists) => Ok(Some(lists)),
+        Err(RunFault::TurnLimit) => Ok(None),
+        Err(RunFault::OutOfMemory) => Err(StationFault::OutOfMemory),
     }
 }
 
-// What a run left of the parts of a station with so many words of memory.
+// What a run left of a station with so many words of memory.
 fn look_at<const WAYS: usize, const WORDS: usize, const REGS: usize, const DEPTH: usize>(
     alloc: Global,
-    cache: &mut CacheSide<WAYS, WORDS, REGS, DEPTH>,
-    ports: &mut [Port],
-    banks: &mut [BankSide],
+    station: &mut Station<WAYS, WORDS, REGS, DEPTH>,
     words: u32,
-    ran: Ran,
-) -> Result<Findings, StationFault>
-    requires { AreOneStation cache.old ports.old banks.old }
+    lists: Option<&[Vec<Told>]>,
+) -> Result<Findings, AllocError>
+    requires { AreOneStation station.old.cache station.old.ports.items station.old.banks.items }
 {
-    let lists = match ran {
-        Ok(lists) => Some(lists),
-        Err(RunFault::TurnLimit) => None,
-        Err(RunFault::OutOfMemory) => return Err(StationFault::OutOfMemory),
-    };
+    let Station {
+        cache,
+        ports,
+        banks,
+    } = station;
     let audit = audit(cache, ports, banks);
     let journal = read_journal(alloc, cache)?;
-    let lists = lists.as_ref().map(|lists| lists.as_slice());
-    Ok(Findings::of_run(alloc, audit, &journal, words, lists)?)
+    Findings::of_run(alloc, audit, &journal, words, lists)
 }

@@ -1,15 +1,16 @@
 //! A tour: the ports of a plan on threads over one cache, and what is told of them. A long one is cut
 //! into segments, behind each of which the station is renewed.
 
-ghost use Rattle.std.specs.Prelude.{◌≡◌, ◌≤◌, ◌/◌, max, min, true, length, vec_len, is_some, Some, IfOk, OnOk};
+ghost use Rattle.std.specs.Prelude.{◌≡◌, ◌≤◌, ◌-◌, ◌/◌, max, min, true, length, vec_len, is_some, Some, IfOk, OnOk, IfNone};
 ghost use Rattle.std.specs.Io.KnownBytes.{Appends};
 ghost use Rattle.flat_model.specs.Memory.{shown};
 ghost use Rattle.station_parts.specs.declared.parts.Audit.TheVariants.{Clean};
 ghost use Rattle.station_parts.specs.Station.{AreOneStation};
 ghost use Rattle.station_checks.specs.Checks.{flat_after, FindsTold};
+ghost use Rattle.station_checks.specs.Drawn.{ports_of, left_of};
 ghost use Rattle.station_checks.specs.Stories.{findings_text};
 ghost use Rattle.station_tour.specs.Asked.{asks_in};
-ghost use Rattle.station_tour.specs.Shown.{EndsIn, IsNoted, begin_text, journal_text, course_text, end_text};
+ghost use Rattle.station_tour.specs.Shown.{EndsIn, GoesOn, IsNoted, begin_text, journal_text, course_text, end_text};
 
 use crate::crew::crew_of;
 use crate::fault::StationFault;
@@ -59,9 +60,20 @@ pub(crate) struct Pages {
     pub(crate) progress: bool,
 }
 
-// What is known of a tour behind a segment.
+// How the ports of a tour are run, and what is written of them.
+#[derive(Drop)]
+struct Setting {
+    plan: Plan,
+    pages: Pages,
+    crew: Crew,
+    gate: PatientGate,
+}
+
+// How far a tour is.
 #[derive(Drop)]
 struct Course {
+    // What is still to be asked.
+    parts: ScriptParts,
     // Memory as the journals so far leave it.
     memory: FlatMemory,
     tally: Tally,
@@ -69,10 +81,24 @@ struct Course {
     took: Duration,
 }
 
+impl Course {
+    // Before the first segment.
+    fn new(alloc: Global, plan: &Plan) -> Result<Course, AllocError>
+        ensures ports { IfOk result (λ course. ports_of course.parts ≡ plan.now.ports) }
+        ensures left { IfOk result (λ course. left_of course.parts ≡ plan.now.asks) }
+    {
+        Ok(Course {
+            parts: ScriptParts::new(alloc, plan)?,
+            memory: FlatMemory::zeros(alloc, WORDS)?,
+            tally: Tally::new(),
+            took: Duration::ZERO,
+        })
+    }
+}
+
 /// Runs the ports on threads, and tells of it. The result is what was found behind the last segment: it is the
 /// first one of which an audit isn't clean, the journal isn't flat, or a port's list isn't the journal's part
 /// of it, or else the one behind which no ask is left. A plan without an ask has none, and nothing is told.
-#[tactic(auto, using(crate::proofs::Showing::grown_by_none, crate::proofs::Showing::grown_more, crate::proofs::Showing::ends_in))]
 pub(crate) fn tour<R: AllocGlobal + Clock + Threads + Sync, S: Write, J: Write, E: Write>(
     rt: &R,
     story: &mut S,
@@ -86,27 +112,146 @@ pub(crate) fn tour<R: AllocGlobal + Clock + Threads + Sync, S: Write, J: Write, 
         → EndsIn (S.contents story.old) (S.contents story.new) (findings_text found)) }
 {
     let alloc = rt.alloc();
-    let mut station: TourStation = station(alloc, shape(), plan.ports, ENTRIES)?;
-    let mut parts = ScriptParts::new(alloc, plan)?;
-    let mut course = Course {
-        memory: FlatMemory::zeros(alloc, WORDS)?,
-        tally: Tally::new(),
-        took: Duration::ZERO,
+    let setting = Setting {
+        plan: *plan,
+        pages,
+        crew: crew_of(threads, plan.ports, shape().banks),
+        gate: PatientGate::new(alloc, PATIENCE)?,
     };
-    let gate = PatientGate::new(alloc, PATIENCE)?;
-    let crew = crew_of(threads, plan.ports, shape().banks);
-    for _segment in 0..plan.asks {
-        let scripts = parts.next(alloc, asks_of_a_port(plan))?;
-        let segment = run_segment(rt, &mut station, &scripts, crew, &gate, &mut course)?;
-        tell_begin(story, pages, plan, &scripts, &segment, &course)?;
-        let findings = look_at(alloc, &scripts, &segment, &mut course)?;
-        tell_segment(journal, errors, pages, &segment, &course)?;
-        if parts.left() == 0 || findings.outcome() != Outcome::Good {
-            tell_end(story, errors, pages, &segment, &course, &findings)?;
+    let mut course = Course::new(alloc, plan)?;
+    let mut station: TourStation = station(alloc, shape(), plan.ports, ENTRIES)?;
+    tour_segments(
+        rt,
+        story,
+        journal,
+        errors,
+        &setting,
+        &mut station,
+        &mut course,
+    )
+}
+
+// Runs one segment behind the other, up to the last one.
+#[tactic(auto, using(crate::proofs::Showing::grown_by_none))]
+fn tour_segments<R: AllocGlobal + Clock + Threads + Sync, S: Write, J: Write, E: Write>(
+    rt: &R,
+    story: &mut S,
+    journal: &mut J,
+    errors: &mut E,
+    setting: &Setting,
+    station: &mut TourStation,
+    course: &mut Course,
+) -> Result<Findings, StationFault>
+    requires one { AreOneStation station.old.cache station.old.ports.items station.old.banks.items }
+    requires ports { vec_len station.old.ports ≡ setting.now.plan.ports }
+    requires parts { ports_of course.old.parts ≡ setting.now.plan.ports }
+    requires left { left_of course.old.parts ≡ setting.now.plan.asks }
+    ensures { IfOk result (λ found. setting.now.pages.story ≡ true → 1 ≤ setting.now.plan.asks
+        → EndsIn (S.contents story.old) (S.contents story.new) (findings_text found)) }
+{
+    for _segment in 0..setting.plan.asks {
+        let end = tour_segment(rt, story, journal, errors, setting, station, course)?;
+        if let Some(findings) = end {
             return Ok(findings);
         }
     }
     Ok(NOTHING_WRONG)
+}
+
+// Runs the next asks, and tells of them. The result is what was found behind them, if they are the last ones.
+fn tour_segment<R: AllocGlobal + Clock + Threads + Sync, S: Write, J: Write, E: Write>(
+    rt: &R,
+    story: &mut S,
+    journal: &mut J,
+    errors: &mut E,
+    setting: &Setting,
+    station: &mut TourStation,
+    course: &mut Course,
+) -> Result<Option<Findings>, StationFault>
+    requires one { AreOneStation station.old.cache station.old.ports.items station.old.banks.items }
+    requires ports { vec_len station.old.ports ≡ setting.now.plan.ports }
+    requires parts { ports_of course.old.parts ≡ setting.now.plan.ports }
+    ensures one { AreOneStation station.new.cache station.new.ports.items station.new.banks.items }
+    ensures ports { vec_len station.new.ports ≡ vec_len station.old.ports }
+    ensures parts { ports_of course.new.parts ≡ ports_of course.old.parts }
+    ensures fewer { left_of course.new.parts ≤ left_of course.old.parts - 1 }
+    ensures more { IfOk result (λ end. IfNone end (1 ≤ left_of course.new.parts)) }
+    ensures told { IfOk result (λ end.
+        GoesOn setting.now.pages.story (S.contents story.old) (S.contents story.new) end) }
+{
+    let scripts = course
+        .parts
+        .next(rt.alloc(), asks_of_a_port(&setting.plan))?;
+    let segment = run_segment(rt, station, &scripts, setting, course)?;
+    look_and_tell(
+        rt.alloc(),
+        story,
+        journal,
+        errors,
+        setting,
+        &scripts,
+        &segment,
+        course,
+    )
+}
+
+// Looks at what a segment left, and tells of it. The result is what was found, if it is the last one.
+#[tactic(auto, using(crate::proofs::Showing::goes_on))]
+fn look_and_tell<S: Write, J: Write, E: Write>(
+    alloc: Global,
+    story: &mut S,
+    journal: &mut J,
+    errors: &mut E,
+    setting: &Setting,
+    scripts: &[Vec<Ask>],
+    segment: &Segment,
+    course: &mut Course,
+) -> Result<Option<Findings>, StationFault>
+    ensures parts { course.new.parts ≡ course.old.parts }
+    ensures more { IfOk result (λ end. IfNone end (1 ≤ left_of course.new.parts)) }
+    ensures told { IfOk result (λ end.
+        GoesOn setting.now.pages.story (S.contents story.old) (S.contents story.new) end) }
+{
+    tell_begin(
+        story,
+        setting.pages,
+        &setting.plan,
+        scripts,
+        segment,
+        course,
+    )?;
+    let findings = look_at(alloc, scripts, segment, course)?;
+    tell_behind(
+        story,
+        journal,
+        errors,
+        setting.pages,
+        segment,
+        course,
+        findings,
+    )
+}
+
+// Tells what is to be told behind a segment in which this was found.
+#[tactic(auto, using(crate::proofs::Showing::grown_by_none, crate::proofs::Showing::ends_in))]
+fn tell_behind<S: Write, J: Write, E: Write>(
+    story: &mut S,
+    journal: &mut J,
+    errors: &mut E,
+    pages: Pages,
+    segment: &Segment,
+    course: &Course,
+    findings: Findings,
+) -> Result<Option<Findings>, StationFault>
+    ensures more { IfOk result (λ end. IfNone end (1 ≤ left_of course.now.parts)) }
+    ensures told { IfOk result (λ end. GoesOn pages.story (S.contents story.old) (S.contents story.new) end) }
+{
+    tell_segment(journal, errors, pages, segment, course)?;
+    if course.parts.left() > 0 && findings.outcome() == Outcome::Good {
+        return Ok(None);
+    }
+    tell_end(story, errors, pages, segment, course, &findings)?;
+    Ok(Some(findings))
 }
 
 // Tells, if this is the first segment, what came of the first asks.
@@ -140,17 +285,18 @@ fn run_segment<R: AllocGlobal + Clock + Threads + Sync>(
     rt: &R,
     station: &mut TourStation,
     scripts: &[Vec<Ask>],
-    crew: Crew,
-    gate: &PatientGate,
+    setting: &Setting,
     course: &mut Course,
 ) -> Result<Segment, StationFault>
     requires one { AreOneStation station.old.cache station.old.ports.items station.old.banks.items }
     requires ports { length scripts.now ≡ vec_len station.old.ports }
     ensures one { AreOneStation station.new.cache station.new.ports.items station.new.banks.items }
     ensures ports { vec_len station.new.ports ≡ vec_len station.old.ports }
+    ensures parts { course.new.parts ≡ course.old.parts }
 {
+    let Setting { crew, gate, .. } = setting;
     let begun = Instant::now(rt)?;
-    let segment = run_and_renew(rt, rt.alloc(), station, scripts, TURNS, crew, gate)?;
+    let segment = run_and_renew(rt, rt.alloc(), station, scripts, TURNS, *crew, gate)?;
     course.took = course.took.saturating_add(begun.elapsed(rt)?);
     Ok(segment)
 }
@@ -170,6 +316,7 @@ fn look_at(
     ensures told { IfOk result (λ found. FindsTold segment.now.journal.items (Some segment.now.lists.items) found.are_told) }
     ensures tally { IsNoted course.old.tally scripts.now segment.now course.new.tally }
     ensures took { course.new.took ≡ course.old.took }
+    ensures parts { course.new.parts ≡ course.old.parts }
 {
     course
         .tally

@@ -16,16 +16,25 @@ pub(crate) fn ask_behind_mutex<R: AllocGlobal + Threads + Wait + Sync>(
     scripts: &[Vec<Ask>],
 ) -> Result<bool, StationFault> {
     let core = Mutex::new(new_core(rt.alloc())?);
+    let are_answered = ask_each(rt, &core, scripts)?;
+    Ok(are_answered && comes_to_rest(&mut core.lock(rt)))
+}
+
+// Asks each script in a thread of its own. Says whether all were answered.
+fn ask_each<R: AllocGlobal + Threads + Wait + Sync>(
+    rt: &R,
+    core: &Mutex<Core>,
+    scripts: &[Vec<Ask>],
+) -> Result<bool, StationFault> {
     let answered = map_indices(
         rt,
         rt.alloc(),
         scripts.len(),
         &|place: usize| -> bool
             requires { place < length scripts.now }
-        { asks_all(rt, &core, scripts[place].as_slice()) },
+        { asks_all(rt, core, scripts[place].as_slice()) },
     )?;
-    let mut core = core.into_inner();
-    Ok(answered.iter().all(|is_answered| *is_answered) && comes_to_rest(&mut core))
+    Ok(answered.iter().all(|is_answered| *is_answered))
 }
 
 // Asks the asks of a script one after another. Says whether each was answered for good.

@@ -1,6 +1,7 @@
 //! A station on the threads of a crew, with a port for each script.
 
-ghost use Rattle.std.specs.Prelude.{◌≡◌, length};
+ghost use Rattle.std.specs.Prelude.{◌≡◌, length, vec_len};
+ghost use Rattle.station_parts.specs.Station.{AreOneStation};
 
 use crate::fault::StationFault;
 use crate::patience::PatientGate;
@@ -15,6 +16,8 @@ const TURNS: u64 = 100_000_000;
 // Turns that a port lets go by before it offers an ask again: so few of them come too early.
 const PATIENCE: u32 = 100;
 
+type RateStation = Station<WAYS, BLOCK_WORDS, REGS, DEPTH>;
+
 /// Runs the scripts to their end, with a journal of so many entries. Says whether the audit is clean.
 pub(crate) fn ask_on_threads<R: AllocGlobal + Clock + Threads + Sync>(
     rt: &R,
@@ -27,15 +30,24 @@ pub(crate) fn ask_on_threads<R: AllocGlobal + Clock + Threads + Sync>(
 {
     let alloc = rt.alloc();
     let gate = PatientGate::new(alloc, PATIENCE)?;
-    let mut station: Station<WAYS, BLOCK_WORDS, REGS, DEPTH> = station(
-        alloc,
-        shape(),
-        plan.ports,
-        entries,
-    )?;
-    let run = run_and_audit(rt, alloc, &mut station, scripts, TURNS, crew, &gate)?;
-    if let Some(fault) = run.fault() {
-        return Err(fault.into());
+    let mut station: RateStation = station(alloc, shape(), plan.ports, entries)?;
+    runs_clean(rt, &mut station, scripts, crew, &gate)
+}
+
+// Runs the scripts to their end. Says whether the audit is clean.
+fn runs_clean<R: AllocGlobal + Clock + Threads + Sync>(
+    rt: &R,
+    station: &mut RateStation,
+    scripts: &[Vec<Ask>],
+    crew: Crew,
+    gate: &PatientGate,
+) -> Result<bool, StationFault>
+    requires one { AreOneStation station.old.cache station.old.ports.items station.old.banks.items }
+    requires ports { length scripts.now ≡ vec_len station.old.ports }
+{
+    let run = run_and_audit(rt, rt.alloc(), station, scripts, TURNS, crew, gate)?;
+    match run.fault() {
+        Some(fault) => Err(fault.into()),
+        None => Ok(run.audit == Audit::Clean),
     }
-    Ok(run.audit == Audit::Clean)
 }

@@ -1,0 +1,373 @@
+//! The options of the program's commands, as tables.
+
+use access_logs::MAX_WORDS;
+use clap::{Arg, ArgAction};
+use flat_model::MAX_REGS;
+use round_driver::MOST_LATENCY;
+use std::alloc::{AllocError, Global};
+
+/// The name of the option for the machine file.
+pub(crate) const MACHINE: &str = "machine";
+
+/// The name of the option for the rows of a sweep.
+pub(crate) const REGISTERS: &str = "registers";
+
+/// The name of the option for the latency of rounds.
+pub(crate) const LATENCY: &str = "latency";
+
+/// The name of the option for the rounds between two begins of a bank.
+pub(crate) const BUSY: &str = "busy";
+
+/// The option that names a log's format, where a log takes the place of a trace.
+pub(crate) const LOG: &str = "log";
+
+/// The name of the option for a figure.
+pub(crate) const SVG: &str = "svg";
+
+/// The name of the argument that stands for files' names.
+pub(crate) const FILE: &str = "file";
+
+// What stands behind an option.
+#[derive(Clone, Copy)]
+enum Value {
+    // Nothing: it is given or not.
+    Nothing,
+    // A text.
+    Text,
+    // One of these words.
+    Word(&'static [&'static str]),
+    // A whole number from the first of these to the second.
+    Number(i64, i64),
+    // A number of rounds, from this one on.
+    Rounds(i64),
+}
+
+/// An option of a command.
+#[derive(Clone, Copy)]
+pub(crate) struct CommandOption {
+    name: &'static str,
+    // What its value is called in the help.
+    value_name: &'static str,
+    value: Value,
+    // Whether several values may stand behind it, with commas between them.
+    is_list: bool,
+    // Whether a command that takes no file needs it.
+    is_required: bool,
+    // The options that have to stand beside it, and those that mustn't.
+    needs: &'static [&'static str],
+    conflicts: &'static [&'static str],
+    help: &'static str,
+}
+
+// Each row begins with these.
+const FLAG: CommandOption = CommandOption {
+    name: "",
+    value_name: "",
+    value: Value::Nothing,
+    is_list: false,
+    is_required: false,
+    needs: &[],
+    conflicts: &[],
+    help: "",
+};
+
+// The name of a file.
+const A_FILE: CommandOption = CommandOption {
+    value_name: "FILE",
+    value: Value::Text,
+    ..FLAG
+};
+
+/// The option for the shape file. It may stand before or behind the command.
+pub(crate) const SHAPE: CommandOption = CommandOption {
+    name: "shape",
+    help: "The TOML file with the machine's numbers",
+    ..A_FILE
+};
+
+// The option for the machine file. It stands behind the command.
+const MACHINE_FILE: CommandOption = CommandOption {
+    name: MACHINE,
+    help: "The TOML file with all numbers of a machine, in place of a shape file",
+    ..A_FILE
+};
+
+// What a machine's memory has before the first store.
+const IMAGE: CommandOption = CommandOption {
+    name: "image",
+    value_name: "address|FILE",
+    help: "What memory has in place of zeros: each word its own address, or a file's bytes",
+    ..A_FILE
+};
+
+const ROUNDS: CommandOption = CommandOption {
+    name: LATENCY,
+    value_name: "L",
+    value: Value::Rounds(0),
+    ..FLAG
+};
+
+const BUSY_BANKS: CommandOption = CommandOption {
+    name: BUSY,
+    value_name: "B",
+    value: Value::Rounds(1),
+    help: "Rounds from one command that a bank begins to its next, 1 to L [default: L]",
+    ..FLAG
+};
+
+// How what is found is written.
+const FORMAT: CommandOption = CommandOption {
+    name: "format",
+    value_name: "FORMAT",
+    value: Value::Word(&["text", "csv", "json"]),
+    help: "How the verdict is written [default: text]",
+    ..FLAG
+};
+
+const COUNTS_FORMAT: CommandOption = CommandOption {
+    help: "How the counts are written [default: text]",
+    ..FORMAT
+};
+
+// What wrote a log.
+const LOG_FORMAT: CommandOption = CommandOption {
+    name: LOG,
+    value_name: "FORMAT",
+    value: Value::Word(&["lackey", "din"]),
+    ..FLAG
+};
+
+/// The options of `run`.
+pub(crate) static RUN: [CommandOption; 3] = [SHAPE, MACHINE_FILE, IMAGE];
+
+/// The options of `check`.
+pub(crate) static CHECK: [CommandOption; 5] = [
+    SHAPE,
+    MACHINE_FILE,
+    IMAGE,
+    CommandOption {
+        name: "all-answered",
+        help: "End with status 1 if loads are open at the end, and tell their tags",
+        ..FLAG
+    },
+    FORMAT,
+];
+
+/// The options of `sweep`, whose counts don't depend on what memory begins with. Without a latency it makes no
+/// rounds, so no bank is busy.
+pub(crate) static SWEEP: [CommandOption; 7] = [
+    SHAPE,
+    MACHINE_FILE,
+    CommandOption {
+        is_list: true,
+        help: "Count rounds, with this many from a command's begin to its service, 0 to 1000, or up to 8 ascending ones: 5,20,80",
+        ..ROUNDS
+    },
+    CommandOption {
+        needs: &[LATENCY],
+        ..BUSY_BANKS
+    },
+    COUNTS_FORMAT,
+    // The figure has a column for each of the usual numbers, and no format goes with it.
+    CommandOption {
+        name: SVG,
+        needs: &[LATENCY],
+        conflicts: &["format", REGISTERS],
+        help: "Draw the rounds by the number of registers, a line for each latency",
+        ..FLAG
+    },
+    CommandOption {
+        name: REGISTERS,
+        value_name: "N",
+        value: Value::Number(1, MAX_REGS as i64),
+        is_list: true,
+        help: "The rows: up to 16 ascending numbers of registers: 1,2,4,8,16 [default: 1,2,4,8]",
+        ..FLAG
+    },
+];
+
+/// The options of `explain`.
+pub(crate) static EXPLAIN: [CommandOption; 4] = [
+    SHAPE,
+    MACHINE_FILE,
+    IMAGE,
+    CommandOption {
+        help: "How the explanation is written [default: text]",
+        ..FORMAT
+    },
+];
+
+/// The options of `grade`.
+pub(crate) static GRADE: [CommandOption; 4] = [
+    SHAPE,
+    MACHINE_FILE,
+    IMAGE,
+    CommandOption {
+        help: "How the grade is written [default: text]",
+        ..FORMAT
+    },
+];
+
+/// The options of `drive`.
+pub(crate) static DRIVE: [CommandOption; 10] = [
+    SHAPE,
+    MACHINE_FILE,
+    IMAGE,
+    CommandOption {
+        help: "Read a log of accesses in place of a trace, and count them with --summary --all",
+        ..LOG_FORMAT
+    },
+    CommandOption {
+        help: "Rounds from a command's begin to its service, 0 to 1000 [default: 10]",
+        ..ROUNDS
+    },
+    BUSY_BANKS,
+    CommandOption {
+        name: "summary",
+        help: "Write counts in place of the run",
+        ..FLAG
+    },
+    CommandOption {
+        name: "all",
+        needs: &["summary"],
+        help: "Count more: by kind and set, rounds by registers in use and loads owed, loads by wait",
+        ..FLAG
+    },
+    CommandOption {
+        needs: &["summary"],
+        ..COUNTS_FORMAT
+    },
+    CommandOption {
+        name: SVG,
+        needs: &["summary"],
+        conflicts: &["format"],
+        help: "Draw the rounds that were lost, a bar for each cause",
+        ..FLAG
+    },
+];
+
+/// The options of `requests`. It knows no shape.
+pub(crate) static REQUESTS: [CommandOption; 2] = [
+    CommandOption {
+        name: "from",
+        is_required: true,
+        help: "What wrote the log",
+        ..LOG_FORMAT
+    },
+    CommandOption {
+        name: "words",
+        value_name: "N",
+        value: Value::Number(1, MAX_WORDS as i64),
+        help: "Words of memory, a multiple of 4, at most 1048576 [default: 1048576]",
+        ..FLAG
+    },
+];
+
+/// The options of `show`.
+pub(crate) static SHOW: [CommandOption; 5] = [
+    SHAPE,
+    MACHINE_FILE,
+    IMAGE,
+    CommandOption {
+        name: "text",
+        help: "Write lines for a terminal in place of the page",
+        ..FLAG
+    },
+    CommandOption {
+        name: "vcd",
+        conflicts: &["text"],
+        help: "Write a waveform in place of the page",
+        ..FLAG
+    },
+];
+
+/// The options of `history`. It knows no shape.
+pub(crate) static HISTORY: [CommandOption; 7] = [
+    CommandOption {
+        name: "law",
+        value_name: "LAW",
+        value: Value::Word(&["flat", "atomic", "regular"]),
+        help: "The law that the history is judged by [default: regular]",
+        ..FLAG
+    },
+    CommandOption {
+        name: "unit",
+        value_name: "N",
+        value: Value::Word(&["1", "2", "4", "8"]),
+        help: "How many bytes take effect at one moment, with --law atomic [default: 8]",
+        ..FLAG
+    },
+    CommandOption {
+        name: "image",
+        help: "The file whose bytes memory has from address 0 on, in place of zeros",
+        ..A_FILE
+    },
+    CommandOption {
+        name: "unknown",
+        conflicts: &["image"],
+        help: "Memory may have had anything before the first store",
+        ..FLAG
+    },
+    CommandOption {
+        name: "all-answered",
+        help: "End with status 1 if operations are open at the end",
+        ..FLAG
+    },
+    CommandOption {
+        name: "values",
+        help: "Write each line, and behind a load's response what it may have returned",
+        ..FLAG
+    },
+    FORMAT,
+];
+
+/// The argument of an option.
+pub(crate) fn argument<'a>(
+    alloc: Global,
+    option: &CommandOption,
+    takes_file: bool,
+) -> Result<Arg<'a>, AllocError> {
+    let arg = with_value(named(alloc, option), option);
+    arg.required(option.is_required && !takes_file)
+        .requires_all(option.needs)?
+        .conflicts_with_all(option.conflicts)
+}
+
+fn named<'a>(alloc: Global, option: &CommandOption) -> Arg<'a> {
+    Arg::new(alloc, option.name)
+        .long(option.name)
+        .help(option.help)
+}
+
+fn with_value<'a>(arg: Arg<'a>, option: &CommandOption) -> Arg<'a> {
+    match option.value {
+        Value::Nothing => arg.action(ArgAction::SetTrue),
+        Value::Text => valued(arg, option),
+        Value::Word(words) => valued(arg, option).value_parser(words),
+        Value::Number(least, most) => {
+            valued(arg, option).value_parser(clap::value_parser!(u32).range(least..=most))
+        }
+        Value::Rounds(least) => {
+            let most = MOST_LATENCY as i64;
+            valued(arg, option).value_parser(clap::value_parser!(u64).range(least..=most))
+        }
+    }
+}
+
+// An argument that takes a value, or several.
+fn valued<'a>(arg: Arg<'a>, option: &CommandOption) -> Arg<'a> {
+    let arg = arg.value_name(option.value_name).action(ArgAction::Set);
+    if option.is_list {
+        arg.value_delimiter(',')
+    } else {
+        arg
+    }
+}
+
+/// The names of files, where a user gives some.
+pub(crate) fn file_argument<'a>(alloc: Global) -> Arg<'a> {
+    Arg::new(alloc, FILE)
+        .action(ArgAction::Set)
+        .num_args(1..)
+        .hide(true)
+}
