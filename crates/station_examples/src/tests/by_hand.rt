@@ -5,7 +5,7 @@ ghost use Rattle.station_parts.specs.Ids.{port_id, bank_id, cache_id};
 ghost use Rattle.station_parts.specs.Station.{AreOneStation};
 
 use super::{LOAD_5, SHAPE, SmallCache, SmallStation, VALUE, ZEROS};
-use flat_model::{Cause, Lanes, Word};
+use flat_model::{Cause, Lanes, MakeFault, Word};
 use memory_banks::{BankAnswer, Command};
 use ring_station::{
     Ask, Audit, BankSide, Port, RawBank, RenewFault, Ring, SideFault, Source, Station, Stepped,
@@ -726,16 +726,27 @@ fn walk_raw(rt: &impl Abort, station: &mut SmallStation, bank: usize, story: &St
     }
 }
 
+// Goes through a story with a new station. The result is how its cache side stands in the end: its fault, and
+// whether it is settled.
+fn end_of(
+    rt: &impl Abort,
+    alloc: Global,
+    story: &Story,
+) -> Result<(Option<SideFault>, bool), MakeFault> {
+    let mut all: SmallStation = station(alloc, SHAPE, 1, story.journal)?;
+    match story.raw {
+        None => walk(rt, alloc, &mut all, story),
+        Some(bank) => walk_raw(rt, &mut all, bank, story),
+    }
+    Ok((all.cache.fault(), all.cache.settled()))
+}
+
 #[test]
 fn stations_by_hand(rt: HostRuntime) -> Result<(), Fail> {
     for story in &STORIES {
-        let mut all = station::<1, 4, 2, 2>(rt.alloc(), SHAPE, 1, story.journal)?;
-        match story.raw {
-            None => walk(&rt, rt.alloc(), &mut all, story),
-            Some(bank) => walk_raw(&rt, &mut all, bank, story),
-        }
-        assert_eq!(rt; all.cache.fault(), story.fault, "{}", story.name);
-        assert!(rt; all.cache.settled() || !story.settled, "{}", story.name);
+        let (fault, settled) = end_of(&rt, rt.alloc(), story)?;
+        assert_eq!(rt; fault, story.fault, "{}", story.name);
+        assert!(rt; settled || !story.settled, "{}", story.name);
     }
     Ok(())
 }

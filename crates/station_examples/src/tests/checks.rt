@@ -7,6 +7,7 @@ use station_checks::{
     tell_progress, tell_run, tell_story,
 };
 use std::alloc::{AllocError, Global};
+use std::io;
 use std::test::Fail;
 use std::time::Duration;
 
@@ -194,18 +195,27 @@ const FINDINGS: Findings = Findings {
 fn told(alloc: Global, text: Text) -> Result<Vec<u8>, Fail> {
     let scripts = scripts_of(alloc, &[&script()])?;
     let lists = [list().to_vec(alloc)?];
+    let mut out = Vec::new(alloc);
+    tell(&mut out, text, &scripts, &lists)?;
+    Ok(out)
+}
+
+fn tell(
+    out: &mut Vec<u8>,
+    text: Text,
+    scripts: &[Vec<Ask>],
+    lists: &[Vec<Told>],
+) -> io::Result<()> {
     let plan = Plan::new(1, 4, 7);
     let journal = journal(STORED);
     let mut tally = Tally::new();
-    tally.note(4, &lists, &journal);
-    let mut out = Vec::new(alloc);
+    tally.note(4, lists, &journal);
     match text {
-        Text::Story => tell_story(&mut out, &plan, &scripts, &lists, &FINDINGS)?,
-        Text::Run => tell_run(&mut out, &tally, &journal, Duration::from_millis(500))?,
-        Text::Progress => tell_progress(&mut out, &tally, Duration::from_millis(500))?,
-        Text::Journal => tell_journal(&mut out, &journal)?,
+        Text::Story => tell_story(out, &plan, scripts, lists, &FINDINGS),
+        Text::Run => tell_run(out, &tally, &journal, Duration::from_millis(500)),
+        Text::Progress => tell_progress(out, &tally, Duration::from_millis(500)),
+        Text::Journal => tell_journal(out, &journal),
     }
-    Ok(out)
 }
 
 const FAULTS: [(SegmentFault, &str); 5] = [

@@ -1,12 +1,15 @@
 //! How the parts of a run end, and what is told of a run that comes to no end. A row has the gate's
 //! rule, the threads, and each part's end.
+ghost use Rattle.std.specs.Prelude.{◌≡◌, length, vec_len};
+ghost use Rattle.station_parts.specs.Station.{AreOneStation};
+
 use super::gates::{Rule, RuledGate};
 use super::{LOAD_5, SHAPE, SmallStation, TURNS, VALUE, scripts_of};
 use flat_model::MakeFault;
 use ring_station::{
     Actor, Ask, Audit, Crew, Ring, Run, ThreadEnd, ThreadFault, Told, run_and_audit, station,
 };
-use std::alloc::Global;
+use std::alloc::{AllocError, Global};
 use std::process::Abort;
 use std::rt::Clock;
 use std::test::Fail;
@@ -297,8 +300,22 @@ fn make_run<R: Abort + Clock + Threads + Sync>(
     let scripts = scripts_of(alloc, &row.scripts)?;
     let mut all: SmallStation = station(alloc, SHAPE, 2, row.journal)?;
     assert_eq!(rt; scripts.len(), all.ports.len());
+    Ok(runs_as_said(rt, alloc, &mut all, &scripts, row)?)
+}
+
+// Makes the run of a row with a new station. Says whether it ends as the row says.
+fn runs_as_said<R: Clock + Threads + Sync>(
+    rt: &R,
+    alloc: Global,
+    all: &mut SmallStation,
+    scripts: &[Vec<Ask>],
+    row: &Ending,
+) -> Result<bool, AllocError>
+    requires one { AreOneStation all.old.cache all.old.ports.items all.old.banks.items }
+    requires scripts { length scripts.now ≡ vec_len all.old.ports }
+{
     let gate = RuledGate::new(row.rule);
-    let run = run_and_audit(rt, alloc, &mut all, &scripts, row.turns, row.crew, &gate)?;
+    let run = run_and_audit(rt, alloc, all, scripts, row.turns, row.crew, &gate)?;
     Ok(is_as_said(&run, &gate, row))
 }
 

@@ -1,7 +1,10 @@
 //! The largest station that can be made.
+ghost use Rattle.std.specs.Prelude.{◌≡◌, vec_len};
+
 use super::ZEROS;
 use flat_model::{Answer, Event, Shape};
 use ring_station::{Ask, Entry, Source, Station, Stepped, Told, station};
+use std::process::Abort;
 use std::test::Fail;
 
 const LARGEST: Shape = Shape {
@@ -33,15 +36,18 @@ const TOLD: [Told; 2] = [
     },
 ];
 
+type LargestStation = Station<8, 16, 16, 16>;
+
 // The last port asks for the last word under its last tag.
-#[test]
-fn the_largest_station(rt: HostRuntime) -> Result<(), Fail> {
-    let mut all = station::<8, 16, 16, 16>(rt.alloc(), LARGEST, 16, 1_048_576)?;
+fn ask_for_the_last(rt: &impl Abort, all: &mut LargestStation)
+    requires ports { vec_len all.old.ports ≡ 16 }
+    requires banks { vec_len all.old.banks ≡ 16 }
+{
     let Station {
         cache,
         ports,
         banks,
-    } = &mut all;
+    } = all;
     assert_eq!(rt; ports[15].offer(Ask::Load { tag: 255, at: LAST }), Ok(()));
     assert_eq!(rt; cache.step(Source::Ask(15)), Stepped::Did);
     assert_eq!(rt; banks[15].step(), Stepped::Did);
@@ -52,5 +58,11 @@ fn the_largest_station(rt: HostRuntime) -> Result<(), Fail> {
     for told in TOLD {
         assert_eq!(rt; ports[15].take(), Some(told));
     }
+}
+
+#[test]
+fn the_largest_station(rt: HostRuntime) -> Result<(), Fail> {
+    let mut all: LargestStation = station(rt.alloc(), LARGEST, 16, 1_048_576)?;
+    ask_for_the_last(&rt, &mut all);
     Ok(())
 }

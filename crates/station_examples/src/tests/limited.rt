@@ -113,32 +113,75 @@ fn run_by_asks<R: Abort + Clock + Threads + Sync, G: Gate>(
     Ok(run.err())
 }
 
+// How a station stands behind a run.
+#[derive(Clone, Copy)]
+struct Left {
+    fault: Option<SegmentFault>,
+    entries: u32,
+    is_clean: bool,
+}
+
+// How a station stands behind a run that came to this.
+fn left_in(all: &mut SmallStation, fault: Option<SegmentFault>) -> Left
+    requires { AreOneStation all.old.cache all.old.ports.items all.old.banks.items }
+{
+    let found = audit(&mut all.cache, &mut all.ports, &mut all.banks);
+    Left {
+        fault,
+        entries: all.cache.entries(),
+        is_clean: found == Audit::Clean,
+    }
+}
+
+// What a row's scripts leave of a new station that is to be renewed behind them.
+fn left_at_once<R: Abort + Clock + Threads + Sync>(
+    rt: &R,
+    alloc: Global,
+    row: &Limited,
+    turns: u64,
+    gate: &RuledGate,
+) -> Result<Left, Fail> {
+    let mut all: SmallStation = station(alloc, SHAPE, 2, 1_000)?;
+    let fault = run_once(rt, alloc, &mut all, row, turns, gate)?;
+    Ok(left_in(&mut all, fault))
+}
+
+// What scripts of two ports leave of a new station that is to be renewed behind each ask.
+fn left_by_asks<R: Abort + Clock + Threads + Sync, G: Gate>(
+    rt: &R,
+    alloc: Global,
+    rows: &[&[Ask]],
+    turns: u64,
+    gate: &G,
+    kept: &mut Vec<Segment>,
+) -> Result<Left, Fail> {
+    let mut all: SmallStation = station(alloc, SHAPE, 2, 1_000)?;
+    let fault = run_by_asks(rt, alloc, &mut all, rows, turns, gate, kept)?;
+    Ok(left_in(&mut all, fault))
+}
+
 // Whether each part asked the gate in its turns alone. The cache side and the banks end behind all ports.
 fn kept_to_turns(gate: &RuledGate, turns: u64) -> bool {
     let [cache, first_port, second_port, first_bank, second_bank] = gate.turns();
     [cache, first_bank, second_bank] == [turns; 3] && first_port.max(second_port) <= turns
 }
 
-// Whether the steps of a row's turns stand in the station, and nothing was handed out.
-fn is_left_so(all: &mut SmallStation, row: &Limited) -> bool
-    requires { AreOneStation all.old.cache all.old.ports.items all.old.banks.items }
-{
+// Whether a run came to its limit in a row's turns, and the steps of these stand in the station, of which
+// nothing was handed out.
+fn is_left_so(left: &Left, gate: &RuledGate, row: &Limited) -> bool {
     let [least, most] = row.entries;
-    let is_clean = audit(&mut all.cache, &mut all.ports, &mut all.banks) == Audit::Clean;
-    (least..=most).contains(&all.cache.entries())
-        && row.is_clean.is_none_or(|wanted| is_clean == wanted)
+    left.fault == Some(AT_LIMIT)
+        && kept_to_turns(gate, row.turns)
+        && (least..=most).contains(&left.entries)
+        && row.is_clean.is_none_or(|wanted| left.is_clean == wanted)
 }
 
 #[test]
 fn no_renewal_at_a_limit(rt: HostRuntime) -> Result<(), Fail> {
-    let alloc = rt.alloc();
     for row in &LIMITED {
-        let mut all: SmallStation = station(alloc, SHAPE, 2, 1_000)?;
         let gate = RuledGate::new(row.rule);
-        let fault = run_once(&rt, alloc, &mut all, row, row.turns, &gate)?;
-        assert_eq!(rt; fault, Some(AT_LIMIT), "{}", row.name);
-        assert!(rt; kept_to_turns(&gate, row.turns), "{}", row.name);
-        assert!(rt; is_left_so(&mut all, row), "{}", row.name);
+        let left = left_at_once(&rt, rt.alloc(), row, row.turns, &gate)?;
+        assert!(rt; is_left_so(&left, &gate, row), "{}", row.name);
     }
     Ok(())
 }
@@ -147,35 +190,24 @@ fn no_renewal_at_a_limit(rt: HostRuntime) -> Result<(), Fail> {
 fn no_segment_at_a_limit(rt: HostRuntime) -> Result<(), Fail> {
     let alloc = rt.alloc();
     for row in &LIMITED {
-        let mut all: SmallStation = station(alloc, SHAPE, 2, 1_000)?;
         let gate = RuledGate::new(row.rule);
         let mut kept: Vec<Segment> = Vec::new(alloc);
-        let fault = run_by_asks(
-            &rt,
-            alloc,
-            &mut all,
-            &row.scripts,
-            row.turns,
-            &gate,
-            &mut kept,
-        )?;
-        assert_eq!(rt; fault, Some(AT_LIMIT), "{}", row.name);
-        assert_eq!(rt; kept.len(), 0, "{}", row.name);
-        assert!(rt; kept_to_turns(&gate, row.turns), "{}", row.name);
-        assert!(rt; is_left_so(&mut all, row), "{}", row.name);
+        let left = left_by_asks(&rt, alloc, &row.scripts, row.turns, &gate, &mut kept)?;
+        assert!(rt;
+            kept.is_empty() && is_left_so(&left, &gate, row),
+            "{}",
+            row.name
+        );
     }
     Ok(())
 }
 
 #[test]
 fn the_same_scripts_with_enough_turns(rt: HostRuntime) -> Result<(), Fail> {
-    let alloc = rt.alloc();
     for row in &LIMITED {
-        let mut all: SmallStation = station(alloc, SHAPE, 2, 1_000)?;
         let gate = RuledGate::new(Rule::Open);
-        let fault = run_once(&rt, alloc, &mut all, row, TURNS, &gate)?;
-        assert_eq!(rt; fault, None, "{}", row.name);
-        assert_eq!(rt; all.cache.entries(), 0, "{}", row.name);
+        let left = left_at_once(&rt, rt.alloc(), row, TURNS, &gate)?;
+        assert_eq!(rt; (left.fault, left.entries), (None, 0), "{}", row.name);
     }
     Ok(())
 }
@@ -201,17 +233,15 @@ impl Gate for ClosingGate {
 #[test]
 fn a_segment_before_the_limit_is_kept(rt: HostRuntime) -> Result<(), Fail> {
     let alloc = rt.alloc();
-    let mut all: SmallStation = station(alloc, SHAPE, 2, 1_000)?;
     let gate = ClosingGate {
         told: AtomicU64::new(0),
         most: 3,
     };
     let mut kept: Vec<Segment> = Vec::new(alloc);
     let rows: [&[Ask]; 2] = [&[LOAD_5, LOAD_5], &[]];
-    let fault = run_by_asks(&rt, alloc, &mut all, &rows, SOME_TURNS, &gate, &mut kept)?;
-    assert_eq!(rt; fault, Some(AT_LIMIT));
+    let left = left_by_asks(&rt, alloc, &rows, SOME_TURNS, &gate, &mut kept)?;
+    assert_eq!(rt; (left.fault, left.is_clean), (Some(AT_LIMIT), false));
     assert_eq!(rt; kept.len(), 1);
     assert!(rt; are_lists(&kept[0].lists, &[&[Told::Accepted, VALUE], &[]]));
-    assert!(rt; audit(&mut all.cache, &mut all.ports, &mut all.banks) != Audit::Clean);
     Ok(())
 }

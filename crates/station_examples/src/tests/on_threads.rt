@@ -1,7 +1,8 @@
 //! Runs on threads. A row has the station, the scripts of its ports, the gate's rule, and what is to be
 //! found behind the run.
-ghost use Rattle.std.specs.Prelude.{◌≡◌};
+ghost use Rattle.std.specs.Prelude.{◌≡◌, length, vec_len};
 ghost use Rattle.station_parts.specs.Ids.{cache_id};
+ghost use Rattle.station_parts.specs.Station.{AreOneStation};
 
 use super::gates::{Rule, RuledGate};
 use super::{LOAD_5, SHAPE, SmallCache, SmallStation, TURNS, VALUE, scripts_of};
@@ -411,8 +412,22 @@ pub(crate) fn make_run<R: Abort + Clock + Threads + Sync>(
     let scripts = scripts_of(alloc, run.scripts)?;
     let mut all: SmallStation = station(alloc, SHAPE, run.ports(), run.journal)?;
     assert_eq!(rt; scripts.len(), all.ports.len());
+    Ok(run_row(rt, alloc, &mut all, &scripts, run))
+}
+
+// Makes the run of a row with a new station.
+fn run_row<R: Clock + Threads + Sync>(
+    rt: &R,
+    alloc: Global,
+    all: &mut SmallStation,
+    scripts: &[Vec<Ask>],
+    run: &Run,
+) -> Outcome
+    requires one { AreOneStation all.old.cache all.old.ports.items all.old.banks.items }
+    requires scripts { length scripts.now ≡ vec_len all.old.ports }
+{
     let gate = RuledGate::new(run.rule);
-    let ended = run_threads(rt, alloc, &mut all, &scripts, run.turns, &gate);
+    let ended = run_threads(rt, alloc, all, scripts, run.turns, &gate);
     step_on(&mut all.cache, run.then);
     let found = audit(&mut all.cache, &mut all.ports, &mut all.banks);
     let behind = Behind {
@@ -421,11 +436,11 @@ pub(crate) fn make_run<R: Abort + Clock + Threads + Sync>(
         gate: &gate,
         found,
     };
-    Ok(Outcome {
+    Outcome {
         fault: ended.as_ref().err().copied(),
         has_ended: has_ended(&ended, run),
         wrong: behind.first_wrong(run.facts),
-    })
+    }
 }
 
 #[test]

@@ -186,16 +186,29 @@ fn ended_in(journal: &[Entry]) -> usize {
         .count()
 }
 
-#[test]
-fn renewed_behind_each_run(rt: HostRuntime) -> Result<(), Fail> {
-    let alloc = rt.alloc();
-    let mut all: SmallStation = station(alloc, SHAPE, 2, 1_000)?;
-    let mut whole: Vec<Entry> = Vec::new(alloc);
+// Makes the runs one behind the other, and gathers their journals.
+fn run_turns<R: Abort + Clock + Threads + Sync>(
+    rt: &R,
+    alloc: Global,
+    all: &mut SmallStation,
+    whole: &mut Vec<Entry>,
+) -> Result<(), Fail>
+    requires { AreOneStation all.old.cache all.old.ports.items all.old.banks.items }
+{
     for turn in &TURNS_OF_RUNS {
-        let segment = run_turn(&rt, alloc, &mut all, turn)?;
+        let segment = run_turn(rt, alloc, all, turn)?;
         assert!(rt; is_as_said(alloc, &segment, &turn.gives)?);
         whole.extend_from_slice(&segment.journal)?;
     }
+    Ok(())
+}
+
+#[test]
+fn renewed_behind_each_run(rt: HostRuntime) -> Result<(), Fail> {
+    let alloc = rt.alloc();
+    let mut whole: Vec<Entry> = Vec::new(alloc);
+    let mut all: SmallStation = station(alloc, SHAPE, 2, 1_000)?;
+    run_turns(&rt, alloc, &mut all, &mut whole)?;
     assert_eq!(rt; all.cache.entries(), 0);
     assert!(rt; is_flat(alloc, &whole, SHAPE.words)?);
     Ok(())
@@ -208,8 +221,8 @@ fn run_cut<R: Abort + Clock + Threads + Sync, K: Keeper>(
     cut: &Cut,
     keeper: &mut K,
 ) -> Result<Option<SegmentFault>, Fail> {
-    let mut all: SmallStation = station(alloc, SHAPE, 2, 1_000)?;
     let scripts = scripts_of(alloc, &cut.scripts)?;
+    let mut all: SmallStation = station(alloc, SHAPE, 2, 1_000)?;
     assert_eq!(rt; scripts.len(), all.ports.len());
     let gate = RuledGate::new(Rule::Open);
     let crew = Crew::one_each();
