@@ -36,11 +36,7 @@ length-take (x ∷ cells) (suc i) h = ap suc (length-take cells i (omega arith))
 pub dirty_more : (block at : ℕ) (cells : List Cell) (i : ℕ) (b : Bool) → i < length cells → has_any (get_or cells i zero_cell).dirty ≡ b
     → dirty_from block at (take (i + 1) cells) ≡ dirty_from block at (take i cells)
     ++ cond b (queued_cell block (at + i) (get_or cells i zero_cell) ∷ []) []
-dirty_more block at cells i b h e =
-    let cell = get_or cells i zero_cell in
-    ap (dirty_from block at) (take_more cells i zero_cell h) ∙ dirty_from-append block at _ _
-    ∙ ap (λ k. dirty_from block at (take i cells) ++ dirty_from block (at + k) (cell ∷ [])) (length-take cells i (omega arith))
-    ∙ ap (λ v. dirty_from block at (take i cells) ++ cond v (queued_cell block (at + i) cell ∷ []) []) e
+dirty_more block at cells i b h e = grind (arith, take_more cells i zero_cell h, dirty_from-append, length-take)
 
 -- how many they are doesn't depend on where they stand
 pub dirty-length : (block at block' at' : ℕ) (cells : List Cell) → length (dirty_from block at cells) ≡ length (dirty_from block' at' cells)
@@ -71,15 +67,7 @@ pub queue_one_more : (q old new : Queue) (block at i : ℕ) (cells : List Cell) 
     → q ≡ queue_of (old.entries ++ dirty_from block at (take i cells)) old.limit
     → new ≡ queue_of (q.entries ++ record { block = block; at = at + i; word = word; lanes = lanes } ∷ []) q.limit
     → new ≡ queue_of (old.entries ++ dirty_from block at (take (i + 1) cells)) old.limit
-queue_one_more q old new block at i cells word lanes h d el ew eq en =
-    let cell = get_or cells i zero_cell in
-    let front = dirty_from block at _ in
-    let entry : Queued = record { block = block; at = at + i; word = word; lanes = lanes } in
-    let same = ap (λ w. let e : Queued = record { block = block; at = at + i; word = w; lanes = lanes } in e) ew
-    ∙ ap (λ m. let e : Queued = record { block = block; at = at + i; word = merged zero_word cell.word m; lanes = m } in e) el in
-    let more = sym (dirty_more block at cells i true h d) in
-    en ∙ ap (λ p. queue_of (p.entries ++ entry ∷ []) p.limit) eq ∙ ap (λ l. queue_of l old.limit) (append_assoc old.entries front _)
-    ∙ ap (λ e. queue_of (old.entries ++ (front ++ e ∷ [])) old.limit) same ∙ ap (λ l. queue_of (old.entries ++ l) old.limit) more
+queue_one_more q old new block at i cells word lanes h d el ew eq en = grind (arith, dirty_more block at cells i true h d, append_assoc)
 
 -- of n values, the first i those of g from a on, and d behind them
 abbrev pub begun_to : {X : Type 0} → (ℕ → X) → X → (a i n : ℕ) → List X

@@ -21,7 +21,7 @@ use Rattle.cache_unit.specs.Reads.{is_short, block_reads}
 use Rattle.cache_unit.specs.GivenUp.{owed_words, given_up}
 use Rattle.cache_unit.specs.Miss.{chosen_frame, MayTake}
 use Rattle.cache_directory.proofs.Choices.{chosen-free, chosen-victim, chosen-all_pending}
-use Rattle.cache_unit.proofs.Present.{pending_is, SameMarks, SameMarks-self, SameMarks-set, StackSound-same, live_for-some}
+use Rattle.cache_unit.proofs.Present.{pending_is, SameMarks, SameMarks-self, related-set, StackSound-same, live_for-some}
 use Rattle.cache_unit.proofs.Present.{in_stack-shown}
 use Rattle.miss_registers.proofs.Places.{free_slot-found}
 use Rattle.cache_unit.specs.declared.Places.{Places}
@@ -139,48 +139,16 @@ module _ (z : Sizes) (c : Cache) (h : IsSound z c) where
 abbrev pub by_tests : Bool → Bool → Bool → Bool → Option Cause
 by_tests a b c e = first_cause ((a, NoRegister) ∷ (b, SetPending) ∷ (c, QueueFull) ∷ (e, BankFull) ∷ [])
 
-pub no_register : (a b c e : Bool) → a ≡ true → by_tests a b c e ≡ Some NoRegister
-no_register a b c e h = grind arith
-
-pub set_pending : (a b c e : Bool) → a ≡ false → b ≡ true → by_tests a b c e ≡ Some SetPending
-set_pending a b c e h k = grind arith
-
-pub queue_full : (a b c e : Bool) → a ≡ false → b ≡ false → c ≡ true → by_tests a b c e ≡ Some QueueFull
-queue_full a b c e h k l = grind arith
-
-pub bank_full : (a b c e : Bool) → a ≡ false → b ≡ false → c ≡ false → e ≡ true → by_tests a b c e ≡ Some BankFull
-bank_full a b c e h k l m = grind arith
-
-pub no_cause : (a b c e : Bool) → a ≡ false → b ≡ false → c ≡ false → e ≡ false → by_tests a b c e ≡ None
-no_cause a b c e h k l m = grind arith
-
--- no test holds, where there is no cause
-pub record NoTest (a b c e : Bool) : Type 0 where
-  pub register : a ≡ false
-  pub set : b ≡ false
-  pub queue : c ≡ false
-  pub bank : e ≡ false
-
-pub no_test : (a b c e : Bool) → by_tests a b c e ≡ None → NoTest a b c e
-no_test true b c e h = grind arith
-no_test false true c e h = grind arith
-no_test false false true e h = grind arith
-no_test false false false true h = grind arith
-no_test false false false false h = grind arith
+-- where there is no cause, the last two don't hold
+last_two : (c e : Bool) → by_tests false false c e ≡ None → (c ≡ false) × (e ≡ false)
+last_two true e h = grind arith
+last_two false e h = grind arith
 
 -- ---- the four tests, by the parts
 
 pub register-test : (c : Cache) (n : ℕ) → length c.registers ≡ n → (length (filter (λ (r : Register). r.valid) c.registers) == n)
     ≡ is_none (regs.free_slot c.registers)
 register-test c n e = grind (arith, eq-eqb, counts_valid)
-
-pub queue-test : (z : Sizes) (c : Cache) (f : ℕ) → lacks_places z c (Some f) ≡ nat_lt (z.write_queue - length c.queue)
-    (length (owed_words z.block_words c.directory f))
-queue-test z c f = refl
-
-pub bank-test : (z : Sizes) (room : ℕ → ℕ) (block : ℕ)
-    → list_any (is_short room (block * z.block_words) z.block_words z.banks) (range_with_len 0 z.banks) ≡ lacks_room z room block
-bank-test z room block = refl
 
 -- ---- What a miss may take, and why it may not.
 
@@ -189,51 +157,29 @@ module _ (z : Sizes) (c : Cache) (h : IsSound z c) (room : ℕ → ℕ) (block :
   abbrev to_take : Option ℕ
   to_take = chosen_frame (dir.chosen z.ways c.directory (set_of c.directory block))
 
-  abbrev Fails : Cause → Type 0
-  Fails cause = first_cause (miss_causes z room c block) ≡ Some cause
-
-  -- the four tests of a miss
-  registers_valid : (o : Option ℕ) → regs.free_slot c.registers ≡ o → (length (filter (λ (r : Register). r.valid) c.registers) == z.regs)
-      ≡ is_none o
-  registers_valid o e = grind (arith, register-test)
+  abbrev shorts : Bool
+  shorts = list_any (is_short room (block * z.block_words) z.block_words z.banks) (range_with_len 0 z.banks)
 
   set_is : set_of c.directory block ≡ block % z.sets
   set_is = grind arith
 
-  ways_pending : (o : Option ℕ) → to_take ≡ o → list_all (is_pending c) (ways_of z block) ≡ is_none o
-  ways_pending o e = cc (all_pending-shown z c h block, chosen_none _ _ _ _ h.directory, set_is, ap is_none e)
+  pub frame_chosen : choose z c block ≡ to_take
+  frame_chosen = grind (arith, choose-shown, set_is)
 
-  frame_chosen : (f : ℕ) → to_take ≡ Some f → choose z c block ≡ Some f
-  frame_chosen f e = grind (arith, choose-shown, set_is)
-
-  queue_lacks : (f : ℕ) → to_take ≡ Some f
-      → lacks_places z c (choose z c block) ≡ nat_lt (z.write_queue - length c.queue) (length (owed_words z.block_words c.directory f))
-  queue_lacks f e = grind (arith, frame_chosen, queue-test)
-
-  pub find_no_register : regs.free_slot c.registers ≡ None → Fails NoRegister
-  find_no_register e = no_register _ _ _ _ (registers_valid None e)
-
-  pub find_set_pending : (s : ℕ) → regs.free_slot c.registers ≡ Some s → to_take ≡ None → Fails SetPending
-  find_set_pending s e k = set_pending _ _ _ _ (registers_valid _ e) (ways_pending None k)
-
-  pub find_queue_full : (s f : ℕ) → regs.free_slot c.registers ≡ Some s → to_take ≡ Some f
-      → z.write_queue - length c.queue < length (owed_words z.block_words c.directory f) → Fails QueueFull
-  find_queue_full s f e k l = queue_full _ _ _ _ (registers_valid _ e) (ways_pending _ k) (queue_lacks f k ∙ lt-ltb _ _ l)
-
-  pub find_bank_full : (s f : ℕ) → regs.free_slot c.registers ≡ Some s → to_take ≡ Some f
-      → length (owed_words z.block_words c.directory f) ≤ z.write_queue - length c.queue
-      → list_any (is_short room (block * z.block_words) z.block_words z.banks) (range_with_len 0 z.banks) ≡ true → Fails BankFull
-  find_bank_full s f e k l m =
-      bank_full _ _ _ _ (registers_valid _ e) (ways_pending _ k) (queue_lacks f k ∙ le-ltb _ _ l) (sym (bank-test z room block) ∙ m)
+  -- why a miss fails, by the register and the frame that there are for it
+  pub causes_are : (s f : Option ℕ) (a b : Bool) → regs.free_slot c.registers ≡ s → to_take ≡ f → lacks_places z c f ≡ a → shorts ≡ b
+      → first_cause (miss_causes z room c block) ≡ by_tests (is_none s) (is_none f) a b
+  causes_are s f a b e k l m = ap₂ (λ x y. by_tests x y (lacks_places z c (choose z c block)) shorts)
+      (register-test c z.regs h.registers.registers_there ∙ ap is_none e)
+      (cc (all_pending-shown z c h block, chosen_none _ _ _ _ h.directory, set_is, k))
+      ∙ ap₂ (by_tests (is_none s) (is_none f)) (ap (lacks_places z c) (frame_chosen ∙ k) ∙ l) m
 
   pub find_places : (s f : ℕ) → regs.free_slot c.registers ≡ Some s → to_take ≡ Some f
-      → length (owed_words z.block_words c.directory f) ≤ z.write_queue - length c.queue
-      → list_any (is_short room (block * z.block_words) z.block_words z.banks) (range_with_len 0 z.banks) ≡ false
+      → length (owed_words z.block_words c.directory f) ≤ z.write_queue - length c.queue → shorts ≡ false
       → MayTake z room c block (record { frame = f; slot = s })
   find_places s f e k l m = record {
-    no_cause = no_cause _ _ _ _ (registers_valid _ e) (ways_pending _ k) (queue_lacks f k ∙ le-ltb _ _ l)
-        (sym (bank-test z room block) ∙ m);
-    frame = frame_chosen f k;
+    no_cause = causes_are _ _ _ _ e k (le-ltb _ _ l) m;
+    frame = frame_chosen ∙ k;
     slot = e;
   }
 
@@ -252,11 +198,12 @@ pub takes_from : (z : Sizes) (c : Cache) → IsSound z c → (room : ℕ → ℕ
 takes_from z c h room block places m =
     let chosen = sym (choose-shown z c h block) ∙ m.frame in
     let same = ap (λ n. block % n) h.sets in
+    let taken : chosen_frame (dir.chosen z.ways c.directory (set_of c.directory block)) ≡ Some places.frame = cc in
+    let none = last_two _ _ (sym (causes_are z c h room block _ _ _ _ m.slot taken refl refl) ∙ m.no_cause) in
     let there = subst (λ n. block % z.sets < n) (sym h.sets) (omega (arith, h.ranges.some_sets)) in
     let can = chosen_can _ _ _ _ places.frame h.directory there chosen in
     let found = free_slot-found _ places.slot (m.slot) in
-    let none = no_test _ _ _ _ m.no_cause in
-    let fits = ltb-false _ _ (sym (queue_lacks z c h room block places.frame (cc (same, chosen))) ∙ none.queue) in
+    let fits : length (owed_words z.block_words c.directory places.frame) ≤ z.write_queue - length c.queue = ltb-false _ _ none.0 in
     let within = h.queue_sound.within in
     record {
       there = can.there;
@@ -265,26 +212,16 @@ takes_from z c h room block places m =
       slot = found.0;
       free = found.1;
       queue = omega arith;
-      banks = bank-test z room block ∙ none.bank;
+      banks = none.1;
     }
 
 -- ---- The words that a frame owes to memory are in memory.
-
-all_cons : (P : Queued → Type 0) (q : Queued) (xs : List Queued) → P q → All P xs → All P (q ∷ xs)
-all_cons P q xs p h zero e l = p
-all_cons P q xs p h (suc k) e l = h k e (omega arith)
-
-all_by : (P : Queued → Type 0) (b : Bool) (q : Queued) (xs : List Queued) → P q → All P xs → All P (if b then q ∷ xs else xs)
-all_by P true q xs p h = all_cons P q xs p h
-all_by P false q xs p h = h
 
 -- each is one of the block's words
 pub dirty_in_memory : (block at n : ℕ) (cells : List Cell) → at + length cells ≤ n
     → All (λ (q : Queued). q.at < n) (dirty_from block at cells)
 dirty_in_memory block at n [] h = grind arith
-dirty_in_memory block at n (c ∷ cells) h =
-    all_by (λ q. q.at < n) _ (record { block = block; at = at; word = merged zero_word _ _; lanes = c.dirty }) _ (omega arith)
-    (dirty_in_memory block (at + 1) n cells (omega arith))
+dirty_in_memory block at n (c ∷ cells) h = grind (arith, dirty_in_memory block (at + 1) n cells)
 
 -- ---- A block loses its frame.
 
@@ -389,7 +326,7 @@ module _ (z : Sizes) (c : Cache) (h : IsSound z c) (block f : ℕ) (holds : fram
     where
       go : (o : Option ℕ) → live_for c block ≡ o → SameMarks (register_at c s) (regs.register_at (obsoleted c.registers o) s)
       go None e = SameMarks-self _
-      go (Some t) e = SameMarks-set _ t _ (live_for-some _ block t e).0 (SameMarks-obsolete _) s
+      go (Some t) e = related-set SameMarks SameMarks-self _ t _ (live_for-some _ block t e).0 (SameMarks-obsolete _) s
 
   owes_after : OwesSound z c.ready gone
   owes_after = go _ refl
@@ -475,11 +412,7 @@ module _ (z : Sizes) (c : Cache) (h : IsSound z c) (block f : ℕ) (holds : fram
 -- ---- A block that no frame holds.
 
 pub absent_frame : (c : Cache) (block : ℕ) → is_present c block ≡ false → frame_of c block ≡ None
-absent_frame c block e = go _ e
-  where
-    go : (o : Option ℕ) → is_some o ≡ false → o ≡ None
-    go None k = refl
-    go (Some f) k = absurd (false≢true (sym k))
+absent_frame c block e = grind arith
 
 -- a live register's block is in a frame
 pub no_live : (fs : List Frame) (rs : List Register) (block : ℕ) → Tied fs rs → dir.frame_of fs block ≡ None → regs.live_for rs block ≡ None
@@ -496,20 +429,7 @@ fetches-shown z c block slot absent free = cc (free, absent)
 
 pub given_may_install : (ways words : ℕ) (d : Frames) (f block : ℕ) → dir.IsWhole ways words d → dir.frame_of d.frames block ≡ None
     → f < length d.frames → f / ways ≡ set_of d block → MayInstall ways (given_up ways d f) f block
-given_may_install ways words d f block whole absent there of_set = go _ refl
-  where
-    vacant : (o : Option ℕ) → is_some o ≡ false → o ≡ None
-    vacant None e = refl
-    vacant (Some b) e = absurd (false≢true (sym e))
-
-    go : (b : Bool) → is_held d f ≡ b → MayInstall ways (cond b (dir.released ways d f) d) f block
-    go true e = record {
-      there = rw (sym (released-frames ways d f)) at there;
-      free = ap (λ x. x.block) (released-here ways d f there);
-      of_set = cc (of_set, released-sets ways d f);
-      absent = released-absent ways d f block there absent;
-    }
-    go false e = record { there = there; free = vacant (dir.frame_at _ f).block e; of_set = of_set; absent = absent }
+given_may_install ways words d f block whole absent there of_set = grind (arith, released-frames, released-here, released-sets, released-absent)
 
 pub installed_frames : (ways words : ℕ) (d : Frames) (f block : ℕ) → length (dir.installed ways words d f block).frames ≡ length d.frames
 unfolding dir.installed
@@ -540,16 +460,9 @@ not_shown (r ∷ rs) (suc slot) e = not_shown rs slot e
 
 -- ---- a word of a register
 
-field-same : (c : Cache) (slot i : ℕ) (f : Field) → is_some (stack_word c.stack slot i) ≡ f.in_stack
-    → shows.shown_field f ≡ shown_field c slot i f
-field-same c slot i f h = rw h refl
-
-if-same : {X : Type 0} (b : Bool) (x y : X) → x ≡ y → (if b then Some x else None) ≡ (if b then Some y else None)
-if-same b x y e = rw e refl
-
 pub field-shown : (z : Sizes) (c : Cache) (slot i : ℕ) → IsSound z c → shows.field_view z.block_words c.registers slot i
     ≡ field_view z c slot i
-field-shown z c slot i h = grind (arith, if-same, field-same, in_stack-shown)
+field-shown z c slot i h = grind (arith, in_stack-shown)
 
 pub target-shown : (c : Cache) (slot i place : ℕ) → shows.target_view c.registers slot i place ≡ target_view c slot i place
 target-shown c slot i place = refl

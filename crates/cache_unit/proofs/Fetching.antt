@@ -6,7 +6,7 @@ use Rattle.std.specs.List.{filter, list_any, range_with_len, sum_by, All, remove
 use Rattle.std.proofs.lemmas.Bool.{false≢true, cases_eq, cases_lt}
 use Rattle.std.proofs.lemmas.List.Elements.{filter-append, All-append}
 use Rattle.std.proofs.lemmas.List.Folds.{list_any_at}
-use Rattle.std.proofs.lemmas.List.FromFn.{length-range_with_len, get_or-range_with_len, length-map-range_with_len}
+use Rattle.std.proofs.lemmas.List.FromFn.{length-range_with_len, get_or-range_with_len, length-map-range_with_len, map-range_with_len_more}
 use Rattle.std.proofs.lemmas.List.{map-append, set-get_or, set-set, get_or-set_same, get_or-set_other}
 use Rattle.memory_banks.specs.declared.Command.{Command}
 use Rattle.memory_banks.specs.declared.Command.TheVariants.{Read}
@@ -20,13 +20,14 @@ use Rattle.cache_directory.specs.Frames.{without, times_in}
 use Rattle.cache_unit.specs.Steps.{released, installed, fetched, take_step, take_reply, Stepped}
 use Rattle.cache_unit.specs.Begun.{begun_frame, begun_field, begun_register}
 use Rattle.cache_unit.specs.GivenUp.{owed_words, given_up, missed_frames, missed_registers}
-use Rattle.std.proofs.lemmas.Option.{none-some, slice_get-get_or}
+use Rattle.std.proofs.lemmas.Option.{none-some, slice_get-get_or, slice_get_past}
 use Rattle.write_queue.specs.declared.Queued.{Queued}
 use Rattle.cache_directory.specs.declared.Cell.{Cell}
 use Rattle.miss_registers.specs.Whole.{IsWhole}
 use Rattle.cache_unit.specs.Sound.{HasFrame, FilledBy, loads_of_field, StackSound, Tied, QueueSound, OwesSound, IsSound}
 use Rattle.cache_unit.proofs.Lists.{place_of-only, place_of-none, number_from, frame_of-some}
-use Rattle.cache_unit.proofs.Keeps.{owes-same, sound_shown}
+use Rattle.cache_unit.proofs.Keeps.{owes-same}
+use Rattle.cache_unit.proofs.Tags.{sound_shown}
 use Rattle.flat_model.specs.declared.Answer.TheVariants.{Value, Nothing, Refused}
 use Rattle.cache_unit.specs.declared.Reply.{Reply}
 use Rattle.flat_model.specs.declared.Cause.{Cause}
@@ -117,25 +118,11 @@ pub HasSent-more : {L : Type 0} (sent_to : L → ℕ → List Command) (room_of 
     → sent_to n bank ≡ sent_to m bank ++ c ∷ [] → room_of n bank + 1 ≡ room_of m bank
     → ((b : ℕ) → b ≢ bank → (sent_to n b ≡ sent_to m b) × (room_of n b ≡ room_of m b))
     → HasSent sent_to room_of same a n (sent ++ (bank, c) ∷ [])
-HasSent-more {L} sent_to room_of same a m n sent bank c s h to room others =
-    record { kept = s; queued = λ b. queued b (cases_eq b bank); rooms = λ b. rooms b (cases_eq b bank) }
-  where
-    here : (b : ℕ) → b ≡ bank → commands_for b (sent ++ (bank, c) ∷ []) ≡ commands_for b sent ++ c ∷ []
-    here b e = grind (arith, commands_for-append, eq-eqb)
-
-    there : (b : ℕ) → b ≢ bank → commands_for b (sent ++ (bank, c) ∷ []) ≡ commands_for b sent
-    there b e = grind (arith, commands_for-append, append-nil)
-
-    queued : (b : ℕ) → (b ≡ bank) ⊎ (b ≡ bank → ⊥) → sent_to n b ≡ sent_to a b ++ commands_for b (sent ++ (bank, c) ∷ [])
-    queued b (inl e) =
-        let P : ℕ → Type 0 = λ k. sent_to n k ≡ sent_to m k ++ c ∷ [] in
-        subst P (sym e) to ∙ ap (λ l. l ++ c ∷ []) (h.queued b) ∙ append_assoc _ (commands_for b sent) (c ∷ [])
-        ∙ ap (λ l. sent_to a b ++ l) (sym (here b e))
-    queued b (inr e) = cc ((others b e).0, h.queued b, there b e)
-
-    rooms : (b : ℕ) → (b ≡ bank) ⊎ (b ≡ bank → ⊥) → room_of n b + length (commands_for b (sent ++ (bank, c) ∷ [])) ≡ room_of a b
-    rooms b (inl e) = grind (arith, here, length-append, h.rooms)
-    rooms b (inr e) = grind (arith, there, h.rooms)
+HasSent-more {L} sent_to room_of same a m n sent bank c s h to room others = record {
+  kept = s;
+  queued = λ b. grind (arith, cases_eq, commands_for-append, eq-eqb, append_assoc, append-nil, h.queued);
+  rooms = λ b. grind (arith, cases_eq, commands_for-append, eq-eqb, append-nil, length-append, h.rooms);
+}
 
 -- a bank still has room for the next read, where it had room for all of them
 pub room_for_next : {L : Type 0} (sent_to : L → ℕ → List Command) (room_of : L → ℕ → ℕ) (same : L → L → Type 0) (a m : L)
@@ -154,7 +141,7 @@ room_for_next sent_to room_of same a m slot first words banks k h r s =
 -- the next read
 pub block_reads_more : (slot first words banks k : ℕ) → block_reads slot first words banks (k + 1) ≡ block_reads slot first words banks k
     ++ ((first + k) % banks, Read slot ((first + k) % words) ((first + k) / banks)) ∷ []
-block_reads_more slot first words banks k = grind (arith, range_more, map-append)
+block_reads_more slot first words banks k = map-range_with_len_more _ first k _ refl
 
 -- where no bank is short, each has room for its reads; and a bank that isn't there is sent none
 pub room_for_all : (room : ℕ → ℕ) (slot first words banks : ℕ) → 0 < banks
@@ -173,10 +160,6 @@ length-filter-range p a zero = omega arith
 length-filter-range p a (suc n) = grind (arith, length-filter-range p (a + 1) n)
 
 -- ---- What the parts show once a miss has brought its block in.
-
-pub map-map : {X Y Z : Type 0} (f : Y → Z) (g : X → Y) (xs : List X) → map f (map g xs) ≡ map (λ x. f (g x)) xs
-map-map f g [] = refl
-map-map f g (x ∷ xs) = ap (λ l. f (g x) ∷ l) (map-map f g xs)
 
 pub without_absent : (order : List ℕ) (f : ℕ) → times_in order f ≡ 0 → without order f ≡ order
 without_absent [] f e = refl
@@ -449,12 +432,7 @@ taken c k r l e = grind (arith, slice_get-get_or)
 
 pub none_taken : (c : Cache) (k : ℕ) → length c.ready ≤ k → take_step c k ≡ record { answer = Nothing; cache = c; sent = [] }
 unfolding take_step
-none_taken c k l = ap (take_reply c k) (past _ k l)
-  where
-    past : (xs : List Reply) (n : ℕ) → length xs ≤ n → slice_get xs n ≡ None
-    past [] n h = refl
-    past (x ∷ xs) zero h = absurd (omega arith)
-    past (x ∷ xs) (suc n) h = past xs n (omega arith)
+none_taken c k l = ap (take_reply c k) (slice_get_past _ k l)
 
 -- other replies
 pub IsSound-ready : (z : Sizes) (c : Cache) (ready : List Reply) → OwesSound z ready c.registers → IsSound z c

@@ -50,18 +50,7 @@ pub form_at-same : (z : Sizes) (c d : Cache) (at : ℕ) → frame_of d (block_of
     × ((field_at d slot (place_in z at)).code ≡ (field_at c slot (place_in z at)).code)
     × (stack_word d.stack slot (place_in z at) ≡ stack_word c.stack slot (place_in z at))) → form_at z d at ≡ form_at z c at
 unfolding form_at
-form_at-same z c d at ef el ec parts = ap (form_where z d at) ef ∙ go _
-  where
-    live : (o : Option ℕ) → live_for c (block_of z at) ≡ o → (w : Word) → form_in d o (place_in z at) w ≡ form_in c o (place_in z at) w
-    live None e w = refl
-    live (Some slot) e w =
-        let p = parts slot e in
-        cc (p.0, p.1, p.2)
-
-    go : (o : Option ℕ) → form_where z d at o ≡ form_where z c at o
-    go None = refl
-    go (Some f) = ap Some (ap (λ o. form_in d o (place_in z at) (cell_of d (block_of z at) (place_in z at)).word) el
-        ∙ live _ refl (cell_of d _ _).word ∙ ap (λ w. form_in c (live_for c (block_of z at)) (place_in z at) w) ec)
+form_at-same z c d at ef el ec parts = grind arith
 
 -- a present word's form, with and without a live register
 pub form_at-live : (z : Sizes) (c : Cache) (at k s j : ℕ) → frame_of c (block_of z at) ≡ Some k → live_for c (block_of z at) ≡ Some s
@@ -114,20 +103,7 @@ due_in ds tag = option_map (λ d. d.form) (find (has_tag tag) ds)
 
 pub owed-due : (c : Cache) (tag : ℕ) → owed c tag ≡ due_in (dues c) tag
 unfolding due_in dues
-owed-due c tag = cc (
-  go (find (λ r. r.tag == tag) _) (find (λ t. t.load.tag == tag) _),
-  ap₂ (λ a b. option_map (λ d. d.form) (option_or a b))
-      (sym (find-map due_ready (has_tag tag) c.ready))
-      (sym (find-map (due_to c.stack) (has_tag tag) (targets c.registers))),
-  sym
-      (find-append (has_tag tag) (map due_ready c.ready) (map (due_to c.stack) (targets c.registers))),
-)
-  where
-    go : (a : Option Reply) (b : Option Target) → option_or (option_map (λ r. bytes_of r.word) a) (option_map (target_form c) b)
-        ≡ option_map (λ d. d.form) (option_or (option_map due_ready a) (option_map (due_to c.stack) b))
-    go (Some r) b = refl
-    go None None = refl
-    go None (Some t) = refl
+owed-due c tag = grind (arith, find-map, find-append, due_ready, due_to)
 
 -- the same ready replies, waiting loads and stack
 pub owed-same : (c d : Cache) → d.ready ≡ c.ready → targets d.registers ≡ targets c.registers → d.stack ≡ c.stack → (tag : ℕ)
@@ -453,15 +429,7 @@ unfolding form_at dir.frame_of
 word_filled z c slot i w at = grind (arith, form_filled)
 
 owed_filled : (c : Cache) (slot i : ℕ) (w : Word) (tag : ℕ) → owed (pushed c slot i w) tag ≡ option_map (filled_form slot i w) (owed c tag)
-owed_filled c slot i w tag = go (find (λ r. r.tag == tag) _)
-    (find (λ t. t.load.tag == tag) _)
-  where
-    go : (a : Option Reply) (b : Option Target)
-        → option_or (option_map (λ r. bytes_of r.word) a) (option_map (target_form (pushed c slot i w)) b)
-        ≡ option_map (filled_form slot i w) (option_or (option_map (λ r. bytes_of r.word) a) (option_map (target_form c) b))
-    go (Some r) b = refl
-    go None None = refl
-    go None (Some t) = grind (arith, over_filled, t.load.lanes, t.load.held, coming_filled, t.slot)
+owed_filled c slot i w tag = grind (arith, over_filled, coming_filled)
 
 pub arrived_forms : (z : Sizes) (c : Cache) (slot i : ℕ) (w : Word) → forms z (arrived c slot i w) ≡ record {
   words = λ at. option_map (filled_form slot i w) (form_at z c at);

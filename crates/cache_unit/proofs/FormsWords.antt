@@ -308,20 +308,10 @@ stored-by z some c at hit w lanes = rw hit.present (go _ refl)
 -- ---- forms of held bytes
 
 over-held : (code : Lanes) (v u : Word) (f : Form) → over_form code (merged v u code) f ≡ over_form code u f
-over-held code v u f = λ n l. each l n
-  where
-    twice : (b : Bool) (x y : ℕ) (g : LaneForm) → cond b (Byte (cond b x y)) g ≡ cond b (Byte x) g
-    twice true x y g = refl
-    twice false x y g = refl
-
-    each : (l : Lane) → cond (has code l) (Byte (byte (merged v u code) l)) (f l) ≡ cond (has code l) (Byte (byte u l)) (f l)
-    each l = ap (λ x. cond (has code l) (Byte x) (f l)) (byte-merged v u code l) ∙ twice _ _ _ (f l)
+over-held code v u f = grind (arith, byte-merged)
 
 over-all : (code : Lanes) (u : Word) (f : Form) → has_all code ≡ true → over_form code u f ≡ bytes_of u
-over-all code u f all = λ n l. each l n
-  where
-    each : (l : Lane) → cond (has code l) (Byte (byte u l)) (f l) ≡ Byte (byte u l)
-    each l = ap (λ b. cond b (Byte (byte u l)) (f l)) (all_from_all code all l)
+over-all code u f all = grind (arith, all_from_all)
 
 -- the tag is owed one form more
 pub record LoadedBy (z : Sizes) (c : Cache) (tag at : ℕ) (d : Cache) : Type 0 where

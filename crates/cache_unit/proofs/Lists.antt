@@ -582,13 +582,11 @@ set_reads d xs k y t = ⊎_elim (λ q. ⊎_elim (λ l. inr (q, cc (q, get_or-set
 
 pub frames_like-set : (frames : List Frame) (k : ℕ) (new : Frame) → new.block ≡ (get_or frames k empty_frame).block
     → length new.cells ≡ length (get_or frames k empty_frame).cells → FramesLike frames (set frames k new)
-frames_like-set frames k new eb ec =
-    record { number = length-set frames k new; blocks = read (λ x. x.block) eb; cells = read (λ x. length x.cells) ec }
-  where
-    read : {Y : Type 0} (p : Frame → Y) → p new ≡ p (get_or frames k empty_frame)
-        → (t : ℕ) → p (get_or (set frames k new) t empty_frame) ≡ p (get_or frames t empty_frame)
-    read p e t = ⊎_elim (λ q. ap p q) (λ q. (cc (ap p q.1, e, q.0)))
-        (set_reads empty_frame frames k new t)
+frames_like-set frames k new eb ec = record {
+  number = length-set frames k new;
+  blocks = read_set (λ x. x.block) empty_frame frames k new eb;
+  cells = read_set (λ x. length x.cells) empty_frame frames k new ec;
+}
 
 -- ---- registers
 
@@ -608,16 +606,7 @@ pub registers_within-set : (registers : List Register) (s : ℕ) (new : Register
     → (new.valid ≡ true → ((get_or registers s free_register).valid ≡ true)
     × (length new.fields ≡ length (get_or registers s free_register).fields))
     → RegistersWithin registers (set registers s new)
-registers_within-set registers s new live fields = record {
-  number = length-set registers s new;
-  live = λ t l. ⊎_elim (λ e. (ap is_live (sym e) ∙ l, ap (λ r. r.block) e))
-      (λ e. let k = live (ap is_live (sym e.1) ∙ l) in (cc (e.0, k.0), cc (e.1, k.1, e.0))) (set_reads free_register registers s new t);
-  fields = λ t v. ⊎_elim (λ e. (cc (e, v), ap (λ r. length r.fields) e))
-      (λ e. let k = fields (cc (e.1, v)) in (cc (e.0, k.0), cc (e.1, k.1, e.0))) (set_reads free_register registers s new t);
-}
-  where
-    at : ℕ → Register
-    at n = get_or registers n free_register
+registers_within-set registers s new live fields = grind (arith, length-set, set_reads)
 
 -- ---- units
 

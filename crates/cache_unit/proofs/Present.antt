@@ -1,6 +1,6 @@
 -- Loads and stores of a block that a frame holds.
 use Rattle.std.proofs.Common.{◌≡◌, ℕ, suc, zero, ◌<◌, ◌==◌, Bool, true, false, ◌&&◌, List, [], ◌∷◌, length, set, Option, Some, None}
-use Rattle.std.proofs.Common.{is_some, refl, ap, sym, ◌∙◌, length-set, inl, inr, eqb-true, nat_lt, nat_le, ◌≤◌, ◌||◌, not}
+use Rattle.std.proofs.Common.{eq-eqb, is_some, refl, ap, sym, ◌∙◌, length-set, inl, inr, eqb-true, nat_lt, nat_le, ◌≤◌, ◌||◌, not}
 use Rattle.std.proofs.Common.{if◌then◌else◌, ◌++◌, arith, length-append, ◌-◌, ◌⊎◌, subst, option_map}
 use Rattle.std.proofs.lemmas.List.{get_or-set_same, get_or-set_other, get_or_past, get_or_append_left, get_or-append_right}
 use Rattle.std.proofs.lemmas.Bool.{false≢true, cases_eq, and_parts, cases_lt}
@@ -10,7 +10,9 @@ use Rattle.input_stack.specs.declared.Entry.{Entry}
 use Rattle.cache_unit.specs.Sound.{entry_at, StackSound, Tied, no_entry, HasInStack, Stands, HasFrame, FilledBy, IsSound, loads_of}
 use Rattle.cache_unit.specs.Sound.{OwesSound}
 use Rattle.cache_unit.proofs.Lists.{read_set}
-use Rattle.cache_unit.proofs.Keeps.{SameBlocks, loads-set, owes-same, Since, live_before, SameBlocks-set, pending-set}
+use Rattle.cache_directory.proofs.Finds.{find-passes, find-all, find-nowhere}
+use Rattle.std.proofs.lemmas.List.Elements.{All-from_get_or}
+use Rattle.cache_unit.proofs.Keeps.{SameBlocks, loads-set, owes-same, SameBlocks-set, pending-set, register_at-set}
 use Rattle.std.specs.List.{find}
 use Rattle.flat_model.specs.declared.Word.{Word}
 use Rattle.input_stack.specs.Stack.{stack_word}
@@ -47,25 +49,14 @@ pub record SameMarks (r r' : Register) : Type 0 where
 pub SameMarks-self : (r : Register) → SameMarks r r
 SameMarks-self r = record { valid = refl; count = refl; processed = λ i. refl; in_stack = λ i. refl }
 
-pub SameMarks-set : (rs : List Register) (s : ℕ) (r : Register) → s < length rs → SameMarks (regs.register_at rs s) r → (t : ℕ)
-    → SameMarks (regs.register_at rs t) (regs.register_at (set rs s r) t)
-SameMarks-set rs s r l h t = grind (arith, cases_eq, get_or-set_same, get_or-set_other, SameMarks-self)
+-- what holds of each register and itself holds of a list of which one is another
+pub related-set : (R : Register → Register → Type 0) → ((r : Register) → R r r) → (rs : List Register) (s : ℕ) (r : Register)
+    → s < length rs → R (regs.register_at rs s) r → (t : ℕ) → R (regs.register_at rs t) (regs.register_at (set rs s r) t)
+related-set R self rs s r l h t = register_at-set (R (regs.register_at rs t)) rs s t r l (λ e. rw e h) (λ n. self _)
 
 pub StackSound-same : (rs rs' : List Register) (st : List Entry)
     → ((s : ℕ) → SameMarks (regs.register_at rs s) (regs.register_at rs' s)) → StackSound rs st → StackSound rs' st
-StackSound-same rs rs' st m h = record {
-  entries = λ k p. (
-      let e = h.entries k p in
-      let s = m (entry_at st k).slot in
-      record {
-        valid = s.valid ∙ e.valid;
-        there = rw s.count e.there;
-        waits = s.processed (entry_at st k).i ∙ e.waits;
-        marked = s.in_stack (entry_at st k).i ∙ e.marked;
-      });
-  distinct = h.distinct;
-  marks = λ s i t. h.marks s i (sym ((m s).in_stack i) ∙ t);
-}
+StackSound-same rs rs' st m h = grind (arith, h.entries, h.distinct, h.marks)
 
 -- ---- registers of which the block and the frame stay
 
@@ -78,40 +69,48 @@ pub record SameShape (r r' : Register) : Type 0 where
 pub SameShape-self : (r : Register) → SameShape r r
 SameShape-self r = record { live = refl; block = refl; frame = refl; count = refl }
 
-pub SameShape-set : (rs : List Register) (s : ℕ) (r : Register) → s < length rs → SameShape (regs.register_at rs s) r → (t : ℕ)
-    → SameShape (regs.register_at rs t) (regs.register_at (set rs s r) t)
-SameShape-set rs s r l h t = grind (arith, cases_eq, get_or-set_same, get_or-set_other, SameShape-self)
-
 pub Tied-same : (fs fs' : List Frame) (rs rs' : List Register) → SameBlocks fs fs'
     → ((f : ℕ) → (dir.frame_at fs' f).pending ≡ (dir.frame_at fs f).pending)
     → ((s : ℕ) → SameShape (regs.register_at rs s) (regs.register_at rs' s)) → Tied fs rs → Tied fs' rs'
-Tied-same fs fs' rs rs' b p m h = record {
-  frames = λ s l. (
-      let w = m s in
-      let x = h.frames s (sym w.live ∙ l) in
-      record {
-        holds = ap (dir.frame_of fs') w.block ∙ b.holds (regs.register_at rs s).block ∙ x.holds ∙ ap Some (sym w.frame);
-        cells = cc (w.frame, b.cells (regs.register_at rs s).frame, x.cells, w.count);
-        pending = cc (w.frame, p (regs.register_at rs s).frame, x.pending);
-      });
-  pending = λ f l. (
-      let w = h.pending f (sym (p f) ∙ l) in
-      record { slot = w.slot; live = (m w.slot).live ∙ w.live; frame = (m w.slot).frame ∙ w.frame });
-}
+Tied-same fs fs' rs rs' b p m h = grind (arith, h.frames, h.pending, b.holds, b.cells)
 
 -- ---- one field of a register is another
 
-pub with_field-marks : (r : Register) (i : ℕ) (f : Field) → f.processed ≡ (field_of r i).processed
-    → f.in_stack ≡ (field_of r i).in_stack → SameMarks r (regs.with_field r i f)
-with_field-marks r i f p s = record {
-  valid = refl;
-  count = length-set r.fields i f;
-  processed = read_set (λ x. x.processed) clear_field r.fields i f p;
-  in_stack = read_set (λ x. x.in_stack) clear_field r.fields i f s;
-}
-
 pub with_field-shape : (r : Register) (i : ℕ) (f : Field) → SameShape r (regs.with_field r i f)
 with_field-shape r i f = record { live = refl; block = refl; frame = refl; count = length-set r.fields i f }
+
+-- a register of which the marks, the block and the frame stay
+pub record SameKind (r r' : Register) : Type 0 where
+  pub marks : SameMarks r r'
+  pub shape : SameShape r r'
+
+SameKind-self : (r : Register) → SameKind r r
+SameKind-self r = record { marks = SameMarks-self r; shape = SameShape-self r }
+
+with_field-kind : (r : Register) (i : ℕ) (f : Field) → f.processed ≡ (field_of r i).processed → f.in_stack ≡ (field_of r i).in_stack
+    → SameKind r (regs.with_field r i f)
+with_field-kind r i f p s = grind (arith, length-set, r.fields, cases_eq, get_or-set_same, get_or-set_other, get_or_past, cases_lt)
+
+SameBlocks-self : (fs : List Frame) → SameBlocks fs fs
+SameBlocks-self fs = grind arith
+
+-- a unit with other frames and registers of the same kind
+IsSound-like : (z : Sizes) (c : Cache) (d : Frames) (rs : List Register) → dir.IsWhole z.ways z.block_words d
+    → IsWhole z.block_words z.regs rs → SameBlocks c.directory.frames d.frames
+    → ((f : ℕ) → (dir.frame_at d.frames f).pending ≡ (frame_at c f).pending) → d.orders ≡ c.directory.orders
+    → ((s : ℕ) → SameKind (register_at c s) (regs.register_at rs s)) → OwesSound z c.ready rs → IsSound z c
+    → IsSound z (record c { directory = d; registers = rs })
+IsSound-like z c d rs wd wr b p o k owes h = record {
+  ranges = h.ranges;
+  directory = wd;
+  sets = ap length o ∙ h.sets;
+  in_memory = λ f n e. h.in_memory f n (sym (b.blocks f) ∙ e);
+  registers = wr;
+  stack_sound = StackSound-same _ _ _ (λ s. (k s).marks) h.stack_sound;
+  tied = Tied-same _ _ _ _ b p (λ s. (k s).shape) h.tied;
+  queue_sound = h.queue_sound;
+  owes = owes;
+}
 
 -- ---- which register is live for a block
 
@@ -146,59 +145,26 @@ pending_is fs rs f b h e alone = go _ refl (dir.frame_at fs f).pending refl
 
 -- ---- the marks are those of the stack
 
-same_bool : (a b : Bool) → (a ≡ true → b ≡ true) → (b ≡ true → a ≡ true) → a ≡ b
-same_bool true b p q = sym (p refl)
-same_bool false true p q = q refl
-same_bool false false p q = refl
-
-abbrev is_for : ℕ → ℕ → Entry → Bool
-is_for s i e = (e.slot == s) && (e.i == i)
-
-find_cons : (b : Bool) (x : Entry) (o : Option Entry) → is_some (if b then Some x else o) ≡ (b || is_some o)
-find_cons true x o = refl
-find_cons false x o = refl
-
-or_true : (b : Bool) → (b || true) ≡ true
-or_true true = refl
-or_true false = refl
-
-other_test : (e : Entry) (s i : ℕ) → (e.slot ≡ s → ⊥) ⊎ (e.i ≡ i → ⊥) → is_for s i e ≡ false
-other_test e s i (inl a) = grind arith
-other_test e s i (inr b) = grind arith
-
-later : (e : Entry) (st : List Entry) (s i : ℕ) → Stands st s i → Stands (e ∷ st) s i
-later e st s i w = record { place = suc w.place; within = omega (arith, w.within); slot = w.slot; word = w.word }
-
--- an entry for the word, by recursion
-Stands-found : (st : List Entry) (s i : ℕ) → is_some (find (is_for s i) st) ≡ true → Stands st s i
-Stands-found [] s i h = absurd (false≢true h)
-Stands-found (e ∷ st) s i h =
-    let c = find_cons (is_for s i e) e (find (is_for s i) st) in
-    elim (cases_eq e.slot s) [
-      | inl a ↦ elim (cases_eq e.i i) [
-        | inl b ↦ record { place = 0; within = omega arith; slot = a; word = b }
-        | inr b ↦ later e st s i (Stands-found st s i (rw (other_test e s i (inr b)) at (sym c ∙ h)))
-      ]
-      | inr a ↦ later e st s i (Stands-found st s i (rw (other_test e s i (inl a)) at (sym c ∙ h)))
-    ]
-
-found_at : (st : List Entry) (s i k : ℕ) → k < length st → (entry_at st k).slot ≡ s → (entry_at st k).i ≡ i
-    → is_some (find (is_for s i) st) ≡ true
-found_at [] s i k h a b = absurd (omega arith)
-found_at (e ∷ st) s i zero h a b = grind arith
-found_at (e ∷ st) s i (suc k) h a b = rw (find_cons _ e _, found_at st s i k (omega arith) a b) (or_true _)
-
-pub is_some-map : {X Y : Type 0} (f : X → Y) (o : Option X) → is_some (option_map f o) ≡ is_some o
-is_some-map f None = refl
-is_some-map f (Some x) = refl
-
 pub in_stack-shown : (z : Sizes) (c : Cache) (s i : ℕ) → IsSound z c → is_some (stack_word c.stack s i) ≡ (field_at c s i).in_stack
 unfolding stack_word
-in_stack-shown z c s i h = is_some-map (λ e. e.word) _ ∙ same_bool _ _ (λ t. (
-    let w = Stands-found _ s i t in
-    let m = (h.stack_sound.entries w.place w.within).marked in
-    rw w.word at (subst (λ x. (field_at c x (entry_at c.stack w.place).i).in_stack ≡ true) w.slot m)))
-    (λ t. (let w = h.stack_sound.marks s i t in found_at _ s i w.place w.within w.slot w.word))
+in_stack-shown z c s i h = go _ refl (field_at c s i).in_stack refl
+  where
+    go : (o : Option Entry) → find (λ e. (e.slot == s) && (e.i == i)) c.stack ≡ o → (b : Bool) → (field_at c s i).in_stack ≡ b
+        → is_some (option_map (λ e. e.word) o) ≡ b
+    go (Some e) q true m = refl
+    go (Some e) q false m =
+        let p = and_parts (e.slot == s) _ (find-passes (λ x. (x.slot == s) && (x.i == i)) c.stack e q) in
+        let a = eqb-true e.slot s p.0 in
+        let b = eqb-true e.i i p.1 in
+        let is_marked : Entry → Type 0 = λ x. (field_at c x.slot x.i).in_stack ≡ true in
+        let marked = find-all (λ x. (x.slot == s) && (x.i == i)) is_marked c.stack e q
+        (All-from_get_or is_marked c.stack no_entry (λ k l. (h.stack_sound.entries k l).marked)) in
+        absurd (false≢true (cc (a, b, marked, m)))
+    go None q true m =
+        let w = h.stack_sound.marks s i m in
+        let none = find-nowhere (λ x. (x.slot == s) && (x.i == i)) c.stack q w.place no_entry w.within in
+        cc (none, w.slot, w.word, eq-eqb s s refl, eq-eqb i i refl)
+    go None q false m = refl
 
 -- ---- a stray word
 
@@ -212,60 +178,22 @@ stray-shown z c s i h = grind (arith, stray_by, h.registers.each, in_stack-shown
 
 -- ---- what the mark changes
 
--- a field of a register with a new mark
-field-marked_other : (r : Register) (i j : ℕ) → (j ≡ i → ⊥) → field_of (regs.marked r i) j ≡ field_of r j
-unfolding regs.marked
-field-marked_other r i j n = grind (arith, get_or-set_other, r.fields)
-
-field-marked_same : (r : Register) (i : ℕ) → i < length r.fields
-    → field_of (regs.marked r i) i ≡ record (field_of r i) { in_stack = true }
-unfolding regs.marked
-field-marked_same r i h = grind (arith, get_or-set_same, r.fields)
-
-length-marked : (r : Register) (i : ℕ) → length (regs.marked r i).fields ≡ length r.fields
-unfolding regs.marked
-length-marked r i = grind (arith, length-set, r.fields)
-
--- the same but for the fields
-record Same (r r' : Register) : Type 0 where
-  valid : r'.valid ≡ r.valid
-  obsolete : r'.obsolete ≡ r.obsolete
-  block : r'.block ≡ r.block
-  frame : r'.frame ≡ r.frame
-
-Same-marked : (r : Register) (i : ℕ) → Same r (regs.marked r i)
-unfolding regs.marked
-Same-marked r i = grind arith
-
 loads-marked : (p : ℕ → Bool) (r : Register) (i : ℕ) → i < length r.fields → loads_of p (regs.marked r i) ≡ loads_of p r
 unfolding regs.marked
 loads-marked p r i h = grind (arith, loads-set)
 
+SameShape-marked : (r : Register) (i : ℕ) → SameShape r (regs.marked r i)
+unfolding regs.marked
+SameShape-marked r i = with_field-shape r i _
+
 HasInStack-marked : (r : Register) (i : ℕ) → r.valid ≡ true → i < length r.fields → (field_of r i).processed ≡ false
     → HasInStack (regs.marked r i) i
-HasInStack-marked r i v h p = record {
-  valid = (Same-marked r i).valid ∙ v;
-  there = rw (length-marked r i) h;
-  waits = rw (field-marked_same r i h) p;
-  marked = rw (field-marked_same r i h) refl;
-}
+unfolding regs.marked
+HasInStack-marked r i v h p = grind (arith, get_or-set_same, length-set, r.fields)
 
 HasInStack-still : (r : Register) (i j : ℕ) → HasInStack r j → HasInStack (regs.marked r i) j
-HasInStack-still r i j h =
-    elim (cases_eq j i) [
-      | inl e ↦ rw e (HasInStack-marked r i h.valid (rw e at h.there) (rw e at h.waits))
-      | inr e ↦ record {
-        valid = (Same-marked r i).valid ∙ h.valid;
-        there = rw (length-marked r i) h.there;
-        waits = rw (field-marked_other r i j e) h.waits;
-        marked = rw (field-marked_other r i j e) h.marked;
-      }
-    ]
-
--- one register of the list is put in place of another
-register_at-set : (P : Register → Type 0) (rs : List Register) (s t : ℕ) (r : Register) → s < length rs → (t ≡ s → P r)
-    → ((t ≡ s → ⊥) → P (regs.register_at rs t)) → P (regs.register_at (set rs s r) t)
-register_at-set P rs s t r l p q = grind (arith, cases_eq, get_or-set_same, get_or-set_other)
+unfolding regs.marked
+HasInStack-still r i j h = grind (arith, cases_eq, get_or-set_same, get_or-set_other, length-set, r.fields)
 
 entry_at-old : (st : List Entry) (e : Entry) (k : ℕ) → k < length st → entry_at (st ++ e ∷ []) k ≡ entry_at st k
 entry_at-old st e k h = get_or_append_left st _ no_entry k h
@@ -288,32 +216,6 @@ Expected-from r i h = grind arith
 pub slot_of : (rs : List Register) (s i : ℕ) → Expected (regs.register_at rs s) i → s < length rs
 slot_of rs s i h = grind (arith, cases_lt, false≢true, get_or_past)
 
-live-marked : (r : Register) (i : ℕ) → is_live (regs.marked r i) ≡ is_live r
-unfolding regs.marked
-live-marked r i = refl
-
-Since-marked : (r : Register) (i : ℕ) → is_live (regs.marked r i) ≡ true → Since r (regs.marked r i)
-Since-marked r i h =
-    let s = Same-marked r i in
-    record { live = grind arith; block = s.block; frame = s.frame; count = length-marked r i }
-
-HasFrame-marked : (d : List Frame) (r r' : Register) → Since r r' → HasFrame d r → HasFrame d r'
-HasFrame-marked d r r' s h = grind arith
-
-FilledBy-marked : (rs : List Register) (s i f : ℕ) → s < length rs → FilledBy rs f
-    → FilledBy (set rs s (regs.marked (regs.register_at rs s) i)) f
-FilledBy-marked rs s i f l w =
-    elim (cases_eq w.slot s) [
-      | inl e ↦ (
-          let own = get_or-set_same rs s _ free_register l in
-          let live = ap (λ t. is_live (regs.register_at rs t)) (sym e) ∙ w.live in
-          let frame = ap (λ t. (regs.register_at rs t).frame) (sym e) ∙ w.frame in
-          record { slot = s; live = ap is_live own ∙ live-marked _ i ∙ live; frame = cc (own, (Same-marked _ i).frame, frame) })
-      | inr e ↦ (
-          let other = get_or-set_other rs s w.slot _ free_register e in
-          record { slot = w.slot; live = ap is_live other ∙ w.live; frame = cc (other, w.frame) })
-    ]
-
 Stands-push : (st : List Entry) (e : Entry) (s i : ℕ) → Stands st s i → Stands (st ++ e ∷ []) s i
 Stands-push st e s i h = grind (arith, entry_at-old, h.place, h.within, length-append)
 
@@ -324,7 +226,8 @@ Stands-new st e =
 
 mark-marked : (r : Register) (i j : ℕ) → (field_of (regs.marked r i) j).in_stack ≡ true → (j ≡ i) ⊎
     ((field_of r j).in_stack ≡ true)
-mark-marked r i j h = grind (arith, cases_eq, field-marked_other)
+unfolding regs.marked
+mark-marked r i j h = grind (arith, cases_eq, get_or-set_other, r.fields)
 
 no_other : (z : Sizes) (c : Cache) (s i k : ℕ) → IsSound z c → Expected (register_at c s) i → k < length c.stack
     → (entry_at c.stack k).slot ≡ s → (entry_at c.stack k).i ≡ i → ⊥
@@ -337,7 +240,6 @@ IsSound-arrived z c e h x whole =
     let r = register_at c e.slot in
     let l = slot_of _ e.slot e.i x in
     let n = length-append c.stack (e ∷ []) in
-    let since : (s : ℕ) → is_live (regs.register_at _ s) ≡ true → Since _ _ = λ s. live_before _ e.slot s _ l (Since-marked r e.i) in
     record {
       ranges = h.ranges;
       directory = h.directory;
@@ -368,10 +270,8 @@ IsSound-arrived z c e h x whole =
             ])
             (λ a v. Stands-push _ e s i (h.stack_sound.marks s i v));
       };
-      tied = record {
-        frames = λ s v. HasFrame-marked _ _ _ (since s v) (h.tied.frames s (since s v).live);
-        pending = λ f v. FilledBy-marked _ e.slot e.i f l (h.tied.pending f v);
-      };
+      tied = Tied-same _ _ _ _ (SameBlocks-self _) (λ f. refl)
+          (related-set SameShape SameShape-self _ e.slot _ l (SameShape-marked r e.i)) h.tied;
       queue_sound = h.queue_sound;
       owes = owes-same z _ _ e.slot _ l (λ p. loads-marked p r e.i x.there) h.owes;
     }
@@ -433,42 +333,19 @@ pub awaited-shown : (c : Cache) (slot i tag : ℕ) (buffer : Word) → (record c
 unfolding regs.awaited with_field
 awaited-shown c slot i tag buffer = refl
 
-SameMarks-awaited : (r : Register) (i : ℕ) (o : Owed) → SameMarks r (regs.awaited r i o)
-unfolding regs.awaited
-SameMarks-awaited r i o = with_field-marks r i (record (field_of r i) { waiting = (field_of r i).waiting ++ o ∷ [] }) refl refl
-
-SameShape-awaited : (r : Register) (i : ℕ) (o : Owed) → SameShape r (regs.awaited r i o)
-unfolding regs.awaited
-SameShape-awaited r i o = grind (arith, with_field-shape)
-
-SameBlocks-self : (fs : List Frame) → SameBlocks fs fs
-SameBlocks-self fs = grind arith
-
 pub IsSound-awaited : (z : Sizes) (c : Cache) (slot i : ℕ) (o : Owed) → slot < length c.registers
     → IsWhole z.block_words z.regs (set c.registers slot (regs.awaited (register_at c slot) i o))
     → OwesSound z c.ready (set c.registers slot (regs.awaited (register_at c slot) i o)) → IsSound z c
     → IsSound z (record c { registers = set c.registers slot (regs.awaited (register_at c slot) i o) })
-IsSound-awaited z c slot i o l w owes h = record {
-  ranges = h.ranges;
-  directory = h.directory;
-  sets = h.sets;
-  in_memory = h.in_memory;
-  registers = w;
-  stack_sound = StackSound-same _ _ _ (SameMarks-set _ slot _ l (SameMarks-awaited _ i o)) h.stack_sound;
-  tied = Tied-same _ _ _ _ (SameBlocks-self _) (λ f. refl) (SameShape-set _ slot _ l (SameShape-awaited _ i o)) h.tied;
-  queue_sound = h.queue_sound;
-  owes = owes;
-}
+unfolding regs.awaited
+IsSound-awaited z c slot i o l w owes h = IsSound-like z c _ _ h.directory w (SameBlocks-self _) (λ f. refl) refl
+    (related-set SameKind SameKind-self _ slot _ l (with_field-kind _ i _ refl refl)) owes h
 
 -- ---- a store
 
-SameMarks-noted : (r : Register) (i : ℕ) (m : Lanes) → SameMarks r (regs.noted r i m)
+SameKind-noted : (r : Register) (i : ℕ) (m : Lanes) → SameKind r (regs.noted r i m)
 unfolding regs.noted
-SameMarks-noted r i m = with_field-marks r i (record (field_of r i) { code = joined (field_of r i).code m }) refl refl
-
-SameShape-noted : (r : Register) (i : ℕ) (m : Lanes) → SameShape r (regs.noted r i m)
-unfolding regs.noted
-SameShape-noted r i m = grind (arith, with_field-shape)
+SameKind-noted r i m = with_field-kind r i _ refl refl
 
 loads-noted : (p : ℕ → Bool) (r : Register) (i : ℕ) (m : Lanes) → i < length r.fields → loads_of p (regs.noted r i m) ≡ loads_of p r
 unfolding regs.noted
@@ -494,62 +371,25 @@ pub IsSound-stored : (z : Sizes) (c : Cache) (block i : ℕ) (word : Word) (m : 
     → dir.IsWhole z.ways z.block_words (written_for c.directory o i word m)
     → IsWhole z.block_words z.regs (noted_for c.registers (live_for c block) i m) → IsSound z c
     → IsSound z (record c { directory = written_for c.directory o i word m; registers = noted_for c.registers (live_for c block) i m })
-IsSound-stored z c block i word m o l wd wr h = record {
-  ranges = h.ranges;
-  directory = wd;
-  sets = ap length (written-orders _ o i word m) ∙ h.sets;
-  in_memory = λ f b e. h.in_memory f b (sym ((written-blocks _ o i word m).blocks f) ∙ e);
-  registers = wr;
-  stack_sound = StackSound-same _ _ _ marks h.stack_sound;
-  tied = Tied-same _ (written_for _ o i word m).frames _ _ (written-blocks _ o i word m) (written-pending _ o i word m) shapes h.tied;
-  queue_sound = h.queue_sound;
-  owes = owes;
-}
+IsSound-stored z c block i word m o l wd wr h =
+    let k = by_live _ refl in
+    IsSound-like z c _ _ wd wr (written-blocks _ o i word m) (written-pending _ o i word m) (written-orders _ o i word m) k.0 k.1 h
   where
-    marks_by : (o : Option ℕ) → live_for c block ≡ o → (s : ℕ)
-        → SameMarks (register_at c s) (regs.register_at (noted_for c.registers o i m) s)
-    marks_by None e s = SameMarks-self _
-    marks_by (Some t) e s = go (field_at c t i).processed
+    Kept : List Register → Type 0
+    Kept rs = ((s : ℕ) → SameKind (register_at c s) (regs.register_at rs s)) × OwesSound z c.ready rs
+
+    by_live : (o : Option ℕ) → live_for c block ≡ o → Kept (noted_for c.registers o i m)
+    by_live None e = (λ s. SameKind-self _, h.owes)
+    by_live (Some t) e = go (field_at c t i).processed
       where
-        go : (b : Bool) → SameMarks (register_at c s)
-            (regs.register_at (if b then c.registers else set c.registers t (regs.noted (register_at c t) i m)) s)
-        go true = SameMarks-self _
-        go false = SameMarks-set _ t _ (live_for-some _ block t e).0 (SameMarks-noted _ i m) s
-
-    marks : (s : ℕ) → SameMarks (register_at c s) (regs.register_at (noted_for c.registers (live_for c block) i m) s)
-    marks = marks_by _ refl
-
-    shapes_by : (o : Option ℕ) → live_for c block ≡ o → (s : ℕ)
-        → SameShape (register_at c s) (regs.register_at (noted_for c.registers o i m) s)
-    shapes_by None e s = SameShape-self _
-    shapes_by (Some t) e s = go (field_at c t i).processed
-      where
-        go : (b : Bool) → SameShape (register_at c s)
-            (regs.register_at (if b then c.registers else set c.registers t (regs.noted (register_at c t) i m)) s)
-        go true = SameShape-self _
-        go false = SameShape-set _ t _ (live_for-some _ block t e).0 (SameShape-noted _ i m) s
-
-    shapes : (s : ℕ) → SameShape (register_at c s) (regs.register_at (noted_for c.registers (live_for c block) i m) s)
-    shapes = shapes_by _ refl
-
-    valid_by : (v o : Bool) → (v && not o) ≡ true → v ≡ true
-    valid_by true o e = refl
-    valid_by false o e = absurd (false≢true e)
-
-    owes_by : (o : Option ℕ) → live_for c block ≡ o → OwesSound z c.ready (noted_for c.registers o i m)
-    owes_by None e = h.owes
-    owes_by (Some t) e = go (field_at c t i).processed
-      where
-        go : (b : Bool) → OwesSound z c.ready (if b then c.registers else set c.registers t (regs.noted (register_at c t) i m))
-        go true = h.owes
+        go : (b : Bool) → Kept (if b then c.registers else set c.registers t (regs.noted (register_at c t) i m))
+        go true = (λ s. SameKind-self _, h.owes)
         go false =
             let p = live_for-some _ block t e in
-            let v = valid_by _ _ p.1 in
-            let n = (h.registers.each t).fields_there v in
-            owes-same z _ _ t _ p.0 (λ x. loads-noted x _ i m (omega arith)) h.owes
-
-    owes : OwesSound z c.ready (noted_for c.registers (live_for c block) i m)
-    owes = owes_by _ refl
+            let n = (h.registers.each t).fields_there (and_parts _ _ p.1).0 in (
+              related-set SameKind SameKind-self _ t _ p.0 (SameKind-noted _ i m),
+              owes-same z _ _ t _ p.0 (λ x. loads-noted x _ i m (omega arith)) h.owes,
+            )
 
 noted-shown : (c : Cache) (o : Option ℕ) (i : ℕ)
     (m : Lanes) → (record c { registers = noted_for c.registers o i m }) ≡ noted c o i m
@@ -632,19 +472,11 @@ pub can_await : (z : Sizes) (c : Cache) → IsSound z c → (block i slot : ℕ)
     → CanAwait z.block_words c.registers slot i
 can_await z c h block i slot k l =
     let p = live_for-some _ block slot (k.live) in
-    let v = valid_by (register_at c slot).valid (register_at c slot).obsolete p.1 in
-    let n = (h.registers.each slot).fields_there v in
+    let n = (h.registers.each slot).fields_there (and_parts _ _ p.1).0 in
     let there : i < length (register_at c slot).fields = omega arith in
     let processed = k.waits in
     let in_stack = sym (in_stack-shown z c slot i h) ∙ ap is_some k.absent in
     record { slot_there = p.0; live = p.1; there = there; expected = grind arith }
-  where
-    valid_by : (v o : Bool) → (v && not o) ≡ true → v ≡ true
-    valid_by true o e = refl
-    valid_by false o e = absurd (false≢true e)
-
-    all_true : {v a p m : Bool} → v ≡ true → a ≡ true → p ≡ false → m ≡ false → (v && (a && (not p && not m))) ≡ true
-    all_true e f g k = grind arith
 
 pub few_wait : (c : Cache) (block i slot : ℕ) → found c block i ≡ Coming slot → targets_full c i (found c block i) ≡ false
     → length (field_at c slot i).waiting < MAX_WAITING

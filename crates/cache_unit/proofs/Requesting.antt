@@ -20,7 +20,7 @@ use Rattle.cache_unit.specs.Causes.{choose, ways_of, is_resident_block, dirty_wo
 use Rattle.cache_unit.specs.Causes.{store_cause, prefetch_cause, evict_cause, lacks_places, Found, Here, Coming, found_missing, found_in}
 use Rattle.cache_unit.specs.Causes.{targets_full}
 use Rattle.cache_unit.specs.Steps.{released, installed, reads, fetched, fetches, unless, loaded, written, load_step, store_step}
-use Rattle.cache_unit.specs.Steps.{prefetch_step, request_step, Stepped, evict_step, evicted, missed}
+use Rattle.cache_unit.specs.Steps.{prefetch_step, request_step, Stepped, evict_step, evicted, evicted_from, missed}
 use Rattle.cache_unit.specs.FormLaws.{form_at, missed_words, fetched_words, LoadForms, StoreForms, PrefetchForms, RequestForms}
 use Rattle.cache_unit.specs.SoundCache.{IsSoundCache}
 use Rattle.cache_unit.proofs.Lists.{frame-comes, in_range, frame_of-some, none_in_frames, live_for-some}
@@ -401,30 +401,12 @@ module _ (z : Sizes) (room : ℕ → ℕ) (c : Cache) (h : IsSoundCache z c) whe
 abbrev pub refused : Cause → Cache → Stepped
 refused cause c = record { answer = Refused cause; cache = c; sent = [] }
 
-below : (a b : ℕ) → a < b → nat_lt a b ≡ true
-below a b h = grind arith
-
-not_below : (a b : ℕ) → b ≤ a → nat_lt a b ≡ false
-not_below a b h = grind arith
-
-pub evict_outside : (z : Sizes) (c : Cache) (block : ℕ) → z.words ≤ block * z.block_words → evict_step z c block ≡ refused OutOfRange c
+pub evict_by : (z : Sizes) (c : Cache) (block : ℕ) (a : Bool) (o : Option ℕ) (b : Bool)
+    → nat_lt (block * z.block_words) z.words ≡ a → frame_of c block ≡ o → lacks_places z c o ≡ b
+    → evict_step z c block ≡ unless (first_cause ((not a, OutOfRange) ∷ (not (is_some o), NotPresent) ∷ (b, QueueFull) ∷ [])) c
+    (record { answer = Accepted; cache = evicted_from z c block o; sent = [] })
 unfolding evict_step evict_cause
-evict_outside z c block h = grind arith
-
-pub evict_absent : (z : Sizes) (c : Cache) (block : ℕ) → block * z.block_words < z.words → frame_of c block ≡ None
-    → evict_step z c block ≡ refused NotPresent c
-unfolding evict_step evict_cause
-evict_absent z c block h e = grind arith
-
-pub evict_full : (z : Sizes) (c : Cache) (block f : ℕ) → block * z.block_words < z.words → frame_of c block ≡ Some f
-    → lacks_places z c (Some f) ≡ true → evict_step z c block ≡ refused QueueFull c
-unfolding evict_step evict_cause
-evict_full z c block f h e l = grind arith
-
-pub evict_done : (z : Sizes) (c : Cache) (block f : ℕ) → block * z.block_words < z.words → frame_of c block ≡ Some f
-    → lacks_places z c (Some f) ≡ false → evict_step z c block ≡ record { answer = Accepted; cache = evicted z c block f; sent = [] }
-unfolding evict_step evict_cause
-evict_done z c block f h e l = grind arith
+evict_by z c block a o b e f g = grind arith
 
 -- what the step leaves, of the unit that the parts show
 pub evicted_is : (z : Sizes) (c : Cache) (u : UnitState) (block f : ℕ) → record { sizes = z; cache = c } ≡ u
@@ -460,43 +442,11 @@ tags_kept z room c block h e =
 -- where no load waits for a block's word, one more may
 targets_free : (c : Cache) (block i : ℕ) → ((s : ℕ) → live_for c block ≡ Some s → (j : ℕ) → (field_at c s j).waiting ≡ [])
     → targets_full c i (found c block i) ≡ false
-targets_free c block i h = go _ refl
-  where
-    coming : (s : ℕ) → live_for c block ≡ Some s → (o : Option Word)
-        → targets_full c i (found_missing o s (field_at c s i).code (cell_of c block i).word) ≡ false
-    coming s e (Some w) = refl
-    coming s e None = ap (λ l. nat_le MAX_WAITING (length l)) (h s e i)
-
-    by_field : (s : ℕ) → live_for c block ≡ Some s → (b : Bool) → targets_full c i (cond b (Here (cell_of c block i).word)
-        (found_missing (stack_word c.stack s i) s (field_at c s i).code (cell_of c block i).word)) ≡ false
-    by_field s e true = refl
-    by_field s e false = coming s e _
-
-    go : (o : Option ℕ) → live_for c block ≡ o → targets_full c i (found_in c o i (cell_of c block i).word) ≡ false
-    go None e = refl
-    go (Some s) e = by_field s e _
+targets_free c block i h = grind arith
 
 pub targets_kept : (z : Sizes) (room : ℕ → ℕ) (c : Cache) (block : ℕ) → IsSoundCache z c → absence_cause z room c block ≡ None → (i : ℕ)
     → is_full_for c block i ≡ false → targets_full (fetched z c block) i (found (fetched z c block) block i) ≡ false
-targets_kept z room c block h e i full = go _ refl full
-  where
-    go : (b : Bool) → is_present c block ≡ b → (b && targets_full c i (found c block i)) ≡ false
-        → targets_full (fetched z c block) i (found (fetched z c block) block i) ≡ false
-    go true p q = cc (present_fetched z c block p, q)
-    go false p q = targets_free (fetched z c block) block i ((fetched-by z c h block (missing z room c block [] e)).waits p)
-
--- a block against which a cause stands is absent
-pub absent_not_full : (z : Sizes) (room : ℕ → ℕ) (c : Cache) (block i : ℕ) (cause : Cause) → absence_cause z room c block ≡ Some cause
-    → is_full_for c block i ≡ false
-absent_not_full z room c block i cause e = go _ e
-  where
-    go : (b : Bool) → first_cause (cond b [] (miss_causes z room c block)) ≡ Some cause → (b && targets_full c i (found c block i)) ≡ false
-    go true q = cc
-    go false q = refl
-
-present_where_full : (b t : Bool) → (b && t) ≡ true → b ≡ true
-present_where_full true t e = refl
-present_where_full false t e = e
+targets_kept z room c block h e i full = grind (arith, present_fetched, targets_free, (fetched-by z c h block (missing z room c block [] e)).waits)
 
 -- ---- as many loads as may wait for a word
 
@@ -515,17 +465,6 @@ load_tests a b k rest = cond a (Some OutOfRange) (cond b (Some TagInUse) (cond k
 
 abbrev store_tests : Bool → Bool → Option Cause → Option Cause
 store_tests a b rest = cond a (Some OutOfRange) (cond b (Some NoLanes) rest)
-
-rest_is : (p t : Bool) (ms : List (Bool × Cause)) (o : Option Cause) → (p && t) ≡ false → first_cause (cond p [] ms) ≡ o
-    → first_cause (cond p ((t, TargetsFull) ∷ []) ms) ≡ o
-rest_is true true ms o e k = absurd (false≢true (sym e))
-rest_is true false ms o e k = k
-rest_is false t ms o e k = k
-
-rest_full : (p t : Bool) (ms : List (Bool × Cause)) → (p && t) ≡ true → first_cause (cond p ((t, TargetsFull) ∷ []) ms) ≡ Some TargetsFull
-rest_full true true ms e = refl
-rest_full true false ms e = absurd (false≢true e)
-rest_full false t ms e = absurd (false≢true e)
 
 module _ (z : Sizes) (room : ℕ → ℕ) (c : Cache) (at : ℕ) where
   abbrev Inside : Type 0
@@ -558,33 +497,14 @@ module _ (z : Sizes) (room : ℕ → ℕ) (c : Cache) (at : ℕ) where
   abbrev load_told : ℕ → Bool → Bool → Bool → Stepped
   load_told tag a b k = unless (load_tests a b k load_last) c (load_to tag)
 
-  load_by : (tag : ℕ) → load_step z room c tag at ≡ load_told tag (not (nat_lt at z.words)) (is_in_use c tag) owes_all
+  pub load_by : (tag : ℕ) (a b k : Bool) (o : Option Cause) → not (nat_lt at z.words) ≡ a → is_in_use c tag ≡ b → owes_all ≡ k
+      → load_last ≡ o → load_step z room c tag at ≡ unless (load_tests a b k o) c (load_to tag)
   unfolding load_step load_cause
-  load_by tag = refl
+  load_by tag a b k o e f g h = ap₂ (λ x y. unless (load_tests x y owes_all load_last) c (load_to tag)) e f
+      ∙ ap₂ (λ x y. unless (load_tests a b x y) c (load_to tag)) g h
 
-  pub load_outside : (tag : ℕ) → not (nat_lt at z.words) ≡ true → load_step z room c tag at ≡ refused OutOfRange c
-  load_outside tag e = cc (load_by tag, e)
-
-  pub load_in_use : (tag : ℕ) → Inside → is_in_use c tag ≡ true → load_step z room c tag at ≡ refused TagInUse c
-  load_in_use tag e k = load_by tag ∙ ap₂ (λ a b. load_told tag a b owes_all) e k
-
-  pub load_owes_all : (tag : ℕ) → Inside → is_in_use c tag ≡ false → owes_all ≡ true → load_step z room c tag at ≡ refused RepliesFull c
-  load_owes_all tag e k l = cc (load_by tag, ap₂ (λ a b. load_told tag a b owes_all) e k, l)
-
-  load_rest : (tag : ℕ) (o : Option Cause) → Inside → is_in_use c tag ≡ false
-      → owes_all ≡ false → load_last ≡ o → load_step z room c tag at ≡ unless o c (load_to tag)
-  load_rest tag o e k l m = load_by tag ∙ ap₂ (λ a b. load_told tag a b owes_all) e k
-      ∙ ap₂ (λ b r. unless (load_tests false false b r) c (load_to tag)) l m
-
-  pub load_targets_full : (tag : ℕ) → Inside → is_in_use c tag ≡ false → owes_all ≡ false
-      → is_full ≡ true → load_step z room c tag at ≡ refused TargetsFull c
-  load_targets_full tag e k l m =
-      load_rest tag _ e k l (rest_full _ (targets_full c (place_in z at) (found c (block_of z at) (place_in z at)))
-      (miss_causes z room c (block_of z at)) m)
-
-  pub load_absent : (tag : ℕ) (cause : Cause) → Inside → is_in_use c tag ≡ false → owes_all ≡ false → is_full ≡ false
-      → absence ≡ Some cause → load_step z room c tag at ≡ refused cause c
-  load_absent tag cause e k l m n = load_rest tag _ e k l (rest_is _ _ (miss_causes z room c (block_of z at)) (Some cause) m n)
+  pub load_absent : (cause : Cause) → absence ≡ Some cause → load_last ≡ Some cause
+  load_absent cause e = grind arith
 
   -- a load of a block that is present or was brought in, by whether four loads wait for its word
   abbrev pub load_on : ℕ → Bool → Stepped
@@ -594,19 +514,12 @@ module _ (z : Sizes) (room : ℕ → ℕ) (c : Cache) (at : ℕ) where
     sent = fetches z c (block_of z at);
   }
 
-  full_is : (tag : ℕ) → is_present c (block_of z at) ≡ true → refused TargetsFull c ≡ load_on tag true
-  full_is tag here =
-      let made : Cache → List _ → Stepped = λ d sent. record { answer = load_answer true; cache = d; sent = sent } in
-      ap₂ made (sym (present_fetched z c _ here)) (sym (present_fetches z c _ here))
-
   pub load_decided : (tag : ℕ) → Inside → is_in_use c tag ≡ false → owes_all ≡ false → absence ≡ None
       → load_step z room c tag at ≡ load_on tag is_full
-  load_decided tag e k l n = go _ refl
+  load_decided tag e k l n = load_by tag _ _ _ _ e k l refl ∙ rest (is_present c (block_of z at)) refl n
     where
-      go : (b : Bool) → is_full ≡ b → load_step z room c tag at ≡ load_on tag b
-      go true q = load_targets_full tag e k l q ∙ full_is tag (present_where_full _ _ q)
-      go false q = load_rest tag None e k l (rest_is _ (targets_full c (place_in z at) (found c (block_of z at) (place_in z at)))
-          (miss_causes z room c (block_of z at)) None q n)
+      rest : (b : Bool) → is_present c (block_of z at) ≡ b → absence ≡ None → unless load_last c (load_to tag) ≡ load_on tag is_full
+      rest b p n = grind (arith, present_fetched, present_fetches)
 
   -- ---- stores
 
@@ -617,22 +530,11 @@ module _ (z : Sizes) (room : ℕ → ℕ) (c : Cache) (at : ℕ) where
     sent = fetches z c (block_of z at);
   }
 
-  store_by : (word : Word) (lanes : Lanes) → store_step z room c at word lanes ≡ unless
-      (store_tests (not (nat_lt at z.words)) (not (has_any lanes)) absence) c (store_to word lanes)
+  pub store_by : (word : Word) (lanes : Lanes) (a b : Bool) (o : Option Cause) → not (nat_lt at z.words) ≡ a → not (has_any lanes) ≡ b
+      → absence ≡ o → store_step z room c at word lanes ≡ unless (store_tests a b o) c (store_to word lanes)
   unfolding store_step store_cause
-  store_by word lanes = refl
-
-  pub store_outside : (word : Word) (lanes : Lanes) → not (nat_lt at z.words) ≡ true
-      → store_step z room c at word lanes ≡ refused OutOfRange c
-  store_outside word lanes e = cc (store_by word lanes, e)
-
-  pub store_no_lanes : (word : Word) (lanes : Lanes) → Inside → not (has_any lanes) ≡ true
-      → store_step z room c at word lanes ≡ refused NoLanes c
-  store_no_lanes word lanes e k = store_by word lanes ∙ ap₂ (λ a b. unless (store_tests a b absence) c (store_to word lanes)) e k
-
-  pub store_rest : (word : Word) (lanes : Lanes) (o : Option Cause) → Inside → not (has_any lanes) ≡ false
-      → absence ≡ o → store_step z room c at word lanes ≡ unless o c (store_to word lanes)
-  store_rest word lanes o e k m = cc (store_by word lanes, ap₂ (λ a b. unless (store_tests a b absence) c (store_to word lanes)) e k, m)
+  store_by word lanes a b o e f g = ap₂ (λ x y. unless (store_tests x y absence) c (store_to word lanes)) e f
+      ∙ ap (λ x. unless (store_tests a b x) c (store_to word lanes)) g
 
   -- ---- prefetches
 
@@ -643,17 +545,6 @@ module _ (z : Sizes) (room : ℕ → ℕ) (c : Cache) (at : ℕ) where
       → prefetch_step z room c at ≡ unless (cond b (Some OutOfRange) o) c prefetch_to
   unfolding prefetch_step prefetch_cause
   prefetch_by o b e m = ap₂ (λ a r. unless (cond a (Some OutOfRange) r) c prefetch_to) e m
-
-  pub prefetch_outside : not (nat_lt at z.words) ≡ true → prefetch_step z room c at ≡ refused OutOfRange c
-  prefetch_outside e = prefetch_by _ true e refl
-
--- ---- tests
-
-pub not_set : (a b : Bool) → b ≡ a → b ≡ false → not a ≡ true
-not_set a b e k = ap not (sym e ∙ k)
-
-pub is_set : (a b : Bool) → b ≡ a → b ≡ true → not a ≡ false
-is_set a b e k = ap not (sym e ∙ k)
 
 -- ---- What each step of a sound unit makes of the forms.
 

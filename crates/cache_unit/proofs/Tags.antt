@@ -17,6 +17,31 @@ use Rattle.cache_unit.specs.Causes.{is_in_use}
 use Rattle.cache_unit.specs.Sound.{loads_of_field, loads_of, owing, OwesSound, IsSound}
 use Rattle.cache_unit.proofs.Keeps.{count_by-all, owing-set, loads-set}
 use Rattle.miss_registers.specs.Registers.{tags_of_field, tags_of, waiting_tags, tag_waits, register_at, awaited, field_of}
+use Rattle.std.proofs.Common.{zero, ◌&&◌, not, Option, Some, None, is_some, length-set, ◌-◌, ◌⊎◌, inl, inr, take, subst, slice_get, ◌/◌, filter}
+use Rattle.std.specs.List.{remove}
+use Rattle.std.proofs.lemmas.List.Sums.{sum_by-set, sum_by-remove}
+use Rattle.flat_model.specs.declared.Word.{Word}
+use Rattle.flat_model.specs.Words.{merged}
+use Rattle.cache_unit.specs.Steps.{answered, filled_in, settled_in, processed, moved, process_step, process_entry}
+use Rattle.cache_unit.specs.Sound.{HasFrame, no_entry, entry_at, HasInStack, Stands, FilledBy}
+use Rattle.flat_model.specs.declared.Lanes.{Lanes}
+use Rattle.input_stack.specs.declared.Entry.{Entry}
+use Rattle.cache_unit.specs.State.{frame_of, with_cell, frame_at, field_at, UnitState, clear_field, free_register, is_live, Frames, Frame, empty_frame}
+use Rattle.cache_unit.specs.Parts.{filled_live, settled_if, CanFill}
+use Rattle.std.proofs.lemmas.List.{get_or-set_same, get_or-set_other, get_or_past, take_more}
+use Rattle.std.proofs.lemmas.List.Edits.{length-remove, get_or-remove_below, get_or-remove_above}
+use Rattle.std.proofs.lemmas.Bool.{false≢true, cases_lt, cases_eq, cases_order, false_from_ne_true}
+use Rattle.std.proofs.lemmas.Option.{none-some, same_Some, slice_get_within, get_or_from_slice_get}
+use Rattle.flat_model.specs.declared.limits.TheConstants.{MAX_REPLIES}
+use Rattle.flat_model.specs.Places.{is_number}
+use Rattle.cache_unit.proofs.Lists.{list_all-at, read_set, place_of-set, tally-append, tally-map, tally-filter, frame_of-some}
+use Rattle.cache_unit.specs.SoundCache.{HasWord, IsSoundCache}
+use Rattle.cache_unit.specs.Counts.{bit, tally}
+use Rattle.miss_registers.specs.Registers.{finished, finished_fields, finished_field, is_done}
+use Rattle.cache_directory.specs.Frames.{settled, times_in}
+use Rattle.cache_unit.proofs.Keeps.{Taken-from}
+use Rattle.std.proofs.lemmas.List.Sums.{length-filter}
+use Rattle.cache_directory.specs.Frames as dir
 use Rattle.miss_registers.specs.Registers as regs
 
 abbrev tag_of : Target → ℕ
@@ -58,27 +83,16 @@ tags-shown c w = ap (λ l. map (λ r. r.tag) c.ready ++ l) (waiting-shown _ _ _ 
 
 -- ---- counts
 
-count-fields : (p : ℕ → Bool) (fs : List Field) → count_by p (flat_map tags_of_field fs) ≡ sum_by (loads_of_field p) fs
-count-fields p [] = refl
-count-fields p (f ∷ fs) =
-    let a = count_by-append p (tags_of_field f) (flat_map tags_of_field fs) in
-    let b = count_by-map p (λ w. w.tag) f.waiting in
-    let c = sum_by-cons (loads_of_field p) f fs in
-    let r = count-fields p fs in
-    omega arith
-
-count-registers : (p : ℕ → Bool) (rs : List Register) → count_by p (flat_map tags_of rs) ≡ sum_by (loads_of p) rs
-count-registers p [] = refl
-count-registers p (x ∷ rs) =
-    let a = count_by-append p (tags_of x) (flat_map tags_of rs) in
-    let b = count-fields p x.fields in
-    let c = sum_by-cons (loads_of p) x rs in
-    let r = count-registers p rs in
-    omega arith
+count-flat_map : {X : Type 0} (p : ℕ → Bool) (f : X → List ℕ) (n : X → ℕ) → ((x : X) → count_by p (f x) ≡ n x) → (xs : List X)
+    → count_by p (flat_map f xs) ≡ sum_by n xs
+count-flat_map p f n h [] = refl
+count-flat_map p f n h (x ∷ xs) =
+    omega (arith, count_by-append p (f x) (flat_map f xs), h x, sum_by-cons n x xs, count-flat_map p f n h xs)
 
 pub count-waiting : (p : ℕ → Bool) (rs : List Register) → count_by p (waiting_tags rs) ≡ sum_by (loads_of p) rs
 unfolding waiting_tags
-count-waiting p rs = count-registers p rs
+count-waiting p =
+    count-flat_map p tags_of (loads_of p) (λ r. count-flat_map p tags_of_field (loads_of_field p) (λ f. count_by-map p _ f.waiting) r.fields)
 
 pub owing-tags : (p : ℕ → Bool) (ready : List Reply) (rs : List Register)
     → owing p ready rs ≡ count_by p (map (λ r. r.tag) ready ++ waiting_tags rs)
@@ -151,3 +165,61 @@ owing-awaited p ready rs s i o a b =
     let n = count_by-append (λ w. p w.tag) (field_of r i).waiting (o ∷ []) in
     let m = sum_by-cons (λ w. cond (p w.tag) 1 0) o [] in
     omega arith
+
+-- ---- What the forms rest on holds of each sound unit.
+
+-- ---- orders
+
+stands_in : (order : List ℕ) (f : ℕ) → 1 ≤ times_in order f → list_any (λ g. g == f) order ≡ true
+stands_in [] f l = absurd (omega arith)
+stands_in (x ∷ order) f l = grind (arith, stands_in order f)
+
+-- ---- all of it
+
+pub sound_cache : (z : Sizes) (c : Cache) → IsSound z c → IsSoundCache z c
+sound_cache z c h = record {
+  some_words = let l = h.ranges.some_words in omega arith;
+  some_sets = let l = h.ranges.some_sets in omega arith;
+  frames_are = cc (h.directory.frames_there, h.sets);
+  registers_are = h.registers.registers_there;
+  frames_apart = λ f g b p k. h.directory.alone f g b p k;
+  live_apart = λ s t a b e. h.registers.one_live s t a b e;
+  live_present = λ s a. let t = h.tied.frames s a in let f = (regs.register_at c.registers s).frame in
+      (f, (frame_of-some _ (regs.register_at c.registers s).block f t.holds).1);
+  cells = λ f b p. h.directory.cells f b p;
+  fields = λ s v. (h.registers.each s).fields_there v;
+  placed = λ f b p. stands_in _ f (held_once f b p);
+  entries = there;
+  entries_apart = apart;
+  once = λ tag. let b = h.owes.once tag in
+      omega (arith, length-filter (λ t. t == tag) (tags c), ap (count_by (λ t. t == tag)) (tags-shown c h.registers),
+      owing-tags (λ t. t == tag) c.ready c.registers);
+}
+  where
+    held_once : (f b : ℕ) → (frame_at c f).block ≡ Some b → 1 ≤ times_in (dir.order_of c.directory (f / z.ways)) f
+    held_once f b e = grind arith
+
+    there : (k : ℕ) (e : Entry) → slice_get c.stack k ≡ Some e → HasWord z c e
+    there k e g =
+        let t = Taken-from _ k e g in
+        let w = h.stack_sound.entries k t.within in
+        let in_slot = rw t.same at w.valid in
+        let in_word = rw t.same at w.there in
+        let missing = rw t.same at w.waits in
+        let number = (h.registers.each e.slot).fields_there in_slot in
+        record { valid = in_slot; there = omega arith; waits = missing }
+
+    never : (j k : ℕ) (x y : Entry) → slice_get c.stack j ≡ Some x → slice_get c.stack k ≡ Some y → x.slot ≡ y.slot → x.i ≡ y.i → j < k → ⊥
+    never j k x y gj gk es ei l =
+        let a = Taken-from _ j x gj in
+        let b = Taken-from _ k y gk in
+        h.stack_sound.distinct j k l b.within (cc (a.same, es, b.same))
+        (cc (a.same, ei, b.same))
+
+    apart : (j k : ℕ) (x y : Entry) → slice_get c.stack j ≡ Some x → slice_get c.stack k ≡ Some y → x.slot ≡ y.slot → x.i ≡ y.i → j ≡ k
+    apart j k x y gj gk es ei = grind (arith, never, cases_lt)
+
+-- the same of what a unit shows
+pub sound_shown : (z : Sizes) (c : Cache) → IsSound z c → (u : UnitState) → record { sizes = z; cache = c } ≡ u
+    → IsSoundCache u.sizes u.cache
+sound_shown z c h u e = grind (arith, sound_cache)

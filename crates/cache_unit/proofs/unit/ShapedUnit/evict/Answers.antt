@@ -1,9 +1,9 @@
-use Rattle.std.proofs.Common.{◌≡◌, ℕ, ◌*◌, ◌<◌, ◌≤◌, arith, ap, refl, sym, ◌∙◌, subst}
+use Rattle.std.proofs.Common.{◌≡◌, ℕ, ◌*◌, ◌<◌, ◌≤◌, arith, ap, refl, sym, ◌∙◌, subst, Some, None, true, false, le-ltb, lt-ltb}
 use Rattle.cache_unit.specs.Steps.{evict_step}
 use Rattle.cache_unit.specs.View.{cache_of}
 use Rattle.cache_unit.proofs.Lists.{frame_of-some}
 use Rattle.cache_unit.proofs.Choosing.{lacks-true, lacks-false}
-use Rattle.cache_unit.proofs.Requesting.{evict_outside, evict_absent, evict_full, evict_done, evicted_is}
+use Rattle.cache_unit.proofs.Requesting.{evict_by, evicted_is}
 use Rattle.cache_unit.proofs.Fetching.{keeps, sound_of}
 use Rattle.cache_unit.proofs.unit.ShapedUnit.evict.Goals as goal
 
@@ -19,7 +19,7 @@ returns-then-first-words c =
     let z = s.sizes in
     let ge = rw c.from.ensures at (subst (λ n. n ≤ c.from.result * z.block_words) c.from-words.ensures
     (rw (← c.from-2.ensures) c.if-first-words.true)) in
-    let is = evict_outside z _ _ ge in
+    let is = evict_by z _ _ false _ _ (le-ltb _ _ ge) refl refl in
     keeps s c.self.invariant _ c.self.view_is (λ y k. evict_step y k c.args.block) _ _ _ is refl
 
 -- the block's first word is in memory
@@ -33,7 +33,7 @@ returns-in_default c =
     let z = s.sizes in
     let lt = within _ _ _ _ _ _ c.from.ensures c.from-words.ensures c.from-2.ensures c.if-first-words.false in
     let none = sym c.look.ensures.found ∙ c.in_default.is in
-    let is = evict_absent z _ _ lt none in
+    let is = evict_by z _ _ true None _ (lt-ltb _ _ lt) none refl in
     keeps s c.self.invariant _ c.self.view_is (λ y k. evict_step y k c.args.block) _ _ _ is refl
 
 pub returns-then-room-dirty : goal.returns-then-room-dirty
@@ -42,11 +42,10 @@ returns-then-room-dirty c =
     let z = s.sizes in
     let lt = within _ _ _ _ _ _ c.from.ensures c.from-words.ensures c.from-2.ensures c.if-first-words.false in
     let holds = sym c.in-Some.ensures.found in
-    let shown = holds in
     let count = c.dirty_words-dirty.ensures.count _ _ in
     let lacks = lacks-true z _ c.self.invariant.sound _ c.in-Some.frame holds
     c.dirty_words-dirty.result _ count (rw (← c.self.invariant.limit) c.room.ensures.value) c.if-room-dirty.true in
-    let is = evict_full z _ _ c.in-Some.frame lt shown lacks in
+    let is = evict_by z _ _ true (Some c.in-Some.frame) true (lt-ltb _ _ lt) holds lacks in
     keeps s c.self.invariant _ c.self.view_is (λ y k. evict_step y k c.args.block) _ _ _ is refl
 
 pub give_up-requires : goal.give_up-requires
@@ -60,11 +59,10 @@ returns c =
     let now = cache_of s in
     let lt = within _ _ _ _ _ _ c.from.ensures c.from-words.ensures c.from-2.ensures c.if-first-words.false in
     let holds = sym c.in-Some.ensures.found in
-    let shown = holds in
     let count = c.dirty_words-dirty.ensures.count _ _ in
     let lacks = lacks-false z _ c.self.invariant.sound _ c.in-Some.frame holds
     c.dirty_words-dirty.result _ count (rw (← c.self.invariant.limit) c.room.ensures.value) c.if-room-dirty.false in
-    let is = evict_done z now _ c.in-Some.frame lt shown lacks in
+    let is = evict_by z now _ true (Some c.in-Some.frame) false (lt-ltb _ _ lt) holds lacks in
     let after = evicted_is z now u _ c.in-Some.frame c.self.view_is (ap (λ x. x.cache) is) in
     record {
       sound = sound_of s c.self.invariant u c.self.view_is;

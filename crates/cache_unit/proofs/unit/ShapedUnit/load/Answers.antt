@@ -3,27 +3,27 @@ use Rattle.std.specs.List.{list_any}
 use Rattle.cache_unit.specs.State.{UnitState, Cache, block_of, place_in, tags}
 use Rattle.cache_unit.specs.Requests.{is_full_for, load_answer, load_present}
 use Rattle.cache_unit.proofs.Fetching.{steps, refuses}
-use Rattle.cache_unit.proofs.Requesting.{load_outside, load_in_use, load_owes_all, load_absent, load_decided, absent_not_full}
+use Rattle.cache_unit.proofs.Requesting.{load_by, load_absent, load_decided}
 use Rattle.cache_unit.proofs.unit.ShapedUnit.load.Goals as goal
 
 pub returns-then-is_outside : goal.returns-then-is_outside
 returns-then-is_outside g c =
     let u = c.args.self.now in
-    let is = load_outside u.sizes (g.L.Lines.room_of _) u.cache _ _ (sym c.is_outside.ensures.outside ∙ c.if-is_outside.true) in
+    let is = load_by u.sizes (g.L.Lines.room_of _) u.cache _ _ _ _ _ _ (sym c.is_outside.ensures.outside ∙ c.if-is_outside.true) refl refl refl in
     refuses _ _ _ u _ c.is_outside.ensures.sound _ (g.met.L.Lines.same_self _) _ is _ _ refl refl
 
 pub returns-then-is_in_use : goal.returns-then-is_in_use
 returns-then-is_in_use g c =
     let u = c.args.self.now in
-    let is = load_in_use u.sizes (g.L.Lines.room_of _) u.cache _ _ (sym c.is_outside.ensures.outside ∙ c.if-is_outside.false)
-    (sym c.is_in_use.ensures ∙ c.if-is_in_use.true) in
+    let is = load_by u.sizes (g.L.Lines.room_of _) u.cache _ _ _ _ _ _ (sym c.is_outside.ensures.outside ∙ c.if-is_outside.false)
+    (sym c.is_in_use.ensures ∙ c.if-is_in_use.true) refl refl in
     refuses _ _ _ u _ c.is_outside.ensures.sound _ (g.met.L.Lines.same_self _) _ is _ _ refl refl
 
 pub returns-then-owes_all : goal.returns-then-owes_all
 returns-then-owes_all g c =
     let u = c.args.self.now in
-    let is = load_owes_all u.sizes (g.L.Lines.room_of _) u.cache _ _ (sym c.is_outside.ensures.outside ∙ c.if-is_outside.false)
-    (sym c.is_in_use.ensures ∙ c.if-is_in_use.false) (sym c.owes_all.ensures ∙ c.if-owes_all.true) in
+    let is = load_by u.sizes (g.L.Lines.room_of _) u.cache _ _ _ _ _ _ (sym c.is_outside.ensures.outside ∙ c.if-is_outside.false)
+    (sym c.is_in_use.ensures ∙ c.if-is_in_use.false) (sym c.owes_all.ensures ∙ c.if-owes_all.true) refl in
     refuses _ _ _ u _ c.is_outside.ensures.sound _ (g.met.L.Lines.same_self _) _ is _ _ refl refl
 
 pub returns-in-Err : goal.returns-in-Err
@@ -31,9 +31,9 @@ returns-in-Err g c =
     let u = c.args.self.now in
     let room = g.L.Lines.room_of _ in
     let cause = rw c.block_of-block.ensures.value at c.in-Err.ensures.cause in
-    let room_for = absent_not_full u.sizes room u.cache _ _ c.in-Err.cause cause in
-    let is = load_absent u.sizes room u.cache _ _ c.in-Err.cause (sym c.is_outside.ensures.outside ∙ c.if-is_outside.false)
-    (sym c.is_in_use.ensures ∙ c.if-is_in_use.false) (sym c.owes_all.ensures ∙ c.if-owes_all.false) room_for cause in
+    let is = load_by u.sizes room u.cache _ _ _ _ _ _ (sym c.is_outside.ensures.outside ∙ c.if-is_outside.false)
+    (sym c.is_in_use.ensures ∙ c.if-is_in_use.false) (sym c.owes_all.ensures ∙ c.if-owes_all.false)
+    (load_absent u.sizes room u.cache _ c.in-Err.cause cause) in
     refuses _ _ _ u _ c.is_outside.ensures.sound _ (g.met.L.Lines.same_self _) _ is _ _
     c.in-Err.ensures.unit_kept c.in-Err.ensures.lines_kept
 

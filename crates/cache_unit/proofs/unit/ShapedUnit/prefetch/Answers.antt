@@ -1,12 +1,12 @@
 use Rattle.std.proofs.Common.{refl, sym, ◌∙◌}
 use Rattle.cache_unit.proofs.Fetching.{steps, refuses}
-use Rattle.cache_unit.proofs.Requesting.{prefetch_outside, prefetch_by}
+use Rattle.cache_unit.proofs.Requesting.{prefetch_by}
 use Rattle.cache_unit.proofs.unit.ShapedUnit.prefetch.Goals as goal
 
 pub returns-then-is_outside : goal.returns-then-is_outside
 returns-then-is_outside g c =
     let u = c.args.self.now in
-    let is = prefetch_outside u.sizes (g.L.Lines.room_of _) u.cache _ (sym c.is_outside.ensures.outside ∙ c.if-is_outside.true) in
+    let is = prefetch_by u.sizes (g.L.Lines.room_of _) u.cache _ _ _ (sym c.is_outside.ensures.outside ∙ c.if-is_outside.true) refl in
     refuses _ _ _ u _ c.is_outside.ensures.sound _ (g.met.L.Lines.same_self _) _ is _ _ refl refl
 
 pub returns-in-Err : goal.returns-in-Err

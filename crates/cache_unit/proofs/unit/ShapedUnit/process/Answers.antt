@@ -1,6 +1,6 @@
 use Rattle.std.proofs.Common.{rules, sym, ◌∙◌, refl, subst}
 use Rattle.cache_unit.specs.Steps.{process_step}
-use Rattle.cache_unit.proofs.Keeps.{Taken-from, can_finish, can_fill, can_answer, sound_after, shown_after, processes}
+use Rattle.cache_unit.proofs.Keeps.{Taken-from, can_finish, can_fill, can_answer, IsSound-processed, shown_after, processes}
 use Rattle.cache_unit.proofs.Fetching.{makes, sound_of}
 use Rattle.cache_directory.specs.Frames as dir
 use Rattle.miss_registers.specs.Registers as regs
@@ -10,21 +10,21 @@ pub finish_word-end-requires : goal.finish_word-end-requires
 finish_word-end-requires c =
     let s = c.self.inside in
     let t = Taken-from s.stack _ c.in-Some.e (sym c.remove.ensures.value ∙ c.in-Some.is) in
-    let r = can_finish s.sizes _ _ c.in-Some.e c.self.invariant.sound t in
+    let r = can_finish s.sizes _ c.self.invariant.sound _ c.in-Some.e t in
     record { slot = r.0; in_stack = r.1; done = (c.self.invariant.sound.registers.each c.in-Some.e.slot).done }
 
 pub fill_live-requires : goal.fill_live-requires
 fill_live-requires c =
     let s = c.self.inside in
     let t = Taken-from s.stack _ c.in-Some.e (sym c.remove.ensures.value ∙ c.in-Some.is) in
-    let there = can_fill s.sizes _ _ c.in-Some.e c.self.invariant.sound t in
+    let there = can_fill s.sizes _ c.self.invariant.sound _ c.in-Some.e t in
     record { there = rw (sym c.finish_word-end.ensures.live) at there }
 
 pub answer_all-requires : goal.answer_all-requires
 answer_all-requires c =
     let s = c.self.inside in
     let t = Taken-from s.stack _ c.in-Some.e (sym c.remove.ensures.value ∙ c.in-Some.is) in
-    rw c.finish_word-end.ensures.send (can_answer s.sizes _ _ c.in-Some.e c.self.invariant.sound t)
+    rw c.finish_word-end.ensures.send (can_answer s.sizes _ c.self.invariant.sound _ c.in-Some.e t)
 
 pub invariant_of-self-2 : goal.invariant_of-self-2
 invariant_of-self-2 c =
@@ -37,7 +37,7 @@ invariant_of-self-2 c =
     let w = rw f.registers at (f.whole s.sizes.block_words s.sizes.regs c.self.invariant.sound.registers) in
     record {
       sound = rw (c.fill_live.ensures.filled, f.registers, c.in-Some.ensures.taken, f.live, f.keep, f.last, c.answer_all.ensures, f.send)
-          (sound_after s.sizes _ _ e _ c.self.invariant.sound (Taken-from s.stack _ e (sym c.remove.ensures.value ∙ c.in-Some.is)) d w);
+          (IsSound-processed s.sizes _ c.self.invariant.sound _ e (Taken-from s.stack _ e (sym c.remove.ensures.value ∙ c.in-Some.is)) _ d w);
       limit = c.self.invariant.limit;
     }
 
@@ -46,7 +46,7 @@ returns c =
     let s = c.self.inside in
     let e = c.in-Some.e in
     let some = sym c.remove.ensures.value ∙ c.in-Some.is in
-    let shown = shown_after s.sizes _ _ e c.self.invariant.sound some in
+    let shown = shown_after s.sizes _ c.self.invariant.sound _ e (Taken-from s.stack _ e some) in
     let f = c.finish_word-end.ensures in
     rw (c.fill_live.ensures.filled, f.registers, c.in-Some.ensures.taken, c.answer_all.ensures, f.send, f.live, f.keep, f.last)
     (makes s c.self.invariant _ c.self.view_is (λ z k. process_step k c.args.place) _ _ _ (processes _ _ e some) _ shown)

@@ -1,22 +1,22 @@
-use Rattle.std.proofs.Common.{◌≡◌, refl, sym, ◌∙◌, subst}
+use Rattle.std.proofs.Common.{◌≡◌, refl, sym, ◌∙◌, subst, ap, not}
 use Rattle.memory_banks.specs.Banks.{HasSent}
 use Rattle.cache_unit.specs.State.{block_of, place_in}
 use Rattle.cache_unit.specs.Steps.{fetches, written}
 use Rattle.cache_unit.proofs.Fetching.{steps, refuses}
-use Rattle.cache_unit.proofs.Requesting.{store_outside, store_no_lanes, store_rest, not_set, is_set}
+use Rattle.cache_unit.proofs.Requesting.{store_by}
 use Rattle.cache_unit.proofs.unit.ShapedUnit.store.Goals as goal
 
 pub returns-then-is_outside : goal.returns-then-is_outside
 returns-then-is_outside g c =
     let u = c.args.self.now in
-    let is = store_outside u.sizes (g.L.Lines.room_of _) u.cache _ _ _ (sym c.is_outside.ensures.outside ∙ c.if-is_outside.true) in
+    let is = store_by u.sizes (g.L.Lines.room_of _) u.cache _ _ _ _ _ _ (sym c.is_outside.ensures.outside ∙ c.if-is_outside.true) refl refl in
     refuses _ _ _ u _ c.is_outside.ensures.sound _ (g.met.L.Lines.same_self _) _ is _ _ refl refl
 
 pub returns-then-not-has_any : goal.returns-then-not-has_any
 returns-then-not-has_any g c =
     let u = c.args.self.now in
-    let is = store_no_lanes u.sizes (g.L.Lines.room_of _) u.cache _ _ _ (sym c.is_outside.ensures.outside ∙ c.if-is_outside.false)
-    (not_set _ _ c.has_any.ensures c.if-not-has_any.true) in
+    let is = store_by u.sizes (g.L.Lines.room_of _) u.cache _ _ _ _ _ _ (sym c.is_outside.ensures.outside ∙ c.if-is_outside.false)
+    (ap not (sym c.has_any.ensures ∙ c.if-not-has_any.true)) refl in
     refuses _ _ _ u _ c.is_outside.ensures.sound _ (g.met.L.Lines.same_self _) _ is _ _ refl refl
 
 pub returns-in-Err : goal.returns-in-Err
@@ -24,8 +24,8 @@ returns-in-Err g c =
     let u = c.args.self.now in
     let room = g.L.Lines.room_of _ in
     let cause = rw c.block_of-block.ensures.value at c.in-Err.ensures.cause in
-    let some = is_set _ _ c.has_any.ensures c.if-not-has_any.false in
-    let is = store_rest u.sizes room u.cache _ _ _ _ (sym c.is_outside.ensures.outside ∙ c.if-is_outside.false) some cause in
+    let some = ap not (sym c.has_any.ensures ∙ c.if-not-has_any.false) in
+    let is = store_by u.sizes room u.cache _ _ _ _ _ _ (sym c.is_outside.ensures.outside ∙ c.if-is_outside.false) some cause in
     refuses _ _ _ u _ c.is_outside.ensures.sound _ (g.met.L.Lines.same_self _) _ is _ _
     c.in-Err.ensures.unit_kept c.in-Err.ensures.lines_kept
 
@@ -33,8 +33,8 @@ pub returns-in-Ok : goal.returns-in-Ok
 returns-in-Ok g c =
     let u = c.args.self.now in
     let none = rw c.block_of-block.ensures.value at c.in-Ok.ensures.no_cause in
-    let some = is_set _ _ c.has_any.ensures c.if-not-has_any.false in
-    let is = store_rest u.sizes (g.L.Lines.room_of _) u.cache _ _ _ _
+    let some = ap not (sym c.has_any.ensures ∙ c.if-not-has_any.false) in
+    let is = store_by u.sizes (g.L.Lines.room_of _) u.cache _ _ _ _ _ _
     (sym c.is_outside.ensures.outside ∙ c.if-is_outside.false) some none in
     let v = c.make_present.new.self in
     let w = c.store_present.new.self in

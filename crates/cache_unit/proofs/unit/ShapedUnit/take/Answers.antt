@@ -9,7 +9,7 @@ pub invariant_of-self : goal.invariant_of-self
 invariant_of-self c =
     let s = c.self.inside in
     let z = s.sizes in
-    let o = owes-remove z s.ready.items s.registers _ c.self.invariant.sound.owes in
+    let o = owes-remove z s.ready.items s.registers _ c.remove-reply.result (omega arith) c.self.invariant.sound.owes in
     record { sound = rw c.remove-reply.ensures.items (IsSound-ready z _ _ o c.self.invariant.sound); limit = c.self.invariant.limit }
 
 pub returns-then-place-len : goal.returns-then-place-len

@@ -1,24 +1,18 @@
 use Rattle.std.proofs.Common.{◌≡◌, ◌<◌, ◌&&◌, not, Bool, true, false, length, sym, arith, refl}
-use Rattle.std.proofs.lemmas.Bool.{false≢true}
+use Rattle.std.proofs.lemmas.Bool.{and_parts}
 use Rattle.cache_unit.proofs.Present.{live_for-some, missing_parts}
 use Rattle.miss_registers.specs.Registers as regs
 use Rattle.cache_unit.proofs.unit.present.note_code.Goals as goal
 
-valid_by : (v o : Bool) → (v && not o) ≡ true → v ≡ true
-valid_by true o e = refl
-valid_by false o e = absurd (false≢true e)
-
 pub missing_code-requires : goal.missing_code-requires
 missing_code-requires c =
-    let p = live_for-some _ _ c.in-Some.slot (sym c.in-Some.ensures.answer) in
-    p.0
+    (live_for-some _ _ c.in-Some.slot (sym c.in-Some.ensures.answer)).0
 
 pub note_store-requires : goal.note_store-requires
 note_store-requires c =
     let rs = c.args.registers.now in
     let p = live_for-some rs _ c.in-Some.slot (sym c.in-Some.ensures.answer) in
-    let v = valid_by (regs.register_at rs c.in-Some.slot).valid (regs.register_at rs c.in-Some.slot).obsolete p.1 in
-    let n = (c.requires.whole.each c.in-Some.slot).fields_there v in
+    let n = (c.requires.whole.each c.in-Some.slot).fields_there (and_parts _ _ p.1).0 in
     let there : c.args.i < length (regs.register_at rs c.in-Some.slot).fields = omega (arith, c.requires.there) in
     let e = missing_parts (regs.field_at rs c.in-Some.slot _) _ (sym c.in-Some-missing_code.ensures) in
     record { slot = p.0; live = p.1; there = there; unprocessed = e.0 }
