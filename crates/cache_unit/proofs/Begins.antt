@@ -1,7 +1,7 @@
 -- A block's words as they are begun, one after the other.
 use Rattle.std.proofs.Common.{◌≡◌, ℕ, suc, zero, ◌+◌, ◌<◌, ◌≤◌, Bool, true, false, cond, List, [], ◌∷◌, ◌++◌, length, take, get_or, refl}
 use Rattle.std.proofs.Common.{sym, ap, ◌∙◌, arith, append_assoc, ◌*◌, map, replicate, set, Some, ap₂, add-one}
-use Rattle.std.proofs.lemmas.List.{take_more, get_or-set_same, set-get_or, set-set}
+use Rattle.std.proofs.lemmas.List.{length-take-le, take_more, get_or-set_same, set-get_or, set-set}
 use Rattle.flat_model.specs.Words.{has_any, zero_word, merged, no_lanes, joined}
 use Rattle.flat_model.specs.declared.Word.{Word}
 use Rattle.flat_model.specs.declared.Lanes.{Lanes}
@@ -27,16 +27,11 @@ dirty_from-append : (block at : ℕ) (xs ys : List Cell) → dirty_from block at
 dirty_from-append block at [] ys = grind arith
 dirty_from-append block at (x ∷ xs) ys = grind (arith, dirty_from-append block (at + 1) xs ys)
 
-length-take : (cells : List Cell) (i : ℕ) → i ≤ length cells → length (take i cells) ≡ i
-length-take cells zero h = refl
-length-take [] (suc i) h = absurd (omega arith)
-length-take (x ∷ cells) (suc i) h = ap suc (length-take cells i (omega arith))
-
 -- one more cell
 pub dirty_more : (block at : ℕ) (cells : List Cell) (i : ℕ) (b : Bool) → i < length cells → has_any (get_or cells i zero_cell).dirty ≡ b
     → dirty_from block at (take (i + 1) cells) ≡ dirty_from block at (take i cells)
     ++ cond b (queued_cell block (at + i) (get_or cells i zero_cell) ∷ []) []
-dirty_more block at cells i b h e = grind (arith, take_more cells i zero_cell h, dirty_from-append, length-take)
+dirty_more block at cells i b h e = grind (arith, take_more cells i zero_cell h, dirty_from-append, length-take-le)
 
 -- how many they are doesn't depend on where they stand
 pub dirty-length : (block at block' at' : ℕ) (cells : List Cell) → length (dirty_from block at cells) ≡ length (dirty_from block' at' cells)
@@ -49,11 +44,6 @@ pub dirty_within : (block at : ℕ) (cells : List Cell) (i : ℕ)
 dirty_within block at cells zero = omega arith
 dirty_within block at [] (suc i) = omega arith
 dirty_within block at (x ∷ cells) (suc i) = grind (arith, dirty_within block (at + 1) cells i)
-
-pub take_all : (cells : List Cell) (i : ℕ) → length cells ≡ i → take i cells ≡ cells
-take_all [] i h = grind arith
-take_all (x ∷ cells) zero h = absurd (omega arith)
-take_all (x ∷ cells) (suc i) h = ap (λ l. x ∷ l) (take_all cells i (omega arith))
 
 -- a frame that holds a block has the block's words
 pub held-cells : (ways words : ℕ) (d : Frames) (f : ℕ) → IsWhole ways words d → is_held d f ≡ true

@@ -1,10 +1,10 @@
 -- What a miss may take, how a block loses its frame, and what the unit shows.
 use Rattle.std.proofs.Common.{◌≡◌, ℕ, suc, ◌-◌, ◌*◌, ◌%◌, ◌/◌, ◌<◌, ◌≤◌, nat_lt, ◌==◌, not, Bool, true, false, cond, List, [], ◌∷◌, length}
-use Rattle.std.proofs.Common.{get_or, Option, Some, None, is_none, refl, ap, ap₂, ◌∙◌, arith, eq-eqb, option_map, ◌+◌, sym, subst, lt-ltb}
-use Rattle.std.proofs.Common.{le-ltb, ltb-false, zero, if◌then◌else◌, ◌++◌, map, set, length-set, length-append, is_some, ◌&&◌, slice_get}
+use Rattle.std.proofs.Common.{get_or, Option, Some, None, is_none, refl, ap, ap₂, ◌∙◌, arith, eq-eqb, option_map, ◌+◌, sym, subst}
+use Rattle.std.proofs.Common.{le-ltb, ltb-false, zero, ◌++◌, map, set, length-set, length-append, is_some, ◌&&◌, slice_get}
 use Rattle.std.specs.Option.{option_or}
 use Rattle.std.specs.List.{find, filter, list_all, list_any, range_with_len, All, sum_by}
-use Rattle.std.proofs.lemmas.Bool.{false≢true, cases_eq, and_parts}
+use Rattle.std.proofs.lemmas.Bool.{false≢true, cases_eq}
 use Rattle.std.proofs.lemmas.Option.{none-some, same_Some, get_or_from_slice_get, slice_get-get_or}
 use Rattle.flat_model.specs.declared.Cause.{Cause}
 use Rattle.flat_model.specs.declared.Cause.TheVariants.{NoRegister, SetPending, QueueFull, BankFull}
@@ -12,9 +12,9 @@ use Rattle.cache_directory.specs.declared.directory.Choice.{Choice}
 use Rattle.cache_directory.specs.declared.directory.Choice.TheVariants.{Free, Victim, AllPending}
 use Rattle.cache_directory.proofs.Whole.{order_held}
 use Rattle.cache_unit.specs.declared.Sizes.{Sizes}
-use Rattle.cache_unit.specs.State.{Register, frame_at, is_pending, Cache, register_at, live_for, frame_of, is_present, free_slot, UnitState}
+use Rattle.cache_unit.specs.State.{Register, frame_at, is_pending, Cache, register_at, live_for, frame_of, is_present, free_slot}
 use Rattle.cache_unit.specs.State.{Frames, Frame, empty_frame, Field, is_live}
-use Rattle.cache_unit.specs.Causes.{first_cause, is_resident_block, ways_of, choose, lacks_room, lacks_places, miss_causes, dirty_from}
+use Rattle.cache_unit.specs.Causes.{first_cause, is_resident_block, ways_of, choose, lacks_places, miss_causes, dirty_from}
 use Rattle.cache_unit.specs.Causes.{dirty_words}
 use Rattle.cache_unit.specs.Sound.{IsSound, Tied, OwesSound, loads_of, loads_of_field}
 use Rattle.cache_unit.specs.Reads.{is_short, block_reads}
@@ -25,22 +25,21 @@ use Rattle.cache_unit.proofs.Present.{pending_is, SameMarks, SameMarks-self, rel
 use Rattle.cache_unit.proofs.Present.{in_stack-shown}
 use Rattle.miss_registers.proofs.Places.{free_slot-found}
 use Rattle.cache_unit.specs.declared.Places.{Places}
-use Rattle.flat_model.specs.Words.{zero_word, merged, has_any}
+use Rattle.flat_model.specs.Words.{has_any}
 use Rattle.write_queue.specs.declared.Queued.{Queued}
 use Rattle.cache_directory.specs.declared.Cell.{Cell}
 use Rattle.std.proofs.lemmas.List.{get_or-set_same, get_or-set_other, length-map}
 use Rattle.std.proofs.lemmas.List.Elements.{All-append}
+use Rattle.std.proofs.Math.ListN.{get_or-map}
 use Rattle.std.proofs.lemmas.List.Sums.{sum_by-cons}
 use Rattle.miss_registers.specs.Whole.{IsWhole}
 use Rattle.write_queue.specs.Queue.{queue}
 use Rattle.cache_unit.specs.Steps.{obsoleted, released, evicted, fetches}
-use Rattle.cache_unit.proofs.Lists.{get_or-map, frame_of-is, none_live, live_for-none, frame_of-some}
+use Rattle.cache_unit.proofs.Lists.{frame_of-is, none_live, live_for-none, frame_of-some}
 use Rattle.cache_unit.proofs.Keeps.{Since, pending_elsewhere, owes-same}
 use Rattle.cache_directory.proofs.Misses.{MayInstall, released-here, released-frames, released-sets, released-absent}
 use Rattle.std.proofs.lemmas.Bool.Decides.{nat_tests}
-use borrow.Author.Tests.{ltb-true}
-use Rattle.input_stack.specs.Stack.{stack_word}
-use Rattle.cache_unit.specs.Views.{is_clean, shown_register, register_view, shown_field, field_view, target_view, cell_view}
+use Rattle.cache_unit.specs.Views.{is_clean, shown_register, register_view, field_view, target_view}
 use Rattle.cache_directory.specs.Frames.{is_held, set_of}
 use Rattle.miss_registers.specs.Registers.{made_obsolete, without_code}
 use Rattle.cache_directory.specs.Frames as dir
@@ -429,7 +428,8 @@ fetches-shown z c block slot absent free = cc (free, absent)
 
 pub given_may_install : (ways words : ℕ) (d : Frames) (f block : ℕ) → dir.IsWhole ways words d → dir.frame_of d.frames block ≡ None
     → f < length d.frames → f / ways ≡ set_of d block → MayInstall ways (given_up ways d f) f block
-given_may_install ways words d f block whole absent there of_set = grind (arith, released-frames, released-here, released-sets, released-absent)
+given_may_install ways words d f block whole absent there of_set =
+    grind (arith, released-frames, released-here, released-sets, released-absent)
 
 pub installed_frames : (ways words : ℕ) (d : Frames) (f block : ℕ) → length (dir.installed ways words d f block).frames ≡ length d.frames
 unfolding dir.installed
@@ -469,18 +469,10 @@ target-shown c slot i place = refl
 
 -- ---- the buffer
 
-some-within : {X : Type 0} (xs : List X) (i : ℕ) → is_some (slice_get xs i) ≡ nat_lt i (length xs)
+pub some-within : {X : Type 0} (xs : List X) (i : ℕ) → is_some (slice_get xs i) ≡ nat_lt i (length xs)
 some-within [] i = grind arith
 some-within (x ∷ xs) zero = grind arith
 some-within (x ∷ xs) (suc i) = some-within xs i ∙ grind (arith, nat_tests)
-
--- a frame that holds a block has its words, and another has none
-pub has-cell : (ways words : ℕ) (d : Frames) (f i : ℕ) → dir.IsWhole ways words d
-    → is_some (slice_get (dir.frame_at d.frames f).cells i) ≡ (is_held d f && nat_lt i words)
-has-cell ways words d f i h = grind (arith, d.frames, some-within, h.cells)
-
-pub cells-shown : (c : Cache) (f i : ℕ) → cell_view c f i ≡ slice_get (frame_at c f).cells i
-cells-shown c f i = refl
 
 -- ---- nothing is dirty
 
@@ -488,18 +480,6 @@ pub none_dirty : (block at : ℕ) (cells : List Cell)
     → (length (dirty_from block at cells) == 0) ≡ list_all (λ cell. not (has_any cell.dirty)) cells
 none_dirty block at [] = refl
 none_dirty block at (x ∷ cells) = grind (arith, nat_tests, none_dirty block (at + 1) cells)
-
--- what a unit shows is what its parts show
-pub of_parts : {X : Type 0} (z : Sizes) (c : Cache) (u : UnitState) (f : Sizes → Cache → X) → record { sizes = z; cache = c } ≡ u
-    → f z c ≡ f u.sizes u.cache
-of_parts z c u f e = grind arith
-
--- a cell that is there is in a frame that holds a block, and is one of its words
-pub held-cell : (ways words : ℕ) (d : Frames) (f i : ℕ) → dir.IsWhole ways words d
-    → is_some (slice_get (dir.frame_at d.frames f).cells i) ≡ true → (is_held d f ≡ true) × (i < words)
-held-cell ways words d f i h e =
-    let p = and_parts _ _ (sym (has-cell ways words d f i h) ∙ e) in
-    (p.0, ltb-true i words p.1)
 
 pub cell-there : (cells : List Cell) (i : ℕ) → is_some (slice_get cells i) ≡ true → slice_get cells i ≡ Some (get_or cells i dir.zero_cell)
 cell-there cells i e = grind (arith, slice_get-get_or, some-within)

@@ -1,13 +1,13 @@
 -- A miss brings its block in: what is sent, what the parts show and hold then, and what a call has made.
 use Rattle.std.proofs.Common.{◌≡◌, ℕ, suc, zero, ◌+◌, ◌<◌, ◌≤◌, Bool, true, false, cond, [], ◌∷◌, ◌++◌, length, refl, sym, ap, ◌∙◌, arith}
-use Rattle.std.proofs.Common.{add-zero, add-one, length-append, ◌≢◌, ◌%◌, ◌/◌, ◌==◌, ◌⊎◌, inl, inr, List, subst, append_assoc, append-nil}
-use Rattle.std.proofs.Common.{eq-eqb, ltb-false, mod-lt, map, set, Some, get_or, ◌*◌, Option, None, length-set, slice_get}
+use Rattle.std.proofs.Common.{add-one, length-append, ◌≢◌, ◌%◌, ◌/◌, ◌==◌, ◌⊎◌, inl, inr, List, subst, append_assoc, append-nil}
+use Rattle.std.proofs.Common.{eq-eqb, ltb-false, mod-lt, map, set, Some, get_or, ◌*◌, Option, None, length-set}
 use Rattle.std.specs.List.{filter, list_any, range_with_len, sum_by, All, remove}
-use Rattle.std.proofs.lemmas.Bool.{false≢true, cases_eq, cases_lt}
+use Rattle.std.proofs.lemmas.Bool.{false_from_ne_true, false≢true, cases_eq, cases_lt}
 use Rattle.std.proofs.lemmas.List.Elements.{filter-append, All-append}
-use Rattle.std.proofs.lemmas.List.Folds.{list_any_at}
+use Rattle.std.proofs.lemmas.List.Folds.{list_any_at, list_any_none}
 use Rattle.std.proofs.lemmas.List.FromFn.{length-range_with_len, get_or-range_with_len, length-map-range_with_len, map-range_with_len_more}
-use Rattle.std.proofs.lemmas.List.{map-append, set-get_or, set-set, get_or-set_same, get_or-set_other}
+use Rattle.std.proofs.lemmas.List.{set-get_or, set-set, get_or-set_same, get_or-set_other}
 use Rattle.memory_banks.specs.declared.Command.{Command}
 use Rattle.memory_banks.specs.declared.Command.TheVariants.{Read}
 use Rattle.memory_banks.specs.Banks.{HasSent, commands_for}
@@ -15,25 +15,26 @@ use Rattle.cache_unit.specs.Reads.{block_reads, is_short}
 use Rattle.cache_unit.specs.declared.Sizes.{Sizes}
 use Rattle.cache_unit.specs.State.{empty_frame, is_present, free_slot, Cache, frame_at, frame_of, register_at, UnitState, Frames, Frame}
 use Rattle.cache_unit.specs.State.{Register, is_live}
-use Rattle.cache_unit.specs.Causes.{choose, dirty_from}
+use Rattle.cache_unit.specs.Causes.{choose}
 use Rattle.cache_directory.specs.Frames.{without, times_in}
 use Rattle.cache_unit.specs.Steps.{released, installed, fetched, take_step, take_reply, Stepped}
 use Rattle.cache_unit.specs.Begun.{begun_frame, begun_field, begun_register}
 use Rattle.cache_unit.specs.GivenUp.{owed_words, given_up, missed_frames, missed_registers}
-use Rattle.std.proofs.lemmas.Option.{none-some, slice_get-get_or, slice_get_past}
+use Rattle.std.proofs.lemmas.Option.{same_Some, none-some, slice_get-get_or, slice_get_past}
 use Rattle.write_queue.specs.declared.Queued.{Queued}
-use Rattle.cache_directory.specs.declared.Cell.{Cell}
 use Rattle.miss_registers.specs.Whole.{IsWhole}
 use Rattle.cache_unit.specs.Sound.{HasFrame, FilledBy, loads_of_field, StackSound, Tied, QueueSound, OwesSound, IsSound}
-use Rattle.cache_unit.proofs.Lists.{place_of-only, place_of-none, number_from, frame_of-some}
+use Rattle.cache_unit.proofs.Choosing.{dirty_in_memory}
+use Rattle.cache_directory.proofs.Finds.{range_within}
+use Rattle.cache_unit.proofs.Lists.{none_in_frames, place_of-only, number_from, frame_of-some}
 use Rattle.cache_unit.proofs.Keeps.{owes-same}
-use Rattle.cache_unit.proofs.Tags.{sound_shown}
+use Rattle.cache_unit.proofs.Tags.{sound_cache}
 use Rattle.flat_model.specs.declared.Answer.TheVariants.{Value, Nothing, Refused}
 use Rattle.cache_unit.specs.declared.Reply.{Reply}
 use Rattle.flat_model.specs.declared.Cause.{Cause}
 use Rattle.flat_model.specs.declared.Answer.{Answer}
 use Rattle.cache_unit.specs.declared.unit.ShapedUnit.TheInside.{Inside}
-use Rattle.cache_unit.specs.View.{unit_shown, IsSoundUnit, cache_of}
+use Rattle.cache_unit.specs.View.{unit_shown, IsSoundUnit}
 use Rattle.cache_unit.specs.Makes.{Makes, MakesOver}
 use Rattle.cache_unit.specs.SoundCache.{IsSoundCache}
 use Rattle.cache_unit.proofs.Requesting.{refused}
@@ -64,16 +65,9 @@ any_found p n k h e =
     let at : 0 + k ≡ k = omega arith in
     list_any_at p _ k 0 there (ap p (get_or-range_with_len 0 n k 0 h ∙ at) ∙ e)
 
-none_from : (p : ℕ → Bool) (a n : ℕ) → ((k : ℕ) → k < n → p (a + k) ≡ false) → list_any p (range_with_len a n) ≡ false
-none_from p a zero h = refl
-none_from p a (suc n) h =
-    let first = ap p (sym (add-zero a)) ∙ h 0 (omega arith) in
-    let rest = none_from p (a + 1) n (λ k l. let e : a + 1 + k ≡ a + suc k = omega arith in ap p e ∙ h _ (omega arith)) in
-    cc (first, rest)
-
 -- no number below n passes
 pub none_found : (p : ℕ → Bool) (n : ℕ) → ((k : ℕ) → k < n → p k ≡ false) → list_any p (range_with_len 0 n) ≡ false
-none_found p n h = grind (arith, none_from)
+none_found p n h = list_any_none p _ (range_within (λ x. p x ≡ false) 0 n (λ x l m. h x (omega arith)))
 
 -- fewer numbers have no more that pass
 pub count_within : (p : ℕ → Bool) (a k n : ℕ) → k ≤ n → length (filter p (range_with_len a k)) ≤ length (filter p (range_with_len a n))
@@ -83,11 +77,7 @@ count_within p a (suc k) (suc n) h = grind (arith, count_within p (a + 1) k n)
 
 -- where none of the numbers passes, one of them doesn't
 pub fails_each : (p : ℕ → Bool) (n k : ℕ) → k < n → list_any p (range_with_len 0 n) ≡ false → p k ≡ false
-fails_each p n k h e = go (p k) refl
-  where
-    go : (b : Bool) → p k ≡ b → b ≡ false
-    go true q = absurd (false≢true (sym e ∙ any_found p n k h q))
-    go false q = refl
+fails_each p n k h e = false_from_ne_true _ (λ q. false≢true (sym e ∙ any_found p n k h q))
 
 -- a test that fails at every number counts none
 pub count_none : (p : ℕ → Bool) (a n : ℕ) → ((k : ℕ) → p k ≡ false) → length (filter p (range_with_len a n)) ≡ 0
@@ -154,11 +144,6 @@ room_for_all room slot first words banks some e b =
     go (inl l) = ltb-false _ _ (fails_each _ banks b l e)
     go (inr g) = grind (arith, count_none, mod-lt)
 
--- of n numbers side by side at most n pass a test
-pub length-filter-range : (p : ℕ → Bool) (a n : ℕ) → length (filter p (range_with_len a n)) ≤ n
-length-filter-range p a zero = omega arith
-length-filter-range p a (suc n) = grind (arith, length-filter-range p (a + 1) n)
-
 -- ---- What the parts show once a miss has brought its block in.
 
 pub without_absent : (order : List ℕ) (f : ℕ) → times_in order f ≡ 0 → without order f ≡ order
@@ -219,20 +204,12 @@ fetched-shown z c block f slot whole of_set absent frame free = grind (arith, in
 
 -- ---- A miss keeps what holds of the parts.
 
-same_some : (a b : ℕ) → ◌≡◌ {A = Option ℕ} (Some a) (Some b) → a ≡ b
-same_some a b e = cc
-
 -- ---- the queue
-
-dirty_in : (block at : ℕ) (cells : List Cell) (bound : ℕ) → at + length cells ≤ bound
-    → All (λ (e : Queued). e.at < bound) (dirty_from block at cells)
-dirty_in block at [] bound h = grind arith
-dirty_in block at (x ∷ cells) bound h = grind (arith, dirty_in block (at + 1) cells bound)
 
 owed_in : (z : Sizes) (d : Frames) (f : ℕ) → dir.IsWhole z.ways z.block_words d
     → ((g block : ℕ) → (dir.frame_at d.frames g).block ≡ Some block → block * z.block_words + z.block_words ≤ z.words)
     → All (λ (e : Queued). e.at < z.words) (owed_words z.block_words d f)
-owed_in z d f whole within = grind (arith, d.frames, z.block_words, whole.cells, dirty_in)
+owed_in z d f whole within = grind (arith, d.frames, z.block_words, whole.cells, dirty_in_memory)
 
 -- what a frame gives up is queued
 pub QueueSound-given : (z : Sizes) (d : Frames) (f : ℕ) (q : List Queued) → dir.IsWhole z.ways z.block_words d
@@ -255,17 +232,6 @@ missed_orders : (ways words : ℕ) (d : Frames) (q : List Queued) (f block : ℕ
 unfolding dir.installed
 missed_orders ways words d q f block whole =
     length-set (given_up ways d f).orders _ _ ∙ ap length (given_orders ways words d f whole) ∙ length-set _ _ _
-
-at_new : (fs : List Frame) (f : ℕ) (x : Frame) → f < length fs → dir.frame_at (set fs f x) f ≡ x
-at_new fs f x h = get_or-set_same fs f x empty_frame h
-
-at_other : (fs : List Frame) (f g : ℕ) (x : Frame) → (g ≡ f → ⊥) → dir.frame_at (set fs f x) g ≡ dir.frame_at fs g
-at_other fs f g x n = get_or-set_other fs f g x empty_frame n
-
--- no frame holds the block
-absent_from : (fs : List Frame) (block g : ℕ) → dir.frame_of fs block ≡ None → (dir.frame_at fs g).block ≡ Some block → ⊥
-unfolding dir.frame_of
-absent_from fs block g none e = grind (arith, place_of-none, eq-eqb, false≢true)
 
 -- the frame of a block is the only one that holds it
 found_alone : (fs : List Frame) (block f : ℕ) → (dir.frame_at fs f).block ≡ Some block
@@ -294,10 +260,10 @@ module _ (z : Sizes) (c : Cache) (h : IsSound z c) (block f slot : ℕ) (q' : Li
   rs = set c.registers slot (begun_register z.block_words q' block f)
 
   here : dir.frame_at fs f ≡ begun_frame z.block_words q' block
-  here = at_new _ f _ in_range
+  here = get_or-set_same _ f _ empty_frame in_range
 
   elsewhere : (g : ℕ) → (g ≡ f → ⊥) → dir.frame_at fs g ≡ frame_at c g
-  elsewhere g n = at_other _ f g _ n
+  elsewhere g n = get_or-set_other _ f g _ empty_frame n
 
   slot_new : regs.register_at rs slot ≡ begun_register z.block_words q' block f
   slot_new = get_or-set_same _ slot _ regs.free_register there
@@ -309,13 +275,13 @@ module _ (z : Sizes) (c : Cache) (h : IsSound z c) (block f slot : ℕ) (q' : Li
   live_other : (s : ℕ) → is_live (register_at c s) ≡ true → s ≡ slot → ⊥
   live_other s live e = grind arith
 
-  pub missed_in_memory : block * z.block_words + z.block_words ≤ z.words → (g b : ℕ) → (dir.frame_at fs g).block ≡ Some b
+  missed_in_memory : block * z.block_words + z.block_words ≤ z.words → (g b : ℕ) → (dir.frame_at fs g).block ≡ Some b
       → b * z.block_words + z.block_words ≤ z.words
-  missed_in_memory small g b e = grind (arith, cases_eq, same_some, here, elsewhere)
+  missed_in_memory small g b e = grind (arith, cases_eq, same_Some, here, elsewhere)
 
   -- the new block is where it was put
   new_found : dir.frame_of fs block ≡ Some f
-  new_found = grind (arith, found_alone, here, cases_eq, absent_from, elsewhere)
+  new_found = grind (arith, found_alone, here, cases_eq, none_in_frames c, elsewhere)
 
   -- the other blocks of registers stay where they were
   old_found : (b g : ℕ) → frame_of c b ≡ Some g → (g ≡ f → ⊥) → dir.frame_of fs b ≡ Some g
@@ -329,7 +295,7 @@ module _ (z : Sizes) (c : Cache) (h : IsSound z c) (block f slot : ℕ) (q' : Li
         where
           go : (j ≡ f) ⊎ (j ≡ f → ⊥) → j ≡ g
           go (inl m) =
-              let same : block ≡ b = same_some block b (sym (ap (λ n. (dir.frame_at fs n).block) m ∙ ap (λ x. x.block) here) ∙ k) in
+              let same : block ≡ b = same_Some block b (sym (ap (λ n. (dir.frame_at fs n).block) m ∙ ap (λ x. x.block) here) ∙ k) in
               let no : ◌≡◌ {A = Option ℕ} None _ = sym absent ∙ ap (frame_of c) same ∙ e in
               absurd (none-some g no)
           go (inr m) = h.directory.alone j g b (cc (elsewhere j m, k)) held
@@ -337,7 +303,7 @@ module _ (z : Sizes) (c : Cache) (h : IsSound z c) (block f slot : ℕ) (q' : Li
   old_frame : (s : ℕ) → is_live (register_at c s) ≡ true → (register_at c s).frame ≡ f → ⊥
   old_frame s live e = grind arith
 
-  pub missed_tied : Tied fs rs
+  missed_tied : Tied fs rs
   missed_tied = record { frames = λ s live. frames s live (cases_eq s slot); pending = λ g p. pending g p (cases_eq g f) }
     where
       new_frame : HasFrame fs (begun_register z.block_words q' block f)
@@ -375,12 +341,27 @@ module _ (z : Sizes) (c : Cache) (h : IsSound z c) (block f slot : ℕ) (q' : Li
             frame = cc (slot_other old.slot apart, old.frame);
           }
 
-  pub missed_stack : StackSound rs c.stack
+  missed_stack : StackSound rs c.stack
   missed_stack = grind (arith, cases_eq, false≢true, slot_other, slot_new, not_in_stack)
 
-  pub missed_owes : OwesSound z c.ready rs
+  missed_owes : OwesSound z c.ready rs
   missed_owes =
       owes-same z _ _ slot _ there (λ p. (cc (no_loads p q' (range_with_len _ z.block_words), (h.registers.each slot).free free))) h.owes
+
+  missed_sound : (orders : List (List ℕ)) → length orders ≡ z.sets → block * z.block_words + z.block_words ≤ z.words → QueueSound z q'
+      → dir.IsWhole z.ways z.block_words (record { frames = fs; orders = orders }) → IsWhole z.block_words z.regs rs
+      → IsSound z (record c { directory = record { frames = fs; orders = orders }; registers = rs; queue = q' })
+  missed_sound orders n small q wd wr = record {
+    ranges = h.ranges;
+    directory = wd;
+    sets = n;
+    in_memory = missed_in_memory small;
+    registers = wr;
+    stack_sound = missed_stack;
+    tied = missed_tied;
+    queue_sound = q;
+    owes = missed_owes;
+  }
 
 -- the whole miss
 pub IsSound-missed : (z : Sizes) (c : Cache) (block f slot : ℕ) → IsSound z c → f < length c.directory.frames
@@ -389,39 +370,17 @@ pub IsSound-missed : (z : Sizes) (c : Cache) (block f slot : ℕ) → IsSound z 
     → dir.IsWhole z.ways z.block_words (missed_cache z c block f slot).directory
     → IsWhole z.block_words z.regs (missed_cache z c block f slot).registers → IsSound z (missed_cache z c block f slot)
 IsSound-missed z c block f slot h in_range idle absent there free small room whole whole' =
-    let q' = c.queue ++ owed_words _ c.directory f in
-    let frames = sym (missed_is _ _ _ q' f block) in
-    let registers = sym (set-set _ slot _ _) in
-    let tied = missed_tied z c h block f slot q' in_range idle absent there free in
-    let stack_sound = missed_stack z c h block f slot q' in_range idle absent there free in
-    let owes = missed_owes z c h block f slot q' in_range idle absent there free in
-    let in_memory = missed_in_memory z c h block f slot q' in_range idle absent there free small in
-    record {
-      ranges = h.ranges;
-      directory = whole;
-      sets = missed_orders _ _ _ q' f block h.directory ∙ h.sets;
-      in_memory = λ g b e. in_memory g b (cc (frames, e));
-      registers = whole';
-      stack_sound = let P : List Register → Type 0 = λ rs. StackSound rs c.stack in subst P registers stack_sound;
-      tied = let P : List Frame → Type 0 = λ fs. Tied fs (missed_registers z.block_words c.registers q' f slot block) in
-          subst P frames (let Q : List Register → Type 0 = Tied _ in subst Q registers tied);
-      queue_sound = QueueSound-given z _ f _ h.directory h.in_memory room h.queue_sound;
-      owes = let P : List Register → Type 0 = OwesSound z _ in subst P registers owes;
-    }
+    let q' = c.queue ++ owed_words z.block_words c.directory f in
+    let frames = missed_is z.ways z.block_words c.directory q' f block in
+    let registers = set-set c.registers slot (regs.fresh z.block_words block f) (begun_register z.block_words q' block f) in
+    rw (frames, registers) (missed_sound z c h block f slot q' in_range idle absent there free _
+    (missed_orders _ _ _ q' f block h.directory ∙ h.sets) small (QueueSound-given z _ f _ h.directory h.in_memory room h.queue_sound)
+    (rw frames at whole) (rw registers at whole'))
 
 -- ---- What a step says of a unit that is given by its parts.
 
 abbrev pub made : Sizes → Cache → UnitState
 made z c = record { sizes = z; cache = c }
-
--- a unit whose shown state is another function of it
-pub cache_by : (z : Sizes) (c x : Cache) (u : UnitState) (f : Sizes → Cache → Cache) → made z c ≡ u → x ≡ f z c
-    → made z x ≡ record u { cache = f u.sizes u.cache }
-cache_by z c x u f e p = grind arith
-
-pub value_by : {X : Type 0} (z : Sizes) (c : Cache) (u : UnitState) (f : Sizes → Cache → X) (x : X) → made z c ≡ u → x ≡ f z c
-    → x ≡ f u.sizes u.cache
-value_by z c u f x e p = grind arith
 
 -- ---- a reply is taken
 
@@ -443,23 +402,17 @@ IsSound-ready z c ready o h = grind arith
 
 -- ---- by the unit's parts
 
-module _ (s : Inside) (h : IsSoundUnit s) (u : UnitState) (shows : unit_shown s ≡ u) where
-  pub sound_of : IsSoundCache u.sizes u.cache
-  sound_of = sound_shown s.sizes _ h.sound u shows
+pub sound_of : (s : Inside) → IsSoundUnit s → (u : UnitState) → unit_shown s ≡ u → IsSoundCache u.sizes u.cache
+sound_of s h u shows = rw (← shows) (sound_cache s.sizes _ h.sound)
 
-  module _ (step : Sizes → Cache → Stepped) (a : Answer) (after : Cache) (sent : List (ℕ × Command))
-      (is : step s.sizes (cache_of s) ≡ record { answer = a; cache = after; sent = sent }) where
-    -- the unit whose parts then show the cache after the step
-    pub makes : (shown : Cache) → shown ≡ after → Makes (step u.sizes u.cache) u a (made s.sizes shown)
-    makes shown e = record {
-      sound = sound_of;
-      answer = rw (← shows) (sym (ap (λ t. t.answer) is));
-      unit = rw (← shows) (ap (made s.sizes) (e ∙ sym (ap (λ t. t.cache) is)));
-    }
-
-    -- a step that leaves the unit as it was
-    pub keeps : after ≡ (cache_of s) → Makes (step u.sizes u.cache) u a u
-    keeps e = rw shows at (makes _ (sym e))
+-- the unit whose parts then show the cache after the step
+pub makes : (z : Sizes) (c : Cache) → IsSound z c → (step : Stepped) (a : Answer) (after : Cache) (sent : List (ℕ × Command))
+    → step ≡ record { answer = a; cache = after; sent = sent } → (shown : Cache) → shown ≡ after → Makes step (made z c) a (made z shown)
+makes z c h step a after sent is shown e = record {
+  sound = sound_cache z c h;
+  answer = sym (ap (λ t. t.answer) is);
+  unit = ap (made z) (e ∙ sym (ap (λ t. t.cache) is));
+}
 
 -- ---- by the unit's state
 

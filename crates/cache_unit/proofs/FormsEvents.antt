@@ -2,9 +2,9 @@
 use Rattle.std.proofs.Common.{◌≡◌, ℕ, Bool, ◌==◌, List, ◌++◌, map, length, Option, Some, None, option_map, find, refl, sym, ap, ap₂, ◌∙◌}
 use Rattle.std.proofs.Common.{filter, zero, suc, ◌+◌, ◌<◌, true, false, cond, not, ◌&&◌, nat_lt, is_some, [], ◌∷◌, get_or, set, length-set}
 use Rattle.std.proofs.Common.{⊎_elim, get_or-set_same, get_or-set_other, eq-eqb, ne_eqb, ◌≤◌, remove, slice_get, arith, eqb-true}
-use Rattle.std.specs.Option.{option_or}
 use Rattle.std.proofs.lemmas.List.Folds.{find-append}
-use Rattle.std.proofs.lemmas.List.{map-append}
+use Rattle.std.proofs.lemmas.List.{map-append, length-map}
+use Rattle.std.proofs.Math.ListN.{get_or-map}
 use Rattle.std.proofs.lemmas.Simd.{map-map}
 use Rattle.flat_model.specs.declared.Word.{Word}
 use Rattle.input_stack.specs.declared.Entry.{Entry}
@@ -14,7 +14,7 @@ use Rattle.cache_unit.specs.declared.Sizes.{Sizes}
 use Rattle.cache_unit.specs.State.{Target, Cache, field_at, frame_of, live_for, cell_in, cell_of, targets, tags, block_of, place_in, Frame}
 use Rattle.cache_unit.specs.State.{Field, Register, empty_frame, clear_field, free_register, frame_at, register_at, is_live, gathered}
 use Rattle.cache_unit.specs.State.{targets_of, targets_of_field}
-use Rattle.cache_unit.specs.Forms.{Form, bytes_of, missing_form, over_form, form_in, target_form, owed, coming_form, form, fill}
+use Rattle.cache_unit.specs.Forms.{Form, bytes_of, missing_form, over_form, form_in, owed, coming_form, form, fill}
 use Rattle.cache_unit.specs.FormLaws.{form_where, form_at, forms, words_without, EvictForms, but_at, filled_form, DrainForms, ArriveForms}
 use Rattle.cache_unit.specs.FormLaws.{TakeForms, TakenForms}
 use Rattle.cache_unit.specs.Counts.{tally, bit}
@@ -150,16 +150,6 @@ cell-other z c d at f new ed ef n = cc (ef, go _ refl)
         let p = frame_of-some _ _ k e in
         cc (ed, get_or-set_other _ f k new empty_frame (λ q. n (ap (λ x. (frame_at c x).block) (sym q) ∙ p.1)))
 
-codeless_processed : (fields : List Field) (j : ℕ)
-    → (get_or (map without_code fields) j clear_field).processed ≡ (get_or fields j clear_field).processed
-codeless_processed [] j = refl
-codeless_processed (f ∷ fields) zero = refl
-codeless_processed (f ∷ fields) (suc j) = codeless_processed fields j
-
-codeless_length : (fields : List Field) → length (map without_code fields) ≡ length fields
-codeless_length [] = refl
-codeless_length (f ∷ fields) = ap suc (codeless_length fields)
-
 abbrev pub waits_in : Sizes → ℕ → Register → Bool
 waits_in z j r = r.valid && (nat_lt j z.block_words && not (get_or r.fields j clear_field).processed)
 
@@ -199,7 +189,7 @@ module _ (z : Sizes) (c : Cache) (h : IsSoundCache z c) (block : ℕ) where
       let part = gathered_part targets_of free_register 0 _ s there in
       let own = get_or-set_same _ s _ free_register there in
       let within = registers_within-set _ s _ (λ l. let n = never r.valid in cc)
-      (λ v. (v, codeless_length r.fields)) in
+      (λ v. (v, length-map r.fields without_code)) in
       record {
         stays = λ b n d ed. live-stays c d s _ b ed
             (cc (never r.valid, serves-not r b (λ l q. n (sym q ∙ p.1))));
@@ -213,7 +203,8 @@ module _ (z : Sizes) (c : Cache) (h : IsSoundCache z c) (block : ℕ) where
             ap (λ k. is_live (get_or (set c.registers s (made_obsolete r)) k free_register)) q ∙ ap is_live own ∙ never r.valid in
             cc;
         waits = λ t j. read_set (waits_in z j) free_register _ s _
-            (ap (λ y. r.valid && (nat_lt j z.block_words && not y)) (codeless_processed r.fields j)) t;
+            (ap (λ y. r.valid && (nat_lt j z.block_words && not y))
+            (ap (λ y. y.processed) (get_or-map without_code r.fields j clear_field))) t;
       }
     where
       never : (b : Bool) → (b && false) ≡ false
@@ -224,16 +215,19 @@ module _ (z : Sizes) (c : Cache) (h : IsSoundCache z c) (block : ℕ) where
     abbrev gone : Cache
     gone = evicted z c block f
 
+    held : (f < length c.directory.frames) × ((frame_at c f).block ≡ Some block)
+    held = frame_of-some _ block f found
+
+    ret : Retired (obsoleted c.registers (live_for c block))
+    ret = retired _ refl
+
+    far : (b : ℕ) → (block ≡ b → ⊥) → (frame_at c f).block ≡ Some b → ⊥
+    far b n e = grind (arith, held)
+
     word_gone : (at : ℕ) → form_at z gone at ≡ words_without z (form_at z c) (Some block) at
     unfolding evicted released dir.released
     word_gone at = ⊎_elim here there (cases_eq block _)
       where
-        held : (f < length c.directory.frames) × ((frame_at c f).block ≡ Some block)
-        held = frame_of-some _ block f found
-
-        ret : Retired (obsoleted c.registers (live_for c block))
-        ret = retired _ refl
-
         here : block ≡ block_of z at → form_at z gone at ≡ cond (block == block_of z at) None (form_at z c at)
         here q = cc (
           form_at-absent z gone at (frame-goes c gone f empty_frame _ refl held.0 (λ e. cc)
@@ -243,13 +237,11 @@ module _ (z : Sizes) (c : Cache) (h : IsSoundCache z c) (block : ℕ) where
 
         there : (block ≡ block_of z at → ⊥) → form_at z gone at ≡ cond (block == block_of z at) None (form_at z c at)
         there n =
-            let far : (frame_at c f).block ≡ Some (block_of z at) → ⊥ = λ e. let same = sym held.1
-            ∙ e in let q : block ≡ block_of z at = cc in n q in
             let n' : block_of z at ≡ block → ⊥ = λ q. n (sym q) in
-            let ef = frame-stays c gone f empty_frame (block_of z at) refl (sym (holds-not (frame_at c f) _ far)) in
+            let ef = frame-stays c gone f empty_frame (block_of z at) refl (sym (holds-not (frame_at c f) _ (far _ n))) in
             cc (
               form_at-same z c gone at ef (ret.stays _ n' gone refl)
-                  (ap (λ x. x.word) (cell-other z c gone at f empty_frame refl ef far)) (λ t l.
+                  (ap (λ x. x.word) (cell-other z c gone at f empty_frame refl ef (far _ n))) (λ t l.
                   let same = ret.others (block_of z at) t n' l in (
                     ap (λ r. (get_or r.fields (place_in z at) clear_field).processed) same,
                     ap
@@ -274,12 +266,6 @@ module _ (z : Sizes) (c : Cache) (h : IsSoundCache z c) (block : ℕ) where
       ));
     }
       where
-        held : (f < length c.directory.frames) × ((frame_at c f).block ≡ Some block)
-        held = frame_of-some _ block f found
-
-        ret : Retired (obsoleted c.registers (live_for c block))
-        ret = retired _ refl
-
         elsewhere : (k : ℕ) → (k ≡ f → ⊥) → get_or (set c.directory.frames f empty_frame) k empty_frame ≡ frame_at c k
         elsewhere k n = get_or-set_other _ f k empty_frame empty_frame n
 
@@ -298,17 +284,9 @@ module _ (z : Sizes) (c : Cache) (h : IsSoundCache z c) (block : ℕ) where
       same_tags = ap (λ ts. map (λ r. r.tag) c.ready ++ map (λ t. t.load.tag) ts) ret.same_targets;
       absent = frame-goes c gone f empty_frame block refl held.0 (λ e. cc) (λ k e. h.frames_apart k f block e held.1);
       cells = λ at n.
-          let far : (frame_at c f).block ≡ Some _ → ⊥ = λ e. let same : Some block ≡ Some (block_of z at) = sym held.1
-          ∙ e in let q : block ≡ block_of z at = cc in n q in
           cell-other z c gone at f empty_frame refl
-          (frame-stays c gone f empty_frame _ refl (sym (holds-not (frame_at c f) _ far))) far;
+          (frame-stays c gone f empty_frame _ refl (sym (holds-not (frame_at c f) _ (far _ n)))) (far _ n);
     }
-      where
-        held : (f < length c.directory.frames) × ((frame_at c f).block ≡ Some block)
-        held = frame_of-some _ block f found
-
-        ret : Retired (obsoleted c.registers (live_for c block))
-        ret = retired (live_for c block) refl
 
 pub evict_forms : (z : Sizes) (c : Cache) → IsSoundCache z c → (block : ℕ)
     → EvictForms z c block (evict_step z c block).answer (evict_step z c block).cache

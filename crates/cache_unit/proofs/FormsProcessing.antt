@@ -3,7 +3,7 @@ use Rattle.std.proofs.Common.{◌≡◌, ℕ, zero, suc, ◌+◌, ◌<◌, Bool,
 use Rattle.std.proofs.Common.{get_or, set, Option, Some, None, option_map, find, remove, slice_get, refl, sym, ap, ap₂, ◌∙◌, subst, arith}
 use Rattle.std.proofs.Common.{length-set, ◌⊎◌, inl, inr, ⊎_elim, eqb-true, eq-eqb, mod-lt, get_or-set_same, get_or-set_other, ltb-true}
 use Rattle.std.specs.List.{list_all}
-use Rattle.std.proofs.lemmas.Bool.{cases_eq, cases_Bool, and_parts, false_from_ne_true}
+use Rattle.std.proofs.lemmas.Bool.{false≢true, cases_eq, cases_Bool, and_parts, false_from_ne_true}
 use Rattle.std.proofs.lemmas.List.{map-append}
 use Rattle.flat_model.specs.declared.Word.{Word}
 use Rattle.flat_model.specs.Words.{merged}
@@ -154,6 +154,10 @@ module _ (z : Sizes) (c : Cache) (h : IsSoundCache z c) (place : ℕ) (e : Entry
   done_before : AllDone → (j : ℕ) → j < z.block_words → (j ≡ e.i → ⊥) → (field_at c e.slot j).processed ≡ true
   done_before all j l n = grind (arith, get_or-set_other, all_processed, length-set)
 
+  done_now : AllDone → (j : ℕ) → j < z.block_words
+      → (get_or (get_or registers1 e.slot free_register).fields j clear_field).processed ≡ true
+  done_now all j l = grind (arith, get_or-set_same, slot_there, all_processed, length-set, h.fields e.slot waits.valid)
+
   targets2 : AllDone → targets registers2 ≡ targets registers1
   unfolding targets
   targets2 all =
@@ -278,28 +282,13 @@ module _ (z : Sizes) (c : Cache) (h : IsSoundCache z c) (place : ℕ) (e : Entry
 
             frames_of : (o : Option ℕ) → frame_of c (block_of z at) ≡ o → form_at z (turned registers2) at ≡ form_at z c at
             frames_of None q = form_at-absent z _ at (filling.stays (turned registers2) refl _ ∙ q) ∙ sym (form_at-absent z c at q)
-            frames_of (Some k) q = ⊎_elim at_hit elsewhere (hit_or_not at)
-              where
-                frame' : frame_of (turned registers2) (block_of z at) ≡ Some k
-                frame' = filling.stays (turned registers2) refl _ ∙ q
-
-                at_hit : IsHit at → form_at z (turned registers2) at ≡ form_at z c at
-                at_hit hit =
-                    let k' = hit_frame at hit in
-                    form_at-resident z _ at k'.0 (filling.stays (turned registers2) refl _ ∙ k'.1) gone
-                    ∙ ap (λ j. Some (bytes_of (cell_in (turned registers2) (Some k'.0) j).word)) (sym hit.2)
-                    ∙ ap (λ w. Some (bytes_of w)) (hit_cell registers2 at hit) ∙ sym (hit_before at hit)
-
-                elsewhere : (IsHit at → ⊥) → form_at z (turned registers2) at ≡ form_at z c at
-                elsewhere n =
-                    let w = (cell_in c (Some k) _).word in
-                    let x = done_before all _ (mod-lt at h.some_words) (λ i. n (p.0, p.1, sym i)) in
-                    let same = ap (λ o. cell_in (turned registers2) o (place_in z at)) (sym frame') ∙ cell_other registers2 at n
-                    ∙ ap (λ o. cell_in c o (place_in z at)) q in
-                    form_at-resident z _ at k frame' gone ∙ ap (λ y. Some (bytes_of y.word)) same
-                    ∙ sym (form_at-live z c at k e.slot _ q before refl
-                    ∙ ap (λ b. Some (cond b (bytes_of w) (over_form (field_at c e.slot (place_in z at)).code w
-                    (coming_form c e.slot (place_in z at))))) x)
+            frames_of (Some k) q =
+                let w = (cell_in (turned registers1) (Some k) (place_in z at)).word in
+                let there = filling.stays (turned registers1) refl (block_of z at) ∙ q in
+                form_at-resident z (turned registers2) at k (filling.stays (turned registers2) refl _ ∙ q) gone
+                ∙ ap (λ b. Some (cond b (bytes_of w) (over_form (field_at (turned registers1) e.slot (place_in z at)).code w
+                (coming_form (turned registers1) e.slot (place_in z at))))) (sym (done_now all _ (mod-lt at h.some_words)))
+                ∙ sym (form_at-live z (turned registers1) at k e.slot _ there (live1 _ ∙ before) refl) ∙ words1 at
 
         other : serves (block_of z at) reg ≡ false → form_at z (turned registers2) at ≡ form_at z c at
         other s = form_at-same z c _ at (filling.stays (turned registers2) refl _)
@@ -355,35 +344,10 @@ module _ (z : Sizes) (c : Cache) (h : IsSoundCache z c) (place : ℕ) (e : Entry
     targets1 = part.then worked done waits.valid refl
 
     same_dues : map (due_to (remove c.stack place)) (targets registers1) ≡ map (due_to c.stack) (targets registers1)
-    same_dues = targets_map _ _ registers1 each
-      where
-        agree : (t j : ℕ) (f : Field) → (t ≡ e.slot → j ≡ e.i → ⊥)
-            → map (due_to (remove c.stack place)) (targets_of_field t j f) ≡ map (due_to c.stack) (targets_of_field t j f)
-        agree t j f n = go f.processed f.waiting
-          where
-            go' : (ws : List Owed) → map (due_to (remove c.stack place)) (map (λ w. record { slot = t; i = j; load = w }) ws)
-                ≡ map (due_to c.stack) (map (λ w. record { slot = t; i = j; load = w }) ws)
-            go' [] = refl
-            go' (w ∷ ws) = ap₂ (λ x xs. x ∷ xs)
-                (ap (λ o. record { tag = w.tag; form = over_form w.lanes w.held (missing_form o t j) }) (other_word t j n)) (go' ws)
-
-            go : (b : Bool) (ws : List Owed) → map (due_to (remove c.stack place))
-                (cond b [] (map (λ w. record { slot = t; i = j; load = w }) ws))
-                ≡ map (due_to c.stack) (cond b [] (map (λ w. record { slot = t; i = j; load = w }) ws))
-            go true ws = refl
-            go false ws = go' ws
-
-        each : (t j : ℕ) → (get_or registers1 t free_register).valid ≡ true
-            → map (due_to (remove c.stack place)) (targets_of_field t j (get_or (get_or registers1 t free_register).fields j clear_field))
-            ≡ map (due_to c.stack) (targets_of_field t j (get_or (get_or registers1 t free_register).fields j clear_field))
-        each t j v = ⊎_elim (λ p. ⊎_elim (λ q. here p q)
-            (λ n. agree t j (get_or (get_or registers1 t free_register).fields j clear_field) (λ a b. n b)) (cases_eq j e.i))
-            (λ n. agree t j (get_or (get_or registers1 t free_register).fields j clear_field) (λ a b. n a)) (cases_eq t e.slot)
-          where
-            here : t ≡ e.slot → j ≡ e.i → map (due_to (remove c.stack place))
-                (targets_of_field t j (get_or (get_or registers1 t free_register).fields j clear_field))
-                ≡ map (due_to c.stack) (targets_of_field t j (get_or (get_or registers1 t free_register).fields j clear_field))
-            here p q = grind (arith, own_field)
+    same_dues = targets_map _ _ registers1 (λ t j w v p. ap
+        (λ o. let d : Due = record { tag = w.tag; form = over_form w.lanes w.held (missing_form o t j) } in d)
+        (other_word t j (λ a b. let here : get_or (get_or registers1 t free_register).fields j clear_field ≡ done = rw (a, b) own_field in
+        false≢true (sym p ∙ ap (λ x. x.processed) here))))
 
     dues_after : (registers : List Register) → targets registers ≡ targets registers1
         → dues (turned registers) ≡ (map due_ready c.ready ++ seg) ++ (front ++ back)

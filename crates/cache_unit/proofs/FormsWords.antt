@@ -5,7 +5,7 @@ use Rattle.std.proofs.Common.{suc, ◌+◌, ◌⊎◌, inr, ⊎_elim, get_or-set
 use Rattle.std.proofs.lemmas.Bool.{cases_eq}
 use Rattle.flat_model.specs.declared.Word.{Word}
 use Rattle.flat_model.specs.declared.Lanes.{Lanes}
-use Rattle.flat_model.specs.Words.{merged, joined, Lane, byte, has, has_all, zero_word, no_lanes}
+use Rattle.flat_model.specs.Words.{merged, joined, has_all, zero_word, no_lanes}
 use Rattle.flat_model.proofs.Lanewise.{byte-merged, has-joined, all_from_all}
 use Rattle.cache_directory.specs.declared.Cell.{Cell}
 use Rattle.cache_unit.specs.declared.Sizes.{Sizes}
@@ -14,7 +14,7 @@ use Rattle.cache_unit.specs.State.{Frame, Field, Register, Cache, empty_frame, c
 use Rattle.cache_unit.specs.State.{field_at, is_live, live_for, cell_in, cell_of, targets, tags, with_cell, with_field, block_of, place_in}
 use Rattle.cache_unit.specs.State.{Target, is_present, gathered, targets_of, targets_of_field, first_of}
 use Rattle.cache_unit.specs.Steps.{noted, written_in, written, replied, awaited, loaded}
-use Rattle.cache_unit.specs.Forms.{Form, bytes_of, coming_form, over_form, form_in, owed, LaneForm, Byte, Asked, missing_form}
+use Rattle.cache_unit.specs.Forms.{Form, bytes_of, coming_form, over_form, form_in, owed, Asked, missing_form}
 use Rattle.cache_unit.specs.FormLaws.{form_at, but_at, words_without, asked_form, missed_words, fetched_words}
 use Rattle.cache_unit.proofs.Lists.{in_range, nested_same, nested_other, word_part, frame_of-some, live_for-some, with_field_in, same_at}
 use Rattle.cache_unit.proofs.Lists.{field_elsewhere, field_here, field_part, frame-stays, live-stays, waits_for, frames_like-set}

@@ -1,8 +1,8 @@
 -- What holds of the parts still holds once a word has left the stack, and what is owed is told by them.
 use Rattle.std.proofs.Common.{◌≡◌, ℕ, suc, zero, ◌+◌, ◌<◌, ◌≤◌, Bool, true, false, cond, ◌==◌, if◌then◌else◌, List, [], ◌∷◌, ◌++◌, length}
-use Rattle.std.proofs.Common.{set, refl, arith, ◌&&◌, not, Option, Some, None, ap, sym, ◌∙◌, get_or, is_some, length-set, ◌-◌, ◌⊎◌, inl}
-use Rattle.std.proofs.Common.{inr, take, subst, slice_get, ◌/◌, ◌||◌, map, filter}
-use Rattle.std.specs.List.{sum_by, count_by, remove, list_any}
+use Rattle.std.proofs.Common.{set, refl, arith, Option, Some, None, ap, sym, ◌∙◌, is_some, length-set, ◌-◌, ◌⊎◌, inl}
+use Rattle.std.proofs.Common.{inr, take, slice_get}
+use Rattle.std.specs.List.{sum_by, count_by, remove}
 use Rattle.std.proofs.lemmas.List.Sums.{sum_by-set, sum_by-cons, sum_by-remove}
 use Rattle.flat_model.specs.declared.Word.{Word}
 use Rattle.flat_model.specs.Words.{merged}
@@ -10,13 +10,13 @@ use Rattle.miss_registers.specs.declared.Owed.{Owed}
 use Rattle.miss_registers.proofs.Tags.{count_by-append, count_by-map}
 use Rattle.cache_unit.specs.declared.Reply.{Reply}
 use Rattle.cache_unit.specs.declared.Sizes.{Sizes}
-use Rattle.cache_unit.specs.Steps.{answered, filled_in, settled_in, processed, moved, process_step, process_entry}
+use Rattle.cache_unit.specs.Steps.{answered, processed, moved, process_step, process_entry}
 use Rattle.cache_unit.specs.Sound.{loads_of_field, loads_of, owing, OwesSound, HasFrame, no_entry, entry_at, HasInStack, Stands, FilledBy}
 use Rattle.cache_unit.specs.Sound.{IsSound}
 use Rattle.flat_model.specs.declared.Lanes.{Lanes}
 use Rattle.input_stack.specs.declared.Entry.{Entry}
-use Rattle.cache_unit.specs.State.{Cache, frame_of, with_cell, register_at, frame_at, field_at, UnitState, Target, gathered, targets_of}
-use Rattle.cache_unit.specs.State.{targets_of_field, targets, tags, Register, Field, clear_field, free_register, is_live, Frames, Frame}
+use Rattle.cache_unit.specs.State.{Cache, with_cell, register_at}
+use Rattle.cache_unit.specs.State.{Register, Field, clear_field, free_register, is_live, Frames, Frame}
 use Rattle.cache_unit.specs.State.{empty_frame}
 use Rattle.cache_unit.specs.Parts.{filled_live, settled_if, CanFill}
 use Rattle.std.proofs.lemmas.List.{get_or-set_same, get_or-set_other, get_or_past, map-append, take_more}
@@ -26,11 +26,9 @@ use Rattle.std.proofs.lemmas.Option.{none-some, same_Some, slice_get_within, get
 use Rattle.flat_model.specs.declared.limits.TheConstants.{MAX_REPLIES}
 use Rattle.flat_model.specs.Places.{is_number}
 use Rattle.miss_registers.specs.Whole.{IsWhole}
-use Rattle.cache_unit.proofs.Lists.{list_all-at, read_set, place_of-set, tally-append, tally-map, tally-filter, frame_of-some}
-use Rattle.cache_unit.specs.SoundCache.{HasWord, IsSoundCache}
-use Rattle.cache_unit.specs.Counts.{bit, tally}
+use Rattle.cache_unit.proofs.Lists.{list_all-at, read_set, place_of-set, frame_of-some}
 use Rattle.miss_registers.specs.Registers.{field_of, finished, finished_fields, finished_field, is_done}
-use Rattle.cache_directory.specs.Frames.{settled, times_in}
+use Rattle.cache_directory.specs.Frames.{settled}
 use Rattle.miss_registers.specs.Registers as regs
 use Rattle.cache_directory.specs.Frames as dir
 

@@ -18,14 +18,10 @@ use Rattle.input_stack.specs.declared.Entry.{Entry}
 use Rattle.input_stack.specs.Stack.{stack_word}
 use Rattle.cache_unit.specs.declared.Sizes.{Sizes}
 use Rattle.cache_directory.specs.Frames as dir
+use Rattle.flat_model.proofs.Places as places
 use Rattle.miss_registers.specs.Registers as regs
 
 -- ---- Lists of parts, as the unit shows them.
-
-pub get_or-map : {X Y : Type 0} (f : X → Y) (xs : List X) (i : ℕ) (d : X) → get_or (map f xs) i (f d) ≡ f (get_or xs i d)
-get_or-map f [] i d = refl
-get_or-map f (x ∷ xs) zero d = refl
-get_or-map f (x ∷ xs) (suc i) d = get_or-map f xs i d
 
 pub list_all-at : {X : Type 0} (p : X → Bool) (xs : List X) (i : ℕ) (d : X) → list_all p xs ≡ true → i < length xs
     → p (get_or xs i d) ≡ true
@@ -48,13 +44,6 @@ place_of-only p d xs k hd h only = go _ refl
     go : (o : Option ℕ) → place_of p xs ≡ o → place_of p xs ≡ Some k
     go None e = let f = place_of-none p d xs hd e k in cc
     go (Some j) e = let s = place_of-passes p xs j d e in e ∙ ap Some (only j s.1)
-
-pub place_of-all_none : {X : Type 0} (p : X → Bool) (d : X) (xs : List X) → ((j : ℕ) → p (get_or xs j d) ≡ false) → place_of p xs ≡ None
-place_of-all_none p d xs h = go _ refl
-  where
-    go : (o : Option ℕ) → place_of p xs ≡ o → place_of p xs ≡ None
-    go None e = e
-    go (Some j) e = let s = place_of-passes p xs j d e in let f = h j in cc
 
 -- ---- Lists: counts of what passes a test, one element more, parts of a gathered list.
 
@@ -267,20 +256,33 @@ gathered_map h f g d n (x ∷ xs) same =
     subst (λ j. map f (h j (get_or xs k d)) ≡ map g (h j (get_or xs k d))) e (same _ (omega arith))) in
     map-append f _ _ ∙ ap₂ ◌++◌ first rest ∙ sym (map-append g _ _)
 
--- two functions that agree at each word's loads agree on all
-pub targets_map : {Z : Type 0} (f g : Target → Z) (registers : List Register) → ((t j : ℕ) → (get_or registers t free_register).valid ≡ true
-    → map f (targets_of_field t j (get_or (get_or registers t free_register).fields j clear_field))
-    ≡ map g (targets_of_field t j (get_or (get_or registers t free_register).fields j clear_field)))
+-- two functions that agree at each load that waits agree on all
+pub targets_map : {Z : Type 0} (f g : Target → Z) (registers : List Register)
+    → ((t j : ℕ) (w : Owed) → (get_or registers t free_register).valid ≡ true
+    → (get_or (get_or registers t free_register).fields j clear_field).processed ≡ false
+    → f (record { slot = t; i = j; load = w }) ≡ g (record { slot = t; i = j; load = w }))
     → map f (targets registers) ≡ map g (targets registers)
 unfolding targets
-targets_map f g registers same = gathered_map targets_of f g free_register 0 registers
-    (λ t l. let e = zero-add t in rw e (one t))
+targets_map f g registers same = gathered_map targets_of f g free_register 0 registers (λ t l. let e = zero-add t in rw e (one t))
   where
+    loads : (t j : ℕ) (ws : List Owed)
+        → ((w : Owed) → f (record { slot = t; i = j; load = w }) ≡ g (record { slot = t; i = j; load = w }))
+        → map f (map (λ w. record { slot = t; i = j; load = w }) ws) ≡ map g (map (λ w. record { slot = t; i = j; load = w }) ws)
+    loads t j [] h = refl
+    loads t j (w ∷ ws) h = ap₂ (λ x xs. x ∷ xs) (h w) (loads t j ws h)
+
+    field : (t j : ℕ) → (get_or registers t free_register).valid ≡ true → (x : Field) (b : Bool) → x.processed ≡ b
+        → x.processed ≡ (get_or (get_or registers t free_register).fields j clear_field).processed
+        → map f (cond b [] (map (λ w. record { slot = t; i = j; load = w }) x.waiting))
+        ≡ map g (cond b [] (map (λ w. record { slot = t; i = j; load = w }) x.waiting))
+    field t j v x true e q = refl
+    field t j v x false e q = loads t j x.waiting (λ w. same t j w v (sym q ∙ e))
+
     go : (t : ℕ) (v : Bool) → (get_or registers t free_register).valid ≡ v
         → map f (cond v (gathered (targets_of_field t) 0 (get_or registers t free_register).fields) [])
         ≡ map g (cond v (gathered (targets_of_field t) 0 (get_or registers t free_register).fields) [])
     go t true e = gathered_map _ f g clear_field 0 (get_or registers t free_register).fields
-        (λ j l. let k = zero-add j in rw k (same t j e))
+        (λ j l. let k = zero-add j in rw k (field t j e (get_or (get_or registers t free_register).fields j clear_field) _ refl refl))
     go t false e = refl
 
     one : (t : ℕ) → map f (targets_of t (get_or registers t free_register)) ≡ map g (targets_of t (get_or registers t free_register))
@@ -289,23 +291,10 @@ targets_map f g registers same = gathered_map targets_of f g free_register 0 reg
 -- a load that waits waits for a valid register
 pub target_valid : (registers : List Register) (p : Target → Bool) (t : Target) → find p (targets registers) ≡ Some t
     → (get_or registers t.slot free_register).valid ≡ true
-target_valid registers p t found = passes _ all found
+target_valid registers p t found = passes _ (targets_map valid (λ x. true) registers (λ t j w v q. v)) found
   where
     valid : Target → Bool
     valid x = (get_or registers x.slot free_register).valid
-
-    each : (s i : ℕ) → (get_or registers s free_register).valid ≡ true → (ws : List Owed)
-        → map valid (map (λ w. record { slot = s; i = i; load = w }) ws)
-        ≡ map (λ x. true) (map (λ w. let y : Target = record { slot = s; i = i; load = w } in y) ws)
-    each s i v [] = refl
-    each s i v (w ∷ ws) = ap₂ (λ x xs. x ∷ xs) v (each s i v ws)
-
-    of_field : (s i : ℕ) → (get_or registers s free_register).valid ≡ true → (f : Field)
-        → map valid (targets_of_field s i f) ≡ map (λ x. true) (targets_of_field s i f)
-    of_field s i v f = grind (arith, f.processed, valid, each)
-
-    all : map valid (targets registers) ≡ map (λ x. true) (targets registers)
-    all = grind (arith, targets_map, valid, of_field)
 
     passes : (xs : List Target) → map valid xs ≡ map (λ x. true) xs → find p xs ≡ Some t → valid t ≡ true
     passes [] e q = cc
@@ -423,7 +412,8 @@ frame_of-is fs b k apart h =
 
 pub frame_of-none : (c : Cache) (b : ℕ) → ((k : ℕ) → (frame_at c k).block ≡ Some b → ⊥) → frame_of c b ≡ None
 unfolding dir.frame_of
-frame_of-none c b h = place_of-all_none (λ f. is_number f.block b) empty_frame _ (λ k. false_from_ne_true _ (λ e. h k (number_from _ b e)))
+frame_of-none c b h = places.place_of-none (λ f. is_number f.block b) _ empty_frame
+    (λ k l. false_from_ne_true _ (λ e. h k (number_from _ b e)))
 
 pub none_in_frames : (c : Cache) (b : ℕ) → frame_of c b ≡ None → (k : ℕ) → (frame_at c k).block ≡ Some b → ⊥
 unfolding dir.frame_of
@@ -450,7 +440,7 @@ live_for-is c b s apart l e = place_of-only (λ r. is_live r && r.block == b) fr
 pub live_for-none : (rs : List Register) (b : ℕ)
     → ((s : ℕ) → is_live (regs.register_at rs s) ≡ true → (regs.register_at rs s).block ≡ b → ⊥) → regs.live_for rs b ≡ None
 unfolding regs.live_for
-live_for-none rs b h = place_of-all_none (λ r. is_live r && r.block == b) free_register rs (λ s. false_from_ne_true _ (λ e.
+live_for-none rs b h = places.place_of-none (λ r. is_live r && r.block == b) rs free_register (λ s l. false_from_ne_true _ (λ e.
     let q = and_parts _ _ e in
     h s q.0 (eqb-true _ b q.1)))
 
@@ -480,7 +470,7 @@ place_of-set_here p d xs k new none there new_passes only =
 pub place_of-set_gone : {X : Type 0} (p : X → Bool) (d : X) (xs : List X) (k : ℕ) (new : X) → k < length xs → p new ≡ false
     → ((j : ℕ) → p (get_or xs j d) ≡ true → j ≡ k) → place_of p (set xs k new) ≡ None
 place_of-set_gone p d xs k new there new_fails only =
-    place_of-all_none p d _ (λ j. ⊎_elim (λ q. (cc (q, ap p (get_or-set_same xs k new d there), new_fails)))
+    places.place_of-none p _ d (λ j l. ⊎_elim (λ q. (cc (q, ap p (get_or-set_same xs k new d there), new_fails)))
     (λ n. ap p (get_or-set_other xs k j new d n) ∙ false_from_ne_true _ (λ e. n (only j e))) (cases_eq j k))
 
 -- ---- frames

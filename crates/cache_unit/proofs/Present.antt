@@ -1,15 +1,14 @@
 -- Loads and stores of a block that a frame holds.
-use Rattle.std.proofs.Common.{◌≡◌, ℕ, suc, zero, ◌<◌, ◌==◌, Bool, true, false, ◌&&◌, List, [], ◌∷◌, length, set, Option, Some, None}
-use Rattle.std.proofs.Common.{eq-eqb, is_some, refl, ap, sym, ◌∙◌, length-set, inl, inr, eqb-true, nat_lt, nat_le, ◌≤◌, ◌||◌, not}
-use Rattle.std.proofs.Common.{if◌then◌else◌, ◌++◌, arith, length-append, ◌-◌, ◌⊎◌, subst, option_map}
+use Rattle.std.proofs.Common.{◌≡◌, ℕ, ◌<◌, ◌==◌, Bool, true, false, ◌&&◌, List, [], ◌∷◌, length, set, Option, Some, None}
+use Rattle.std.proofs.Common.{eq-eqb, is_some, refl, ap, sym, ◌∙◌, length-set, inl, inr, eqb-true, nat_lt, nat_le, ◌||◌, not}
+use Rattle.std.proofs.Common.{if◌then◌else◌, ◌++◌, arith, length-append, ◌-◌, ◌⊎◌, option_map}
 use Rattle.std.proofs.lemmas.List.{get_or-set_same, get_or-set_other, get_or_past, get_or_append_left, get_or-append_right}
 use Rattle.std.proofs.lemmas.Bool.{false≢true, cases_eq, and_parts, cases_lt}
 use Rattle.std.proofs.lemmas.Option.{same_Some}
 use Rattle.flat_model.proofs.Places.{place_of-passes}
 use Rattle.input_stack.specs.declared.Entry.{Entry}
-use Rattle.cache_unit.specs.Sound.{entry_at, StackSound, Tied, no_entry, HasInStack, Stands, HasFrame, FilledBy, IsSound, loads_of}
+use Rattle.cache_unit.specs.Sound.{entry_at, StackSound, Tied, no_entry, HasInStack, Stands, IsSound, loads_of}
 use Rattle.cache_unit.specs.Sound.{OwesSound}
-use Rattle.cache_unit.proofs.Lists.{read_set}
 use Rattle.cache_directory.proofs.Finds.{find-passes, find-all, find-nowhere}
 use Rattle.std.proofs.lemmas.List.Elements.{All-from_get_or}
 use Rattle.cache_unit.proofs.Keeps.{SameBlocks, loads-set, owes-same, SameBlocks-set, pending-set, register_at-set}
@@ -18,15 +17,13 @@ use Rattle.flat_model.specs.declared.Word.{Word}
 use Rattle.input_stack.specs.Stack.{stack_word}
 use Rattle.cache_unit.specs.declared.Sizes.{Sizes}
 use Rattle.cache_unit.specs.State.{Cache, register_at, field_at, Field, frame_at, frame_of, live_for, cell_of, with_cell, with_field, Frame}
-use Rattle.cache_unit.specs.State.{Frames, Register, free_register, is_live, clear_field}
-use Rattle.cache_unit.specs.Causes.{is_stray, arrive_cause, Coming, found, targets_full}
+use Rattle.cache_unit.specs.State.{Frames, Register, free_register, is_live}
+use Rattle.cache_unit.specs.Causes.{first_cause, is_stray, arrive_cause, Coming, found}
 use Rattle.flat_model.specs.declared.Cause.TheVariants.{StrayWord, StackFull}
-use Rattle.flat_model.specs.declared.Answer.TheVariants.{Refused}
-use Rattle.cache_unit.specs.Steps.{moved, arrived, arrive_step, awaited, noted, written_in, written}
+use Rattle.cache_unit.specs.Steps.{unless, moved, arrived, arrive_step, awaited, noted, written_in, written}
 use Rattle.miss_registers.specs.Whole.{IsWhole}
 use Rattle.flat_model.specs.declared.Lanes.{Lanes}
-use Rattle.flat_model.specs.Words.{zero_word, merged, joined, has_all}
-use Rattle.miss_registers.specs.declared.TheConstants.{MAX_WAITING}
+use Rattle.flat_model.specs.Words.{zero_word, merged, has_all}
 use Rattle.miss_registers.specs.declared.Owed.{Owed}
 use Rattle.cache_unit.specs.Parts.{finding_of, written_for, noted_for}
 use Rattle.miss_registers.specs.Registers.{field_of, code_of_missing}
@@ -278,26 +275,10 @@ IsSound-arrived z c e h x whole =
 
 -- ---- the step
 
-le-leb : {m n : ℕ} → m ≤ n → nat_le m n ≡ true
-le-leb {m} {n} h = grind arith
-
-not_le : {m n : ℕ} → n < m → nat_le m n ≡ false
-not_le {m} {n} h = grind arith
-
-pub arrive-stray : (z : Sizes) (c : Cache) (s i : ℕ) (word : Word) → is_stray z c s i ≡ true
-    → arrive_step z c s i word ≡ record { answer = Refused StrayWord; cache = c; sent = [] }
+pub arrive_by : (z : Sizes) (c : Cache) (s i : ℕ) (word : Word) (a b : Bool) → is_stray z c s i ≡ a → nat_le z.depth (length c.stack) ≡ b
+    → arrive_step z c s i word ≡ unless (first_cause ((a, StrayWord) ∷ (b, StackFull) ∷ [])) c (moved (arrived c s i word))
 unfolding arrive_step arrive_cause
-arrive-stray z c s i word h = rw h refl
-
-pub arrive-full : (z : Sizes) (c : Cache) (s i : ℕ) (word : Word) → is_stray z c s i ≡ false → z.depth ≤ length c.stack
-    → arrive_step z c s i word ≡ record { answer = Refused StackFull; cache = c; sent = [] }
-unfolding arrive_step arrive_cause
-arrive-full z c s i word h f = rw (h, le-leb f) refl
-
-pub arrive-moved : (z : Sizes) (c : Cache) (s i : ℕ) (word : Word) → is_stray z c s i ≡ false → length c.stack < z.depth
-    → arrive_step z c s i word ≡ moved (arrived c s i word)
-unfolding arrive_step arrive_cause
-arrive-moved z c s i word h f = rw (h, not_le f) refl
+arrive_by z c s i word a b e h = cc (e, h)
 
 pub arrived-shown : (c : Cache) (s i : ℕ) (word : Word) → (record c {
   registers = set c.registers s (regs.marked (register_at c s) i);
@@ -305,20 +286,6 @@ pub arrived-shown : (c : Cache) (s i : ℕ) (word : Word) → (record c {
 }) ≡ arrived c s i word
 unfolding arrived
 arrived-shown c s i word = refl
-
-pub at_least : {m n : ℕ} → (n < m → ⊥) → m ≤ n
-at_least {m} {n} h = grind arith
-
--- ---- where a load finds its word
-
--- a word that is on its way has a live register that waits for it
-pub record IsComing (c : Cache) (block i slot : ℕ) : Type 0 where
-  pub live : live_for c block ≡ Some slot
-  pub waits : (field_at c slot i).processed ≡ false
-  pub absent : stack_word c.stack slot i ≡ None
-
-pub coming_from : (c : Cache) (block i slot : ℕ) → found c block i ≡ Coming slot → IsComing c block i slot
-coming_from c block i slot h = grind arith
 
 -- ---- a load waits
 
@@ -449,35 +416,18 @@ pub finding-resident : (c : Cache) (block i : ℕ) → live_for c block ≡ None
     → finding_of c block i (found c block i) ≡ Here (cell_of c block i).word
 finding-resident c block i e = grind arith
 
--- what the code's finding says
-pub record SaysComing (c : Cache) (block i slot : ℕ) (held : Word) (code : Lanes) (waiting : ℕ) : Type 0 where
+-- what a load that waits needs, where the code's finding says that its word is on its way
+pub record CanAwait (c : Cache) (block i slot : ℕ) (held : Word) (code : Lanes) (waiting : ℕ) : Type 0 where
   pub coming : found c block i ≡ Coming slot
   pub held_is : held ≡ merged zero_word (cell_of c block i).word (field_at c slot i).code
   pub code_is : code ≡ (field_at c slot i).code
   pub waiting_is : waiting ≡ length (field_at c slot i).waiting
+  pub slot_there : slot < length c.registers
+  pub live : is_live (register_at c slot) ≡ true
+  pub there : i < length (register_at c slot).fields
+  pub expected : regs.expects (register_at c slot) i ≡ true
 
-pub says_coming : (c : Cache) (block i slot : ℕ) (held : Word) (code : Lanes) (waiting : ℕ)
-    → finding_of c block i (found c block i) ≡ finding.Coming slot held code waiting → SaysComing c block i slot held code waiting
-says_coming c block i slot held code waiting h = grind arith
-
--- ---- what a load that waits needs
-
-pub record CanAwait (words : ℕ) (rs : List Register) (slot i : ℕ) : Type 0 where
-  pub slot_there : slot < length rs
-  pub live : is_live (regs.register_at rs slot) ≡ true
-  pub there : i < length (regs.register_at rs slot).fields
-  pub expected : regs.expects (regs.register_at rs slot) i ≡ true
-
-pub can_await : (z : Sizes) (c : Cache) → IsSound z c → (block i slot : ℕ) → IsComing c block i slot → i < z.block_words
-    → CanAwait z.block_words c.registers slot i
-can_await z c h block i slot k l =
-    let p = live_for-some _ block slot (k.live) in
-    let n = (h.registers.each slot).fields_there (and_parts _ _ p.1).0 in
-    let there : i < length (register_at c slot).fields = omega arith in
-    let processed = k.waits in
-    let in_stack = sym (in_stack-shown z c slot i h) ∙ ap is_some k.absent in
-    record { slot_there = p.0; live = p.1; there = there; expected = grind arith }
-
-pub few_wait : (c : Cache) (block i slot : ℕ) → found c block i ≡ Coming slot → targets_full c i (found c block i) ≡ false
-    → length (field_at c slot i).waiting < MAX_WAITING
-few_wait c block i slot e h = grind arith
+pub can_await : (z : Sizes) (c : Cache) → IsSound z c → (block i slot : ℕ) (held : Word) (code : Lanes) (waiting : ℕ) → i < z.block_words
+    → finding_of c block i (found c block i) ≡ finding.Coming slot held code waiting → CanAwait c block i slot held code waiting
+can_await z c h block i slot held code waiting l e =
+    grind (arith, live_for-some, in_stack-shown z c slot i h, (h.registers.each slot).fields_there)

@@ -1,31 +1,30 @@
 -- Requests: what a missing block gets, what they make of the forms, and their causes in their order.
-use Rattle.std.proofs.Common.{◌≡◌, ℕ, zero, suc, ◌+◌, ◌*◌, ◌/◌, ◌%◌, ◌<◌, ◌≤◌, Bool, true, false, cond, not, ◌&&◌, ◌==◌, List, [], ◌∷◌}
+use Rattle.std.proofs.Common.{◌≡◌, ℕ, zero, suc, ◌+◌, ◌*◌, ◌/◌, ◌%◌, ◌<◌, ◌≤◌, Bool, true, false, cond, not, ◌==◌, List, [], ◌∷◌}
 use Rattle.std.proofs.Common.{◌++◌, length, set, Option, Some, None, option_map, find, filter, is_some, is_none, refl, sym, ap, ◌∙◌, arith}
-use Rattle.std.proofs.Common.{◌⊎◌, inl, inr, mod-lt, mul-le-mul_right, eq-eqb, ◌||◌, map, ap₂, nat_lt, nat_le}
+use Rattle.std.proofs.Common.{◌⊎◌, inl, inr, mod-lt, mul-le-mul_right, map, ap₂, nat_lt, nat_le}
 use Rattle.std.specs.List.{range_with_len, list_all, list_any}
 use Rattle.std.specs.Option.{option_or}
 use native.Mathlib.Nat.{div-eq_of_lt-le}
-use Rattle.std.proofs.lemmas.Bool.{not-true, false≢true}
 use Rattle.std.proofs.lemmas.List.{set-set}
-use Rattle.flat_model.specs.Places.{place_of}
-use Rattle.flat_model.proofs.Places.{place_of-passes}
 use Rattle.write_queue.specs.declared.Queued.{Queued}
 use Rattle.cache_unit.specs.Begun.{begun_frame, begun_register}
 use Rattle.cache_directory.specs.Frames.{order_of}
 use Rattle.cache_unit.specs.declared.Sizes.{Sizes}
-use Rattle.cache_unit.specs.State.{Register, Cache, empty_frame, free_register, frame_at, frame_of, is_present, register_at, is_live}
-use Rattle.cache_unit.specs.State.{live_for, is_pending, is_pending_block, free_slot, Target, cell_of, block_of, place_in, UnitState}
+use Rattle.cache_unit.specs.State.{Register, Cache, empty_frame, frame_at, frame_of, is_present, register_at, is_live}
+use Rattle.cache_unit.specs.State.{live_for, is_pending, is_pending_block, free_slot, Target, cell_of, block_of, place_in}
 use Rattle.cache_unit.specs.State.{field_at, tags}
 use Rattle.cache_unit.specs.Causes.{choose, ways_of, is_resident_block, dirty_words, first_cause, miss_causes, is_in_use, found, load_cause}
-use Rattle.cache_unit.specs.Causes.{store_cause, prefetch_cause, evict_cause, lacks_places, Found, Here, Coming, found_missing, found_in}
+use Rattle.cache_unit.specs.Causes.{store_cause, prefetch_cause, evict_cause, lacks_places}
 use Rattle.cache_unit.specs.Causes.{targets_full}
 use Rattle.cache_unit.specs.Steps.{released, installed, reads, fetched, fetches, unless, loaded, written, load_step, store_step}
-use Rattle.cache_unit.specs.Steps.{prefetch_step, request_step, Stepped, evict_step, evicted, evicted_from, missed}
+use Rattle.cache_unit.specs.Steps.{prefetch_step, request_step, Stepped, evict_step, evicted_from, missed}
 use Rattle.cache_unit.specs.FormLaws.{form_at, missed_words, fetched_words, LoadForms, StoreForms, PrefetchForms, RequestForms}
 use Rattle.cache_unit.specs.SoundCache.{IsSoundCache}
 use Rattle.cache_unit.proofs.Lists.{frame-comes, in_range, frame_of-some, none_in_frames, live_for-some}
 use Rattle.cache_unit.proofs.FormsWords.{FetchedBy, installed-by, MissedBy, missed-by, Hit, stored-by, loaded-by}
 use Rattle.cache_directory.proofs.Finds.{find-passes}
+use Rattle.miss_registers.proofs.Places.{free_slot-found}
+use Rattle.cache_unit.proofs.Choosing.{register-test}
 use Rattle.flat_model.specs.declared.Word.{Word}
 use Rattle.flat_model.specs.declared.Lanes.{Lanes}
 use Rattle.flat_model.specs.declared.Cause.{Cause}
@@ -38,11 +37,7 @@ use Rattle.cache_unit.specs.declared.Request.TheVariants.{Load, Store, Prefetch}
 use Rattle.cache_unit.specs.Forms.{over_form, owed}
 use Rattle.cache_unit.proofs.FormsEvents.{dues-tally, owed-same, forms-from, drain_forms, arrive_forms, take_forms, evict_forms}
 use Rattle.flat_model.specs.Words.{has_any}
-use Rattle.input_stack.specs.Stack.{stack_word}
-use Rattle.miss_registers.specs.declared.TheConstants.{MAX_WAITING}
 use Rattle.cache_unit.specs.Requests.{absence_cause, is_full_for, load_answer, load_present}
-use Rattle.cache_unit.specs.declared.unit.present.Finding.{Finding}
-use Rattle.cache_unit.specs.Parts.{finding_of}
 use Rattle.cache_unit.specs.UnitForms.{EachStepMakesForms}
 use Rattle.cache_unit.proofs.FormsProcessing.{process_forms}
 use Rattle.miss_registers.specs.Registers as regs
@@ -133,9 +128,7 @@ chosen z c h block f e = go _ refl _ refl e
 
 pub free_register_at : (c : Cache) (slot : ℕ) → free_slot c ≡ Some slot → (slot < length c.registers) × ((register_at c slot).valid ≡ false)
 unfolding regs.free_slot
-free_register_at c slot e =
-    let p = place_of-passes (λ r. not r.valid) _ slot free_register e in
-    (p.0, not-true (register_at c slot).valid p.1)
+free_register_at c slot e = free_slot-found c.registers slot e
 
 -- ---- what the causes leave
 
@@ -143,15 +136,10 @@ free_register_at c slot e =
 abbrev pub Able : Sizes → Cache → ℕ → Type 0
 Able z c block = ((length (filter (λ r. r.valid) c.registers) == z.regs) ≡ false) × (list_all (is_pending c) (ways_of z block) ≡ false)
 
-pub all_valid : (registers : List Register) → place_of (λ (r : Register). not r.valid) registers ≡ None
-    → length (filter (λ (r : Register). r.valid) registers) ≡ length registers
-all_valid [] e = refl
-all_valid (r ∷ registers) e = grind (arith, all_valid registers)
-
 some_slot : (z : Sizes) (c : Cache) → IsSoundCache z c → (length (filter (λ r. r.valid) c.registers) == z.regs) ≡ false
     → is_none (free_slot c) ≡ false
 unfolding regs.free_slot
-some_slot z c h e = grind (arith, eq-eqb, all_valid)
+some_slot z c h e = sym (register-test c z.regs h.registers_are) ∙ e
 
 pub some_frame : (z : Sizes) (c : Cache) → IsSoundCache z c → (block : ℕ) → list_all (is_pending c) (ways_of z block) ≡ false
     → is_none (choose z c block) ≡ false
@@ -173,26 +161,16 @@ some_frame z c h block e = go (frame_at c x.0).block refl x.3
     own : x.0 / z.ways ≡ block % z.sets
     own = grind arith
 
-    left : (o p : Option ℕ) → is_some o ≡ true → is_none (option_or o p) ≡ false
-    left (Some k) p q = refl
-    left None p q = cc
-
-    right : (o p : Option ℕ) → is_some p ≡ true → is_none (option_or o p) ≡ false
-    right (Some k) p q = refl
-    right None (Some k) q = refl
-    right None None q = cc
-
-    none : (o : Option ℕ) → is_some o ≡ false → is_none o ≡ true
-    none None q = refl
-    none (Some k) q = cc
-
     go : (o : Option ℕ) → (frame_at c x.0).block ≡ o → is_pending_block c (frame_at c x.0).block ≡ false
         → is_none (option_or (find free (ways_of z block)) (find resident (order_of c.directory (block % z.sets)))) ≡ false
-    go None q r = left _ _ (found_member free _ x.0 x.4 (ap is_none q))
+    go None q r = grind (arith, found_member free (ways_of z block) x.0 x.4 (ap is_none q))
     go (Some b) q r =
         let here = ap (λ s. is_in (order_of c.directory s) x.0) (sym own) ∙ h.placed x.0 b q in
-        right _ _ (found_member resident _ x.0 here
-        (ap (is_resident_block c) q ∙ none _ (ap (is_pending_block c) (sym q) ∙ r)))
+        grind (
+          arith,
+          found_member resident (order_of c.directory (block % z.sets)) x.0 here
+              (ap (is_resident_block c) q ∙ ap not (ap (is_pending_block c) (sym q) ∙ r)),
+        )
 
 -- ---- the block is fetched
 
@@ -408,11 +386,6 @@ pub evict_by : (z : Sizes) (c : Cache) (block : ℕ) (a : Bool) (o : Option ℕ)
 unfolding evict_step evict_cause
 evict_by z c block a o b e f g = grind arith
 
--- what the step leaves, of the unit that the parts show
-pub evicted_is : (z : Sizes) (c : Cache) (u : UnitState) (block f : ℕ) → record { sizes = z; cache = c } ≡ u
-    → (evict_step z c block).cache ≡ evicted z c block f → evicted u.sizes u.cache block f ≡ (evict_step u.sizes u.cache block).cache
-evicted_is z c u block f e h = grind arith
-
 -- ---- Requests, by their causes.
 
 -- ---- the block
@@ -446,17 +419,8 @@ targets_free c block i h = grind arith
 
 pub targets_kept : (z : Sizes) (room : ℕ → ℕ) (c : Cache) (block : ℕ) → IsSoundCache z c → absence_cause z room c block ≡ None → (i : ℕ)
     → is_full_for c block i ≡ false → targets_full (fetched z c block) i (found (fetched z c block) block i) ≡ false
-targets_kept z room c block h e i full = grind (arith, present_fetched, targets_free, (fetched-by z c h block (missing z room c block [] e)).waits)
-
--- ---- as many loads as may wait for a word
-
-abbrev pub awaited_by_most : Finding → Bool
-awaited_by_most (finding.Here w) = false
-awaited_by_most (finding.Coming slot held code waiting) = nat_le MAX_WAITING waiting
-
-pub awaited_full : (c : Cache) (block i : ℕ) (x : Found) → awaited_by_most (finding_of c block i x) ≡ targets_full c i x
-awaited_full c block i (Here w) = refl
-awaited_full c block i (Coming slot) = refl
+targets_kept z room c block h e i full =
+    grind (arith, present_fetched, targets_free, (fetched-by z c h block (missing z room c block [] e)).waits)
 
 -- ---- the causes in their order
 

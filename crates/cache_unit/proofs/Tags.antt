@@ -17,28 +17,13 @@ use Rattle.cache_unit.specs.Causes.{is_in_use}
 use Rattle.cache_unit.specs.Sound.{loads_of_field, loads_of, owing, OwesSound, IsSound}
 use Rattle.cache_unit.proofs.Keeps.{count_by-all, owing-set, loads-set}
 use Rattle.miss_registers.specs.Registers.{tags_of_field, tags_of, waiting_tags, tag_waits, register_at, awaited, field_of}
-use Rattle.std.proofs.Common.{zero, ◌&&◌, not, Option, Some, None, is_some, length-set, ◌-◌, ◌⊎◌, inl, inr, take, subst, slice_get, ◌/◌, filter}
-use Rattle.std.specs.List.{remove}
-use Rattle.std.proofs.lemmas.List.Sums.{sum_by-set, sum_by-remove}
-use Rattle.flat_model.specs.declared.Word.{Word}
-use Rattle.flat_model.specs.Words.{merged}
-use Rattle.cache_unit.specs.Steps.{answered, filled_in, settled_in, processed, moved, process_step, process_entry}
-use Rattle.cache_unit.specs.Sound.{HasFrame, no_entry, entry_at, HasInStack, Stands, FilledBy}
-use Rattle.flat_model.specs.declared.Lanes.{Lanes}
+use Rattle.std.proofs.Common.{Some, ◌-◌, slice_get, ◌/◌}
 use Rattle.input_stack.specs.declared.Entry.{Entry}
-use Rattle.cache_unit.specs.State.{frame_of, with_cell, frame_at, field_at, UnitState, clear_field, free_register, is_live, Frames, Frame, empty_frame}
-use Rattle.cache_unit.specs.Parts.{filled_live, settled_if, CanFill}
-use Rattle.std.proofs.lemmas.List.{get_or-set_same, get_or-set_other, get_or_past, take_more}
-use Rattle.std.proofs.lemmas.List.Edits.{length-remove, get_or-remove_below, get_or-remove_above}
-use Rattle.std.proofs.lemmas.Bool.{false≢true, cases_lt, cases_eq, cases_order, false_from_ne_true}
-use Rattle.std.proofs.lemmas.Option.{none-some, same_Some, slice_get_within, get_or_from_slice_get}
-use Rattle.flat_model.specs.declared.limits.TheConstants.{MAX_REPLIES}
-use Rattle.flat_model.specs.Places.{is_number}
-use Rattle.cache_unit.proofs.Lists.{list_all-at, read_set, place_of-set, tally-append, tally-map, tally-filter, frame_of-some}
+use Rattle.cache_unit.specs.State.{frame_at}
+use Rattle.std.proofs.lemmas.Bool.{cases_lt}
+use Rattle.cache_unit.proofs.Lists.{frame_of-some}
 use Rattle.cache_unit.specs.SoundCache.{HasWord, IsSoundCache}
-use Rattle.cache_unit.specs.Counts.{bit, tally}
-use Rattle.miss_registers.specs.Registers.{finished, finished_fields, finished_field, is_done}
-use Rattle.cache_directory.specs.Frames.{settled, times_in}
+use Rattle.cache_directory.specs.Frames.{times_in}
 use Rattle.cache_unit.proofs.Keeps.{Taken-from}
 use Rattle.std.proofs.lemmas.List.Sums.{length-filter}
 use Rattle.cache_directory.specs.Frames as dir
@@ -92,7 +77,8 @@ count-flat_map p f n h (x ∷ xs) =
 pub count-waiting : (p : ℕ → Bool) (rs : List Register) → count_by p (waiting_tags rs) ≡ sum_by (loads_of p) rs
 unfolding waiting_tags
 count-waiting p =
-    count-flat_map p tags_of (loads_of p) (λ r. count-flat_map p tags_of_field (loads_of_field p) (λ f. count_by-map p _ f.waiting) r.fields)
+    count-flat_map p tags_of (loads_of p)
+    (λ r. count-flat_map p tags_of_field (loads_of_field p) (λ f. count_by-map p _ f.waiting) r.fields)
 
 pub owing-tags : (p : ℕ → Bool) (ready : List Reply) (rs : List Register)
     → owing p ready rs ≡ count_by p (map (λ r. r.tag) ready ++ waiting_tags rs)
@@ -192,8 +178,12 @@ sound_cache z c h = record {
   entries = there;
   entries_apart = apart;
   once = λ tag. let b = h.owes.once tag in
-      omega (arith, length-filter (λ t. t == tag) (tags c), ap (count_by (λ t. t == tag)) (tags-shown c h.registers),
-      owing-tags (λ t. t == tag) c.ready c.registers);
+      omega (
+        arith,
+        length-filter (λ t. t == tag) (tags c),
+        ap (count_by (λ t. t == tag)) (tags-shown c h.registers),
+        owing-tags (λ t. t == tag) c.ready c.registers,
+      );
 }
   where
     held_once : (f b : ℕ) → (frame_at c f).block ≡ Some b → 1 ≤ times_in (dir.order_of c.directory (f / z.ways)) f
@@ -218,8 +208,3 @@ sound_cache z c h = record {
 
     apart : (j k : ℕ) (x y : Entry) → slice_get c.stack j ≡ Some x → slice_get c.stack k ≡ Some y → x.slot ≡ y.slot → x.i ≡ y.i → j ≡ k
     apart j k x y gj gk es ei = grind (arith, never, cases_lt)
-
--- the same of what a unit shows
-pub sound_shown : (z : Sizes) (c : Cache) → IsSound z c → (u : UnitState) → record { sizes = z; cache = c } ≡ u
-    → IsSoundCache u.sizes u.cache
-sound_shown z c h u e = grind (arith, sound_cache)

@@ -2,7 +2,8 @@ use Rattle.std.proofs.Common.{◌+◌, ◌<◌, true, false, [], ◌∷◌, leng
 use Rattle.flat_model.specs.Words.{has_any}
 use Rattle.cache_directory.specs.Frames.{frame_at, zero_cell}
 use Rattle.cache_unit.specs.Causes.{dirty_from}
-use Rattle.cache_unit.proofs.Begins.{queued_cell, held-cells, dirty_more, dirty-length, take_all}
+use Rattle.std.proofs.lemmas.List.{take_all}
+use Rattle.cache_unit.proofs.Begins.{queued_cell, held-cells, dirty_more, dirty-length}
 use Rattle.cache_unit.proofs.victim.dirty_words.Goals.{then-has_any, else-has_any}
 use Rattle.cache_unit.proofs.victim.dirty_words.Goals as goal
 

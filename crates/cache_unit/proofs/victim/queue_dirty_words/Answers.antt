@@ -3,7 +3,8 @@ use Rattle.flat_model.specs.Words.{has_any, zero_word}
 use Rattle.cache_directory.specs.Frames.{frame_at}
 use Rattle.write_queue.specs.Queue.{queue as queue_of}
 use Rattle.cache_unit.specs.Causes.{dirty_from}
-use Rattle.cache_unit.proofs.Begins.{queue_one_more, held-cells, dirty_more, dirty_within, take_all}
+use Rattle.std.proofs.lemmas.List.{take_all}
+use Rattle.cache_unit.proofs.Begins.{queue_one_more, held-cells, dirty_more, dirty_within}
 use Rattle.cache_unit.proofs.victim.queue_dirty_words.Goals.{then-has_any, else-has_any}
 use Rattle.cache_unit.proofs.victim.queue_dirty_words.Goals as goal
 

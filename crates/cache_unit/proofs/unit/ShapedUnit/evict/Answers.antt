@@ -1,10 +1,10 @@
+use Rattle.cache_unit.proofs.Tags.{sound_cache}
 use Rattle.std.proofs.Common.{◌≡◌, ℕ, ◌*◌, ◌<◌, ◌≤◌, arith, ap, refl, sym, ◌∙◌, subst, Some, None, true, false, le-ltb, lt-ltb}
-use Rattle.cache_unit.specs.Steps.{evict_step}
 use Rattle.cache_unit.specs.View.{cache_of}
 use Rattle.cache_unit.proofs.Lists.{frame_of-some}
 use Rattle.cache_unit.proofs.Choosing.{lacks-true, lacks-false}
-use Rattle.cache_unit.proofs.Requesting.{evict_by, evicted_is}
-use Rattle.cache_unit.proofs.Fetching.{keeps, sound_of}
+use Rattle.cache_unit.proofs.Requesting.{evict_by}
+use Rattle.cache_unit.proofs.Fetching.{makes, made}
 use Rattle.cache_unit.proofs.unit.ShapedUnit.evict.Goals as goal
 
 pub overflow_mul-first : goal.overflow_mul-first
@@ -20,7 +20,7 @@ returns-then-first-words c =
     let ge = rw c.from.ensures at (subst (λ n. n ≤ c.from.result * z.block_words) c.from-words.ensures
     (rw (← c.from-2.ensures) c.if-first-words.true)) in
     let is = evict_by z _ _ false _ _ (le-ltb _ _ ge) refl refl in
-    keeps s c.self.invariant _ c.self.view_is (λ y k. evict_step y k c.args.block) _ _ _ is refl
+    rw (← c.self.view_is) (makes s.sizes _ c.self.invariant.sound _ _ _ _ is _ refl)
 
 -- the block's first word is in memory
 within : (first words block number block_words size : ℕ) → first ≡ block → words ≡ size → number ≡ block_words → first * number < words
@@ -34,7 +34,7 @@ returns-in_default c =
     let lt = within _ _ _ _ _ _ c.from.ensures c.from-words.ensures c.from-2.ensures c.if-first-words.false in
     let none = sym c.look.ensures.found ∙ c.in_default.is in
     let is = evict_by z _ _ true None _ (lt-ltb _ _ lt) none refl in
-    keeps s c.self.invariant _ c.self.view_is (λ y k. evict_step y k c.args.block) _ _ _ is refl
+    rw (← c.self.view_is) (makes s.sizes _ c.self.invariant.sound _ _ _ _ is _ refl)
 
 pub returns-then-room-dirty : goal.returns-then-room-dirty
 returns-then-room-dirty c =
@@ -46,7 +46,7 @@ returns-then-room-dirty c =
     let lacks = lacks-true z _ c.self.invariant.sound _ c.in-Some.frame holds
     c.dirty_words-dirty.result _ count (rw (← c.self.invariant.limit) c.room.ensures.value) c.if-room-dirty.true in
     let is = evict_by z _ _ true (Some c.in-Some.frame) true (lt-ltb _ _ lt) holds lacks in
-    keeps s c.self.invariant _ c.self.view_is (λ y k. evict_step y k c.args.block) _ _ _ is refl
+    rw (← c.self.view_is) (makes s.sizes _ c.self.invariant.sound _ _ _ _ is _ refl)
 
 pub give_up-requires : goal.give_up-requires
 give_up-requires c = grind arith
@@ -63,9 +63,8 @@ returns c =
     let lacks = lacks-false z _ c.self.invariant.sound _ c.in-Some.frame holds
     c.dirty_words-dirty.result _ count (rw (← c.self.invariant.limit) c.room.ensures.value) c.if-room-dirty.false in
     let is = evict_by z now _ true (Some c.in-Some.frame) false (lt-ltb _ _ lt) holds lacks in
-    let after = evicted_is z now u _ c.in-Some.frame c.self.view_is (ap (λ x. x.cache) is) in
-    record {
-      sound = sound_of s c.self.invariant u c.self.view_is;
-      answer = grind arith;
-      unit = grind arith;
-    }
+    rw (← c.self.view_is) (record {
+      sound = sound_cache _ _ c.self.invariant.sound;
+      answer = sym (ap (λ x. x.answer) is);
+      unit = (rw (← c.self.view_is) at c.give_up.ensures) ∙ ap (made z) (sym (ap (λ x. x.cache) is));
+    })

@@ -1,11 +1,7 @@
 use Rattle.std.proofs.Common.{◌≡◌, ◌+◌, ◌*◌, ◌%◌, ◌<◌, ℕ, Some, arith, ap, sym, ◌∙◌, subst}
-use Rattle.memory_banks.specs.Banks.{HasSent}
 use Rattle.miss_registers.specs.Whole.{IsWhole}
 use Rattle.cache_unit.specs.View.{cache_of}
-use Rattle.cache_unit.specs.State.{UnitState, is_present}
-use Rattle.cache_unit.specs.Steps.{fetched, fetches}
-use Rattle.cache_unit.specs.Miss.{MayTake}
-use Rattle.cache_unit.proofs.Fetching.{cache_by, value_by, room_for_all, fetched-shown, IsSound-missed}
+use Rattle.cache_unit.proofs.Fetching.{room_for_all, fetched-shown, IsSound-missed, made}
 use Rattle.cache_unit.proofs.Choosing.{takes_from, absent_frame, no_live, fetches-shown}
 use Rattle.cache_directory.specs.Frames as dir
 use Rattle.miss_registers.specs.Registers as regs
@@ -17,9 +13,8 @@ bring_in-requires g c =
     let h = c.self.invariant.sound in
     let z = s.sizes in
     let room = g.L.Lines.room_of _ in
-    let P : UnitState → Type 0 = λ v. MayTake v.sizes room v.cache c.args.block c.args.places in
-    let t = takes_from z _ h room _ _ (subst P (sym c.self.view_is) c.requires.may_take) in
-    let absent = absent_frame (cache_of s) _ (ap (λ v. is_present v.cache c.args.block) c.self.view_is ∙ c.requires.absent) in
+    let t = takes_from z _ h room _ _ (rw (← c.self.view_is) at c.requires.may_take) in
+    let absent = absent_frame (cache_of s) _ (rw (← c.self.view_is) at c.requires.absent) in
     let live = no_live s.directory.frames s.registers _ h.tied absent in
     let in_memory =
     rw (sym c.self.view_is) at c.requires.in_memory in
@@ -52,9 +47,8 @@ invariant_of-self g c =
     let room = g.L.Lines.room_of _ in
     let f = c.args.places.frame in
     let slot = c.args.places.slot in
-    let P : UnitState → Type 0 = λ v. MayTake v.sizes room v.cache c.args.block c.args.places in
-    let t = takes_from z _ h room _ _ (subst P (sym c.self.view_is) c.requires.may_take) in
-    let absent = absent_frame (cache_of s) _ (ap (λ v. is_present v.cache c.args.block) c.self.view_is ∙ c.requires.absent) in
+    let t = takes_from z _ h room _ _ (rw (← c.self.view_is) at c.requires.may_take) in
+    let absent = absent_frame (cache_of s) _ (rw (← c.self.view_is) at c.requires.absent) in
     let in_memory =
     rw (sym c.self.view_is) at c.requires.in_memory in
     let b = c.bring_in.ensures in
@@ -73,25 +67,20 @@ returns-clause-unit g c =
     let room = g.L.Lines.room_of _ in
     let f = c.args.places.frame in
     let slot = c.args.places.slot in
-    let P : UnitState → Type 0 = λ v. MayTake v.sizes room v.cache c.args.block c.args.places in
-    let may = subst P (sym c.self.view_is) c.requires.may_take in
+    let may = rw (← c.self.view_is) at c.requires.may_take in
     let t = takes_from z _ h room _ _ may in
-    let absent = ap (λ v. is_present v.cache c.args.block) c.self.view_is ∙ c.requires.absent in
+    let absent = rw (← c.self.view_is) at c.requires.absent in
     let of_set = t.of_set ∙ ap (λ n. c.args.block % n) h.sets in
     let shown = fetched-shown z _ _ f slot h.directory of_set absent may.frame may.slot in
     let b = c.bring_in.ensures in
-    rw (b.directory, b.registers, b.queue) (cache_by z now _ _ (λ y k. fetched y k c.args.block) c.self.view_is shown)
+    rw (b.directory, b.registers, b.queue, ← c.self.view_is) (ap (made z) shown)
 
 pub returns-clause-lines : goal.returns-clause-lines
 returns-clause-lines g c =
     let s = c.self.inside in
     let z = s.sizes in
     let now = cache_of s in
-    let room = g.L.Lines.room_of _ in
-    let P : UnitState → Type 0 = λ v. MayTake v.sizes room v.cache c.args.block c.args.places in
-    let may = subst P (sym c.self.view_is) c.requires.may_take in
-    let absent = ap (λ v. is_present v.cache c.args.block) c.self.view_is ∙ c.requires.absent in
+    let may = rw (← c.self.view_is) at c.requires.may_take in
+    let absent = rw (← c.self.view_is) at c.requires.absent in
     let sent = fetches-shown z now _ _ absent may.slot in
-    let all = value_by z now _ (λ y k. fetches y k c.args.block) _ c.self.view_is sent in
-    let Q = HasSent g.L.Lines.sent_to g.L.Lines.room_of g.L.Lines.same _ _ in
-    subst Q all c.bring_in.ensures.lines
+    rw (← c.self.view_is, ← sent) c.bring_in.ensures.lines

@@ -1,6 +1,4 @@
 use Rattle.std.proofs.Common.{◌∙◌}
-use Rattle.cache_unit.specs.View.{cache_of}
-use Rattle.cache_unit.proofs.Fetching.{value_by}
 use Rattle.cache_unit.proofs.Choosing.{field-shown}
 use Rattle.cache_unit.specs.Views as views
 use Rattle.cache_unit.proofs.unit.ShapedUnit.field.Goals as goal
@@ -10,4 +8,4 @@ returns c =
     let s = c.self.inside in
     let sizes = s.sizes in
     let shown = field-shown sizes _ _ _ c.self.invariant.sound in
-    value_by sizes (cache_of s) _ (λ z k. views.field_view z k c.args.slot c.args.i) _ c.self.view_is (c.field.ensures.answer ∙ shown)
+    rw (← c.self.view_is) (c.field.ensures.answer ∙ shown)

@@ -1,9 +1,5 @@
-use Rattle.std.proofs.Common.{arith, sym, ◌∙◌, subst, mod-lt, ap, ap₂, Some, None, false, lt-ltb, le-ltb, refl}
+use Rattle.std.proofs.Common.{arith, sym, ◌∙◌, mod-lt, Some, None, lt-ltb, le-ltb, refl}
 use Rattle.cache_unit.specs.View.{cache_of}
-use Rattle.cache_unit.specs.State.{UnitState}
-use Rattle.cache_unit.specs.Causes.{first_cause, miss_causes}
-use Rattle.cache_unit.specs.Miss.{MayTake}
-use Rattle.cache_unit.proofs.Fetching.{value_by}
 use Rattle.cache_unit.proofs.Choosing.{chosen_can, causes_are, find_places}
 use Rattle.cache_unit.proofs.unit.ShapedUnit.find_places.Goals as goal
 
@@ -11,8 +7,9 @@ pub returns-in_default-clause-refused : goal.returns-in_default-clause-refused
 returns-in_default-clause-refused g c =
     let s = c.self.inside in
     let room = g.L.Lines.room_of _ in
-    let t = causes_are s.sizes _ c.self.invariant.sound room _ None _ _ _ (sym c.free_slot.ensures.answer ∙ c.in_default.is) refl refl refl in
-    sym (value_by s.sizes (cache_of s) _ (λ y k. first_cause (miss_causes y room k c.args.block)) _ c.self.view_is (sym t))
+    let t = causes_are s.sizes _ c.self.invariant.sound room _ None _ _ _ (sym c.free_slot.ensures.answer ∙ c.in_default.is) refl refl
+    refl in
+    rw (← c.self.view_is) t
 
 pub returns-in_default-choose_frame-clause-refused : goal.returns-in_default-choose_frame-clause-refused
 returns-in_default-choose_frame-clause-refused g c =
@@ -20,7 +17,7 @@ returns-in_default-choose_frame-clause-refused g c =
     let room = g.L.Lines.room_of _ in
     let t = causes_are s.sizes _ c.self.invariant.sound room _ (Some c.in-Some.slot) None _ _ (sym c.in-Some.ensures.answer)
     (sym c.choose_frame.ensures ∙ c.in_default-choose_frame.is) refl refl in
-    sym (value_by s.sizes (cache_of s) _ (λ y k. first_cause (miss_causes y room k c.args.block)) _ c.self.view_is (sym t))
+    rw (← c.self.view_is) t
 
 pub choose_frame-requires : goal.choose_frame-requires
 choose_frame-requires g c = grind arith
@@ -42,9 +39,10 @@ returns-then-room-words_owed-clause-refused g c =
     let r = c.room.ensures.value in
     let limit = c.self.invariant.limit in
     let w = c.words_owed.ensures in
-    let t = causes_are z _ c.self.invariant.sound room _ (Some c.in-Some.slot) (Some c.in-Some-choose_frame.frame) _ _ (sym c.in-Some.ensures.answer)
+    let t = causes_are z _ c.self.invariant.sound room _ (Some c.in-Some.slot) (Some c.in-Some-choose_frame.frame) _ _
+    (sym c.in-Some.ensures.answer)
     (sym c.in-Some-choose_frame.ensures) (lt-ltb _ _ (omega arith)) refl in
-    sym (value_by z now _ (λ y k. first_cause (miss_causes y room k c.args.block)) _ c.self.view_is (sym t))
+    rw (← c.self.view_is) t
 
 pub returns-then-lacks_room-clause-refused : goal.returns-then-lacks_room-clause-refused
 returns-then-lacks_room-clause-refused g c =
@@ -55,10 +53,11 @@ returns-then-lacks_room-clause-refused g c =
     let r = c.room.ensures.value in
     let limit = c.self.invariant.limit in
     let w = c.words_owed.ensures in
-    let t = causes_are z _ c.self.invariant.sound room _ (Some c.in-Some.slot) (Some c.in-Some-choose_frame.frame) _ _ (sym c.in-Some.ensures.answer)
+    let t = causes_are z _ c.self.invariant.sound room _ (Some c.in-Some.slot) (Some c.in-Some-choose_frame.frame) _ _
+    (sym c.in-Some.ensures.answer)
     (sym c.in-Some-choose_frame.ensures)
     (le-ltb _ _ (omega arith)) (sym c.lacks_room.ensures ∙ c.if-lacks_room.true) in
-    sym (value_by z now _ (λ y k. first_cause (miss_causes y room k c.args.block)) _ c.self.view_is (sym t))
+    rw (← c.self.view_is) t
 
 pub returns-clause-found : goal.returns-clause-found
 returns-clause-found g c =
@@ -71,6 +70,4 @@ returns-clause-found g c =
     let w = c.words_owed.ensures in
     let t = find_places z _ c.self.invariant.sound room _ c.in-Some.slot c.in-Some-choose_frame.frame (sym c.in-Some.ensures.answer)
     (sym c.in-Some-choose_frame.ensures) (omega arith) (sym c.lacks_room.ensures ∙ c.if-lacks_room.false) in
-    let P : UnitState → Type 0 = λ v. MayTake v.sizes room v.cache c.args.block
-    (record { frame = c.in-Some-choose_frame.frame; slot = c.in-Some.slot }) in
-    subst P c.self.view_is t
+    rw (← c.self.view_is) t

@@ -1,13 +1,9 @@
 use Rattle.std.proofs.Common.{is_some, ap, ap₂, sym, ◌∙◌}
 use Rattle.flat_model.specs.Words.{zero_word, merged}
-use Rattle.cache_unit.specs.State.{frame_of}
-use Rattle.cache_unit.specs.Causes.{found}
-use Rattle.cache_unit.specs.Parts.{finding_of}
 use Rattle.cache_unit.specs.View.{cache_of}
 use Rattle.cache_unit.proofs.Present.{live_for-some, cell_found, finding-processed, finding-written, finding-stacked, finding-coming}
 use Rattle.cache_unit.proofs.Present.{finding-resident, zero_from}
 use Rattle.cache_unit.proofs.Begins.{held-cells}
-use Rattle.cache_unit.proofs.Fetching.{value_by}
 use Rattle.cache_unit.specs.declared.unit.present.Finding.TheVariants.{Here, Coming}
 use Rattle.cache_unit.proofs.unit.ShapedUnit.find_word.Goals as goal
 use Rattle.cache_unit.proofs.Lists.{frame_of-some}
@@ -15,7 +11,7 @@ use Rattle.cache_unit.proofs.Lists.{frame_of-some}
 pub word-buffer-requires : goal.word-buffer-requires
 word-buffer-requires c =
     let s = c.self.inside in
-    let held = ap (λ v. frame_of v.cache c.args.block) c.self.view_is ∙ c.requires.held in
+    let held = rw (← c.self.view_is) at c.requires.held in
     let b = (frame_of-some s.directory.frames _ _ held).1 in
     let l = rw (sym c.self.view_is) at c.requires.word in
     rw (sym (held-cells s.sizes.ways s.sizes.block_words s.directory _ c.self.invariant.sound.directory (ap is_some b))) at l
@@ -24,9 +20,9 @@ pub returns-in_default : goal.returns-in_default
 returns-in_default c =
     let s = c.self.inside in
     let now = cache_of s in
-    let held = ap (λ v. frame_of v.cache c.args.block) c.self.view_is ∙ c.requires.held in
+    let held = rw (← c.self.view_is) at c.requires.held in
     let buffer = c.word-buffer.ensures.word ∙ sym (ap (λ x. x.word) (cell_found now _ _ _ held)) in
-    value_by s.sizes now _ (λ y k. finding_of k c.args.block c.args.i (found k c.args.block c.args.i)) _ c.self.view_is
+    rw (← c.self.view_is)
     (ap Here buffer ∙ sym (finding-resident now _ _ (sym c.live_for.ensures.answer ∙ c.in_default.is)))
 
 pub missing_code-requires : goal.missing_code-requires
@@ -36,22 +32,22 @@ pub returns-in_default-missing_code : goal.returns-in_default-missing_code
 returns-in_default-missing_code c =
     let s = c.self.inside in
     let now = cache_of s in
-    let held = ap (λ v. frame_of v.cache c.args.block) c.self.view_is ∙ c.requires.held in
+    let held = rw (← c.self.view_is) at c.requires.held in
     let buffer = c.word-buffer.ensures.word ∙ sym (ap (λ x. x.word) (cell_found now _ _ _ held)) in
     let is = finding-processed now _ _ c.in-Some.slot (sym c.in-Some.ensures.answer)
     (sym c.missing_code.ensures ∙ c.in_default-missing_code.is) in
-    value_by s.sizes now _ (λ y k. finding_of k c.args.block c.args.i (found k c.args.block c.args.i)) _ c.self.view_is
+    rw (← c.self.view_is)
     (ap Here buffer ∙ sym is)
 
 pub returns-then-has_all : goal.returns-then-has_all
 returns-then-has_all c =
     let s = c.self.inside in
     let now = cache_of s in
-    let held = ap (λ v. frame_of v.cache c.args.block) c.self.view_is ∙ c.requires.held in
+    let held = rw (← c.self.view_is) at c.requires.held in
     let buffer = c.word-buffer.ensures.word ∙ sym (ap (λ x. x.word) (cell_found now _ _ _ held)) in
     let is = finding-written now _ _ c.in-Some.slot (sym c.in-Some.ensures.answer) c.in-Some-missing_code.code
     (sym c.in-Some-missing_code.ensures) (sym c.has_all.ensures ∙ c.if-has_all.true) in
-    value_by s.sizes now _ (λ y k. finding_of k c.args.block c.args.i (found k c.args.block c.args.i)) _ c.self.view_is
+    rw (← c.self.view_is)
     (ap Here buffer ∙ sym is)
 
 pub returns-in-Some-find : goal.returns-in-Some-find
@@ -59,13 +55,13 @@ returns-in-Some-find c =
     let s = c.self.inside in
     let z = s.sizes in
     let now = cache_of s in
-    let held = ap (λ v. frame_of v.cache c.args.block) c.self.view_is ∙ c.requires.held in
+    let held = rw (← c.self.view_is) at c.requires.held in
     let buffer = c.word-buffer.ensures.word ∙ sym (ap (λ x. x.word) (cell_found now _ _ _ held)) in
     let code = c.in-Some-missing_code.code in
     let word = c.in-Some-find.word in
     let is = finding-stacked now _ _ c.in-Some.slot (sym c.in-Some.ensures.answer) code
     (sym c.in-Some-missing_code.ensures) word (sym c.has_all.ensures ∙ c.if-has_all.false) (sym c.in-Some-find.ensures) in
-    value_by z now _ (λ y k. finding_of k c.args.block c.args.i (found k c.args.block c.args.i)) _ c.self.view_is
+    rw (← c.self.view_is)
     (ap Here (cc (c.merge.ensures, buffer)) ∙ sym is)
 
 pub waiting-requires : goal.waiting-requires
@@ -75,12 +71,12 @@ pub returns-in-None : goal.returns-in-None
 returns-in-None c =
     let s = c.self.inside in
     let now = cache_of s in
-    let held = ap (λ v. frame_of v.cache c.args.block) c.self.view_is ∙ c.requires.held in
+    let held = rw (← c.self.view_is) at c.requires.held in
     let buffer = c.word-buffer.ensures.word ∙ sym (ap (λ x. x.word) (cell_found now _ _ _ held)) in
     let code = c.in-Some-missing_code.code in
     let is = finding-coming now _ _ c.in-Some.slot (sym c.in-Some.ensures.answer) code
     (sym c.in-Some-missing_code.ensures) (sym c.has_all.ensures ∙ c.if-has_all.false) (sym c.find.ensures ∙ c.in-None.is) in
     let held_bytes = c.merge-in-None.ensures ∙ ap (λ w. merged w c.word-buffer.result code) (zero_from _ c.default.ensures)
     ∙ ap (λ w. merged zero_word w code) buffer in
-    value_by s.sizes now _ (λ y k. finding_of k c.args.block c.args.i (found k c.args.block c.args.i)) _ c.self.view_is
+    rw (← c.self.view_is)
     (ap₂ (λ w n. Coming c.in-Some.slot w code n) held_bytes c.waiting.ensures ∙ sym is)

@@ -1,18 +1,15 @@
-use Rattle.std.proofs.Common.{◌+◌, ap, sym, ◌∙◌, ◌++◌, Some}
+use Rattle.std.proofs.Common.{◌+◌, ap, sym, ◌∙◌, ◌++◌}
 use Rattle.write_queue.specs.Queue.{queue as queue_of}
 use Rattle.cache_unit.specs.View.{cache_of}
-use Rattle.cache_unit.specs.State.{frame_of}
-use Rattle.cache_unit.specs.Causes.{lacks_places}
-use Rattle.cache_unit.specs.Steps.{evicted}
-use Rattle.cache_unit.proofs.Fetching.{cache_by}
+use Rattle.cache_unit.proofs.Fetching.{made}
 use Rattle.cache_unit.proofs.Choosing.{owes_block, is_released, can_give_up, IsSound-given_up, given_up-shown}
 use Rattle.cache_unit.proofs.unit.ShapedUnit.give_up.Goals as goal
 
 pub vacate-requires : goal.vacate-requires
 vacate-requires c =
     let z = c.self.inside.sizes in
-    let holds = ap (λ v. frame_of v.cache c.args.block) c.self.view_is ∙ c.requires.holds in
-    let room = ap (λ v. lacks_places v.sizes v.cache (Some c.args.frame)) c.self.view_is ∙ c.requires.room in
+    let holds = rw (← c.self.view_is) at c.requires.holds in
+    let room = rw (← c.self.view_is) at c.requires.room in
     let r = can_give_up z _ c.self.invariant.sound _ _ holds room in
     let owes = owes_block z _ c.self.invariant.sound _ _ holds in
     record { whole = c.self.invariant.sound.directory; frame = r.0; fits = r.1; room = rw (owes, c.self.invariant.limit) r.2 }
@@ -26,8 +23,8 @@ pub invariant_of-self : goal.invariant_of-self
 invariant_of-self c =
     let s = c.self.inside in
     let z = s.sizes in
-    let holds = ap (λ v. frame_of v.cache c.args.block) c.self.view_is ∙ c.requires.holds in
-    let room = ap (λ v. lacks_places v.sizes v.cache (Some c.args.frame)) c.self.view_is ∙ c.requires.room in
+    let holds = rw (← c.self.view_is) at c.requires.holds in
+    let room = rw (← c.self.view_is) at c.requires.room in
     let r = can_give_up z _ c.self.invariant.sound _ _ holds room in
     let owes = owes_block z _ c.self.invariant.sound _ _ holds in
     let left = c.vacate.ensures.directory ∙ is_released z _ c.self.invariant.sound _ _ holds in
@@ -44,9 +41,9 @@ returns c =
     let s = c.self.inside in
     let z = s.sizes in
     let now = cache_of s in
-    let holds = ap (λ v. frame_of v.cache c.args.block) c.self.view_is ∙ c.requires.holds in
+    let holds = rw (← c.self.view_is) at c.requires.holds in
     let e = given_up-shown z _ c.self.invariant.sound _ _ holds in
     let owes = owes_block z _ c.self.invariant.sound _ _ holds in
     let left = c.vacate.ensures.directory ∙ is_released z _ c.self.invariant.sound _ _ holds in
     let queued = c.vacate.ensures.queue ∙ ap (λ ws. queue_of (s.queue.entries ++ ws) s.queue.limit) owes in
-    rw (left, c.retire.ensures.retired, queued) (cache_by z now _ _ (λ y k. evicted y k c.args.block c.args.frame) c.self.view_is e)
+    rw (left, c.retire.ensures.retired, queued, ← c.self.view_is) (ap (made z) e)

@@ -9,7 +9,8 @@ use Rattle.cache_unit.proofs.unit.ShapedUnit.load.Goals as goal
 pub returns-then-is_outside : goal.returns-then-is_outside
 returns-then-is_outside g c =
     let u = c.args.self.now in
-    let is = load_by u.sizes (g.L.Lines.room_of _) u.cache _ _ _ _ _ _ (sym c.is_outside.ensures.outside ∙ c.if-is_outside.true) refl refl refl in
+    let is = load_by u.sizes (g.L.Lines.room_of _) u.cache _ _ _ _ _ _ (sym c.is_outside.ensures.outside ∙ c.if-is_outside.true) refl refl
+    refl in
     refuses _ _ _ u _ c.is_outside.ensures.sound _ (g.met.L.Lines.same_self _) _ is _ _ refl refl
 
 pub returns-then-is_in_use : goal.returns-then-is_in_use

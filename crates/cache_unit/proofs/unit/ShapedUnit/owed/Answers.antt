@@ -1,7 +1,6 @@
-use Rattle.std.proofs.Common.{length, arith}
+use Rattle.cache_unit.proofs.Tags.{sound_cache}
+use Rattle.std.proofs.Common.{arith}
 use Rattle.cache_unit.specs.View.{cache_of}
-use Rattle.cache_unit.specs.State.{tags}
-use Rattle.cache_unit.proofs.Fetching.{value_by, sound_of}
 use Rattle.cache_unit.proofs.Tags.{owing-all, length-tags}
 use Rattle.cache_unit.proofs.unit.ShapedUnit.owed.Goals as goal
 
@@ -21,7 +20,7 @@ returns-clause-value c =
     let now = cache_of s in
     let b = length-tags (cache_of s) c.self.invariant.sound.registers in
     let x = c.awaited.ensures.answer in
-    value_by s.sizes now _ (λ z k. length (tags k)) _ c.self.view_is (omega arith)
+    rw (← c.self.view_is) (omega arith)
 
 pub returns-clause-few : goal.returns-clause-few
 returns-clause-few c =
@@ -33,4 +32,4 @@ returns-clause-few c =
     rw (← c.self.view_is) (omega arith)
 
 pub returns-clause-sound : goal.returns-clause-sound
-returns-clause-sound c = sound_of c.self.inside c.self.invariant _ c.self.view_is
+returns-clause-sound c = rw (← c.self.view_is) (sound_cache _ _ c.self.invariant.sound)

@@ -1,7 +1,8 @@
+use Rattle.cache_unit.proofs.Tags.{sound_cache}
 use Rattle.std.proofs.Common.{rules, sym, ◌∙◌, refl, subst}
 use Rattle.cache_unit.specs.Steps.{process_step}
 use Rattle.cache_unit.proofs.Keeps.{Taken-from, can_finish, can_fill, can_answer, IsSound-processed, shown_after, processes}
-use Rattle.cache_unit.proofs.Fetching.{makes, sound_of}
+use Rattle.cache_unit.proofs.Fetching.{makes}
 use Rattle.cache_directory.specs.Frames as dir
 use Rattle.miss_registers.specs.Registers as regs
 use Rattle.cache_unit.proofs.unit.ShapedUnit.process.Goals as goal
@@ -37,7 +38,8 @@ invariant_of-self-2 c =
     let w = rw f.registers at (f.whole s.sizes.block_words s.sizes.regs c.self.invariant.sound.registers) in
     record {
       sound = rw (c.fill_live.ensures.filled, f.registers, c.in-Some.ensures.taken, f.live, f.keep, f.last, c.answer_all.ensures, f.send)
-          (IsSound-processed s.sizes _ c.self.invariant.sound _ e (Taken-from s.stack _ e (sym c.remove.ensures.value ∙ c.in-Some.is)) _ d w);
+          (IsSound-processed s.sizes _ c.self.invariant.sound _ e (Taken-from s.stack _ e (sym c.remove.ensures.value ∙ c.in-Some.is)) _ d
+          w);
       limit = c.self.invariant.limit;
     }
 
@@ -48,9 +50,22 @@ returns c =
     let some = sym c.remove.ensures.value ∙ c.in-Some.is in
     let shown = shown_after s.sizes _ c.self.invariant.sound _ e (Taken-from s.stack _ e some) in
     let f = c.finish_word-end.ensures in
-    rw (c.fill_live.ensures.filled, f.registers, c.in-Some.ensures.taken, c.answer_all.ensures, f.send, f.live, f.keep, f.last)
-    (makes s c.self.invariant _ c.self.view_is (λ z k. process_step k c.args.place) _ _ _ (processes _ _ e some) _ shown)
+    rw (
+      c.fill_live.ensures.filled,
+      f.registers,
+      c.in-Some.ensures.taken,
+      c.answer_all.ensures,
+      f.send,
+      f.live,
+      f.keep,
+      f.last,
+      ← c.self.view_is,
+    ) (makes s.sizes _ c.self.invariant.sound _ _ _ _ (processes _ _ e some) _ shown)
 
 pub returns-in_default : goal.returns-in_default
 unfolding process_step
-returns-in_default c = record { sound = sound_of _ c.self.invariant _ c.self.view_is; answer = search rules; unit = search rules }
+returns-in_default c = record {
+  sound = rw (← c.self.view_is) (sound_cache _ _ c.self.invariant.sound);
+  answer = search rules;
+  unit = search rules;
+}

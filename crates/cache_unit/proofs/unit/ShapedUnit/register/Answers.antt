@@ -1,6 +1,4 @@
 use Rattle.std.proofs.Common.{◌∙◌}
-use Rattle.cache_unit.specs.View.{cache_of}
-use Rattle.cache_unit.proofs.Fetching.{value_by}
 use Rattle.cache_unit.proofs.Choosing.{register-shown}
 use Rattle.cache_unit.specs.Views as views
 use Rattle.cache_unit.proofs.unit.ShapedUnit.register.Goals as goal
@@ -10,4 +8,4 @@ returns c =
     let s = c.self.inside in
     let sizes = s.sizes in
     let shown = register-shown sizes _ _ c.self.invariant.sound in
-    value_by sizes (cache_of s) _ (λ z k. views.register_view k c.args.slot) _ c.self.view_is (c.register.ensures.answer ∙ shown)
+    rw (← c.self.view_is) (c.register.ensures.answer ∙ shown)

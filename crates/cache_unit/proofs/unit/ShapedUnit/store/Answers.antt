@@ -9,7 +9,8 @@ use Rattle.cache_unit.proofs.unit.ShapedUnit.store.Goals as goal
 pub returns-then-is_outside : goal.returns-then-is_outside
 returns-then-is_outside g c =
     let u = c.args.self.now in
-    let is = store_by u.sizes (g.L.Lines.room_of _) u.cache _ _ _ _ _ _ (sym c.is_outside.ensures.outside ∙ c.if-is_outside.true) refl refl in
+    let is = store_by u.sizes (g.L.Lines.room_of _) u.cache _ _ _ _ _ _ (sym c.is_outside.ensures.outside ∙ c.if-is_outside.true) refl
+    refl in
     refuses _ _ _ u _ c.is_outside.ensures.sound _ (g.met.L.Lines.same_self _) _ is _ _ refl refl
 
 pub returns-then-not-has_any : goal.returns-then-not-has_any

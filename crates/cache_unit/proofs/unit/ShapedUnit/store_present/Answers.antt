@@ -1,10 +1,8 @@
 use Rattle.std.proofs.Common.{Some, is_some, ap, ◌∙◌, sym}
 use Rattle.cache_unit.specs.View.{cache_of}
-use Rattle.cache_unit.specs.State.{frame_of}
-use Rattle.cache_unit.specs.Steps.{written}
 use Rattle.cache_unit.specs.Parts.{written_for, noted_for}
 use Rattle.cache_unit.proofs.Begins.{held-cells}
-use Rattle.cache_unit.proofs.Fetching.{cache_by}
+use Rattle.cache_unit.proofs.Fetching.{made}
 use Rattle.cache_unit.proofs.Present.{IsSound-stored, stored-shown}
 use Rattle.cache_unit.proofs.unit.ShapedUnit.store_present.Goals as goal
 use Rattle.cache_unit.proofs.Lists.{frame_of-some}
@@ -12,7 +10,7 @@ use Rattle.cache_unit.proofs.Lists.{frame_of-some}
 pub write-requires : goal.write-requires
 write-requires c =
     let s = c.self.inside in
-    let held = ap (λ v. frame_of v.cache c.args.block) c.self.view_is ∙ c.requires.held in
+    let held = rw (← c.self.view_is) at c.requires.held in
     let b = (frame_of-some s.directory.frames _ _ held).1 in
     let l = rw (sym c.self.view_is) at c.requires.word in
     rw (sym (held-cells s.sizes.ways s.sizes.block_words s.directory _ c.self.invariant.sound.directory (ap is_some b))) at l
@@ -33,9 +31,8 @@ pub returns : goal.returns
 returns c =
     let s = c.self.inside in
     let now = cache_of s in
-    let held = ap (λ v. frame_of v.cache c.args.block) c.self.view_is ∙ c.requires.held in
+    let held = rw (← c.self.view_is) at c.requires.held in
     let rs = noted_for s.registers _ _ _ in
     let e = ap (λ o. record now { directory = written_for s.directory o c.args.i c.args.word c.args.lanes; registers = rs }) (sym held)
     ∙ stored-shown now _ _ _ _ in
-    rw (c.write.ensures.written, c.note_code.ensures.noted)
-    (cache_by s.sizes now _ _ (λ y k. written k c.args.block c.args.i c.args.word c.args.lanes) c.self.view_is e)
+    rw (c.write.ensures.written, c.note_code.ensures.noted, ← c.self.view_is) (ap (made s.sizes) e)

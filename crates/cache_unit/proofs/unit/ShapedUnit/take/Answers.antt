@@ -1,7 +1,6 @@
 use Rattle.std.proofs.Common.{refl, arith, ap}
 use Rattle.cache_unit.specs.View.{cache_of}
-use Rattle.cache_unit.specs.Steps.{take_step}
-use Rattle.cache_unit.proofs.Fetching.{makes, keeps, taken, none_taken, IsSound-ready}
+use Rattle.cache_unit.proofs.Fetching.{makes, taken, none_taken, IsSound-ready}
 use Rattle.cache_unit.proofs.Keeps.{owes-remove}
 use Rattle.cache_unit.proofs.unit.ShapedUnit.take.Goals as goal
 
@@ -17,10 +16,10 @@ returns-then-place-len c =
     let s = c.self.inside in
     let is = taken _ _ c.remove-reply.result (omega arith) c.remove-reply.ensures.value in
     let shown = ap (λ r. record (cache_of s) { ready = r }) c.remove-reply.ensures.items in
-    makes s c.self.invariant _ c.self.view_is (λ z k. take_step k c.args.place) _ _ _ is _ shown
+    rw (← c.self.view_is) (makes s.sizes _ c.self.invariant.sound _ _ _ _ is _ shown)
 
 pub returns-else-place-len : goal.returns-else-place-len
 returns-else-place-len c =
     let s = c.self.inside in
     let is = none_taken _ _ (omega arith) in
-    keeps s c.self.invariant _ c.self.view_is (λ z k. take_step k c.args.place) _ _ _ is refl
+    rw (← c.self.view_is) (makes s.sizes _ c.self.invariant.sound _ _ _ _ is _ refl)

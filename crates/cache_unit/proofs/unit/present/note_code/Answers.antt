@@ -1,4 +1,4 @@
-use Rattle.std.proofs.Common.{◌≡◌, ◌<◌, ◌&&◌, not, Bool, true, false, length, sym, arith, refl}
+use Rattle.std.proofs.Common.{◌<◌, length, sym, arith}
 use Rattle.std.proofs.lemmas.Bool.{and_parts}
 use Rattle.cache_unit.proofs.Present.{live_for-some, missing_parts}
 use Rattle.miss_registers.specs.Registers as regs
