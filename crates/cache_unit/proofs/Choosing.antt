@@ -1,7 +1,7 @@
 -- What a miss may take, how a block loses its frame, and what the unit shows.
 use Rattle.std.proofs.Common.{◌≡◌, ℕ, suc, ◌-◌, ◌*◌, ◌%◌, ◌/◌, ◌<◌, ◌≤◌, nat_lt, ◌==◌, not, Bool, true, false, cond, List, [], ◌∷◌, length}
-use Rattle.std.proofs.Common.{get_or, Option, Some, None, is_none, refl, ap, ap₂, ◌∙◌, arith, eq-eqb, option_map, ◌+◌, sym, subst}
-use Rattle.std.proofs.Common.{le-ltb, ltb-false, zero, ◌++◌, map, set, length-set, length-append, is_some, ◌&&◌, slice_get}
+use Rattle.std.proofs.Common.{get_or, Option, Some, None, is_none, refl, ap, ap₂, ◌∙◌, arith, eq-eqb, option_map, ◌+◌, sym, subst, le-ltb}
+use Rattle.std.proofs.Common.{ltb-false, zero, ◌++◌, map, set, length-set, length-append, is_some, ◌&&◌, slice_get}
 use Rattle.std.specs.Option.{option_or}
 use Rattle.std.specs.List.{find, filter, list_all, list_any, range_with_len, All, sum_by}
 use Rattle.std.proofs.lemmas.Bool.{false≢true, cases_eq}
@@ -12,17 +12,15 @@ use Rattle.cache_directory.specs.declared.directory.Choice.{Choice}
 use Rattle.cache_directory.specs.declared.directory.Choice.TheVariants.{Free, Victim, AllPending}
 use Rattle.cache_directory.proofs.Whole.{order_held}
 use Rattle.cache_unit.specs.declared.Sizes.{Sizes}
-use Rattle.cache_unit.specs.State.{Register, frame_at, is_pending, Cache, register_at, live_for, frame_of, is_present, free_slot}
-use Rattle.cache_unit.specs.State.{Frames, Frame, empty_frame, Field, is_live}
-use Rattle.cache_unit.specs.Causes.{first_cause, is_resident_block, ways_of, choose, lacks_places, miss_causes, dirty_from}
-use Rattle.cache_unit.specs.Causes.{dirty_words}
+use Rattle.cache_unit.specs.State.{Register, frame_at, is_pending, Cache, register_at, live_for, frame_of, is_present, free_slot, Frames}
+use Rattle.cache_unit.specs.State.{Frame, empty_frame, Field, is_live}
+use Rattle.cache_unit.specs.Causes.{first_cause, is_resident_block, ways_of, choose, lacks_places, miss_causes, dirty_from, dirty_words}
 use Rattle.cache_unit.specs.Sound.{IsSound, Tied, OwesSound, loads_of, loads_of_field}
 use Rattle.cache_unit.specs.Reads.{is_short, block_reads}
 use Rattle.cache_unit.specs.GivenUp.{owed_words, given_up}
 use Rattle.cache_unit.specs.Miss.{chosen_frame, MayTake}
 use Rattle.cache_directory.proofs.Choices.{chosen-free, chosen-victim, chosen-all_pending}
-use Rattle.cache_unit.proofs.Present.{pending_is, SameMarks, SameMarks-self, related-set, StackSound-same, live_for-some}
-use Rattle.cache_unit.proofs.Present.{in_stack-shown}
+use Rattle.cache_unit.proofs.Present.{pending_is, SameMarks, SameMarks-self, related-set, StackSound-same, live_for-some, in_stack-shown}
 use Rattle.miss_registers.proofs.Places.{free_slot-found}
 use Rattle.cache_unit.specs.declared.Places.{Places}
 use Rattle.flat_model.specs.Words.{has_any}

@@ -1,7 +1,6 @@
 -- What holds of the parts still holds once a word has left the stack, and what is owed is told by them.
 use Rattle.std.proofs.Common.{◌≡◌, ℕ, suc, zero, ◌+◌, ◌<◌, ◌≤◌, Bool, true, false, cond, ◌==◌, if◌then◌else◌, List, [], ◌∷◌, ◌++◌, length}
-use Rattle.std.proofs.Common.{set, refl, arith, Option, Some, None, ap, sym, ◌∙◌, is_some, length-set, ◌-◌, ◌⊎◌, inl}
-use Rattle.std.proofs.Common.{inr, take, slice_get}
+use Rattle.std.proofs.Common.{set, refl, arith, Option, Some, None, ap, sym, ◌∙◌, is_some, length-set, ◌-◌, ◌⊎◌, inl, inr, take, slice_get}
 use Rattle.std.specs.List.{sum_by, count_by, remove}
 use Rattle.std.proofs.lemmas.List.Sums.{sum_by-set, sum_by-cons, sum_by-remove}
 use Rattle.flat_model.specs.declared.Word.{Word}
@@ -15,8 +14,7 @@ use Rattle.cache_unit.specs.Sound.{loads_of_field, loads_of, owing, OwesSound, H
 use Rattle.cache_unit.specs.Sound.{IsSound}
 use Rattle.flat_model.specs.declared.Lanes.{Lanes}
 use Rattle.input_stack.specs.declared.Entry.{Entry}
-use Rattle.cache_unit.specs.State.{Cache, with_cell, register_at}
-use Rattle.cache_unit.specs.State.{Register, Field, clear_field, free_register, is_live, Frames, Frame}
+use Rattle.cache_unit.specs.State.{Cache, with_cell, register_at, Register, Field, clear_field, free_register, is_live, Frames, Frame}
 use Rattle.cache_unit.specs.State.{empty_frame}
 use Rattle.cache_unit.specs.Parts.{filled_live, settled_if, CanFill}
 use Rattle.std.proofs.lemmas.List.{get_or-set_same, get_or-set_other, get_or_past, map-append, take_more}

@@ -1,14 +1,13 @@
 -- Loads and stores of a block that a frame holds.
-use Rattle.std.proofs.Common.{◌≡◌, ℕ, ◌<◌, ◌==◌, Bool, true, false, ◌&&◌, List, [], ◌∷◌, length, set, Option, Some, None}
-use Rattle.std.proofs.Common.{eq-eqb, is_some, refl, ap, sym, ◌∙◌, length-set, inl, inr, eqb-true, nat_lt, nat_le, ◌||◌, not}
-use Rattle.std.proofs.Common.{if◌then◌else◌, ◌++◌, arith, length-append, ◌-◌, ◌⊎◌, option_map}
+use Rattle.std.proofs.Common.{◌≡◌, ℕ, ◌<◌, ◌==◌, Bool, true, false, ◌&&◌, List, [], ◌∷◌, length, set, Option, Some, None, eq-eqb, is_some}
+use Rattle.std.proofs.Common.{refl, ap, sym, ◌∙◌, length-set, inl, inr, eqb-true, nat_lt, nat_le, ◌||◌, not, if◌then◌else◌, ◌++◌, arith}
+use Rattle.std.proofs.Common.{length-append, ◌-◌, ◌⊎◌, option_map}
 use Rattle.std.proofs.lemmas.List.{get_or-set_same, get_or-set_other, get_or_past, get_or_append_left, get_or-append_right}
 use Rattle.std.proofs.lemmas.Bool.{false≢true, cases_eq, and_parts, cases_lt}
 use Rattle.std.proofs.lemmas.Option.{same_Some}
 use Rattle.flat_model.proofs.Places.{place_of-passes}
 use Rattle.input_stack.specs.declared.Entry.{Entry}
-use Rattle.cache_unit.specs.Sound.{entry_at, StackSound, Tied, no_entry, HasInStack, Stands, IsSound, loads_of}
-use Rattle.cache_unit.specs.Sound.{OwesSound}
+use Rattle.cache_unit.specs.Sound.{entry_at, StackSound, Tied, no_entry, HasInStack, Stands, IsSound, loads_of, OwesSound}
 use Rattle.cache_directory.proofs.Finds.{find-passes, find-all, find-nowhere}
 use Rattle.std.proofs.lemmas.List.Elements.{All-from_get_or}
 use Rattle.cache_unit.proofs.Keeps.{SameBlocks, loads-set, owes-same, SameBlocks-set, pending-set, register_at-set}

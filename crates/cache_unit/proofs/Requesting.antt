@@ -1,7 +1,7 @@
 -- Requests: what a missing block gets, what they make of the forms, and their causes in their order.
-use Rattle.std.proofs.Common.{◌≡◌, ℕ, zero, suc, ◌+◌, ◌*◌, ◌/◌, ◌%◌, ◌<◌, ◌≤◌, Bool, true, false, cond, not, ◌==◌, List, [], ◌∷◌}
-use Rattle.std.proofs.Common.{◌++◌, length, set, Option, Some, None, option_map, find, filter, is_some, is_none, refl, sym, ap, ◌∙◌, arith}
-use Rattle.std.proofs.Common.{◌⊎◌, inl, inr, mod-lt, mul-le-mul_right, map, ap₂, nat_lt, nat_le}
+use Rattle.std.proofs.Common.{◌≡◌, ℕ, zero, suc, ◌+◌, ◌*◌, ◌/◌, ◌%◌, ◌<◌, ◌≤◌, Bool, true, false, cond, not, ◌==◌, List, [], ◌∷◌, ◌++◌}
+use Rattle.std.proofs.Common.{length, set, Option, Some, None, option_map, find, filter, is_some, is_none, refl, sym, ap, ◌∙◌, arith, ◌⊎◌}
+use Rattle.std.proofs.Common.{inl, inr, mod-lt, mul-le-mul_right, map, ap₂, nat_lt, nat_le}
 use Rattle.std.specs.List.{range_with_len, list_all, list_any}
 use Rattle.std.specs.Option.{option_or}
 use native.Mathlib.Nat.{div-eq_of_lt-le}
@@ -10,12 +10,10 @@ use Rattle.write_queue.specs.declared.Queued.{Queued}
 use Rattle.cache_unit.specs.Begun.{begun_frame, begun_register}
 use Rattle.cache_directory.specs.Frames.{order_of}
 use Rattle.cache_unit.specs.declared.Sizes.{Sizes}
-use Rattle.cache_unit.specs.State.{Register, Cache, empty_frame, frame_at, frame_of, is_present, register_at, is_live}
-use Rattle.cache_unit.specs.State.{live_for, is_pending, is_pending_block, free_slot, Target, cell_of, block_of, place_in}
-use Rattle.cache_unit.specs.State.{field_at, tags}
+use Rattle.cache_unit.specs.State.{Register, Cache, empty_frame, frame_at, frame_of, is_present, register_at, is_live, live_for, is_pending}
+use Rattle.cache_unit.specs.State.{is_pending_block, free_slot, Target, cell_of, block_of, place_in, field_at, tags}
 use Rattle.cache_unit.specs.Causes.{choose, ways_of, is_resident_block, dirty_words, first_cause, miss_causes, is_in_use, found, load_cause}
-use Rattle.cache_unit.specs.Causes.{store_cause, prefetch_cause, evict_cause, lacks_places}
-use Rattle.cache_unit.specs.Causes.{targets_full}
+use Rattle.cache_unit.specs.Causes.{store_cause, prefetch_cause, evict_cause, lacks_places, targets_full}
 use Rattle.cache_unit.specs.Steps.{released, installed, reads, fetched, fetches, unless, loaded, written, load_step, store_step}
 use Rattle.cache_unit.specs.Steps.{prefetch_step, request_step, Stepped, evict_step, evicted_from, missed}
 use Rattle.cache_unit.specs.FormLaws.{form_at, missed_words, fetched_words, LoadForms, StoreForms, PrefetchForms, RequestForms}

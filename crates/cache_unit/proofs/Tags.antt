@@ -1,31 +1,25 @@
 -- The tags of the values that stand ready, and of the loads that wait.
 use Rattle.std.proofs.Common.{◌≡◌, ℕ, suc, ◌+◌, ◌<◌, ◌≤◌, Bool, true, false, cond, ◌||◌, ◌==◌, if◌then◌else◌, List, [], ◌∷◌, ◌++◌, map}
-use Rattle.std.proofs.Common.{length, get_or, set, refl, ap, ap₂, sym, ◌∙◌, arith, length-append, eqb-true}
+use Rattle.std.proofs.Common.{length, get_or, set, refl, ap, ap₂, sym, ◌∙◌, arith, length-append, eqb-true, Some, ◌-◌, slice_get, ◌/◌}
 use Rattle.std.specs.List.{sum_by, count_by, list_any, flat_map}
-use Rattle.std.proofs.lemmas.Bool.{or_parts}
+use Rattle.std.proofs.lemmas.Bool.{or_parts, cases_lt}
 use Rattle.std.proofs.lemmas.List.{map-append, length-map}
-use Rattle.std.proofs.lemmas.List.Sums.{sum_by-cons}
+use Rattle.std.proofs.lemmas.List.Sums.{sum_by-cons, length-filter}
 use Rattle.std.proofs.lemmas.List.Folds.{list_any-append}
 use Rattle.miss_registers.specs.Whole.{IsWhole, IsWholeRegister}
-use Rattle.miss_registers.proofs.Tags.{list_any-map, none_counted}
+use Rattle.miss_registers.proofs.Tags.{list_any-map, none_counted, count_by-append, count_by-map}
 use Rattle.miss_registers.specs.declared.Owed.{Owed}
-use Rattle.miss_registers.proofs.Tags.{count_by-append, count_by-map}
 use Rattle.cache_unit.specs.declared.Reply.{Reply}
 use Rattle.cache_unit.specs.declared.Sizes.{Sizes}
-use Rattle.cache_unit.specs.State.{Target, gathered, targets_of_field, targets_of, targets, tags, Cache, Field, Register}
+use Rattle.cache_unit.specs.State.{Target, gathered, targets_of_field, targets_of, targets, tags, Cache, Field, Register, frame_at}
 use Rattle.cache_unit.specs.Causes.{is_in_use}
 use Rattle.cache_unit.specs.Sound.{loads_of_field, loads_of, owing, OwesSound, IsSound}
-use Rattle.cache_unit.proofs.Keeps.{count_by-all, owing-set, loads-set}
+use Rattle.cache_unit.proofs.Keeps.{count_by-all, owing-set, loads-set, Taken-from}
 use Rattle.miss_registers.specs.Registers.{tags_of_field, tags_of, waiting_tags, tag_waits, register_at, awaited, field_of}
-use Rattle.std.proofs.Common.{Some, ◌-◌, slice_get, ◌/◌}
 use Rattle.input_stack.specs.declared.Entry.{Entry}
-use Rattle.cache_unit.specs.State.{frame_at}
-use Rattle.std.proofs.lemmas.Bool.{cases_lt}
 use Rattle.cache_unit.proofs.Lists.{frame_of-some}
 use Rattle.cache_unit.specs.SoundCache.{HasWord, IsSoundCache}
 use Rattle.cache_directory.specs.Frames.{times_in}
-use Rattle.cache_unit.proofs.Keeps.{Taken-from}
-use Rattle.std.proofs.lemmas.List.Sums.{length-filter}
 use Rattle.cache_directory.specs.Frames as dir
 use Rattle.miss_registers.specs.Registers as regs
 

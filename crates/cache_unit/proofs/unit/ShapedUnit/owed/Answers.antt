@@ -1,7 +1,6 @@
-use Rattle.cache_unit.proofs.Tags.{sound_cache}
+use Rattle.cache_unit.proofs.Tags.{sound_cache, owing-all, length-tags}
 use Rattle.std.proofs.Common.{arith}
 use Rattle.cache_unit.specs.View.{cache_of}
-use Rattle.cache_unit.proofs.Tags.{owing-all, length-tags}
 use Rattle.cache_unit.proofs.unit.ShapedUnit.owed.Goals as goal
 
 pub overflow_add-result : goal.overflow_add-result
