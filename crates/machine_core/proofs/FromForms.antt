@@ -13,11 +13,11 @@ use Rattle.cache_unit.specs.State.{Cache, tags, cell_of, block_of, place_in, reg
 use Rattle.cache_unit.specs.State.{frame_of, Frame, Frames, empty_frame, frame_at, first_of}
 use Rattle.cache_unit.specs.SoundCache.{HasWord, IsSoundCache}
 use Rattle.cache_unit.specs.Counts.{tally, bit}
-use Rattle.cache_unit.proofs.Lists.{Adds-tally, Adds-remove, tally-filter, waits_for, Within, Beside, Adds, Adds-find_other}
-use Rattle.cache_unit.proofs.Lists.{Adds-find_same, target_valid, live_for-some, frame_of-is, frame_of-some}
+use Rattle.cache_unit.proofs.Lists.{Adds-tally, Adds-remove, tally-filter, waits_for, Within, Beside, Adds, Adds-find_other, Adds-find_same}
+use Rattle.cache_unit.proofs.Lists.{target_valid, live_for-some, frame_of-is, frame_of-some}
 use Rattle.machine_core.specs.Law.{IsLawful}
 use Rattle.machine_core.specs.Machine.{Machine, backing, flat_word, Outcome, apply, flat_word_in, flat_due, flat_of}
-use Rattle.machine_core.specs.Sound.{is_for, is_entry_for, AllIn, InOrder, IsSound, word_in, is_in}
+use Rattle.machine_core.specs.Sound.{is_for, is_entry_for, AllIn, InOrder, IsSound, IsBounded, word_in, is_in}
 use Rattle.std.specs.List.{range_with_len}
 use Rattle.std.specs.Option.{option_or}
 use Rattle.flat_model.specs.declared.Lanes.{Lanes}
@@ -348,7 +348,7 @@ forms_same z m m' e p b = record {
 pub record KeptBy (z : Sizes) (m : Machine) (event : Event) (o : Outcome) : Type 0 where
   pub sound : IsSound z o.machine
   pub run : flat_step (flat_of z m) event o.answer ≡ Some (flat_of z o.machine)
-  pub few : length (tags m.cache) ≤ z.replies → length (tags o.machine.cache) ≤ z.replies
+  pub bounded : IsBounded z m → IsBounded z o.machine
 
 abbrev pub Kept : Sizes → Machine → Event → Type 0
 Kept z m event = KeptBy z m event (apply z m event)
@@ -379,15 +379,8 @@ order-without orders k f s = grind (arith, cases_lt, get_or-set_other, cases_eq,
 pub InOrder-released : (z : Sizes) (d : Frames) (f : ℕ) → InOrder z d → InOrder z (released_frame z.ways d f)
 unfolding released_frame
 InOrder-released z d f h = record {
-  placed = λ g b e.
-      let n = other g b e in
-      let was = h.placed g b (cc (get_or-set_other _ f g empty_frame empty_frame n, e)) in
-      ⊎_elim (λ q. (cc (q, was)))
-      (λ q. ap (λ o. is_in o g) q ∙ is_in-without _ f g n was)
-      (order-without d.orders (f / z.ways) f (g / z.ways));
-  in_set = λ s g e. ⊎_elim (λ q. h.in_set s g (cc))
-      (λ q. h.in_set s g (is_in-within _ f g (ap (λ o. is_in o g) (sym q) ∙ e)))
-      (order-without d.orders _ f s);
+  placed = λ g b e. grind (arith, other, get_or-set_other, h.placed, order-without, is_in-without);
+  in_set = λ s g e. grind (arith, h.in_set, order-without, is_in-within);
   sized = length-set _ _ _ ∙ h.sized;
 }
   where
@@ -416,34 +409,10 @@ is_in-cases (x ∷ order) f g e = ⊎_elim (λ k. inl (or_left _ _ k))
 pub InOrder-installed : (z : Sizes) (d : Frames) (f s : ℕ) (new : Frame) → f / z.ways ≡ s → s < z.sets
     → InOrder z d → InOrder z (record { frames = set d.frames f new; orders = set d.orders s (order_of d.orders s ++ f ∷ []) })
 InOrder-installed z d f s new own l h = record {
-  placed = λ g b e. ⊎_elim (λ q. here g q)
-      (λ n. elsewhere g b n (cc (get_or-set_other _ f g new empty_frame n, e))) (cases_eq g f);
-  in_set = λ t g e. ⊎_elim (λ q. set_here t g q e)
-      (λ n. h.in_set t g (ap (λ o. is_in o g) (sym (get_or-set_other _ s t _ [] n)) ∙ e)) (cases_eq t s);
+  placed = λ g b e. grind (arith, cases_eq, get_or-set_same, get_or-set_other, h.placed, h.sized, is_in-push, is_in-last);
+  in_set = λ t g e. grind (arith, cases_eq, get_or-set_same, get_or-set_other, h.in_set, h.sized, is_in-cases);
   sized = length-set _ s _ ∙ h.sized;
 }
-  where
-    new_order : order_of (set d.orders s (order_of d.orders s ++ f ∷ [])) s ≡ order_of d.orders s ++ f ∷ []
-    new_order = grind (arith, get_or-set_same, h.sized)
-
-    here : (g : ℕ) → g ≡ f → is_in (order_of (set d.orders s (order_of d.orders s ++ f ∷ [])) (g / z.ways)) g ≡ true
-    here g q = grind (arith, d.orders, new_order, is_in-last)
-
-    elsewhere : (g b : ℕ) → (g ≡ f → ⊥) → block_at d.frames g ≡ Some b
-        → is_in (order_of (set d.orders s (order_of d.orders s ++ f ∷ [])) (g / z.ways)) g ≡ true
-    elsewhere g b n e = ⊎_elim same_set other_set (cases_eq _ s)
-      where
-        was : is_in (order_of d.orders (g / z.ways)) g ≡ true
-        was = h.placed g b e
-
-        same_set : g / z.ways ≡ s → is_in (order_of (set d.orders s (order_of d.orders s ++ f ∷ [])) (g / z.ways)) g ≡ true
-        same_set q = grind (arith, new_order, is_in-push, d.orders, was)
-
-        other_set : (g / z.ways ≡ s → ⊥) → is_in (order_of (set d.orders s (order_of d.orders s ++ f ∷ [])) (g / z.ways)) g ≡ true
-        other_set q = grind (arith, get_or-set_other, was)
-
-    set_here : (t g : ℕ) → t ≡ s → is_in (order_of (set d.orders s (order_of d.orders s ++ f ∷ [])) t) g ≡ true → g / z.ways ≡ t
-    set_here t g q e = grind (arith, h.in_set, is_in-cases, new_order)
 
 -- ---- What is queued for a word is one write.
 
