@@ -1,9 +1,9 @@
 -- A sound machine's unit is a sound one, and its flat memory is read from the unit's forms.
-use Rattle.std.proofs.Common.{◌≡◌, ℕ, zero, suc, ◌+◌, ◌≤◌, Bool, true, false, ◌&&◌, ◌==◌, List, [], ◌∷◌, length, Some, remove, slice_get}
-use Rattle.std.proofs.Common.{refl, sym, ap, ap₂, ◌∙◌, arith, eq-eqb, ltb-true, cond, map, Option, None, option_map, find, eqb-true, ◌/◌}
-use Rattle.std.proofs.Common.{◌<◌, ◌++◌, set, length-set, ◌⊎◌, inl, inr, ⊎_elim, get_or, get_or-set_same, get_or-set_other, ◌-◌, ◌%◌}
+use Rattle.std.proofs.Common.{not, ◌||◌, ◌≡◌, ℕ, zero, suc, ◌+◌, ◌≤◌, Bool, true, false, ◌&&◌, ◌==◌, List, [], ◌∷◌, length, Some, remove}
+use Rattle.std.proofs.Common.{slice_get, refl, sym, ap, ap₂, ◌∙◌, arith, eq-eqb, ltb-true, cond, map, Option, None, option_map, find}
+use Rattle.std.proofs.Common.{eqb-true, ◌/◌, ◌<◌, ◌++◌, set, length-set, ◌⊎◌, ⊎_elim, get_or, get_or-set_same, get_or-set_other, ◌-◌, ◌%◌}
 use Rattle.std.proofs.Common.{ne_eqb}
-use Rattle.std.proofs.lemmas.Bool.{and_parts, not-true, cases_eq, cases_lt, or_cases, or_left, or_right}
+use Rattle.std.proofs.lemmas.Bool.{and_parts, not-true, cases_eq, cases_lt}
 use Rattle.flat_model.specs.declared.Word.{Word}
 use Rattle.flat_model.specs.Words.{merged, Lane, Lane0, Lane1, Lane2, Lane3, byte, has, joined, zero_word}
 use Rattle.memory_banks.specs.Banks.{Bank, bank_at, all_pending, words_after}
@@ -363,13 +363,9 @@ order_of orders set = get_or orders set []
 abbrev block_at : List Frame → ℕ → Option ℕ
 block_at frames f = (get_or frames f empty_frame).block
 
-is_in-without : (order : List ℕ) (f g : ℕ) → (g ≡ f → ⊥) → is_in order g ≡ true → is_in (without order f) g ≡ true
-is_in-without [] f g n e = e
-is_in-without (x ∷ order) f g n e = grind (arith, cases_eq, is_in-without order f g n)
-
-is_in-within : (order : List ℕ) (f g : ℕ) → is_in (without order f) g ≡ true → is_in order g ≡ true
-is_in-within [] f g e = e
-is_in-within (x ∷ order) f g e = grind (arith, is_in-within order f g)
+is_in-without : (order : List ℕ) (f g : ℕ) → is_in (without order f) g ≡ (is_in order g && not (g == f))
+is_in-without [] f g = refl
+is_in-without (x ∷ order) f g = grind (arith, cases_eq, is_in-without order f g)
 
 order-without : (orders : List (List ℕ)) (k f s : ℕ) → (order_of (set orders k (without (order_of orders k) f)) s ≡ order_of orders s) ⊎
     (order_of (set orders k (without (order_of orders k) f)) s ≡ without (order_of orders s) f)
@@ -379,8 +375,8 @@ order-without orders k f s = grind (arith, cases_lt, get_or-set_other, cases_eq,
 pub InOrder-released : (z : Sizes) (d : Frames) (f : ℕ) → InOrder z d → InOrder z (released_frame z.ways d f)
 unfolding released_frame
 InOrder-released z d f h = record {
-  placed = λ g b e. grind (arith, other, get_or-set_other, h.placed, order-without, is_in-without);
-  in_set = λ s g e. grind (arith, h.in_set, order-without, is_in-within);
+  placed = λ g b e. grind (arith, other, get_or-set_other, h.placed, order-without, is_in-without, ne_eqb);
+  in_set = λ s g e. grind (arith, h.in_set, order-without, is_in-without);
   sized = length-set _ _ _ ∙ h.sized;
 }
   where
@@ -390,27 +386,16 @@ InOrder-released z d f h = record {
     other : (g b : ℕ) → block_at (set d.frames f empty_frame) g ≡ Some b → (g ≡ f → ⊥)
     other g b e q = let no = ap (block_at _) q ∙ empty in cc
 
-is_in-push : (order : List ℕ) (f g : ℕ) → is_in order g ≡ true → is_in (order ++ f ∷ []) g ≡ true
-is_in-push [] f g e = cc
-is_in-push (x ∷ order) f g e = ⊎_elim (λ k. or_left _ _ k)
-    (λ k. or_right _ _ (is_in-push order f g k)) (or_cases _ _ e)
-
-is_in-last : (order : List ℕ) (f : ℕ) → is_in (order ++ f ∷ []) f ≡ true
-is_in-last [] f = grind arith
-is_in-last (x ∷ order) f = or_right _ _ (is_in-last order f)
-
-is_in-cases : (order : List ℕ) (f g : ℕ) → is_in (order ++ f ∷ []) g ≡ true → (is_in order g ≡ true) ⊎ (f ≡ g)
-is_in-cases [] f g e = grind arith
-is_in-cases (x ∷ order) f g e = ⊎_elim (λ k. inl (or_left _ _ k))
-    (λ k. ⊎_elim (λ p. inl (or_right _ _ p)) (λ p. inr p) (is_in-cases order f g k))
-    (or_cases _ _ e)
+is_in-push : (order : List ℕ) (f g : ℕ) → is_in (order ++ f ∷ []) g ≡ (is_in order g || (f == g))
+is_in-push [] f g = grind arith
+is_in-push (x ∷ order) f g = grind (arith, is_in-push order f g)
 
 -- a frame is taken
 pub InOrder-installed : (z : Sizes) (d : Frames) (f s : ℕ) (new : Frame) → f / z.ways ≡ s → s < z.sets
     → InOrder z d → InOrder z (record { frames = set d.frames f new; orders = set d.orders s (order_of d.orders s ++ f ∷ []) })
 InOrder-installed z d f s new own l h = record {
-  placed = λ g b e. grind (arith, cases_eq, get_or-set_same, get_or-set_other, h.placed, h.sized, is_in-push, is_in-last);
-  in_set = λ t g e. grind (arith, cases_eq, get_or-set_same, get_or-set_other, h.in_set, h.sized, is_in-cases);
+  placed = λ g b e. grind (arith, cases_eq, get_or-set_same, get_or-set_other, h.placed, h.sized, is_in-push);
+  in_set = λ t g e. grind (arith, cases_eq, get_or-set_same, get_or-set_other, h.in_set, h.sized, is_in-push);
   sized = length-set _ s _ ∙ h.sized;
 }
 

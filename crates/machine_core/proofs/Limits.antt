@@ -26,7 +26,7 @@ use Rattle.cache_unit.specs.Causes.{first_cause, choose, addresses, lacks_places
 use Rattle.cache_unit.specs.Steps.{obsoleted, released, evicted, installed, missed, reads, fetched, fetches, loaded, noted, written_in}
 use Rattle.cache_unit.specs.Steps.{written, arrived, processed}
 use Rattle.cache_unit.specs.Counts.{tally}
-use Rattle.cache_unit.proofs.Lists.{tally-append, flat_map_part}
+use Rattle.cache_unit.proofs.Lists.{tally-append}
 use Rattle.cache_unit.proofs.Requesting.{Able, free_register_at, some_frame}
 use Rattle.machine_core.specs.Law.{IsLawful}
 use Rattle.machine_core.specs.Machine.{Machine}
@@ -132,18 +132,12 @@ like_processed c place e = one_like c e.slot _ (go _ refl)
 -- ---- machines whose banks have no more on their way
 
 pub pending_part : (p : BankAnswer → Bool) (banks : List Bank) (b : ℕ) → tally p (pending (bank_at banks b)) ≤ tally p (all_pending banks)
-pending_part p banks b = ⊎_elim within past (cases_lt b _)
-  where
-    within : b < length banks → tally p (pending (bank_at banks b)) ≤ tally p (all_pending banks)
-    within l =
-        let part = flat_map_part pending no_bank banks b l in
-        let e = ap (tally p) part.now in
-        let n = tally-append p part.front (pending (bank_at banks b) ++ part.back) in
-        let k = tally-append p (pending (bank_at banks b)) part.back in
-        omega arith
-
-    past : length banks ≤ b → tally p (pending (bank_at banks b)) ≤ tally p (all_pending banks)
-    past l = let e = ap (λ (x : Bank). tally p (pending x)) (get_or_past banks b no_bank l) in omega arith
+pending_part p [] b = omega arith
+pending_part p (x ∷ banks) zero = let n = tally-append p (pending x) (all_pending banks) in omega arith
+pending_part p (x ∷ banks) (suc b) =
+    let n = tally-append p (pending x) (all_pending banks) in
+    let ih = pending_part p banks b in
+    omega arith
 
 -- what is on its way is for a valid register
 valid_for : (z : Sizes) (m : Machine) → IsSound z m → (b s i : ℕ) → 1 ≤ tally (is_for s i) (pending (bank_at m.banks b))

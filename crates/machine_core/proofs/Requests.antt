@@ -1,8 +1,8 @@
 -- Loads, stores, prefetches and evictions.
 use Rattle.std.proofs.Common.{◌≡◌, ℕ, zero, suc, ◌+◌, ◌/◌, ◌%◌, ◌<◌, ◌≤◌, Bool, true, false, cond, not, ◌&&◌, ◌||◌, ◌==◌, nat_lt, List, []}
 use Rattle.std.proofs.Common.{◌∷◌, map, length, set, Option, Some, None, option_map, find, filter, is_some, is_none, refl, sym, ap, ap₂}
-use Rattle.std.proofs.Common.{◌∙◌, arith, ⊎_elim, ltb-true, lt-ltb, add-zero, zero-add, eq-eqb, ne_eqb, eqb-true, ◌-◌, ◌++◌, get_or}
-use Rattle.std.proofs.Common.{replicate, mod-lt, div-add-mod', flat_map, ext_get_or, length-append}
+use Rattle.std.proofs.Common.{◌∙◌, arith, ⊎_elim, ltb-true, lt-ltb, add-zero, zero-add, eq-eqb, ne_eqb, ◌-◌, ◌++◌, get_or, replicate}
+use Rattle.std.proofs.Common.{mod-lt, div-add-mod', flat_map, ext_get_or, length-append}
 use Rattle.std.specs.List.{range_with_len, list_any, list_all}
 use Rattle.std.proofs.lemmas.Bool.{cases_eq, not-false, leb-false, ltb-false, and_parts, not-true}
 use Rattle.std.proofs.lemmas.List.FromFn.{length-map-range_with_len}
@@ -98,25 +98,14 @@ flat_in_use m tag = ap (λ o. not (is_none (option_map (filled_by (all_pending m
     any-find p (x ∷ xs) = elim (p x) as (λ b. (b || list_any p xs) ≡ is_some (cond b (Some x) (find p xs)))
         [ true ↦ refl | false ↦ any-find p xs ]
 
-flat_not_due : (m : Machine) (tag : ℕ) → is_in_use m.cache tag ≡ false → is_none (flat_due m tag) ≡ true
-flat_not_due m tag e = not-false _ (flat_in_use m tag ∙ e)
-
 -- no tag is owed twice, where a new one is added
 once_more : (tag : ℕ) (xs ys : List ℕ) → Adds tag xs ys → tally (λ t. t == tag) xs ≡ 0 → ((t : ℕ) → tally (λ x. x == t) xs ≤ 1) → (t : ℕ)
     → tally (λ x. x == t) ys ≤ 1
-once_more tag xs ys more none once t = go _ refl
-  where
-    go : (b : Bool) → (tag == t) ≡ b → tally (λ x. x == t) ys ≤ 1
-    go true e =
-        let n = Adds-tally (λ x. x == t) tag xs ys more in
-        let k = rw (eqb-true tag t e) at none in
-        let one = bit-le (tag == t) in
-        omega arith
-    go false e =
-        let n = Adds-tally (λ x. x == t) tag xs ys more in
-        let no = ap bit e in
-        let k = once t in
-        omega arith
+once_more tag xs ys more none once t =
+    let n = Adds-tally (λ x. x == t) tag xs ys more in
+    let one = bit-le (tag == t) in
+    ⊎_elim (λ e. let k = rw e at none in omega arith)
+    (λ d. let no = ap bit (ne_eqb tag t d) in let k = once t in omega arith) (cases_eq tag t)
 
 -- ---- the causes of a miss
 
@@ -158,7 +147,8 @@ module _ (z : Sizes) (lawful : IsLawful z) (m : Machine) (h : IsSound z m) where
       ∙ ap₂ (λ o d. cond (t == tag) o d) told (f.same.owing t) in
       let after : flat_after _ (Load tag at) Accepted ≡ flat_of z m3 =
       λ i. record { mem = map (λ a. sym (words a ∙ f.same.words a) i) (range_with_len 0 z.words); due = λ t. sym (gained t) i } in
-      let may = ap₂ (λ x y. nat_lt at x && y) (mem_length z m) (flat_not_due m tag unused) ∙ ap (λ b. b && true) (lt-ltb at z.words l) in
+      let may = ap₂ (λ x y. nat_lt at x && y) (mem_length z m)
+      (not-false _ (flat_in_use m tag ∙ unused)) ∙ ap (λ b. b && true) (lt-ltb at z.words l) in
       let once = once_more tag _ _ by.more (sym (tally-filter (λ t. t == tag) _) ∙ none) f.sound.once in
       let sound = sound_beside z m2 _ f.sound by.beside once
       (λ a. kept_same z m2 m3 f.sound a (words a) (cell_frames c m3.cache by.frames _ _) (back a)) in

@@ -21,7 +21,7 @@ use Rattle.input_stack.specs.declared.Entry.{Entry}
 use Rattle.write_queue.specs.declared.Queued.{Queued}
 use Rattle.miss_registers.specs.declared.Owed.{Owed}
 use Rattle.cache_unit.specs.declared.Sizes.{Sizes}
-use Rattle.cache_unit.specs.State.{Field, Register, Cache, clear_field, free_register, register_at, field_at, gathered, targets_of}
+use Rattle.cache_unit.specs.State.{Target, Field, Register, Cache, clear_field, free_register, register_at, field_at, gathered, targets_of}
 use Rattle.cache_unit.specs.State.{targets_of_field, targets, tags}
 use Rattle.cache_unit.specs.Causes.{arrive_cause}
 use Rattle.miss_registers.specs.Registers.{finished, marked}
@@ -29,6 +29,7 @@ use Rattle.cache_unit.specs.Steps.{answered, processed, arrived, take_step, proc
 use Rattle.cache_unit.specs.Counts.{tally, bit}
 use Rattle.cache_unit.proofs.FormsProcessing.{all_processed, done, settled_only}
 use Rattle.cache_unit.proofs.Lists.{with_fields, in_range, tally-append, tally-map}
+use Rattle.cache_directory.proofs.Finds.{All-range, find-nowhere}
 use Rattle.machine_core.specs.Machine.{Machine, apply, joined_with}
 use Rattle.machine_core.specs.Law.{IsLawful, HasRoom, WalkIsDriven, most_weight}
 use Rattle.machine_core.specs.Sound.{IsSound, wanted, IsBounded}
@@ -96,10 +97,6 @@ processed_weight fields e = total_none field_weight clear_field fields
 find_first : (p : ℕ → Bool) (a n b : ℕ) → find p (range_with_len a n) ≡ Some b → (b < a + n) × (p b ≡ true)
 find_first p a zero b e = cc
 find_first p a (suc n) b e = grind (arith, find_first p (a + 1) n b)
-
-find_nowhere : (p : ℕ → Bool) (a n k : ℕ) → find p (range_with_len a n) ≡ None → a ≤ k → k < a + n → p k ≡ false
-find_nowhere p a zero k e lo hi = absurd (omega arith)
-find_nowhere p a (suc n) k e lo hi = grind (arith, find_nowhere p (a + 1) n k)
 
 items_none : {X : Type 0} (xs : List X) → has_items xs ≡ false → xs ≡ []
 items_none [] e = refl
@@ -212,7 +209,8 @@ module _ (z : Sizes) (lawful : IsLawful z) (roomy : HasRoom z) (m : Machine) (h 
   none_at : {X : Type 0} (items : Bank → List X) → lowest z m (λ x. has_items (items x)) ≡ None → (b : ℕ) → b < length m.banks
       → items (bank_at m.banks b) ≡ []
   none_at items e b l = let n = h.banks_are in
-      items_none _ (find_nowhere (λ k. has_items (items (bank_at m.banks k))) 0 z.banks b e (omega arith) (omega arith))
+      items_none _
+      (All-range (λ k. has_items (items (bank_at m.banks k)) ≡ false) 0 z.banks b (find-nowhere _ _ e) (omega arith) (omega arith))
 
   -- the driver's event lowers the weight, and where there is none nothing is left
   abbrev Drives : Option Event → Type 0
@@ -395,15 +393,12 @@ answer_pair a = (a.slot, a.i)
 abbrev entry_pair : Entry → ℕ × ℕ
 entry_pair e = (e.slot, e.i)
 
-own : (x : ℕ × ℕ) → is_pair x.0 x.1 x ≡ true
-own x = grind arith
-
 -- it is no longer than all its pairs are together, counted one by one
 length-summed : (n w : ℕ) (xs : List (ℕ × ℕ)) → ((s i : ℕ) → 1 ≤ tally (is_pair s i) xs → (s < n) × (i < w))
     → length xs ≤ below n (λ s. below w (λ i. tally (is_pair s i) xs))
 length-summed n w [] h = omega arith
 length-summed n w (x ∷ xs) h =
-    let e = ap bit (own x) in
+    let e : bit (is_pair x.0 x.1 x) ≡ 1 = grind arith in
     let p = h x.0 x.1 (omega arith) in
     let one = below-hit n (λ s. below w (λ i. bit (is_pair s i x))) x.0 p.0
     (below-hit w (λ i. bit (is_pair x.0 i x)) x.1 p.1 (omega arith)) in
@@ -473,25 +468,18 @@ banks_weigh most (b ∷ banks) h = grind (arith, h 0, commands_weigh, length-app
 field_weighs : (slot i : ℕ) (f : Field) → field_weight f ≤ length (targets_of_field slot i f) - 1
 field_weighs slot i f = grind (arith, length-map, f.waiting)
 
-fields_weigh : (slot n : ℕ) (fields : List Field) → total field_weight fields ≤ length (gathered (targets_of_field slot) n fields) - 1
-fields_weigh slot n [] = omega arith
-fields_weigh slot n (f ∷ fields) =
-    let ih = fields_weigh slot (suc n) fields in
-    let own = field_weighs slot n f in
-    let k = length-append (targets_of_field slot n f) (gathered (targets_of_field slot) (suc n) fields) in
+-- what weighs less than its loads does so in a list, too
+all_weigh : {X : Type 0} (f : X → ℕ) (g : ℕ → X → List Target) → ((n : ℕ) (x : X) → f x ≤ length (g n x) - 1) → (n : ℕ) (xs : List X)
+    → total f xs ≤ length (gathered g n xs) - 1
+all_weigh f g h n [] = omega arith
+all_weigh f g h n (x ∷ xs) =
+    let ih = all_weigh f g h (suc n) xs in
+    let own = h n x in
+    let k = length-append (g n x) (gathered g (suc n) xs) in
     omega arith
 
 register_weighs : (slot : ℕ) (r : Register) → register_weight r ≤ length (targets_of slot r) - 1
-register_weighs slot r = grind (arith, fields_weigh)
-
--- a load weighs only behind another one
-registers_weigh : (n : ℕ) (registers : List Register) → total register_weight registers ≤ length (gathered targets_of n registers) - 1
-registers_weigh n [] = omega arith
-registers_weigh n (r ∷ registers) =
-    let ih = registers_weigh (suc n) registers in
-    let own = register_weighs n r in
-    let k = length-append (targets_of n r) (gathered targets_of (suc n) registers) in
-    omega arith
+register_weighs slot r = grind (arith, all_weigh field_weight (targets_of_field slot) (field_weighs slot) 0 r.fields)
 
 tags_count : (c : Cache) → length (tags c) ≡ length c.ready + length (targets c.registers)
 tags_count c = grind (arith, length-append, length-map)
@@ -500,7 +488,7 @@ tags_count c = grind (arith, length-append, length-map)
 pub none_behind : (c : Cache) → length (tags c) - length c.ready < 2 → total register_weight c.registers ≡ 0
 unfolding targets
 none_behind c few =
-    let registers = registers_weigh 0 c.registers in
+    let registers = all_weigh register_weight targets_of register_weighs 0 c.registers in
     let n = tags_count c in
     omega arith
 
@@ -509,7 +497,7 @@ unfolding targets
 weight_bound z m sound bounded =
     let way = on_their_way z m sound in
     let banks = banks_weigh _ _ bounded.few_commands in
-    let registers = registers_weigh 0 m.cache.registers in
+    let registers = all_weigh register_weight targets_of register_weighs 0 m.cache.registers in
     let n = tags_count m.cache in
     let t = bounded.few_tags in
     let q = bounded.few_queued in

@@ -29,17 +29,17 @@ use Rattle.std.proofs.lemmas.Nat.{mod-mul-add, mul-le}
 use Rattle.std.proofs.lemmas.List.{nil_from_length}
 use Rattle.flat_model.specs.declared.Word.{Word}
 use Rattle.flat_model.specs.declared.Event.TheVariants.{Load, Store, Prefetch, Evict, Arrive, Drain, Serve, Process, Take}
-use Rattle.memory_banks.specs.declared.Command.TheVariants.{Read, Write}
 use Rattle.cache_directory.specs.declared.Cell.{Cell}
 use Rattle.cache_unit.specs.Counts.{tally}
 use Rattle.cache_unit.proofs.Lists.{live_for-none, tally-append}
 use Rattle.cache_unit.proofs.Made.{all_same, in_size}
 use Rattle.machine_core.specs.Law.{IsLawful, HasRoom, ServesRequests, IsServed, RequestsAreServed, IsKept, WalkIsKept, IsDriven}
-use Rattle.machine_core.specs.Pump.{total, command_weight, bank_weight, weight, pumped, after_event, after_pumps}
+use Rattle.machine_core.specs.Pump.{total, bank_weight, weight, pumped, after_event, after_pumps}
 use Rattle.machine_core.specs.Sound.{is_for, IsSound, IsBounded, own_bank}
 use Rattle.machine_core.proofs.Requests.{sound_opening, nothing_owed, opening_idle, flat_in_use, flat_opening, settled_ok}
 use Rattle.machine_core.proofs.Walking.{event_ok, sound_apply, flat_apply, flat_walked}
-use Rattle.machine_core.proofs.Weighing.{all_idle, pumped_lowers, pumped_rests, weight_bound, on_their_way, pumped_at_rest}
+use Rattle.machine_core.proofs.Weighing.{commands_weigh_all, all_idle, pumped_lowers, pumped_rests, weight_bound, on_their_way}
+use Rattle.machine_core.proofs.Weighing.{pumped_at_rest}
 use Rattle.machine_core.proofs.Routing.{bounded_apply}
 use Rattle.machine_core.proofs.Limits.{pending_part}
 use Rattle.flat_model.specs.declared.Cause.TheVariants.{StrayWord}
@@ -267,11 +267,6 @@ total_zero f d [] k l e = absurd (omega arith)
 total_zero f d (x ∷ xs) zero l e = omega arith
 total_zero f d (x ∷ xs) (suc k) l e = total_zero f d xs k (omega arith) (omega arith)
 
-no_commands : (queue : List Command) → total command_weight queue ≡ 0 → queue ≡ []
-no_commands [] e = refl
-no_commands (Read slot i place ∷ rest) e = absurd (omega arith)
-no_commands (Write place word lanes ∷ rest) e = absurd (omega arith)
-
 dirty_few : (block at : ℕ) (cells : List Cell) → length (dirty_from block at cells) ≤ length cells
 dirty_few block at [] = omega arith
 dirty_few block at (cell ∷ rest) = grind (arith, dirty_few block (at + 1) rest)
@@ -292,7 +287,8 @@ module _ (z : Sizes) (lawful : IsLawful z) (roomy : HasRoom z) (m : Machine) (so
   idle : (b : ℕ) → b < length m.banks → ((bank_at m.banks b).answers ≡ []) × ((bank_at m.banks b).queue ≡ [])
   idle b l =
       let own = total_zero bank_weight no_bank _ b l (omega arith) in
-      (nil_from_length (bank_at _ b).answers (omega arith), no_commands (bank_at _ b).queue (omega arith))
+      let k = commands_weigh_all (bank_at m.banks b).queue in
+      (nil_from_length (bank_at m.banks b).answers (omega arith), nil_from_length (bank_at m.banks b).queue (omega arith))
 
   nothing_pending : all_pending m.banks ≡ []
   nothing_pending = all_idle _ idle
