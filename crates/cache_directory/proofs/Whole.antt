@@ -173,30 +173,23 @@ order_short ways words d s h =
 
 -- ---- a block is installed, and a frame released
 
+order_kept : (orders : List (List ℕ)) (t s g : ℕ) (o : List ℕ) → (s ≡ t → ⊥) → times_in (get_or (set orders t o) s []) g
+    ≡ times_in (get_or orders s []) g
+order_kept orders t s g o n = ap (λ l. times_in l g) (get_or-set_other orders t s o [] n)
+
 pub whole-installed : (ways words : ℕ) (d : Frames) (f b : ℕ) → IsWhole ways words d → f < length d.frames
     → (frame_at d.frames f).block ≡ None → f / ways ≡ set_of d b → frame_of d.frames b ≡ None
     → IsWhole ways words (installed ways words d f b)
 unfolding installed fresh_frame frame_of
 whole-installed ways words d f b h there free of_set absent =
-    whole-changed ways words d f _ _ h there (length-set _ _ _) (λ c e. length-replicate words zero_cell) (λ e. absurd (cc))
+    whole-changed ways words d f (fresh_frame words b) (set d.orders (f / ways) (order_of d (f / ways) ++ f ∷ [])) h there
+    (length-set _ _ _) (λ c e. length-replicate words zero_cell) (λ e. absurd (cc))
     (λ c e. (let q : b ≡ c = cc in cc (of_set, q))) (λ g c e e'. absurd (lost g c e e'))
-    own others
+    (λ s. grind (arith, cases_eq, get_or-set_same, in_orders, times-append, order_kept, before, times-one, eq-eqb, ne_eqb))
+    (λ s g n. grind (arith, cases_eq, get_or-set_same, in_orders, times-append, order_kept, times-none))
   where
     in_orders : f / ways < length d.orders
     in_orders = slot_in f ways _ _ h.frames_there h.some_way there
-
-    pushed : (s g : ℕ) → s ≡ f / ways
-        → times_in (get_or (set d.orders (f / ways) (order_of d (f / ways) ++ f ∷ [])) s []) g
-        ≡ times_in (order_of d s) g + times_in (f ∷ []) g
-    pushed s g p = cc (
-      p,
-      get_or-set_same d.orders (f / ways) (order_of d (f / ways) ++ f ∷ []) [] in_orders,
-      times-append (order_of d (f / ways)) (f ∷ []) g,
-    )
-
-    kept : (s g : ℕ) → (s ≡ f / ways → ⊥)
-        → times_in (get_or (set d.orders (f / ways) (order_of d (f / ways) ++ f ∷ [])) s []) g ≡ times_in (order_of d s) g
-    kept s g m = ap (λ l. times_in l g) (get_or-set_other _ (f / ways) s _ [] m)
 
     lost : (g c : ℕ) → Some b ≡ Some c → (frame_at d.frames g).block ≡ Some c → ⊥
     lost g c e e' =
@@ -206,38 +199,18 @@ whole-installed ways words d f b h there free of_set absent =
     before : (s : ℕ) → times_in (order_of d s) f ≡ 0
     before s = grind arith
 
-    own : (s : ℕ) → times_in (get_or (set d.orders (f / ways) (order_of d (f / ways) ++ f ∷ [])) s []) f ≡ cond (f / ways == s) 1 0
-    own s = grind (arith, cases_eq, pushed, kept, before, times-one, eq-eqb, ne_eqb)
-
-    others : (s g : ℕ) → (g ≡ f → ⊥)
-        → times_in (get_or (set d.orders (f / ways) (order_of d (f / ways) ++ f ∷ [])) s []) g ≡ times_in (order_of d s) g
-    others s g n = grind (arith, cases_eq, pushed, kept, times-none)
-
 pub whole-released : (ways words : ℕ) (d : Frames) (f : ℕ) → IsWhole ways words d → is_held d f ≡ true
     → IsWhole ways words (released ways d f)
 unfolding released
 whole-released ways words d f h held =
-    whole-changed ways words d f empty_frame _ h there (length-set _ _ _) (λ c e. absurd (cc)) (λ e. refl) (λ c e. absurd (cc))
-    (λ g c e e'. absurd (cc)) own others
+    whole-changed ways words d f empty_frame (set d.orders (f / ways) (without (order_of d (f / ways)) f)) h there
+    (length-set _ _ _) (λ c e. absurd (cc)) (λ e. refl) (λ c e. absurd (cc))
+    (λ g c e e'. absurd (cc))
+    (λ s. grind (arith, cases_eq, get_or-set_same, in_orders, order_kept, times-without_same, h.ordered s f, ne_eqb))
+    (λ s g n. grind (arith, cases_eq, get_or-set_same, in_orders, order_kept, times-without_other))
   where
     there : f < length d.frames
     there = held_there d f held
 
-    taken : (s g : ℕ) → s ≡ f / ways
-        → times_in (get_or (set d.orders (f / ways) (without (order_of d (f / ways)) f)) s []) g ≡ times_in (without (order_of d s) f) g
-    taken s g p = cc (
-      p,
-      get_or-set_same d.orders (f / ways) (without (order_of d (f / ways)) f) []
-          (slot_in f ways _ _ h.frames_there h.some_way there),
-    )
-
-    kept : (s g : ℕ) → (s ≡ f / ways → ⊥)
-        → times_in (get_or (set d.orders (f / ways) (without (order_of d (f / ways)) f)) s []) g ≡ times_in (order_of d s) g
-    kept s g m = ap (λ l. times_in l g) (get_or-set_other _ (f / ways) s _ [] m)
-
-    own : (s : ℕ) → times_in (get_or (set d.orders (f / ways) (without (order_of d (f / ways)) f)) s []) f ≡ 0
-    own s = grind (arith, cases_eq, taken, kept, times-without_same, h.ordered s f, ne_eqb)
-
-    others : (s g : ℕ) → (g ≡ f → ⊥)
-        → times_in (get_or (set d.orders (f / ways) (without (order_of d (f / ways)) f)) s []) g ≡ times_in (order_of d s) g
-    others s g n = grind (arith, cases_eq, taken, kept, times-without_other)
+    in_orders : f / ways < length d.orders
+    in_orders = slot_in f ways _ _ h.frames_there h.some_way there
