@@ -1,6 +1,6 @@
 -- What each call leaves is whole. Here `d` is what the fields show, and `v` what the caller sees.
 use Rattle.std.proofs.Common.{◌≡◌, ℕ, ◌*◌, ◌/◌, ◌%◌, ◌<◌, true, List, [], ◌∷◌, ◌++◌, length, get_or, set, Option, Some, None, is_none, not}
-use Rattle.std.proofs.Common.{refl, ap, ap₂, sym, ◌∙◌, arith, length-append, get_or-set_same}
+use Rattle.std.proofs.Common.{length-set, refl, ap, ap₂, sym, ◌∙◌, arith, length-append, get_or-set_same}
 use Rattle.std.specs.List.{All, find, range_with_len}
 use Rattle.std.proofs.lemmas.List.{get_or_default}
 use Rattle.flat_model.specs.declared.limits.TheConstants.{MAX_WAYS}
@@ -14,8 +14,7 @@ use Rattle.cache_directory.specs.Frames.{filled, written, settled, fresh_frame, 
 use Rattle.cache_directory.specs.Frames.{chosen, is_all_pending, are_pending}
 use Rattle.cache_directory.proofs.Misses.{MayInstall}
 use Rattle.cache_directory.proofs.Choices.{look_in_set, chosen-all_pending}
-use Rattle.cache_directory.proofs.Whole.{held_there, slot_in, order_short, order_there, whole-filled, whole-written, whole-settled}
-use Rattle.cache_directory.proofs.Whole.{whole-installed, whole-released}
+use Rattle.cache_directory.proofs.Whole.{held_there, slot_in, order_short, order_there, whole-kept, whole-installed, whole-released}
 
 pub whole_inside : (ways words : ℕ) (d v : Frames) → d ≡ v → IsWhole ways words v → IsWhole ways words d
 whole_inside ways words d v e h = rw e h
@@ -29,23 +28,27 @@ order_read : (ways words : ℕ) (d : Frames) (f : ℕ) (o : List ℕ) → IsWhol
     → o ≡ get_or d.orders (f / ways) o → o ≡ order_of d (f / ways)
 order_read ways words d f o h there e = e ∙ get_or_default _ _ o [] (slot_in f ways _ _ h.frames_there h.some_way there)
 
-pub fill_whole : (ways words : ℕ) (d v : Frames) (f i : ℕ) (w : Word) (keep : Lanes) (x y : Frame) → IsWhole ways words d → d ≡ v
-    → is_held v f ≡ true → x ≡ get_or d.frames f x → y ≡ filled x i w keep → IsWhole ways words (with_frame d f y)
-fill_whole ways words d v f i w keep x y h e held read change =
+-- a frame that keeps its block
+pub change_whole : (ways words : ℕ) (d v : Frames) (f : ℕ) (x y : Frame) → IsWhole ways words v → d ≡ v → is_held v f ≡ true
+    → x ≡ get_or d.frames f x → (y.block ≡ x.block) × (length y.cells ≡ length x.cells) → IsWhole ways words (with_frame d f y)
+change_whole ways words d v f x y h e held read same =
     let held' : is_held d f ≡ true = rw e held in
-    rw (change, frame_read d f x held' read) (whole-filled ways words d f i w keep h held')
+    let is = frame_read d f x held' read in
+    whole-kept ways words d f y (rw e h) held' (same.0 ∙ ap (λ (k : Frame). k.block) is) (same.1 ∙ ap (λ (k : Frame). length k.cells) is)
 
-pub write_whole : (ways words : ℕ) (d v : Frames) (f i : ℕ) (w : Word) (lanes : Lanes) (x y : Frame) → IsWhole ways words d → d ≡ v
-    → is_held v f ≡ true → x ≡ get_or d.frames f x → y ≡ written x i w lanes → IsWhole ways words (with_frame d f y)
-write_whole ways words d v f i w lanes x y h e held read change =
-    let held' : is_held d f ≡ true = rw e held in
-    rw (change, frame_read d f x held' read) (whole-written ways words d f i w lanes h held')
+pub filled_keeps : (x : Frame) (i : ℕ) (w : Word) (keep : Lanes) (y : Frame) → y ≡ filled x i w keep
+    → (y.block ≡ x.block) × (length y.cells ≡ length x.cells)
+unfolding filled
+filled_keeps x i w keep y e = (ap (λ (k : Frame). k.block) e, ap (λ (k : Frame). length k.cells) e ∙ length-set x.cells i _)
 
-pub settle_whole : (ways words : ℕ) (d v : Frames) (f : ℕ) (x y : Frame) → IsWhole ways words d → d ≡ v → is_held v f ≡ true
-    → x ≡ get_or d.frames f x → y ≡ settled x → IsWhole ways words (with_frame d f y)
-settle_whole ways words d v f x y h e held read change =
-    let held' : is_held d f ≡ true = rw e held in
-    rw (change, frame_read d f x held' read) (whole-settled ways words d f h held')
+pub written_keeps : (x : Frame) (i : ℕ) (w : Word) (lanes : Lanes) (y : Frame) → y ≡ written x i w lanes
+    → (y.block ≡ x.block) × (length y.cells ≡ length x.cells)
+unfolding written
+written_keeps x i w lanes y e = (ap (λ (k : Frame). k.block) e, ap (λ (k : Frame). length k.cells) e ∙ length-set x.cells i _)
+
+pub settled_keeps : (x y : Frame) → y ≡ settled x → (y.block ≡ x.block) × (length y.cells ≡ length x.cells)
+unfolding settled
+settled_keeps x y e = (ap (λ (k : Frame). k.block) e, ap (λ (k : Frame). length k.cells) e)
 
 -- what `install` asks, of what the fields show
 pub may_install : (ways : ℕ) (d v : Frames) (f block : ℕ) → d ≡ v → f < length v.frames → (frame_at v.frames f).block ≡ None

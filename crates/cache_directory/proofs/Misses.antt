@@ -1,7 +1,6 @@
 -- A miss: the frame that is chosen may be released, and then takes the block.
-use Rattle.std.proofs.Common.{◌≡◌, ℕ, ◌/◌, ◌<◌, length, Some, None, is_some, ap, inl, inr, ◌⊎◌, length-set, get_or-set_same}
-use Rattle.std.proofs.Common.{get_or-set_other}
-use Rattle.std.proofs.lemmas.Bool.{cases_eq, both_ways}
+use Rattle.std.proofs.Common.{arith, ◌≡◌, ℕ, ◌/◌, ◌<◌, length, Some, None, length-set, get_or-set_same, get_or-set_other}
+use Rattle.std.proofs.lemmas.Bool.{cases_eq}
 use Rattle.cache_directory.specs.Frames.{Frames, empty_frame, frame_at, frame_of, set_of, fresh_frame, installed, released}
 use Rattle.cache_directory.proofs.Choices.{found_nowhere, found_none}
 
@@ -35,13 +34,10 @@ released-sets ways d f = length-set _ _ _
 -- a block that is absent stays absent
 pub released-absent : (ways : ℕ) (d : Frames) (f block : ℕ) → f < length d.frames → frame_of d.frames block ≡ None
     → frame_of (released ways d f).frames block ≡ None
-released-absent ways d f block there absent = found_none (released ways d f) block (λ g held. nowhere g held (cases_eq g f))
+released-absent ways d f block there absent = found_none (released ways d f) block (λ g held. nowhere g held)
   where
-    nowhere : (g : ℕ) → (frame_at (released ways d f).frames g).block ≡ Some block → (g ≡ f) ⊎ (g ≡ f → ⊥) → ⊥
-    nowhere g held (inl q) =
-        let vacant : (frame_at (released ways d f).frames g).block ≡ None = rw q (ap (λ x. x.block) (released-here ways d f there)) in
-        both_ways _ (ap is_some vacant) (ap is_some held)
-    nowhere g held (inr n) = found_nowhere d block g absent (cc (released-elsewhere ways d f g n, held))
+    nowhere : (g : ℕ) → (frame_at (released ways d f).frames g).block ≡ Some block → ⊥
+    nowhere g held = grind (arith, cases_eq, released-here, released-elsewhere, found_nowhere)
 
 -- ---- a block is installed
 

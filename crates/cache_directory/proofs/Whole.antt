@@ -1,15 +1,13 @@
 -- What is always so of a directory stays so.
 use Rattle.std.proofs.Common.{◌≡◌, ℕ, suc, zero, ◌+◌, ◌<◌, ◌≤◌, List, [], ◌∷◌, ◌++◌, length, refl, arith, inl, inr, ◌⊎◌, eq-eqb, ne_eqb}
-use Rattle.std.proofs.Common.{◌-◌, ◌*◌, ◌/◌, ◌%◌, Bool, true, false, cond, ◌&&◌, ◌==◌, get_or, set, Option, Some, None, is_some, ap, sym}
-use Rattle.std.proofs.Common.{◌∙◌, length-set, get_or-set_same, get_or-set_other}
+use Rattle.std.proofs.Common.{◌-◌, ◌*◌, ◌/◌, ◌%◌, true, cond, ◌&&◌, ◌==◌, get_or, set, Some, None, is_some, ap, sym, ◌∙◌}
+use Rattle.std.proofs.Common.{length-set, get_or-set_same, get_or-set_other}
 use Rattle.std.specs.List.{All}
 use Rattle.std.proofs.lemmas.Bool.{cases_eq, cases_lt, false≢true, both_ways}
 use Rattle.std.proofs.lemmas.List.Elements.{All-nil, All-cons, All-head, All-tail}
 use Rattle.cache_directory.specs.Frames.{times_in, without, Frame, Frames, IsWhole, empty_frame, zero_cell, frame_at, is_held, frame_of}
-use Rattle.cache_directory.specs.Frames.{order_of, set_of, with_frame, filled, written, settled, fresh_frame, installed, released}
+use Rattle.cache_directory.specs.Frames.{order_of, set_of, with_frame, fresh_frame, installed, released}
 use Rattle.std.proofs.lemmas.List.{get_or_past, length-replicate}
-use Rattle.flat_model.specs.declared.Word.{Word}
-use Rattle.flat_model.specs.declared.Lanes.{Lanes}
 use Rattle.flat_model.specs.Places.{is_number}
 use Rattle.flat_model.proofs.Places.{place_of-nowhere}
 
@@ -104,9 +102,10 @@ pub whole-changed : (ways words : ℕ) (d : Frames) (f : ℕ) (x : Frame) (os : 
     → length os ≡ length d.orders → ((b : ℕ) → x.block ≡ Some b → length x.cells ≡ words) → (x.block ≡ None → x ≡ empty_frame)
     → ((b : ℕ) → x.block ≡ Some b → f / ways ≡ b % length d.orders)
     → ((g b : ℕ) → x.block ≡ Some b → (frame_at d.frames g).block ≡ Some b → g ≡ f)
-    → ((s g : ℕ) → times_in (get_or os s []) g ≡ cond (is_some (frame_at (set d.frames f x) g).block && (g / ways == s)) 1 0)
+    → ((s : ℕ) → times_in (get_or os s []) f ≡ cond (is_some x.block && (f / ways == s)) 1 0)
+    → ((s g : ℕ) → (g ≡ f → ⊥) → times_in (get_or os s []) g ≡ times_in (order_of d s) g)
     → IsWhole ways words (record { frames = set d.frames f x; orders = os })
-whole-changed ways words d f x os h there sets cells empty in_set alone ordered = record {
+whole-changed ways words d f x os h there sets cells empty in_set alone own others = record {
   some_way = h.some_way;
   few_ways = h.few_ways;
   some_word = h.some_word;
@@ -114,46 +113,23 @@ whole-changed ways words d f x os h there sets cells empty in_set alone ordered 
   some_set = omega arith;
   few_sets = omega arith;
   frames_there = length-set _ f x ∙ (cc (h.frames_there, sets));
-  cells = λ g b e. cells_at g b e (cases_eq g f);
-  empty = λ g e. empty_at g e (cases_eq g f);
-  in_set = λ g b e. rw sets (in_set_at g b e (cases_eq g f));
-  alone = λ g k b e e'. alone_at g k b e e' (cases_eq g f) (cases_eq k f);
-  ordered = ordered;
+  cells = λ g b e. grind (arith, here, other, cases_eq, cells, h.cells);
+  empty = λ g e. grind (arith, here, other, cases_eq, empty, h.empty);
+  in_set = λ g b e. grind (arith, here, other, cases_eq, in_set, h.in_set, sets);
+  alone = λ g k b e e'. grind (arith, here, other, cases_eq, alone, h.alone);
+  ordered = λ s g. ordered s g (cases_eq g f);
 }
   where
-    fs : List Frame
-    fs = set d.frames f x
-
-    here : (g : ℕ) → g ≡ f → frame_at fs g ≡ x
+    here : (g : ℕ) → g ≡ f → frame_at (set d.frames f x) g ≡ x
     here g q = cc (q, get_or-set_same _ f x empty_frame there)
 
-    other : (g : ℕ) → (g ≡ f → ⊥) → frame_at fs g ≡ frame_at d.frames g
+    other : (g : ℕ) → (g ≡ f → ⊥) → frame_at (set d.frames f x) g ≡ frame_at d.frames g
     other g n = get_or-set_other _ f g x empty_frame n
 
-    block_here : (g : ℕ) (o : Option ℕ) → g ≡ f → (frame_at fs g).block ≡ o → x.block ≡ o
-    block_here g o q e = cc (here g q, e)
-
-    block_other : (g : ℕ) (o : Option ℕ) → (g ≡ f → ⊥) → (frame_at fs g).block ≡ o → (frame_at d.frames g).block ≡ o
-    block_other g o n e = cc (other g n, e)
-
-    cells_at : (g b : ℕ) → (frame_at fs g).block ≡ Some b → (g ≡ f) ⊎ (g ≡ f → ⊥) → length (frame_at fs g).cells ≡ words
-    cells_at g b e (inl q) = cc (here g q, cells b (block_here g _ q e))
-    cells_at g b e (inr n) = cc (other g n, h.cells g b (block_other g _ n e))
-
-    empty_at : (g : ℕ) → (frame_at fs g).block ≡ None → (g ≡ f) ⊎ (g ≡ f → ⊥) → frame_at fs g ≡ empty_frame
-    empty_at g e (inl q) = here g q ∙ empty (block_here g None q e)
-    empty_at g e (inr n) = other g n ∙ h.empty g (block_other g None n e)
-
-    in_set_at : (g b : ℕ) → (frame_at fs g).block ≡ Some b → (g ≡ f) ⊎ (g ≡ f → ⊥) → g / ways ≡ b % length d.orders
-    in_set_at g b e (inl q) = cc (q, in_set b (block_here g _ q e))
-    in_set_at g b e (inr n) = h.in_set g b (block_other g _ n e)
-
-    alone_at : (g k b : ℕ) → (frame_at fs g).block ≡ Some b → (frame_at fs k).block ≡ Some b → (g ≡ f) ⊎ (g ≡ f → ⊥) → (k ≡ f) ⊎ (k ≡ f → ⊥)
-        → g ≡ k
-    alone_at g k b e e' (inl q) (inl r) = q ∙ sym r
-    alone_at g k b e e' (inl q) (inr n) = absurd (n (alone k b (block_here g _ q e) (block_other k _ n e')))
-    alone_at g k b e e' (inr n) (inl r) = absurd (n (alone g b (block_here k _ r e') (block_other g _ n e)))
-    alone_at g k b e e' (inr n) (inr m) = h.alone g k b (block_other g _ n e) (block_other k _ m e')
+    ordered : (s g : ℕ) → (g ≡ f) ⊎ (g ≡ f → ⊥)
+        → times_in (get_or os s []) g ≡ cond (is_some (frame_at (set d.frames f x) g).block && (g / ways == s)) 1 0
+    ordered s g (inl q) = cc (q, here g q, own s)
+    ordered s g (inr n) = cc (other g n, h.ordered s g, others s g n)
 
 -- a frame keeps its block
 pub whole-kept : (ways words : ℕ) (d : Frames) (f : ℕ) (x : Frame) → IsWhole ways words d → is_held d f ≡ true
@@ -161,31 +137,10 @@ pub whole-kept : (ways words : ℕ) (d : Frames) (f : ℕ) (x : Frame) → IsWho
 whole-kept ways words d f x h held same long =
     whole-changed ways words d f x _ h there refl (λ b e. long ∙ h.cells f b (sym same ∙ e)) (λ e. absurd (cc))
     (λ b e. h.in_set f b (sym same ∙ e)) (λ g b e e'. h.alone g f b e' (sym same ∙ e))
-    (λ s g. (cc (h.ordered s g, held_same g (cases_eq g f))))
+    (λ s. (cc (h.ordered s f, same))) (λ s g n. refl)
   where
     there : f < length d.frames
     there = held_there d f held
-
-    held_same : (g : ℕ) → (g ≡ f) ⊎ (g ≡ f → ⊥) → is_some (frame_at (set d.frames f x) g).block ≡ is_held d g
-    held_same g (inl q) =
-        let at = get_or-set_same _ f x empty_frame there in
-        rw q (cc (at, ap is_some same))
-    held_same g (inr n) = ap (λ y. is_some y.block) (get_or-set_other _ f g x empty_frame n)
-
-pub whole-filled : (ways words : ℕ) (d : Frames) (f i : ℕ) (w : Word) (keep : Lanes) → IsWhole ways words d → is_held d f ≡ true
-    → IsWhole ways words (with_frame d f (filled (frame_at d.frames f) i w keep))
-unfolding filled
-whole-filled ways words d f i w keep h held = whole-kept ways words d f _ h held refl (length-set (frame_at _ f).cells i _)
-
-pub whole-written : (ways words : ℕ) (d : Frames) (f i : ℕ) (w : Word) (lanes : Lanes) → IsWhole ways words d → is_held d f ≡ true
-    → IsWhole ways words (with_frame d f (written (frame_at d.frames f) i w lanes))
-unfolding written
-whole-written ways words d f i w lanes h held = whole-kept ways words d f _ h held refl (length-set (frame_at _ f).cells i _)
-
-pub whole-settled : (ways words : ℕ) (d : Frames) (f : ℕ) → IsWhole ways words d → is_held d f ≡ true
-    → IsWhole ways words (with_frame d f (settled (frame_at d.frames f)))
-unfolding settled
-whole-settled ways words d f h held = whole-kept ways words d f _ h held refl refl
 
 -- ---- the orders
 
@@ -214,114 +169,48 @@ order_there ways words d s h = All-times (λ f. f < length _) _ (λ f p. held_th
 
 pub order_short : (ways words : ℕ) (d : Frames) (s : ℕ) → IsWhole ways words d → length (order_of d s) ≤ ways
 order_short ways words d s h =
-    length-within ways _ _ (λ f. once f _ (h.ordered s f)) (λ f p. in_row f ways s h.some_way (in_order ways words d s f h p).1)
-  where
-    once : (f : ℕ) (b : Bool) → times_in (order_of d s) f ≡ cond b 1 0 → times_in (order_of d s) f ≤ 1
-    once f true e = omega arith
-    once f false e = omega arith
+    length-within ways _ _ (λ f. grind (arith, h.ordered)) (λ f p. in_row f ways s h.some_way (in_order ways words d s f h p).1)
 
 -- ---- a block is installed, and a frame released
+
+order_kept : (orders : List (List ℕ)) (t s g : ℕ) (o : List ℕ) → (s ≡ t → ⊥) → times_in (get_or (set orders t o) s []) g
+    ≡ times_in (get_or orders s []) g
+order_kept orders t s g o n = ap (λ l. times_in l g) (get_or-set_other orders t s o [] n)
 
 pub whole-installed : (ways words : ℕ) (d : Frames) (f b : ℕ) → IsWhole ways words d → f < length d.frames
     → (frame_at d.frames f).block ≡ None → f / ways ≡ set_of d b → frame_of d.frames b ≡ None
     → IsWhole ways words (installed ways words d f b)
 unfolding installed fresh_frame frame_of
 whole-installed ways words d f b h there free of_set absent =
-    whole-changed ways words d f x os h there (length-set _ t _) (λ c e. length-replicate words zero_cell) (λ e. absurd (cc))
+    whole-changed ways words d f (fresh_frame words b) (set d.orders (f / ways) (order_of d (f / ways) ++ f ∷ [])) h there
+    (length-set _ _ _) (λ c e. length-replicate words zero_cell) (λ e. absurd (cc))
     (λ c e. (let q : b ≡ c = cc in cc (of_set, q))) (λ g c e e'. absurd (lost g c e e'))
-    (λ s g. ordered s g (cases_eq s t) (cases_eq g f))
+    (λ s. grind (arith, cases_eq, get_or-set_same, in_orders, times-append, order_kept, before, times-one, eq-eqb, ne_eqb))
+    (λ s g n. grind (arith, cases_eq, get_or-set_same, in_orders, times-append, order_kept, times-none))
   where
-    x : Frame
-    x = fresh_frame words b
-
-    t : ℕ
-    t = f / ways
-
-    os : List (List ℕ)
-    os = set d.orders t (order_of d t ++ f ∷ [])
-
-    in_orders : t < length d.orders
-    in_orders = grind arith
+    in_orders : f / ways < length d.orders
+    in_orders = slot_in f ways _ _ h.frames_there h.some_way there
 
     lost : (g c : ℕ) → Some b ≡ Some c → (frame_at d.frames g).block ≡ Some c → ⊥
     lost g c e e' =
         let no = place_of-nowhere (λ y. is_number y.block b) _ g empty_frame absent (held_there d g (cc)) in
         both_ways _ no (cc (e' ∙ sym e, eq-eqb b b refl))
 
-    unheld : is_held d f ≡ false
-    unheld = ap is_some free
-
     before : (s : ℕ) → times_in (order_of d s) f ≡ 0
     before s = grind arith
-
-    other : (g : ℕ) → (g ≡ f → ⊥) → frame_at (set d.frames f x) g ≡ frame_at d.frames g
-    other g n = get_or-set_other _ f g x empty_frame n
-
-    at_other : (s g : ℕ) → (g ≡ f → ⊥) → times_in (order_of d s) g ≡ cond (is_some (frame_at (set d.frames f x) g).block && (g / ways == s))
-        1 0
-    at_other s g n = cc (h.ordered s g, other g n)
-
-    at_frame : (s g : ℕ) → g ≡ f → is_some (frame_at (set d.frames f x) g).block ≡ true
-    at_frame s g q = ap (λ k. is_some (frame_at (set d.frames f x) k).block) q
-        ∙ ap (λ y. is_some y.block) (get_or-set_same _ f x empty_frame there)
-
-    pushed : (s g : ℕ) → s ≡ t → times_in (get_or os s []) g ≡ times_in (order_of d t) g + times_in (f ∷ []) g
-    pushed s g p = ap (λ k. times_in (get_or os k []) g) p ∙ (cc (get_or-set_same _ t _ [] in_orders, times-append _ _ g))
-
-    ordered : (s g : ℕ) → (s ≡ t) ⊎ (s ≡ t → ⊥) → (g ≡ f) ⊎ (g ≡ f → ⊥)
-        → times_in (get_or os s []) g ≡ cond (is_some (frame_at (set d.frames f x) g).block && (g / ways == s)) 1 0
-    ordered s g (inl p) (inl q) =
-        let count : times_in _ g ≡ 1 = pushed s g p ∙ rw (q, times-one f, before t) refl in
-        let in_set = eq-eqb _ s (ap (λ k. k / ways) q ∙ sym p) in
-        count ∙ rw (at_frame s g q, in_set) refl
-    ordered s g (inl p) (inr n) =
-        let count = pushed s g p ∙ rw (times-none f g (λ r. n (sym r))) (omega arith) in
-        count ∙ (ap (λ k. times_in (order_of d k) g) (sym p) ∙ at_other s g n)
-    ordered s g (inr m) (inl q) =
-        let count : times_in _ g ≡ 0 = ap (λ l. times_in l g) (get_or-set_other _ t s _ [] m) ∙ rw q (before s) in
-        let in_set = ne_eqb _ s (λ r. m (sym r ∙ ap (λ k. k / ways) q)) in
-        count ∙ rw (at_frame s g q, in_set) refl
-    ordered s g (inr m) (inr n) = ap (λ l. times_in l g) (get_or-set_other _ t s _ [] m) ∙ at_other s g n
 
 pub whole-released : (ways words : ℕ) (d : Frames) (f : ℕ) → IsWhole ways words d → is_held d f ≡ true
     → IsWhole ways words (released ways d f)
 unfolding released
 whole-released ways words d f h held =
-    whole-changed ways words d f empty_frame os h there (length-set _ t _) (λ c e. absurd (cc)) (λ e. refl) (λ c e. absurd (cc))
-    (λ g c e e'. absurd (cc)) (λ s g. ordered s g (cases_eq s t) (cases_eq g f))
+    whole-changed ways words d f empty_frame (set d.orders (f / ways) (without (order_of d (f / ways)) f)) h there
+    (length-set _ _ _) (λ c e. absurd (cc)) (λ e. refl) (λ c e. absurd (cc))
+    (λ g c e e'. absurd (cc))
+    (λ s. grind (arith, cases_eq, get_or-set_same, in_orders, order_kept, times-without_same, h.ordered s f, ne_eqb))
+    (λ s g n. grind (arith, cases_eq, get_or-set_same, in_orders, order_kept, times-without_other))
   where
     there : f < length d.frames
     there = held_there d f held
 
-    t : ℕ
-    t = f / ways
-
-    os : List (List ℕ)
-    os = set d.orders t (without (order_of d t) f)
-
-    in_orders : t < length d.orders
+    in_orders : f / ways < length d.orders
     in_orders = slot_in f ways _ _ h.frames_there h.some_way there
-
-    at_other : (s g : ℕ) → (g ≡ f → ⊥) → times_in (order_of d s) g ≡ cond (is_some (frame_at (set d.frames f empty_frame) g).block
-        && (g / ways == s)) 1 0
-    at_other s g n = cc (h.ordered s g, get_or-set_other _ f g empty_frame empty_frame n)
-
-    at_frame : (g : ℕ) → g ≡ f → is_some (frame_at (set d.frames f empty_frame) g).block ≡ false
-    at_frame g q = ap (λ k. is_some (frame_at (set d.frames f empty_frame) k).block) q
-        ∙ ap (λ y. is_some y.block) (get_or-set_same _ f empty_frame empty_frame there)
-
-    taken : (s g : ℕ) → s ≡ t → times_in (get_or os s []) g ≡ times_in (without (order_of d t) f) g
-    taken s g p = ap (λ k. times_in (get_or os k []) g) p ∙ ap (λ l. times_in l g) (get_or-set_same _ t _ [] in_orders)
-
-    ordered : (s g : ℕ) → (s ≡ t) ⊎ (s ≡ t → ⊥) → (g ≡ f) ⊎ (g ≡ f → ⊥)
-        → times_in (get_or os s []) g ≡ cond (is_some (frame_at (set d.frames f empty_frame) g).block && (g / ways == s)) 1 0
-    ordered s g (inl p) (inl q) =
-        let count : times_in _ g ≡ 0 = taken s g p ∙ rw q (times-without_same _ f) in
-        count ∙ rw (at_frame g q) refl
-    ordered s g (inl p) (inr n) = taken s g p ∙ (times-without_other _ f g n ∙ (cc (p, at_other s g n)))
-    ordered s g (inr m) (inl q) =
-        let apart = ne_eqb _ s (λ r. m (sym r)) in
-        let count = h.ordered s f ∙ rw (held, apart) refl in
-        let same : times_in _ g ≡ 0 = ap (λ l. times_in l g) (get_or-set_other _ t s _ [] m) ∙ rw q count in
-        same ∙ rw (at_frame g q) refl
-    ordered s g (inr m) (inr n) = ap (λ l. times_in l g) (get_or-set_other _ t s _ [] m) ∙ at_other s g n

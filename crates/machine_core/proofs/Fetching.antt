@@ -1,31 +1,30 @@
 -- A miss: the block that goes, and the one that comes, whose words are asked for.
 use Rattle.std.proofs.Common.{◌≡◌, ℕ, zero, suc, ◌+◌, ◌*◌, ◌/◌, ◌%◌, ◌<◌, ◌≤◌, Bool, true, false, cond, ◌&&◌, ◌==◌, nat_lt, nat_le, List}
 use Rattle.std.proofs.Common.{[], ◌∷◌, ◌++◌, map, length, set, Some, find, refl, ap, ap₂, ◌∙◌, subst, arith, length-set, ⊎_elim, mod-lt}
-use Rattle.std.proofs.Common.{eq-eqb, ne_eqb, not, Option, None, sym, ◌⊎◌, le-leb, ltb-true, zero-add}
+use Rattle.std.proofs.Common.{eq-eqb, ne_eqb, not, Option, None, sym, ◌⊎◌, le-leb, ltb-true, zero-add, is_some}
 use Rattle.std.specs.List.{range_with_len}
 use Rattle.std.proofs.lemmas.Bool.{cases_eq}
 use Rattle.std.proofs.lemmas.Nat.{mod-mul-add}
 use Rattle.flat_model.specs.declared.Word.{Word}
-use Rattle.flat_model.specs.Flat.{word_at, stored}
-use Rattle.memory_banks.specs.declared.Command.{Command}
-use Rattle.memory_banks.specs.declared.Command.TheVariants.{Read, Write}
+use Rattle.flat_model.specs.Flat.{word_at}
+use Rattle.memory_banks.specs.declared.Command.TheVariants.{Read}
 use Rattle.memory_banks.specs.declared.BankAnswer.{BankAnswer}
-use Rattle.memory_banks.specs.Banks.{Bank, bank_at, no_bank, pending, all_pending, words_after, answers_to, after, with_command, all_sent}
+use Rattle.memory_banks.specs.Banks.{Bank, bank_at, no_bank, pending, all_pending, words_after, with_command, all_sent}
 use Rattle.cache_unit.specs.declared.Sizes.{Sizes}
 use Rattle.cache_unit.specs.Counts.{tally, bit}
 use Rattle.cache_unit.proofs.Lists.{Adds, Adds-tally, Adds-find_other, Adds-find_same, Adds-push, Adds-left, Adds-right, Adds-same}
 use Rattle.cache_unit.proofs.Lists.{find_none, flat_map_part, read_set, map-same, none_in_frames, none_live, holds-not}
-use Rattle.machine_core.specs.Sound.{is_for, is_entry_for, word_in, InOrder, IsSound, wanted}
+use Rattle.machine_core.specs.Sound.{is_for, is_entry_for, word_in, InOrder, IsSound, IsBounded, wanted}
 use Rattle.std.proofs.lemmas.List.FromFn.{length-map-range_with_len}
 use Rattle.flat_model.specs.Words.{merged, zero_word}
 use Rattle.flat_model.proofs.Lanewise.{merged-none}
 use Rattle.write_queue.specs.declared.Queued.{Queued}
 use Rattle.write_queue.specs.Queue.{overlaid, queued_lanes}
 use Rattle.cache_unit.specs.Begun.{begun_field}
-use Rattle.cache_unit.specs.State.{Frame, frame_at, frame_of, is_present, register_at, field_at, is_live, live_for, free_slot, cell_of}
-use Rattle.cache_unit.specs.State.{tags, block_of, place_in, first_of}
-use Rattle.cache_unit.specs.Causes.{addresses, dirty_words, choose}
-use Rattle.cache_unit.specs.Steps.{released, installed, reads, missed, fetched, fetches}
+use Rattle.cache_unit.specs.State.{Frame, frame_at, frame_of, is_present, register_at, field_at, is_live, live_for, cell_of, tags, block_of}
+use Rattle.cache_unit.specs.State.{place_in, first_of}
+use Rattle.cache_unit.specs.Causes.{addresses, dirty_words}
+use Rattle.cache_unit.specs.Steps.{released, installed, fetched, fetches}
 use Rattle.cache_unit.specs.Forms.{Asked, Form}
 use Rattle.cache_unit.specs.FormLaws.{form_at, words_without, asked_form}
 use Rattle.cache_unit.proofs.FormsWords.{range_at, address_is, Hit}
@@ -33,6 +32,8 @@ use Rattle.cache_unit.proofs.FormsEvents.{owed-same}
 use Rattle.cache_unit.proofs.Requesting.{Able, Misses, misses, fetched-by}
 use Rattle.machine_core.specs.Law.{IsLawful}
 use Rattle.machine_core.specs.Machine.{Machine, backing, flat_word}
+use Rattle.memory_banks.proofs.Sending.{all_sent-length, all_sent-at}
+use Rattle.machine_core.proofs.Limits.{commands, fetched_machine, after-append, answers_to-append, MayMiss, may_able, bounded_fetch}
 use Rattle.machine_core.proofs.FromForms.{filled-asked, filled-over, filled-other, word_asks, due_other, word_from, flat_word-form, Same}
 use Rattle.machine_core.proofs.FromForms.{bit-le, sound_unit, kept_word, kept_same, overlaid-split, InOrder-released, InOrder-installed}
 use Rattle.machine_core.proofs.FromForms.{dirty_within, dirty_elsewhere, dirty_in, backing_dirty}
@@ -45,9 +46,6 @@ base_in z banks at = word_at (words_after (bank_at banks (at % z.banks))) (at / 
 
 abbrev pub answer_at : Sizes → List Bank → ℕ → ℕ → BankAnswer
 answer_at z banks slot at = record { slot = slot; i = at % z.block_words; word = base_in z banks at }
-
-abbrev pub commands : Sizes → ℕ → List ℕ → List (ℕ × Command)
-commands z slot ats = map (λ at. (at % z.banks, Read slot (at % z.block_words) (at / z.banks))) ats
 
 -- one element more for each of a list
 abbrev pub AddsAll : {X : Type 0} → List X → List X → List X → Type 0
@@ -86,19 +84,6 @@ AddsAll-find {X} p (x ∷ xs) old new a none one = go (p x) refl (AddsAll-find p
 
 -- ---- one read
 
-pub answers_to-read : (words : List Word) (queue : List Command) (slot i place : ℕ) → answers_to words (queue ++ Read slot i place ∷ [])
-    ≡ answers_to words queue ++ record { slot = slot; i = i; word = word_at (after words queue) place } ∷ []
-answers_to-read words [] slot i place = refl
-answers_to-read words (Read s j p ∷ rest) slot i place =
-    ap (λ l. record { slot = s; i = j; word = word_at words p } ∷ l) (answers_to-read words rest slot i place)
-answers_to-read words (Write p w l ∷ rest) slot i place = answers_to-read (stored words p w l) rest slot i place
-
-after-read : (words : List Word) (queue : List Command) (slot i place : ℕ)
-    → after words (queue ++ Read slot i place ∷ []) ≡ after words queue
-after-read words [] slot i place = refl
-after-read words (Read s j p ∷ rest) slot i place = after-read words rest slot i place
-after-read words (Write p w l ∷ rest) slot i place = after-read (stored words p w l) rest slot i place
-
 module _ (z : Sizes) (some_banks : 0 < z.banks) (slot : ℕ) where
   abbrev pub one_more : List Bank → ℕ → List Bank
   one_more banks at = set banks (at % z.banks) (with_command (bank_at banks (at % z.banks)) (Read slot (at % z.block_words) (at / z.banks)))
@@ -107,11 +92,7 @@ module _ (z : Sizes) (some_banks : 0 < z.banks) (slot : ℕ) where
   unfolding with_command
   one_words banks at b =
       let bank = bank_at banks _ in
-      read_set words_after no_bank banks _ _ (after-read bank.words bank.queue slot _ _) b
-
-  one_length : (banks : List Bank) (at b : ℕ) → length (bank_at (one_more banks at) b).words ≡ length (bank_at banks b).words
-  unfolding with_command
-  one_length banks at b = read_set (λ (x : Bank). length x.words) no_bank banks _ _ refl b
+      read_set words_after no_bank banks _ _ (after-append bank.words bank.queue (Read slot _ _ ∷ [])) b
 
   one_adds : (banks : List Bank) (at : ℕ) → length banks ≡ z.banks
       → Adds (answer_at z banks slot at) (all_pending banks) (all_pending (one_more banks at))
@@ -121,7 +102,7 @@ module _ (z : Sizes) (some_banks : 0 < z.banks) (slot : ℕ) where
       let there : at % z.banks < length banks = let k = mod-lt at some_banks in omega arith in
       let part = flat_map_part pending no_bank banks _ there in
       let x = answer_at z banks slot at in
-      let e = answers_to-read bank.words bank.queue slot _ _ in
+      let e = answers_to-append bank.words bank.queue (Read slot _ _ ∷ []) in
       Adds-same x _ _ _ _ part.now (part.then _ ∙ ap (λ l. part.front ++ ((bank.answers ++ l) ++ part.back)) e)
       (Adds-left part.front x _ _ (Adds-right part.back x _ _ (Adds-left bank.answers x _ _ (Adds-push x _))))
 
@@ -131,15 +112,6 @@ module _ (z : Sizes) (some_banks : 0 < z.banks) (slot : ℕ) where
       → words_after (bank_at (all_sent banks (commands z slot ats)) b) ≡ words_after (bank_at banks b)
   sent_words [] banks b = refl
   sent_words (at ∷ ats) banks b = sent_words ats _ b ∙ one_words banks at b
-
-  pub sent_lengths : (ats : List ℕ) (banks : List Bank) (b : ℕ)
-      → length (bank_at (all_sent banks (commands z slot ats)) b).words ≡ length (bank_at banks b).words
-  sent_lengths [] banks b = refl
-  sent_lengths (at ∷ ats) banks b = sent_lengths ats _ b ∙ one_length banks at b
-
-  pub sent_number : (ats : List ℕ) (banks : List Bank) → length (all_sent banks (commands z slot ats)) ≡ length banks
-  sent_number [] banks = refl
-  sent_number (at ∷ ats) banks = sent_number ats _ ∙ length-set banks _ _
 
   pub sent_adds : (ats : List ℕ) (banks : List Bank) → length banks ≡ z.banks
       → AddsAll (map (answer_at z banks slot) ats) (all_pending banks) (all_pending (all_sent banks (commands z slot ats)))
@@ -205,14 +177,11 @@ reads_find z banks slot b r (suc n) a j e l lo hi =
         ≡ Some (record { slot = slot; i = j; word = base_in z banks (b * z.block_words + j) })
     there n' rest = grind arith
 
--- the machine in which a block is present
-abbrev pub fetched_machine : Sizes → Machine → ℕ → Machine
-fetched_machine z m block = record { cache = fetched z m.cache block; banks = all_sent m.banks (fetches z m.cache block) }
-
 pub record FetchedBy (z : Sizes) (m : Machine) (block : ℕ) (m' : Machine) : Type 0 where
   pub sound : IsSound z m'
   pub same : Same z m m'
   pub same_tags : tags m'.cache ≡ tags m.cache
+  pub bounded : IsBounded z m → IsBounded z m'
 
 module _ (z : Sizes) (lawful : IsLawful z) (m : Machine) (h : IsSound z m) (block : ℕ) (absent : frame_of m.cache block ≡ None)
     (in_memory : first_of z block < z.words) (miss : Misses z m.cache block) where
@@ -431,8 +400,10 @@ module _ (z : Sizes) (lawful : IsLawful z) (m : Machine) (h : IsSound z m) (bloc
     frames_are = grind arith;
     in_order = order;
     registers_are = grind arith;
-    banks_are = sent_number z lawful.some_banks slot (addresses z block) _ ∙ h.banks_are;
-    banks_hold = λ at l. rw (sent_lengths z lawful.some_banks slot (addresses z block) _ _) (h.banks_hold at l);
+    banks_are = all_sent-length m.banks (commands z slot (addresses z block)) ∙ h.banks_are;
+    banks_hold = λ at l. let lt = mod-lt at lawful.some_banks in let n = h.banks_are in
+        rw (ap (λ (x : Bank). length x.words) (all_sent-at m.banks (commands z slot (addresses z block)) (at % z.banks) (omega arith)))
+        (h.banks_hold at l);
   }
     where
       own_field : (j : ℕ) → j < z.block_words → field_at with_block.cache slot j ≡ begun_field with_block.cache.queue (first_of z block + j)
@@ -440,12 +411,8 @@ module _ (z : Sizes) (lawful : IsLawful z) (m : Machine) (h : IsSound z m) (bloc
 
       counted_after : (t j : ℕ) → tally (is_for t j) (all_pending with_block.banks) + tally (is_entry_for t j) m.cache.stack
           ≡ wanted z (register_at with_block.cache t) j
-      counted_after t j = ⊎_elim here there (cases_eq t slot)
+      counted_after t j = ⊎_elim (λ q. rw q own) (λ n. grind (arith, other_tally)) (cases_eq t slot)
         where
-          there : (t ≡ slot → ⊥) → tally (is_for t j) (all_pending with_block.banks) + tally (is_entry_for t j) m.cache.stack
-              ≡ wanted z (register_at with_block.cache t) j
-          there n = grind (arith, other_tally)
-
           fresh : (b : Bool) → nat_lt j z.block_words ≡ b → bit (b && not (field_at with_block.cache slot j).processed) ≡ bit b
           fresh true e = grind (arith, own_field, ltb-true)
           fresh false e = refl
@@ -454,31 +421,27 @@ module _ (z : Sizes) (lawful : IsLawful z) (m : Machine) (h : IsSound z m) (bloc
               ≡ wanted z (register_at with_block.cache slot) j
           own = grind (arith, own_tally, none_pending, fresh)
 
-          here : t ≡ slot → tally (is_for t j) (all_pending with_block.banks) + tally (is_entry_for t j) m.cache.stack
-              ≡ wanted z (register_at with_block.cache t) j
-          here q = rw q own
-
       whole_after : (t : ℕ) → (register_at with_block.cache t).valid ≡ true → length (register_at with_block.cache t).fields ≡ z.block_words
       whole_after t v = grind (arith, length-map-range_with_len, cases_eq)
 
-  by_miss : FetchedBy z m block (fetched_machine z m block)
-  by_miss = grind (arith, with_block_sound, with_block_same, same_tags)
-
--- a block is fetched where it is absent, a frame may be chosen and a register is free
+-- a block is fetched where nothing stands against it
 pub fetch_ok : (z : Sizes) (lawful : IsLawful z) (m : Machine) → IsSound z m → (block : ℕ) → first_of z block < z.words
-    → (is_present m.cache block ≡ false → Able z m.cache block) → FetchedBy z m block (fetched_machine z m block)
+    → MayMiss z m block → FetchedBy z m block (fetched_machine z m block)
 unfolding fetched fetches
-fetch_ok z lawful m h block in_memory able = go _ refl
+fetch_ok z lawful m h block in_memory may = go _ refl
   where
-    by : Bool → Machine
-    by b = record {
-      cache = cond b m.cache (missed z m.cache block (choose z m.cache block) (free_slot m.cache));
-      banks = all_sent m.banks (cond b [] (reads z block (free_slot m.cache)));
-    }
-
     go : (o : Option ℕ) → frame_of m.cache block ≡ o → FetchedBy z m block (fetched_machine z m block)
     go (Some k) e = grind arith
-    go None e = grind (arith, by_miss, misses, sound_unit)
+    go None e =
+        let miss = misses z _ (sound_unit z lawful m h) block e (may_able z m block may (ap is_some e)) in
+        let is = ap (all_sent m.banks) miss.sent in
+        record {
+          sound = rw (sym is) at (with_block_sound z lawful m h block e in_memory miss);
+          same = rw (sym is) at (with_block_same z lawful m h block e in_memory miss);
+          same_tags = same_tags z lawful m h block e in_memory miss;
+          bounded = λ b. bounded_fetch z lawful m h b block may
+              (rw (sym (same_tags z lawful m h block e in_memory miss)) at b.few_tags);
+        }
 
 -- the block is present then, with all its words
 pub fetched_hit : (z : Sizes) (lawful : IsLawful z) (m : Machine) → IsSound z m → (block : ℕ)

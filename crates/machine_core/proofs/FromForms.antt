@@ -1,9 +1,9 @@
 -- A sound machine's unit is a sound one, and its flat memory is read from the unit's forms.
-use Rattle.std.proofs.Common.{◌≡◌, ℕ, zero, suc, ◌+◌, ◌≤◌, Bool, true, false, ◌&&◌, ◌==◌, List, [], ◌∷◌, length, Some, remove, slice_get}
-use Rattle.std.proofs.Common.{refl, sym, ap, ap₂, ◌∙◌, arith, eq-eqb, ltb-true, cond, map, Option, None, option_map, find, eqb-true, ◌/◌}
-use Rattle.std.proofs.Common.{◌<◌, ◌++◌, set, length-set, ◌⊎◌, inl, inr, ⊎_elim, get_or, get_or-set_same, get_or-set_other, ◌-◌, ◌%◌}
+use Rattle.std.proofs.Common.{not, ◌||◌, ◌≡◌, ℕ, zero, suc, ◌+◌, ◌≤◌, Bool, true, false, ◌&&◌, ◌==◌, List, [], ◌∷◌, length, Some, remove}
+use Rattle.std.proofs.Common.{slice_get, refl, sym, ap, ap₂, ◌∙◌, arith, eq-eqb, ltb-true, cond, map, Option, None, option_map, find}
+use Rattle.std.proofs.Common.{eqb-true, ◌/◌, ◌<◌, ◌++◌, set, length-set, ◌⊎◌, ⊎_elim, get_or, get_or-set_same, get_or-set_other, ◌-◌, ◌%◌}
 use Rattle.std.proofs.Common.{ne_eqb}
-use Rattle.std.proofs.lemmas.Bool.{and_parts, not-true, cases_eq, cases_lt, or_cases, or_left, or_right}
+use Rattle.std.proofs.lemmas.Bool.{and_parts, not-true, cases_eq, cases_lt}
 use Rattle.flat_model.specs.declared.Word.{Word}
 use Rattle.flat_model.specs.Words.{merged, Lane, Lane0, Lane1, Lane2, Lane3, byte, has, joined, zero_word}
 use Rattle.memory_banks.specs.Banks.{Bank, bank_at, all_pending, words_after}
@@ -13,11 +13,11 @@ use Rattle.cache_unit.specs.State.{Cache, tags, cell_of, block_of, place_in, reg
 use Rattle.cache_unit.specs.State.{frame_of, Frame, Frames, empty_frame, frame_at, first_of}
 use Rattle.cache_unit.specs.SoundCache.{HasWord, IsSoundCache}
 use Rattle.cache_unit.specs.Counts.{tally, bit}
-use Rattle.cache_unit.proofs.Lists.{Adds-tally, Adds-remove, tally-filter, waits_for, Within, Beside, Adds, Adds-find_other}
-use Rattle.cache_unit.proofs.Lists.{Adds-find_same, target_valid, live_for-some, frame_of-is, frame_of-some}
+use Rattle.cache_unit.proofs.Lists.{Adds-tally, Adds-remove, tally-filter, waits_for, Within, Beside, Adds, Adds-find_other, Adds-find_same}
+use Rattle.cache_unit.proofs.Lists.{target_valid, live_for-some, frame_of-is, frame_of-some}
 use Rattle.machine_core.specs.Law.{IsLawful}
 use Rattle.machine_core.specs.Machine.{Machine, backing, flat_word, Outcome, apply, flat_word_in, flat_due, flat_of}
-use Rattle.machine_core.specs.Sound.{is_for, is_entry_for, AllIn, InOrder, IsSound, word_in, is_in}
+use Rattle.machine_core.specs.Sound.{is_for, is_entry_for, AllIn, InOrder, IsSound, IsBounded, word_in, is_in}
 use Rattle.std.specs.List.{range_with_len}
 use Rattle.std.specs.Option.{option_or}
 use Rattle.flat_model.specs.declared.Lanes.{Lanes}
@@ -348,7 +348,7 @@ forms_same z m m' e p b = record {
 pub record KeptBy (z : Sizes) (m : Machine) (event : Event) (o : Outcome) : Type 0 where
   pub sound : IsSound z o.machine
   pub run : flat_step (flat_of z m) event o.answer ≡ Some (flat_of z o.machine)
-  pub few : length (tags m.cache) ≤ z.replies → length (tags o.machine.cache) ≤ z.replies
+  pub bounded : IsBounded z m → IsBounded z o.machine
 
 abbrev pub Kept : Sizes → Machine → Event → Type 0
 Kept z m event = KeptBy z m event (apply z m event)
@@ -363,13 +363,9 @@ order_of orders set = get_or orders set []
 abbrev block_at : List Frame → ℕ → Option ℕ
 block_at frames f = (get_or frames f empty_frame).block
 
-is_in-without : (order : List ℕ) (f g : ℕ) → (g ≡ f → ⊥) → is_in order g ≡ true → is_in (without order f) g ≡ true
-is_in-without [] f g n e = e
-is_in-without (x ∷ order) f g n e = grind (arith, cases_eq, is_in-without order f g n)
-
-is_in-within : (order : List ℕ) (f g : ℕ) → is_in (without order f) g ≡ true → is_in order g ≡ true
-is_in-within [] f g e = e
-is_in-within (x ∷ order) f g e = grind (arith, is_in-within order f g)
+is_in-without : (order : List ℕ) (f g : ℕ) → is_in (without order f) g ≡ (is_in order g && not (g == f))
+is_in-without [] f g = refl
+is_in-without (x ∷ order) f g = grind (arith, cases_eq, is_in-without order f g)
 
 order-without : (orders : List (List ℕ)) (k f s : ℕ) → (order_of (set orders k (without (order_of orders k) f)) s ≡ order_of orders s) ⊎
     (order_of (set orders k (without (order_of orders k) f)) s ≡ without (order_of orders s) f)
@@ -379,15 +375,8 @@ order-without orders k f s = grind (arith, cases_lt, get_or-set_other, cases_eq,
 pub InOrder-released : (z : Sizes) (d : Frames) (f : ℕ) → InOrder z d → InOrder z (released_frame z.ways d f)
 unfolding released_frame
 InOrder-released z d f h = record {
-  placed = λ g b e.
-      let n = other g b e in
-      let was = h.placed g b (cc (get_or-set_other _ f g empty_frame empty_frame n, e)) in
-      ⊎_elim (λ q. (cc (q, was)))
-      (λ q. ap (λ o. is_in o g) q ∙ is_in-without _ f g n was)
-      (order-without d.orders (f / z.ways) f (g / z.ways));
-  in_set = λ s g e. ⊎_elim (λ q. h.in_set s g (cc))
-      (λ q. h.in_set s g (is_in-within _ f g (ap (λ o. is_in o g) (sym q) ∙ e)))
-      (order-without d.orders _ f s);
+  placed = λ g b e. grind (arith, other, get_or-set_other, h.placed, order-without, is_in-without, ne_eqb);
+  in_set = λ s g e. grind (arith, h.in_set, order-without, is_in-without);
   sized = length-set _ _ _ ∙ h.sized;
 }
   where
@@ -397,53 +386,18 @@ InOrder-released z d f h = record {
     other : (g b : ℕ) → block_at (set d.frames f empty_frame) g ≡ Some b → (g ≡ f → ⊥)
     other g b e q = let no = ap (block_at _) q ∙ empty in cc
 
-is_in-push : (order : List ℕ) (f g : ℕ) → is_in order g ≡ true → is_in (order ++ f ∷ []) g ≡ true
-is_in-push [] f g e = cc
-is_in-push (x ∷ order) f g e = ⊎_elim (λ k. or_left _ _ k)
-    (λ k. or_right _ _ (is_in-push order f g k)) (or_cases _ _ e)
-
-is_in-last : (order : List ℕ) (f : ℕ) → is_in (order ++ f ∷ []) f ≡ true
-is_in-last [] f = grind arith
-is_in-last (x ∷ order) f = or_right _ _ (is_in-last order f)
-
-is_in-cases : (order : List ℕ) (f g : ℕ) → is_in (order ++ f ∷ []) g ≡ true → (is_in order g ≡ true) ⊎ (f ≡ g)
-is_in-cases [] f g e = grind arith
-is_in-cases (x ∷ order) f g e = ⊎_elim (λ k. inl (or_left _ _ k))
-    (λ k. ⊎_elim (λ p. inl (or_right _ _ p)) (λ p. inr p) (is_in-cases order f g k))
-    (or_cases _ _ e)
+is_in-push : (order : List ℕ) (f g : ℕ) → is_in (order ++ f ∷ []) g ≡ (is_in order g || (f == g))
+is_in-push [] f g = grind arith
+is_in-push (x ∷ order) f g = grind (arith, is_in-push order f g)
 
 -- a frame is taken
 pub InOrder-installed : (z : Sizes) (d : Frames) (f s : ℕ) (new : Frame) → f / z.ways ≡ s → s < z.sets
     → InOrder z d → InOrder z (record { frames = set d.frames f new; orders = set d.orders s (order_of d.orders s ++ f ∷ []) })
 InOrder-installed z d f s new own l h = record {
-  placed = λ g b e. ⊎_elim (λ q. here g q)
-      (λ n. elsewhere g b n (cc (get_or-set_other _ f g new empty_frame n, e))) (cases_eq g f);
-  in_set = λ t g e. ⊎_elim (λ q. set_here t g q e)
-      (λ n. h.in_set t g (ap (λ o. is_in o g) (sym (get_or-set_other _ s t _ [] n)) ∙ e)) (cases_eq t s);
+  placed = λ g b e. grind (arith, cases_eq, get_or-set_same, get_or-set_other, h.placed, h.sized, is_in-push);
+  in_set = λ t g e. grind (arith, cases_eq, get_or-set_same, get_or-set_other, h.in_set, h.sized, is_in-push);
   sized = length-set _ s _ ∙ h.sized;
 }
-  where
-    new_order : order_of (set d.orders s (order_of d.orders s ++ f ∷ [])) s ≡ order_of d.orders s ++ f ∷ []
-    new_order = grind (arith, get_or-set_same, h.sized)
-
-    here : (g : ℕ) → g ≡ f → is_in (order_of (set d.orders s (order_of d.orders s ++ f ∷ [])) (g / z.ways)) g ≡ true
-    here g q = grind (arith, d.orders, new_order, is_in-last)
-
-    elsewhere : (g b : ℕ) → (g ≡ f → ⊥) → block_at d.frames g ≡ Some b
-        → is_in (order_of (set d.orders s (order_of d.orders s ++ f ∷ [])) (g / z.ways)) g ≡ true
-    elsewhere g b n e = ⊎_elim same_set other_set (cases_eq _ s)
-      where
-        was : is_in (order_of d.orders (g / z.ways)) g ≡ true
-        was = h.placed g b e
-
-        same_set : g / z.ways ≡ s → is_in (order_of (set d.orders s (order_of d.orders s ++ f ∷ [])) (g / z.ways)) g ≡ true
-        same_set q = grind (arith, new_order, is_in-push, d.orders, was)
-
-        other_set : (g / z.ways ≡ s → ⊥) → is_in (order_of (set d.orders s (order_of d.orders s ++ f ∷ [])) (g / z.ways)) g ≡ true
-        other_set q = grind (arith, get_or-set_other, was)
-
-    set_here : (t g : ℕ) → t ≡ s → is_in (order_of (set d.orders s (order_of d.orders s ++ f ∷ [])) t) g ≡ true → g / z.ways ≡ t
-    set_here t g q e = grind (arith, h.in_set, is_in-cases, new_order)
 
 -- ---- What is queued for a word is one write.
 

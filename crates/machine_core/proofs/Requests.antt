@@ -1,41 +1,40 @@
 -- Loads, stores, prefetches and evictions.
-use Rattle.std.proofs.Common.{◌≡◌, ℕ, zero, suc, ◌+◌, ◌/◌, ◌%◌, ◌<◌, ◌≤◌, Bool, true, false, cond, not, ◌&&◌, ◌||◌, ◌==◌, nat_lt, nat_le}
-use Rattle.std.proofs.Common.{List, [], ◌∷◌, map, length, set, Option, Some, None, option_map, find, filter, is_some, is_none, refl, sym}
-use Rattle.std.proofs.Common.{ap, ap₂, ◌∙◌, arith, ⊎_elim, ltb-true, lt-ltb, add-zero, zero-add, eq-eqb, ne_eqb, eqb-true, ◌-◌, ◌++◌}
-use Rattle.std.proofs.Common.{get_or, replicate, mod-lt, div-add-mod', flat_map, ext_get_or}
+use Rattle.std.proofs.Common.{◌≡◌, ℕ, zero, suc, ◌+◌, ◌/◌, ◌%◌, ◌<◌, ◌≤◌, Bool, true, false, cond, not, ◌&&◌, ◌||◌, ◌==◌, nat_lt, List, []}
+use Rattle.std.proofs.Common.{◌∷◌, map, length, set, Option, Some, None, option_map, find, filter, is_some, is_none, refl, sym, ap, ap₂}
+use Rattle.std.proofs.Common.{◌∙◌, arith, ⊎_elim, ltb-true, lt-ltb, add-zero, zero-add, eq-eqb, ne_eqb, ◌-◌, ◌++◌, get_or, replicate}
+use Rattle.std.proofs.Common.{mod-lt, div-add-mod', flat_map, ext_get_or, length-append}
 use Rattle.std.specs.List.{range_with_len, list_any, list_all}
-use Rattle.std.proofs.lemmas.Bool.{cases_eq, not-false, leb-false, and_parts, not-true}
+use Rattle.std.proofs.lemmas.Bool.{cases_eq, not-false, leb-false, ltb-false, and_parts, not-true}
 use Rattle.std.proofs.lemmas.List.FromFn.{length-map-range_with_len}
 use Rattle.flat_model.specs.declared.Word.{Word}
 use Rattle.flat_model.specs.declared.Lanes.{Lanes}
 use Rattle.flat_model.specs.declared.Cause.{Cause}
-use Rattle.flat_model.specs.declared.Cause.TheVariants.{OutOfRange, NoLanes, TagInUse, RepliesFull, TargetsFull, NoRegister, SetPending}
-use Rattle.flat_model.specs.declared.Cause.TheVariants.{QueueFull, BankFull, NotPresent, StackFull, StrayWord}
+use Rattle.flat_model.specs.declared.Cause.TheVariants.{OutOfRange, TagInUse, RepliesFull, TargetsFull, NoRegister, SetPending, QueueFull}
+use Rattle.flat_model.specs.declared.Cause.TheVariants.{BankFull}
 use Rattle.flat_model.specs.declared.Event.{Event}
 use Rattle.flat_model.specs.declared.Event.TheVariants.{Load, Store, Prefetch, Evict}
 use Rattle.flat_model.specs.declared.Answer.TheVariants.{Accepted, Refused}
 use Rattle.flat_model.specs.Words.{merged, has_any, zero_word, no_lanes}
-use Rattle.flat_model.specs.Flat.{word_at, with_due, flat_after, may_answer, load_refusals, store_refusals, prefetch_refusals}
-use Rattle.flat_model.specs.Causes.{is_of_a_load, is_of_a_miss}
+use Rattle.flat_model.specs.Flat.{word_at, with_due, flat_after, flat_step, load_refusals}
+use Rattle.flat_model.specs.Causes.{is_of_a_load}
 use Rattle.flat_model.proofs.Lanewise.{merged_over, merged-none, merged_no_lane, has-none}
 use Rattle.memory_banks.specs.declared.BankAnswer.{BankAnswer}
 use Rattle.memory_banks.specs.Banks.{bank_at, words_after, all_pending, room_in, Bank, no_bank, pending, share_of}
 use Rattle.write_queue.specs.Queue.{overlaid}
 use Rattle.cache_directory.specs.declared.Cell.{Cell}
 use Rattle.cache_unit.specs.declared.Sizes.{Sizes}
-use Rattle.cache_unit.specs.State.{Cache, frame_of, is_present, cell_of, tags, block_of, place_in, first_of, is_pending, Frame, Register}
-use Rattle.cache_unit.specs.State.{empty_frame, free_register, frame_at, register_at, is_live, cell_in, gathered, targets_of, Target}
-use Rattle.cache_unit.specs.State.{targets}
-use Rattle.cache_unit.specs.Causes.{first_cause, ways_of, found, targets_full, is_in_use, miss_causes, lacks_places, load_cause}
-use Rattle.cache_unit.specs.Causes.{store_cause, prefetch_cause, evict_cause}
-use Rattle.cache_unit.specs.Steps.{load_step, store_step, prefetch_step, evict_step, Stepped, unless, fetched, fetches, loaded, written}
-use Rattle.cache_unit.specs.Steps.{evicted_from}
+use Rattle.cache_unit.specs.State.{frame_of, is_present, cell_of, tags, block_of, place_in, first_of, Frame, Register, empty_frame}
+use Rattle.cache_unit.specs.State.{free_register, frame_at, register_at, is_live, cell_in, gathered, targets_of, Target, targets}
+use Rattle.cache_unit.specs.Causes.{first_cause, found, targets_full, is_in_use, miss_causes, lacks_places, load_cause, store_cause}
+use Rattle.cache_unit.specs.Causes.{prefetch_cause, evict_cause}
+use Rattle.cache_unit.specs.Steps.{load_step, store_step, prefetch_step, evict_step, Stepped, unless, loaded, written, evicted_from}
+use Rattle.cache_unit.specs.Steps.{evicted, released}
 use Rattle.cache_unit.specs.Forms.{Form, form as form_of, filled_by, target_form}
 use Rattle.cache_unit.specs.FormLaws.{form_at}
 use Rattle.cache_unit.specs.Counts.{tally, bit}
 use Rattle.cache_unit.proofs.Lists.{Adds, Adds-tally, Adds-length, tally-filter, frame_of-none}
 use Rattle.cache_unit.proofs.FormsEvents.{Due, dues, due_in, owed-due, dues-tally, tags-dues}
-use Rattle.cache_unit.proofs.Requesting.{Able, none-counted}
+use Rattle.cache_unit.proofs.Requesting.{none-counted}
 use Rattle.cache_unit.proofs.FormsWords.{range_at, Hit, stored-by, loaded-by}
 use Rattle.miss_registers.proofs.Tags.{list_any-map}
 use Rattle.machine_core.specs.Law.{IsLawful}
@@ -43,9 +42,9 @@ use Rattle.machine_core.specs.Machine.{Machine, backing, joined_with, flat_word,
 use Rattle.machine_core.specs.Machine.{flat_word_in}
 use Rattle.machine_core.specs.Sound.{IsSound, is_for, wanted}
 use Rattle.machine_core.proofs.FromForms.{filled-over, word_from, flat_word-form, word_same, form_present, flat_of-same, Kept, KeptBy}
-use Rattle.machine_core.proofs.FromForms.{bit-le}
-use Rattle.machine_core.proofs.FromForms.{kept_word, kept_same, cell_frames, sound_beside, gone_same, gone_sound, gone_tags}
+use Rattle.machine_core.proofs.FromForms.{bit-le, kept_word, kept_same, cell_frames, sound_beside, gone_same, gone_sound, gone_tags}
 use Rattle.machine_core.proofs.Fetching.{FetchedBy, fetch_ok, fetched_hit}
+use Rattle.machine_core.proofs.Limits.{bounded_unit, MayMiss, may_able, like_loaded, like_written, like_evicted}
 use Rattle.std.proofs.lemmas.List.{length-replicate}
 use Rattle.cache_unit.specs.Views.{is_empty}
 use Rattle.cache_unit.proofs.Made.{all_same}
@@ -74,10 +73,12 @@ range_set f g a (suc n) (suc k) others l =
 
 -- ---- refusals
 
--- a refusal that may come changes nothing
-refusal : (z : Sizes) (m : Machine) (event : Event) (cause : Cause) → IsSound z m → may_answer (flat_of z m) event (Refused cause) ≡ true
-    → flat_after (flat_of z m) event (Refused cause) ≡ flat_of z m → KeptBy z m event (record { answer = Refused cause; machine = m })
-refusal z m event cause h may stays = grind arith
+-- a step that is refused changes nothing
+unless_kept : (z : Sizes) (m : Machine) (event : Event) (step : Stepped) (cause : Option Cause) → IsSound z m
+    → ((c : Cause) → cause ≡ Some c → flat_step (flat_of z m) event (Refused c) ≡ Some (flat_of z m))
+    → (cause ≡ None → KeptBy z m event (joined_with m.banks step)) → KeptBy z m event (joined_with m.banks (unless cause m.cache step))
+unless_kept z m event step None h refused go_on = go_on refl
+unless_kept z m event step (Some c) h refused go_on = record { sound = h; run = refused c refl; bounded = λ b. b }
 
 -- ---- tags
 
@@ -97,25 +98,14 @@ flat_in_use m tag = ap (λ o. not (is_none (option_map (filled_by (all_pending m
     any-find p (x ∷ xs) = elim (p x) as (λ b. (b || list_any p xs) ≡ is_some (cond b (Some x) (find p xs)))
         [ true ↦ refl | false ↦ any-find p xs ]
 
-flat_not_due : (m : Machine) (tag : ℕ) → is_in_use m.cache tag ≡ false → is_none (flat_due m tag) ≡ true
-flat_not_due m tag e = not-false _ (flat_in_use m tag ∙ e)
-
 -- no tag is owed twice, where a new one is added
 once_more : (tag : ℕ) (xs ys : List ℕ) → Adds tag xs ys → tally (λ t. t == tag) xs ≡ 0 → ((t : ℕ) → tally (λ x. x == t) xs ≤ 1) → (t : ℕ)
     → tally (λ x. x == t) ys ≤ 1
-once_more tag xs ys more none once t = go _ refl
-  where
-    go : (b : Bool) → (tag == t) ≡ b → tally (λ x. x == t) ys ≤ 1
-    go true e =
-        let n = Adds-tally (λ x. x == t) tag xs ys more in
-        let k = rw (eqb-true tag t e) at none in
-        let one = bit-le (tag == t) in
-        omega arith
-    go false e =
-        let n = Adds-tally (λ x. x == t) tag xs ys more in
-        let no = ap bit e in
-        let k = once t in
-        omega arith
+once_more tag xs ys more none once t =
+    let n = Adds-tally (λ x. x == t) tag xs ys more in
+    let one = bit-le (tag == t) in
+    ⊎_elim (λ e. let k = rw e at none in omega arith)
+    (λ d. let no = ap bit (ne_eqb tag t d) in let k = once t in omega arith) (cases_eq tag t)
 
 -- ---- the causes of a miss
 
@@ -124,23 +114,6 @@ pub starts_in : (z : Sizes) (at : ℕ) → at < z.words → first_of z (block_of
 starts_in z at l = grind arith
 
 -- ---- requests
-
--- the event is kept, whichever of a miss's causes holds, if there is one; `go_on` is the case of none
-miss_or : (z : Sizes) (m : Machine) (block : ℕ) (event : Event) (step : Stepped) → IsSound z m
-    → ((cause : Cause) → is_of_a_miss cause ≡ true → KeptBy z m event (record { answer = Refused cause; machine = m }))
-    → (Able z m.cache block → KeptBy z m event (joined_with m.banks step)) → KeptBy z m event (joined_with m.banks (unless
-    (first_cause (miss_causes z (room_in z.bank_queue m.banks) m.cache block)) m.cache step))
-miss_or z m block event step h refuse go_on = go (length (filter (λ r. r.valid) m.cache.registers) == z.regs) refl _ refl
-    _ _
-  where
-    go : (a : Bool) → (length (filter (λ r. r.valid) m.cache.registers) == z.regs) ≡ a → (b : Bool)
-        → list_all (is_pending m.cache) (ways_of z block) ≡ b → (c d : Bool) → KeptBy z m event (joined_with m.banks (unless
-        (cond a (Some NoRegister) (cond b (Some SetPending) (cond c (Some QueueFull) (cond d (Some BankFull) None)))) m.cache step))
-    go true p b q c d = refuse NoRegister refl
-    go false p true q c d = refuse SetPending refl
-    go false p false q true d = refuse QueueFull refl
-    go false p false q false true = refuse BankFull refl
-    go false p false q false false = go_on (p, q)
 
 module _ (z : Sizes) (lawful : IsLawful z) (m : Machine) (h : IsSound z m) where
   -- ---- loads
@@ -174,13 +147,17 @@ module _ (z : Sizes) (lawful : IsLawful z) (m : Machine) (h : IsSound z m) where
       ∙ ap₂ (λ o d. cond (t == tag) o d) told (f.same.owing t) in
       let after : flat_after _ (Load tag at) Accepted ≡ flat_of z m3 =
       λ i. record { mem = map (λ a. sym (words a ∙ f.same.words a) i) (range_with_len 0 z.words); due = λ t. sym (gained t) i } in
-      let may = ap₂ (λ x y. nat_lt at x && y) (mem_length z m) (flat_not_due m tag unused) ∙ ap (λ b. b && true) (lt-ltb at z.words l) in
+      let may = ap₂ (λ x y. nat_lt at x && y) (mem_length z m)
+      (not-false _ (flat_in_use m tag ∙ unused)) ∙ ap (λ b. b && true) (lt-ltb at z.words l) in
       let once = once_more tag _ _ by.more (sym (tally-filter (λ t. t == tag) _) ∙ none) f.sound.once in
+      let sound = sound_beside z m2 _ f.sound by.beside once
+      (λ a. kept_same z m2 m3 f.sound a (words a) (cell_frames c m3.cache by.frames _ _) (back a)) in
       record {
-        sound = sound_beside z m2 _ f.sound by.beside once
-            (λ a. kept_same z m2 m3 f.sound a (words a) (cell_frames c m3.cache by.frames _ _) (back a));
-        run = grind arith;
-        few = λ q. (let k = Adds-length tag _ _ by.more in let s = ap length f.same_tags in omega arith);
+        sound = sound;
+        run = ap (λ b. cond b (Some (flat_after (flat_of z m) (Load tag at) Accepted)) None) may ∙ ap Some after;
+        bounded = λ b. bounded_unit z m2 _ sound (f.bounded b) (like_loaded c tag _ _ _)
+            (let k = Adds-length tag _ _ by.more in let s = ap length f.same_tags in omega arith)
+            (rw (sym by.beside.queue) at (f.bounded b).few_queued);
       }
     where
       but : (ps : List BankAnswer) (b : Bool) (x y : Option Form)
@@ -188,77 +165,35 @@ module _ (z : Sizes) (lawful : IsLawful z) (m : Machine) (h : IsSound z m) where
       but ps true x y = refl
       but ps false x y = refl
 
-  load_may : (tag at : ℕ) (cause : Cause) (x y : Bool) → nat_lt at z.words ≡ x → is_in_use m.cache tag ≡ y
-      → load_refusals x y cause ≡ true → may_answer (flat_of z m) (Load tag at) (Refused cause) ≡ true
-  load_may tag at cause x y p q e = grind (arith, mem_length, flat_in_use)
+  load_refused : (x y v : Bool) (o : Option Cause) (c : Cause)
+      → cond (not x) (Some OutOfRange) (cond y (Some TagInUse) (cond v (Some RepliesFull) o)) ≡ Some c
+      → (o ≡ Some c → is_of_a_load c ≡ true) → load_refusals x y c ≡ true
+  load_refused x y v o c e h = grind arith
 
-  refuse_load : (tag at : ℕ) (cause : Cause) (x y : Bool) → nat_lt at z.words ≡ x → is_in_use m.cache tag ≡ y
-      → load_refusals x y cause ≡ true → KeptBy z m (Load tag at) (record { answer = Refused cause; machine = m })
-  refuse_load tag at cause x y p q e = refusal z m _ cause h (load_may tag at cause x y p q e) refl
+  later_refused : (b t n p q r : Bool) (c : Cause) → first_cause (cond b ((t, TargetsFull) ∷ [])
+      ((n, NoRegister) ∷ (p, SetPending) ∷ (q, QueueFull) ∷ (r, BankFull) ∷ [])) ≡ Some c → is_of_a_load c ≡ true
+  later_refused true true n p q r c e = cc
+  later_refused true false n p q r c e = cc
+  later_refused false t true p q r c e = cc
+  later_refused false t false true q r c e = cc
+  later_refused false t false false true r c e = cc
+  later_refused false t false false false true c e = cc
+  later_refused false t false false false false c e = cc
+
+  abbrev later : ℕ → Option Cause
+  later at = first_cause (cond (is_present m.cache (block_of z at))
+      ((targets_full m.cache (place_in z at) (found m.cache (block_of z at) (place_in z at)), TargetsFull) ∷ [])
+      (miss_causes z (room_in z.bank_queue m.banks) m.cache (block_of z at)))
 
   pub load_ok : (tag at : ℕ) → Kept z m (Load tag at)
   unfolding load_step load_cause
-  load_ok tag at = go _ refl _ refl _ refl
-      _ refl
-    where
-      block : ℕ
-      block = block_of z at
-
-      c : Cache
-      c = m.cache
-
-      step : Stepped
-      step = record {
-        answer = Accepted;
-        cache = loaded (fetched z m.cache (block_of z at)) tag (place_in z at)
-            (cell_of (fetched z m.cache (block_of z at)) (block_of z at) (place_in z at)).word
-            (found (fetched z m.cache (block_of z at)) (block_of z at) (place_in z at));
-        sent = fetches z m.cache (block_of z at);
-      }
-
-      accept : at < z.words → is_in_use m.cache tag ≡ false → nat_le z.replies (length (tags m.cache)) ≡ false
-          → (is_present m.cache (block_of z at) ≡ false → Able z m.cache (block_of z at))
-          → KeptBy z m (Load tag at) (joined_with m.banks step)
-      accept l u r able = accept_load tag at l u (leb-false _ _ r) _
-          (fetch_ok z lawful m h _ (starts_in z at l) able) (fetched_hit z lawful m h _ able)
-
-      four : Bool
-      four = targets_full m.cache (place_in z at) (found m.cache (block_of z at) (place_in z at))
-
-      of_a_load : (cause : Cause) → is_of_a_miss cause ≡ true → is_of_a_load cause ≡ true
-      of_a_load RepliesFull e = refl
-      of_a_load TargetsFull e = refl
-      of_a_load OutOfRange e = cc
-      of_a_load NoLanes e = cc
-      of_a_load TagInUse e = cc
-      of_a_load NotPresent e = cc
-      of_a_load StackFull e = cc
-      of_a_load StrayWord e = cc
-      of_a_load _ e = refl
-
-      present_or : at < z.words → nat_lt at z.words ≡ true → is_in_use m.cache tag ≡ false
-          → nat_le z.replies (length (tags m.cache)) ≡ false → (b : Bool) → is_present m.cache (block_of z at) ≡ b
-          → KeptBy z m (Load tag at) (joined_with m.banks
-          (unless (first_cause (cond b ((four, TargetsFull) ∷ [])
-          (miss_causes z (room_in z.bank_queue m.banks) m.cache (block_of z at)))) m.cache step))
-      present_or l p u r true e = by_four four
-        where
-          by_four : (y : Bool) → KeptBy z m (Load tag at) (joined_with m.banks (unless (cond y (Some TargetsFull) None) m.cache step))
-          by_four true = refuse_load tag at TargetsFull true false p u refl
-          by_four false = accept l u r (λ q. cc)
-      present_or l p u r false e = miss_or z m _ _ step h (λ cause q. refuse_load tag at cause true false p u (of_a_load cause q))
-          (λ able. accept l u r (λ q. able))
-
-      go : (x : Bool) → nat_lt at z.words ≡ x → (y : Bool) → is_in_use m.cache tag ≡ y → (v : Bool)
-          → nat_le z.replies (length (tags m.cache)) ≡ v → (b : Bool) → is_present m.cache (block_of z at) ≡ b
-          → KeptBy z m (Load tag at) (joined_with m.banks
-          (unless (cond (not x) (Some OutOfRange) (cond y (Some TagInUse)
-          (cond v (Some RepliesFull) (first_cause (cond b ((four, TargetsFull) ∷ [])
-          (miss_causes z (room_in z.bank_queue m.banks) m.cache (block_of z at))))))) m.cache step))
-      go false p y q v r b e = refuse_load tag at OutOfRange false y p q refl
-      go true p true q v r b e = refuse_load tag at TagInUse true true p q refl
-      go true p false q true r b e = refuse_load tag at RepliesFull true false p q refl
-      go true p false q false r b e = present_or (ltb-true at z.words p) p q r b e
+  load_ok tag at = unless_kept z m _ _ (load_cause z (room_in z.bank_queue m.banks) m.cache tag at) h (λ c e.
+      ap₂ (λ x y. cond (load_refusals x y c) (Some (flat_of z m)) None) (ap (nat_lt at) (mem_length z m)) (flat_in_use m tag)
+      ∙ ap (λ b. cond b (Some (flat_of z m)) None)
+      (load_refused (nat_lt at z.words) _ _ (later at) c e (λ q. later_refused (is_present m.cache (block_of z at)) _ _ _ _ _ c q))) (λ e.
+      let may : MayMiss z m (block_of z at) = λ absent. grind arith in
+      accept_load tag at (grind (arith, ltb-true)) (grind arith) (grind (arith, leb-false)) _
+      (fetch_ok z lawful m h _ (starts_in z at (grind (arith, ltb-true))) may) (fetched_hit z lawful m h _ (may_able z m _ may)))
 
   -- ---- stores
 
@@ -295,96 +230,54 @@ module _ (z : Sizes) (lawful : IsLawful z) (m : Machine) (h : IsSound z m) where
       λ i. record { mem = sym mem i; due = λ t. sym (owing t) i } in
       let may = ap₂ (λ x y. nat_lt at x && y) (mem_length z m) any ∙ ap (λ b. b && true) (lt-ltb at z.words l) in
       let same_tags = by.same_tags ∙ f.same_tags in
+      let sound = sound_beside z m2 _ f.sound by.beside (λ tag. rw (sym by.same_tags) at (f.sound.once tag)) kept in
       record {
-        sound = sound_beside z m2 _ f.sound by.beside
-            (λ tag. rw (sym by.same_tags) at (f.sound.once tag)) kept;
+        sound = sound;
         run = grind arith;
-        few = grind arith;
+        bounded = λ b. bounded_unit z m2 _ sound (f.bounded b) (like_written c _ _ word lanes)
+            (rw (sym by.same_tags) at (f.bounded b).few_tags) (rw (sym by.beside.queue) at (f.bounded b).few_queued);
       }
-
-  refuse_store : (at : ℕ) (word : Word) (lanes : Lanes) (cause : Cause) (x y : Bool) → nat_lt at z.words ≡ x → has_any lanes ≡ y
-      → store_refusals x y cause ≡ true → KeptBy z m (Store at word lanes) (record { answer = Refused cause; machine = m })
-  refuse_store at word lanes cause x y p q e = grind (arith, refusal, mem_length)
 
   pub store_ok : (at : ℕ) (word : Word) (lanes : Lanes) → Kept z m (Store at word lanes)
   unfolding store_step store_cause
-  store_ok at word lanes = go _ refl _ refl _ refl
-    where
-      step : Stepped
-      step = record {
-        answer = Accepted;
-        cache = written (fetched z m.cache (block_of z at)) (block_of z at) (place_in z at) word lanes;
-        sent = fetches z m.cache (block_of z at);
-      }
-
-      accept : at < z.words → has_any lanes ≡ true → (is_present m.cache (block_of z at) ≡ false → Able z m.cache (block_of z at))
-          → KeptBy z m (Store at word lanes) (joined_with m.banks step)
-      accept l u able = accept_store at word lanes l u _
-          (fetch_ok z lawful m h _ (starts_in z at l) able) (fetched_hit z lawful m h _ able)
-
-      go : (x : Bool) → nat_lt at z.words ≡ x → (y : Bool) → has_any lanes ≡ y → (b : Bool) → is_present m.cache (block_of z at) ≡ b
-          → KeptBy z m (Store at word lanes) (joined_with m.banks
-          (unless (cond (not x) (Some OutOfRange) (cond (not y) (Some NoLanes)
-          (first_cause (cond b [] (miss_causes z (room_in z.bank_queue m.banks) m.cache (block_of z at)))))) m.cache step))
-      go false p y q b e = refuse_store at word lanes OutOfRange false y p q refl
-      go true p false q b e = refuse_store at word lanes NoLanes true false p q refl
-      go true p true q true e = accept (ltb-true at z.words p) q (λ r. cc)
-      go true p true q false e = miss_or z m _ _ step h
-          (λ cause r. refuse_store at word lanes cause true true p q r)
-          (λ able. accept (ltb-true at z.words p) q (λ r. able))
+  store_ok at word lanes = unless_kept z m _ _ (store_cause z (room_in z.bank_queue m.banks) m.cache at lanes) h
+      (λ c e. grind (arith, mem_length)) (λ e.
+      let may : MayMiss z m (block_of z at) = λ absent. grind arith in
+      accept_store at word lanes (grind (arith, ltb-true)) (grind arith) _
+      (fetch_ok z lawful m h _ (starts_in z at (grind (arith, ltb-true))) may) (fetched_hit z lawful m h _ (may_able z m _ may)))
 
   -- ---- prefetches
 
-  refuse_prefetch : (at : ℕ) (cause : Cause) (x : Bool) → nat_lt at z.words ≡ x → prefetch_refusals x cause ≡ true
-      → KeptBy z m (Prefetch at) (record { answer = Refused cause; machine = m })
-  refuse_prefetch at cause x p e = grind (arith, refusal, mem_length)
-
   pub prefetch_ok : (at : ℕ) → Kept z m (Prefetch at)
   unfolding prefetch_step prefetch_cause
-  prefetch_ok at = go _ refl _ refl
-    where
-      step : Stepped
-      step = record { answer = Accepted; cache = fetched z m.cache (block_of z at); sent = fetches z m.cache (block_of z at) }
-
-      accept : at < z.words → (is_present m.cache (block_of z at) ≡ false → Able z m.cache (block_of z at))
-          → KeptBy z m (Prefetch at) (joined_with m.banks step)
-      accept l able = grind (arith, fetch_ok, starts_in, mem_length, lt-ltb, flat_of-same)
-
-      go : (x : Bool) → nat_lt at z.words ≡ x → (b : Bool) → is_present m.cache (block_of z at) ≡ b
-          → KeptBy z m (Prefetch at) (joined_with m.banks
-          (unless (cond (not x) (Some OutOfRange) (first_cause
-          (cond b [] (miss_causes z (room_in z.bank_queue m.banks) m.cache (block_of z at))))) m.cache step))
-      go false p b e = refuse_prefetch at OutOfRange false p refl
-      go true p true e = accept (ltb-true at z.words p) (λ r. cc)
-      go true p false e = miss_or z m _ _ step h (λ cause r. refuse_prefetch at cause true p r)
-          (λ able. accept (ltb-true at z.words p) (λ r. able))
+  prefetch_ok at = unless_kept z m _ _ (prefetch_cause z (room_in z.bank_queue m.banks) m.cache at) h
+      (λ c e. grind (arith, mem_length)) (λ e.
+      let may : MayMiss z m (block_of z at) = λ absent. grind arith in
+      let l : at < z.words = grind (arith, ltb-true) in
+      let f = fetch_ok z lawful m h _ (starts_in z at l) may in
+      record { sound = f.sound; run = grind (arith, mem_length, lt-ltb, flat_of-same); bounded = f.bounded })
 
   -- ---- evictions
 
   pub evict_ok : (block : ℕ) → Kept z m (Evict block)
-  unfolding evict_step evict_cause
-  evict_ok block = go _ _ refl
+  unfolding evict_step evict_cause evicted released
+  evict_ok block = unless_kept z m _ _ (evict_cause z m.cache block) h (λ c e. grind arith) (λ e. accept _ refl (grind arith) (grind arith))
     where
-      accept : (o : Option ℕ) → frame_of m.cache block ≡ o → KeptBy z m (Evict block) (record {
-        answer = Accepted;
-        machine = record { cache = evicted_from z m.cache block o; banks = m.banks };
-      })
-      accept None e = grind arith
-      accept (Some f) e = grind (arith, gone_sound, flat_of-same, gone_same, gone_tags)
-
-      go : (x : Bool) (o : Option ℕ) → frame_of m.cache block ≡ o → KeptBy z m (Evict block) (joined_with m.banks
-          (unless (cond (not x) (Some OutOfRange) (cond (not (is_some o)) (Some NotPresent)
-          (cond (lacks_places z m.cache o) (Some QueueFull) None))) m.cache
-          (record { answer = Accepted; cache = evicted_from z m.cache block o; sent = [] })))
-      go false o e = grind arith
-      go true None e = grind arith
-      go true (Some f) e = by_room _
-        where
-          by_room : (b : Bool) → KeptBy z m (Evict block)
-              (joined_with m.banks (unless (cond b (Some QueueFull) None) m.cache
-              (record { answer = Accepted; cache = evicted_from z m.cache block (Some f); sent = [] })))
-          by_room true = grind arith
-          by_room false = accept _ e
+      accept : (o : Option ℕ) → frame_of m.cache block ≡ o → is_some o ≡ true → lacks_places z m.cache o ≡ false
+          → KeptBy z m (Evict block) (record {
+            answer = Accepted;
+            machine = record { cache = evicted_from z m.cache block o; banks = m.banks };
+          })
+      accept None e some room = cc
+      accept (Some f) e some room =
+          let sound = gone_sound z lawful m h block f e in
+          record {
+            sound = sound;
+            run = ap Some (sym (flat_of-same z m _ (gone_same z lawful m h block f e)));
+            bounded = λ b. bounded_unit z m _ sound b (like_evicted z m.cache block f)
+                (rw (sym (gone_tags z lawful m h block f e)) at b.few_tags)
+                (grind (arith, length-append, m.cache.queue, ltb-false, b.few_queued));
+          }
 
 -- ---- The opening machine, and a settled one.
 

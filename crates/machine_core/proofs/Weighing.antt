@@ -1,8 +1,8 @@
 -- The driver lowers the weight.
 use Rattle.std.proofs.Common.{◌≡◌, ℕ, ◌+◌, ◌*◌, ◌<◌, cond, List, [], ◌∷◌, ◌++◌, length, get_or, take, refl, ap, arith, zero, suc, ◌-◌, ◌%◌}
 use Rattle.std.proofs.Common.{◌≤◌, Bool, true, false, not, ◌&&◌, set, Option, Some, None, option_map, find, remove, slice_get, sym, ap₂}
-use Rattle.std.proofs.Common.{◌∙◌, length-append, ◌⊎◌, inl, inr, lt-ltb, mod-lt, flat_map, nat_lt, ⊎_elim, le-ltb, ◌==◌}
-use Rattle.std.proofs.lemmas.List.{take_more, nil_from_length, length-map}
+use Rattle.std.proofs.Common.{◌∙◌, length-append, ◌⊎◌, inl, inr, lt-ltb, mod-lt, flat_map, nat_lt, ⊎_elim, le-ltb, ◌==◌, map, subst}
+use Rattle.std.proofs.lemmas.List.{take_more, length-map}
 use Rattle.std.proofs.lemmas.List.Sums.{sum_by-cons}
 use Rattle.std.specs.List.{count_by, range_with_len, list_all}
 use Rattle.memory_banks.specs.declared.Command.{Command}
@@ -21,22 +21,21 @@ use Rattle.input_stack.specs.declared.Entry.{Entry}
 use Rattle.write_queue.specs.declared.Queued.{Queued}
 use Rattle.miss_registers.specs.declared.Owed.{Owed}
 use Rattle.cache_unit.specs.declared.Sizes.{Sizes}
-use Rattle.cache_unit.specs.State.{Field, Register, Cache, clear_field, free_register, register_at, field_at, gathered, targets_of}
+use Rattle.cache_unit.specs.State.{Target, Field, Register, Cache, clear_field, free_register, register_at, field_at, gathered, targets_of}
 use Rattle.cache_unit.specs.State.{targets_of_field, targets, tags}
 use Rattle.cache_unit.specs.Causes.{arrive_cause}
 use Rattle.miss_registers.specs.Registers.{finished, marked}
-use Rattle.cache_unit.specs.Steps.{answered, processed, arrived, take_step, process_step, drain_step, Stepped, drain_first, process_entry}
+use Rattle.cache_unit.specs.Steps.{answered, processed, arrived, take_step, process_step, drain_step, drain_first, process_entry}
 use Rattle.cache_unit.specs.Counts.{tally, bit}
 use Rattle.cache_unit.proofs.FormsProcessing.{all_processed, done, settled_only}
-use Rattle.cache_unit.proofs.Lists.{with_fields, in_range}
+use Rattle.cache_unit.proofs.Lists.{with_fields, in_range, tally-append, tally-map}
+use Rattle.cache_directory.proofs.Finds.{All-range, find-nowhere}
 use Rattle.machine_core.specs.Machine.{Machine, apply, joined_with}
 use Rattle.machine_core.specs.Law.{IsLawful, HasRoom, WalkIsDriven, most_weight}
-use Rattle.machine_core.specs.Sound.{IsSound, is_entry_for, is_for, wanted, IsBounded}
+use Rattle.machine_core.specs.Sound.{IsSound, wanted, IsBounded}
 use Rattle.machine_core.proofs.Walking.{slot_there, field_there, not_stray, walk_sound}
 use Rattle.machine_core.proofs.FromForms.{entry_waits, bit-pos, bit-le}
 use Rattle.machine_core.proofs.Requests.{sound_opening}
-use Rattle.flat_model.specs.declared.Answer.TheVariants.{Moved, Refused}
-use Rattle.flat_model.specs.declared.Cause.TheVariants.{BankFull}
 use Rattle.std.proofs.Math.Nat.{mul_assoc}
 use Rattle.flat_model.specs.Flat.{stored}
 
@@ -99,11 +98,7 @@ find_first : (p : ℕ → Bool) (a n b : ℕ) → find p (range_with_len a n) �
 find_first p a zero b e = cc
 find_first p a (suc n) b e = grind (arith, find_first p (a + 1) n b)
 
-find_nowhere : (p : ℕ → Bool) (a n k : ℕ) → find p (range_with_len a n) ≡ None → a ≤ k → k < a + n → p k ≡ false
-find_nowhere p a zero k e lo hi = absurd (omega arith)
-find_nowhere p a (suc n) k e lo hi = grind (arith, find_nowhere p (a + 1) n k)
-
-items_none : {X : Type 0} (xs : List X) → has_items xs ≡ false → length xs ≡ 0
+items_none : {X : Type 0} (xs : List X) → has_items xs ≡ false → xs ≡ []
 items_none [] e = refl
 items_none (x ∷ xs) e = cc
 
@@ -194,124 +189,99 @@ module _ (z : Sizes) (lawful : IsLawful z) (roomy : HasRoom z) (m : Machine) (h 
 
   -- ---- which event the driver picks
 
-  abbrev arrivals : Option ℕ
-  arrivals = lowest z m (λ b. has_items b.answers)
-
-  abbrev turns : Option ℕ
-  turns = lowest z m (λ b. has_items b.queue)
-
   abbrev picked : List Reply → List Entry → Option ℕ → Option ℕ → List Queued → Option Event
   picked ready stack a t queue =
       first_event (when (has_items ready) (Take 0) ∷ when (has_items stack) (Process 0) ∷ option_map (λ b. Arrive b 0) a ∷ option_map
       (λ b. Serve b) t ∷ when (has_items queue) Drain ∷ [])
 
-  first_answer : (b : ℕ) → arrivals ≡ Some b → (b < length m.banks) × (has_items (bank_at m.banks b).answers ≡ true)
-  first_answer b e = grind (arith, find_first)
-
-  first_turn : (b : ℕ) → turns ≡ Some b → (b < length m.banks) × (has_items (bank_at m.banks b).queue ≡ true)
-  first_turn b e = grind (arith, find_first)
-
-  no_turn : turns ≡ None → (b : ℕ) → b < z.banks → length (bank_at m.banks b).queue ≡ 0
-  no_turn e b l = items_none _ (find_nowhere (λ k. has_items (bank_at m.banks k).queue) 0 _ b e (omega arith) (omega arith))
-
-  no_answer : arrivals ≡ None → (b : ℕ) → b < z.banks → length (bank_at m.banks b).answers ≡ 0
-  no_answer e b l = items_none _ (find_nowhere (λ k. has_items (bank_at m.banks k).answers) 0 _ b e (omega arith) (omega arith))
-
   parts_of : {X : Type 0} (xs : List X) → has_items xs ≡ true → (x : X) × (rest : List X) × (xs ≡ x ∷ rest)
   parts_of [] e = cc
   parts_of (x ∷ xs) e = (x, xs, refl)
 
-  pub pumped_lowers : (event : Event) → pumped z m ≡ Some event → Lowers event
-  pumped_lowers event e = go _ refl _ refl arrivals refl turns refl _ refl e
-    where
-      so : (picked_event : Event) → Some picked_event ≡ Some event → Lowers picked_event → Lowers event
-      so x q k = let same : x ≡ event = cc in rw same at k
+  -- the lowest bank where there are some, and no bank where there is no lowest one
+  first_at : {X : Type 0} (items : Bank → List X) (b : ℕ) → lowest z m (λ x. has_items (items x)) ≡ Some b
+      → (b < length m.banks) × (x : X) × (rest : List X) × (items (bank_at m.banks b) ≡ x ∷ rest)
+  first_at items b e =
+      let p = find_first (λ k. has_items (items (bank_at m.banks k))) 0 z.banks b e in
+      let l = parts_of (items (bank_at m.banks b)) p.1 in
+      (let n = h.banks_are in let k = p.0 in omega arith, l.0, l.1, l.2)
 
-      go : (ready : List Reply) → m.cache.ready ≡ ready → (stack : List Entry) → m.cache.stack ≡ stack → (a : Option ℕ) → arrivals ≡ a
-          → (t : Option ℕ) → turns ≡ t → (queue : List Queued) → m.cache.queue ≡ queue → picked ready stack a t queue ≡ Some event
-          → Lowers event
-      go (r ∷ rest) er stack es a ea t et queue eq q = so _ q (take_lowers r rest er)
-      go [] er (x ∷ rest) es a ea t et queue eq q = so _ q (process_lowers x rest es)
-      go [] er [] es (Some b) ea t et queue eq q =
-          let p = first_answer b ea in
-          let l = parts_of (bank_at _ b).answers p.1 in
-          so _ q (arrive_lowers b l.0 l.1 p.0 l.2 (let none = ap length es in let room = roomy.some_depth in omega arith))
-      go [] er [] es None ea (Some b) et queue eq q =
-          let p = first_turn b et in
-          let l = parts_of (bank_at _ b).queue p.1 in
-          so _ q (serve_lowers b l.0 l.1 p.0 l.2)
-      go [] er [] es None ea None et (x ∷ rest) eq q =
-          so Drain q (drain_lowers x rest eq (let none = no_turn et _ (mod-lt x.at lawful.some_banks) in let room =
-          some_queue z lawful roomy in omega arith))
-      go [] er [] es None ea None et [] eq q = cc
+  none_at : {X : Type 0} (items : Bank → List X) → lowest z m (λ x. has_items (items x)) ≡ None → (b : ℕ) → b < length m.banks
+      → items (bank_at m.banks b) ≡ []
+  none_at items e b l = let n = h.banks_are in
+      items_none _
+      (All-range (λ k. has_items (items (bank_at m.banks k)) ≡ false) 0 z.banks b (find-nowhere _ _ e) (omega arith) (omega arith))
 
-  -- nothing is left where the driver has no event
-  pub pumped_rests : pumped z m ≡ None → weight m ≡ 0
-  pumped_rests e = go _ refl _ refl arrivals refl turns refl _ refl e
+  -- the driver's event lowers the weight, and where there is none nothing is left
+  abbrev Drives : Option Event → Type 0
+  Drives None = weight m ≡ 0
+  Drives (Some event) = Lowers event
+
+  pumped_drives : Drives (pumped z m)
+  pumped_drives = go _ refl _ refl _ refl _ refl _ refl
     where
-      go : (ready : List Reply) → m.cache.ready ≡ ready → (stack : List Entry) → m.cache.stack ≡ stack → (a : Option ℕ) → arrivals ≡ a
-          → (t : Option ℕ) → turns ≡ t → (queue : List Queued) → m.cache.queue ≡ queue → picked ready stack a t queue ≡ None → weight m ≡ 0
-      go (r ∷ rest) er stack es a ea t et queue eq q = cc
-      go [] er (x ∷ rest) es a ea t et queue eq q = cc
-      go [] er [] es (Some b) ea t et queue eq q = cc
-      go [] er [] es None ea (Some b) et queue eq q = cc
-      go [] er [] es None ea None et (x ∷ rest) eq q = cc
-      go [] er [] es None ea None et [] eq q =
-          let banks = total_none bank_weight no_bank _ idle in
+      go : (ready : List Reply) → m.cache.ready ≡ ready → (stack : List Entry) → m.cache.stack ≡ stack
+          → (a : Option ℕ) → lowest z m (λ b. has_items b.answers) ≡ a → (t : Option ℕ) → lowest z m (λ b. has_items b.queue) ≡ t
+          → (queue : List Queued) → m.cache.queue ≡ queue → Drives (picked ready stack a t queue)
+      go (r ∷ rest) er stack es a ea t et queue eq = take_lowers r rest er
+      go [] er (x ∷ rest) es a ea t et queue eq = process_lowers x rest es
+      go [] er [] es (Some b) ea t et queue eq =
+          let p = first_at (λ x. x.answers) b ea in
+          arrive_lowers b p.1 p.2 p.0 p.3 (let none = ap length es in let room = roomy.some_depth in omega arith)
+      go [] er [] es None ea (Some b) et queue eq = let p = first_at (λ x. x.queue) b et in serve_lowers b p.1 p.2 p.0 p.3
+      go [] er [] es None ea None et (x ∷ rest) eq =
+          let lt = mod-lt x.at lawful.some_banks in
+          let none = ap length (none_at (λ x. x.queue) et (x.at % z.banks) (let n = h.banks_are in omega arith)) in
+          drain_lowers x rest eq (let room = some_queue z lawful roomy in omega arith)
+      go [] er [] es None ea None et [] eq =
+          let banks = total_none bank_weight no_bank _ (λ b l.
+          ap₂ (λ (q : List Command) (xs : List BankAnswer). total command_weight q + 3 * length xs)
+          (idle b l).1 (idle b l).0) in
           let registers = total_none register_weight free_register _ quiet in
           let r = ap length er in
           let s = ap length es in
           let k = ap length eq in
           omega arith
         where
-          idle : (b : ℕ) → b < length m.banks → bank_weight (bank_at m.banks b) ≡ 0
-          idle b l =
-              let l' : b < z.banks = let n = h.banks_are in omega arith in
-              let a = no_answer ea b l' in
-              let c = ap (total command_weight) (nil_from_length _ (no_turn et b l')) in
-              omega arith
-
-          nothing : all_pending m.banks ≡ []
-          nothing = all_idle _ (λ b l. let l' : b < z.banks = let n = h.banks_are in omega arith in
-              (nil_from_length _ (no_answer ea b l'), nil_from_length _ (no_turn et b l')))
+          idle : (b : ℕ) → b < length m.banks → ((bank_at m.banks b).answers ≡ []) × ((bank_at m.banks b).queue ≡ [])
+          idle b l = (none_at (λ x. x.answers) ea b l, none_at (λ x. x.queue) et b l)
 
           quiet : (s : ℕ) → s < length m.cache.registers → register_weight (register_at m.cache s) ≡ 0
           quiet s l = by_valid (register_at m.cache s).valid refl
             where
+              nothing : all_pending m.banks ≡ []
+              nothing = all_idle _ idle
+
+              each : (register_at m.cache s).valid ≡ true → (j : ℕ) → j < length (register_at m.cache s).fields
+                  → field_weight (field_at m.cache s j) ≡ 0
+              each v j k = grind (arith, nothing, h.counted s j, lt-ltb, h.whole_registers)
+
               by_valid : (v : Bool) → (register_at m.cache s).valid ≡ v → cond v (total field_weight (register_at m.cache s).fields) 0 ≡ 0
               by_valid false v = refl
-              by_valid true v = total_none field_weight clear_field (register_at m.cache s).fields each
-                where
-                  each : (j : ℕ) → j < length (register_at m.cache s).fields → field_weight (field_at m.cache s j) ≡ 0
-                  each j k =
-                      let c = h.counted s j in
-                      let p = ap (tally (is_for s j)) nothing in
-                      let t = ap (tally (is_entry_for s j)) es in
-                      let in_block : j < z.block_words = let n = h.whole_registers s v in omega arith in
-                      let w = ap₂ (λ x y. bit (x && (y && not (field_at m.cache s j).processed))) v (lt-ltb j _ in_block) in
-                      let zero_bit : bit _ ≡ 0 = omega arith in
-                      by_mark (field_at m.cache s j).processed zero_bit
-                    where
-                      by_mark : (b : Bool) → bit (not b) ≡ 0 → cond b 0 (length (field_at m.cache s j).waiting - 1) ≡ 0
-                      by_mark true q' = refl
-                      by_mark false q' = absurd (omega arith)
+              by_valid true v = total_none field_weight clear_field (register_at m.cache s).fields (each v)
+
+  pub pumped_lowers : (event : Event) → pumped z m ≡ Some event → Lowers event
+  pumped_lowers event e = subst Drives e pumped_drives
+
+  -- nothing is left where the driver has no event
+  pub pumped_rests : pumped z m ≡ None → weight m ≡ 0
+  pumped_rests e = subst Drives e pumped_drives
 
   -- a machine whose stack, replies and banks' answers are gone, and whose write queue waits for a bank if it isn't empty
   pub rests_or_waits : m.cache.ready ≡ [] → m.cache.stack ≡ [] → ((b : ℕ) → b < z.banks → (bank_at m.banks b).answers ≡ [])
       → (m.cache.queue ≡ []) ⊎ HasCommand z m → (weight m ≡ 0) ⊎ HasCommand z m
   rests_or_waits er es none (inr waits) = inr waits
-  rests_or_waits er es none (inl eq) = go arrivals refl turns refl
+  rests_or_waits er es none (inl eq) = go _ refl _ refl
     where
-      go : (a : Option ℕ) → arrivals ≡ a → (t : Option ℕ) → turns ≡ t → (weight m ≡ 0) ⊎ HasCommand z m
+      go : (a : Option ℕ) → lowest z m (λ b. has_items b.answers) ≡ a → (t : Option ℕ) → lowest z m (λ b. has_items b.queue) ≡ t
+          → (weight m ≡ 0) ⊎ HasCommand z m
       go a ea (Some b) et =
-          let p = first_turn b et in
-          inr (b, let n = h.banks_are in let l = p.0 in omega arith, p.1)
+          let p = first_at (λ x. x.queue) b et in
+          inr (b, let n = h.banks_are in let l = p.0 in omega arith, ap has_items p.3)
       go (Some b) ea None et =
-          let p = first_answer b ea in
-          let l : b < z.banks = let n = h.banks_are in let k = p.0 in omega arith in
-          let no = ap has_items (none b l) in
-          let yes = p.1 in
-          cc
+          let p = first_at (λ x. x.answers) b ea in
+          let no = none b (let n = h.banks_are in let l = p.0 in omega arith) in
+          cc (no, p.3)
       go None ea None et = inl (pumped_rests (cc (er, es, ea, et, eq)))
 
   pub pumped_at_rest : weight m ≡ 0 → pumped z m ≡ None
@@ -326,9 +296,6 @@ walk_is_driven z image events lawful roomy fits = grind (arith, walk_sound, soun
 
 -- ---- An event that moves something on lowers the weight; otherwise the machine stays as it was, and shows why.
 
--- ---- the weight of any machine
-
--- the most that can be on its way, whatever the numbers
 -- ---- one event
 
 -- the weight falls, or the machine stays and this is so
@@ -366,17 +333,7 @@ module _ (z : Sizes) (lawful : IsLawful z) (roomy : HasRoom z) (m : Machine) (h 
       full q rest e l =
           let b = q.at % z.banks in
           let within = mod-lt q.at lawful.some_banks in
-          let there : b < length _ = let n = h.banks_are in omega arith in
-          let room = ap (λ t. nat_lt 0 (cond t (z.bank_queue - length (bank_at m.banks b).queue) 0)) (lt-ltb b _ there)
-          ∙ le-ltb 0 _ (omega (arith, l)) in
-          let moved : Stepped = record {
-            answer = Moved;
-            cache = record m.cache { queue = rest };
-            sent = (b, Write _ q.word q.lanes) ∷ [];
-          } in
-          let kept : Stepped = record { answer = Refused BankFull; cache = m.cache; sent = [] } in
-          let same = ap (λ qs. (joined_with m.banks (drain_first z (room_in z.bank_queue m.banks) m.cache qs)).machine) e
-          ∙ ap (λ t. (joined_with m.banks (cond t moved kept)).machine) room in
+          let same : (apply z m Drain).machine ≡ m = grind (arith, le-ltb) in
           inr (same, inr (b, within, some (bank_at _ b).queue (let k = some_queue z lawful roomy in omega (arith, k, l))))
         where
           some : {X : Type 0} (xs : List X) → 0 < length xs → has_items xs ≡ true
@@ -425,35 +382,31 @@ below-hit zero f k l h = absurd (omega arith)
 below-hit (suc n) f k l h = ⊎_elim (λ e. let h' = rw e at h in omega arith)
     (λ d. let ih = below-hit n f k (omega arith) h in omega arith) (cases_eq k n)
 
--- ---- a list whose elements have two numbers each
+-- ---- a list of pairs of numbers
 
-module _ {X : Type 0} (a b : X → ℕ) where
-  abbrev has_numbers : ℕ → ℕ → X → Bool
-  has_numbers s i x = (a x == s) && (b x == i)
+abbrev is_pair : ℕ → ℕ → ℕ × ℕ → Bool
+is_pair s i x = (x.0 == s) && (x.1 == i)
 
-  -- how many elements have these numbers, summed over all that are in range
-  abbrev summed : ℕ → ℕ → List X → ℕ
-  summed n w xs = below n (λ s. below w (λ i. tally (has_numbers s i) xs))
+abbrev answer_pair : BankAnswer → ℕ × ℕ
+answer_pair a = (a.slot, a.i)
 
-  own : (x : X) → has_numbers (a x) (b x) x ≡ true
-  own x = grind arith
+abbrev entry_pair : Entry → ℕ × ℕ
+entry_pair e = (e.slot, e.i)
 
-  one_each : (n w : ℕ) (x : X) → a x < n → b x < w → 1 ≤ below n (λ s. below w (λ i. bit (has_numbers s i x)))
-  one_each n w x l k = below-hit n (λ s. below w (λ i. bit _)) (a x) l
-      (below-hit w (λ i. bit _) (b x) k (let e = ap bit (own x) in omega arith))
-
-  length-summed : (n w : ℕ) (xs : List X) → ((x : X) → 1 ≤ tally (has_numbers (a x) (b x)) xs → (a x < n) × (b x < w))
-      → length xs ≤ summed n w xs
-  length-summed n w [] h = omega arith
-  length-summed n w (x ∷ xs) h =
-      let p = h x (let e = ap bit (own x) in omega arith) in
-      let one = one_each n w x p.0 p.1 in
-      let ih = length-summed n w xs (λ y l. h y (omega arith)) in
-      let inner : summed n w (x ∷ xs) ≡ below n
-      (λ s. below w (λ i. bit _) + below w (λ i. tally _ xs)) =
-      below-same n _ _ (λ s. below-add w (λ i. bit _) (λ i. tally _ xs)) in
-      let outer = below-add n (λ s. below w (λ i. bit (has_numbers s i x))) (λ s. below w (λ i. tally (has_numbers s i) xs)) in
-      omega arith
+-- it is no longer than all its pairs are together, counted one by one
+length-summed : (n w : ℕ) (xs : List (ℕ × ℕ)) → ((s i : ℕ) → 1 ≤ tally (is_pair s i) xs → (s < n) × (i < w))
+    → length xs ≤ below n (λ s. below w (λ i. tally (is_pair s i) xs))
+length-summed n w [] h = omega arith
+length-summed n w (x ∷ xs) h =
+    let e : bit (is_pair x.0 x.1 x) ≡ 1 = grind arith in
+    let p = h x.0 x.1 (omega arith) in
+    let one = below-hit n (λ s. below w (λ i. bit (is_pair s i x))) x.0 p.0
+    (below-hit w (λ i. bit (is_pair x.0 i x)) x.1 p.1 (omega arith)) in
+    let ih = length-summed n w xs (λ s i l. h s i (omega arith)) in
+    let inner = below-same n (λ s. below w (λ i. tally (is_pair s i) (x ∷ xs)))
+    (λ s. below w (λ i. bit (is_pair s i x)) + below w (λ i. tally (is_pair s i) xs)) (λ s. below-add w _ _) in
+    let outer = below-add n (λ s. below w (λ i. bit (is_pair s i x))) (λ s. below w (λ i. tally (is_pair s i) xs)) in
+    omega arith
 
 -- ---- words on their way
 
@@ -469,25 +422,35 @@ wanted_in z m sound s i l =
 -- at most one for each word of each register
 pub on_their_way : (z : Sizes) (m : Machine) → IsSound z m → length (all_pending m.banks) + length m.cache.stack ≤ z.regs * z.block_words
 on_their_way z m sound =
-    let pend = length-summed (λ (x : BankAnswer). x.slot) (λ (x : BankAnswer). x.i) _ _ (all_pending m.banks)
-    (λ x l. wanted_in z m sound x.slot x.i (let c = sound.counted x.slot x.i in omega arith)) in
-    let stack = length-summed (λ (x : Entry). x.slot) (λ (x : Entry). x.i) _ _ m.cache.stack
-    (λ x l. wanted_in z m sound x.slot x.i (let c = sound.counted x.slot x.i in omega arith)) in
-    let row : (s : ℕ) → below z.block_words (pending_for s) + below z.block_words (entries_for s) ≤ z.block_words =
-    λ s. (let e = below-add z.block_words (pending_for s) (entries_for s) in let l =
-    below-le z.block_words 1 (λ i. pending_for s i + entries_for s i)
-    (λ i. let c = sound.counted s i in let b =
-    bit-le ((register_at m.cache s).valid && (nat_lt i z.block_words && not (field_at m.cache s i).processed)) in omega arith) in
-    omega arith) in
-    let e = below-add z.regs (λ s. below z.block_words (pending_for s)) (λ s. below z.block_words (entries_for s)) in
-    let l = below-le z.regs _ (λ s. below z.block_words (pending_for s) + below z.block_words (entries_for s)) row in
-    omega arith
+    let n = length-summed z.regs z.block_words pairs (λ s i l. wanted_in z m sound s i (let c = count s i in omega arith)) in
+    let most = below-le z.regs _ (λ s. below z.block_words (λ i. tally (is_pair s i) pairs)) (λ s.
+    below-le z.block_words 1 (λ i. tally (is_pair s i) pairs) (λ i. let c = count s i in let b =
+    bit-le ((register_at m.cache s).valid && (nat_lt i z.block_words && not (field_at m.cache s i).processed)) in omega arith)) in
+    omega (
+      arith,
+      length-append awaited entries,
+      length-map (all_pending m.banks) answer_pair,
+      length-map m.cache.stack entry_pair,
+    )
   where
-    pending_for : ℕ → ℕ → ℕ
-    pending_for s i = tally (is_for s i) (all_pending m.banks)
+    awaited : List (ℕ × ℕ)
+    awaited = map answer_pair (all_pending m.banks)
 
-    entries_for : ℕ → ℕ → ℕ
-    entries_for s i = tally (is_entry_for s i) m.cache.stack
+    entries : List (ℕ × ℕ)
+    entries = map entry_pair m.cache.stack
+
+    pairs : List (ℕ × ℕ)
+    pairs = awaited ++ entries
+
+    count : (s i : ℕ) → tally (is_pair s i) pairs ≡ wanted z (register_at m.cache s) i
+    count s i =
+        let c = sound.counted s i in
+        omega (
+          arith,
+          tally-append (is_pair s i) awaited entries,
+          tally-map answer_pair (is_pair s i) (all_pending m.banks),
+          tally-map entry_pair (is_pair s i) m.cache.stack,
+        )
 
 -- ---- the parts of the weight
 
@@ -505,25 +468,18 @@ banks_weigh most (b ∷ banks) h = grind (arith, h 0, commands_weigh, length-app
 field_weighs : (slot i : ℕ) (f : Field) → field_weight f ≤ length (targets_of_field slot i f) - 1
 field_weighs slot i f = grind (arith, length-map, f.waiting)
 
-fields_weigh : (slot n : ℕ) (fields : List Field) → total field_weight fields ≤ length (gathered (targets_of_field slot) n fields) - 1
-fields_weigh slot n [] = omega arith
-fields_weigh slot n (f ∷ fields) =
-    let ih = fields_weigh slot (suc n) fields in
-    let own = field_weighs slot n f in
-    let k = length-append (targets_of_field slot n f) (gathered (targets_of_field slot) (suc n) fields) in
+-- what weighs less than its loads does so in a list, too
+all_weigh : {X : Type 0} (f : X → ℕ) (g : ℕ → X → List Target) → ((n : ℕ) (x : X) → f x ≤ length (g n x) - 1) → (n : ℕ) (xs : List X)
+    → total f xs ≤ length (gathered g n xs) - 1
+all_weigh f g h n [] = omega arith
+all_weigh f g h n (x ∷ xs) =
+    let ih = all_weigh f g h (suc n) xs in
+    let own = h n x in
+    let k = length-append (g n x) (gathered g (suc n) xs) in
     omega arith
 
 register_weighs : (slot : ℕ) (r : Register) → register_weight r ≤ length (targets_of slot r) - 1
-register_weighs slot r = grind (arith, fields_weigh)
-
--- a load weighs only behind another one
-registers_weigh : (n : ℕ) (registers : List Register) → total register_weight registers ≤ length (gathered targets_of n registers) - 1
-registers_weigh n [] = omega arith
-registers_weigh n (r ∷ registers) =
-    let ih = registers_weigh (suc n) registers in
-    let own = register_weighs n r in
-    let k = length-append (targets_of n r) (gathered targets_of (suc n) registers) in
-    omega arith
+register_weighs slot r = grind (arith, all_weigh field_weight (targets_of_field slot) (field_weighs slot) 0 r.fields)
 
 tags_count : (c : Cache) → length (tags c) ≡ length c.ready + length (targets c.registers)
 tags_count c = grind (arith, length-append, length-map)
@@ -532,7 +488,7 @@ tags_count c = grind (arith, length-append, length-map)
 pub none_behind : (c : Cache) → length (tags c) - length c.ready < 2 → total register_weight c.registers ≡ 0
 unfolding targets
 none_behind c few =
-    let registers = registers_weigh 0 c.registers in
+    let registers = all_weigh register_weight targets_of register_weighs 0 c.registers in
     let n = tags_count c in
     omega arith
 
@@ -541,7 +497,7 @@ unfolding targets
 weight_bound z m sound bounded =
     let way = on_their_way z m sound in
     let banks = banks_weigh _ _ bounded.few_commands in
-    let registers = registers_weigh 0 m.cache.registers in
+    let registers = all_weigh register_weight targets_of register_weighs 0 m.cache.registers in
     let n = tags_count m.cache in
     let t = bounded.few_tags in
     let q = bounded.few_queued in

@@ -1,27 +1,25 @@
 -- What a whole machine keeps, and what follows of it.
 use Rattle.std.proofs.Common.{◌≡◌, ℕ, List, [], ◌∷◌, ◌++◌, slice_set, Option, Some, None, refl, sym, ap, ap₂, ◌∙◌, subst, zero, suc, ◌+◌}
 use Rattle.std.proofs.Common.{◌-◌, ◌*◌, ◌/◌, ◌%◌, ◌<◌, ◌≤◌, Bool, true, false, cond, ◌&&◌, ◌||◌, ◌==◌, nat_lt, map, length, get_or, arith}
-use Rattle.std.proofs.Common.{⊎_elim, lt-ltb, le-ltb, eq-eqb, ne_eqb, mod-lt, div-add-mod', mul-le-mul_right, ◌⊎◌, inl, inr, ◌≢◌, not}
-use Rattle.std.proofs.Common.{is_none, is_some, flat_map, length-append}
+use Rattle.std.proofs.Common.{⊎_elim, lt-ltb, le-ltb, eq-eqb, ne_eqb, mod-lt, div-add-mod', mul-le-mul_right, ◌⊎◌, ◌≢◌, not, is_none}
+use Rattle.std.proofs.Common.{is_some, flat_map, length-append}
 use Rattle.flat_model.specs.declared.Cause.{Cause}
 use Rattle.flat_model.specs.declared.Event.{Event}
 use Rattle.flat_model.specs.declared.Answer.{Answer}
-use Rattle.flat_model.specs.declared.Answer.TheVariants.{Accepted, Moved, Refused}
+use Rattle.flat_model.specs.declared.Answer.TheVariants.{Moved, Refused}
 use Rattle.memory_banks.specs.declared.Command.{Command}
 use Rattle.memory_banks.specs.declared.BankAnswer.{BankAnswer}
 use Rattle.memory_banks.specs.Banks.{bank_at, room_in, all_sent, no_bank, all_pending, Bank, pending, opening_banks}
 use Rattle.memory_banks.specs.Memory.{Memory, with_banks, SameButQueues, without_answer}
 use Rattle.memory_banks.proofs.Sending.{banks_sent}
-use Rattle.input_stack.specs.declared.Entry.{Entry}
-use Rattle.cache_unit.specs.declared.Reply.{Reply}
 use Rattle.cache_unit.specs.declared.Sizes.{Sizes}
-use Rattle.cache_unit.specs.State.{Cache, UnitState, frame_of, Field, Register, clear_field, free_register, register_at, live_for}
-use Rattle.cache_unit.specs.State.{is_pending, gathered, targets_of, targets, tags, first_of, opening_cache}
+use Rattle.cache_unit.specs.State.{Cache, UnitState, Field, Register, clear_field, free_register, register_at, live_for, is_pending}
+use Rattle.cache_unit.specs.State.{gathered, targets_of, targets, tags, first_of, opening_cache}
 use Rattle.cache_unit.specs.Makes.{MakesOver}
 use Rattle.cache_unit.specs.Causes.{arrive_cause, first_cause, dirty_from, dirty_words, addresses, lacks_places, lacks_room, miss_causes}
 use Rattle.cache_unit.specs.Causes.{load_cause, store_cause, prefetch_cause, evict_cause}
-use Rattle.cache_unit.specs.Steps.{Stepped, unless, evicted_from, moved, arrived, arrive_step, evict_step, process_step, process_entry}
-use Rattle.cache_unit.specs.Steps.{take_step, take_reply, load_step, store_step, prefetch_step}
+use Rattle.cache_unit.specs.Steps.{Stepped, unless, moved, arrived, arrive_step, evict_step, process_step, take_step, load_step, store_step}
+use Rattle.cache_unit.specs.Steps.{prefetch_step}
 use Rattle.machine_core.specs.Machine.{Machine, Outcome, joined_with, apply, walked, told, take_in, arrive_from, opening, flat_of}
 use Rattle.machine_core.specs.Machine.{MachineState, settled, bank_word}
 use Rattle.machine_core.specs.Whole.{machine_of, Makes, state_of, IsWhole, IsWholeState, Serves, or_image}
@@ -31,19 +29,19 @@ use Rattle.std.proofs.lemmas.Nat.{mod-mul-add, mul-le}
 use Rattle.std.proofs.lemmas.List.{nil_from_length}
 use Rattle.flat_model.specs.declared.Word.{Word}
 use Rattle.flat_model.specs.declared.Event.TheVariants.{Load, Store, Prefetch, Evict, Arrive, Drain, Serve, Process, Take}
-use Rattle.memory_banks.specs.declared.Command.TheVariants.{Read, Write}
 use Rattle.cache_directory.specs.declared.Cell.{Cell}
 use Rattle.cache_unit.specs.Counts.{tally}
 use Rattle.cache_unit.proofs.Lists.{live_for-none, tally-append}
 use Rattle.cache_unit.proofs.Made.{all_same, in_size}
-use Rattle.machine_core.specs.Law.{IsLawful, HasRoom, ServesRequests, IsServed, RequestsAreServed, IsKept, WalkIsKept}
-use Rattle.machine_core.specs.Law.{IsDriven}
-use Rattle.machine_core.specs.Pump.{total, command_weight, bank_weight, weight, pumped, after_event, after_pumps}
+use Rattle.machine_core.specs.Law.{IsLawful, HasRoom, ServesRequests, IsServed, RequestsAreServed, IsKept, WalkIsKept, IsDriven}
+use Rattle.machine_core.specs.Pump.{total, bank_weight, weight, pumped, after_event, after_pumps}
 use Rattle.machine_core.specs.Sound.{is_for, IsSound, IsBounded, own_bank}
 use Rattle.machine_core.proofs.Requests.{sound_opening, nothing_owed, opening_idle, flat_in_use, flat_opening, settled_ok}
 use Rattle.machine_core.proofs.Walking.{event_ok, sound_apply, flat_apply, flat_walked}
-use Rattle.machine_core.proofs.Weighing.{all_idle, pumped_lowers, pumped_rests, weight_bound, on_their_way, pumped_at_rest}
-use Rattle.machine_core.proofs.Routing.{pending_part, bounded_apply}
+use Rattle.machine_core.proofs.Weighing.{commands_weigh_all, all_idle, pumped_lowers, pumped_rests, weight_bound, on_their_way}
+use Rattle.machine_core.proofs.Weighing.{pumped_at_rest}
+use Rattle.machine_core.proofs.Routing.{bounded_apply}
+use Rattle.machine_core.proofs.Limits.{pending_part}
 use Rattle.flat_model.specs.declared.Cause.TheVariants.{StrayWord}
 use Rattle.flat_model.specs.Flat.{flat_step, Flat, word_at, flat_run}
 use Rattle.std.specs.Option.{IsNone}
@@ -85,31 +83,15 @@ joins step unit old answer unit' new e h =
 
 pub evict_silent : (z : Sizes) (c : Cache) (block : ℕ) → (evict_step z c block).sent ≡ []
 unfolding evict_step
-evict_silent z c block = go _
-  where
-    go : (o : Option Cause) → (unless o c (record {
-      answer = Accepted;
-      cache = evicted_from z c block (frame_of c block);
-      sent = [];
-    })).sent ≡ []
-    go None = refl
-    go (Some cause) = refl
+evict_silent z c block = grind arith
 
 pub process_silent : (c : Cache) (place : ℕ) → (process_step c place).sent ≡ []
 unfolding process_step
-process_silent c place = go _
-  where
-    go : (o : Option Entry) → (process_entry c place o).sent ≡ []
-    go None = refl
-    go (Some e) = refl
+process_silent c place = grind arith
 
 pub take_silent : (c : Cache) (place : ℕ) → (take_step c place).sent ≡ []
 unfolding take_step
-take_silent c place = go _
-  where
-    go : (o : Option Reply) → (take_reply c place o).sent ≡ []
-    go None = refl
-    go (Some e) = refl
+take_silent c place = grind arith
 
 -- a step that sends nothing changes no bank
 pub joins_silent : (step : Stepped) (unit : UnitState) (old : Memory) (answer : Answer) (unit' : UnitState) → step.sent ≡ []
@@ -211,42 +193,27 @@ module _ (unit : UnitState) (old : Memory) (events more : List Event) (event : E
 
 -- ---- how many words of a block lie in one bank
 
-hits : ℕ → ℕ → ℕ → ℕ → ℕ
+abbrev hits : ℕ → ℕ → ℕ → ℕ → ℕ
 hits n b a k = length (filter (λ at. at % n == b) (range_with_len a k))
 
--- d numbers on, there is one for bank b: then the next ones are n apart
-hits_apart : (n b : ℕ) → b < n → (k a d q : ℕ) → d < n → a + d ≡ q * n + b → (hits n b a k ≡ 0) ⊎ (hits n b a k * n + d + 1 ≤ k + n)
-unfolding hits
-hits_apart n b lb zero a d q ld e = inl refl
+-- d numbers on, there may be one for bank b: then the next ones are n apart
+hits_apart : (n b : ℕ) → b < n → (k a d q : ℕ) → d < n → a + d ≡ q * n + b → hits n b a k * n + d + 1 ≤ k + n
+hits_apart n b lb zero a d q ld e = omega arith
 hits_apart n b lb (suc k) a zero q ld e =
     let here = ap (λ x. x % n) (let e' : a ≡ q * n + b = omega arith in e') ∙ mod-mul-add q n b lb in
-    let rest = hits_apart n b lb k _ _ (suc q) (omega arith) (omega arith) in
-    go _ (eq-eqb _ b here) rest
-  where
-    go : (t : Bool) → t ≡ true → (hits n b (a + 1) k ≡ 0) ⊎ (hits n b (a + 1) k * n + (n - 1) + 1 ≤ k + n)
-        → (length (cond t (a ∷ filter (λ at. at % n == b) (range_with_len (a + 1) k))
-        (filter (λ at. at % n == b) (range_with_len (a + 1) k))) ≡ 0) ⊎
-        (length (cond t (a ∷ filter (λ at. at % n == b) (range_with_len (a + 1) k))
-        (filter (λ at. at % n == b) (range_with_len (a + 1) k))) * n + 0 + 1 ≤ suc k + n)
-    go false t r = cc
-    go true t (inl none) = grind arith
-    go true t (inr r) = inr (omega arith)
-hits_apart n b lb (suc k) a (suc d) q ld e = go _ (ne_eqb _ b other) (hits_apart n b lb k _ d q (omega arith) (omega arith))
+    let rest = hits_apart n b lb k (a + 1) (n - 1) (suc q) (omega arith) (omega arith) in
+    rw (eq-eqb (a % n) b here) (omega arith)
+hits_apart n b lb (suc k) a (suc d) q ld e =
+    let rest = hits_apart n b lb k (a + 1) d q (omega arith) (omega arith) in
+    rw (ne_eqb (a % n) b other) (omega arith)
   where
     other : a % n ≡ b → ⊥
     other s = grind arith
 
-    go : (t : Bool) → t ≡ false → (hits n b (a + 1) k ≡ 0) ⊎ (hits n b (a + 1) k * n + d + 1 ≤ k + n)
-        → (length (cond t (a ∷ filter (λ at. at % n == b) (range_with_len (a + 1) k))
-        (filter (λ at. at % n == b) (range_with_len (a + 1) k))) ≡ 0) ⊎
-        (length (cond t (a ∷ filter (λ at. at % n == b) (range_with_len (a + 1) k))
-        (filter (λ at. at % n == b) (range_with_len (a + 1) k))) * n + suc d + 1 ≤ suc k + n)
-    go true t r = cc
-    go false t (inl none) = inl none
-    go false t (inr r) = inr (omega arith)
-
-hits_few : (n b a k most : ℕ) → b < n → k ≤ most * n → hits n b a k ≤ most
-hits_few n b a k most lb l = ⊎_elim (λ none. omega arith) few (⊎_elim behind ahead (cases_lt b _))
+-- of k numbers side by side, no more than `most` are for one of n banks, where k is at most `most * n`
+pub spread_evenly : (n b a k most : ℕ) → b < n → k ≤ most * n → length (filter (λ at. at % n == b) (range_with_len a k)) ≤ most
+spread_evenly n b a k most lb l =
+    ⊎_elim (λ big. let le = mul-le-mul_right n big in let f = few in absurd (omega arith)) (λ s. s) (cases_lt most _)
   where
     e : a / n * n + a % n ≡ a
     e = div-add-mod' a n
@@ -254,25 +221,10 @@ hits_few n b a k most lb l = ⊎_elim (λ none. omega arith) few (⊎_elim behin
     r : a % n < n
     r = mod-lt a (let l' = lb in omega arith)
 
-    any : (d : ℕ) → (hits n b a k ≡ 0) ⊎ (hits n b a k * n + d + 1 ≤ k + n) → (hits n b a k ≡ 0) ⊎ (hits n b a k * n + 1 ≤ k + n)
-    any d (inl none) = inl none
-    any d (inr h) = inr (omega arith)
-
-    behind : b < a % n → (hits n b a k ≡ 0) ⊎ (hits n b a k * n + 1 ≤ k + n)
-    behind s = any (b + n - a % n) (hits_apart n b lb k a (b + n - a % n) (suc (a / n)) (let r' = r in omega arith)
-        (let r' = r in let e' = e in omega arith))
-
-    ahead : a % n ≤ b → (hits n b a k ≡ 0) ⊎ (hits n b a k * n + 1 ≤ k + n)
-    ahead s = any (b - a % n) (hits_apart n b lb k a (b - a % n) (a / n) (omega arith) (let e' = e in omega arith))
-
-    few : hits n b a k * n + 1 ≤ k + n → hits n b a k ≤ most
-    few h = ⊎_elim (λ big. let le = mul-le-mul_right n big in absurd (omega arith))
-        (λ s. s) (cases_lt most _)
-
--- of k numbers side by side, no more than `most` are for one of n banks, where k is at most `most * n`
-pub spread_evenly : (n b a k most : ℕ) → b < n → k ≤ most * n → length (filter (λ at. at % n == b) (range_with_len a k)) ≤ most
-unfolding hits
-spread_evenly n b a k most lb l = hits_few n b a k most lb l
+    few : hits n b a k * n + 1 ≤ k + n
+    few = let r' = r in let e' = e in ⊎_elim
+        (λ s. let f = hits_apart n b lb k a (b + n - a % n) (suc (a / n)) (omega arith) (omega arith) in omega arith)
+        (λ s. let f = hits_apart n b lb k a (b - a % n) (a / n) (omega arith) (omega arith) in omega arith) (cases_lt b (a % n))
 
 -- ---- lists of which nothing passes
 
@@ -315,11 +267,6 @@ total_zero f d [] k l e = absurd (omega arith)
 total_zero f d (x ∷ xs) zero l e = omega arith
 total_zero f d (x ∷ xs) (suc k) l e = total_zero f d xs k (omega arith) (omega arith)
 
-no_commands : (queue : List Command) → total command_weight queue ≡ 0 → queue ≡ []
-no_commands [] e = refl
-no_commands (Read slot i place ∷ rest) e = absurd (omega arith)
-no_commands (Write place word lanes ∷ rest) e = absurd (omega arith)
-
 dirty_few : (block at : ℕ) (cells : List Cell) → length (dirty_from block at cells) ≤ length cells
 dirty_few block at [] = omega arith
 dirty_few block at (cell ∷ rest) = grind (arith, dirty_few block (at + 1) rest)
@@ -340,7 +287,8 @@ module _ (z : Sizes) (lawful : IsLawful z) (roomy : HasRoom z) (m : Machine) (so
   idle : (b : ℕ) → b < length m.banks → ((bank_at m.banks b).answers ≡ []) × ((bank_at m.banks b).queue ≡ [])
   idle b l =
       let own = total_zero bank_weight no_bank _ b l (omega arith) in
-      (nil_from_length (bank_at _ b).answers (omega arith), no_commands (bank_at _ b).queue (omega arith))
+      let k = commands_weigh_all (bank_at m.banks b).queue in
+      (nil_from_length (bank_at m.banks b).answers (omega arith), nil_from_length (bank_at m.banks b).queue (omega arith))
 
   nothing_pending : all_pending m.banks ≡ []
   nothing_pending = all_idle _ idle
@@ -366,7 +314,6 @@ module _ (z : Sizes) (lawful : IsLawful z) (roomy : HasRoom z) (m : Machine) (so
   has_places o = grind (arith, le-ltb, few_dirty, no_queue)
 
   has_rooms : (block : ℕ) → lacks_room z (room_in z.bank_queue m.banks) block ≡ false
-  unfolding hits
   has_rooms block = any_false _ 0 _ each
     where
       each : (b : ℕ) → 0 ≤ b → b < 0 + z.banks
@@ -376,7 +323,7 @@ module _ (z : Sizes) (lawful : IsLawful z) (roomy : HasRoom z) (m : Machine) (so
           let there : b < length _ = omega arith in
           let none = ap length (idle b there).1 in
           let room = ap (λ t. cond t (z.bank_queue - length (bank_at m.banks b).queue) 0) (lt-ltb b _ there) in
-          let few = hits_few _ b (first_of z block) _ _ (omega arith) roomy.banks_take_a_block in
+          let few = spread_evenly _ b (first_of z block) _ _ (omega arith) roomy.banks_take_a_block in
           le-ltb _ (length (filter (λ at. at % z.banks == b) _)) (omega arith)
 
   -- a miss has no cause

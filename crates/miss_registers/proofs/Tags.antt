@@ -37,14 +37,15 @@ replicate-each n i x = elim (cases_lt i n) [
 pub element_is : {X : Type 0} (xs ys : List X) (i : ℕ) (x d : X) → xs ≡ ys → i < length ys → x ≡ get_or xs i x → x ≡ get_or ys i d
 element_is xs ys i x d v h e = (rw v at e) ∙ get_or_default ys i x d h
 
+-- and what a list of another name is when that element changes
+pub set_is : {X : Type 0} (f : X → X) (xs ys : List X) (i : ℕ) (x y d : X) → xs ≡ ys → i < length ys → x ≡ get_or xs i x → y ≡ f x
+    → set xs i y ≡ set ys i (f (get_or ys i d))
+set_is f xs ys i x y d v h e change = rw (change, element_is xs ys i x d v h e, v) refl
+
 -- ---- Words that a register has.
 
--- a word that isn't there has a clear field
-pub field_past : (r : Register) (i : ℕ) → length r.fields ≤ i → field_of r i ≡ clear_field
-field_past r i h = get_or_past r.fields i clear_field h
-
 pub in_stack_there : (r : Register) (i : ℕ) → (field_of r i).in_stack ≡ true → i < length r.fields
-in_stack_there r i h = elim (cases_lt i _) [ inl p ↦ p | inr p ↦ absurd (false≢true (cc (field_past r i p, h))) ]
+in_stack_there r i h = elim (cases_lt i _) [ inl p ↦ p | inr p ↦ absurd (false≢true (cc (get_or_past r.fields i clear_field p, h))) ]
 
 -- an expected word
 pub record Expected (r : Register) (i : ℕ) : Type 0 where
@@ -127,17 +128,9 @@ Changes-set {X} f xs i y d gone come h c p = grind (arith, sum_by-set, count_by-
 
 -- ---- of a register
 
-tags_of-fresh : (words block frame : ℕ) → tags_of (fresh words block frame) ≡ []
-unfolding fresh
-tags_of-fresh words block frame = go words
-  where
-    go : (n : ℕ) → flat_map tags_of_field (replicate n clear_field) ≡ []
-    go zero = refl
-    go (suc n) = go n
-
-tags_of-obsolete : (r : Register) → tags_of (made_obsolete r) ≡ tags_of r
-unfolding made_obsolete
-tags_of-obsolete r = flat_map-map tags_of_field without_code r.fields
+no_tags : {X : Type 0} (f : X → List ℕ) (x : X) (n : ℕ) → f x ≡ [] → flat_map f (replicate n x) ≡ []
+no_tags f x zero e = refl
+no_tags f x (suc n) e = cc (e, no_tags f x n e)
 
 -- a register whose field is another, for which the same loads wait
 pub same_loads-changes : (r : Register) (i : ℕ) (f : Field) → i < length r.fields → f.waiting ≡ (field_of r i).waiting
@@ -148,10 +141,12 @@ same_loads-changes r i f h e = Changes-set tags_of_field r.fields i f clear_fiel
 -- a register that was free stands for a block
 pub fresh-changes : (r : Register) (words block frame : ℕ) → r ≡ free_register
     → Changes (tags_of r) (tags_of (fresh words block frame)) [] []
-fresh-changes r words block frame free p = grind (arith, tags_of-fresh)
+unfolding fresh
+fresh-changes r words block frame free p = grind (arith, no_tags tags_of_field clear_field words refl)
 
 pub obsolete-changes : (r : Register) → Changes (tags_of r) (tags_of (made_obsolete r)) [] []
-obsolete-changes r p = grind (arith, tags_of-obsolete)
+unfolding made_obsolete
+obsolete-changes r p = grind (arith, flat_map-map tags_of_field without_code r.fields)
 
 pub awaited-changes : (r : Register) (i : ℕ) (owed : Owed) → i < length r.fields
     → Changes (tags_of r) (tags_of (awaited r i owed)) [] (owed.tag ∷ [])
@@ -208,8 +203,7 @@ file-changes rs slot r gone come h c = Changes-set tags_of rs slot r free_regist
 
 pub waiting_tags-new : (regs : ℕ) → waiting_tags (replicate regs free_register) ≡ []
 unfolding waiting_tags
-waiting_tags-new zero = refl
-waiting_tags-new (suc regs) = waiting_tags-new regs
+waiting_tags-new regs = no_tags tags_of free_register regs refl
 
 -- ---- How many loads wait.
 
@@ -249,13 +243,10 @@ count-set : (rs : List Register) (slot : ℕ) (r : Register) (gone come : List �
 count-set rs slot r gone come p changes = Changes-length _ _ gone come (file-changes rs slot r gone come p changes)
 
 -- and it lost and got none
-count-same : (rs : List Register) (slot : ℕ) (r : Register) → slot < length rs → Changes (tags_of (register_at rs slot)) (tags_of r) [] []
+pub count-same : (rs : List Register) (slot : ℕ) (r : Register) → slot < length rs
+    → Changes (tags_of (register_at rs slot)) (tags_of r) [] []
     → length (waiting_tags rs) ≡ length (waiting_tags (set rs slot r))
 count-same rs slot r p changes = omega (arith, count-set rs slot r [] [] p changes)
-
-pub allocated-count : (rs : List Register) (slot words block frame : ℕ) → slot < length rs → register_at rs slot ≡ free_register
-    → length (waiting_tags rs) ≡ length (waiting_tags (set rs slot (fresh words block frame)))
-allocated-count rs slot words block frame p free = grind (arith, count-same, fresh-changes)
 
 pub noted-count : (rs : List Register) (slot i : ℕ) (lanes : Lanes) → slot < length rs → i < length (register_at rs slot).fields
     → length (waiting_tags rs) ≡ length (waiting_tags (set rs slot (noted (register_at rs slot) i lanes)))
@@ -266,10 +257,6 @@ pub marked-count : (rs : List Register) (slot i : ℕ) → slot < length rs → 
     → length (waiting_tags rs) ≡ length (waiting_tags (set rs slot (marked (register_at rs slot) i)))
 unfolding marked
 marked-count rs slot i p there = grind (arith, count-same, same_loads-changes)
-
-pub obsolete-count : (rs : List Register) (slot : ℕ) → slot < length rs
-    → length (waiting_tags rs) ≡ length (waiting_tags (set rs slot (made_obsolete (register_at rs slot))))
-obsolete-count rs slot p = count-same rs slot _ p (obsolete-changes _)
 
 pub awaited-count : (rs : List Register) (slot i : ℕ) (owed : Owed) → slot < length rs → i < length (register_at rs slot).fields
     → length (waiting_tags rs) + 1 ≡ length (waiting_tags (set rs slot (awaited (register_at rs slot) i owed)))

@@ -75,10 +75,6 @@ obsolete-whole words r h v =
       few_loads = grind arith;
     }
 
--- a word in the stack is an unprocessed word of a valid register
-in_stack-valid : (words : ℕ) (r : Register) (i : ℕ) → IsWholeRegister words r → (field_of r i).in_stack ≡ true → r.valid ≡ true
-in_stack-valid words r i h s = grind arith
-
 -- ---- which registers stay live
 
 live-parts : (r : Register) → is_live r ≡ true → (r.valid ≡ true) × (r.obsolete ≡ false)
@@ -87,18 +83,6 @@ live-parts r l = grind arith
 -- a register is live only where the one before was, for the same block
 abbrev StaysLive : Register → Register → Type 0
 StaysLive old new = is_live new ≡ true → (is_live old ≡ true) × (new.block ≡ old.block)
-
-awaited-live : (r : Register) (i : ℕ) (owed : Owed) → StaysLive r (awaited r i owed)
-unfolding awaited
-awaited-live r i owed l = (l, refl)
-
-finished-live : (r : Register) (i : ℕ) → StaysLive r (finished r i)
-unfolding finished
-finished-live r i = grind arith
-
-obsolete_not_live : (r : Register) → is_live (made_obsolete r) ≡ false
-unfolding made_obsolete
-obsolete_not_live r = grind arith
 
 -- ---- the file
 
@@ -171,21 +155,22 @@ noted-kept words regs rs slot i lanes whole p l t u =
 
 pub obsolete-kept : (words regs : ℕ) (rs : List Register) (slot : ℕ) → IsWhole words regs rs → slot < length rs
     → is_live (register_at rs slot) ≡ true → IsWhole words regs (set rs slot (made_obsolete (register_at rs slot)))
+unfolding made_obsolete
 obsolete-kept words regs rs slot h p l =
     let r = register_at rs slot in
     let w = obsolete-whole words r (h.each slot) (live-parts r l).0 in
-    let stays = λ (v : is_live (made_obsolete r) ≡ true). absurd (both_ways _ (obsolete_not_live r) v) in
-    lost-kept words regs rs slot _ [] h p w stays (obsolete-changes r)
+    lost-kept words regs rs slot _ [] h p w (λ v. grind arith) (obsolete-changes r)
 
 pub awaited-kept : (words regs : ℕ) (rs : List Register) (slot i : ℕ) (owed : Owed) → IsWhole words regs rs → slot < length rs
     → is_live (register_at rs slot) ≡ true → expects (register_at rs slot) i ≡ true
     → length (field_of (register_at rs slot) i).waiting < MAX_WAITING
     → tag_waits rs owed.tag ≡ false → IsWhole words regs (set rs slot (awaited (register_at rs slot) i owed))
+unfolding awaited
 awaited-kept words regs rs slot i owed h p l x room new =
     let r = register_at rs slot in
     let e = expects-parts r i x in
     let w = awaited-whole words r i owed (h.each slot) e.valid e.there e.unprocessed room in
-    let alone = stays_alone words regs rs slot (awaited r i owed) h (awaited-live r i owed) in
+    let alone = stays_alone words regs rs slot (awaited r i owed) h (λ v. (v, refl)) in
     set-kept words regs rs slot _ [] (owed.tag ∷ []) h p w alone (awaited-changes r i owed e.there) once
   where
     once : (tag : ℕ) → count_by (λ t. t == tag) (waiting_tags rs) + count_by (λ t. t == tag) (owed.tag ∷ []) ≤ 1
@@ -201,24 +186,22 @@ awaited-kept words regs rs slot i owed h p l x room new =
 
 pub finished-kept : (words regs : ℕ) (rs : List Register) (slot i : ℕ) → IsWhole words regs rs → slot < length rs
     → (field_of (register_at rs slot) i).in_stack ≡ true → IsWhole words regs (set rs slot (finished (register_at rs slot) i))
+unfolding finished
 finished-kept words regs rs slot i h p s =
     let r = register_at rs slot in
     let each = h.each slot in
     let there = in_stack_there r i s in
-    let w = finished-whole words r i each (in_stack-valid words r i each s) there in
-    lost-kept words regs rs slot _ (tags_of_field (field_of r i)) h p w (finished-live r i) (finished-changes r i each.done there)
-
-fresh-alone : (rs : List Register) (slot words block frame : ℕ) → live_for rs block ≡ None → IsAlone rs slot (fresh words block frame)
-unfolding fresh
-fresh-alone rs slot words block frame n k m a b s = live_for-missing rs block k n b (sym s)
+    let w = finished-whole words r i each (grind arith) there in
+    lost-kept words regs rs slot _ (tags_of_field (field_of r i)) h p w (λ v. grind arith) (finished-changes r i each.done there)
 
 pub allocated-kept : (words regs : ℕ) (rs : List Register) (slot block frame : ℕ) → IsWhole words regs rs → slot < length rs
     → register_at rs slot ≡ free_register → live_for rs block ≡ None → IsWhole words regs (set rs slot (fresh words block frame))
+unfolding fresh
 allocated-kept words regs rs slot block frame h p free absent =
     let changes = fresh-changes _ words block frame free in
     let w = fresh-whole words block frame h.some_word in
-    let alone = fresh-alone rs slot words block frame absent in
-    set-kept words regs rs slot _ [] [] h p w alone changes (λ tag. omega (arith, h.once tag))
+    set-kept words regs rs slot _ [] [] h p w (λ k m a b t. live_for-missing rs block k absent b (sym t)) changes
+    (λ tag. omega (arith, h.once tag))
 
 -- ---- a new file
 

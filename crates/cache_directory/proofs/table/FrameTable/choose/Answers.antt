@@ -19,24 +19,14 @@ pub returns-in-Some-oldest-clause-all_pending : goal.returns-in-Some-oldest-clau
 returns-in-Some-oldest-clause-all_pending c =
     let inside = whole_inside _ _ _ _ c.self.view_is c.requires.whole.whole in
     let sets = c.len.ensures ∙ c.self.inside.orders.ok.0 in
-    let fs = c.deref.ensures.value in
-    let free = c.free_way.ensures in
-    let none = c.in_default.not-Some in
-    let again = c.deref-2.ensures.value in
-    let order = c.index-order.ensures in
-    let slice = c.as_slice.ensures in
-    let pends = order_pends _ _ _ _ _ _ _ _ _ _ _ _ inside c.self.view_is sets fs free none again order slice c.oldest.ensures in
+    let pends = order_pends _ _ _ _ _ _ _ _ _ _ _ _ inside c.self.view_is sets c.deref.ensures.value c.free_way.ensures
+    c.in_default.not-Some c.deref-2.ensures.value c.index-order.ensures c.as_slice.ensures c.oldest.ensures in
     ap (λ o. is_all_pending (choice_from None o)) (sym c.in-Some-oldest.is) ∙ pends
 
 pub returns-in-None-clause-all_pending : goal.returns-in-None-clause-all_pending
 returns-in-None-clause-all_pending c =
     let inside = whole_inside _ _ _ _ c.self.view_is c.requires.whole.whole in
     let sets = c.len.ensures ∙ c.self.inside.orders.ok.0 in
-    let fs = c.deref.ensures.value in
-    let free = c.free_way.ensures in
-    let none = c.in_default.not-Some in
-    let again = c.deref-2.ensures.value in
-    let order = c.index-order.ensures in
-    let slice = c.as_slice.ensures in
-    let pends = order_pends _ _ _ _ _ _ _ _ _ _ _ _ inside c.self.view_is sets fs free none again order slice c.oldest.ensures in
+    let pends = order_pends _ _ _ _ _ _ _ _ _ _ _ _ inside c.self.view_is sets c.deref.ensures.value c.free_way.ensures
+    c.in_default.not-Some c.deref-2.ensures.value c.index-order.ensures c.as_slice.ensures c.oldest.ensures in
     ap (λ o. is_all_pending (choice_from None o)) (sym c.in-None.is) ∙ pends

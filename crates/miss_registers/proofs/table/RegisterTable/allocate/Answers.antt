@@ -1,5 +1,5 @@
 use Rattle.std.proofs.Common.{◌≡◌, ◌∙◌}
-use Rattle.miss_registers.proofs.Tags.{allocated-count}
+use Rattle.miss_registers.proofs.Tags.{count-same, fresh-changes}
 use Rattle.miss_registers.proofs.Whole.{allocated-kept}
 use Rattle.miss_registers.proofs.table.RegisterTable.allocate.Goals as goal
 
@@ -9,7 +9,7 @@ invariant_of-self c =
     let v = c.self.view_is in
     let a = c.args in
     let counted = rw v at c.self.invariant in
-    rw (c.allocate.ensures, v) (counted ∙ allocated-count _ a.slot a.words a.block a.frame c.requires.slot c.requires.free)
+    rw (c.allocate.ensures, v) (counted ∙ count-same _ a.slot _ c.requires.slot (fresh-changes _ a.words a.block a.frame c.requires.free))
 
 pub returns-clause-whole : goal.returns-clause-whole
 returns-clause-whole c =

@@ -1,6 +1,6 @@
 use Rattle.std.proofs.Common.{◌≡◌, ◌∙◌, length, ap, refl, arith}
-use Rattle.miss_registers.specs.Registers.{free_register, field_at}
-use Rattle.miss_registers.proofs.Tags.{element_is, in_stack_there, finished-count}
+use Rattle.miss_registers.specs.Registers.{free_register, field_at, finished}
+use Rattle.miss_registers.proofs.Tags.{element_is, set_is, in_stack_there, finished-count}
 use Rattle.miss_registers.proofs.Whole.{finished-kept}
 use Rattle.miss_registers.proofs.table.RegisterTable.finish_word.Goals as goal
 
@@ -39,9 +39,6 @@ invariant_of-self c =
 
 pub returns-clause-whole : goal.returns-clause-whole
 returns-clause-whole c =
-    let xs = c.self.inside.slots.items in
-    let v : xs ≡ _ = c.self.view_is in
-    let register = c.index_mut-register in
     let q = c.requires in
-    let e = element_is xs _ _ register.result.now free_register v q.slot register.ensures.value in
-    rw (c.finish_word-end.ensures.register, e, v) (λ words regs h. finished-kept words regs _ _ _ h q.slot q.in_stack)
+    rw (set_is (λ r. finished r c.args.i) _ _ _ _ _ free_register c.self.view_is q.slot c.index_mut-register.ensures.value
+    c.finish_word-end.ensures.register) (λ words regs h. finished-kept words regs _ _ _ h q.slot q.in_stack)

@@ -1,11 +1,7 @@
-use Rattle.std.proofs.Common.{◌≡◌, ◌==◌, ◌≤◌, ℕ, zero, suc, nat_lt, false, refl, sym, ◌∙◌, arith}
+use Rattle.std.proofs.Common.{le-ltb, ◌==◌, sym, ◌∙◌, arith}
 use Rattle.miss_registers.specs.Registers.{waiting_tags, tags_of}
 use Rattle.miss_registers.proofs.Tags.{list_any-flat_map, none_has_tag}
 use Rattle.miss_registers.proofs.table.RegisterTable.tag_waits.Goals as goal
-
-none_more : (n : ℕ) → n ≤ 0 → nat_lt 0 n ≡ false
-none_more zero h = refl
-none_more (suc n) h = absurd (omega arith)
 
 pub returns-then-self-gt0 : goal.returns-then-self-gt0
 unfolding waiting_tags
@@ -18,4 +14,4 @@ returns-else-self-gt0 c =
     let v = c.self.view_is in
     let counted = rw v at c.self.invariant in
     let none = none_has_tag _ _ (omega arith) in
-    record { answer = none_more _ c.if-self-gt0.false ∙ sym none }
+    record { answer = le-ltb 0 _ c.if-self-gt0.false ∙ sym none }
