@@ -42,10 +42,12 @@ fn texts_of(
 pub(crate) fn is_changed(before: &[String], after: &[String], k: usize) -> bool
     ensures { result ≡ pictures.is_changed before.now after.now k }
 {
-    match (before.get(k), after.get(k)) {
-        (Some(old), Some(new)) => old.as_str() != new.as_str(),
-        (None, Some(new)) => !new.is_empty(),
-        (_, None) => false,
+    let Some(new) = after.get(k) else {
+        return false;
+    };
+    match before.get(k) {
+        Some(old) => old.as_str() != new.as_str(),
+        None => !new.is_empty(),
     }
 }
 
