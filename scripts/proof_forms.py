@@ -1,4 +1,5 @@
-"""The shorter forms in which a proof may be tried: edits of the text of an item, each a beginning, an end and a new text."""
+"""The shorter forms in which a proof may be tried: changes of the text of an item, each a list of edits, and an edit a beginning, an
+end and a new text."""
 
 import re
 
@@ -9,23 +10,32 @@ WORDS = {"λ", "let", "in", "=", "as", "elim", "omega", "grind", "cc", "search",
 # What begins a proof: it isn't found by the checker.
 PROOF = re.compile(r"(?:sym|ap|ap₂|subst|omega|cc|grind|search|rw|simp|elim|absurd|refl|λ|inl|inr|tt|record|let|if)\b")
 SIGNS = re.compile(r"[∙≡→]| = |;|λ|let |record| : |,")
+LET = re.compile(r"let ([^\s:=(){},]+)( : (?:(?! = |let ).|\n)*?)? =[ \n]\s*")
+TACTIC = re.compile(r"(omega|grind|cc)( arith| \((?:[^()]|\((?:[^()]|\([^()]*\))*\))*\)|)(?=[\s,;)]|$)")
 # A tactic has to be shorter than what it stands for by so many characters.
 GAIN = 12
+# The longest value of a `let` that goes to where its name stands.
+SHORT = 60
 
 
-def with_edits(text, edits):
-    for begin, end, new in sorted(edits, reverse=True):
+def with_changes(text, changes):
+    for begin, end, new in sorted((it for change in changes for it in change), reverse=True):
         text = text[:begin] + new + text[end:]
     return text
 
 
-def outermost(edits):
-    """Those of the edits that lie in no other one."""
-    found, last = [], -1
-    for edit in sorted(edits, key=lambda it: (it[0], -it[1])):
-        if edit[0] >= last:
-            found.append(edit)
-            last = edit[1]
+def gain_of(change):
+    """How many characters a change takes off."""
+    return sum(end - begin - len(new) for begin, end, new in change)
+
+
+def apart(changes):
+    """Of these changes as many as don't meet in a place, those that take off most before the others."""
+    found, taken = [], []
+    for change in sorted(changes, key=gain_of, reverse=True):
+        if not any(begin < b and a < end for begin, end, _ in change for a, b in taken):
+            found.append(change)
+            taken += [it[:2] for it in change]
     return found
 
 
@@ -88,19 +98,19 @@ def arguments(item):
         if not end or not before or before[1] in WORDS or not re.search(r"[\w)₂]$", before[1]) or len(inner) < 5:
             continue
         if not SIGNS.search(inner) and not PROOF.match(inner) and in_cases(item, begin):
-            yield begin, end + 1, "_"
+            yield [(begin, end + 1, "_")]
 
 
 def types_of_lets(item):
     for found in re.finditer(r"let [^\s:=]+( : (?:(?! = |let ).|\n)*?) =[ \n]", item.text):
         if in_cases(item, found.start()):
-            yield found.start(1), found.end(1), ""
+            yield [(found.start(1), found.end(1), "")]
 
 
 def types_of_binders(item):
     for found in re.finditer(r"λ \(([\w' ]+) : [^()]*(?:\([^()]*\)[^()]*)*\)(?=\.)", item.text):
         if in_cases(item, found.start()):
-            yield found.start(), found.end(), f"λ {found[1]}"
+            yield [(found.start(), found.end(), f"λ {found[1]}")]
 
 
 def whole(item):
@@ -116,7 +126,7 @@ def fields(item):
         if in_cases(item, found.start()):
             end = field_end(item.text, found.end())
             if end - found.end() > len("grind arith") + GAIN:
-                yield found.end(), end, "grind arith"
+                yield [(found.end(), end, "grind arith")]
 
 
 def field_end(text, at):
@@ -177,7 +187,7 @@ def shorter(item, places, form):
     for begin, end in places:
         new = form(item.text[begin:end])
         if new and end - begin > len(new) + GAIN:
-            yield begin, end, f" {new}"
+            yield [(begin, end, f" {new}")]
 
 
 def rewrites(item):
@@ -186,7 +196,7 @@ def rewrites(item):
         end = close_of(item.text, found.start())
         parts = words_of(item.text[found.end() : end]) if end and in_cases(item, found.start()) else []
         if len(parts) == 3:
-            yield found.start(), end + 1, f"(rw {parts[1]} at {parts[2]})"
+            yield [(found.start(), end + 1, f"(rw {parts[1]} at {parts[2]})")]
 
 
 def chains(item):
@@ -197,7 +207,7 @@ def chains(item):
         facts = [fact for part in parts if (fact := bare(part.strip())) != "refl"]
         new = f"cc ({', '.join(facts)})"
         if len(parts) > 1 and facts and "λ" in item.text[begin:end] and end - begin > len(new) + GAIN:
-            yield begin, end, new if item.text[begin - 1] == "(" else f" {new}"
+            yield [(begin, end, new if item.text[begin - 1] == "(" else f" {new}")]
 
 
 def bare(fact):
@@ -224,7 +234,106 @@ def parted(text, sign):
     return [*found, text[last:]]
 
 
+def lets(item):
+    """The item's `let`s: where each begins, its name and whether it has a type; where its value begins and ends; and where `in` ends."""
+    for found in LET.finditer(item.text):
+        end = value_end(item.text, found.end()) if in_cases(item, found.start()) else None
+        if end:
+            yield found.start(), found[1], bool(found[2]), found.end(), end[0], end[1]
+
+
+def value_end(text, at):
+    """Where the value of a `let` ends, and where the `in` behind it does, with the spaces behind that."""
+    depth, inner = 0, 0
+    for place in range(at, len(text)):
+        depth += (text[place] in "([{") - (text[place] in ")]}")
+        if depth < 0:
+            return None
+        if depth == 0 and text[place - 1] in " \n(" and re.match(r"let\b", text[place : place + 4]):
+            inner += 1
+        behind = re.compile(r"\s+in\s+").match(text, place) if depth == 0 else None
+        if behind and not text[place - 1].isspace():
+            if inner == 0:
+                return place, behind.end()
+            inner -= 1
+    return None
+
+
+def mentions(text, name, at):
+    """Where a name stands behind a place."""
+    own = re.compile(r"(?<![\w.≡₂\-'])" + re.escape(name) + r"(?![\w≡₂\-'])")
+    return [it.start() for it in own.finditer(text, at)]
+
+
+def inlined(item):
+    """The value of a `let` where its name stands, if it stands there once and the value is short."""
+    for begin, name, _, first, last, end in lets(item):
+        places = mentions(item.text, name, end)
+        value = re.sub(r"\s+", " ", item.text[first:last])
+        if len(places) != 1 or len(value) > SHORT or value.startswith("elim"):
+            continue
+        at = places[0]
+        behind = item.text[at + len(name) : at + len(name) + 1]
+        is_word = not re.search(r"[ \n]", value)
+        if behind == "." and not is_word:
+            continue
+        alone = item.text[:at].rstrip()[-1] in "(,[" and behind in "),]"
+        yield [(begin, end, ""), (at, at + len(name), value if is_word or alone else f"({value})")]
+
+
+def listed(item):
+    """Facts that `let`s give a tactic alone, in the tactic's list: as they are, or the lemmas' names."""
+    chain, before = [], None
+    for begin, name, _, first, last, end in lets(item):
+        if begin != before:
+            chain = []
+        before = end
+        if not mentions(item.text, name, end):
+            chain.append((begin, end, re.sub(r"\s+", " ", item.text[first:last])))
+        tactic = TACTIC.match(item.text, end)
+        if tactic and chain:
+            cut = [(a, b, "") for a, b, _ in chain]
+            for facts in (it[2] for it in chain), (head_of(it[2]) for it in chain):
+                yield [*cut, (tactic.start(), tactic.end(), tactic_with(tactic, list(dict.fromkeys(facts))))]
+
+
+def head_of(fact):
+    """The lemma that a fact is by, if it is an application of one."""
+    word = fact.split()[0]
+    return word if re.match(r"[a-z]", word) and not PROOF.match(fact) else fact
+
+
+def tactic_with(tactic, facts):
+    """The call of a tactic with these facts in its list too."""
+    own = tactic[2].strip()
+    inner = own[1:-1] if own.startswith("(") else own
+    return f"{tactic[1]} ({', '.join([*filter(None, [inner]), *facts])})"
+
+
+def dropped(item):
+    """No `let` whose name nothing mentions."""
+    for begin, name, _, _, _, end in lets(item):
+        if not mentions(item.text, name, end):
+            yield [(begin, end, "")]
+
+
+def values(item):
+    """A tactic in place of the value of a `let` that has a type, with the lemmas that the value cites, or none."""
+    for _, _, has_type, first, last, _ in lets(item):
+        value = item.text[first:last]
+        for new in ("cc", "grind arith", facts_in(item, value)) if has_type else ():
+            if new and len(value) > len(new) + GAIN:
+                yield [(first, last, new)]
+
+
+def of_lets(item):
+    for form in (dropped, listed, inlined, values):
+        yield from form(item)
+
+
 FORMS = {
+    # (twice, since one may stand in the value of another)
+    "lets": [of_lets, of_lets],
     "terms": [arguments, types_of_lets, types_of_binders],
     "tactics": [whole, fields, behind_where],
     "facts": [by_facts, by_facts_behind_where],

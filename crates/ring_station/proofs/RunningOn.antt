@@ -7,7 +7,7 @@ use Rattle.std.specs.List.{All}
 use Rattle.std.proofs.Math.Nat.{suc-mul, zero-mul}
 use Rattle.std.proofs.lemmas.Grind.{flat_map-append}
 use Rattle.std.proofs.lemmas.List.{append-nil, get_or-map, map-append, length-map, length_push}
-use Rattle.std.proofs.lemmas.List.Elements.{All-nil, All-push}
+use Rattle.std.proofs.lemmas.List.Elements.{All-nil, All-cons, All-append, All-push}
 use Rattle.station_journal.specs.declared.asks.Ask.{Ask}
 use Rattle.station_journal.specs.declared.asks.Told.{Told}
 use Rattle.station_journal.specs.declared.journal.Entry.{Entry}
@@ -17,9 +17,11 @@ use Rattle.station_parts.specs.Ids.{port_id}
 use Rattle.station_parts.specs.Words.{offered, offered_before, taken, has_ended, earlier_of}
 use Rattle.ring_station.specs.declared.fault.SegmentFault.{SegmentFault}
 use Rattle.ring_station.specs.declared.segment.Segment.{Segment}
-use Rattle.ring_station.specs.Segments.{HasRunOn, HaveRunOn, HandsOut, piece_behind, HaveRunNext, HandsOutNext, RunsNext, StopsNext}
+use Rattle.ring_station.specs.Segments.{EachIsHeard, HasRunOn, HaveRunOn, HandsOut, piece_behind, HaveRunNext, HandsOutNext, RunsNext}
+use Rattle.ring_station.specs.Segments.{StopsNext}
 use Rattle.ring_station.specs.Segments.{pieces_of, HasRunPieces, lists_at, journals_of, HaveRunPieces, longest_of, RunsInSegments}
 use Rattle.ring_station.specs.Segments.{StopsBehind, EachKeepsTo, RunsInTurns, StopsInTurns, piece_count}
+use Rattle.ring_station.specs.PortRuns.{AreHeard}
 use Rattle.ring_station.specs.Within.{KeepsTo}
 use Rattle.ring_station.proofs.Piecing.{pieces-suc, grown_more, converse-push, scripts_whole, all_at, count_is}
 use Rattle.ring_station.proofs.StationRunning.{default_of}
@@ -163,6 +165,23 @@ pub record HasComeTo {W B R D : ℕ} (begin asks turns : ℕ) (scripts : List (V
     pub ran : HaveRunPieces asks scripts old.ports.items new.ports.items segments
     pub handed_out : earlier_of new.cache ≡ earlier_of old.cache ++ journals_of segments
     pub each : EachKeepsTo turns 0 asks scripts old new segments
+
+-- segments of which the gate has heard each telling: none, one, and two lists of them that were kept
+module _ (HasHeard : ℕ → Told → Type 0) where
+  abbrev IsHeard : Segment → Type 0
+  IsHeard segment = AreHeard HasHeard segment.lists.items
+
+  pub none_heard : EachIsHeard HasHeard []
+  none_heard = All-nil IsHeard
+
+  pub one_heard : (segment : Segment) → AreHeard HasHeard segment.lists.items → EachIsHeard HasHeard (segment ∷ [])
+  one_heard segment heard = All-cons IsHeard segment [] heard none_heard
+
+  pub both_heard : {K : Type 0} (kept : K → List Segment → K → Type 0) (a b c : K)
+      → ((xs ys : List Segment) → kept a xs b → kept b ys c → kept a (xs ++ ys) c) → (xs ys : List Segment)
+      → kept a xs b × EachIsHeard HasHeard xs → kept b ys c × EachIsHeard HasHeard ys
+      → kept a (xs ++ ys) c × EachIsHeard HasHeard (xs ++ ys)
+  both_heard kept a b c more xs ys first second = (more xs ys first.0 second.0, All-append IsHeard xs ys first.1 second.1)
 
 module _ {W B R D : ℕ} (asks turns : ℕ) (scripts : List (Vec Ask)) where
   pub come_nowhere : (station : Station W B R D) (kept : List Segment → Type 0) → kept []

@@ -23,7 +23,7 @@ use Rattle.ring_station.specs.declared.fault.RunFault.TheVariants.{OutOfMemory}
 use Rattle.ring_station.specs.declared.fault.SegmentFault.{SegmentFault}
 use Rattle.ring_station.specs.declared.fault.SegmentFault.TheVariants.{Run, Renewal}
 use Rattle.ring_station.specs.declared.segment.Segment.{Segment}
-use Rattle.ring_station.specs.PortRuns.{HaveRun}
+use Rattle.ring_station.specs.PortRuns.{AreHeard, HaveRun}
 use Rattle.ring_station.specs.Within.{KeepsTo}
 
 -- ---- one run
@@ -63,6 +63,10 @@ TellsRenewal station (Renewal fault) = IsNotRenewed station fault
 abbrev pub ComesToRenewal : List (Vec Ask) → List Port → List Port → SegmentFault → Type 0
 ComesToRenewal scripts old new (Run fault) = Unit {0}
 ComesToRenewal scripts old new (Renewal fault) = (lists : List (Vec Told)) × HaveRun scripts old new lists
+
+-- the gate has heard each telling of these segments
+abbrev pub EachIsHeard : (ℕ → Told → Type 0) → List Segment → Type 0
+EachIsHeard HasHeard segments = All (λ segment. AreHeard HasHeard segment.lists.items) segments
 
 -- ---- one of many runs: of each script the next so many asks, behind those that were run before
 

@@ -9,6 +9,7 @@ ghost use Rattle.station_parts.specs.Renewed.{RenewsCache, ResumesPorts, IsRefus
 ghost use Rattle.station_parts.specs.Rest.{is_at_rest};
 ghost use Rattle.station_parts.specs.Station.{AreOneStation};
 ghost use Rattle.station_parts.specs.Words.{cache_in, earlier_of, journal_of, sizes_in};
+ghost use Rattle.ring_station.specs.PortRuns.{AreHeard};
 ghost use Rattle.ring_station.specs.Segments.{HaveRunOn, HandsOut, TellsRenewal, ComesToRenewal};
 ghost use Rattle.ring_station.specs.Within.{KeepsTo};
 
@@ -66,9 +67,11 @@ pub fn run_and_renew<
     ensures same_banks { map bank_id station.new.banks.items ≡ map bank_id station.old.banks.items }
     ensures kept { AreOneStation station.new.cache station.new.ports.items station.new.banks.items }
 
-    // Each port has offered its script and then Done, its list is what it took, and it may offer again.
+    // Each port has offered its script and then Done, its list is what it took, of which the gate has heard
+    // each telling, and it may offer again.
     ensures lists { IfOk result (λ run. HaveRunOn scripts.now
         station.old.ports.items station.new.ports.items run.lists.items) }
+    ensures heard { IfOk result (λ run. AreHeard (G.has_heard gate.now) run.lists.items) }
     ensures journal { IfOk result
         (λ run. HandsOut station.old.cache station.new.cache run.journal.items) }
     ensures unhanded { OnErr result (earlier_of station.new.cache ≡ earlier_of station.old.cache) }

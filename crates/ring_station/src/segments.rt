@@ -9,7 +9,7 @@ ghost use Rattle.station_parts.specs.Rest.{is_at_rest};
 ghost use Rattle.station_parts.specs.Station.{AreOneStation};
 ghost use Rattle.station_parts.specs.Words.{cache_in, journal_of, sizes_in};
 ghost use Rattle.ring_station.specs.Segments.{RunsInSegments, StopsBehind, RunsInTurns, StopsInTurns, RunsNext, StopsNext, TellsRenewal};
-ghost use Rattle.ring_station.specs.Segments.{longest_of, piece_behind, piece_count};
+ghost use Rattle.ring_station.specs.Segments.{EachIsHeard, longest_of, piece_behind, piece_count};
 ghost use Rattle.ring_station.specs.Within.{KeepsTo};
 
 use crate::crew::Crew;
@@ -65,12 +65,12 @@ pub fn run_in_segments<
     ensures same_banks { map bank_id station.new.banks.items ≡ map bank_id station.old.banks.items }
     ensures kept { AreOneStation station.new.cache station.new.ports.items station.new.banks.items }
 
-    // Each port has offered its script, piece by piece, and what it took and what was handed out is kept.
-    // Of a run that stopped that is said of the pieces before.
+    // Each port has offered its script, piece by piece, and what it took, of which the gate has heard each
+    // telling, and what was handed out is kept. Of a run that stopped that is said of the pieces before.
     ensures runs { OnOk result (RunsInSegments (max asks 1) scripts.now station.old station.new
-        (λ segments. K.kept keeper.old segments keeper.new)) }
+        (λ segments. K.kept keeper.old segments keeper.new × EachIsHeard (G.has_heard gate.now) segments)) }
     ensures stops { IfErr result (StopsBehind (max asks 1) scripts.now station.old station.new
-        (λ segments. K.kept keeper.old segments keeper.new)) }
+        (λ segments. K.kept keeper.old segments keeper.new × EachIsHeard (G.has_heard gate.now) segments)) }
     ensures rests { OnOk result (is_at_rest (cache_in station.new.cache) ≡ true) }
     ensures renewal { IfErr result (TellsRenewal station.new) }
     ensures no_turn { turns ≡ 0 → IsErr result }
@@ -78,9 +78,9 @@ pub fn run_in_segments<
     // In each run no part did more than its turns let it, and each port took what it took behind what it had;
     // and so in all of them. Of runs that stopped it is said of the last one too.
     ensures each_within { OnOk result (RunsInTurns turns (max asks 1) scripts.now station.old station.new
-        (λ segments. K.kept keeper.old segments keeper.new)) }
+        (λ segments. K.kept keeper.old segments keeper.new × EachIsHeard (G.has_heard gate.now) segments)) }
     ensures stops_within { IfErr result (StopsInTurns turns (max asks 1) scripts.now station.old station.new
-        (λ segments. K.kept keeper.old segments keeper.new)) }
+        (λ segments. K.kept keeper.old segments keeper.new × EachIsHeard (G.has_heard gate.now) segments)) }
     ensures within { OnOk result
         (KeepsTo (piece_count (max asks 1) scripts.now * turns) station.old station.new) }
 
@@ -149,9 +149,9 @@ fn run_pieces<
     ensures same_banks { map bank_id station.new.banks.items ≡ map bank_id station.old.banks.items }
     ensures kept { AreOneStation station.new.cache station.new.ports.items station.new.banks.items }
     ensures runs { OnOk result (RunsNext begin asks scripts.now station.old station.new
-        (λ segments. K.kept keeper.old segments keeper.new)) }
+        (λ segments. K.kept keeper.old segments keeper.new × EachIsHeard (G.has_heard gate.now) segments)) }
     ensures stops { IfErr result (StopsNext begin asks scripts.now station.old station.new
-        (λ segments. K.kept keeper.old segments keeper.new)) }
+        (λ segments. K.kept keeper.old segments keeper.new × EachIsHeard (G.has_heard gate.now) segments)) }
     ensures rests { OnOk result (is_at_rest (cache_in station.new.cache) ≡ true) }
     ensures renewal { IfErr result (TellsRenewal station.new) }
     ensures no_turn { turns ≡ 0 → IsErr result }

@@ -1,17 +1,14 @@
 -- The commands of a bank: an event takes none away but a serve, which takes one.
-use Rattle.std.proofs.Common.{◌≡◌, ℕ, suc, ◌≤◌, List, [], ◌∷◌, length, set, Option, Some, None, slice_get, refl, ap, subst, arith}
+use Rattle.std.proofs.Common.{◌≡◌, ℕ, suc, ◌≤◌, List, [], ◌∷◌, length, set, Option, Some, None, refl, ap, subst, arith}
 use Rattle.std.proofs.lemmas.List.{length-append}
 use Rattle.flat_model.specs.declared.Cause.{Cause}
 use Rattle.flat_model.specs.declared.Event.{Event}
 use Rattle.flat_model.specs.declared.Event.TheVariants.{Load, Store, Prefetch, Evict, Drain, Serve, Arrive, Process, Take}
 use Rattle.memory_banks.specs.declared.Command.{Command}
 use Rattle.memory_banks.specs.declared.BankAnswer.{BankAnswer}
-use Rattle.memory_banks.specs.Banks.{Bank, bank_at, with_command, served, room_in, all_sent}
+use Rattle.memory_banks.specs.Banks.{Bank, bank_at, with_command, served, all_sent}
 use Rattle.memory_banks.proofs.Places.{bank_at-set}
 use Rattle.cache_unit.specs.declared.Sizes.{Sizes}
-use Rattle.cache_unit.specs.Causes.{arrive_cause}
-use Rattle.cache_unit.specs.Steps.{load_step, store_step, prefetch_step, evict_step, drain_step, process_step, take_step}
-use Rattle.memory_banks.specs.Memory.{without_answer}
 use Rattle.machine_core.specs.Machine.{Machine, apply, serve_from, arrive_from, take_in}
 use Rattle.machine_core.proofs.Weighing.{leaves_commands}
 
@@ -23,16 +20,13 @@ sent_more : (n : ℕ) (banks : List Bank) (sent : List (ℕ × Command)) (b : �
     → HasCommands n (bank_at (all_sent banks sent) b)
 unfolding with_command
 sent_more n banks [] b w = w
-sent_more n banks (c ∷ rest) b w = sent_more n (set banks c.0 more) rest b first
+sent_more n banks (c ∷ rest) b w = sent_more n _ rest b first
   where
     more : Bank
     more = with_command (bank_at banks c.0) c.1
 
     here : b ≡ c.0 → HasCommands n more
-    here e =
-        let before : n ≤ length (bank_at banks c.0).queue = subst (λ k. HasCommands n (bank_at banks k)) e w in
-        let longer = length-append (bank_at banks c.0).queue (c.1 ∷ []) in
-        omega (arith, before, longer)
+    here e = grind (arith, length-append)
 
     first : HasCommands n (bank_at (set banks c.0 more) b)
     first = bank_at-set (HasCommands n) banks c.0 more b here w
@@ -42,30 +36,29 @@ module _ (z : Sizes) (m : Machine) (b n : ℕ) (w : n ≤ length (bank_at m.bank
   Keeps after = n ≤ length (bank_at after.banks b).queue
 
   pub commands_stay : (event : Event) → leaves_commands b event → n ≤ length (bank_at (apply z m event).machine.banks b).queue
-  commands_stay (Load tag at) other = sent_more n m.banks (load_step z (room_in z.bank_queue m.banks) m.cache tag at).sent b w
-  commands_stay (Store at word lanes) other = sent_more n m.banks (store_step z (room_in z.bank_queue m.banks) m.cache at word lanes).sent b
-      w
-  commands_stay (Prefetch at) other = sent_more n m.banks (prefetch_step z (room_in z.bank_queue m.banks) m.cache at).sent b w
-  commands_stay (Evict block) other = sent_more n m.banks (evict_step z m.cache block).sent b w
-  commands_stay Drain other = sent_more n m.banks (drain_step z (room_in z.bank_queue m.banks) m.cache).sent b w
-  commands_stay (Process place) other = sent_more n m.banks (process_step m.cache place).sent b w
-  commands_stay (Take place) other = sent_more n m.banks (take_step m.cache place).sent b w
+  commands_stay (Load tag at) other = grind (arith, sent_more)
+  commands_stay (Store at word lanes) other = grind (arith, sent_more)
+  commands_stay (Prefetch at) other = grind (arith, sent_more)
+  commands_stay (Evict block) other = grind (arith, sent_more)
+  commands_stay Drain other = grind (arith, sent_more)
+  commands_stay (Process place) other = grind (arith, sent_more)
+  commands_stay (Take place) other = grind (arith, sent_more)
   commands_stay (Serve k) other = go (bank_at m.banks k).queue
     where
       go : (queue : List Command) → Keeps (serve_from m k queue).machine
       go [] = w
-      go (first ∷ rest) = bank_at-set (HasCommands n) m.banks k (served (bank_at m.banks k) first rest) b (λ e. absurd (other e)) w
-  commands_stay (Arrive k place) other = go (slice_get (bank_at m.banks k).answers place)
+      go (first ∷ rest) = bank_at-set (HasCommands n) m.banks k _ b (λ e. absurd (other e)) w
+  commands_stay (Arrive k place) other = go _
     where
       taken : (a : BankAnswer) (cause : Option Cause) → Keeps (take_in z m k place a cause).machine
       taken a (Some cause) = w
       taken a None =
-          bank_at-set (HasCommands n) m.banks k (without_answer (bank_at m.banks k) place) b
+          bank_at-set (HasCommands n) m.banks k _ b
           (λ e. subst (λ j. HasCommands n (bank_at m.banks j)) e w) w
 
       go : (o : Option BankAnswer) → Keeps (arrive_from z m k place o).machine
       go None = w
-      go (Some a) = taken a (arrive_cause z m.cache a.slot a.i)
+      go (Some a) = taken a _
 
 -- a bank that serves has one command less
 pub one_served : (z : Sizes) (m : Machine) (b n : ℕ) → suc n ≤ length (bank_at m.banks b).queue
@@ -77,5 +70,4 @@ one_served z m b n w = go (bank_at m.banks b).queue refl
     go [] e = grind arith
     go (first ∷ rest) e =
         let all = ap length e in
-        let less : n ≤ length rest = omega (arith, all, w) in
-        bank_at-set (HasCommands n) m.banks b (served (bank_at m.banks b) first rest) b (λ same. less) (omega (arith, w))
+        bank_at-set (HasCommands n) m.banks b _ b (λ same. omega (arith, all, w)) (omega (arith, w))

@@ -23,13 +23,10 @@ sum_of_none zero = refl
 sum_of_none (suc n) = sum_of_none n
 
 pub nothing_is_told : (z : MachineNumbers) → told_total (nothing_told z) ≡ 0
-nothing_is_told z = let none : sum (replicate z.sets 0) ≡ 0 = sum_of_none z.sets in omega (arith, none)
+nothing_is_told z = omega (arith, sum_of_none z.sets)
 
 pub nothing_has_ended : (z : MachineNumbers) → ends_total (no_ends z) ≡ 0
-nothing_has_ended z =
-    let registers : sum (replicate (z.regs + 1) 0) ≡ 0 = sum_of_none (z.regs + 1) in
-    let owed : sum (replicate (z.replies + 1) 0) ≡ 0 = sum_of_none (z.replies + 1) in
-    omega (arith, registers, owed)
+nothing_has_ended z = grind (arith, sum_of_none)
 
 module _ (timing : Timing) (s : MachineState) (requests : List Event) (z : MachineNumbers) where
   pub told_begins : {t : Told} → t ≡ nothing_told z → t ≡ told_of z (rounds_until_over 0 (start_of timing s requests))
@@ -50,7 +47,7 @@ pub told_next : (z : MachineNumbers) (before notes : List Note) {after : List No
     → t ≡ counted_all z (nothing_told z) before → u ≡ counted_all z t notes → u ≡ counted_all z (nothing_told z) after
 told_next z before notes more p q =
     q ∙ ap (λ x. counted_all z x notes) p ∙ sym (counted_then z (nothing_told z) before notes)
-    ∙ ap (counted_all z (nothing_told z)) (sym more)
+    ∙ ap (counted_all z _) (sym more)
 
 ended_once : (n : ℕ) (z : MachineNumbers) (r : Run)
     → ends_of (suc n) z r ≡ with_end (ends_of n z r) (used_registers (rounds_until_over (suc n) r).state)

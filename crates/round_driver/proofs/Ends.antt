@@ -8,7 +8,7 @@ use Rattle.flat_model.specs.declared.Event.TheVariants.{Serve}
 use Rattle.cache_unit.specs.Sound.{InRange}
 use Rattle.machine_core.specs.Machine.{MachineState}
 use Rattle.machine_core.specs.Pump.{weight}
-use Rattle.machine_core.specs.Law.{ServesRequests, most_weight}
+use Rattle.machine_core.specs.Law.{ServesRequests}
 use Rattle.machine_core.specs.Whole.{IsWholeState}
 use Rattle.machine_core.specs.AnyMachine.{answered, after_event, weight_of}
 use Rattle.machine_core.proofs.Whole.{bound_at_rest, lawful, roomy}
@@ -19,15 +19,14 @@ use Rattle.round_driver.specs.Walks.{is_request, RequestsEnd}
 use Rattle.round_driver.specs.declared.timing.Timing.{Timing}
 use Rattle.round_driver.proofs.Requests.{request_stays, request_ends}
 use Rattle.round_driver.proofs.Runs.{stays, goes, round_over}
-use Rattle.round_driver.proofs.Moves.{Waits, AreBy, IsSteady, first_waits, Move, Stands, NothingArrives, NoAnswers}
+use Rattle.round_driver.proofs.Moves.{AreBy, IsSteady, first_waits, Move, Stands, NothingArrives, NoAnswers}
 use Rattle.round_driver.proofs.Moves.{steady_after, round_moves}
 
 -- ---- one request
 
 -- where nothing is on its way, requests are served
 pub serves : (s : MachineState) → IsWholeState s → weight s.machine ≡ 0 → ServesRequests s.sizes s.machine
-serves s whole rest =
-    bound_at_rest s.sizes (lawful s.sizes whole.in_range) (roomy s.sizes whole.in_range) s.machine whole.sound whole.bounded rest
+serves s whole rest = grind (arith, bound_at_rest, s.sizes, lawful, roomy, s.machine, whole.sound, whole.bounded)
 
 -- a request leaves each bank its commands
 request_leaves : (event : Event) → is_request event ≡ true → (b : ℕ) → leaves_commands b event
@@ -44,8 +43,7 @@ cost r =
 -- what is on its way takes fewer rounds than a request may
 cheap : (s : MachineState) (k : ℕ) → IsWholeState s → weight s.machine * k + k ≤ most_moves s.sizes * k
 cheap s k whole =
-    let bound = weight_bound s.sizes s.machine whole.sound whole.bounded in
-    shared (weight s.machine) (most_weight s.sizes) bound
+    shared _ _ (weight_bound s.sizes s.machine whole.sound whole.bounded)
   where
     shared : (n most : ℕ) → n ≤ most → n * k + k ≤ (most + 1) * k
     shared n most le = grind arith
@@ -86,9 +84,9 @@ module _ (d : ℕ) (r next : Run) (latency : next.schedule.timing.latency ≡ r.
   lighter : length next.left ≡ length r.left → weight next.state.machine < weight r.state.machine → Goes d r next
   lighter as_many less =
       let k = r.schedule.timing.latency + 1 in
-      let fall : suc (weight next.state.machine) * k ≤ weight r.state.machine * k = mul-le-mul_right k less in
+      let fall = mul-le-mul_right k less in
       let left = ap₂ (λ n e. n * e) as_many same_each in
-      let moving : weight next.state.machine * (next.schedule.timing.latency + 1) ≡ weight next.state.machine * k =
+      let moving =
       ap (λ l. weight next.state.machine * (l + 1)) latency in
       record {
         sound = sound;
@@ -102,11 +100,11 @@ module _ (d : ℕ) (r next : Run) (latency : next.schedule.timing.latency ≡ r.
   shorter : length r.left ≡ suc (length next.left) → Goes d r next
   shorter fewer =
       let k = r.schedule.timing.latency + 1 in
-      let most : weight next.state.machine * k + k ≤ each =
+      let most =
       subst (λ z. weight next.state.machine * k + k ≤ most_moves z * k) sizes (cheap next.state k sound.steady.whole) in
       let left = ap (λ e. length next.left * e) same_each in
       let before = ap (λ n. n * each) fewer in
-      let moving : weight next.state.machine * (next.schedule.timing.latency + 1) ≡ weight next.state.machine * k =
+      let moving =
       ap (λ l. weight next.state.machine * (l + 1)) latency in
       record {
         sound = sound;
@@ -123,7 +121,7 @@ stands_waits : (c d : Course) → IsSteady d.state d.schedule → Stands c d →
     HasCommand d.state.sizes d.state.machine
 stands_waits c d steady stands =
     let z = d.state.sizes in
-    let rests = rests_or_waits z (lawful z range) (roomy z range) d.state.machine steady.whole.sound in
+    let rests = rests_or_waits z (lawful z range) (roomy z range) _ steady.whole.sound in
     rests stands.taken stands.processed (none stands.arrived) stands.drained
   where
     range : InRange d.state.sizes
@@ -142,14 +140,7 @@ later_by round [] h = tt
 later_by round (t ∷ ts) h = (omega (arith, h.0), later_by round ts h.1)
 
 begun_steady : (r : Run) → IsSound r → IsSteady r.state (next_round r.schedule)
-begun_steady r sound =
-    record {
-      whole = sound.steady.whole;
-      places = sound.steady.places;
-      busy = λ b.
-          let before = sound.steady.busy b in
-          record { early = later_by r.schedule.round (begun_at r.schedule b) before.early; fits = before.fits };
-    }
+begun_steady r sound = grind (arith, sound.steady.busy, later_by, r.schedule.round)
 
 module _ (d : ℕ) (r : Run) (sound : IsSound r) (quiet : IsQuietFor d r) (next : Run)
     (move : Move (begun r) (moves (begun r)) (Stands (begun r) (moves (begun r)))) (state : next.state ≡ (moves (begun r)).state)
@@ -187,11 +178,11 @@ module _ (d : ℕ) (r : Run) (sound : IsSound r) (quiet : IsQuietFor d r) (next 
 
           later : t + r.schedule.timing.latency ≤ r.schedule.round + d + 1 → Goes d r next
           later l =
-              let still : first_begun next.schedule b ≡ Some t = ap (λ p. first_begun p b) schedule ∙ busy in
-              let weighs : weight next.state.machine ≡ weight r.state.machine = ap (λ s. weight s.machine) (state ∙ same) in
+              let still = ap (λ p. first_begun p b) schedule ∙ busy in
+              let weighs = ap (λ s. weight s.machine) (state ∙ same) in
               let moving = ap₂ (λ w k. w * (k + 1)) weighs latency in
               let left = ap₂ (λ n e. n * e) as_many (same_each d r next latency round sizes next_sound) in
-              let cost_same : cost next ≡ cost r = ap₂ (λ a b. a + b) left moving in
+              let cost_same = ap₂ (λ a b. a + b) left moving in
               record {
                 sound = next_sound;
                 round = round;
@@ -207,31 +198,17 @@ module _ (d : ℕ) (r : Run) (sound : IsSound r) (quiet : IsQuietFor d r) (next 
       long_quiet : r.schedule.timing.latency ≤ d → (weight behind.state.machine ≡ 0) ⊎ HasCommand behind.state.sizes behind.state.machine
           → Goes d r next
       long_quiet enough (inl rest) = absurd (busy rest)
-      long_quiet enough (inr x) =
-          let sizes = ap (λ s. s.sizes.banks) same in
-          let there : x.0 < r.state.sizes.banks = omega (arith, x.1, sizes) in
-          let begins = stands.begins x.0 there (subst (λ s. Waits s x.0) same x.2) in
-          let early = (first_waits behind.state behind.schedule move.steady x.0 begins.0 begins.1).0 in
-          nearer same x.0 begins.0 there begins.1 begins.2 (omega (arith, early, move.round)) (inr enough)
+      long_quiet enough (inr x) = grind (arith, sizes, stands.begins, first_waits, nearer)
 
       go : IsQuietFor d r → Goes d r next
-      go (inl enough) = long_quiet enough (stands_waits (begun r) behind move.steady stands)
-      go (inr x) =
-          let before = first_waits r.state r.schedule sound.steady x.0 x.1 x.3 in
-          let still = stands.kept x.0 x.1 x.3 in
-          let begins = stands.begins x.0 x.2 before.1 in
-          let is : Some begins.0 ≡ Some x.1 = sym begins.1 ∙ still in
-          let time : begins.0 ≡ x.1 = cc in
-          let not_due = subst (λ t. behind.schedule.round - t < behind.schedule.timing.latency) time begins.2 in
-          nearer same x.0 x.1 x.2 still not_due (omega (arith, before.0)) (inl x.4)
+      go (inl enough) = grind (arith, long_quiet, stands_waits)
+      go (inr x) = grind (arith, first_waits, stands.kept, stands.begins, nearer)
 
   goes_on : (behind.state ≡ r.state → weight behind.state.machine ≡ 0 → ⊥) → Goes d r next
   goes_on busy = go move.lighter
     where
       go : (weight behind.state.machine < weight r.state.machine) ⊎ ((behind.state ≡ r.state) × Stands (begun r) behind) → Goes d r next
-      go (inl less) =
-          let weighs = ap (λ s. weight s.machine) state in
-          lighter d r next latency round sizes next_sound as_many (omega (arith, less, weighs))
+      go (inl less) = grind (arith, lighter, latency, round, sizes)
       go (inr x) = stood x.0 x.1 (busy x.0)
 
 -- a run that isn't over takes fewer rounds behind the next one
@@ -243,7 +220,7 @@ round_goes d r sound quiet going = go r.left refl sound.requests
     behind = moves (begun r)
 
     move : Move (begun r) behind (Stands (begun r) behind)
-    move = round_moves (begun r) (begun_steady r sound)
+    move = round_moves _ (begun_steady r sound)
 
     over : r.left ≡ [] → behind.state ≡ r.state → weight behind.state.machine ≡ 0 → ⊥
     over e same rest = grind arith
@@ -263,28 +240,24 @@ round_goes d r sound quiet going = go r.left refl sound.requests
     asks : (event : Event) (rest : List Event) → r.left ≡ event ∷ rest → is_request event ≡ true → list_all is_request rest ≡ true
         → (b : Bool) → ends event behind ≡ b → Goes d r (next event rest b)
     asks event rest e request requests true h =
-        let sound : IsSound (next event rest true) =
-        record { steady = steady_then event (request_leaves event request); requests = requests } in
-        shorter d r (next event rest true) move.latency move.round move.sizes sound (ap length e)
+        grind (arith, next, steady_then, request_leaves, shorter, move.latency, move.round, move.sizes)
     asks event rest e request requests false h =
-        let same : after_event behind.state event ≡ behind.state = request_stays behind.state event request h in
-        let all : list_all is_request (event ∷ rest) ≡ true = ap₂ (λ a b. a && b) request requests in
+        let same = request_stays behind.state event request h in
+        let all = ap₂ (λ a b. a && b) request requests in
         let next_sound : IsSound (next event rest false) =
         record { steady = steady_then event (request_leaves event request); requests = all } in
         let busy = λ (stood : behind.state ≡ r.state) (light : weight behind.state.machine ≡ 0). ended event
         (request_ends behind.state (serves behind.state move.steady.whole light) event request) h in
-        goes_on d r sound quiet (next event rest false) move same refl (sym (ap length e)) next_sound busy
+        goes_on d r sound quiet _ move same refl (sym (ap length e)) next_sound busy
       where
         ended : (event : Event) → is_end (answered behind.state event) ≡ true → ends event behind ≡ false → ⊥
         ended event ends_so not_so_here = cc
 
     go : (left : List Event) → r.left ≡ left → list_all is_request r.left ≡ true → Goes d r (asked r.told left behind)
-    go [] e requests =
-        let last : IsSound (asked r.told [] behind) = record { steady = move.steady; requests = refl } in
-        goes_on d r sound quiet (asked r.told [] behind) move refl refl (sym (ap length e)) last (over e)
+    go [] e requests = grind (arith, behind, goes_on, move, over)
     go (event ∷ rest) e requests =
-        let parts = and_parts (is_request event) (list_all is_request rest) (sym (ap (list_all is_request) e) ∙ requests) in
-        asks event rest e parts.0 parts.1 (ends event behind) refl
+        let parts = and_parts _ _ (sym (ap (list_all is_request) e) ∙ requests) in
+        asks event rest e parts.0 parts.1 _ refl
 
 -- ---- whole runs
 
@@ -294,9 +267,7 @@ record IsOverWithin (n : ℕ) (r : Run) : Type 0 where
   in_time : (rounds_until_over n r).schedule.round ≤ r.schedule.round + n
 
 over_now : (n : ℕ) (r : Run) → is_over r ≡ true → IsOverWithin n r
-over_now n r e =
-    let same = ap (λ q. q.schedule.round) (stays n r e) in
-    record { over = ap is_over (stays n r e) ∙ e; in_time = omega (arith, same) }
+over_now n r e = grind (arith, stays)
 
 over_within : (n d : ℕ) (r : Run) → IsSound r → IsQuietFor d r → cost r + d ≤ n → IsOverWithin n r
 over_within zero d r sound quiet few = go (is_over r) refl
@@ -305,11 +276,11 @@ over_within zero d r sound quiet few = go (is_over r) refl
     go true e = over_now 0 r e
     go false e = let more = (round_goes d r sound quiet e).cheaper in absurd (omega (arith, more, few))
 over_within (suc n) d r sound quiet few =
-    go (λ q next is_quiet fewer. over_within n q (after_round r) next is_quiet fewer) (is_over r) refl
+    go (λ q next is_quiet fewer. over_within n q _ next is_quiet fewer) _ refl
   where
     go : ((q : ℕ) → IsSound (after_round r) → IsQuietFor q (after_round r) → cost (after_round r) + q ≤ n → IsOverWithin n (after_round r))
         → (b : Bool) → is_over r ≡ b → IsOverWithin (suc n) r
-    go later true e = over_now (suc n) r e
+    go later true e = over_now _ r e
     go later false e =
         let more = round_goes d r sound quiet e in
         let rest = later more.quiet more.sound more.is_quiet (omega (arith, more.cheaper, few)) in
@@ -320,7 +291,7 @@ pub requests_end : (timing : Timing) (s : MachineState) (requests : List Event) 
 requests_end timing s requests whole all =
     let rest = over_within most timing.latency start sound (inl (omega arith)) few in
     let same : whole_run timing s requests ≡ rounds_until_over most start =
-    round_over most (most_rounds s.sizes timing.latency (length requests)) start (omega (arith, below)) rest.over in
+    round_over most _ start (omega (arith, below)) rest.over in
     let round = ap (λ r. r.schedule.round) same in
     record { over = grind arith; in_time = grind arith }
   where
@@ -341,7 +312,7 @@ requests_end timing s requests whole all =
     sound = grind arith
 
     little : weight s.machine * (timing.latency + 1) + (timing.latency + 1) ≤ most_moves s.sizes * (timing.latency + 1)
-    little = cheap s (timing.latency + 1) whole
+    little = cheap s _ whole
 
     -- of a request more than there are, all rounds but one are enough for what is on its way
     with_room : (n each moving latency : ℕ) → moving + (latency + 1) ≤ each
@@ -349,9 +320,7 @@ requests_end timing s requests whole all =
     with_room n each moving latency h = grind arith
 
     room : (most < most_rounds s.sizes timing.latency (length requests)) × (cost start + timing.latency ≤ most)
-    room =
-        with_room (length requests) (most_moves s.sizes * (timing.latency + 1)) (weight s.machine * (timing.latency + 1)) timing.latency
-        little
+    room = grind (arith, with_room, little)
 
     below : most < most_rounds s.sizes timing.latency (length requests)
     below = room.0

@@ -1,5 +1,5 @@
 -- What the turns of the banks and an arrival keep of a course.
-use Rattle.std.proofs.Common.{ℕ, zero, suc, ◌+◌, Bool, true, false, cond, Option, Some, None}
+use Rattle.std.proofs.Common.{ℕ, zero, suc, Bool, true, false, cond, Option, Some, None}
 use Rattle.flat_model.specs.declared.Event.TheVariants.{Serve, Arrive}
 use Rattle.round_driver.specs.declared.schedule.Schedule.{Schedule}
 use Rattle.round_driver.specs.Rounds.{Course, attempt, scheduled, begin, serve_due, bank_turns, arrive_from, arrive}
@@ -22,7 +22,7 @@ module _ (Keeps : Course → Type 0) (rescheduled : (p : Schedule) (c : Course) 
   had_turns : (n b : ℕ) (c : Course) → Keeps c → Keeps (bank_turns n b c)
   unfolding bank_turns
   had_turns zero b c k = k
-  had_turns (suc n) b c k = had_turns n (b + 1) _ (had_turn b _ (begun b c k))
+  had_turns (suc n) b c k = had_turns n _ _ (had_turn b _ (begun b c k))
 
   one_arrived : (o : Option ℕ) (c : Course) → Keeps c → Keeps (arrive_from o c)
   one_arrived None c k = k

@@ -9,7 +9,7 @@ use Rattle.flat_model.specs.declared.limits.TheConstants.{MAX_BANKS}
 use Rattle.flat_model.specs.declared.Event.{Event}
 use Rattle.flat_model.specs.declared.Event.TheVariants.{Drain, Serve, Arrive, Process, Take}
 use Rattle.memory_banks.specs.declared.BankAnswer.{BankAnswer}
-use Rattle.memory_banks.specs.Banks.{bank_at, no_bank}
+use Rattle.memory_banks.specs.Banks.{bank_at}
 use Rattle.cache_unit.specs.declared.Sizes.{Sizes}
 use Rattle.machine_core.specs.Machine.{Machine, MachineState, apply}
 use Rattle.machine_core.specs.Pump.{weight, has_items}
@@ -24,7 +24,7 @@ use Rattle.machine_core.proofs.Weighing.{arrive_lowers}
 use Rattle.machine_core.proofs.Weighing.{FallsOr, HasCommand, take_falls, process_falls, serve_falls, drain_falls, leaves_commands}
 use Rattle.round_driver.specs.declared.schedule.Schedule.{Schedule}
 use Rattle.round_driver.specs.Machines.{command_count, has_answer, has_stack_room}
-use Rattle.round_driver.specs.Rounds.{Course, scheduled, begun_at, with_begun, first_begun, is_free_since, is_free, with_begin}
+use Rattle.round_driver.specs.Rounds.{Course, scheduled, begun_at, with_begun, first_begun, is_free, with_begin}
 use Rattle.round_driver.specs.Rounds.{without_first, is_due_since, attempt, begin, serve_due, bank_turns, first_with_answer}
 use Rattle.round_driver.specs.Rounds.{next_with_answer, arrive_from, arrive, moves}
 use Rattle.round_driver.proofs.Commands.{commands_stay, one_served}
@@ -56,11 +56,11 @@ pub record IsSteady (s : MachineState) (p : Schedule) : Type 0 where
 
 -- the first command that a bank began was begun by this round, and it waits
 pub first_waits : (s : MachineState) (p : Schedule) → IsSteady s p → (b t : ℕ) → first_begun p b ≡ Some t → (t ≤ p.round) × Waits s b
-first_waits s p steady b t e = go (begun_at p b) (steady.busy b) e
+first_waits s p steady b t e = go _ (steady.busy b) e
   where
     go : (begun : List ℕ) → IsInFlight p.round (waiting s b) begun → slice_get begun 0 ≡ Some t → (t ≤ p.round) × Waits s b
     go [] h q = cc
-    go (u ∷ us) h q = grind arith
+    go _ h q = grind arith
 
 abbrev Steady : Course → Type 0
 Steady c = IsSteady c.state c.schedule
@@ -84,14 +84,7 @@ whole_after s event h =
 pub steady_after : (event : Event) (s : MachineState) (p : Schedule) → IsSteady s p → ((b : ℕ) → leaves_commands b event)
     → IsSteady (after_event s event) p
 unfolding after_event
-steady_after event s p steady leaves =
-    record {
-      whole = whole_after s event steady.whole;
-      places = steady.places;
-      busy = λ b.
-          let before = steady.busy b in
-          record { early = before.early; fits = commands_stay s.sizes s.machine b (length (begun_at p b)) before.fits event (leaves b) };
-    }
+steady_after event s p steady leaves = grind (arith, whole_after, steady.busy, commands_stay, s.sizes, s.machine)
 
 -- ---- from one course to the next
 
@@ -150,7 +143,7 @@ record Begun (b : ℕ) (c d : Course) : Type 0 where
 
 begun : (b : ℕ) (c : Course) → Steady c → b < MAX_BANKS → Begun b c (begin b c)
 unfolding begin command_count
-begun b c steady few = go (is_free c.schedule b && nat_lt (length before) (waiting c.state b)) refl
+begun b c steady few = go _ refl
   where
     before : List ℕ
     before = begun_at c.schedule b
@@ -165,14 +158,14 @@ begun b c steady few = go (is_free c.schedule b && nat_lt (length before) (waiti
     same = begun-same c.schedule b (before ++ c.schedule.round ∷ []) there
 
     other : (k : ℕ) → (k ≡ b → ⊥) → begun_at now.schedule k ≡ begun_at c.schedule k
-    other k apart = begun-other c.schedule b k (before ++ c.schedule.round ∷ []) apart
+    other k apart = grind (arith, begun-other, c.schedule, before)
 
     starts : length before < waiting c.state b → Begun b c now
     starts free =
         record {
           steady = record {
             whole = steady.whole;
-            places = length-set c.schedule.begun b (before ++ c.schedule.round ∷ []) ∙ steady.places;
+            places = length-set _ b (before ++ c.schedule.round ∷ []) ∙ steady.places;
             busy = λ k. ⊎_elim (λ q. subst Flies (sym q) here) (λ apart. subst (InFlightAt k) (sym (other k apart)) (steady.busy k))
                 (cases_eq k b);
           };
@@ -190,16 +183,10 @@ begun b c steady few = go (is_free c.schedule b && nat_lt (length before) (waiti
         Flies k = InFlightAt k (begun_at now.schedule k)
 
         here : Flies b
-        here =
-            let all = length-append before (c.schedule.round ∷ []) in
-            let more : InFlightAt b (before ++ c.schedule.round ∷ []) =
-            record { early = more_by c.schedule.round before (steady.busy b).early; fits = grind arith } in
-            subst (InFlightAt b) (sym same) more
+        here = grind (arith, length-append, before, c.schedule.round, InFlightAt, more_by, steady.busy, same)
 
         first_here : (k t : ℕ) → k ≡ b → first_begun c.schedule k ≡ Some t → first_begun now.schedule k ≡ Some t
-        first_here k t q e =
-            let first : slice_get before 0 ≡ Some t = sym (ap (first_begun c.schedule) q) ∙ e in
-            ap (first_begun now.schedule) q ∙ ap (λ l. slice_get l 0) same ∙ first_stays before c.schedule.round t first
+        first_here k t q e = grind (arith, same, first_stays, before)
 
     stays : (Waits c.state b → (t : ℕ) × (first_begun c.schedule b ≡ Some t)) → Begun b c c
     stays begins = grind arith
@@ -211,15 +198,10 @@ begun b c steady few = go (is_free c.schedule b && nat_lt (length before) (waiti
       where
         go : (l : List ℕ) → before ≡ l → (t : ℕ) × (first_begun c.schedule b ≡ Some t)
         go (t ∷ ts) q = (t, ap (λ l. slice_get l 0) q)
-        go [] q =
-            let some = lt-ltb 0 (waiting c.state b) (long (bank_at c.state.machine.banks b).queue w) in
-            let none = ap (λ l. is_free_since c.schedule (slice_get l (length l - 1)) && nat_lt (length l) (waiting c.state b)) q in
-            absurd (never (sym some ∙ sym none ∙ e))
+        go [] q = grind (arith, lt-ltb, c.state, long, c.schedule, never)
 
     go : (h : Bool) → (is_free c.schedule b && nat_lt (length before) (waiting c.state b)) ≡ h → Begun b c (cond h now c)
-    go true e =
-        let room = (and_parts (is_free c.schedule b) (nat_lt (length before) (waiting c.state b)) e).1 in
-        starts (ltb-true (length before) (waiting c.state b) room)
+    go true e = grind (arith, and_parts, starts, ltb-true)
     go false e = stays (held e)
 
 -- a command that isn't due yet
@@ -258,7 +240,7 @@ serves b c steady there = go (begun_at c.schedule b) refl
         record {
           steady = record {
             whole = whole_after c.state (Serve b) steady.whole;
-            places = length-set c.schedule.begun b (drop 1 (begun_at c.schedule b)) ∙ steady.places;
+            places = length-set _ b (drop 1 (begun_at c.schedule b)) ∙ steady.places;
             busy = λ k. ⊎_elim (λ q. subst Flies (sym q) here) (other k) (cases_eq k b);
           };
           round = refl;
@@ -271,28 +253,25 @@ serves b c steady there = go (begun_at c.schedule b) refl
         within = omega (arith, there, steady.places, steady.whole.in_range.few_banks)
 
         rest : begun_at (without_first c.schedule b) b ≡ ts
-        rest = begun-same c.schedule b (drop 1 (begun_at c.schedule b)) within ∙ ap (drop 1) e
+        rest = grind (arith, begun-same, c.schedule, within)
 
         before : IsInFlight c.schedule.round (waiting c.state b) (t ∷ ts)
-        before = subst (IsInFlight c.schedule.round (waiting c.state b)) e (steady.busy b)
+        before = grind (arith, steady.busy)
 
         here : Flies b
         here =
-            let fits = one_served c.state.sizes c.state.machine b (length ts) before.fits in
+            let fits = one_served c.state.sizes c.state.machine b _ before.fits in
             subst (InFlightAt b) (sym rest) (record { early = before.early.1; fits = fits })
 
         other : (k : ℕ) → (k ≡ b → ⊥) → Flies k
         other k apart =
-            let same = begun-other c.schedule b k (drop 1 (begun_at c.schedule b)) apart in
+            let same = begun-other c.schedule b k _ apart in
             let all = steady.busy k in
-            let fits = commands_stay c.state.sizes c.state.machine k (length (begun_at c.schedule k)) all.fits (Serve b) apart in
+            let fits = commands_stay c.state.sizes c.state.machine k _ all.fits (Serve b) apart in
             subst (InFlightAt k) (sym same) (record { early = all.early; fits = fits })
 
         falls : weight after.machine < weight c.state.machine
-        falls =
-            let w = steady.whole in
-            let waits = (first_waits c.state c.schedule steady b t (ap (λ l. slice_get l 0) e)).1 in
-            serve_falls c.state.sizes (law c.state w) (room c.state w) c.state.machine w.sound b there waits
+        falls = grind (arith, steady.whole, first_waits, c.state, c.schedule, serve_falls)
 
     due : (t : ℕ) (ts : List ℕ) → begun_at c.schedule b ≡ t ∷ ts → (early : Bool) → nat_lt (c.schedule.round - t) c.schedule.timing.latency
         ≡ early → Move c (cond (not early) ended c) (ServedOrNot b c (cond (not early) ended c))
@@ -303,7 +282,7 @@ serves b c steady there = go (begun_at c.schedule b) refl
         → Move c (cond (is_due_since c.schedule (slice_get begun 0)) ended c)
         (ServedOrNot b c (cond (is_due_since c.schedule (slice_get begun 0)) ended c))
     go [] e = grind arith
-    go (t ∷ ts) e = due t ts e (nat_lt (c.schedule.round - t) c.schedule.timing.latency) refl
+    go (t ∷ ts) e = due t ts e _ refl
 
 -- n banks from this one on had their turns and served nothing: each that has a command has begun one, which isn't due
 pub record Turned (from n : ℕ) (c d : Course) : Type 0 where
@@ -324,7 +303,7 @@ turn_then n b c steady all later = then c e f first rest both
     there = omega (arith, all)
 
     begins : Begun b c (begin b c)
-    begins = begun b c steady (omega (arith, there, steady.whole.in_range.few_banks))
+    begins = grind (arith, begun, there)
 
     d : Course
     d = begin b c
@@ -339,7 +318,7 @@ turn_then n b c steady all later = then c e f first rest both
     sizes = ap (λ s. s.sizes) begins.state
 
     serving : Move d e (ServedOrNot b d e)
-    serving = serves b d begins.steady (let same = ap (λ z. z.banks) sizes in omega (arith, there, same))
+    serving = grind (arith, serves, d, begins.steady, sizes, there)
 
     first : Move c e (ServedOrNot b d e)
     first =
@@ -352,11 +331,11 @@ turn_then n b c steady all later = then c e f first rest both
         }
       where
         go : Lighter d e (ServedOrNot b d e) → Lighter c e (ServedOrNot b d e)
-        go (inl p) = let same = ap weighs begins.state in inl (omega (arith, p, same))
+        go (inl p) = grind (arith, begins.state)
         go (inr p) = inr (p.0 ∙ begins.state, p.1)
 
     rest : Move e f (Turned (b + 1) n e f)
-    rest = later first.steady (let same = ap (λ z. z.banks) first.sizes in omega (arith, all, same))
+    rest = grind (arith, first.steady, first.sizes)
 
     both : ServedOrNot b d e → Turned (b + 1) n e f → e.state ≡ c.state → f.state ≡ e.state → Turned b (suc n) c f
     both served turned same stayed =
@@ -369,30 +348,27 @@ turn_then n b c steady all later = then c e f first rest both
         still k = ap (λ l. slice_get (get_or l k []) 0) served.0
 
         there_too : (k : ℕ) → b ≤ k → k < b + suc n → (k ≡ b → ⊥) → Waits c.state k → IsBusy f k
-        there_too k lo hi apart w =
-            let waits = subst (λ s. Waits s k) (sym same) w in
-            turned.begins k (omega (arith, lo, apart)) (omega (arith, hi)) waits
+        there_too k lo hi apart w = grind (arith, turned.begins)
 
         here : (k : ℕ) → k ≡ b → Waits c.state k → IsBusy f k
         here k q w =
-            let at = begins.begins (subst (Waits c.state) q w) in
-            let early = served.1 at.0 at.1 in
-            let round = rest.round ∙ serving.round in
-            let latency = rest.latency ∙ serving.latency in
-            let busy : first_begun f.schedule b ≡ Some at.0 = turned.kept b at.0 (still b ∙ at.1) in
-            (at.0, ap (first_begun f.schedule) q ∙ busy, omega (arith, early, round, latency))
+            let at = begins.begins (subst (Waits c.state) q w) in (
+              at.0,
+              ap (first_begun f.schedule) q ∙ (turned.kept b at.0 (still b ∙ at.1)),
+              omega (arith, served.1 at.0 at.1, rest.round ∙ serving.round, rest.latency ∙ serving.latency),
+            )
 
 turns : (n b : ℕ) (c : Course) → Steady c → b + n ≡ c.state.sizes.banks → AllTurns n b c
 unfolding bank_turns
 turns zero b c steady all = grind arith
-turns (suc n) b c steady all = turn_then n b c steady all (λ s a. turns n (b + 1) (serve_due b (begin b c)) s a)
+turns (suc n) b c steady all = turn_then n b c steady all (λ s a. turns n _ _ s a)
 
 -- ---- one arrival
 
 answer_there : (s : MachineState) (n b k : ℕ) → first_with_answer s n b ≡ Some k → has_answer s k ≡ true
 unfolding first_with_answer
 answer_there s zero b k e = cc
-answer_there s (suc n) b k e = go (has_answer s b) refl (answer_there s n (b + 1) k) e
+answer_there s (suc n) b k e = go _ refl (answer_there s n _ k) e
   where
     go : (h : Bool) → has_answer s b ≡ h → (first_with_answer s n (b + 1) ≡ Some k → has_answer s k ≡ true)
         → cond h (Some b) (first_with_answer s n (b + 1)) ≡ Some k → has_answer s k ≡ true
@@ -402,7 +378,7 @@ answer_there s (suc n) b k e = go (has_answer s b) refl (answer_there s n (b + 1
 no_answer : (s : MachineState) (n b k : ℕ) → first_with_answer s n b ≡ None → b ≤ k → k < b + n → has_answer s k ≡ false
 unfolding first_with_answer
 no_answer s zero b k e lo hi = grind arith
-no_answer s (suc n) b k e lo hi = go (has_answer s b) refl (no_answer s n (b + 1) k) e
+no_answer s (suc n) b k e lo hi = go _ refl (no_answer s n _ k) e
   where
     go : (h : Bool) → has_answer s b ≡ h → (first_with_answer s n (b + 1) ≡ None → b + 1 ≤ k → k < b + 1 + n → has_answer s k ≡ false)
         → cond h (Some b) (first_with_answer s n (b + 1)) ≡ None → has_answer s k ≡ false
@@ -414,11 +390,11 @@ abbrev pub NoAnswers : MachineState → Type 0
 NoAnswers s = (b : ℕ) → b < s.sizes.banks → (bank_at s.machine.banks b).answers ≡ []
 
 next_there : (s : MachineState) (next k : ℕ) → next_with_answer s next ≡ Some k → has_answer s k ≡ true
-next_there s next k e = go (first_with_answer s (s.sizes.banks - next) next) refl e
+next_there s next k e = go _ refl e
   where
     go : (o : Option ℕ) → first_with_answer s (s.sizes.banks - next) next ≡ o → option_or o (first_with_answer s next 0) ≡ Some k
         → has_answer s k ≡ true
-    go (Some b) q r = answer_there s (s.sizes.banks - next) next k (q ∙ r)
+    go (Some b) q r = answer_there s _ next k (q ∙ r)
     go None q r = answer_there s next 0 k r
 
 none_left : {X : Type 0} (xs : List X) → has_items xs ≡ false → xs ≡ []
@@ -427,14 +403,14 @@ none_left (x ∷ xs) e = cc
 
 nowhere : (s : MachineState) (next : ℕ) → next_with_answer s next ≡ None → NoAnswers s
 unfolding has_answer
-nowhere s next e b l = go (first_with_answer s (s.sizes.banks - next) next) refl e
+nowhere s next e b l = go _ refl e
   where
     go : (o : Option ℕ) → first_with_answer s (s.sizes.banks - next) next ≡ o → option_or o (first_with_answer s next 0) ≡ None
         → (bank_at s.machine.banks b).answers ≡ []
     go (Some k) q r = cc
     go None q r =
         let before = λ (h : b < next). no_answer s next 0 b r (omega arith) (omega (arith, h)) in
-        let behind = λ (h : next ≤ b). no_answer s (s.sizes.banks - next) next b q h (omega (arith, h, l)) in
+        let behind = λ (h : next ≤ b). no_answer s _ next b q h (omega (arith, h, l)) in
         none_left (bank_at s.machine.banks b).answers (⊎_elim before behind (cases_lt b next))
 
 -- the stack is full, or there is nothing to arrive
@@ -447,11 +423,11 @@ Shows c d why = (d.schedule.begun ≡ c.schedule.begun) × why d.state
 
 attempt_steady : (event : Event) (c : Course) → Steady c → ((b : ℕ) → leaves_commands b event) → Steady (attempt event c)
 unfolding attempt
-attempt_steady event c steady leaves = steady_after event c.state c.schedule steady leaves
+attempt_steady event c steady leaves = steady_after event _ _ steady leaves
 
 arrives : (c : Course) → Steady c → Move c (arrive c) (Shows c (arrive c) NothingArrives)
 unfolding arrive has_stack_room has_answer attempt after_event
-arrives c steady = go (nat_lt (length c.state.machine.cache.stack) c.state.sizes.depth) refl
+arrives c steady = go _ refl
   where
     stays : NothingArrives c.state → Move c c (Shows c c NothingArrives)
     stays why = grind arith
@@ -475,18 +451,15 @@ arrives c steady = go (nat_lt (length c.state.machine.cache.stack) c.state.sizes
 
         falls : (answers : List BankAnswer) → (bank_at c.state.machine.banks b).answers ≡ answers
             → weight (apply c.state.sizes c.state.machine (Arrive b 0)).machine < weight c.state.machine
-        falls [] e = let none : has_items (bank_at c.state.machine.banks b).answers ≡ false = ap has_items e in cc
+        falls [] e = let none = ap has_items e in cc
         falls (a ∷ rest) e =
             let w = steady.whole in
-            let within = there (cases_lt b (length c.state.machine.banks)) in
-            arrive_lowers c.state.sizes (law c.state w) (room c.state w) c.state.machine w.sound b a rest within e room_left
+            let within = there (cases_lt b _) in
+            arrive_lowers _ (law c.state w) (room c.state w) _ w.sound b a rest within e room_left
           where
             there : (b < length c.state.machine.banks) ⊎ (length c.state.machine.banks ≤ b) → b < length c.state.machine.banks
             there (inl l) = l
-            there (inr past) =
-                let none : (bank_at c.state.machine.banks b).answers ≡ [] =
-                ap (λ x. x.answers) (get_or_past c.state.machine.banks b no_bank past) in
-                cc
+            there (inr past) = grind (arith, get_or_past)
 
     next : length c.state.machine.cache.stack < c.state.sizes.depth → (o : Option ℕ) → next_with_answer c.state c.schedule.next ≡ o
         → Move c (arrive_from o c) (Shows c (arrive_from o c) NothingArrives)
@@ -497,7 +470,7 @@ arrives c steady = go (nat_lt (length c.state.machine.cache.stack) c.state.sizes
         → Move c (cond h (arrive_from (next_with_answer c.state c.schedule.next) c) c)
         (Shows c (cond h (arrive_from (next_with_answer c.state c.schedule.next) c) c) NothingArrives)
     go true e =
-        next (ltb-true (length c.state.machine.cache.stack) c.state.sizes.depth e) (next_with_answer c.state c.schedule.next) refl
+        next (ltb-true _ _ e) _ refl
     go false e = grind arith
 
 -- ---- the stack, the replies, the write queue
@@ -555,26 +528,25 @@ round_moves c steady = then c c3 c5 (then c c1 c3 turned first (λ f g p q. (f, 
     c5 = attempt Drain c4
 
     turned : AllTurns c.state.sizes.banks 0 c
-    turned = turns c.state.sizes.banks 0 c steady (omega arith)
+    turned = grind (arith, turns)
 
     arrival : Move c1 c2 (Shows c1 c2 NothingArrives)
     arrival = arrives c1 turned.steady
 
     processing : Move c2 c3 (Shows c2 c3 (λ s. s.machine.cache.stack ≡ []))
-    processing = attempted (Process 0) c2 (λ s. s.machine.cache.stack ≡ []) arrival.steady (λ b. tt) process_falls
+    processing = attempted _ c2 (λ s. s.machine.cache.stack ≡ []) arrival.steady (λ b. tt) process_falls
 
     taking : Move c3 c4 (Shows c3 c4 (λ s. s.machine.cache.ready ≡ []))
-    taking = attempted (Take 0) c3 (λ s. s.machine.cache.ready ≡ []) processing.steady (λ b. tt) take_falls
+    taking = attempted _ c3 (λ s. s.machine.cache.ready ≡ []) processing.steady (λ b. tt) take_falls
 
     draining : Move c4 c5 (Shows c4 c5 Drained)
     draining = attempted Drain c4 Drained taking.steady (λ b. tt) drain_falls
 
     first : Move c1 c3 (Shows c1 c3 (λ s. NothingArrives s × (s.machine.cache.stack ≡ [])))
-    first = then c1 c2 c3 arrival processing (λ f g p q. (g.0 ∙ f.0, (subst NothingArrives (sym q) f.1, g.1)))
+    first = grind (arith, then, c1, c2, c3, arrival, processing)
 
     last : Move c3 c5 (Shows c3 c5 (λ s. (s.machine.cache.ready ≡ []) × Drained s))
-    last =
-        then c3 c4 c5 taking draining (λ f g p q. (g.0 ∙ f.0, (subst (λ s. s.machine.cache.ready ≡ []) (sym q) f.1, g.1)))
+    last = grind (arith, then, c3, c4, c5, taking, draining)
 
     all : Turned 0 c.state.sizes.banks c c1 × Shows c1 c3 (λ s. NothingArrives s × (s.machine.cache.stack ≡ []))
         → Shows c3 c5 (λ s. (s.machine.cache.ready ≡ []) × Drained s) → c3.state ≡ c.state → c5.state ≡ c3.state → Stands c c5
@@ -598,4 +570,4 @@ round_moves c steady = then c c3 c5 (then c c1 c3 turned first (λ f g p q. (f, 
         latency = last.latency ∙ first.latency
 
         busy : (b : ℕ) → IsBusy c1 b → IsBusy c5 b
-        busy b x = (x.0, still b ∙ x.1, omega (arith, x.2, round, latency))
+        busy b x = grind (arith, still, round, latency)

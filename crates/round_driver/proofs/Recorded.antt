@@ -1,12 +1,11 @@
 -- The outcomes of requests, as they are recorded round by round.
-use Rattle.std.proofs.Common.{◌≡◌, ℕ, ◌<◌, ◌≤◌, Bool, true, false, cond, nat_lt, ◌&&◌, List, [], ◌∷◌, ◌++◌, length, length-append}
-use Rattle.std.proofs.Common.{take, append_assoc, append-nil, refl, sym, ap, ◌∙◌, ⊎_elim, lt-ltb, le-ltb, arith}
+use Rattle.std.proofs.Common.{◌≡◌, ℕ, ◌<◌, ◌≤◌, Bool, true, false, cond, List, [], ◌∷◌, ◌++◌, length, length-append}
+use Rattle.std.proofs.Common.{take, append_assoc, append-nil, refl, ap, ◌∙◌, ⊎_elim, lt-ltb, le-ltb, arith}
 use Rattle.std.proofs.lemmas.Bool.{cases_lt}
 use Rattle.std.proofs.lemmas.List.{take-append-le, take_all}
 use Rattle.flat_model.specs.declared.Event.{Event}
 use Rattle.machine_core.specs.Machine.{MachineState}
-use Rattle.round_driver.specs.Rounds.{is_end, rounds_until_over, start_of}
-use Rattle.round_driver.specs.Walks.{is_request}
+use Rattle.round_driver.specs.Rounds.{rounds_until_over, start_of}
 use Rattle.round_driver.specs.Recordings.{Recorded}
 use Rattle.round_driver.specs.Outcomes.{outcome_by, outcomes_of, nothing_recorded, with_outcome, with_note, with_notes}
 use Rattle.round_driver.specs.declared.note.Note.{Note}
@@ -27,19 +26,16 @@ one_more : (room : ℕ) (os : List Outcome) (o : Outcome) (ns : List Note) → l
 one_more room os o ns le rest =
     let here = λ (c : Bool). (with_notes (recorded room (cond c (os ++ o ∷ []) os)) ns).ended in
     let all = os ++ (o ∷ outcomes_of ns) in
-    let fits : length os < room → here (nat_lt (length os) room) ≡ take room all =
+    let fits : length os < room → here _ ≡ take room all =
     λ l. ap here (lt-ltb (length os) room l)
-    ∙ rest (os ++ o ∷ []) (omega (arith, l, length-append os (o ∷ [])))
-    ∙ ap (take room) (append_assoc os (o ∷ []) (outcomes_of ns)) in
-    let full : room ≤ length os → here (nat_lt (length os) room) ≡ take room all =
-    λ l. ap here (le-ltb (length os) room l)
-    ∙ rest os le ∙ take-append-le room os (outcomes_of ns) l ∙ sym (take-append-le room os (o ∷ outcomes_of ns) l) in
-    ⊎_elim fits full (cases_lt (length os) room)
+    ∙ rest _ (omega (arith, l, length-append os (o ∷ [])))
+    ∙ ap (take room) (append_assoc os _ _) in
+    ⊎_elim fits (grind (arith, le-ltb, take-append-le)) (cases_lt _ room)
 
 note_more : (room : ℕ) (os : List Outcome) (n : Note) (ns : List Note) → length os ≤ room
     → ((xs : List Outcome) → length xs ≤ room → Records room ns xs) → Records room (n ∷ ns) os
 unfolding with_note
-note_more room os n ns le rest = go (is_request n.event && is_end n.answer)
+note_more room os n ns le rest = go _
   where
     o : Outcome
     o = outcome_by n.answer n.found
@@ -50,7 +46,7 @@ note_more room os n ns le rest = go (is_request n.event && is_end n.answer)
     go false = rest os le
 
 all_noted : (room : ℕ) (ns : List Note) (os : List Outcome) → length os ≤ room → Records room ns os
-all_noted room [] os le = sym (ap (take room) (append-nil os) ∙ take_all room os le)
+all_noted room [] os le = grind (arith, append-nil, take_all)
 all_noted room (n ∷ ns) os le = note_more room os n ns le (λ xs h. all_noted room ns xs h)
 
 -- as many outcomes as there is room for
@@ -69,6 +65,4 @@ recording_begins timing s requests h = h
 pub recorded_next : (room : ℕ) (before notes : List Note) {after : List Note} {r u : Recorded} → after ≡ before ++ notes
     → r ≡ with_notes (nothing_recorded room) before → u ≡ with_notes r notes
     → u ≡ with_notes (nothing_recorded room) after
-recorded_next room before notes more p q =
-    q ∙ ap (λ x. with_notes x notes) p ∙ sym (recorded_then (nothing_recorded room) before notes)
-    ∙ ap (with_notes (nothing_recorded room)) (sym more)
+recorded_next room before notes more p q = grind (arith, recorded_then)

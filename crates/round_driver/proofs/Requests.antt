@@ -14,7 +14,7 @@ use Rattle.flat_model.specs.declared.Lanes.{Lanes}
 use Rattle.memory_banks.specs.Banks.{Bank, room_in}
 use Rattle.cache_unit.specs.declared.Sizes.{Sizes}
 use Rattle.cache_unit.specs.State.{Cache}
-use Rattle.cache_unit.specs.Causes.{load_cause, store_cause, prefetch_cause, evict_cause}
+use Rattle.cache_unit.specs.Causes.{load_cause, store_cause, prefetch_cause}
 use Rattle.cache_unit.specs.Steps.{Stepped, unless, load_step, store_step, prefetch_step, evict_step}
 use Rattle.machine_core.specs.Machine.{MachineState, apply, joined_with}
 use Rattle.machine_core.specs.Law.{serves_eviction, ServesRequests}
@@ -28,7 +28,7 @@ refused_stays : (banks : List Bank) (c : Cache) (why : Option Cause) (step : Ste
     → is_end (joined_with banks (unless why c step)).answer ≡ false
     → (joined_with banks (unless why c step)).machine ≡ record { cache = c; banks = banks }
 refused_stays banks c (Some why) step e h = refl
-refused_stays banks c None step e h = let yes : is_end step.answer ≡ true = ap is_end e in cc
+refused_stays banks c None step e h = cc
 
 pub request_stays : (s : MachineState) (event : Event) → is_request event ≡ true → is_end (answered s event) ≡ false
     → after_event s event ≡ s
@@ -40,11 +40,11 @@ request_stays s event r h = ap (λ m. record { sizes = s.sizes; machine = m }) (
 
     go : (e : Event) → is_request e ≡ true → is_end (apply s.sizes s.machine e).answer ≡ false
         → (apply s.sizes s.machine e).machine ≡ s.machine
-    go (Load tag at) q k = refused_stays s.machine.banks s.machine.cache (load_cause s.sizes rooms s.machine.cache tag at) _ refl k
-    go (Store at word lanes) q k = refused_stays s.machine.banks s.machine.cache (store_cause s.sizes rooms s.machine.cache at lanes) _ refl
+    go (Load tag at) q k = refused_stays s.machine.banks s.machine.cache _ _ refl k
+    go (Store at word lanes) q k = refused_stays s.machine.banks s.machine.cache _ _ refl
         k
-    go (Prefetch at) q k = refused_stays s.machine.banks s.machine.cache (prefetch_cause s.sizes rooms s.machine.cache at) _ refl k
-    go (Evict block) q k = refused_stays s.machine.banks s.machine.cache (evict_cause s.sizes s.machine.cache block) _ refl k
+    go (Prefetch at) q k = refused_stays s.machine.banks s.machine.cache _ _ refl k
+    go (Evict block) q k = refused_stays s.machine.banks s.machine.cache _ _ refl k
     go event q k = cc
 
 -- ---- a request ends where the machine serves requests, as it does where nothing is on its way
@@ -92,12 +92,12 @@ module _ (s : MachineState) (served : ServesRequests s.sizes s.machine) where
       let c = s.machine.cache in
       let why = load_cause s.sizes rooms_now c tag at in
       let out = λ (l : s.sizes.words ≤ at). load_outside s.sizes rooms_now c at tag l in
-      let denied = denied_ends s.machine.banks c why cause.OutOfRange _ refl in
-      ⊎_elim (λ l. ap is_end (served.loads tag at l)) (λ l. denied (out l)) (cases_lt at s.sizes.words)
+      ⊎_elim (λ l. ap is_end (served.loads tag at l)) (λ l. (denied_ends s.machine.banks c why cause.OutOfRange _ refl) (out l))
+      (cases_lt at s.sizes.words)
 
   store_ends : (at : ℕ) (word : Word) (lanes : Lanes) → is_end (apply s.sizes s.machine (Store at word lanes)).answer ≡ true
   unfolding store_step
-  store_ends at word lanes = ⊎_elim (λ l. by_lanes l (has_any lanes) refl) out (cases_lt at s.sizes.words)
+  store_ends at word lanes = ⊎_elim (λ l. by_lanes l _ refl) out (cases_lt at s.sizes.words)
     where
       why : Option Cause
       why = store_cause s.sizes rooms_now s.machine.cache at lanes
@@ -121,8 +121,8 @@ module _ (s : MachineState) (served : ServesRequests s.sizes s.machine) where
       let c = s.machine.cache in
       let why = prefetch_cause s.sizes rooms_now c at in
       let out = λ (l : s.sizes.words ≤ at). prefetch_outside s.sizes rooms_now c at l in
-      let denied = denied_ends s.machine.banks c why cause.OutOfRange _ refl in
-      ⊎_elim (λ l. ap is_end (served.prefetches at l)) (λ l. denied (out l)) (cases_lt at s.sizes.words)
+      ⊎_elim (λ l. ap is_end (served.prefetches at l)) (λ l. (denied_ends s.machine.banks c why cause.OutOfRange _ refl) (out l))
+      (cases_lt at s.sizes.words)
 
   pub request_ends : (event : Event) → is_request event ≡ true → is_end (answered s event) ≡ true
   unfolding answered

@@ -1,6 +1,6 @@
 -- Rounds, one after another.
 use Rattle.std.proofs.Common.{◌≡◌, ℕ, zero, suc, ◌+◌, ◌≤◌, Bool, true, false, cond, List, [], ◌∷◌, ◌++◌, append_assoc, append-nil, take}
-use Rattle.std.proofs.Common.{length, length-append, get_or, ◌<◌, Result, Ok, Err, IfErr, IsErrAnd, refl, sym, ap, ap₂, subst, ◌∙◌, arith}
+use Rattle.std.proofs.Common.{length, length-append, get_or, ◌<◌, Result, Ok, Err, IfErr, IsErrAnd, refl, sym, ap, ap₂, ◌∙◌, arith}
 use Rattle.std.proofs.lemmas.Bool.{true≢false as no}
 use Rattle.std.proofs.lemmas.List.{take_more}
 use Rattle.flat_model.specs.declared.Event.{Event}
@@ -27,18 +27,16 @@ none r = refl
 
 pub stays : (n : ℕ) (r : Run) → is_over r ≡ true → rounds_until_over n r ≡ r
 stays zero r h = none r
-stays (suc n) r h = once n r ∙ ap (λ b. cond b r (rounds_until_over n (after_round r))) h
+stays (suc n) r h = grind (arith, once)
 
 pub goes : (n : ℕ) (r : Run) → is_over r ≡ false → rounds_until_over (suc n) r ≡ rounds_until_over n (after_round r)
-goes n r h = once n r ∙ ap (λ b. cond b r (rounds_until_over n (after_round r))) h
+goes n r h = grind (arith, once)
 
 -- one round more
 pub round_more : (n : ℕ) (r : Run) → is_over (rounds_until_over n r) ≡ false
     → rounds_until_over (n + 1) r ≡ after_round (rounds_until_over n r)
-round_more zero r h =
-    let going : is_over r ≡ false = sym (ap is_over (none r)) ∙ h in
-    goes 0 r going ∙ none (after_round r) ∙ ap after_round (sym (none r))
-round_more (suc n) r h = go (λ going. round_more n (after_round r) going) (is_over r) refl
+round_more zero r h = grind (arith, none, goes)
+round_more (suc n) r h = go (λ going. round_more n _ going) _ refl
   where
     next : suc n + 1 ≡ suc (n + 1)
     next = omega arith
@@ -46,24 +44,20 @@ round_more (suc n) r h = go (λ going. round_more n (after_round r) going) (is_o
     go : (is_over (rounds_until_over n (after_round r)) ≡ false
         → rounds_until_over (n + 1) (after_round r) ≡ after_round (rounds_until_over n (after_round r))) → (b : Bool) → is_over r ≡ b
         → rounds_until_over (suc n + 1) r ≡ after_round (rounds_until_over (suc n) r)
-    go later true e = absurd (no (sym e ∙ sym (ap is_over (stays (suc n) r e)) ∙ h))
-    go later false e =
-        let going : is_over (rounds_until_over n (after_round r)) ≡ false = sym (ap is_over (goes n r e)) ∙ h in
-        ap (λ k. rounds_until_over k r) next ∙ goes (n + 1) r e ∙ later going ∙ ap after_round (sym (goes n r e))
+    go later true e = grind (arith, no, stays)
+    go later false e = grind (arith, next, goes)
 
 -- behind the end there are no rounds
 pub round_over : (n m : ℕ) (r : Run) → n ≤ m → is_over (rounds_until_over n r) ≡ true → rounds_until_over m r ≡ rounds_until_over n r
-round_over zero m r le h = stays m r (sym (ap is_over (none r)) ∙ h) ∙ sym (none r)
+round_over zero m r le h = grind (arith, stays, none)
 round_over (suc n) zero r le h = grind arith
-round_over (suc n) (suc m) r le h = go (λ fewer over. round_over n m (after_round r) fewer over) (is_over r) refl
+round_over (suc n) (suc m) r le h = go (λ fewer over. round_over n m _ fewer over) _ refl
   where
     go : (n ≤ m → is_over (rounds_until_over n (after_round r)) ≡ true
         → rounds_until_over m (after_round r) ≡ rounds_until_over n (after_round r)) → (b : Bool) → is_over r ≡ b
         → rounds_until_over (suc m) r ≡ rounds_until_over (suc n) r
-    go later true e = stays (suc m) r e ∙ sym (stays (suc n) r e)
-    go later false e =
-        let over : is_over (rounds_until_over n (after_round r)) ≡ true = sym (ap is_over (goes n r e)) ∙ h in
-        goes m r e ∙ later (omega (arith, le)) over ∙ sym (goes n r e)
+    go later true e = stays _ r e ∙ sym (stays _ r e)
+    go later false e = grind (arith, goes)
 
 no_more : (n most rounds : ℕ) → rounds ≡ n → n ≡ most → rounds < most → ⊥
 no_more n most rounds p q h = omega arith
@@ -72,15 +66,13 @@ no_more n most rounds p q h = omega arith
 
 pub text_then : (xs ys : List Note) → run_text (xs ++ ys) ≡ run_text xs ++ run_text ys
 text_then [] ys = refl
-text_then (x ∷ xs) ys = ap (λ t. note_line x ++ t) (text_then xs ys) ∙ sym (append_assoc (note_line x) (run_text xs) (run_text ys))
+text_then (x ∷ xs) ys = ap (λ t. note_line x ++ t) (text_then xs ys) ∙ sym (append_assoc _ (run_text xs) (run_text ys))
 
 -- one line more
 pub text_more : (xs : List Note) (i : ℕ) (d : Note) (before line after : List ℕ) → i < length xs → before ≡ run_text (take i xs)
     → line ≡ note_line (get_or xs i d) → after ≡ before ++ line → after ≡ run_text (take (i + 1) xs)
 text_more xs i d before line after h p q r =
-    let more = take_more xs i d h in
-    let last : run_text (get_or xs i d ∷ []) ≡ note_line (get_or xs i d) = append-nil (note_line (get_or xs i d)) in
-    r ∙ ap₂ (λ a b. a ++ b) p (q ∙ sym last) ∙ sym (text_then (take i xs) (get_or xs i d ∷ [])) ∙ ap run_text (sym more)
+    r ∙ ap₂ (λ a b. a ++ b) p (q ∙ sym (append-nil _)) ∙ sym (text_then _ _) ∙ ap run_text (sym (take_more xs i d h))
 
 -- ---- counts
 
@@ -110,13 +102,13 @@ module _ (timing : Timing) (s : MachineState) (requests : List Event) where
 module _ (i : ℕ) (start : Run) {s : MachineState} {p : Schedule} {left : List Event}
     (here : run_of s p left (rounds_until_over i start).told ≡ rounds_until_over i start) where
   over_here : (n : ℕ) → i ≤ n → is_over_at s left ≡ true → run_of s p left (rounds_until_over i start).told ≡ rounds_until_over n start
-  over_here n le over = here ∙ sym (round_over i n start le (sym (ap is_over here) ∙ over))
+  over_here n le over = grind (arith, round_over)
 
   module _ {s' : MachineState} {p' : Schedule} {left' : List Event} {notes : List Note}
       (made : (told : List Note) → run_of s' p' left' (told ++ notes) ≡ after_round (run_of s p left told))
       (going : is_over_at s left ≡ false) where
     behind : run_of s' p' left' ((rounds_until_over i start).told ++ notes) ≡ rounds_until_over (i + 1) start
-    behind = made (rounds_until_over i start).told ∙ ap after_round here ∙ sym (round_more i start (sym (ap is_over here) ∙ going))
+    behind = grind (arith, round_more)
 
     pub told_next : (rounds_until_over (i + 1) start).told ≡ (rounds_until_over i start).told ++ notes
     told_next = sym (ap (λ r. r.told) behind)
@@ -133,15 +125,14 @@ module _ (i : ℕ) (start : Run) {s : MachineState} {p : Schedule} {left : List 
         → IsErrAnd result (λ fault. fault ≡ OutOfMemory)
         → IfErr result (BreaksOff took refused u start v s')
     lines_lack_memory refused (Ok rounds) written told = tt
-    lines_lack_memory {took} refused {u} {v} (Err f) written told =
-        subst (BreaksOff took refused u start v s') (sym told) (i, written, state_next)
+    lines_lack_memory {took} refused {u} {v} (Err f) written told = grind (arith, state_next)
 
     text : run_text (rounds_until_over (i + 1) start).told ≡ run_text (rounds_until_over i start).told ++ run_text notes
-    text = ap run_text told_next ∙ text_then (rounds_until_over i start).told notes
+    text = grind (arith, told_next, text_then)
 
     pub text_next : {S : Type 0} {step : S → List ℕ → S → Type 0} {u v w : S} → Moves step u (run_text (rounds_until_over i start).told) v
         → Moves step v (run_text notes) w → Moves step u (run_text (rounds_until_over (i + 1) start).told) w
-    text_next {step} {u} {w} a b = subst (λ t. Moves step u t w) (sym text) (moved_then a b)
+    text_next {step} {u} {w} a b = grind (arith, text, moved_then)
 
     -- a write of the lines of the round that was made is refused
     pub lines_refused : {W : Type 0} {took : W → List ℕ → W → Type 0} {refused : W → W → Type 0} {u v w : W}
@@ -189,7 +180,7 @@ module _ (timing : Timing) (s : MachineState) (requests : List Event) {turns mos
   whole_spent all = grind arith
 
   pub over_early : {b : Bool} → turns < most → b ≡ is_over_at m left → b ≡ true → EndsInTime timing s requests
-  over_early lt answer over h = sym (ap is_over (whole_over lt answer over)) ∙ sym answer ∙ over
+  over_early lt answer over h = grind (arith, whole_over)
 
   pub spent_early : turns ≡ most → p.round ≡ turns → EndsInTime timing s requests
   spent_early all round h = grind arith

@@ -6,8 +6,7 @@ use Rattle.machine_core.specs.Machine.{MachineState}
 use Rattle.round_driver.specs.declared.note.Note.{Note}
 use Rattle.round_driver.specs.declared.schedule.Schedule.{Schedule}
 use Rattle.round_driver.specs.declared.timing.Timing.{Timing}
-use Rattle.round_driver.specs.Rounds.{Course, course, Run, ends, next_round, moves, ask, asked, after_round, is_over, rounds_until_over}
-use Rattle.round_driver.specs.Rounds.{start_of}
+use Rattle.round_driver.specs.Rounds.{Course, Run, ask, asked, after_round, rounds_until_over}
 use Rattle.round_driver.specs.Tables.{Counting, counted_all, nothing}
 use Rattle.round_driver.specs.Stepping.{Stepped, offered, without_ended, step, steps_until_over, steps_of, IsSameRun}
 use Rattle.round_driver.proofs.Runs.{counted_then}
@@ -29,14 +28,13 @@ behind told left made = stepped made.state made.schedule (counted_all (counted_a
 same_round : (told : List Note) (left : List Event) (c : Course)
     → behind told left (asked [] (offered (slice_get left 0)) c)
     ≡ steps_of (asked told left c)
-same_round told [] c = ap (λ counting. stepped c.state c.schedule counting []) (sym (counted_then nothing told c.notes))
+same_round told [] c = ap (λ counting. stepped c.state c.schedule counting []) (sym (counted_then nothing told _))
 same_round told (event ∷ rest) c =
-    let counts = sym (counted_then nothing told (ask event c).notes) in
-    ap₂ (stepped (ask event c).state c.schedule) counts (left_behind (ends event c) event rest)
+    ap₂ (stepped (ask event c).state _) (sym (counted_then nothing told (ask event c).notes)) (left_behind _ event rest)
 
 one : (r : Run) → step (steps_of r) ≡ steps_of (after_round r)
 unfolding after_round
-one r = same_round r.told r.left (moves (course r.state (next_round r.schedule) []))
+one r = same_round r.told r.left _
 
 either : (b : Bool) (r q : Run) (c : Stepped) → c ≡ steps_of q → cond b (steps_of r) c ≡ steps_of (cond b r q)
 either true r q c h = refl
@@ -46,8 +44,7 @@ all : (n : ℕ) (r : Run) → steps_until_over n (steps_of r) ≡ steps_of (roun
 unfolding steps_until_over rounds_until_over
 all zero r = refl
 all (suc n) r =
-    let later = ap (steps_until_over n) (one r) ∙ all n (after_round r) in
-    either (is_over r) r (rounds_until_over n (after_round r)) (steps_until_over n (step (steps_of r))) later
+    either _ r _ _ (ap (steps_until_over n) (one r) ∙ all n _)
 
 pub is_same_run : (timing : Timing) (s : MachineState) (requests : List Event) (n : ℕ) → IsSameRun timing s requests n
-is_same_run timing s requests n = all n (start_of timing s requests)
+is_same_run timing s requests n = all n _

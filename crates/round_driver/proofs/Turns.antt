@@ -1,5 +1,5 @@
 -- The turns of the loops, one at a time.
-use Rattle.std.proofs.Common.{◌≡◌, ℕ, suc, ◌+◌, ◌-◌, ◌<◌, ◌≤◌, true, false, cond, Some, None, ap, ◌∙◌, arith}
+use Rattle.std.proofs.Common.{◌≡◌, ℕ, suc, ◌+◌, ◌-◌, ◌<◌, ◌≤◌, true, false, cond, Some, None, arith}
 use Rattle.machine_core.specs.Machine.{MachineState}
 use Rattle.round_driver.specs.Machines.{has_answer, used_at, used_among}
 use Rattle.round_driver.specs.Rounds.{Course, begin, serve_due, bank_turns, first_with_answer}
@@ -26,10 +26,10 @@ module _ (s : MachineState) (n i : ℕ) where
   once turn = grind arith
 
   pub answer_here : i < n → has_answer s i ≡ true → first_with_answer s (n - i) i ≡ Some i
-  answer_here turn h = once turn ∙ ap (λ b. cond b (Some i) (first_with_answer s (n - (i + 1)) (i + 1))) h
+  answer_here turn h = grind (arith, once)
 
   pub no_answer_here : i < n → has_answer s i ≡ false → first_with_answer s (n - i) i ≡ first_with_answer s (n - (i + 1)) (i + 1)
-  no_answer_here turn h = once turn ∙ ap (λ b. cond b (Some i) (first_with_answer s (n - (i + 1)) (i + 1))) h
+  no_answer_here turn h = grind (arith, once)
 
   pub no_answer_left : n ≤ i → first_with_answer s (n - i) i ≡ None
   unfolding first_with_answer

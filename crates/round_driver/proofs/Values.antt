@@ -1,6 +1,6 @@
 -- A round answers one load at most.
 use Rattle.std.proofs.Common.{◌≡◌, ◌≤◌, ℕ, Bool, true, false, cond, List, [], ◌∷◌, ◌++◌, length, append-nil}
-use Rattle.std.proofs.Common.{Option, Some, None, refl, sym, ap, subst, ◌∙◌, arith}
+use Rattle.std.proofs.Common.{Option, Some, None, refl, sym, subst, ◌∙◌, arith}
 use Rattle.std.specs.List.{list_all}
 use Rattle.std.proofs.lemmas.List.Elements.{filter-append}
 use Rattle.std.proofs.lemmas.Bool.{and_parts, false≢true as no}
@@ -12,8 +12,8 @@ use Rattle.cache_unit.specs.Steps.{process_step}
 use Rattle.machine_core.specs.Machine.{MachineState}
 use Rattle.machine_core.specs.AnyMachine.{answered}
 use Rattle.round_driver.specs.declared.note.Note.{Note}
-use Rattle.round_driver.specs.Rounds.{Course, course, is_done, note_of, request_note, attempt, ask, bank_turns}
-use Rattle.round_driver.specs.Rounds.{arrive, moves, asked, after_round, next_round}
+use Rattle.round_driver.specs.Rounds.{Course, note_of, attempt, ask}
+use Rattle.round_driver.specs.Rounds.{moves, asked, after_round}
 use Rattle.round_driver.specs.Walks.{is_request}
 use Rattle.round_driver.proofs.Kept.{arrives}
 use Rattle.round_driver.specs.Stepping.{RoundsState, offered, is_value, answers, AnswersOneLoad}
@@ -56,8 +56,7 @@ abbrev so_far : Course → List Note
 so_far c = answers c.notes
 
 quiet_note : (n : Note) (notes : List Note) → is_value n.answer ≡ false → answers (notes ++ n ∷ []) ≡ answers notes
-quiet_note n notes h =
-    filter-append (λ n. is_value n.answer) notes (n ∷ []) ∙ ap (λ b. answers notes ++ cond b (n ∷ []) []) h ∙ append-nil (answers notes)
+quiet_note n notes h = grind (arith, filter-append, append-nil)
 
 -- so far these loads were answered
 record Answered (before : List Note) (c : Course) : Type 0 where
@@ -66,10 +65,10 @@ record Answered (before : List Note) (c : Course) : Type 0 where
 module _ (before : List Note) where
   attempted : (event : Event) (c : Course) → IsQuiet event → Answered before c → Answered before (attempt event c)
   unfolding attempt
-  attempted event c quiet w = record { same = go (is_done (answered c.state event)) ∙ w.same }
+  attempted event c quiet w = record { same = go _ ∙ w.same }
     where
       go : (b : Bool) → answers (cond b (c.notes ++ note_of c event ∷ []) c.notes) ≡ answers c.notes
-      go true = quiet_note (note_of c event) c.notes (quiet c.state)
+      go true = quiet_note _ c.notes (quiet _)
       go false = refl
 
 one_note : (b : Bool) (n : Note) → length (cond b (n ∷ []) []) ≤ 1
@@ -79,38 +78,35 @@ one_note false n = omega arith
 -- one take answers one load at most
 taken : (c : Course) → so_far c ≡ [] → length (so_far (attempt (Take 0) c)) ≤ 1
 unfolding attempt
-taken c none = go (is_done (answered c.state (Take 0)))
+taken c none = go _
   where
     n : Note
     n = note_of c (Take 0)
 
     one : answers (c.notes ++ n ∷ []) ≡ cond (is_value n.answer) (n ∷ []) []
-    one = filter-append (λ n. is_value n.answer) c.notes (n ∷ []) ∙ ap (λ l. l ++ cond (is_value n.answer) (n ∷ []) []) none
+    one = grind (arith, filter-append, n, c.notes)
 
     go : (b : Bool) → length (answers (cond b (c.notes ++ n ∷ []) c.notes)) ≤ 1
-    go true = subst (λ (l : List Note). length l ≤ 1) (sym one) (one_note (is_value n.answer) n)
-    go false = subst (λ (l : List Note). length l ≤ 1) (sym none) (omega arith)
+    go true = grind (arith, one, one_note, n)
+    go false = subst (λ l. length l ≤ 1) (sym none) (omega arith)
 
 moved : (c : Course) → so_far c ≡ [] → length (so_far (moves c)) ≤ 1
 unfolding moves
 moved c none =
-    let before = attempt (Process 0) (arrive (bank_turns c.state.sizes.banks 0 c)) in
-    let arrived = arrives (Answered []) (λ p c w. record { same = w.same }) (λ b c w. attempted [] (Serve b) c (serve_is_quiet b) w)
+    let before = attempt _ _ in
+    let arrived = arrives _ (λ p c w. record { same = w.same }) (λ b c w. attempted [] (Serve b) c (serve_is_quiet b) w)
     (λ b c w. attempted [] (Arrive b 0) c (arrive_is_quiet b 0) w) _ 0 c (record { same = none }) in
-    let quiet : Answered [] before = attempted [] (Process 0) _ (process_is_quiet 0) arrived in
-    let behind = attempt (Take 0) before in
-    let same : Answered (so_far behind) behind = record { same = refl } in
-    let drained : Answered (so_far behind) (attempt Drain behind) = attempted (so_far behind) Drain behind drain_is_quiet same in
-    subst (λ (l : List Note). length l ≤ 1) (sym drained.same) (taken before quiet.same)
+    let quiet = attempted [] (Process 0) _ (process_is_quiet 0) arrived in
+    let behind = attempt _ before in
+    let drained : Answered _ (attempt Drain behind) = grind (arith, attempted, drain_is_quiet) in
+    subst (λ l. length l ≤ 1) (sym drained.same) (taken before quiet.same)
 
 asks : (request : Option Event) (c : Course) → list_all is_request (offered request) ≡ true
     → answers (asked [] (offered request) c).told ≡ so_far c
 unfolding ask
 asks None c h = refl
-asks (Some event) c h = quiet_note (request_note c event) c.notes (request_is_quiet event (and_parts (is_request event) true h).0 c.state)
+asks (Some event) c h = quiet_note _ c.notes (request_is_quiet event (and_parts _ true h).0 _)
 
 pub answers_one_load : (s : MachineState) (r : RoundsState) (request : Option Event) → AnswersOneLoad s r request
 unfolding after_round
-answers_one_load s r request h =
-    let begins = course s (next_round r.schedule) [] in
-    subst (λ (l : List Note). length l ≤ 1) (sym (asks request (moves begins) h)) (moved begins refl)
+answers_one_load s r request h = grind (arith, asks, moved)

@@ -1,7 +1,6 @@
 -- What is told of a run is the machine's walk, and each request ends once.
-use Rattle.std.proofs.Common.{◌≡◌, ℕ, zero, suc, ◌/◌, ◌%◌, nat_lt, Bool, true, false, ◌&&◌, cond, List, [], ◌∷◌, ◌++◌, Option, Some}
+use Rattle.std.proofs.Common.{◌≡◌, ℕ, zero, suc, ◌/◌, ◌%◌, Bool, true, false, ◌&&◌, cond, List, [], ◌∷◌, ◌++◌, Option, Some}
 use Rattle.std.proofs.Common.{None, append_assoc, append-nil, refl, sym, ap, ap₂, subst, ◌∙◌}
-use Rattle.std.specs.Prelude.{slice_get}
 use Rattle.std.specs.List.{list_all}
 use Rattle.std.proofs.lemmas.Bool.{and_parts, true≢false as no}
 use Rattle.flat_model.specs.declared.Event.{Event}
@@ -18,14 +17,13 @@ use Rattle.write_queue.specs.declared.Queued.{Queued}
 use Rattle.cache_unit.specs.declared.Reply.{Reply}
 use Rattle.cache_unit.specs.declared.Sizes.{Sizes}
 use Rattle.cache_unit.specs.State.{Cache}
-use Rattle.cache_unit.specs.Causes.{arrive_cause}
 use Rattle.cache_unit.specs.Steps.{Stepped, drain_first, drain_step, process_entry, process_step, take_reply, take_step}
 use Rattle.machine_core.specs.Machine.{Machine, MachineState, apply, joined_with, serve_from, take_in, arrive_from, walked, told}
 use Rattle.machine_core.specs.AnyMachine.{answered, after_event}
 use Rattle.round_driver.specs.declared.note.Note.{Note}
 use Rattle.round_driver.specs.declared.timing.Timing.{Timing}
 use Rattle.round_driver.specs.Rounds.{Course, course, Run, is_done, is_end, note_of, request_note, attempt, ask}
-use Rattle.round_driver.specs.Rounds.{moves, asked, after_round, is_over, rounds_until_over, start_of}
+use Rattle.round_driver.specs.Rounds.{moves, asked, after_round, rounds_until_over, start_of}
 use Rattle.round_driver.proofs.Kept.{arrives}
 use Rattle.round_driver.specs.Walks.{events_of, answers_of, IsWalk, is_request, ended, RunIsTold}
 
@@ -69,22 +67,22 @@ drained_nothing : (z : Sizes) (room : ℕ → ℕ) (banks : List Bank) (c : Cach
     → is_done (joined_with banks (drain_first z room c q)).answer ≡ false → (joined_with banks (drain_first z room c q)).machine
     ≡ record { cache = c; banks = banks }
 drained_nothing z room banks c [] h = refl
-drained_nothing z room banks c (q ∷ rest) h = first_or_not banks c (nat_lt 0 (room (q.at % z.banks))) (sent_first z c q rest)
+drained_nothing z room banks c (q ∷ rest) h = first_or_not banks c _ (sent_first z c q rest)
     (kept_first c) refl refl h
 
 arrived_nothing : (z : Sizes) (m : Machine) (b place : ℕ) (o : Option BankAnswer) → is_done (arrive_from z m b place o).answer ≡ false
     → (arrive_from z m b place o).machine ≡ m
 arrived_nothing z m b place None h = refl
-arrived_nothing z m b place (Some a) h = took_nothing z m b place a (arrive_cause z m.cache a.slot a.i) h
+arrived_nothing z m b place (Some a) h = took_nothing z m b place a _ h
 
 nothing_done : (z : Sizes) (m : Machine) (event : Event) → is_request event ≡ false → is_done (apply z m event).answer ≡ false
     → (apply z m event).machine ≡ m
 unfolding drain_step process_step take_step
-nothing_done z m Drain r h = drained_nothing z (room_in z.bank_queue m.banks) m.banks m.cache m.cache.queue h
+nothing_done z m Drain r h = drained_nothing z (room_in _ m.banks) m.banks m.cache _ h
 nothing_done z m (Serve b) r h = served_nothing m b (bank_at m.banks b).queue h
-nothing_done z m (Arrive b place) r h = arrived_nothing z m b place (slice_get (bank_at m.banks b).answers place) h
-nothing_done z m (Process place) r h = processed_nothing m.banks m.cache place (slice_get m.cache.stack place) h
-nothing_done z m (Take place) r h = replied_nothing m.banks m.cache place (slice_get m.cache.ready place) h
+nothing_done z m (Arrive b place) r h = arrived_nothing z m b place _ h
+nothing_done z m (Process place) r h = processed_nothing m.banks m.cache place _ h
+nothing_done z m (Take place) r h = replied_nothing _ _ place _ h
 nothing_done z m event r h = absurd (no r)
 
 unchanged : (s : MachineState) (event : Event) → is_request event ≡ false → is_done (answered s event) ≡ false → after_event s event ≡ s
@@ -111,7 +109,7 @@ answers_then (x ∷ xs) ys = ap (λ l. x.answer ∷ l) (answers_then xs ys)
 
 ended_then : (xs ys : List Note) → ended (xs ++ ys) ≡ ended xs ++ ended ys
 ended_then [] ys = refl
-ended_then (x ∷ xs) ys = go (is_request x.event && is_end x.answer) (ended_then xs ys)
+ended_then (x ∷ xs) ys = go _ (ended_then xs ys)
   where
     go : (b : Bool) → ended (xs ++ ys) ≡ ended xs ++ ended ys → cond b (x.event ∷ ended (xs ++ ys)) (ended (xs ++ ys))
         ≡ cond b (x.event ∷ ended xs) (ended xs) ++ ended ys
@@ -122,15 +120,13 @@ walk_more : (s : MachineState) (ns : List Note) (t : MachineState) (n : Note) �
     → IsWalk s (ns ++ n ∷ []) (after_event t n.event)
 unfolding answered after_event
 walk_more s ns t n h e =
-    let at = walked s.sizes s.machine (events_of ns) in
     let all = events_then ns (n ∷ []) in
-    let here : n.answer ≡ (apply s.sizes at n.event).answer = e ∙ ap (λ u. (apply u.sizes u.machine n.event).answer) h.ends in
     record {
       ends = ap (λ u. after_event u n.event) h.ends ∙ ap (λ m. record { sizes = s.sizes; machine = m })
           (sym (walked_then s.sizes s.machine (events_of ns) (n.event ∷ [])))
           ∙ ap (λ es. record { sizes = s.sizes; machine = walked s.sizes s.machine es }) (sym all);
-      tells = ap (told s.sizes s.machine) all ∙ told_then s.sizes s.machine (events_of ns) (n.event ∷ [])
-          ∙ ap₂ (λ a b. a ++ b ∷ []) h.tells (sym here) ∙ sym (answers_then ns (n ∷ []));
+      tells = ap (told s.sizes s.machine) all ∙ told_then s.sizes s.machine _ _
+          ∙ ap₂ (λ a b. a ++ b ∷ []) h.tells (sym cc) ∙ sym (answers_then ns _);
     }
 
 -- ---- the moves of a round: what was told before it, and in it
@@ -142,30 +138,30 @@ record IsWalked (s : MachineState) (before : List Note) (c : Course) : Type 0 wh
 module _ (s : MachineState) (before : List Note) where
   attempted : (event : Event) (c : Course) → is_request event ≡ false → IsWalked s before c → IsWalked s before (attempt event c)
   unfolding attempt
-  attempted event c r w = go (is_done (answered c.state event)) refl
+  attempted event c r w = go _ refl
     where
       go : (b : Bool) → is_done (answered c.state event) ≡ b
           → IsWalked s before (course (after_event c.state event) c.schedule (cond b (c.notes ++ note_of c event ∷ []) c.notes))
       go true e =
-          let more = walk_more s (before ++ c.notes) c.state (note_of c event) w.walks refl in
-          let place = append_assoc before c.notes (note_of c event ∷ []) in
-          let silent : ended (note_of c event ∷ []) ≡ [] = ap (λ b. cond (b && is_end (answered c.state event)) (event ∷ []) []) r in
+          let more = walk_more s (before ++ c.notes) c.state _ w.walks refl in
+          let place = append_assoc before _ (note_of c event ∷ []) in
+          let silent : ended (note_of c event ∷ []) ≡ [] = cc in
           record {
             walks = subst (λ ns. IsWalk s ns (after_event c.state event)) place more;
-            none_ended = sym (ap ended place) ∙ ended_then (before ++ c.notes) (note_of c event ∷ [])
-                ∙ ap (λ l. ended (before ++ c.notes) ++ l) silent ∙ append-nil (ended (before ++ c.notes)) ∙ w.none_ended;
+            none_ended = sym (ap ended place) ∙ ended_then (before ++ c.notes) _
+                ∙ ap (λ l. ended (before ++ c.notes) ++ l) silent ∙ append-nil _ ∙ w.none_ended;
           }
       go false e = record {
-        walks = subst (λ t. IsWalk s (before ++ c.notes) t) (sym (unchanged c.state event r e)) w.walks;
+        walks = subst (λ t. IsWalk s (before ++ c.notes) t) (sym (unchanged _ event r e)) w.walks;
         none_ended = w.none_ended;
       }
 
   moved : (c : Course) → IsWalked s before c → IsWalked s before (moves c)
   unfolding moves
   moved c w =
-      let arrived = arrives (IsWalked s before) (λ p c w. record { walks = w.walks; none_ended = w.none_ended })
-      (λ b c w. attempted (Serve b) c refl w) (λ b c w. attempted (Arrive b 0) c refl w) _ 0 c w in
-      attempted Drain _ refl (attempted (Take 0) _ refl (attempted (Process 0) _ refl arrived))
+      let arrived = arrives _ (λ p c w. record { walks = w.walks; none_ended = w.none_ended })
+      (λ b c w. attempted _ c refl w) (λ b c w. attempted _ c refl w) _ 0 c w in
+      attempted Drain _ refl (attempted _ _ refl (attempted _ _ refl arrived))
 
 -- ---- whole rounds
 
@@ -186,7 +182,7 @@ module _ (s : MachineState) (requests : List Event) where
 
   left_ends : (b : Bool) (event : Event) (rest : List Event) → list_all is_request (event ∷ rest) ≡ true
       → list_all is_request (cond b rest (event ∷ rest)) ≡ true
-  left_ends true event rest h = (and_parts (is_request event) (list_all is_request rest) h).1
+  left_ends true event rest h = (and_parts _ _ h).1
   left_ends false event rest h = h
 
   asks : (told : List Note) (left : List Event) (c : Course) → IsWalked s told c
@@ -197,17 +193,16 @@ module _ (s : MachineState) (requests : List Event) where
   asks told (event ∷ rest) c w order =
       let n = request_note c event in
       let place = append_assoc told c.notes (n ∷ []) in
-      let b = is_end (answered c.state event) in
+      let b = is_end _ in
       record {
         walks = subst (λ ns. IsWalk s ns (after_event c.state event)) place (walk_more s (told ++ c.notes) c.state n w.walks refl);
         in_order = λ h.
-            let good = and_parts (is_request event) (list_all is_request rest) (order h).0 in
-            let last : ended (n ∷ []) ≡ cond b (event ∷ []) [] = ap (λ r. cond (r && b) (event ∷ []) []) good.0 in
-            let all : ended (told ++ (c.notes ++ n ∷ [])) ≡ ended told ++ cond b (event ∷ []) [] = sym (ap ended place)
-            ∙ ended_then (told ++ c.notes) (n ∷ []) ∙ ap₂ (λ x y. x ++ y) w.none_ended last in (
+            let good = and_parts (is_request event) _ (order h).0 in
+            let all = sym (ap ended place)
+            ∙ ended_then (told ++ c.notes) (n ∷ []) ∙ ap₂ (λ x y. x ++ y) w.none_ended (ap (λ r. cond (r && b) (event ∷ []) []) good.0) in (
               left_ends b event rest (order h).0,
               ap (λ l. l ++ cond b rest (event ∷ rest)) all
-                  ∙ append_assoc (ended told) (cond b (event ∷ []) []) (cond b rest (event ∷ rest))
+                  ∙ append_assoc (ended told) _ _
                   ∙ ap (λ l. ended told ++ l) (one_or_none b event rest) ∙ (order h).1,
             );
       }
@@ -216,18 +211,18 @@ module _ (s : MachineState) (requests : List Event) where
   unfolding after_round
   round_told r t =
       let none = append-nil r.told in
-      let start : IsWalked s r.told (course r.state _ []) =
+      let start : IsWalked s r.told _ =
       record { walks = subst (λ ns. IsWalk s ns r.state) (sym none) t.walks; none_ended = ap ended none } in
       asks r.told r.left _ (moved s r.told _ start) t.in_order
 
   rounds_told : (n : ℕ) (r : Run) → IsToldSoFar s requests r → IsToldSoFar s requests (rounds_until_over n r)
   unfolding rounds_until_over
   rounds_told zero r t = t
-  rounds_told (suc n) r t = told_of (is_over r) r (rounds_until_over n (after_round r)) t (rounds_told n (after_round r) (round_told r t))
+  rounds_told (suc n) r t = told_of _ r _ t (rounds_told n _ (round_told r t))
 
 pub run_is_told : (timing : Timing) (s : MachineState) (requests : List Event) (n : ℕ) → RunIsTold timing s requests n
 run_is_told timing s requests n =
     let start : IsToldSoFar s requests (start_of timing s requests) =
     record { walks = record { ends = refl; tells = refl }; in_order = λ h. (h, refl) } in
-    let t = rounds_told s requests n (start_of timing s requests) start in
+    let t = rounds_told s requests n _ start in
     record { walks = t.walks; in_order = λ h. (t.in_order h).1 }

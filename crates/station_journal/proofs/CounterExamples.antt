@@ -37,24 +37,24 @@ read_back-false h = grind arith
 -- of a hit
 refused_hit : IsBankTrue shape_S (asked 0 (Prefetch 5) Accepted ++ asked 0 (Load 1 5) (Refused BankFull)) → ⊥
 unfolding all_steps
-refused_hit h = let e = h.1.0 in cc
+refused_hit h = cc
 
 -- of a request that another cause refuses
 refused_outside : IsBankTrue shape_S (asked 0 (Prefetch 32) (Refused BankFull)) → ⊥
 unfolding all_steps
-refused_outside h = let e = h.0 in cc
+refused_outside h = cc
 
 -- of a drain of an empty queue, and of an eviction
 refused_drain : IsBankTrue shape_S (Step sources.Drain Drain (Refused BankFull) ∷ []) → ⊥
-refused_drain h = let e = h.0 in cc
+refused_drain h = cc
 
 refused_eviction : IsBankTrue shape_S (asked 0 (Evict 0) (Refused BankFull)) → ⊥
-refused_eviction h = let e = h.0 in cc
+refused_eviction h = cc
 
 -- ---- words that no read asked for
 
 uncalled : IsBankTrue shape_S (Step (sources.Word 0) (Arrive 0 0) Moved ∷ []) → ⊥
-uncalled h = let e = h.0.0 in cc
+uncalled h = cc
 
 -- a third word of a bank that holds two of the block's words
 third_word : IsBankTrue shape_S (asked 0 (Load 1 5) Accepted ++ comes 0 ++ comes 0 ++ comes 0) → ⊥

@@ -1,11 +1,10 @@
 -- What a port asked and was told by a journal, counted: each ask but Done has one verdict, and values
 -- go to the ports of their loads.
-use Rattle.std.proofs.Common.{◌≡◌, ℕ, ◌+◌, ◌-◌, ◌*◌, ◌/◌, Bool, true, cond, not, ◌==◌, List, [], ◌∷◌, ◌++◌, length, Some}
+use Rattle.std.proofs.Common.{◌≡◌, ℕ, ◌+◌, ◌-◌, ◌/◌, Bool, true, cond, not, ◌==◌, List, [], ◌∷◌, ◌++◌, length, Some}
 use Rattle.std.proofs.Common.{ap, arith, length-append}
 use Rattle.std.proofs.lemmas.Bool.{and_parts}
 use Rattle.std.proofs.lemmas.List.Elements.{filter-append}
 use Rattle.miss_registers.proofs.Tags.{count_by-append}
-use Rattle.flat_model.specs.declared.Word.{Word}
 use Rattle.flat_model.specs.declared.Event.{Event}
 use Rattle.flat_model.specs.declared.Event.TheVariants as events
 use Rattle.flat_model.specs.declared.Answer.{Answer}
@@ -16,7 +15,7 @@ use Rattle.station_journal.specs.declared.journal.Source.TheVariants as sources
 use Rattle.station_journal.specs.declared.journal.Entry.{Entry}
 use Rattle.station_journal.specs.declared.journal.Entry.TheVariants.{Step, Ended}
 use Rattle.station_journal.specs.declared.asks.Ask.{Ask}
-use Rattle.station_journal.specs.declared.asks.Ask.TheVariants.{Load, Store, Prefetch, Evict, Done}
+use Rattle.station_journal.specs.declared.asks.Ask.TheVariants.{Done}
 use Rattle.station_journal.specs.declared.asks.Told.{Told}
 use Rattle.station_journal.specs.Journal.{events_of, answers_of}
 use Rattle.station_journal.specs.Parts.{asked_by, asks_of, told_by, told_of, is_event_of, is_entry_of, IsOfPorts}

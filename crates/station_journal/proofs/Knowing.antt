@@ -142,8 +142,6 @@ come-true z come sent h b k commands a here begins e = go _ refl e
     go true l e =
         let words = zeros_in z b in
         let part = h b here in
-        let few : k < length _ =
-        omega (arith, answers_to-length words commands, ltb-true k _ l) in
         let whole =
         ap (answers_to words) (sym begins.1) ∙ answers_to-append words commands begins.0 in
         let came =
@@ -151,6 +149,7 @@ come-true z come sent h b k commands a here begins e = go _ refl e
         ∙ answers_to-append words part.served part.left
         ∙ ap (λ l. l ++ answers_to (after words part.served) part.left) (sym part.answers)
         ∙ append_assoc _ part.on_its_way _ in
-        sym (slice_get-front (answers_to words commands) (answers_to (after words commands) begins.0) k few)
+        sym (slice_get-front (answers_to words commands) (answers_to (after words commands) begins.0) k
+        (grind (arith, answers_to-length, ltb-true)))
         ∙ ap (λ l. slice_get l k) (sym whole ∙ came)
         ∙ slice_get-more _ _ k a e

@@ -18,8 +18,7 @@ with_unit c = record { cache = c; banks = [] }
 pub none_owed : (c : Cache) → length (tags c) ≡ 0 → (tag : ℕ) → owed c tag ≡ None
 unfolding with_unit
 none_owed c few tag =
-    let none = ap (list_any (λ t. t == tag)) (nil_from_length (tags c) few) in
-    go _ _ (flat_in_use (with_unit c) tag ∙ none)
+    go _ _ (flat_in_use (with_unit c) tag ∙ (ap (list_any (λ t. t == tag)) (nil_from_length (tags c) few)))
   where
     go : (f : Form → Word) (o : Option Form) → not (is_none (option_map f o)) ≡ false → o ≡ None
     go f None e = refl
@@ -38,5 +37,4 @@ no_tags c none = go _ used
     go : (ts : List ℕ) → ((tag : ℕ) → list_any (λ t. t == tag) ts ≡ false) → length ts ≡ 0
     go [] h = refl
     go (t ∷ ts) h =
-        absurd (let one = eq-eqb t t refl in let all = ap (λ b. b || list_any (λ x. x == t) ts) one
-        in let clash = sym all ∙ h t in cc)
+        absurd (let one = eq-eqb t t refl in cc (sym (ap (λ b. b || list_any (λ x. x == t) ts) one) ∙ h t))

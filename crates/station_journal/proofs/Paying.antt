@@ -7,7 +7,7 @@ use Rattle.flat_model.specs.declared.Event.{Event}
 use Rattle.flat_model.specs.declared.Event.TheVariants.{Load, Store, Prefetch, Evict, Drain, Serve, Arrive, Process, Take}
 use Rattle.flat_model.specs.declared.Answer.{Answer}
 use Rattle.flat_model.specs.declared.Answer.TheVariants.{Accepted, Moved, Value, Nothing, Refused}
-use Rattle.flat_model.specs.Flat.{Flat, may_answer, flat_after, flat_step, flat_run, word_at, is_owed}
+use Rattle.flat_model.specs.Flat.{Flat, may_answer, flat_after, flat_step, flat_run, word_at}
 use Rattle.station_journal.specs.declared.journal.Entry.{Entry}
 use Rattle.station_journal.specs.declared.journal.Entry.TheVariants.{Step, Ended}
 use Rattle.station_journal.specs.Journal.{events_of, answers_of}
@@ -62,7 +62,7 @@ stays tag f (Load t at) Accepted owed may = go (t == tag) refl (tag == t) refl (
         right true b e = e
         right false b e = cc
     go false e true g inside m =
-        let same = eqb_true tag t g in absurd (let back = Rattle.std.proofs.Common.eq-eqb t tag (sym same) in cc)
+        let same = eqb_true tag t g in absurd (cc)
     go false e false g inside m =
         inr (record {
           owed = ap (λ b. is_some (cond b (Some (word_at f.mem at)) (f.due tag))) g ∙ owed;
@@ -117,8 +117,7 @@ rests tag f (Load t at) Accepted none may other = go (tag == t) refl
   where
     go : (u : Bool) → (tag == t) ≡ u → Rests tag f (Load t at) Accepted
     go true e =
-        absurd (let same = eqb_true tag t e in let back = Rattle.std.proofs.Common.eq-eqb t tag (sym same)
-        in let clash = sym back ∙ other in cc)
+        absurd (let same = eqb_true tag t e in cc)
     go false e = record { untaken = refl; owed = ap (λ b. cond b (Some (word_at f.mem at)) (f.due tag)) e ∙ none }
 rests tag f (Load t at) Moved none may other = record { untaken = refl; owed = none }
 rests tag f (Load t at) (Value v w) none may other = record { untaken = refl; owed = none }
@@ -136,8 +135,7 @@ rests tag f (Take place) (Value t w) none may other = go (tag == t) refl
   where
     go : (u : Bool) → (tag == t) ≡ u → Rests tag f (Take place) (Value t w)
     go true e =
-        absurd (let unowed = ap f.due (sym (eqb_true tag t e)) ∙ none in let clash = sym may ∙ ap
-        (λ o. is_owed o w) unowed in cc)
+        absurd (cc (ap f.due (sym (eqb_true tag t e)) ∙ none))
     go false e = record { untaken = e; owed = ap (λ b. cond b None (f.due tag)) e ∙ none }
 rests tag f (Take place) answer none may other = record { untaken = refl; owed = none }
 
@@ -165,9 +163,7 @@ taken_none tag f event answer t =
 owed_taken : (tag : ℕ) (entries : List Entry) (f g : Flat) → flat_run f (events_of entries) (answers_of entries) ≡ Some g
     → g.due tag ≡ None → is_some (f.due tag) ≡ true → IsTaken tag entries
 owed_taken tag [] f g run none owed =
-    let same = ap (λ o. is_some (option_and_then (λ x. x.due tag) o)) run in
-    let never = ap is_some none in
-    absurd (let t = sym never ∙ sym same ∙ owed in cc)
+    absurd (let t = sym (ap is_some none) ∙ sym (ap (λ o. is_some (option_and_then (λ x. x.due tag) o)) run) ∙ owed in cc)
 owed_taken tag (Ended port ∷ rest) f g run none owed =
     behind tag (Ended port) rest refl (owed_taken tag rest f g run none owed)
 owed_taken tag (Step source event answer ∷ rest) f g run none owed =

@@ -182,8 +182,7 @@ module _ (z : Sizes) (brings : Brings) (s : Stand) where
   asked event o o' present d accepts (inl (full, none, absent)) may stands no_arrival is =
       subst (λ x. Recorded z brings s event (unless x s.cache d)) (sym full) (full_recorded event (may absent none))
   asked event o o' present d accepts (inr (same, not_full)) may stands no_arrival is =
-      let not_full' = ap full_cause (sym same) ∙ not_full in
-      let answer = unless_not_full o' s.cache d not_full' (ap is_full accepts) in
+      let answer = unless_not_full o' s.cache d (ap full_cause (sym same) ∙ not_full) (ap is_full accepts) in
       subst (Recorded z brings s event) (cc (is, same))
       (step_recorded event stands no_arrival (cc (is, answer)))
 

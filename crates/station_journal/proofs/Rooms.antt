@@ -30,7 +30,7 @@ filter_few p (x ∷ xs) = go (p x) (filter_few p xs)
 
 range_length : (a n : ℕ) → length (range_with_len a n) ≡ n
 range_length a zero = refl
-range_length a (suc n) = let r = range_length (a + 1) n in omega arith
+range_length a (suc n) = omega (arith, range_length (a + 1) n)
 
 pub ample-suffices : (z : Sizes) → Suffices z (ample z)
 ample-suffices z block = any_false _ 0 _ each
@@ -46,10 +46,9 @@ idle-suffices z banks takes n idle block = any_false _ 0 _ each
     each : (b : ℕ) → 0 ≤ b → b < 0 + z.banks
         → nat_lt (room_in z.bank_queue banks b) (length (filter (λ at. at % z.banks == b) (addresses z block))) ≡ false
     each b lo hi =
-        let there : b < length banks = omega arith in
         let none = ap length (idle b (omega arith)) in
         let room =
-        ap (λ t. cond t (z.bank_queue - length (bank_at banks b).queue) 0) (lt-ltb b (length banks) there) in
+        ap (λ t. cond t (z.bank_queue - length (bank_at banks b).queue) 0) (lt-ltb b (length banks) (omega arith)) in
         let few = spread_evenly _ b (first_of z block) _ _ (omega arith) takes in
         le-ltb _ (length (filter (λ at. at % z.banks == b) _)) (omega arith)
 

@@ -90,10 +90,8 @@ finish z m b [] h there e = grind (arith, idle-finished)
 finish z m b (first ∷ rest) h there e =
     let bank = served _ first rest in
     let is = get_or-set_same _ b bank no_bank there in
-    let still = subst (λ n. b < n) (sym (length-set m.banks b bank)) there in
-    let queue =
-    ap (λ x. x.queue) is ∙ served-queue _ first rest in
-    let done = finish z (turned m b first rest) b rest (turn_from z m b first rest h e) still queue in
+    let done = finish z (turned m b first rest) b rest (turn_from z m b first rest h e)
+    (subst (λ n. b < n) (sym (length-set m.banks b bank)) there) (ap (λ x. x.queue) is ∙ served-queue _ first rest) in
     (done.0, finish_then z m b first rest h there e done.0 done.1)
 
 -- ---- the first n banks
@@ -114,5 +112,5 @@ pub finish_all : (z : Sizes) (m : Machine) (count : ℕ) → FlatFrom z m → co
 finish_all z m zero h fits = grind arith
 finish_all z m (suc count) h fits =
     let some = finish_all z m count h (omega arith) in
-    let last = finish z some.0 count (bank_at some.0.banks count).queue some.1.from (let n = some.1.number in omega arith) refl in
+    let last = finish z some.0 count (bank_at some.0.banks count).queue some.1.from (omega arith) refl in
     (last.0, one_more z m count some.0 last.0 some.1 last.1)

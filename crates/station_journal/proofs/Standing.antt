@@ -90,11 +90,13 @@ sent_ok z s m event d h from run = (
       number = all.1.number ∙ all_sent-length _ d.sent ∙ h.number;
       bank = bank;
       few = λ b l.
-          let few = h.few b l in
-          let more =
-          length-append (answers_to (zeros_in z b) (s.sent b)) (answers_to (after (zeros_in z b) (s.sent b)) (commands_for b d.sent)) in
-          let whole = ap length (answers_to-append (zeros_in z b) (s.sent b) (commands_for b d.sent)) in
-          omega arith;
+          omega (
+            arith,
+            h.few b l,
+            length-append (answers_to (zeros_in z b) (s.sent b))
+                (answers_to (after (zeros_in z b) (s.sent b)) (commands_for b d.sent)),
+            ap length (answers_to-append (zeros_in z b) (s.sent b) (commands_for b d.sent)),
+          );
     };
     from = all.1.from;
     run = grind arith;

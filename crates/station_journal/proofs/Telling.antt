@@ -61,7 +61,6 @@ module _ (z : Sizes) (cache : Cache) (sent : ℕ → List Command) (popped : ℕ
       let told = answer_is ∙ ap (λ x. x.answer) is in
       let r = arrive_recorded z (come_word popped') s bank a here brings (sym told ∙ moves) in
       let after = after_entry z (come_word popped') s (Arrive bank 0) (is_full d.answer) in
-      let one : Walks z (come_word popped') s (Step source (Arrive bank 0) d.answer ∷ []) after = (r.fits, refl) in
       let before =
       walks_same z (come_word h.come) (come_word popped') entries (opening_stand z) s
       (come-more z h.come popped' s.sent (λ b l. begins b (cases_eq b bank))) h.walks in
@@ -71,7 +70,7 @@ module _ (z : Sizes) (cache : Cache) (sent : ℕ → List Command) (popped : ℕ
         walks =
             subst (λ x. Walks z (come_word popped') (opening_stand z) (entries ++ Step source (Arrive bank 0) x ∷ []) after) (sym told)
             (walks-append z (come_word popped') entries (Step source (Arrive bank 0) d.answer ∷ []) (opening_stand z) s after before
-            one);
+            ((r.fits, refl)));
         unit = r.cache ∙ ap (λ x. x.cache) (sym is) ∙ sym cache_is;
         commands = λ b l. r.sent b ∙ h.commands b l;
         words = λ b l. r.arrived b ∙ counts b l (cases_eq b bank);

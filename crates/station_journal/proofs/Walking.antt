@@ -12,7 +12,7 @@ use Rattle.memory_banks.specs.declared.BankAnswer.{BankAnswer}
 use Rattle.flat_model.specs.declared.Answer.{Answer}
 use Rattle.flat_model.specs.declared.Answer.TheVariants.{Refused}
 use Rattle.flat_model.specs.Words.{zero_word}
-use Rattle.flat_model.specs.Flat.{word_at, flat_step, flat_run}
+use Rattle.flat_model.specs.Flat.{word_at, flat_run}
 use Rattle.flat_model.specs.Flat.{opening as flat_opening}
 use Rattle.memory_banks.specs.Banks.{Bank, no_bank, all_pending}
 use Rattle.cache_unit.specs.declared.Sizes.{Sizes}
@@ -55,8 +55,8 @@ module _ (z : Sizes) (lawful : IsLawful z) (takes : TakesABlock z) where
         },
       )
   entry_ok s m h from event answer false e fits =
-      let made = event_ok z lawful takes s m h from event in
-      subst (λ a. (n : Machine) × Next z (moved_on s event (step z (true_word z) s event)) event a m n) (sym fits.1) made
+      subst (λ a. (n : Machine) × Next z (moved_on s event (step z (true_word z) s event)) event a m n) (sym fits.1)
+      (event_ok z lawful takes s m h from event)
 
   walk_ok : (entries : List Entry) (s e : Stand) (m : Machine) → Stands z s m → FlatFrom z m → Walks z (true_word z) s entries e
       → (n : Machine) × Led z m entries e n
@@ -178,8 +178,6 @@ walk_is_flat z entries e lawful takes true_of_banks =
         ap (λ t. cond (t && true) (true_word z bank (e.arrived bank) (e.sent bank)) None) (lt-ltb bank z.banks here) ∙ word in
         let answer =
         ap (λ o. (brought z e.cache o).answer) next ∙ arrive_answer z e.cache a StrayWord stray in
-        let run =
-        subst (λ x. flat_step (flat_of z last.0) (Arrive bank 0) x ≡ Some (flat_of z made.0)) answer made.1.run in
         cc
 
 pub journal_is_flat : (z : Sizes) (entries : List Entry) → JournalIsFlat z entries

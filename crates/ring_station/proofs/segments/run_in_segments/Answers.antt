@@ -1,9 +1,10 @@
 use Rattle.std.proofs.Common.{◌+◌, ◌<◌, ◌≤◌, refl, sym, ◌∙◌, subst, inl, inr, arith}
 use Rattle.std.specs.Prelude.{max}
 use Rattle.std.proofs.lemmas.Result.{err_from_is_err_and}
+use Rattle.ring_station.specs.Segments.{EachIsHeard}
 use Rattle.ring_station.proofs.Ending.{long_alike}
 use Rattle.ring_station.proofs.RunningOn.{come_nowhere, come_further, runs_to_the_end, stops_there, turns_to_the_end, turns_there}
-use Rattle.ring_station.proofs.RunningOn.{keeps_in_all}
+use Rattle.ring_station.proofs.RunningOn.{keeps_in_all, none_heard, both_heard}
 use Rattle.station_parts.specs.Ids.{port_id}
 use Rattle.ring_station.proofs.segments.run_in_segments.Goals as goal
 
@@ -17,34 +18,39 @@ loop-begin-init g c = record {
   more = inl refl;
   so_far =
       come_nowhere c.max-asks.result c.args.turns c.args.scripts.now c.args.station.now
-      (λ xs. g.K.Keeper.kept c.args.keeper.now xs c.args.keeper.now) (g.met.K.Keeper.kept_none c.args.keeper.now);
+      (λ xs. g.K.Keeper.kept c.args.keeper.now xs c.args.keeper.now × EachIsHeard (g.G.Gate.has_heard c.args.gate.now) xs)
+      (g.met.K.Keeper.kept_none c.args.keeper.now, none_heard (g.G.Gate.has_heard c.args.gate.now));
 }
 
 pub returns-in_err-run_pieces-clause-stops : goal.returns-in_err-run_pieces-clause-stops
 returns-in_err-run_pieces-clause-stops g c =
     let told = err_from_is_err_and c.from_residual.result c.from_residual.ensures.1 in
     let inv = c.loop-begin.invariant in
+    let heard = g.G.Gate.has_heard c.args.gate.now in
     let stop = c.in_err-run_pieces.ensures in
     rw told.1
     (stops_there c.max-asks.result c.args.turns c.args.scripts.now c.loop-begin.begin c.args.station.now c.loop-begin.station
     c.run_pieces.new.station
-    (λ xs. g.K.Keeper.kept c.args.keeper.now xs c.loop-begin.keeper)
-    (λ xs. g.K.Keeper.kept c.loop-begin.keeper xs c.run_pieces.new.keeper)
-    (λ xs. g.K.Keeper.kept c.args.keeper.now xs c.run_pieces.new.keeper)
-    (g.met.K.Keeper.kept_more c.args.keeper.now c.loop-begin.keeper c.run_pieces.new.keeper) inv.same_ports inv.so_far
+    (λ xs. g.K.Keeper.kept c.args.keeper.now xs c.loop-begin.keeper × EachIsHeard heard xs)
+    (λ xs. g.K.Keeper.kept c.loop-begin.keeper xs c.run_pieces.new.keeper × EachIsHeard heard xs)
+    (λ xs. g.K.Keeper.kept c.args.keeper.now xs c.run_pieces.new.keeper × EachIsHeard heard xs)
+    (both_heard heard g.K.Keeper.kept _ _ _ (g.met.K.Keeper.kept_more c.args.keeper.now c.loop-begin.keeper c.run_pieces.new.keeper))
+    inv.same_ports inv.so_far
     (max c.args.asks 1) c.in_err-run_pieces.field-0.0 told.0 c.max-asks.ensures told.2 stop.same_ports stop.stops)
 
 pub returns-then-longest-begin-clause-runs : goal.returns-then-longest-begin-clause-runs
 returns-then-longest-begin-clause-runs g c =
     let inv = c.loop-begin.invariant in
+    let heard = g.G.Gate.has_heard c.args.gate.now in
     let ran = c.in_ok-run_pieces.ensures in
     let some : 0 < c.max-asks.result = let size = c.max-asks.ensures in omega arith in
     let enough : c.longest_script-longest.result ≤ c.loop-begin.begin + c.max-asks.result = omega arith in
     runs_to_the_end c.max-asks.result c.args.turns c.args.scripts.now c.loop-begin.begin c.args.station.now c.loop-begin.station
-    c.run_pieces.new.station (λ xs. g.K.Keeper.kept c.args.keeper.now xs c.loop-begin.keeper)
-    (λ xs. g.K.Keeper.kept c.loop-begin.keeper xs c.run_pieces.new.keeper)
-    (λ xs. g.K.Keeper.kept c.args.keeper.now xs c.run_pieces.new.keeper)
-    (g.met.K.Keeper.kept_more c.args.keeper.now c.loop-begin.keeper c.run_pieces.new.keeper) inv.same_ports inv.so_far
+    c.run_pieces.new.station (λ xs. g.K.Keeper.kept c.args.keeper.now xs c.loop-begin.keeper × EachIsHeard heard xs)
+    (λ xs. g.K.Keeper.kept c.loop-begin.keeper xs c.run_pieces.new.keeper × EachIsHeard heard xs)
+    (λ xs. g.K.Keeper.kept c.args.keeper.now xs c.run_pieces.new.keeper × EachIsHeard heard xs)
+    (both_heard heard g.K.Keeper.kept _ _ _ (g.met.K.Keeper.kept_more c.args.keeper.now c.loop-begin.keeper c.run_pieces.new.keeper))
+    inv.same_ports inv.so_far
     (max c.args.asks 1) c.longest_script-longest.result
     c.max-asks.ensures c.longest_script-longest.ensures some (c.requires.scripts ∙ c.args.station.now.ports.ok.0) ran.same_ports inv.more
     enough ran.runs
@@ -52,6 +58,7 @@ returns-then-longest-begin-clause-runs g c =
 pub loop-begin-preserved : goal.loop-begin-preserved
 loop-begin-preserved g c =
     let inv = c.loop-begin.invariant in
+    let heard = g.G.Gate.has_heard c.args.gate.now in
     let ran = c.in_ok-run_pieces.ensures in
     let is = c.longest_script-longest.ensures in
     let old = c.loop-begin.station.ports in
@@ -65,10 +72,11 @@ loop-begin-preserved g c =
       more = inr (subst (λ n. c.loop-begin.begin + c.max-asks.result < n) is (omega arith));
       so_far =
           come_further c.max-asks.result c.args.turns c.args.scripts.now c.loop-begin.begin c.args.station.now c.loop-begin.station
-          c.run_pieces.new.station (λ xs. g.K.Keeper.kept c.args.keeper.now xs c.loop-begin.keeper)
-          (λ xs. g.K.Keeper.kept c.loop-begin.keeper xs c.run_pieces.new.keeper)
-          (λ xs. g.K.Keeper.kept c.args.keeper.now xs c.run_pieces.new.keeper)
-          (g.met.K.Keeper.kept_more c.args.keeper.now c.loop-begin.keeper c.run_pieces.new.keeper) inv.same_ports inv.so_far ran.runs
+          c.run_pieces.new.station (λ xs. g.K.Keeper.kept c.args.keeper.now xs c.loop-begin.keeper × EachIsHeard heard xs)
+          (λ xs. g.K.Keeper.kept c.loop-begin.keeper xs c.run_pieces.new.keeper × EachIsHeard heard xs)
+          (λ xs. g.K.Keeper.kept c.args.keeper.now xs c.run_pieces.new.keeper × EachIsHeard heard xs)
+          (both_heard heard g.K.Keeper.kept _ _ _ (g.met.K.Keeper.kept_more c.args.keeper.now c.loop-begin.keeper c.run_pieces.new.keeper))
+          inv.same_ports inv.so_far ran.runs
           ran.within;
     }
 
@@ -76,26 +84,30 @@ pub returns-in_err-run_pieces-clause-stops_within : goal.returns-in_err-run_piec
 returns-in_err-run_pieces-clause-stops_within g c =
     let told = err_from_is_err_and c.from_residual.result c.from_residual.ensures.1 in
     let inv = c.loop-begin.invariant in
+    let heard = g.G.Gate.has_heard c.args.gate.now in
     let stop = c.in_err-run_pieces.ensures in
     rw told.1
     (turns_there c.max-asks.result c.args.turns c.args.scripts.now c.loop-begin.begin c.args.station.now c.loop-begin.station
-    c.run_pieces.new.station (λ xs. g.K.Keeper.kept c.args.keeper.now xs c.loop-begin.keeper)
-    (λ xs. g.K.Keeper.kept c.loop-begin.keeper xs c.run_pieces.new.keeper)
-    (λ xs. g.K.Keeper.kept c.args.keeper.now xs c.run_pieces.new.keeper)
-    (g.met.K.Keeper.kept_more c.args.keeper.now c.loop-begin.keeper c.run_pieces.new.keeper) inv.same_ports inv.so_far
+    c.run_pieces.new.station (λ xs. g.K.Keeper.kept c.args.keeper.now xs c.loop-begin.keeper × EachIsHeard heard xs)
+    (λ xs. g.K.Keeper.kept c.loop-begin.keeper xs c.run_pieces.new.keeper × EachIsHeard heard xs)
+    (λ xs. g.K.Keeper.kept c.args.keeper.now xs c.run_pieces.new.keeper × EachIsHeard heard xs)
+    (both_heard heard g.K.Keeper.kept _ _ _ (g.met.K.Keeper.kept_more c.args.keeper.now c.loop-begin.keeper c.run_pieces.new.keeper))
+    inv.same_ports inv.so_far
     (max c.args.asks 1) c.in_err-run_pieces.field-0.0 told.0 c.max-asks.ensures told.2 stop.stops stop.within)
 
 pub returns-then-longest-begin-clause-each_within : goal.returns-then-longest-begin-clause-each_within
 returns-then-longest-begin-clause-each_within g c =
     let inv = c.loop-begin.invariant in
+    let heard = g.G.Gate.has_heard c.args.gate.now in
     let ran = c.in_ok-run_pieces.ensures in
     let some : 0 < c.max-asks.result = let size = c.max-asks.ensures in omega arith in
     let enough : c.longest_script-longest.result ≤ c.loop-begin.begin + c.max-asks.result = omega arith in
     turns_to_the_end c.max-asks.result c.args.turns c.args.scripts.now c.loop-begin.begin c.args.station.now c.loop-begin.station
-    c.run_pieces.new.station (λ xs. g.K.Keeper.kept c.args.keeper.now xs c.loop-begin.keeper)
-    (λ xs. g.K.Keeper.kept c.loop-begin.keeper xs c.run_pieces.new.keeper)
-    (λ xs. g.K.Keeper.kept c.args.keeper.now xs c.run_pieces.new.keeper)
-    (g.met.K.Keeper.kept_more c.args.keeper.now c.loop-begin.keeper c.run_pieces.new.keeper) inv.same_ports inv.so_far
+    c.run_pieces.new.station (λ xs. g.K.Keeper.kept c.args.keeper.now xs c.loop-begin.keeper × EachIsHeard heard xs)
+    (λ xs. g.K.Keeper.kept c.loop-begin.keeper xs c.run_pieces.new.keeper × EachIsHeard heard xs)
+    (λ xs. g.K.Keeper.kept c.args.keeper.now xs c.run_pieces.new.keeper × EachIsHeard heard xs)
+    (both_heard heard g.K.Keeper.kept _ _ _ (g.met.K.Keeper.kept_more c.args.keeper.now c.loop-begin.keeper c.run_pieces.new.keeper))
+    inv.same_ports inv.so_far
     (max c.args.asks 1) c.longest_script-longest.result
     c.max-asks.ensures c.longest_script-longest.ensures some inv.more enough ran.runs ran.within
 

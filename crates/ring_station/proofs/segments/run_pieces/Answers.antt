@@ -1,6 +1,6 @@
 use Rattle.std.proofs.Common.{◌∙◌, inr}
 use Rattle.std.proofs.lemmas.Result.{err_from_is_err_and}
-use Rattle.ring_station.proofs.RunningOn.{hands_out_next}
+use Rattle.ring_station.proofs.RunningOn.{hands_out_next, none_heard, one_heard}
 use Rattle.ring_station.proofs.segments.run_pieces.Goals as goal
 
 pub returns-in_err-keep-clause-stops : goal.returns-in_err-keep-clause-stops
@@ -12,14 +12,18 @@ returns-in_err-keep-clause-stops g c =
     hands_out_next c.args.begin c.args.asks c.args.scripts.now c.in_ok-pieces.pieces.items c.deref.result.now c.args.station.now
     c.run_and_renew.new.station c.in_ok-segment.segment c.deref.ensures.value c.in_ok-pieces.ensures
     (c.requires.scripts ∙ c.args.station.now.ports.ok.0) ran.lists ran.journal in
-    rw fault.1 (record { kept_is = c.in_err-keep.ensures.refused; handed_out = inr (c.in_ok-segment.segment, (handed_out, fault.2)) })
+    rw fault.1
+    (record {
+      kept_is = (c.in_err-keep.ensures.refused, none_heard (g.G.Gate.has_heard c.args.gate.now));
+      handed_out = inr (c.in_ok-segment.segment, (handed_out, fault.2));
+    })
 
 pub returns-clause-runs : goal.returns-clause-runs
 returns-clause-runs g c =
     let ran = c.in_ok-segment.ensures in
     record {
       segment = c.in_ok-segment.segment;
-      kept_is = c.in_ok-keep.ensures.kept;
+      kept_is = (c.in_ok-keep.ensures.kept, one_heard (g.G.Gate.has_heard c.args.gate.now) c.in_ok-segment.segment ran.heard);
       handed_out =
           hands_out_next c.args.begin c.args.asks c.args.scripts.now c.in_ok-pieces.pieces.items c.deref.result.now c.args.station.now
           c.run_and_renew.new.station c.in_ok-segment.segment c.deref.ensures.value c.in_ok-pieces.ensures

@@ -1,7 +1,7 @@
-use Rattle.std.proofs.Common.{◌≡◌, ◌+◌, length, sym, ap, ◌∙◌, arith}
+use Rattle.std.proofs.Common.{◌+◌, length, sym, ap, ◌∙◌, arith}
 use Rattle.round_driver.specs.Machines.{used_registers}
 use Rattle.round_driver.specs.Rounds.{start_of, rounds_until_over, whole_run}
-use Rattle.round_driver.specs.Tables.{counting, nothing, counted_all, with_rounds, total, table_of}
+use Rattle.round_driver.specs.Tables.{nothing, counted_all, with_rounds, total}
 use Rattle.round_driver.specs.Details.{counted_all as told_all, told_of, ends_of, outcomes_in, told_total, told_rounds, ends_total}
 use Rattle.round_driver.proofs.Runs.{run_begins, counts_begin, whole_over, over_early, spent_early, run_next}
 use Rattle.round_driver.proofs.Runs.{told_next as notes_next, counts_next}
@@ -15,13 +15,13 @@ pub loop-turn-init : goal.loop-turn-init
 loop-turn-init c =
     let s = c.args.machine.now in
     let fresh = c.in_ok-counter.ensures.nothing in
-    let none : total c.in_ok-counter.counter.table ≡ 0 = ap (λ c. total c.table) fresh in
-    let unwaited : c.in_ok-counter.counter.table.waited ≡ 0 = ap (λ c. c.table.waited) fresh in
-    let untold : told_total c.in_ok-told.told ≡ 0 = ap told_total c.in_ok-told.ensures ∙ nothing_is_told c.numbers_of-numbers.result in
-    let unheard : told_rounds c.in_ok-told.told ≡ 0 = ap told_rounds c.in_ok-told.ensures in
-    let unended : ends_total c.in_ok-ends.ends ≡ 0 = ap ends_total c.in_ok-ends.ensures ∙ nothing_has_ended c.numbers_of-numbers.result in
-    let time : c.new-schedule.result.round ≡ 0 = ap (λ p. p.round) c.new-schedule.ensures in
-    let next : c.new-schedule.result.next ≡ 0 = ap (λ p. p.next) c.new-schedule.ensures in
+    let none = ap (λ c. total c.table) fresh in
+    let unwaited = ap (λ c. c.table.waited) fresh in
+    let untold = ap told_total c.in_ok-told.ensures ∙ nothing_is_told c.numbers_of-numbers.result in
+    let unheard = ap told_rounds c.in_ok-told.ensures in
+    let unended = ap ends_total c.in_ok-ends.ensures ∙ nothing_has_ended c.numbers_of-numbers.result in
+    let time = ap (λ p. p.round) c.new-schedule.ensures in
+    let next = ap (λ p. p.next) c.new-schedule.ensures in
     let room = length c.args.requests.now in
     record {
       run = run_begins _ _ _ c.new-schedule.ensures;
@@ -30,7 +30,7 @@ loop-turn-init c =
       ends = ends_begin _ _ _ _ c.in_ok-ends.ensures;
       outcomes = recording_begins _ _ _ c.in_ok-outcomes.ensures;
       recorded = ap (λ x. x.ended) (recording_begins _ _ _ c.in_ok-outcomes.ensures)
-          ∙ all_recorded room (rounds_until_over 0 (start_of c.args.timing s c.args.requests.now)).told;
+          ∙ all_recorded room (rounds_until_over 0 _).told;
       sizes = λ i. s.sizes;
       time = omega (arith, time);
       next = omega (arith, next);
@@ -48,7 +48,7 @@ returns-then-is_over-clause-details c =
     let start = start_of c.args.timing s c.args.requests.now in
     let whole = whole_over _ _ _ c.loop-turn.invariant.run c.most_rounds-turn-end.ensures.value c.loop-turn-test.true c.is_over.ensures
     c.if-is_over.true in
-    let table : c.table_after-table.result ≡ table_of c.args.timing s c.args.requests.now = c.table_after-table.ensures
+    let table = c.table_after-table.ensures
     ∙ ap (λ x. with_rounds x (c.loop-turn.schedule.round + 1)) c.loop-turn.invariant.counts
     ∙ ap (λ r. with_rounds (counted_all nothing r.told) (r.schedule.round + 1)) whole in
     let told = c.loop-turn.invariant.told ∙ ap (told_of c.numbers_of-numbers.result) whole
@@ -57,7 +57,7 @@ returns-then-is_over-clause-details c =
     let ends = c.loop-turn.invariant.ends ∙ ap (λ k. ends_of k c.numbers_of-numbers.result start) time
     ∙ ap (λ z. ends_of (whole_run c.args.timing s c.args.requests.now).schedule.round z start) c.numbers_of-numbers.ensures in
     let in_use = c.used_registers.ensures ∙ ap (λ r. used_registers r.state) whole in
-    let outcomes = c.finish.ensures ∙ c.loop-turn.invariant.recorded ∙ ap (outcomes_in (length c.args.requests.now)) whole in
+    let outcomes = c.finish.ensures ∙ c.loop-turn.invariant.recorded ∙ ap (outcomes_in _) whole in
     c.details_from.ensures ∙ details_alike table told ends in_use outcomes
 
 pub returns-then-is_over-clause-machine : goal.returns-then-is_over-clause-machine
@@ -81,7 +81,7 @@ returns-clause-early c =
 
 pub loop-turn-preserved : goal.loop-turn-preserved
 loop-turn-preserved c =
-    let start = start_of c.args.timing c.args.machine.now c.args.requests.now in
+    let start = start_of _ _ c.args.requests.now in
     let here = c.loop-turn.invariant.run in
     let going = sym c.is_over.ensures ∙ c.if-is_over.false in
     let made = c.round-left.ensures.run in
@@ -96,13 +96,13 @@ loop-turn-preserved c =
     record {
       run = run;
       counts = counts_next _ _ here made going c.loop-turn.invariant.counts
-          (c.count_all.ensures.counts ∙ ap (counted_all (counting c.loop-turn.counter)) c.as_slice.ensures.value);
+          (c.count_all.ensures.counts ∙ ap (counted_all _) c.as_slice.ensures.value);
       told = told;
       ends = ends_next _ _ _ c.loop-turn.invariant.ends c.count.ensures.value
           (c.used_registers-in-loop-turn.ensures ∙ ap (λ r. used_registers r.state) run) told;
       outcomes = outcomes;
       recorded = ap (λ x. x.ended) outcomes
-          ∙ all_recorded (length c.args.requests.now) (rounds_until_over (c.loop-turn._turn + 1) start).told;
+          ∙ all_recorded _ (rounds_until_over _ start).told;
       sizes = grind arith;
       time = grind arith;
       next = grind arith;
@@ -116,8 +116,8 @@ loop-turn-preserved c =
 
 pub returns-then-is_over-clause-over : goal.returns-then-is_over-clause-over
 returns-then-is_over-clause-over c =
-    requests_end c.args.timing c.args.machine.now c.args.requests.now c.keeps_whole.ensures
+    requests_end _ _ _ c.keeps_whole.ensures
 
 pub returns-clause-over : goal.returns-clause-over
 returns-clause-over c =
-    requests_end c.args.timing c.args.machine.now c.args.requests.now c.keeps_whole.ensures
+    requests_end _ _ _ c.keeps_whole.ensures

@@ -7,17 +7,7 @@ use Rattle.round_driver.proofs.Ends.{requests_end}
 use Rattle.round_driver.proofs.driving.drive_with.Goals as goal
 
 pub loop-turn-init : goal.loop-turn-init
-loop-turn-init g c =
-    let s = c.args.machine.now in
-    let time : c.new-schedule.result.round ≡ 0 = ap (λ p. p.round) c.new-schedule.ensures in
-    let next : c.new-schedule.result.next ≡ 0 = ap (λ p. p.next) c.new-schedule.ensures in
-    record {
-      run = run_begins _ _ _ c.new-schedule.ensures;
-      written = text_begins _ _ _;
-      sizes = λ i. s.sizes;
-      time = omega (arith, time);
-      next = omega (arith, next);
-    }
+loop-turn-init g c = grind (arith, run_begins, text_begins)
 
 pub returns-then-is_over-clause-ok : goal.returns-then-is_over-clause-ok
 returns-then-is_over-clause-ok g c =
@@ -50,9 +40,8 @@ returns-in-Err-clause-fault g c =
 
 pub returns-in_err-text-clause-fault : goal.returns-in_err-text-clause-fault
 returns-in_err-text-clause-fault g c =
-    let here = c.loop-turn.invariant.run in
-    let going = sym c.is_over.ensures ∙ c.if-is_over.false in
-    lines_lack_memory _ _ here c.round-left.ensures.run going _ _ c.loop-turn.invariant.written c.from_residual.ensures.1
+    lines_lack_memory _ _ c.loop-turn.invariant.run c.round-left.ensures.run (sym c.is_over.ensures ∙ c.if-is_over.false) _ _
+    c.loop-turn.invariant.written c.from_residual.ensures.1
 
 pub returns-then-is_over-clause-early : goal.returns-then-is_over-clause-early
 returns-then-is_over-clause-early g c =
@@ -67,7 +56,7 @@ loop-turn-preserved g c =
     let here = c.loop-turn.invariant.run in
     let going = sym c.is_over.ensures ∙ c.if-is_over.false in
     let made = c.round-left.ensures.run in
-    let bytes : c.as_bytes.result.now ≡ run_text c.round-left.new.notes.items = c.as_bytes.ensures.value ∙ c.in_ok-text.ensures
+    let bytes = c.as_bytes.ensures.value ∙ c.in_ok-text.ensures
     ∙ ap run_text c.as_slice.ensures.value in
     let text = subst (λ t. Moves g.W.Sink.took c.loop-turn.writer t c.write_whole.new.writer) bytes c.in-Ok.ensures.ok in
     record {
@@ -80,8 +69,8 @@ loop-turn-preserved g c =
 
 pub returns-then-is_over-clause-over : goal.returns-then-is_over-clause-over
 returns-then-is_over-clause-over g c =
-    requests_end c.args.timing c.args.machine.now c.args.requests.now c.keeps_whole.ensures
+    requests_end _ _ _ c.keeps_whole.ensures
 
 pub returns-clause-over : goal.returns-clause-over
 returns-clause-over g c =
-    requests_end c.args.timing c.args.machine.now c.args.requests.now c.keeps_whole.ensures
+    requests_end _ _ _ c.keeps_whole.ensures

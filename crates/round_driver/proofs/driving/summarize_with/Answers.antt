@@ -1,27 +1,11 @@
-use Rattle.std.proofs.Common.{◌≡◌, ◌+◌, sym, ap, ◌∙◌, arith}
-use Rattle.round_driver.specs.Tables.{counting, nothing, counted_all, with_rounds, total}
+use Rattle.std.proofs.Common.{◌+◌, sym, ap, ◌∙◌, arith}
+use Rattle.round_driver.specs.Tables.{nothing, counted_all, with_rounds, total}
 use Rattle.round_driver.proofs.Runs.{run_begins, counts_begin, whole_over, over_early, run_next, counts_next}
 use Rattle.round_driver.proofs.Ends.{requests_end}
 use Rattle.round_driver.proofs.driving.summarize_with.Goals as goal
 
 pub loop-turn-init : goal.loop-turn-init
-loop-turn-init c =
-    let s = c.args.machine.now in
-    let fresh = c.in_ok-counter.ensures.nothing in
-    let none : total c.in_ok-counter.counter.table ≡ 0 = ap (λ c. total c.table) fresh in
-    let unwaited : c.in_ok-counter.counter.table.waited ≡ 0 = ap (λ c. c.table.waited) fresh in
-    let time : c.new-schedule.result.round ≡ 0 = ap (λ p. p.round) c.new-schedule.ensures in
-    let next : c.new-schedule.result.next ≡ 0 = ap (λ p. p.next) c.new-schedule.ensures in
-    record {
-      run = run_begins _ _ _ c.new-schedule.ensures;
-      counts = counts_begin _ _ _ fresh;
-      sizes = λ i. s.sizes;
-      time = omega (arith, time);
-      next = omega (arith, next);
-      total = omega (arith, none);
-      waited = omega (arith, unwaited);
-      tags = grind arith;
-    }
+loop-turn-init c = grind (arith, c.in_ok-counter.ensures.nothing, run_begins, counts_begin)
 
 pub returns-then-is_over-clause-table : goal.returns-then-is_over-clause-table
 returns-then-is_over-clause-table c =
@@ -52,7 +36,7 @@ loop-turn-preserved c =
     record {
       run = run_next _ _ here made going;
       counts = counts_next _ _ here made going c.loop-turn.invariant.counts
-          (c.count_all.ensures.counts ∙ ap (counted_all (counting c.loop-turn.counter)) c.as_slice.ensures.value);
+          (c.count_all.ensures.counts ∙ ap (counted_all _) c.as_slice.ensures.value);
       sizes = grind arith;
       time = grind arith;
       next = grind arith;
@@ -63,8 +47,8 @@ loop-turn-preserved c =
 
 pub returns-then-is_over-clause-over : goal.returns-then-is_over-clause-over
 returns-then-is_over-clause-over c =
-    requests_end c.args.timing c.args.machine.now c.args.requests.now c.keeps_whole.ensures
+    requests_end _ _ _ c.keeps_whole.ensures
 
 pub returns-clause-over : goal.returns-clause-over
 returns-clause-over c =
-    requests_end c.args.timing c.args.machine.now c.args.requests.now c.keeps_whole.ensures
+    requests_end _ _ _ c.keeps_whole.ensures

@@ -8,10 +8,10 @@ use Rattle.round_driver.proofs.schedule.Schedule.new.Goals as goal
 -- lists with nothing in them, so many of them
 none_begun : (n : ℕ) (begun : List (List ℕ)) → AllOfLen (λ (l : List ℕ). l ≡ []) begun n → begun ≡ replicate n []
 none_begun n begun all =
-    ext_get_or [] begun (replicate n []) (all.long ∙ sym (length-replicate n []))
+    ext_get_or [] begun _ (all.long ∙ sym (length-replicate n []))
     (λ i below. let here : i < n = rw (sym all.long) below in all.at i [] here ∙ sym (get_or-replicate n i [] [] here))
 
 pub returns : goal.returns
 returns c =
-    let from : List (List ℕ) → Schedule = λ begun. record { timing = c.args.timing; round = 0; begun = begun; next = 0 } in
-    ap from (none_begun MAX_BANKS c.default.result c.default.ensures)
+    let from : List _ → Schedule = λ begun. record { timing = c.args.timing; round = 0; begun = begun; next = 0 } in
+    ap from (none_begun MAX_BANKS _ c.default.ensures)
