@@ -1,11 +1,9 @@
 -- What an ask makes of the unit, and what its port is told.
-use Rattle.std.proofs.Common.{◌≡◌, ◌≢◌, ℕ, ◌+◌, ◌*◌, List, [], ◌∷◌, ◌++◌, Option, None, refl, sym, ap, ◌∙◌, subst, arith}
+use Rattle.std.proofs.Common.{◌≡◌, ◌≢◌, ℕ, ◌+◌, List, [], ◌∷◌, ◌++◌, Option, refl, arith}
 use Rattle.flat_model.specs.declared.Event.{Event}
 use Rattle.flat_model.specs.declared.Answer.{Answer}
-use Rattle.flat_model.specs.declared.Answer.TheVariants as answers
 use Rattle.memory_banks.specs.declared.Command.{Command}
 use Rattle.memory_banks.specs.declared.BankAnswer.{BankAnswer}
-use Rattle.memory_banks.specs.Banks.{commands_for}
 use Rattle.cache_unit.specs.declared.Request.TheVariants as requests
 use Rattle.cache_unit.specs.declared.Sizes.{Sizes}
 use Rattle.cache_unit.specs.State.{Cache, UnitState}
@@ -17,20 +15,19 @@ use Rattle.station_journal.specs.declared.journal.SideFault.{SideFault}
 use Rattle.station_journal.specs.declared.asks.Ask.{Ask}
 use Rattle.station_journal.specs.declared.asks.Ask.TheVariants.{Load, Store, Prefetch, Evict, Done}
 use Rattle.station_journal.specs.declared.asks.Told.{Told}
-use Rattle.station_journal.specs.Journal.{Stand, Brings, come_word}
+use Rattle.station_journal.specs.Journal.{Stand, Brings}
 use Rattle.station_parts.specs.Asking.{event_for, asked_step}
 use Rattle.station_journal.specs.Parts.{verdict, IsVerdict, asks_of, told_of}
 use Rattle.station_parts.specs.Rows.{only}
 use Rattle.station_journal.specs.Side.{SideTells}
 use Rattle.station_journal.proofs.Recording.{Recorded, request_recorded, evict_recorded}
-use Rattle.station_journal.proofs.Sides.{side_step}
 use Rattle.station_journal.proofs.Telling.{tells_ended}
 
 -- ---- the unit
 
 pub asked_recorded : (z : Sizes) (brings : Brings) (s : Stand) (room : ℕ → ℕ) (port : ℕ) (ask : Ask) → ask ≢ Done
     → Recorded z brings s (event_for port ask) (asked_step z room port s.cache ask)
-asked_recorded z brings s room port (Load tag at) n = request_recorded z brings s room (requests.Load (port * 256 + tag) at)
+asked_recorded z brings s room port (Load tag at) n = request_recorded z brings s room (requests.Load _ at)
 asked_recorded z brings s room port (Store at word lanes) n = request_recorded z brings s room (requests.Store at word lanes)
 asked_recorded z brings s room port (Prefetch at) n = request_recorded z brings s room (requests.Prefetch at)
 asked_recorded z brings s room port (Evict block) n = evict_recorded z brings s block
@@ -39,24 +36,7 @@ asked_recorded z brings s room port Done n = absurd (n refl)
 pub asked_verdict : (z : Sizes) (room : ℕ → ℕ) (port : ℕ) (c : Cache) (ask : Ask) → ask ≢ Done
     → IsVerdict (asked_step z room port c ask).answer
 unfolding load_step store_step prefetch_step evict_step
-asked_verdict z room port c (Load tag at) n = grind arith
-asked_verdict z room port c (Store at word lanes) n = grind arith
-asked_verdict z room port c (Prefetch at) n = grind arith
-asked_verdict z room port c (Evict block) n = grind arith
-asked_verdict z room port c Done n = absurd (n refl)
-
-pub side_asked : (u v : UnitState) (sent between sent' : ℕ → List Command) (popped : ℕ → List BankAnswer) (fault : Option SideFault)
-    (entries entries' : List Entry) (room : ℕ → ℕ) (port : ℕ) (ask : Ask) (event : Event) (answer : Answer) → ask ≢ Done → fault ≡ None
-    → event ≡ event_for port ask → SideTells u.sizes u.cache sent popped fault entries
-    → v ≡ record u { cache = (asked_step u.sizes room port u.cache ask).cache } → answer ≡ (asked_step u.sizes room port u.cache ask).answer
-    → ((b : ℕ) → between b ≡ sent b) → ((b : ℕ) → sent' b ≡ between b ++ commands_for b (asked_step u.sizes room port u.cache ask).sent)
-    → entries' ≡ entries ++ Step (sources.Ask port) event answer ∷ [] → SideTells v.sizes v.cache sent' popped fault entries'
-side_asked u v sent between sent' popped fault entries entries' room port ask event answer n sound event_is h v_is answer_is looked sent_is
-    entries_is =
-    side_step u v sent sent' popped fault entries entries' (sources.Ask port) event (λ c. asked_step u.sizes room port c ask) answer sound h
-    (λ come s. subst (λ e. Recorded u.sizes (come_word come) s e (asked_step u.sizes room port s.cache ask)) (sym event_is)
-    (asked_recorded u.sizes (come_word come) s room port ask n)) v_is answer_is
-    (λ b l. sent_is b ∙ ap (λ xs. xs ++ commands_for b (asked_step u.sizes room port u.cache ask).sent) (looked b)) entries_is
+asked_verdict z room port c ask n = grind arith
 
 pub side_ended : (u : UnitState) (sent : ℕ → List Command) (popped : ℕ → List BankAnswer) (fault : Option SideFault)
     (entries entries' : List Entry) (port : ℕ) → entries' ≡ entries ++ Ended port ∷ [] → SideTells u.sizes u.cache sent popped fault entries
@@ -74,6 +54,3 @@ only_asked port ask event answer n event_is = grind arith
 pub only_told : (port : ℕ) (event : Event) (answer : Answer) (told : Told) → verdict answer ≡ told ∷ [] → (p : ℕ)
     → only port (told ∷ []) p ≡ told_of p (Step (sources.Ask port) event answer ∷ [])
 only_told port event answer told is p = grind arith
-
-pub only_ended : (port p : ℕ) → only port (Done ∷ []) p ≡ asks_of p (Ended port ∷ [])
-only_ended port p = grind arith

@@ -1,5 +1,5 @@
 -- What the unit shows of a register.
-use Rattle.std.proofs.Common.{◌≡◌, ℕ, zero, suc, List, [], ◌∷◌, Option, Some, None, slice_get, slice_index_or, refl, sym, ap}
+use Rattle.std.proofs.Common.{◌≡◌, ℕ, zero, suc, List, [], ◌∷◌, Option, Some, None, slice_get, slice_index_or, refl}
 use Rattle.std.specs.Option.{option_map}
 use Rattle.miss_registers.specs.declared.RegisterView.{RegisterView}
 use Rattle.cache_unit.specs.State.{Cache, Register, free_register}
@@ -20,5 +20,5 @@ none_is_free c (r ∷ rs) (suc slot) e = none_is_free c rs slot e
 pub shown_valid : (c : Cache) (rs : List Register) (slot : ℕ) (v : RegisterView) → shown_at c rs slot ≡ Some v
     → v.valid ≡ (slice_index_or rs slot free_register).valid
 shown_valid c [] slot v e = cc
-shown_valid c (r ∷ rs) zero v e = let s : shown_register c r ≡ v = cc in sym (ap (λ x. x.valid) s)
+shown_valid c (r ∷ rs) zero v e = cc
 shown_valid c (r ∷ rs) (suc slot) v e = shown_valid c rs slot v e

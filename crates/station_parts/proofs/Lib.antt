@@ -1,5 +1,4 @@
 pub mod Rows
-pub mod Moves
 pub mod Making
 pub mod Looking
 pub mod Rowing

@@ -1,12 +1,7 @@
 -- One more entry, as the ports see it.
-use Rattle.std.proofs.Common.{◌≡◌, ℕ, ◌+◌, ◌≤◌, Bool, true, ◌&&◌, List, [], ◌∷◌, ◌++◌, length, map, refl, sym, ap, ap₂, ◌∙◌}
+use Rattle.std.proofs.Common.{◌≡◌, ℕ, ◌+◌, ◌≤◌, true, ◌&&◌, List, [], ◌∷◌, ◌++◌, length, map, refl, sym, ap}
 use Rattle.std.proofs.Common.{arith, append-nil, append_assoc, length-append}
-use Rattle.std.specs.List.{list_all}
 use Rattle.std.proofs.lemmas.List.Folds.{list_all-append}
-use Rattle.std.specs.declared.alloc.Global.{Global}
-use Rattle.rtrb.specs.declared.consumer.Consumer.{Consumer}
-use Rattle.rtrb.specs.declared.producer.Producer.{Producer}
-use Rattle.rtrb.specs.declared.AnyItems.{AnyItems}
 use Rattle.flat_model.specs.declared.Event.{Event}
 use Rattle.flat_model.specs.declared.Answer.{Answer}
 use Rattle.station_journal.specs.declared.journal.Source.{Source}
@@ -14,12 +9,12 @@ use Rattle.station_journal.specs.declared.journal.Entry.{Entry}
 use Rattle.station_journal.specs.declared.journal.Entry.TheVariants.{Step}
 use Rattle.station_journal.specs.declared.asks.Ask.{Ask}
 use Rattle.station_journal.specs.declared.asks.Told.{Told}
-use Rattle.station_journal.specs.Parts.{asked_by, told_by, asks_of, told_of, is_event_of, is_entry_of, IsOfPorts}
+use Rattle.station_journal.specs.Parts.{asked_by, told_by, asks_of, told_of, is_event_of, IsOfPorts}
 use Rattle.station_journal.proofs.Parting.{asks_of-append, told_of-append}
 use Rattle.station_parts.specs.Ports.{PortsTell}
 use Rattle.station_parts.specs.Rings.{pops_from, pushes_to}
 use Rattle.station_parts.specs.Rows.{received_at, pushed_at}
-use Rattle.station_parts.proofs.Rows.{same_length}
+use Rattle.station_parts.proofs.Rows.{Popper, Pusher, same_length}
 
 -- the entries that are noted stand behind those that were handed out
 pub behind : (before held held' one : List Entry) → held' ≡ held ++ one → before ++ held' ≡ (before ++ held) ++ one
@@ -31,7 +26,7 @@ pub within_all : (before held : List Entry) (handed limit : ℕ) → handed ≡ 
 within_all before held handed limit is within = grind (arith, length-append)
 
 -- entries that tell what was popped of the ports' asks, and what the ports were told
-pub ports_step : (asks asks' : List (Consumer Ask Global AnyItems)) (tellings tellings' : List (Producer Told Global AnyItems))
+pub ports_step : (asks asks' : List (Popper Ask)) (tellings tellings' : List (Pusher Told))
     (entries entries' one : List Entry)
     → map pops_from asks' ≡ map pops_from asks
     → map pushes_to tellings' ≡ map pushes_to tellings
@@ -42,24 +37,15 @@ pub ports_step : (asks asks' : List (Consumer Ask Global AnyItems)) (tellings te
     → entries' ≡ entries ++ one
     → PortsTell asks' tellings' entries'
 ports_step asks asks' tellings tellings' entries entries' one rings rings' h sourced popped pushed is =
-    let number = same_length pops_from asks asks' rings in
-    let all = list_all-append _ entries one ∙ ap₂ (λ a b. a && b) h.sources sourced in
     record {
-      number = same_length pushes_to tellings tellings' rings' ∙ h.number ∙ sym number;
-      asked = λ p l.
-          popped p ∙ ap (λ xs. xs ++ asks_of p one) (h.asked p (rw number at l)) ∙ sym (asks_of-append p entries one)
-          ∙ ap (asks_of p) (sym is);
-      told = λ p l.
-          pushed p ∙ ap (λ xs. xs ++ told_of p one) (h.told p (rw number at l)) ∙ sym (told_of-append p entries one)
-          ∙ ap (told_of p) (sym is);
-      sources = grind arith;
+      number = grind (arith, same_length);
+      asked = λ p l. grind (arith, same_length, h.asked p, popped p, asks_of-append);
+      told = λ p l. grind (arith, same_length, h.told p, pushed p, told_of-append);
+      sources = grind (arith, same_length, list_all-append);
     }
-  where
-    passes : ℕ → List Entry → Bool
-    passes n l = list_all (is_entry_of n) l
 
 -- nothing but looks
-pub ports_looked : (asks asks' : List (Consumer Ask Global AnyItems)) (tellings tellings' : List (Producer Told Global AnyItems))
+pub ports_looked : (asks asks' : List (Popper Ask)) (tellings tellings' : List (Pusher Told))
     (entries : List Entry)
     → map pops_from asks' ≡ map pops_from asks
     → map pushes_to tellings' ≡ map pushes_to tellings
@@ -68,12 +54,10 @@ pub ports_looked : (asks asks' : List (Consumer Ask Global AnyItems)) (tellings 
     → ((p : ℕ) → pushed_at tellings' p ≡ pushed_at tellings p)
     → PortsTell asks' tellings' entries
 ports_looked asks asks' tellings tellings' entries rings rings' h popped pushed =
-    let asked = λ (p : ℕ). popped p ∙ sym (append-nil (received_at asks p)) in
-    let told = λ (p : ℕ). pushed p ∙ sym (append-nil (pushed_at tellings p)) in
-    ports_step asks asks' tellings tellings' entries entries [] rings rings' h refl asked told (sym (append-nil entries))
+    grind (arith, same_length, popped, pushed, h.asked, h.told)
 
 -- an entry of which no port hears
-pub ports_silent : (asks : List (Consumer Ask Global AnyItems)) (tellings : List (Producer Told Global AnyItems))
+pub ports_silent : (asks : List (Popper Ask)) (tellings : List (Pusher Told))
     (entries entries' : List Entry) (source : Source) (event : Event) (answer : Answer)
     → PortsTell asks tellings entries
     → is_event_of (length asks) source event ≡ true
@@ -82,7 +66,6 @@ pub ports_silent : (asks : List (Consumer Ask Global AnyItems)) (tellings : List
     → entries' ≡ entries ++ Step source event answer ∷ []
     → PortsTell asks tellings entries'
 ports_silent asks tellings entries entries' source event answer h sourced unasked untold is =
-    let asked = λ (p : ℕ). sym (cc (unasked p, append-nil _)) in
-    let told = λ (p : ℕ). sym (cc (untold p, append-nil _)) in
-    ports_step asks asks tellings tellings entries entries' (Step source event answer ∷ []) refl refl h (ap (λ t. t && true) sourced) asked
-    told is
+    ports_step asks asks tellings tellings entries entries' (Step source event answer ∷ []) refl refl h (ap (λ t. t && true) sourced)
+    (λ (p : ℕ). sym (cc (unasked p, append-nil _)))
+    (λ (p : ℕ). sym (cc (untold p, append-nil _))) is

@@ -1,9 +1,10 @@
--- A word that the cache side has popped: whether it is a fault.
-use Rattle.std.proofs.Common.{◌≡◌, ◌≢◌, ℕ, ◌%◌, ◌^◌, ◌<◌, ◌≤◌, nat_lt, true, false, List, [], ◌∷◌, ◌++◌, length, Option, Some, None}
-use Rattle.std.proofs.Common.{ap, ◌∙◌, arith, length-append}
+-- A word that the cache side has popped: whether it is a fault, and what a step makes of one.
+use Rattle.std.proofs.Common.{◌≡◌, ◌≢◌, ℕ, ◌%◌, ◌^◌, ◌+◌, ◌<◌, ◌≤◌, nat_lt, true, false, List, [], ◌∷◌, ◌++◌, length, Some, None}
+use Rattle.std.proofs.Common.{refl, append-nil, ap, ◌∙◌, subst, arith, length-append}
 use Rattle.std.specs.List.{count_by}
+use Rattle.std.proofs.Props.{props}
+use Rattle.std.proofs.Math.Logic.{∥∥₁_map, ∥∥₁_elim}
 use Rattle.std.proofs.lemmas.Bool.{le-ltb}
-use Rattle.flat_model.specs.declared.Cause.{Cause}
 use Rattle.flat_model.specs.declared.Cause.TheVariants.{StrayWord}
 use Rattle.flat_model.specs.declared.Answer.TheVariants.{Moved}
 use Rattle.flat_model.specs.declared.Word.{Word}
@@ -11,56 +12,120 @@ use Rattle.memory_banks.specs.declared.Command.{Command}
 use Rattle.memory_banks.specs.declared.BankAnswer.{BankAnswer}
 use Rattle.memory_banks.specs.Memory.{is_read}
 use Rattle.cache_unit.specs.declared.Sizes.{Sizes}
-use Rattle.cache_unit.specs.State.{Cache}
-use Rattle.cache_unit.specs.Sound.{InRange}
+use Rattle.cache_unit.specs.State.{Cache, UnitState}
 use Rattle.cache_unit.specs.Causes.{arrive_cause}
 use Rattle.cache_unit.specs.Steps.{arrive_step}
-use Rattle.station_journal.specs.declared.journal.Entry.{Entry}
+use Rattle.station_journal.specs.declared.journal.Source.TheVariants as sources
 use Rattle.station_journal.specs.declared.journal.SideFault.{SideFault}
 use Rattle.station_journal.specs.declared.journal.SideFault.TheVariants.{Uncalled, Stray}
 use Rattle.station_journal.specs.Side.{SideTells}
-use Rattle.station_journal.proofs.Bringing.{uncalled}
-use Rattle.station_parts.specs.SideState.{SideState}
-use Rattle.station_parts.specs.SideSteps.{stray_fault, word_fault}
-
--- the count of words is exact: it tells whether the word goes beyond the reads that were sent
-module _ (z : Sizes) (in_range : InRange z) (cache : Cache) (sent : ℕ → List Command) (popped popped' : ℕ → List BankAnswer)
-    (entries : List Entry) (bank : ℕ) (a : BankAnswer) (here : bank < z.banks) (more : popped' bank ≡ popped bank ++ a ∷ [])
-    (others : (b : ℕ) → b ≢ bank → popped' b ≡ popped b) (taken limit : ℕ) (counted : taken ≡ length (popped bank))
-    (within : length entries ≤ limit) (small : limit ≤ 2 ^ 56) (fault : Option SideFault) (sound : fault ≡ None)
-    (faulted : SideTells z cache sent popped fault entries) where
-  pub counts_called : nat_lt taken (count_by is_read (sent bank) % 2 ^ 64) ≡ true
-      → nat_lt (length (popped bank)) (count_by is_read (sent bank)) ≡ true
-  counts_called e = grind arith
-
-  pub counts_uncalled : nat_lt taken (count_by is_read (sent bank) % 2 ^ 64) ≡ false
-      → nat_lt (length (popped bank)) (count_by is_read (sent bank)) ≡ false
-  counts_uncalled e =
-      let t = uncalled z in_range cache sent popped popped' entries bank a here more others taken limit counted within small fault sound
-      faulted e in
-      let lost = ap length t.all.1.is_lost.lost ∙ length-append _ (t.all.1.word ∷ []) in
-      let one = ap length more ∙ length-append (popped bank) (a ∷ []) in
-      let beyond = t.all.1.beyond in
-      le-ltb (length (popped bank)) (count_by is_read (sent bank)) (omega arith)
-
-module _ (s : SideState) (bank : ℕ) (a : BankAnswer) where
-  pub fault-uncalled : nat_lt (length (s.words bank)) (count_by is_read (s.commands bank)) ≡ false
-      → word_fault s bank a ≡ Some (Uncalled bank)
-  fault-uncalled e = grind arith
-
-  of_cause : nat_lt (length (s.words bank)) (count_by is_read (s.commands bank)) ≡ true → (cause : Option Cause)
-      → arrive_cause s.sizes s.cache a.slot a.i ≡ cause → word_fault s bank a ≡ stray_fault bank a cause
-  of_cause e cause is = grind arith
-
-  pub fault-stray : nat_lt (length (s.words bank)) (count_by is_read (s.commands bank)) ≡ true
-      → arrive_cause s.sizes s.cache a.slot a.i ≡ Some StrayWord → word_fault s bank a ≡ Some (Stray bank a.slot a.i)
-  fault-stray e is = of_cause e _ is
-
-  pub fault-none : nat_lt (length (s.words bank)) (count_by is_read (s.commands bank)) ≡ true
-      → (arrive_step s.sizes s.cache a.slot a.i a.word).answer ≡ Moved → word_fault s bank a ≡ None
-  unfolding arrive_step
-  fault-none e moves = grind arith
+use Rattle.station_journal.proofs.Bringing.{IsRefused, refused, uncalled, stray}
+use Rattle.station_parts.specs.declared.parts.CacheSide.{CacheSide}
+use Rattle.station_parts.specs.declared.parts.Stepped.TheVariants.{Faulted}
+use Rattle.station_parts.specs.Rows.{sent_at, popped_at, known_at, taken_at, only, PopsAt}
+use Rattle.station_parts.specs.Words.{journal_of}
+use Rattle.station_parts.specs.SideState.{Known, KnowsMore, state_of}
+use Rattle.station_parts.specs.SideSteps.{arrives, has_work, work_of, word_fault, StepMakes}
+use Rattle.station_parts.proofs.SideMakes.{acts, there_popped}
+use Rattle.station_parts.proofs.Porting.{within_all}
+use Rattle.station_parts.proofs.Rows.{only-here, only-there, Popper}
 
 pub arrive_silent : (z : Sizes) (c : Cache) (slot i : ℕ) (word : Word) → (arrive_step z c slot i word).sent ≡ []
 unfolding arrive_step
 arrive_silent z c slot i word = grind arith
+
+module _ {W B R D : ℕ} (s : CacheSide W B R D) (news : List (Popper BankAnswer)) (bank : ℕ) (a : BankAnswer)
+    (pops : PopsAt s.answers.items news bank (a ∷ [])) where
+  abbrev sent : ℕ → List Command
+  sent = sent_at s.row.lines.items
+
+  abbrev popped : ℕ → List BankAnswer
+  popped = popped_at s.answers.items
+
+  pub in_banks : bank < s.unit.sizes.banks
+  in_banks = subst (λ n. bank < n) s.ends (there_popped s.answers.items news bank a pops)
+
+  pub more : popped_at news bank ≡ popped bank ++ a ∷ []
+  more = grind (arith, pops.popped bank)
+
+  pub others : (b : ℕ) → b ≢ bank → popped_at news b ≡ popped b
+  others b ne = grind (arith, pops.popped b, only-there, append-nil)
+
+  -- what is known once the bank's end has looked
+  abbrev pub looked : Known
+  looked = record (state_of s).known { words = λ b. only bank (a ∷ []) b ++ known_at news b }
+
+  pub looks : KnowsMore (state_of s).known looked
+  looks = grind (arith, append-nil, pops.known)
+
+  -- the stack has room
+  module _ (room : length s.unit.cache.stack < D) where
+    in_depth : length s.unit.cache.stack < s.unit.sizes.depth
+    in_depth = grind arith
+
+    pub works : has_work (sources.Word bank) (state_of s) looked ≡ true
+    works = grind (arith, only-here)
+
+    pub refused_here : (arrive_step s.unit.sizes s.unit.cache a.slot a.i a.word).answer ≢ Moved → IsRefused s.unit.sizes s.unit.cache a
+    refused_here = refused s.unit.sizes s.unit.cache a in_depth
+
+  pub work_is : work_of (sources.Word bank) (state_of s) looked ≡ arrives (state_of s) bank a (word_fault (state_of s) bank a)
+  work_is = grind (arith, only-here)
+
+  -- a word that is a fault is lost
+  pub loses : (fault : SideFault) (u : UnitState) → length s.unit.cache.stack < D
+      → word_fault (state_of s) bank a ≡ Some fault → u.cache ≡ s.unit.cache
+      → StepMakes (sources.Word bank) (state_of s) (record (state_of s) {
+        sizes = u.sizes;
+        cache = u.cache;
+        fault = Some fault;
+        words = popped_at news;
+        known = record (state_of s).known { words = known_at news };
+      }) Faulted
+  loses fault u room is same =
+      acts (sources.Word bank) (state_of s) _ looked looks (arrives (state_of s) bank a (Some fault)) Faulted (works room)
+      (work_is ∙ ap (arrives (state_of s) bank a) is) refl
+      (grind (arith, append-nil, pops.popped)) tt
+
+  -- the count of words is exact: it tells whether the word goes beyond the reads that were sent
+  module _ (sound : s.fault ≡ None) where
+    within : length (journal_of s) ≤ s.handed + s.limit
+    within = within_all _ s.journal.items s.handed s.limit s.handed_is s.within
+
+    module _ (late : nat_lt (taken_at s.row.lines.items bank) (count_by is_read (sent bank) % 2 ^ 64) ≡ false) where
+      tell : SideTells s.unit.sizes s.unit.cache sent popped s.fault (journal_of s)
+          → SideTells s.unit.sizes s.unit.cache sent (popped_at news) (Some (Uncalled bank)) (journal_of s)
+      tell h =
+          uncalled s.unit.sizes s.in_range s.unit.cache sent popped _ _ bank a in_banks more others _
+          _ (s.counted sound bank) within s.lasts s.fault sound h late
+
+      pub tells_uncalled : ∥ SideTells s.unit.sizes s.unit.cache sent (popped_at news) (Some (Uncalled bank)) (journal_of s) ∥₁
+      tells_uncalled = ∥∥₁_map s.tells tell
+
+      beyond : SideTells s.unit.sizes s.unit.cache sent popped s.fault (journal_of s)
+          → nat_lt (length (popped bank)) (count_by is_read (sent bank)) ≡ false
+      beyond h =
+          let lost = (tell h).all.1 in
+          let all = ap length lost.is_lost.lost ∙ length-append _ (lost.word ∷ []) in
+          let one = ap length more ∙ length-append (popped bank) _ in
+          le-ltb _ _ (omega arith)
+
+      pub fault-uncalled : word_fault (state_of s) bank a ≡ Some (Uncalled bank)
+      fault-uncalled = let out = ∥∥₁_elim s.tells (hlevel props) beyond in grind arith
+
+    module _ (due : nat_lt (taken_at s.row.lines.items bank) (count_by is_read (sent bank) % 2 ^ 64) ≡ true) where
+      pub awaited : nat_lt (length (popped bank)) (count_by is_read (sent bank)) ≡ true
+      awaited = grind arith
+
+      pub fault-none : (arrive_step s.unit.sizes s.unit.cache a.slot a.i a.word).answer ≡ Moved → word_fault (state_of s) bank a ≡ None
+      unfolding arrive_step
+      fault-none moves = grind arith
+
+      module _ (cause : arrive_cause s.unit.sizes s.unit.cache a.slot a.i ≡ Some StrayWord) where
+        pub fault-stray : word_fault (state_of s) bank a ≡ Some (Stray bank a.slot a.i)
+        fault-stray = grind (arith, cause)
+
+        pub tells_stray : ∥ SideTells s.unit.sizes s.unit.cache sent (popped_at news) (Some (Stray bank a.slot a.i)) (journal_of s) ∥₁
+        tells_stray =
+            ∥∥₁_map s.tells (λ h. stray s.unit.sizes s.in_range s.unit.cache sent popped _ _ bank a in_banks
+            more others _ _ (s.counted sound bank) within s.lasts s.fault sound h due cause)

@@ -1,57 +1,13 @@
-use Rattle.std.proofs.Common.{◌≡◌, ◌<◌, length, map, sym, ap, ◌∙◌, arith}
+use Rattle.std.proofs.Common.{arith}
 use Rattle.std.proofs.Math.Seq.{map-set_same}
-use Rattle.rtrb.specs.Ring.{sent, known_free}
-use Rattle.station_parts.specs.Rings.{pushes_to}
-use Rattle.station_parts.specs.Ids.{PortId, port_id}
-use Rattle.station_parts.specs.Words.{offered, offered_before, taken, told_in_all, known_places}
-use Rattle.station_parts.specs.declared.port.Port.{Port}
-use Rattle.station_parts.proofs.Moves.{moved}
-use Rattle.station_parts.proofs.Looking.{matched_at, as_long, seen_more, seen_all, at_most_more, at_most_moved}
+use Rattle.station_parts.proofs.Looking.{matched_at, as_long, seen_more, seen_all, at_most_more}
 use Rattle.station_parts.proofs.inspect.look_tellings.Goals as goal
 
 pub look_telling-requires : goal.look_telling-requires
-look_telling-requires c =
-    let i = c.loop-p.invariant in
-    let rings = ap (map (λ (x : PortId). x.told)) i.same_ids ∙ c.requires ∙ sym i.same_rings in
-    let there : c.loop-p.p < length c.loop-p.ports = let n = c.loop-p.auto.ports in omega arith in
-    let beside : c.loop-p.p < length c.loop-p.tellings.items = let n =
-    as_long (λ (x : PortId). x.told) port_id pushes_to c.loop-p.ports c.loop-p.tellings.items rings in omega arith in
-    sym (ap (λ (x : Port). (port_id x).told) c.index-ports-p.is)
-    ∙ matched_at (λ (x : PortId). x.told) port_id pushes_to c.loop-p.ports c.loop-p.tellings.items c.loop-p.p c.index-ports-p.result
-    c.index_mut.result.now rings there beside c.index-ports-p.is c.index_mut.ensures.value
+look_telling-requires c = grind (arith, matched_at, as_long)
 
 pub loop-p-preserved : goal.loop-p-preserved
-loop-p-preserved c =
-    let i = c.loop-p.invariant in
-    let e = c.look_telling.ensures in
-    let rings = ap (map (λ (x : PortId). x.told)) i.same_ids ∙ c.requires ∙ sym i.same_rings in
-    let there : c.loop-p.p < length c.loop-p.ports = let n = c.loop-p.auto.ports in omega arith in
-    let beside : c.loop-p.p < length c.loop-p.tellings.items = let n =
-    as_long (λ (x : PortId). x.told) port_id pushes_to c.loop-p.ports c.loop-p.tellings.items rings in omega arith in
-    record {
-      same_ids = map-set_same port_id c.loop-p.ports c.loop-p.p c.look_telling.new.port c.index-ports-p.result e.same ∙ i.same_ids;
-      same_offered = map-set_same offered c.loop-p.ports c.loop-p.p c.look_telling.new.port c.index-ports-p.result e.offered
-          ∙ i.same_offered;
-      same_before = map-set_same offered_before c.loop-p.ports c.loop-p.p c.look_telling.new.port c.index-ports-p.result e.before
-          ∙ i.same_before;
-      same_taken = map-set_same taken c.loop-p.ports c.loop-p.p c.look_telling.new.port c.index-ports-p.result e.taken ∙ i.same_taken;
-      same_rings = moved pushes_to c.loop-p.tellings.items c.loop-p.p c.index_mut.result.now c.look_telling.new.tellings
-          c.index_mut.ensures.value e.ring ∙ i.same_rings;
-      same_sent = moved sent c.loop-p.tellings.items c.loop-p.p c.index_mut.result.now c.look_telling.new.tellings
-          c.index_mut.ensures.value e.sent ∙ i.same_sent;
-      more_places = at_most_more known_places (map known_places c.args.ports.now) c.loop-p.ports c.loop-p.p c.index-ports-p.result
-          c.look_telling.new.port there e.places i.more_places;
-      more_room = at_most_moved known_free (map known_free c.args.tellings.now.items) c.loop-p.tellings.items c.loop-p.p
-          c.index_mut.result.now c.look_telling.new.tellings beside c.index_mut.ensures.value e.room i.more_room;
-      seen = seen_more told_in_all sent c.loop-p.ports c.loop-p.tellings.items c.loop-p.p c.look_telling.new.port
-          c.look_telling.new.tellings i.seen there beside e.seen;
-    }
+loop-p-preserved c = grind (arith, map-set_same, as_long, at_most_more, seen_more)
 
 pub returns-clause-seen : goal.returns-clause-seen
-returns-clause-seen c =
-    let i = c.loop-p.invariant in
-    let rings = ap (map (λ (x : PortId). x.told)) i.same_ids ∙ c.requires ∙ sym i.same_rings in
-    let same = as_long (λ (x : PortId). x.told) port_id pushes_to c.loop-p.ports c.loop-p.tellings.items rings in
-    let all : c.loop-p.p ≡ length c.loop-p.ports = let n = c.loop-p.auto.ports in let m = c.loop-p.auto.p-end in
-    let f = c.loop-p-test.false in omega arith in
-    seen_all told_in_all sent c.loop-p.ports c.loop-p.tellings.items c.loop-p.p i.seen all (all ∙ same)
+returns-clause-seen c = grind (arith, as_long, seen_all)

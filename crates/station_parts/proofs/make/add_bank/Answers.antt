@@ -1,5 +1,4 @@
-use Rattle.std.proofs.Common.{rules, ◌≡◌, ◌+◌, ◌-◌, ◌/◌, length, arith, ap, ◌∙◌, replicate}
-use Rattle.std.proofs.lemmas.List.{length-replicate}
+use Rattle.std.proofs.Common.{rules, ◌≡◌, ◌+◌, ◌-◌, ◌/◌, length, arith, replicate}
 use Rattle.rtrb.specs.Ring.{IsPair}
 use Rattle.flat_model.specs.Words.{zero_word}
 use Rattle.station_parts.proofs.Making.{one_more_bank, zero_words}
@@ -12,11 +11,9 @@ returns-clause-new c =
     let from = c.in_ok-answers.ensures in
     let count = (s.words + (s.banks - 1 - c.args.bank)) / s.banks in
     let zeros : c.in_ok-words.words.items ≡ replicate count zero_word = search rules in
-    let same : s.words + (s.banks - 1 - c.args.bank) ≡ s.words + s.banks - 1 - length c.args.ends.now.banks.items = let n =
-    c.requires.next in omega arith in
-    let number : length c.in_ok-words.words.items ≡ (s.words + s.banks - 1 - length c.args.ends.now.banks.items) / s.banks =
-    ap length zeros ∙ length-replicate count zero_word ∙ ap (λ n. n / s.banks) same in
-    let pair : IsPair c.new-3.result.ring c.in_ok-to_bank.commands = rw c.new-3.ensures.ring to.pair in
+    let number : length c.in_ok-words.words.items ≡ (s.words + s.banks - 1 - length _) / s.banks =
+    grind arith in
+    let pair : IsPair c.new-3.result.ring c.in_ok-to_bank.commands = grind arith in
     let made = one_more_bank s _ _ _ _ c.new-3.result c.in_ok-answers.from_bank c.requires.new pair from.pair
     (record {
       received = to.consumer.0;

@@ -114,6 +114,6 @@ pub and_spec : {M : Type 1} → stated.statement M
 unfolding tables_of
 and_spec 𝓤 𝓛 𝓜 𝓡 wired Y laws =
     let 𝓣 = tables_of 𝓤 𝓛.H 𝓜 (tables 𝓤 𝓛.H 𝓜 𝓡 𝓡.env) in
-    let held = clauses Y 𝓛 𝓜.mem 𝓡.returns in
-    entered 𝓤 𝓛.H (triple_of 𝓛 (ended Y).signature (closing 𝓛 (ended Y) held)) 𝓣.C 𝓣.Λ (#self (layouts (a_type ∷ []) (Y, tt)))
+    entered 𝓤 𝓛.H (triple_of 𝓛 (ended Y).signature (closing 𝓛 (ended Y) (clauses Y 𝓛 𝓜.mem 𝓡.returns))) 𝓣.C 𝓣.Λ
+    (#self (layouts (a_type ∷ []) (Y, tt)))
     (function Y) (code.unfolded 𝓤 𝓛.H 𝓜 𝓡 wired (Y, tt)) (meets Y laws 𝓛 𝓜.mem 𝓡.returns 𝓣)
