@@ -1,8 +1,9 @@
 -- Where every port has had its whole conversation, no telling is left and nothing is owed.
-use Rattle.std.proofs.Common.{◌≡◌, ℕ, suc, ◌+◌, ◌/◌, ◌<◌, ◌≤◌, Bool, true, false, cond, not, ◌&&◌, ◌==◌, nat_lt, List, [], ◌∷◌, ◌++◌}
-use Rattle.std.proofs.Common.{length, None, refl, sym, ap, ap₂, ◌∙◌, arith, append-nil, length-append}
+use Rattle.std.proofs.Common.{◌≡◌, ℕ, suc, ◌+◌, ◌<◌, ◌≤◌, Bool, true, false, cond, List, [], ◌∷◌, ◌++◌, length, refl, sym, ap, ◌∙◌}
+use Rattle.std.proofs.Common.{arith, append-nil, length-append, ⊎_elim, nat_lt, ◌/◌, ◌==◌, Some}
 use Rattle.std.specs.List.{filter, list_all}
-use Rattle.std.proofs.lemmas.Bool.{ltb-true, ltb-false, and_parts}
+use Rattle.std.proofs.lemmas.Bool.{and_parts, cases_lt}
+use Rattle.std.proofs.lemmas.List.Sums.{length-filter, count_by-le-length}
 use Rattle.std.proofs.lemmas.List.{nil_from_length}
 use Rattle.std.proofs.lemmas.List.Elements.{filter-append}
 use Rattle.std.proofs.lemmas.List.Folds.{list_all-append}
@@ -11,7 +12,7 @@ use Rattle.flat_model.specs.declared.Event.{Event}
 use Rattle.flat_model.specs.declared.Event.TheVariants as events
 use Rattle.flat_model.specs.declared.Answer.{Answer}
 use Rattle.flat_model.specs.declared.Answer.TheVariants as answers
-use Rattle.flat_model.specs.Flat.{Flat, opening}
+use Rattle.flat_model.specs.Flat.{Flat, opening, may_answer, flat_after, flat_run}
 use Rattle.cache_unit.specs.declared.Sizes.{Sizes}
 use Rattle.station_journal.specs.declared.journal.Source.{Source}
 use Rattle.station_journal.specs.declared.journal.Source.TheVariants as sources
@@ -20,16 +21,66 @@ use Rattle.station_journal.specs.declared.journal.Entry.TheVariants.{Step, Ended
 use Rattle.station_journal.specs.declared.asks.Ask.{Ask}
 use Rattle.station_journal.specs.declared.asks.Ask.TheVariants.{Done}
 use Rattle.station_journal.specs.declared.asks.Told.{Told}
-use Rattle.station_journal.specs.declared.asks.Told.TheVariants.{Accepted, Refused, Value}
-use Rattle.station_journal.specs.Journal.{Stand, Brings, AllFit, true_stand, true_word, opening_stand, zeros}
-use Rattle.station_journal.specs.Parts.{asks_of, told_of, is_event_of, is_entry_of, IsOfPorts}
-use Rattle.station_journal.specs.Conversation.{is_value, verdicts_in, value_count, is_request, requests_in, is_final, accepted_loads}
-use Rattle.station_journal.specs.Conversation.{Follows}
-use Rattle.station_journal.specs.Law.{IsFlatJournal, AsksAreJudged, IsHeard, RunIsAnswered}
+use Rattle.station_journal.specs.declared.asks.Told.TheVariants.{Value}
+use Rattle.station_journal.specs.Journal.{Stand, Brings, AllFit, true_stand, true_word, opening_stand, zeros, events_of, answers_of}
+use Rattle.station_journal.specs.Parts.{asks_of, told_of, is_event_of, is_entry_of, IsOfPorts, asked_by, told_by}
+use Rattle.station_journal.specs.Conversation.{is_value, verdicts_in, value_count, is_request, requests_in, accepted_loads}
+use Rattle.station_journal.specs.Law.{AsksAreJudged, IsHeard, RunIsAnswered}
 use Rattle.station_journal.proofs.Walking.{journal_is_flat}
-use Rattle.station_journal.proofs.Owed.{no_tags}
-use Rattle.station_journal.proofs.OpenTags.{one_if, load_by, loads_in, values_in, tally, Balance, run_balance, none_open, none_left}
-use Rattle.station_journal.proofs.Judging.{is_of, Tallies, journal_tallies, first_of, rest_of}
+use Rattle.station_journal.proofs.Conversing.{follows-length, accepted-append}
+use Rattle.station_journal.proofs.Walking.{no_tags}
+use Rattle.station_journal.proofs.OpenTags.{load_by, value_by, counted, run_balance, none_open, none_left}
+use Rattle.station_journal.proofs.Paying.{first_of_run}
+
+-- ---- what a port asked and was told, counted
+
+-- the tags of a port
+abbrev pub is_of : ℕ → ℕ → Bool
+is_of p tag = tag / 256 == p
+
+-- asks and tellings of a port belong together: as many verdicts as asks that get one, and so many
+-- accepted loads and values
+pub record Tallies (asks : List Ask) (tellings : List Told) (loads values : ℕ) : Type 0 where
+  pub judged : length (verdicts_in tellings) ≡ length (requests_in asks)
+  pub accepted : accepted_loads (requests_in asks) (verdicts_in tellings) ≡ loads
+  pub valued : value_count tellings ≡ values
+
+no_tallies : Tallies [] [] 0 0
+no_tallies = grind arith
+
+-- ---- one behind the other
+
+tallies-append : (xs ys : List Ask) (us vs : List Told) (a b c d : ℕ) → Tallies xs us a b → Tallies ys vs c d
+    → Tallies (xs ++ ys) (us ++ vs) (a + c) (b + d)
+tallies-append xs ys us vs a b c d h k = grind (arith, filter-append, length-append, accepted-append, count_by-append)
+
+-- ---- one entry
+
+entry_tallies : (p ports : ℕ) (source : Source) (event : Event) (answer : Answer) (f : Flat) → is_event_of ports source event ≡ true
+    → may_answer f event answer ≡ true
+    → Tallies (asked_by p source event) (told_by p source answer) (load_by (is_of p) event answer) (value_by (is_of p) event answer)
+entry_tallies p ports (sources.Ask port) (events.Load tag at) answer f of may = grind arith
+entry_tallies p ports (sources.Word bank) (events.Arrive b place) answer f of may = no_tallies
+entry_tallies p ports (sources.Stack place) (events.Process k) answer f of may = no_tallies
+entry_tallies p ports sources.Drain events.Drain answer f of may = no_tallies
+entry_tallies p ports (sources.Reply place) (events.Take k) answer f of may = grind arith
+entry_tallies p ports source event answer f of may = grind arith
+
+-- ---- a whole journal
+
+pub journal_tallies : (p ports : ℕ) (entries : List Entry) (f g : Flat) → IsOfPorts ports entries
+    → flat_run f (events_of entries) (answers_of entries) ≡ Some g
+    → Tallies (asks_of p entries) (told_of p entries) (counted (load_by (is_of p)) entries) (counted (value_by (is_of p)) entries)
+journal_tallies p ports [] f g of run = no_tallies
+journal_tallies p ports (Ended port ∷ rest) f g of run =
+    let more = journal_tallies p ports rest f g (and_parts (nat_lt port ports) _ of).1 run in
+    let all = tallies-append (cond (port == p) (Done ∷ []) []) (asks_of p rest) [] (told_of p rest) 0 0 _ _ (grind arith) more in
+    record { judged = all.judged; accepted = grind arith; valued = grind arith }
+journal_tallies p ports (Step source event answer ∷ rest) f g of run =
+    let first = first_of_run f g event answer rest run in
+    let mine = and_parts _ _ of in
+    tallies-append _ (asks_of p rest) _ (told_of p rest) _ _ _ _ (entry_tallies p ports source event answer f mine.0 first.may)
+    (journal_tallies p ports rest (flat_after f event answer) g mine.1 first.runs)
 
 -- ---- as many verdicts as asks, up to each entry
 
@@ -49,14 +100,6 @@ asks_are_judged z before rest ports p lawful takes true_of_banks of =
 
 -- ---- lists
 
-filter-few : {X : Type 0} (q : X → Bool) (xs : List X) → length (filter q xs) ≤ length xs
-filter-few q [] = omega arith
-filter-few q (x ∷ xs) = go (q x) (filter-few q xs)
-  where
-    go : (t : Bool) → length (filter q xs) ≤ length xs → length (cond t (x ∷ filter q xs) (filter q xs)) ≤ suc (length xs)
-    go true h = omega arith
-    go false h = omega arith
-
 filter-full : {X : Type 0} (q : X → Bool) (xs : List X) → length (filter q xs) ≡ length xs → filter q xs ≡ xs
 filter-full q [] e = refl
 filter-full q (x ∷ xs) e = go (q x) e (λ h. filter-full q xs h)
@@ -64,134 +107,81 @@ filter-full q (x ∷ xs) e = go (q x) e (λ h. filter-full q xs h)
     go : (t : Bool) → length (cond t (x ∷ filter q xs) (filter q xs)) ≡ suc (length xs)
         → (length (filter q xs) ≡ length xs → filter q xs ≡ xs) → cond t (x ∷ filter q xs) (filter q xs) ≡ x ∷ xs
     go true e same = ap (λ l. x ∷ l) (same (omega arith))
-    go false e same = grind (arith, filter-few)
+    go false e same = grind (arith, length-filter, count_by-le-length)
 
 -- a telling is a verdict or a value
 nothing_told : (tellings : List Told) → length (verdicts_in tellings) ≡ 0 → value_count tellings ≡ 0 → tellings ≡ []
 nothing_told [] e v = refl
-nothing_told (Accepted ∷ rest) e v = absurd (omega arith)
-nothing_told (Refused cause ∷ rest) e v = absurd (omega arith)
 nothing_told (Value tag word ∷ rest) e v =
     absurd (let both = count_by-append is_value (Value tag word ∷ []) rest in omega arith)
-
-follows-length : (script asked : List Ask) (verdicts : List Told) (left : List Ask) → Follows script asked verdicts left
-    → length asked ≡ length verdicts
-follows-length script [] [] left h = refl
-follows-length (first ∷ script) (offer ∷ asked) (v ∷ verdicts) left h =
-    ap suc (follows-length (cond (is_final v) script (first ∷ script)) asked verdicts left h.1)
-follows-length [] [] (v ∷ verdicts) left h = absurd h
-follows-length (first ∷ script) [] (v ∷ verdicts) left h = absurd h
-follows-length [] (offer ∷ asked) [] left h = absurd h
-follows-length [] (offer ∷ asked) (v ∷ verdicts) left h = absurd h
-follows-length (first ∷ script) (offer ∷ asked) [] left h = absurd h
+nothing_told (told ∷ rest) e v = absurd (omega arith)
 
 -- ---- one port
 
-record Quiet (taken told : List Told) (loads values : ℕ) : Type 0 where
-  all : taken ≡ told
-  paid : loads ≡ values
-
 port_quiet : (p : ℕ) (script offered : List Ask) (taken : List Told) (entries : List Entry) (loads values : ℕ)
     → Tallies (asks_of p entries) (told_of p entries) loads values → values ≤ loads → IsHeard p script offered taken entries
-    → Quiet taken (told_of p entries) loads values
+    → (taken ≡ told_of p entries) × (loads ≡ values)
 port_quiet p script offered taken entries loads values tallies few heard =
     let talk = heard.conversation in
     let asked = talk.asked in
     let asks = asks_of p entries in
-    let told = told_of p entries in
     let as_many = follows-length script asked (verdicts_in taken) [] talk.follows in
-    let requests =
-    sym (filter-append is_request asks heard.unasked)
-    ∙ ap requests_in (heard.asks ∙ talk.offered_is)
-    ∙ filter-append is_request asked (Done ∷ [])
-    ∙ append-nil (requests_in asked) in
-    let verdicts =
-    sym (filter-append (λ t. not (is_value t)) taken heard.untaken) ∙ ap verdicts_in heard.tellings in
-    let values_told =
-    sym (count_by-append is_value taken heard.untaken) ∙ ap value_count heard.tellings in
+    let requests : requests_in asks ++ requests_in heard.unasked ≡ requests_in asked =
+    cc (
+      filter-append is_request asks heard.unasked,
+      filter-append is_request asked (Done ∷ []),
+      append-nil (requests_in asked),
+    ) in
+    let verdicts : verdicts_in taken ++ verdicts_in heard.untaken ≡ verdicts_in (told_of p entries) = grind (arith, filter-append) in
+    let all_values : value_count taken + value_count heard.untaken ≡ value_count (told_of p entries) = grind (arith, count_by-append) in
+    let requests_few : length (requests_in asked) ≤ length asked = grind (arith, length-filter, count_by-le-length) in
     let requests_number = ap length requests in
     let requests_whole = length-append (requests_in asks) (requests_in heard.unasked) in
     let verdicts_number = ap length verdicts in
     let verdicts_whole = length-append (verdicts_in taken) (verdicts_in heard.untaken) in
-    let asked_few = filter-few is_request asked in
     let judged = tallies.judged in
     let none_untaken : length (verdicts_in heard.untaken) ≡ 0 = omega arith in
-    let all_requests : length (requests_in asked) ≡ length asked = omega arith in
-    let none_unasked : length (requests_in heard.unasked) ≡ 0 = omega arith in
-    let same_asks =
-    sym (append-nil (requests_in asks))
-    ∙ ap (λ l. requests_in asks ++ l) (sym (nil_from_length (requests_in heard.unasked) none_unasked))
-    ∙ requests
-    ∙ filter-full is_request asked all_requests in
-    let same_verdicts =
-    sym verdicts
-    ∙ ap (λ l. verdicts_in taken ++ l) (nil_from_length (verdicts_in heard.untaken) none_untaken)
-    ∙ append-nil (verdicts_in taken) in
-    let loads_are = sym tallies.accepted ∙ ap₂ accepted_loads same_asks same_verdicts ∙ sym talk.answered in
+    let none_unasked = nil_from_length (requests_in heard.unasked) (omega arith) in
+    let no_verdicts = nil_from_length (verdicts_in heard.untaken) none_untaken in
+    let same_asks : requests_in asks ≡ asked = grind (arith, append-nil, filter-full is_request asked (omega arith)) in
+    let loads_are : loads ≡ value_count taken = grind (arith, append-nil, tallies.accepted, talk.answered) in
     let values_are = tallies.valued in
     let no_values : value_count heard.untaken ≡ 0 = omega arith in
     let none = nothing_told heard.untaken none_untaken no_values in
-    record {
-      all = sym (append-nil taken) ∙ ap (λ l. taken ++ l) (sym none) ∙ heard.tellings;
-      paid = omega arith;
-    }
+    (grind (arith, append-nil, heard.tellings), omega arith)
 
 -- ---- no tag is of another port
-
-load_outside : (p ports port tag : ℕ) → ports ≤ p → (nat_lt port ports && (tag / 256 == port)) ≡ true → one_if (is_of p tag) ≡ 0
-load_outside p ports port tag outside of = grind arith
 
 event_outside : (p ports : ℕ) (source : Source) (event : Event) (answer : Answer) → ports ≤ p → is_event_of ports source event ≡ true
     → load_by (is_of p) event answer ≡ 0
 event_outside p ports (sources.Ask port) (events.Load tag at) answers.Accepted outside of = grind arith
-event_outside p ports (sources.Word bank) (events.Load tag at) answers.Accepted outside of = cc
-event_outside p ports (sources.Stack place) (events.Load tag at) answers.Accepted outside of = cc
-event_outside p ports sources.Drain (events.Load tag at) answers.Accepted outside of = cc
-event_outside p ports (sources.Reply place) (events.Load tag at) answers.Accepted outside of = cc
+event_outside p ports source (events.Load tag at) answers.Accepted outside of = cc
 event_outside p ports source event answer outside of = refl
 
-loads_outside : (p ports : ℕ) (entries : List Entry) → ports ≤ p → IsOfPorts ports entries → loads_in (is_of p) entries ≡ 0
+loads_outside : (p ports : ℕ) (entries : List Entry) → ports ≤ p → IsOfPorts ports entries → counted (load_by (is_of p)) entries ≡ 0
 loads_outside p ports [] outside of = refl
 loads_outside p ports (Ended port ∷ rest) outside of =
-    loads_outside p ports rest outside (rest_of ports (Ended port) rest of)
+    loads_outside p ports rest outside (and_parts _ _ of).1
 loads_outside p ports (Step source event answer ∷ rest) outside of =
-    let one = event_outside p ports source event answer outside (first_of ports (Step source event answer) rest of) in
-    let more = loads_outside p ports rest outside (rest_of ports (Step source event answer) rest of) in
+    let mine = and_parts _ _ of in
+    let one = event_outside p ports source event answer outside mine.0 in
+    let more = loads_outside p ports rest outside mine.1 in
     omega arith
 
 -- ---- all ports
 
 pub run_is_answered : RunIsAnswered
 run_is_answered z entries ports script offered taken lawful takes true_of_banks of heard =
+    let flat = journal_is_flat z entries lawful takes true_of_banks in
+    let first = opening (zeros z) in
+    let balance = run_balance entries first flat.flat [] (none_open first (λ tag. refl)) flat.runs in
+    let quiet =
+    λ (p : ℕ) (l : p < ports). let even = balance.balance (is_of p) in
+    port_quiet p (script p) (offered p) (taken p) entries _ _ (journal_tallies p ports entries first flat.flat of flat.runs) (omega arith)
+    (heard p l) in
     record {
-      all_taken = λ p l. (quiet p l).all;
-      none_owed = no_tags (true_stand z entries).cache
-          (λ tag. flat.owes_no_less tag (none_due tag));
+      all_taken = λ p l. (quiet p l).0;
+      none_owed = no_tags (true_stand z entries).cache (λ tag. flat.owes_no_less tag (none_left flat.flat balance.left balance.are_open
+          (λ p. let even = balance.balance (is_of p) in ⊎_elim (λ l. let same = (quiet p l).1 in omega arith)
+          (λ l. let none = loads_outside p ports entries l of in omega arith) (cases_lt p ports)) tag));
     }
-  where
-    flat : IsFlatJournal z entries (true_stand z entries)
-    flat = journal_is_flat z entries lawful takes true_of_banks
-
-    first : Flat
-    first = opening (zeros z)
-
-    balance : Balance [] (λ q. loads_in q entries) (λ q. values_in q entries) flat.flat
-    balance = run_balance entries first flat.flat [] (none_open first (λ tag. refl)) flat.runs
-
-    quiet : (p : ℕ) → p < ports → Quiet (taken p) (told_of p entries) (loads_in (is_of p) entries) (values_in (is_of p) entries)
-    quiet p l =
-        let even = balance.balance (is_of p) in
-        port_quiet p (script p) (offered p) (taken p) entries _ _ (journal_tallies p ports entries first flat.flat of flat.runs)
-        (omega arith) (heard p l)
-
-    none_of : (p : ℕ) → tally (is_of p) balance.left ≡ 0
-    none_of p = go (nat_lt p ports) refl
-      where
-        go : (t : Bool) → nat_lt p ports ≡ t → tally (is_of p) balance.left ≡ 0
-        go true e =
-            let even = balance.balance (is_of p) in let same = (quiet p (ltb-true p ports e)).paid in omega arith
-        go false e =
-            let even = balance.balance (is_of p) in let same = loads_outside p ports entries (ltb-false p ports e) of in omega arith
-
-    none_due : (tag : ℕ) → flat.flat.due tag ≡ None
-    none_due = none_left flat.flat balance.left balance.are_open none_of

@@ -1,6 +1,6 @@
 -- A word that the cache side has popped.
-use Rattle.std.proofs.Common.{◌≡◌, ◌≢◌, ℕ, ◌+◌, ◌*◌, ◌%◌, ◌^◌, ◌<◌, ◌≤◌, true, false, nat_lt, List, [], ◌∷◌, ◌++◌, length}
-use Rattle.std.proofs.Common.{Option, Some, None, refl, sym, ap, ◌∙◌, subst, arith, ⊎_elim, length-append, mul-le-mul_right}
+use Rattle.std.proofs.Common.{◌≡◌, ◌≢◌, ℕ, ◌+◌, ◌*◌, ◌%◌, ◌^◌, ◌<◌, ◌≤◌, true, false, nat_lt, List, [], ◌∷◌, ◌++◌, length, Option, Some}
+use Rattle.std.proofs.Common.{None, refl, sym, ap, ◌∙◌, arith, length-append, mul-le-mul_right, suc, Bool}
 use Rattle.std.specs.List.{count_by}
 use Rattle.std.proofs.Math.Nat.{mod-eq_of_lt}
 use Rattle.std.proofs.lemmas.Bool.{cases_eq, ltb-false}
@@ -13,18 +13,58 @@ use Rattle.memory_banks.specs.Memory.{is_read}
 use Rattle.cache_unit.specs.declared.Sizes.{Sizes}
 use Rattle.cache_unit.specs.State.{Cache, UnitState}
 use Rattle.cache_unit.specs.Causes.{arrive_cause}
-use Rattle.cache_unit.specs.Steps.{arrive_step}
+use Rattle.cache_unit.specs.Steps.{arrive_step, fetches, load_step, store_step, prefetch_step, drain_step}
 use Rattle.cache_unit.specs.Sound.{InRange}
-use Rattle.flat_model.specs.declared.Event.TheVariants.{Arrive}
+use Rattle.flat_model.specs.declared.Event.TheVariants.{Arrive, Serve}
 use Rattle.station_journal.specs.declared.journal.Source.TheVariants.{Word}
 use Rattle.station_journal.specs.declared.journal.Entry.{Entry}
-use Rattle.station_journal.specs.declared.journal.Entry.TheVariants.{Step}
+use Rattle.station_journal.specs.declared.journal.Entry.TheVariants.{Step, Ended}
 use Rattle.station_journal.specs.declared.journal.SideFault.{SideFault}
 use Rattle.station_journal.specs.declared.journal.SideFault.TheVariants.{Uncalled, Stray}
-use Rattle.station_journal.specs.Journal.{opening_stand, come_word}
+use Rattle.station_journal.specs.Journal.{opening_stand, come_word, Stand, Brings, step, is_full, after_entry, Walks}
 use Rattle.station_journal.specs.Side.{SideTells, IsLost}
-use Rattle.station_journal.proofs.Counting.{reads_few}
+use Rattle.station_journal.proofs.Sides.{side_looked}
 use Rattle.station_journal.proofs.Telling.{tells_word}
+use Rattle.std.proofs.lemmas.List.Sums.{count_by-le-length}
+use Rattle.std.proofs.lemmas.List.FromFn.{length-map-range_with_len}
+use Rattle.flat_model.specs.declared.Event.{Event}
+use Rattle.memory_banks.specs.Banks.{commands_for}
+use Rattle.miss_registers.proofs.Tags.{count_by-append}
+use Rattle.machine_core.proofs.Whole.{evict_silent, process_silent, take_silent}
+
+-- ---- how many reads a journal can have sent
+
+for_few : (b : ℕ) (sent : List (ℕ × Command)) → length (commands_for b sent) ≤ length sent
+for_few b [] = omega arith
+for_few b (c ∷ rest) = let few = for_few b rest in grind arith
+
+module _ (z : Sizes) (some : 0 < z.block_words) where
+  fetches_few : (c : Cache) (block : ℕ) → length (fetches z c block) ≤ z.block_words
+  unfolding fetches
+  fetches_few c block = grind (arith, length-map-range_with_len)
+
+  step_few : (brings : Brings) (s : Stand) (event : Event) → length (step z brings s event).sent ≤ z.block_words
+  unfolding load_step store_step prefetch_step drain_step arrive_step
+  step_few brings s (Serve bank) = omega arith
+  step_few brings s event = grind (arith, fetches_few, evict_silent, process_silent, take_silent, s.cache)
+
+  entry_few : (brings : Brings) (s : Stand) (event : Event) (t : Bool) (b : ℕ)
+      → count_by is_read ((after_entry z brings s event t).sent b) ≤ count_by is_read (s.sent b) + z.block_words
+  entry_few brings s event true b = omega arith
+  entry_few brings s event false b = grind (arith, count_by-append, s.sent, count_by-le-length, for_few, step_few)
+
+  pub reads_few : (brings : Brings) (entries : List Entry) (s e : Stand) → Walks z brings s entries e → (b : ℕ)
+      → count_by is_read (e.sent b) ≤ count_by is_read (s.sent b) + length entries * z.block_words
+  reads_few brings [] s e same b = grind arith
+  reads_few brings (Ended port ∷ rest) s e walk b =
+      let r = reads_few brings rest s e walk b in
+      let n : suc (length rest) * z.block_words ≡ length rest * z.block_words + z.block_words = omega arith in
+      omega arith
+  reads_few brings (Step source event answer ∷ rest) s e walk b =
+      let r = reads_few brings rest _ e walk.1 b in
+      let one = entry_few brings s event (is_full answer) b in
+      let n : suc (length rest) * z.block_words ≡ length rest * z.block_words + z.block_words = omega arith in
+      omega arith
 
 -- no word was popped
 pub none_popped : (u : UnitState) (sent : ℕ → List Command) (popped popped' : ℕ → List BankAnswer) (fault : Option SideFault)
@@ -97,24 +137,12 @@ pub side_word : (u v : UnitState) (sent sent' : ℕ → List Command) (popped po
     → SideTells v.sizes v.cache sent' popped' fault entries'
 side_word u v sent sent' popped popped' fault entries entries' bank a answer sound here called more others still answer_is moves v_is
     entries_is h =
-    let h' = subst (λ f. SideTells u.sizes u.cache sent popped f entries) sound h in
-    let done =
-    tells_word u.sizes u.cache sent popped entries h' (Word bank) bank a (arrive_step u.sizes u.cache a.slot a.i a.word).cache popped'
-    Moved here called more others (sym moves ∙ answer_is) refl refl in
-    let there = subst (SideTells u.sizes (arrive_step u.sizes u.cache a.slot a.i a.word).cache sent popped' None) (sym entries_is) done in
-    let faultless =
-    subst (λ f. SideTells u.sizes (arrive_step u.sizes u.cache a.slot a.i a.word).cache sent popped' f entries') (sym sound) there in
-    subst (λ xs. SideTells v.sizes v.cache xs popped' fault entries') (λ i b. sym (still b) i)
-    (subst (λ (x : UnitState). SideTells x.sizes x.cache sent popped' fault entries') (sym v_is) faultless)
+    let h' : SideTells u.sizes u.cache sent popped None entries = rw sound at h in
+    side_looked v sent sent' popped' fault entries' still (rw (sound, v_is, entries_is) (tells_word u.sizes u.cache sent popped entries h'
+    (Word bank) bank a _ popped' Moved here called more others (sym moves ∙ answer_is) refl refl))
 
 -- one word more of one bank is counted
 pub counts : (taken taken' : ℕ → ℕ) (popped popped' : ℕ → List BankAnswer) (bank : ℕ) (a : BankAnswer)
     → ((b : ℕ) → taken b ≡ length (popped b)) → popped' bank ≡ popped bank ++ a ∷ [] → ((b : ℕ) → b ≢ bank → popped' b ≡ popped b)
     → taken' bank ≡ taken bank + 1 → ((b : ℕ) → b ≢ bank → taken' b ≡ taken b) → (b : ℕ) → taken' b ≡ length (popped' b)
-counts taken taken' popped popped' bank a counted more others one rest b = ⊎_elim here there (cases_eq b bank)
-  where
-    here : b ≡ bank → taken' b ≡ length (popped' b)
-    here e = grind (arith, length-append)
-
-    there : b ≢ bank → taken' b ≡ length (popped' b)
-    there d = rest b d ∙ counted b ∙ ap length (sym (others b d))
+counts taken taken' popped popped' bank a counted more others one rest b = grind (arith, length-append, cases_eq)

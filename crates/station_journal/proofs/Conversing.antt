@@ -1,13 +1,20 @@
 -- A conversation, step by step.
-use Rattle.std.proofs.Common.{◌≡◌, ℕ, ◌+◌, false, cond, List, [], ◌∷◌, ◌++◌, sym, ap, ◌∙◌, arith, append-nil}
+use Rattle.std.proofs.Common.{◌≡◌, ℕ, suc, ◌+◌, false, cond, List, [], ◌∷◌, ◌++◌, length, refl, ap, arith, append-nil}
 use Rattle.std.proofs.lemmas.List.Elements.{filter-append}
 use Rattle.miss_registers.proofs.Tags.{count_by-append}
 use Rattle.station_journal.specs.declared.asks.Ask.{Ask}
 use Rattle.station_journal.specs.declared.asks.Told.{Told}
-use Rattle.station_journal.specs.Conversation.{is_value, verdicts_in, value_count, is_final, accepted_load, accepted_loads, Follows}
+use Rattle.station_journal.specs.Conversation.{is_value, verdicts_in, is_final, accepted_load, accepted_loads, Follows}
 use Rattle.station_journal.specs.Conversation.{IsUnderWay}
 
 -- ---- one verdict more
+
+pub follows-length : (script asked : List Ask) (verdicts : List Told) (left : List Ask) → Follows script asked verdicts left
+    → length verdicts ≡ length asked
+follows-length script [] [] left h = refl
+follows-length (first ∷ script) (offer ∷ asked) (v ∷ verdicts) left h =
+    ap suc (follows-length _ asked verdicts left h.1)
+follows-length script asked verdicts left h = absurd h
 
 follows-next : (script asked : List Ask) (verdicts : List Told) (ask : Ask) (more : List Ask) (verdict : Told)
     → Follows script asked verdicts (ask ∷ more)
@@ -15,33 +22,13 @@ follows-next : (script asked : List Ask) (verdicts : List Told) (ask : Ask) (mor
 follows-next script [] [] ask more verdict h = grind arith
 follows-next (first ∷ script) (offer ∷ asked) (v ∷ verdicts) ask more verdict h =
     (h.0, follows-next _ asked verdicts ask more verdict h.1)
-follows-next [] [] (v ∷ verdicts) ask more verdict h = absurd h
-follows-next (first ∷ script) [] (v ∷ verdicts) ask more verdict h = absurd h
-follows-next [] (offer ∷ asked) [] ask more verdict h = absurd h
-follows-next [] (offer ∷ asked) (v ∷ verdicts) ask more verdict h = absurd h
-follows-next (first ∷ script) (offer ∷ asked) [] ask more verdict h = absurd h
+follows-next script asked verdicts ask more verdict h = absurd h
 
-loads-next : (script asked : List Ask) (verdicts : List Told) (left : List Ask) (ask : Ask) (verdict : Told)
-    → Follows script asked verdicts left
-    → accepted_loads (asked ++ ask ∷ []) (verdicts ++ verdict ∷ []) ≡ accepted_loads asked verdicts + accepted_load ask verdict
-loads-next script [] [] left ask verdict h = omega arith
-loads-next (first ∷ script) (offer ∷ asked) (v ∷ verdicts) left ask verdict h =
-    let e = loads-next _ asked verdicts left ask verdict h.1 in omega arith
-loads-next [] [] (v ∷ verdicts) left ask verdict h = absurd h
-loads-next (first ∷ script) [] (v ∷ verdicts) left ask verdict h = absurd h
-loads-next [] (offer ∷ asked) [] left ask verdict h = absurd h
-loads-next [] (offer ∷ asked) (v ∷ verdicts) left ask verdict h = absurd h
-loads-next (first ∷ script) (offer ∷ asked) [] left ask verdict h = absurd h
-
-verdicts-next : (taken : List Told) (told : Told) → is_value told ≡ false
-    → verdicts_in (taken ++ told ∷ []) ≡ verdicts_in taken ++ told ∷ []
-verdicts-next taken told none = grind (arith, filter-append)
-
-value-one : (told : Told) → value_count (told ∷ []) ≡ cond {A = ℕ} (is_value told) 1 0
-value-one told = grind arith
-
-values-next : (taken : List Told) (told : Told) → value_count (taken ++ told ∷ []) ≡ value_count taken + cond {A = ℕ} (is_value told) 1 0
-values-next taken told = grind (arith, count_by-append, value-one)
+pub accepted-append : (xs ys : List Ask) (us vs : List Told) → length us ≡ length xs
+    → accepted_loads (xs ++ ys) (us ++ vs) ≡ accepted_loads xs us + accepted_loads ys vs
+accepted-append [] ys [] vs e = omega arith
+accepted-append (x ∷ xs) ys (u ∷ us) vs e = let r = accepted-append xs ys us vs (omega arith) in omega arith
+accepted-append xs ys us vs e = absurd (omega arith)
 
 -- ---- the steps of a port
 
@@ -51,14 +38,13 @@ pub under_way_judged : (script more : List Ask) (ask : Ask) (loads values : ℕ)
     → IsUnderWay script (cond (is_final verdict) more (ask ∷ more)) [] (loads + accepted_load ask verdict) values offered
     (taken ++ verdict ∷ [])
 under_way_judged script more ask loads values offered taken verdict none h =
-    let verdicts = verdicts-next taken verdict none in
+    let verdicts : verdicts_in (taken ++ verdict ∷ []) ≡ verdicts_in taken ++ verdict ∷ [] = grind (arith, filter-append) in
     let follows = follows-next script h.asked _ ask more verdict h.follows in
-    let more_loads = loads-next script h.asked _ _ ask verdict h.follows in
-    let more_values = values-next taken verdict ∙ ap (λ b. value_count taken + cond {A = ℕ} b 1 0) none in
+    let loads = accepted-append h.asked (ask ∷ []) _ (verdict ∷ []) (follows-length script h.asked _ _ h.follows) in
     record {
       asked = h.asked ++ ask ∷ [];
-      offered_is = h.offered_is ∙ sym (append-nil (h.asked ++ ask ∷ []));
+      offered_is = grind (arith, append-nil);
       follows = grind arith;
       loads_are = grind arith;
-      values_are = grind arith;
+      values_are = grind (arith, count_by-append);
     }

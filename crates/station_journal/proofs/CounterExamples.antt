@@ -1,9 +1,8 @@
 -- Journals that aren't true of the banks, and exchanges that are no conversations.
-use Rattle.std.proofs.Common.{◌≡◌, ℕ, List, [], ◌∷◌, ◌++◌, arith}
-use Rattle.flat_model.specs.declared.Word.{Word}
+use Rattle.std.proofs.Common.{◌≡◌, List, [], ◌∷◌, ◌++◌, arith}
 use Rattle.flat_model.specs.declared.Cause.TheVariants.{BankFull, NotPresent}
 use Rattle.flat_model.specs.declared.Event.TheVariants.{Load, Prefetch, Evict, Drain, Arrive}
-use Rattle.flat_model.specs.declared.Answer.TheVariants.{Accepted, Moved, Value, Refused}
+use Rattle.flat_model.specs.declared.Answer.TheVariants.{Accepted, Moved, Refused}
 use Rattle.station_journal.specs.declared.journal.Source.TheVariants as sources
 use Rattle.station_journal.specs.declared.journal.Entry.TheVariants.{Step}
 use Rattle.station_journal.specs.declared.asks.Ask.{Ask}
@@ -12,13 +11,6 @@ use Rattle.station_journal.specs.declared.asks.Told.TheVariants as told
 use Rattle.station_journal.specs.Journal.{IsBankTrue}
 use Rattle.station_journal.specs.Conversation.{accepted_loads, Follows, Converses}
 use Rattle.station_journal.specs.Examples.{shape_S, smallest, word, zeros, asked, comes, all_steps, by_hand, read_back, script}
-
--- no word is another one
-other_word : (tag : ℕ) (v w : Word) → Value tag v ≡ Value tag w → (v ≡ w → ⊥) → ⊥
-other_word tag v w e apart = grind arith
-
-first_byte : (v w : Word) → v ≡ w → v.b0 ≡ w.b0
-first_byte v w e = cc
 
 -- ---- wrong values
 

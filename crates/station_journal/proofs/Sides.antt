@@ -1,5 +1,5 @@
 -- A step of the unit, as the cache side makes it.
-use Rattle.std.proofs.Common.{◌≡◌, ℕ, ◌<◌, List, [], ◌∷◌, ◌++◌, Option, None, refl, sym, ap, ◌∙◌, subst, append-nil}
+use Rattle.std.proofs.Common.{◌≡◌, ℕ, ◌<◌, List, [], ◌∷◌, ◌++◌, Option, None, refl, arith, sym, ap, ◌∙◌, append-nil}
 use Rattle.flat_model.specs.declared.Event.{Event}
 use Rattle.flat_model.specs.declared.Event.TheVariants.{Process, Drain}
 use Rattle.flat_model.specs.declared.Answer.{Answer}
@@ -29,12 +29,9 @@ pub side_step : (u v : UnitState) (sent sent' : ℕ → List Command) (popped : 
     → ((b : ℕ) → b < u.sizes.banks → sent' b ≡ sent b ++ commands_for b (step u.cache).sent)
     → entries' ≡ entries ++ Step source event answer ∷ [] → SideTells v.sizes v.cache sent' popped fault entries'
 side_step u v sent sent' popped fault entries entries' source event step answer sound h recorded v_is answer_is sent_is entries_is =
-    let h' = subst (λ f. SideTells u.sizes u.cache sent popped f entries) sound h in
-    let done =
-    tells_step u.sizes u.cache sent popped entries h' source event step (step u.cache).cache sent' answer (recorded h'.come) refl
-    answer_is sent_is in
-    subst (λ x. SideTells x.sizes x.cache sent' popped fault entries') (sym v_is)
-    (rw (sym sound) at (subst (SideTells u.sizes (step u.cache).cache sent' popped None) (sym entries_is) done))
+    let h' = rw sound at h in
+    rw (sound, v_is, entries_is) (tells_step u.sizes u.cache sent popped entries h' source event step (step u.cache).cache sent' answer
+    (recorded h'.come) refl answer_is sent_is)
 
 -- one that sends nothing
 pub silent_step : (u v : UnitState) (sent : ℕ → List Command) (popped : ℕ → List BankAnswer) (fault : Option SideFault)
@@ -73,4 +70,4 @@ pub side_looked : (u : UnitState) (sent sent' : ℕ → List Command) (popped : 
     → ((b : ℕ) → sent' b ≡ sent b) → SideTells u.sizes u.cache sent popped fault entries
     → SideTells u.sizes u.cache sent' popped fault entries
 side_looked u sent sent' popped fault entries same h =
-    subst (λ xs. SideTells u.sizes u.cache xs popped fault entries) (λ i b. sym (same b) i) h
+    grind arith

@@ -1,40 +1,102 @@
 -- A machine with banks that have served all, as a journal's stand.
-use Rattle.std.proofs.Common.{◌≡◌, ◌≢◌, ℕ, zero, suc, ◌+◌, ◌<◌, ◌≤◌, cond, ◌==◌, List, [], ◌∷◌, ◌++◌, drop, length, set, slice_get, Some}
-use Rattle.std.proofs.Common.{refl, sym, ap, ◌∙◌, subst, arith, append-nil, length-append, length-set, eq-eqb, ◌⊎◌, inl, inr}
-use Rattle.std.proofs.lemmas.Bool.{cases_eq, ne_eqb}
+use Rattle.std.proofs.Common.{◌≡◌, ℕ, zero, suc, ◌+◌, ◌<◌, ◌≤◌, cond, ◌==◌, List, [], ◌∷◌, ◌++◌, drop, length, set, slice_get, Some, refl}
+use Rattle.std.proofs.Common.{ap, ◌∙◌, arith, append-nil, length-append, length-set, lt-ltb, eq-eqb, Bool, nat_lt}
+use Rattle.std.proofs.lemmas.Bool.{ne_eqb}
 use Rattle.std.proofs.lemmas.List.{drop-append-le, get_or-set_same, get_or-set_other}
 use Rattle.std.proofs.lemmas.List.FromFn.{length-map-range_with_len, get_or-map-range_with_len}
 use Rattle.std.specs.List.{remove}
 use Rattle.flat_model.specs.declared.Word.{Word}
 use Rattle.flat_model.specs.declared.Event.{Event}
 use Rattle.flat_model.specs.declared.Answer.{Answer}
-use Rattle.flat_model.specs.Flat.{word_at, flat_step, stored}
+use Rattle.flat_model.specs.Flat.{flat_step}
 use Rattle.memory_banks.specs.declared.Command.{Command}
-use Rattle.memory_banks.specs.declared.Command.TheVariants.{Read, Write}
-use Rattle.memory_banks.specs.Banks.{Bank, no_bank, bank_at, after, answers_to, commands_for, share_of}
+use Rattle.memory_banks.specs.Banks.{Bank, all_sent, no_bank, bank_at, after, answers_to, commands_for, words_after, pending}
+use Rattle.memory_banks.specs.Banks.{served}
 use Rattle.memory_banks.proofs.Sending.{extended, all_sent-length, all_sent-at}
+pub use Rattle.machine_core.proofs.FromForms.{after-append, answers_to-append}
 use Rattle.cache_unit.specs.declared.Sizes.{Sizes}
 use Rattle.cache_unit.specs.State.{Cache}
 use Rattle.cache_unit.specs.Steps.{Stepped}
 use Rattle.memory_banks.specs.Memory.{without_answer}
 use Rattle.machine_core.specs.Machine.{Machine, opening, flat_of, joined_with}
 use Rattle.station_journal.specs.Journal.{Stand, opening_stand, zeros, zeros_in}
-use Rattle.station_journal.proofs.FlatFrom.{FlatFrom}
-use Rattle.station_journal.proofs.Serving.{finished, AllFinished, finish_all}
+use Rattle.station_journal.proofs.FlatFrom.{FlatFrom, makes}
+use Rattle.flat_model.specs.declared.Event.TheVariants.{Serve}
+use Rattle.flat_model.specs.declared.Answer.TheVariants.{Moved}
+use Rattle.machine_core.proofs.Walking.{served-pending}
 
--- ---- lists of commands, one behind the other
+-- ---- banks that serve all that waits at them
 
-pub after-append : (words : List Word) (xs ys : List Command) → after words (xs ++ ys) ≡ after (after words xs) ys
-after-append words [] ys = refl
-after-append words (Read slot i place ∷ xs) ys = after-append words xs ys
-after-append words (Write place word lanes ∷ xs) ys = after-append (stored words place word lanes) xs ys
+-- a bank that has served all that waits
+abbrev pub finished : Bank → Bank
+finished b = record { words = words_after b; queue = []; answers = pending b }
 
-pub answers_to-append : (words : List Word) (xs ys : List Command)
-    → answers_to words (xs ++ ys) ≡ answers_to words xs ++ answers_to (after words xs) ys
-answers_to-append words [] ys = refl
-answers_to-append words (Read slot i place ∷ xs) ys =
-    ap (λ l. record { slot = slot; i = i; word = word_at words place } ∷ l) (answers_to-append words xs ys)
-answers_to-append words (Write place word lanes ∷ xs) ys = answers_to-append (stored words place word lanes) xs ys
+idle-finished : (b : Bank) → b.queue ≡ [] → b ≡ finished b
+idle-finished b e = grind (arith, append-nil, b.words)
+
+served-after : (b : Bank) (first : Command) (rest : List Command) → b.queue ≡ first ∷ rest
+    → words_after (served b first rest) ≡ words_after b
+unfolding served
+served-after b first rest e = grind arith
+
+served-finished : (b : Bank) (first : Command) (rest : List Command) → b.queue ≡ first ∷ rest → finished (served b first rest) ≡ finished b
+served-finished b first rest e = grind (arith, served-after, served-pending)
+
+served-queue : (b : Bank) (first : Command) (rest : List Command) → (served b first rest).queue ≡ rest
+unfolding served
+served-queue b first rest = refl
+
+-- the machine whose banks with these numbers have served all that waits, and nothing else has changed
+pub record Finished (z : Sizes) (m : Machine) (which : ℕ → Bool) (n : Machine) : Type 0 where
+  pub cache : n.cache ≡ m.cache
+  pub number : length n.banks ≡ length m.banks
+  pub banks : (k : ℕ) → bank_at n.banks k ≡ cond (which k) (finished (bank_at m.banks k)) (bank_at m.banks k)
+  pub flat : flat_of z n ≡ flat_of z m
+  pub from : FlatFrom z n
+
+-- the machine whose bank b has served its first command
+abbrev turned : Machine → ℕ → Command → List Command → Machine
+turned m b first rest = record m { banks = set m.banks b (served (bank_at m.banks b) first rest) }
+
+finish : (z : Sizes) (m : Machine) (b : ℕ) (queue : List Command) → FlatFrom z m → b < length m.banks
+    → (bank_at m.banks b).queue ≡ queue → (n : Machine) × Finished z m (λ k. k == b) n
+finish z m b [] h there e = (m, record { cache = refl; number = refl; banks = λ k. grind (arith, idle-finished); flat = refl; from = h })
+finish z m b (first ∷ rest) h there e =
+    let bank = served (bank_at m.banks b) first rest in
+    let is = get_or-set_same m.banks b bank no_bank there in
+    let turn = makes z m h (Serve b) (record { answer = Moved; machine = turned m b first rest }) (grind arith) in
+    let number = length-set m.banks b bank in
+    let done = finish z (turned m b first rest) b rest turn.next (omega arith) (ap (λ x. x.queue) is ∙ served-queue _ first rest) in (
+      done.0,
+      record {
+        cache = done.1.cache;
+        number = done.1.number ∙ number;
+        banks = λ k. grind (arith, done.1.banks k, get_or-set_other, served-finished);
+        flat = grind arith;
+        from = done.1.from;
+      },
+    )
+
+one_more : {X : Type 0} (f : X → X) (x y w : X) (k count : ℕ) → y ≡ cond (nat_lt k count) (f x) x → w ≡ cond (k == count) (f y) y
+    → w ≡ cond (nat_lt k (suc count)) (f x) x
+one_more f x y w k count e g = grind arith
+
+pub finish_all : (z : Sizes) (m : Machine) (count : ℕ) → FlatFrom z m → count ≤ length m.banks
+    → (n : Machine) × Finished z m (λ k. nat_lt k count) n
+finish_all z m zero h fits = grind arith
+finish_all z m (suc count) h fits =
+    let some = finish_all z m count h (omega arith) in
+    let number = some.1.number in
+    let last = finish z some.0 count (bank_at some.0.banks count).queue some.1.from (omega arith) refl in (
+      last.0,
+      record {
+        cache = grind arith;
+        number = last.1.number ∙ number;
+        banks = λ k. one_more finished (bank_at _ k) _ _ k count (some.1.banks k) (last.1.banks k);
+        flat = grind arith;
+        from = last.1.from;
+      },
+    )
 
 -- ---- stands
 
@@ -51,16 +113,7 @@ pub record Stands (z : Sizes) (s : Stand) (m : Machine) : Type 0 where
   pub few : (b : ℕ) → b < z.banks → s.arrived b ≤ length (answers_to (zeros_in z b) (s.sent b))
 
 pub opening_stands : (z : Sizes) → Stands z (opening_stand z) (opening z (zeros z))
-opening_stands z =
-    record {
-      cache = refl;
-      number = length-map-range_with_len bank_of 0 _;
-      bank = λ b l. get_or-map-range_with_len bank_of 0 _ b b no_bank l (omega arith);
-      few = λ b l. omega arith;
-    }
-  where
-    bank_of : ℕ → Bank
-    bank_of b = record { words = share_of (zeros z) z.banks b; queue = []; answers = [] }
+opening_stands z = grind (arith, length-map-range_with_len, get_or-map-range_with_len)
 
 -- ---- commands are sent, and served
 
@@ -82,42 +135,21 @@ pub sent_ok : (z : Sizes) (s : Stand) (m : Machine) (event : Event) (d : Stepped
     → FlatFrom z (joined_with m.banks d).machine
     → flat_step (flat_of z m) event d.answer ≡ Some (flat_of z (joined_with m.banks d).machine)
     → (n : Machine) × Next z (moved s d) event d.answer m n
-sent_ok z s m event d h from run = (
-  all.0,
-  record {
-    stands = record {
-      cache = all.1.cache;
-      number = all.1.number ∙ all_sent-length _ d.sent ∙ h.number;
-      bank = bank;
-      few = λ b l.
-          omega (
-            arith,
-            h.few b l,
-            length-append (answers_to (zeros_in z b) (s.sent b))
-                (answers_to (after (zeros_in z b) (s.sent b)) (commands_for b d.sent)),
-            ap length (answers_to-append (zeros_in z b) (s.sent b) (commands_for b d.sent)),
-          );
-    };
-    from = all.1.from;
-    run = grind arith;
-  },
-)
-  where
-    then : Machine
-    then = (joined_with m.banks d).machine
-
-    all : (n : Machine) × AllFinished z then (length then.banks) n
-    all = grind (arith, finish_all, then)
-
-    bank : (b : ℕ) → b < z.banks → bank_at all.0.banks b ≡ stood (zeros_in z b) (s.sent b ++ commands_for b d.sent) (s.arrived b)
-    bank b l =
-        let number = h.number in
-        let there : b < length m.banks = omega arith in
-        let still : b < length then.banks = subst (λ n. b < n) (sym (all_sent-length m.banks d.sent)) there in
-        all.1.done b still
-        ∙ ap finished (all_sent-at m.banks d.sent b there)
-        ∙ ap (λ (x : Bank). finished (extended x (commands_for b d.sent))) (h.bank b l)
-        ∙ stood-sent (zeros_in z b) (s.sent b) (commands_for b d.sent) (s.arrived b) (h.few b l)
+sent_ok z s m event d h from run =
+    let number = all_sent-length m.banks d.sent in
+    let all = finish_all z (joined_with m.banks d).machine (length (all_sent m.banks d.sent)) from (omega arith) in (
+      all.0,
+      record {
+        stands = record {
+          cache = all.1.cache;
+          number = grind arith;
+          bank = λ b l. grind (arith, all.1.banks b, all_sent-at, h.bank b l, h.few b l, stood-sent, lt-ltb, h.number);
+          few = λ b l. grind (arith, h.few b l, length-append, answers_to-append);
+        };
+        from = all.1.from;
+        run = grind arith;
+      },
+    )
 
 -- ---- a word arrives
 
@@ -131,9 +163,6 @@ rest_dropped zero xs = refl
 rest_dropped (suc k) [] = refl
 rest_dropped (suc k) (x ∷ xs) = rest_dropped k xs
 
-one_dropped : {X : Type 0} (k : ℕ) (xs : List X) → remove (drop k xs) 0 ≡ drop (k + 1) xs
-one_dropped k xs = grind (arith, rest_dropped)
-
 -- one more word of a bank has been taken
 abbrev pub one_taken : Stand → ℕ → Cache → Stand
 one_taken s bank cache =
@@ -146,8 +175,8 @@ taken_stands z s m bank cache cache' h here some same =
     record {
       cache = same;
       number = length-set _ bank _ ∙ h.number;
-      bank = λ b l. each b l (cases_eq b bank);
-      few = λ b l. few b l (cases_eq b bank);
+      bank = λ b l. grind (arith, get_or-set_same, get_or-set_other, h.bank, taken, nil, eq-eqb, ne_eqb);
+      few = λ b l. grind (arith, h.few, append-nil);
     }
   where
     there : bank < length m.banks
@@ -157,21 +186,4 @@ taken_stands z s m bank cache cache' h here some same =
     nil b k = grind (arith, append-nil, s.sent)
 
     taken : without_answer (bank_at m.banks bank) 0 ≡ stood (zeros_in z bank) (s.sent bank) (s.arrived bank + 1)
-    taken = grind (arith, h.bank, s.sent, one_dropped, s.arrived)
-
-    each : (b : ℕ) → b < z.banks → (b ≡ bank) ⊎ (b ≢ bank)
-        → bank_at (set m.banks bank (without_answer (bank_at m.banks bank) 0)) b ≡ stood (zeros_in z b) (s.sent b ++ [])
-        (cond (b == bank) (s.arrived b + 1) (s.arrived b))
-    each b l (inl e) =
-        ap (bank_at (set m.banks bank (without_answer (bank_at m.banks bank) 0))) e
-        ∙ get_or-set_same _ bank _ no_bank there
-        ∙ taken
-        ∙ ap (λ k. stood (zeros_in z k) (s.sent k) (s.arrived k + 1)) (sym e)
-        ∙ nil b _
-        ∙ ap (λ t. stood (zeros_in z b) (s.sent b ++ []) (cond t (s.arrived b + 1) (s.arrived b))) (sym (eq-eqb b bank e))
-    each b l (inr d) = grind (arith, get_or-set_other, h.bank, nil, s.sent, s.arrived, ne_eqb)
-
-    few : (b : ℕ) → b < z.banks → (b ≡ bank) ⊎ (b ≢ bank)
-        → cond (b == bank) (s.arrived b + 1) (s.arrived b) ≤ length (answers_to (zeros_in z b) (s.sent b ++ []))
-    few b l (inl e) = grind (arith, s.arrived, eq-eqb, s.sent, append-nil)
-    few b l (inr d) = grind (arith, s.arrived, ne_eqb, h.few, append-nil, s.sent)
+    taken = grind (arith, h.bank, s.sent, rest_dropped, s.arrived)
