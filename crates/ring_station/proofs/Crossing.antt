@@ -1,5 +1,4 @@
 -- The run of a port may go to another thread.
-use denote.Struct.Struct.{Struct}
 use denote.Struct.Declared.{shape, fields}
 use denote.Param.Send.{IsSend, AllSend, recorded_send, struct_send, sendable}
 use Rattle.std.proofs.Crossing.{crosses}
@@ -13,4 +12,4 @@ pub port_run_sent : IsSend the_row
 port_run_sent =
     let all : AllSend (fields the_type) =
     (port_field_sent, (talk.the_field_send, (search (sendable, crosses, told.the_send) depth 40, (end.the_field_send, tt)))) in
-    recorded_send (Struct (shape the_type)) the_type.D the_type.to the_type.to_one (struct_send (shape the_type) all)
+    recorded_send _ the_type.D the_type.to the_type.to_one (struct_send (shape the_type) all)

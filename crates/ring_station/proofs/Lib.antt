@@ -1,16 +1,10 @@
 pub mod Talking
-pub mod PortRunning
 pub mod Turning
 pub mod Sharing
-pub mod Rounding
 pub mod Passing
 pub mod GoingRound
 pub mod CrewRunning
-pub mod StationRunning
 pub mod Ending
 pub mod Within
 pub mod Crossing
-pub mod Segmenting
-pub mod Serving
-pub mod Piecing
 pub mod RunningOn

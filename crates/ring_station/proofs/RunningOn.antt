@@ -1,170 +1,107 @@
--- Runs of the pieces of scripts, one behind the other: none, one more, the last one, and one that stops.
-use Rattle.std.proofs.Common.{◌≡◌, ℕ, suc, ◌+◌, ◌*◌, ◌<◌, ◌≤◌, ◌⊎◌, inl, inr, List, [], ◌∷◌, ◌++◌, length, map, slice_index_or, refl, sym}
-use Rattle.std.proofs.Common.{ap, ◌∙◌, subst, subst₂, arith, append_assoc}
-use Rattle.std.specs.Prelude.{false}
+-- Pieces of scripts, and their runs one behind the other: one more, the last one, and one that stops.
+use Rattle.std.proofs.Common.{◌≡◌, ℕ, suc, ◌+◌, ◌*◌, ◌<◌, ◌≤◌, ◌⊎◌, inl, inr, List, [], ◌∷◌, ◌++◌, length, map, drop, slice_index_or, refl}
+use Rattle.std.proofs.Common.{sym, ap, ◌∙◌, arith, add-one, append_assoc, zero, take}
+use Rattle.std.specs.Prelude.{max, false}
 use Rattle.std.specs.Global.{Vec}
-use Rattle.std.specs.List.{All}
-use Rattle.std.proofs.Math.Nat.{suc-mul, zero-mul}
-use Rattle.std.proofs.lemmas.Grind.{flat_map-append}
-use Rattle.std.proofs.lemmas.List.{append-nil, get_or-map, map-append, length-map, length_push}
-use Rattle.std.proofs.lemmas.List.Elements.{All-nil, All-cons, All-append, All-push}
+use Rattle.std.specs.Int.{div_ceil}
+use Rattle.std.specs.List.{All, fold}
+use Rattle.std.proofs.Math.Nat.{suc-mul, zero-mul, lt_of_mul-lt-mul_left, mul-le-mul_right}
+use Rattle.std.proofs.lemmas.List.{append-nil, drop-drop, get_or-map, length-map, length_push, take_all}
+use Rattle.std.proofs.lemmas.List.Elements.{All-nil, All-cons, All-append, All-from_get_or}
 use Rattle.station_journal.specs.declared.asks.Ask.{Ask}
 use Rattle.station_journal.specs.declared.asks.Told.{Told}
-use Rattle.station_journal.specs.declared.journal.Entry.{Entry}
 use Rattle.station_parts.specs.declared.port.Port.{Port}
 use Rattle.station_parts.specs.declared.parts.Station.{Station}
 use Rattle.station_parts.specs.Ids.{port_id}
-use Rattle.station_parts.specs.Words.{offered, offered_before, taken, has_ended, earlier_of}
+use Rattle.station_parts.specs.Words.{offered, offered_before, has_ended, earlier_of, held_of}
 use Rattle.ring_station.specs.declared.fault.SegmentFault.{SegmentFault}
 use Rattle.ring_station.specs.declared.segment.Segment.{Segment}
-use Rattle.ring_station.specs.Segments.{EachIsHeard, HasRunOn, HaveRunOn, HandsOut, piece_behind, HaveRunNext, HandsOutNext, RunsNext}
-use Rattle.ring_station.specs.Segments.{StopsNext}
-use Rattle.ring_station.specs.Segments.{pieces_of, HasRunPieces, lists_at, journals_of, HaveRunPieces, longest_of, RunsInSegments}
-use Rattle.ring_station.specs.Segments.{StopsBehind, EachKeepsTo, RunsInTurns, StopsInTurns, piece_count}
+use Rattle.ring_station.specs.Segments.{EachIsHeard, HaveRunOn, HandsOut, piece_behind, HandsOutNext, RunsNext, StopsNext, MayBeLost}
+use Rattle.ring_station.specs.Segments.{pieces_of, HasRunPieces, lists_at, journals_of, longest_of, RunsInSegments, StopsBehind}
+use Rattle.ring_station.specs.Segments.{EachKeepsTo, RunsInTurns, StopsInTurns, piece_count, joined}
 use Rattle.ring_station.specs.PortRuns.{AreHeard}
 use Rattle.ring_station.specs.Within.{KeepsTo}
-use Rattle.ring_station.proofs.Piecing.{pieces-suc, grown_more, converse-push, scripts_whole, all_at, count_is}
-use Rattle.ring_station.proofs.StationRunning.{default_of}
-use Rattle.ring_station.proofs.Ending.{long_alike}
-use Rattle.ring_station.proofs.Within.{keeps_still, keeps_on}
+use Rattle.ring_station.proofs.CrewRunning.{item_of}
+use Rattle.ring_station.proofs.Within.{keeps_self, keeps_on}
+use Rattle.std.proofs.Math.Seq.{take-add}
+use Rattle.std.proofs.lemmas.Grind.{div_ceil_times}
+
+-- ---- all of a script
+
+pieces_joined : (asks : ℕ) (script : List Ask) (n : ℕ) → joined (pieces_of asks script n) ≡ take (n * asks) script
+pieces_joined asks script zero = rw (zero-mul asks) refl
+pieces_joined asks script (suc n) =
+    ap (λ rest. take asks script ++ rest) (pieces_joined asks (drop asks script) n)
+    ∙ sym (take-add asks _ script) ∙ ap (λ k. take k script) (omega (arith, suc-mul n asks))
+
+longest_so_far : List (Vec Ask) → ℕ → ℕ
+longest_so_far scripts most = fold (λ longest script. max longest (length script.items)) most scripts
+
+most_within : (scripts : List (Vec Ask)) (most : ℕ) → most ≤ longest_so_far scripts most
+unfolding longest_so_far
+most_within [] most = omega arith
+most_within (script ∷ rest) most = let h = most_within rest (max most (length script.items)) in omega arith
+
+each_within : (scripts : List (Vec Ask)) (most p : ℕ) (d : Vec Ask) → p < length scripts
+    → length (slice_index_or scripts p d).items ≤ longest_so_far scripts most
+unfolding longest_so_far
+each_within [] most p d less = absurd (omega arith)
+each_within (script ∷ rest) most zero d less = let h = most_within rest (max most (length script.items)) in omega arith
+each_within (script ∷ rest) most (suc p) d less = each_within rest _ p d (omega arith)
+
+pub all_at : {X : Type 0} (P : X → Type 0) (xs : List X) → ((p : ℕ) (d : X) → p < length xs → P (slice_index_or xs p d)) → All P xs
+all_at P [] h = All-nil P
+all_at P (x ∷ xs) h = All-from_get_or P (x ∷ xs) x (λ p less. h p x less)
+
+-- so many pieces are all of each script
+pub scripts_whole : (asks : ℕ) (scripts : List (Vec Ask)) (n : ℕ) → longest_of scripts ≤ n * asks
+    → All (λ script. joined (pieces_of asks script.items n) ≡ script.items) scripts
+unfolding longest_so_far
+scripts_whole asks scripts n enough =
+    all_at (λ (script : Vec Ask). joined (pieces_of asks script.items n) ≡ script.items) scripts
+    (λ p d less.
+    let script = (slice_index_or scripts p d).items in
+    pieces_joined asks script n ∙ take_all _ script (let h = each_within scripts 0 p d less in omega arith))
+
+-- ---- how many there are
+
+pub enough_pieces : (asks longest : ℕ) → 0 < asks → longest ≤ max (div_ceil longest asks) 1 * asks
+enough_pieces asks longest some =
+    let bounds = div_ceil_times longest asks some in
+    omega (arith, mul-le-mul_right {m = div_ceil longest asks} {n = max (div_ceil longest asks) 1} asks (omega arith))
+
+-- behind so many pieces there is nothing, and behind all but the last there was more, or none was cut yet
+pub count_is : (asks longest begin n : ℕ) → 0 < asks → begin + asks ≡ n * asks → (begin ≡ 0) ⊎ (begin < longest)
+    → longest ≤ begin + asks → n ≡ max (div_ceil longest asks) 1
+count_is asks longest begin n some at more enough =
+    let bounds = div_ceil_times longest asks some in
+    let few : div_ceil longest asks < suc n = lt_of_mul-lt-mul_left asks (omega arith) in
+    let one : 0 < n = lt_of_mul-lt-mul_left asks (omega arith) in
+    elim more [
+      | inl none ↦ let last : n < 2 = lt_of_mul-lt-mul_left asks (omega arith) in omega arith
+      | inr less ↦ let last : n < suc (div_ceil longest asks) = lt_of_mul-lt-mul_left asks (omega arith) in omega arith
+    ]
 
 -- ---- one run, of pieces that were cut
 
-next_is : (begin asks : ℕ) (scripts pieces : List (Vec Ask))
-    → map (λ p. p.items) pieces ≡ map (λ s. piece_behind begin asks s.items) scripts → (p : ℕ) (s : Vec Ask) → p < length scripts
-    → p < length pieces
-    → (slice_index_or pieces p s).items ≡ piece_behind begin asks (slice_index_or scripts p s).items
-next_is begin asks scripts pieces cut p s less there =
-    sym (get_or-map (λ (p : Vec Ask). p.items) pieces p s [] there) ∙ ap (λ l. slice_index_or l p []) cut
-    ∙ get_or-map (λ (s : Vec Ask). piece_behind begin asks s.items) scripts p s [] less
-
-pub have_run_next : (begin asks : ℕ) (scripts pieces : List (Vec Ask)) (old new : List Port) (segment : Segment)
-    → map (λ p. p.items) pieces ≡ map (λ s. piece_behind begin asks s.items) scripts → length scripts ≡ length old
-    → HaveRunOn pieces old new segment.lists.items → HaveRunNext begin asks scripts old new segment
-have_run_next begin asks scripts pieces old new segment cut count run =
-    let number : length pieces ≡ length scripts =
-    sym (length-map pieces (λ (p : Vec Ask). p.items)) ∙ ap length cut
-    ∙ length-map scripts (λ (s : Vec Ask). piece_behind begin asks s.items) in
-    record {
-      number = run.number;
-      each = λ p s d l less.
-          let here : p < length scripts = subst (λ n. p < n) (sym count) less in
-          subst
-          (λ script. HasRunOn script (slice_index_or old p d) (slice_index_or new p d) (slice_index_or segment.lists.items p l).items)
-          (next_is begin asks scripts pieces cut p s here (subst (λ n. p < n) (sym number) here)) (run.each p s d l less);
-    }
-
-pub hands_out_next : {W B R D : ℕ} (begin asks : ℕ) (scripts pieces shown : List (Vec Ask)) (old new : Station W B R D) (segment : Segment)
-    → shown ≡ pieces → map (λ p. p.items) pieces ≡ map (λ s. piece_behind begin asks s.items) scripts
-    → length scripts ≡ length old.ports.items → HaveRunOn shown old.ports.items new.ports.items segment.lists.items
+pub hands_out_next : {W B R D begin asks : ℕ} {scripts pieces : List (Vec Ask)} {old new : Station W B R D} {segment : Segment}
+    → map (λ p. p.items) pieces ≡ map (λ s. piece_behind begin asks s.items) scripts → length scripts ≡ length old.ports.items
+    → HaveRunOn pieces old.ports.items new.ports.items segment.lists.items
     → HandsOut old.cache new.cache segment.journal.items → HandsOutNext begin asks scripts old new segment
-hands_out_next begin asks scripts pieces shown old new segment is cut count run journal = record {
-  ran =
-      have_run_next begin asks scripts shown old.ports.items new.ports.items segment
-      (ap (λ (l : List (Vec Ask)). map (λ p. p.items) l) is ∙ cut) count run;
-  journal = journal;
-}
-
--- ---- one run more
-
-length-snoc : {A : Type 0} (xs : List A) (x : A) → length (xs ++ x ∷ []) ≡ suc (length xs)
-length-snoc xs x = omega (arith, length_push xs x)
-
-has_run_more : (pieces : List (List Ask)) (piece : List Ask) (first old new : Port) (lists : List (List Told)) (list : List Told)
-    → HasRunPieces pieces first old lists → HasRunOn piece old new list
-    → HasRunPieces (pieces ++ piece ∷ []) first new (lists ++ list ∷ [])
-has_run_more pieces piece first old new lists list h run = record {
-  said = h.said ++ run.said ∷ [];
-  converses = converse-push pieces h.said lists piece run.said list h.converses run.converses;
-  offered_is = grown_more (offered first) (offered old) (offered new) h.said run.said h.offered_is run.offered_is;
-  taken_is = grown_more (taken first) (taken old) (taken new) lists list h.taken_is run.taken_is;
-}
-
-pub have_run_none : (asks : ℕ) (scripts : List (Vec Ask)) (ports : List Port) → HaveRunPieces asks scripts ports ports []
-have_run_none asks scripts ports = record {
-  listed = All-nil (λ segment. length segment.lists.items ≡ length ports);
-  each = λ p s d l less. record {
-    said = [];
-    converses = tt;
-    offered_is = sym (append-nil (offered (slice_index_or ports p d)));
-    taken_is = sym (append-nil (taken (slice_index_or ports p d)));
-  };
-}
-
-pub have_run_more : (asks : ℕ) (scripts : List (Vec Ask)) (first old new : List Port) (segments : List Segment) (segment : Segment)
-    → length old ≡ length first → HaveRunPieces asks scripts first old segments
-    → HaveRunNext (length segments * asks) asks scripts old new segment
-    → HaveRunPieces asks scripts first new (segments ++ segment ∷ [])
-have_run_more asks scripts first old new segments segment count h next = record {
-  listed = All-push (λ segment. length segment.lists.items ≡ length first) segments segment h.listed (next.number ∙ count);
-  each = λ p s d l less.
-      let script = (slice_index_or scripts p s).items in
-      let pieces : pieces_of asks script (length (segments ++ segment ∷ []))
-      ≡ pieces_of asks script (length segments) ++ piece_behind (length segments * asks) asks script ∷ [] =
-      ap (λ n. pieces_of asks script n) (length-snoc segments segment) ∙ pieces-suc asks script (length segments) in
-      let lists : lists_at p l (segments ++ segment ∷ []) ≡ lists_at p l segments ++ (slice_index_or segment.lists.items p l).items ∷ [] =
-      map-append (λ (it : Segment). (slice_index_or it.lists.items p l).items) segments (segment ∷ []) in
-      subst₂ (λ ps ls. HasRunPieces ps (slice_index_or first p d) (slice_index_or new p d) ls) (sym pieces) (sym lists)
-      (has_run_more _ _ _ (slice_index_or old p d) _ _ _ (h.each p s d l less)
-      (next.each p s d l (subst (λ n. p < n) (sym count) less)));
-}
-
-pub journals-push : (segments : List Segment) (segment : Segment)
-    → journals_of (segments ++ segment ∷ []) ≡ journals_of segments ++ segment.journal.items
-journals-push segments segment =
-    flat_map-append (λ (it : Segment). it.journal.items) segments (segment ∷ [])
-    ∙ ap (λ l. journals_of segments ++ l) (append-nil segment.journal.items)
-
--- journals that stand behind those that were handed out before, and one more
-handed_more : (first old new : List Entry) (segments : List Segment) (segment : Segment) → old ≡ first ++ journals_of segments
-    → new ≡ old ++ segment.journal.items → new ≡ first ++ journals_of (segments ++ segment ∷ [])
-handed_more first old new segments segment before more =
-    more ∙ ap (λ l. l ++ segment.journal.items) before ∙ append_assoc first (journals_of segments) segment.journal.items
-    ∙ ap (λ l. first ++ l) (sym (journals-push segments segment))
-
--- ---- to what turns keep them
-
-module _ {W B R D : ℕ} (turns asks : ℕ) (scripts : List (Vec Ask)) where
-  each_keeps_more : (begin : ℕ) (first old new : Station W B R D) (segments : List Segment) (segment : Segment)
-      → EachKeepsTo turns begin asks scripts first old segments
-      → HandsOutNext (begin + length segments * asks) asks scripts old new segment → KeepsTo turns old new
-      → EachKeepsTo turns begin asks scripts first new (segments ++ segment ∷ [])
-  each_keeps_more begin first old new [] segment none next within =
-      let here : begin ≡ begin + 0 * asks = omega (arith, zero-mul asks) in (
-        new,
-        subst₂ (λ b s. HandsOutNext b asks scripts s new segment) (sym here) none next,
-        subst (λ s. KeepsTo turns s new) none within,
-        refl,
-      )
-  each_keeps_more begin first old new (one ∷ more) segment h next within =
-      let there : begin + suc (length more) * asks ≡ begin + asks + length more * asks = omega (arith, suc-mul (length more) asks) in (
-        h.0,
-        h.1,
-        h.2,
-        each_keeps_more (begin + asks) h.0 old new more segment h.3
-            (subst (λ b. HandsOutNext b asks scripts old new segment) there next) within,
-      )
-
-  each_keeps_all : (begin : ℕ) (old new : Station W B R D) (segments : List Segment)
-      → EachKeepsTo turns begin asks scripts old new segments → KeepsTo (length segments * turns) old new
-  each_keeps_all begin old new [] none = subst (λ s. KeepsTo (0 * turns) old s) (sym none) (keeps_still (0 * turns) old old refl refl refl)
-  each_keeps_all begin old new (one ∷ more) h =
-      let sum : turns + length more * turns ≤ suc (length more) * turns = omega (arith, suc-mul (length more) turns) in
-      keeps_on turns (length more * turns) (suc (length more) * turns) old h.0 new sum h.2
-      (each_keeps_all (begin + asks) h.0 new more h.3)
-
--- ---- the runs so far
-
--- the pieces before this place were run, and their segments handed out and kept; each run kept to its turns
-pub record HasComeTo {W B R D : ℕ} (begin asks turns : ℕ) (scripts : List (Vec Ask)) (old new : Station W B R D)
-    (kept : List Segment → Type 0) : Type 0
-  where
-    pub segments : List Segment
-    pub begin_is : begin ≡ length segments * asks
-    pub kept_is : kept segments
-    pub ran : HaveRunPieces asks scripts old.ports.items new.ports.items segments
-    pub handed_out : earlier_of new.cache ≡ earlier_of old.cache ++ journals_of segments
-    pub each : EachKeepsTo turns 0 asks scripts old new segments
+hands_out_next {begin = begin} {asks = asks} {scripts = scripts} {pieces = pieces} cut count run journal =
+    let number = simp length-map at (ap length cut) in
+    record {
+      ran = record {
+        number = run.number;
+        each = λ p s d l less.
+            let here : p < length scripts = rw count less in
+            let is =
+            sym (get_or-map (λ (v : Vec Ask). v.items) pieces p s [] (rw number here)) ∙ ap (λ l. slice_index_or l p []) cut
+            ∙ get_or-map (λ (v : Vec Ask). piece_behind begin asks v.items) scripts p s [] here in
+            rw (← is) (run.each p s d l less);
+      };
+      journal = journal;
+    }
 
 -- segments of which the gate has heard each telling: none, one, and two lists of them that were kept
 module _ (HasHeard : ℕ → Told → Type 0) where
@@ -183,189 +120,172 @@ module _ (HasHeard : ℕ → Told → Type 0) where
       → kept a (xs ++ ys) c × EachIsHeard HasHeard (xs ++ ys)
   both_heard kept a b c more xs ys first second = (more xs ys first.0 second.0, All-append IsHeard xs ys first.1 second.1)
 
-module _ {W B R D : ℕ} (asks turns : ℕ) (scripts : List (Vec Ask)) where
-  pub come_nowhere : (station : Station W B R D) (kept : List Segment → Type 0) → kept []
-      → HasComeTo 0 asks turns scripts station station kept
-  come_nowhere station kept none = record {
-    segments = [];
-    begin_is = sym (zero-mul asks);
-    kept_is = none;
-    ran = have_run_none asks scripts station.ports.items;
-    handed_out = sym (append-nil (earlier_of station.cache));
-    each = refl;
-  }
+-- ---- the runs so far
 
-  -- what was kept before, since then, and in all
-  module _ (begin : ℕ) (first old new : Station W B R D) (before since all : List Segment → Type 0)
-      (both : (xs ys : List Segment) → before xs → since ys → all (xs ++ ys))
-      (same : map port_id old.ports.items ≡ map port_id first.ports.items)
-      (so_far : HasComeTo begin asks turns scripts first old before) where
-    count : length old.ports.items ≡ length first.ports.items
-    count = long_alike port_id old.ports.items first.ports.items same
+-- the pieces before this place were run, and their segments handed out and kept; each run kept to its turns
+pub record HasComeTo {W B R D : ℕ} (begin asks turns : ℕ) (scripts : List (Vec Ask)) (old new : Station W B R D)
+    (kept : List Segment → Type 0) : Type 0
+  where
+    pub segments : List Segment
+    pub begin_is : begin ≡ length segments * asks
+    pub kept_is : kept segments
+    pub each : EachKeepsTo turns 0 asks scripts old new segments
 
-    next_at : (segment : Segment) → HandsOutNext begin asks scripts old new segment
-        → HaveRunPieces asks scripts first.ports.items new.ports.items (so_far.segments ++ segment ∷ [])
-    next_at segment next =
-        have_run_more asks scripts first.ports.items old.ports.items new.ports.items so_far.segments segment count so_far.ran
-        (subst (λ b. HaveRunNext b asks scripts old.ports.items new.ports.items segment) so_far.begin_is next.ran)
+-- ---- runs, one behind the other
 
-    handed_at : (segment : Segment) → HandsOutNext begin asks scripts old new segment
-        → earlier_of new.cache ≡ earlier_of first.cache ++ journals_of (so_far.segments ++ segment ∷ [])
-    handed_at segment next =
-        handed_more (earlier_of first.cache) (earlier_of old.cache) (earlier_of new.cache) so_far.segments segment so_far.handed_out
-        next.journal.earlier
+module _ {W B R D : ℕ} (turns asks : ℕ) (scripts : List (Vec Ask)) where
+  -- one more
+  each_keeps_more : (begin place : ℕ) (first old new : Station W B R D) (segments : List Segment) (segment : Segment)
+      → place ≡ begin + length segments * asks → EachKeepsTo turns begin asks scripts first old segments
+      → HandsOutNext place asks scripts old new segment → KeepsTo turns old new
+      → EachKeepsTo turns begin asks scripts first new (segments ++ segment ∷ [])
+  each_keeps_more begin place first old new [] segment at none next within =
+      let here : place ≡ begin = omega (arith, zero-mul asks) in
+      (new, rw (← here, ← none) next, rw (← none) within, refl)
+  each_keeps_more begin place first old new (one ∷ more) segment at h next within = (
+    h.0,
+    h.1,
+    h.2,
+    each_keeps_more (begin + asks) place h.0 old new more segment (omega (arith, suc-mul (length more) asks)) h.3 next within,
+  )
 
-    kept_still : since [] → all so_far.segments
-    kept_still none = subst all (append-nil so_far.segments) (both so_far.segments [] so_far.kept_is none)
+  -- what they make of the station, and each port of the rest of its script
+  all_ran : (begin : ℕ) (old new : Station W B R D) (segments : List Segment) → EachKeepsTo turns begin asks scripts old new segments
+      → record {
+        listed : All (λ segment. length segment.lists.items ≡ length old.ports.items) segments;
+        handed_out : earlier_of new.cache ≡ earlier_of old.cache ++ journals_of segments;
+        keeps : KeepsTo (length segments * turns) old new;
+        each : (p : ℕ) (s : Vec Ask) (d : Port) (l : Vec Told) → p < length old.ports.items
+            → HasRunPieces (pieces_of asks (drop begin (slice_index_or scripts p s).items) (length segments))
+            (slice_index_or old.ports.items p d) (slice_index_or new.ports.items p d) (lists_at p l segments);
+      }
+  all_ran begin old new [] none = rw none (record {
+    listed = All-nil _;
+    handed_out = sym (append-nil _);
+    keeps = keeps_self _ old;
+    each = λ p s d l less. record { said = []; converses = tt; offered_is = sym (append-nil _); taken_is = sym (append-nil _) };
+  })
+  all_ran begin old new (segment ∷ more) h =
+      let rest = all_ran (begin + asks) h.0 new more h.3 in
+      record {
+        listed = All-cons (λ (it : Segment). length it.lists.items ≡ length old.ports.items) segment more h.1.ran.number
+            (rw (← h.2.ports) rest.listed);
+        handed_out = rw (rest.handed_out, h.1.journal.earlier, append_assoc);
+        keeps = keeps_on (omega (arith, suc-mul (length more) turns)) h.2 rest.keeps;
+        each = λ p s d l less.
+            let one = h.1.ran.each p s d l less in
+            let others = rest.each p s d l (rw h.2.ports less) in
+            record {
+              said = one.said ∷ others.said;
+              converses = (one.converses, rw (drop-drop asks begin (slice_index_or scripts p s).items) others.converses);
+              offered_is = rw (others.offered_is, one.offered_is, append_assoc);
+              taken_is = rw (others.taken_is, one.taken_is, append_assoc);
+            };
+      }
 
-    each_at : (segment : Segment) → HandsOutNext begin asks scripts old new segment → KeepsTo turns old new
-        → EachKeepsTo turns 0 asks scripts first new (so_far.segments ++ segment ∷ [])
-    each_at segment next within =
-        let there : begin ≡ 0 + length so_far.segments * asks = let place = so_far.begin_is in omega arith in
-        each_keeps_more turns asks scripts 0 first old new so_far.segments segment so_far.each
-        (subst (λ b. HandsOutNext b asks scripts old new segment) there next) within
+  -- behind the last one the journal is empty, and each port may offer again
+  settled : (begin : ℕ) (old new : Station W B R D) (segments : List Segment) → 0 < length segments
+      → length scripts ≡ length old.ports.items → EachKeepsTo turns begin asks scripts old new segments
+      → (held_of new.cache ≡ []) × All (λ port. (offered_before port ≡ offered port) × (has_ended port ≡ false)) new.ports.items
+  settled begin old new [] some count none = absurd (omega arith)
+  settled begin old new (segment ∷ []) some count h = rw h.3 (
+    h.1.journal.held,
+    all_at (λ port. (offered_before port ≡ offered port) × (has_ended port ≡ false)) h.0.ports.items
+        (λ p d less.
+        let there = rw h.2.ports at less in
+        let run = h.1.ran.each p (item_of scripts count there) d (item_of segment.lists.items h.1.ran.number there) there in
+        (run.before, run.again)),
+  )
+  settled begin old new (segment ∷ next ∷ more) some count h =
+      settled (begin + asks) h.0 new (next ∷ more) (omega arith) (count ∙ sym h.2.ports) h.3
 
-    pub come_further : RunsNext begin asks scripts old new since → KeepsTo turns old new
-        → HasComeTo (begin + asks) asks turns scripts first new all
-    come_further next within = record {
-      segments = so_far.segments ++ next.segment ∷ [];
-      begin_is =
-          let place = so_far.begin_is in
-          let more = length-snoc so_far.segments next.segment in
-          ap (λ b. b + asks) place ∙ sym (suc-mul (length so_far.segments) asks) ∙ ap (λ n. n * asks) (sym more);
-      kept_is = both so_far.segments (next.segment ∷ []) so_far.kept_is next.kept_is;
-      ran = next_at next.segment next.handed_out;
-      handed_out = handed_at next.segment next.handed_out;
-      each = each_at next.segment next.handed_out within;
+  module _ {first new : Station W B R D} {all : List Segment → Type 0} where
+    -- behind one more there are no asks
+    pub turns_to_the_end : {begin : ℕ} → 0 < asks → (begin ≡ 0) ⊎ (begin < longest_of scripts) → longest_of scripts ≤ begin + asks
+        → HasComeTo (begin + asks) asks turns scripts first new all → RunsInTurns turns asks scripts first new all
+    turns_to_the_end {begin} some more enough come = record {
+      segments = come.segments;
+      kept_is = come.kept_is;
+      number = count_is asks _ begin _ some come.begin_is more enough;
+      each = come.each;
     }
 
-    again : (segment : Segment) → length scripts ≡ length first.ports.items → map port_id new.ports.items ≡ map port_id old.ports.items
-        → HandsOutNext begin asks scripts old new segment
-        → All (λ port. (offered_before port ≡ offered port) × (has_ended port ≡ false)) new.ports.items
-    again segment scripted still next =
-        let as_many = long_alike port_id new.ports.items old.ports.items still in
-        all_at (λ port. (offered_before port ≡ offered port) × (has_ended port ≡ false)) new.ports.items
-        (λ p d less.
-        let there : p < length old.ports.items = subst (λ n. p < n) as_many less in
-        let s = default_of scripts p (subst (λ n. p < n) (sym (scripted ∙ sym count)) there) in
-        let l = default_of segment.lists.items p (subst (λ n. p < n) (sym next.ran.number) there) in
-        let run = next.ran.each p s d l there in
-        (run.before, run.again))
+    -- so many turns keep them to as many as there are pieces
+    pub keeps_in_all : RunsInTurns turns asks scripts first new all → KeepsTo (piece_count asks scripts * turns) first new
+    keeps_in_all runs = rw (← runs.number) (all_ran 0 first new runs.segments runs.each).keeps
 
-    -- behind one more there are no asks
-    enough_at : (longest : ℕ) → longest ≡ longest_of scripts → longest ≤ begin + asks
-        → longest_of scripts ≤ suc (length so_far.segments) * asks
-    enough_at longest is enough =
-        subst₂ (λ l b. l ≤ b) is
-        (ap (λ b. b + asks) so_far.begin_is ∙ sym (suc-mul (length so_far.segments) asks)) enough
+    pub runs_in_segments : 0 < asks → length scripts ≡ length first.ports.items → RunsInTurns turns asks scripts first new all
+        → RunsInSegments asks scripts first new all
+    runs_in_segments some count runs =
+        let ran = all_ran 0 first new runs.segments runs.each in
+        let end = settled 0 first new runs.segments (omega (arith, runs.number)) count runs.each in
+        record {
+          segments = runs.segments;
+          kept_is = runs.kept_is;
+          number = runs.number;
+          ran = record { listed = ran.listed; each = ran.each };
+          whole = scripts_whole asks scripts _ (rw runs.number (enough_pieces asks _ some));
+          journals = record { earlier = ran.handed_out; held = end.0 };
+          again = end.1;
+        }
 
-    number_at : (longest : ℕ) (segment : Segment) → longest ≡ longest_of scripts → 0 < asks
-        → (begin ≡ 0) ⊎ (begin < longest_of scripts) → longest ≤ begin + asks
-        → length (so_far.segments ++ segment ∷ []) ≡ piece_count asks scripts
-    number_at longest segment is some more enough =
-        let more' = subst (λ b. (b ≡ 0) ⊎ (b < longest_of scripts)) so_far.begin_is more in
-        length-snoc so_far.segments segment
-        ∙ count_is asks (longest_of scripts) (length so_far.segments) some more' (enough_at longest is enough)
+-- ---- one run more, and one that stops
 
-    pub runs_to_the_end : (limit longest : ℕ) → asks ≡ limit → longest ≡ longest_of scripts → 0 < asks
-        → length scripts ≡ length first.ports.items → map port_id new.ports.items ≡ map port_id old.ports.items
-        → (begin ≡ 0) ⊎ (begin < longest_of scripts) → longest ≤ begin + asks → RunsNext begin asks scripts old new since
-        → RunsInSegments limit scripts first new all
-    runs_to_the_end limit longest size is some scripted still more enough next =
-        let segments = so_far.segments ++ next.segment ∷ [] in
-        let one_more : length segments ≡ suc (length so_far.segments) = length-snoc so_far.segments next.segment in
-        let within = subst (λ k. longest_of scripts ≤ k * asks) (sym one_more) (enough_at longest is enough) in
-        subst (λ a. RunsInSegments a scripts first new all) size
-        (record {
-          segments = segments;
-          kept_is = both so_far.segments (next.segment ∷ []) so_far.kept_is next.kept_is;
-          number = number_at longest next.segment is some more enough;
-          ran = next_at next.segment next.handed_out;
-          whole = scripts_whole asks scripts (length segments) within;
-          journals = record { earlier = handed_at next.segment next.handed_out; held = next.handed_out.journal.held };
-          again = again next.segment scripted still next.handed_out;
-        })
+module _ {W B R D begin asks turns : ℕ} {scripts : List (Vec Ask)} {first old new : Station W B R D}
+    {before since all : List Segment → Type 0}
+  where
+    pub come_further : HasComeTo begin asks turns scripts first old before → RunsNext begin asks scripts old new since
+        → KeepsTo turns old new → ((xs ys : List Segment) → before xs → since ys → all (xs ++ ys))
+        → HasComeTo (begin + asks) asks turns scripts first new all
+    come_further come next within both = record {
+      segments = come.segments ++ next.segment ∷ [];
+      begin_is = rw (length_push come.segments next.segment, add-one (length come.segments))
+          (omega (arith, come.begin_is, suc-mul (length come.segments) asks));
+      kept_is = both _ _ come.kept_is next.kept_is;
+      each = each_keeps_more turns asks scripts 0 begin first old new come.segments next.segment (omega (arith, come.begin_is)) come.each
+          next.handed_out within;
+    }
 
-    pub turns_to_the_end : (limit longest : ℕ) → asks ≡ limit → longest ≡ longest_of scripts → 0 < asks
-        → (begin ≡ 0) ⊎ (begin < longest_of scripts) → longest ≤ begin + asks → RunsNext begin asks scripts old new since
-        → KeepsTo turns old new → RunsInTurns turns limit scripts first new all
-    turns_to_the_end limit longest size is some more enough next within =
-        subst (λ a. RunsInTurns turns a scripts first new all) size
-        (record {
-          segments = so_far.segments ++ next.segment ∷ [];
-          kept_is = both so_far.segments (next.segment ∷ []) so_far.kept_is next.kept_is;
-          number = number_at longest next.segment is some more enough;
-          each = each_at next.segment next.handed_out within;
-        })
-
-    stops_behind : (fault : SegmentFault) → map port_id new.ports.items ≡ map port_id old.ports.items
-        → StopsNext begin asks scripts old new since fault → StopsBehind asks scripts first new all fault
-    stops_behind fault still stop =
-        elim stop.handed_out [
-          | inl unmoved ↦
-              let none = sym (append-nil so_far.segments) in
-              record {
-                segments = so_far.segments;
-                lost = [];
-                kept_is = kept_still stop.kept_is;
-                lost_is = tt;
-                handed_out = unmoved ∙ so_far.handed_out ∙ ap (λ l. earlier_of first.cache ++ journals_of l) none;
-                ports = old.ports.items;
-                same = same;
-                ran = subst (λ l. HaveRunPieces asks scripts first.ports.items old.ports.items l) none so_far.ran;
-              }
-          | inr lost ↦
-              record {
-                segments = so_far.segments;
-                lost = lost.0 ∷ [];
-                kept_is = kept_still stop.kept_is;
-                lost_is = lost.1.1;
-                handed_out = handed_at lost.0 lost.1.0;
-                ports = new.ports.items;
-                same = still ∙ same;
-                ran = next_at lost.0 lost.1.0;
-              }
-        ]
-
-    pub stops_there : (limit : ℕ) (fault told : SegmentFault) → asks ≡ limit → told ≡ fault
-        → map port_id new.ports.items ≡ map port_id old.ports.items → StopsNext begin asks scripts old new since fault
-        → StopsBehind limit scripts first new all told
-    stops_there limit fault told size is still stop =
-        subst₂ (λ a f. StopsBehind a scripts first new all f) size (sym is) (stops_behind fault still stop)
-
-    turns_behind : (fault : SegmentFault) → StopsNext begin asks scripts old new since fault → KeepsTo turns old new
-        → StopsInTurns turns asks scripts first new all fault
-    turns_behind fault stop within =
-        elim stop.handed_out [
-          | inl unmoved ↦
-              record {
-                segments = so_far.segments;
-                lost = [];
-                kept_is = kept_still stop.kept_is;
-                lost_is = tt;
-                renewed = old;
-                each = subst (λ l. EachKeepsTo turns 0 asks scripts first old l) (sym (append-nil so_far.segments)) so_far.each;
-                since = within;
-              }
-          | inr lost ↦
-              record {
-                segments = so_far.segments;
-                lost = lost.0 ∷ [];
-                kept_is = kept_still stop.kept_is;
-                lost_is = lost.1.1;
-                renewed = new;
-                each = each_at lost.0 lost.1.0 within;
-                since = keeps_still turns new new refl refl refl;
-              }
-        ]
-
-    pub turns_there : (limit : ℕ) (fault told : SegmentFault) → asks ≡ limit → told ≡ fault
+    -- one that stops
+    pub stops_there : {fault : SegmentFault} → HasComeTo begin asks turns scripts first old before
         → StopsNext begin asks scripts old new since fault → KeepsTo turns old new
-        → StopsInTurns turns limit scripts first new all told
-    turns_there limit fault told size is stop within =
-        subst₂ (λ a f. StopsInTurns turns a scripts first new all f) size (sym is) (turns_behind fault stop within)
-
-pub keeps_in_all : {W B R D : ℕ} (turns asks : ℕ) (scripts : List (Vec Ask)) (old new : Station W B R D) (kept : List Segment → Type 0)
-    → RunsInTurns turns asks scripts old new kept → KeepsTo (piece_count asks scripts * turns) old new
-keeps_in_all turns asks scripts old new kept runs =
-    subst (λ n. KeepsTo (n * turns) old new) runs.number (each_keeps_all turns asks scripts 0 old new runs.segments runs.each)
+        → map port_id old.ports.items ≡ map port_id first.ports.items
+        → map port_id new.ports.items ≡ map port_id old.ports.items → ((xs ys : List Segment) → before xs → since ys → all (xs ++ ys))
+        → StopsBehind asks scripts first new all fault × StopsInTurns turns asks scripts first new all fault
+    stops_there {fault} come stop within same still both =
+        let segments = come.segments in
+        let kept : all segments = rw append-nil at (both segments [] come.kept_is stop.kept_is) in
+        let stops = λ (lost : List Segment) (lost_is : MayBeLost fault lost) (renewed : Station W B R D)
+        (each : EachKeepsTo turns 0 asks scripts first renewed (segments ++ lost)) (since : KeepsTo turns renewed new)
+        (ids : map port_id renewed.ports.items ≡ map port_id first.ports.items) (earlier : earlier_of new.cache ≡ earlier_of renewed.cache).
+        let ran = all_ran turns asks scripts 0 first renewed (segments ++ lost) each in
+        let both : StopsBehind asks scripts first new all fault × StopsInTurns turns asks scripts first new all fault = (
+          record {
+            segments = segments;
+            lost = lost;
+            kept_is = kept;
+            lost_is = lost_is;
+            handed_out = earlier ∙ ran.handed_out;
+            ports = renewed.ports.items;
+            same = ids;
+            ran = record { listed = ran.listed; each = ran.each };
+          },
+          record {
+            segments = segments;
+            lost = lost;
+            kept_is = kept;
+            lost_is = lost_is;
+            renewed = renewed;
+            each = each;
+            since = since;
+          },
+        ) in
+        both in
+        elim stop.handed_out [
+          | inl unmoved ↦ stops [] tt old (rw append-nil come.each) within same unmoved
+          | inr lost ↦
+              stops (lost.0 ∷ []) lost.1.1 new
+              (each_keeps_more turns asks scripts 0 begin first old new segments lost.0 (omega (arith, come.begin_is)) come.each lost.1.0
+              within)
+              (keeps_self turns new) (still ∙ same) refl
+        ]

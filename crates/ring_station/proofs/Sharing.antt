@@ -1,11 +1,10 @@
 -- A turn of each part of a thread, one part after another.
-use Rattle.std.proofs.Common.{◌≡◌, ◌↔◌, ◌<◌, ◌+◌, ℕ, List, [], ◌∷◌, ◌++◌, slice_index_or, refl, sym, ap, ◌∙◌, subst, arith}
-use Rattle.std.proofs.Common.{below_more, set, length, inl, inr, add-one}
+use Rattle.std.proofs.Common.{◌≡◌, ◌↔◌, ◌<◌, ◌+◌, ℕ, List, [], ◌∷◌, ◌++◌, slice_index_or, refl, sym, ap, ◌∙◌, arith}
+use Rattle.std.proofs.Common.{below_more, set, length, ◌⊎◌, inl, inr, add-one}
 use Rattle.std.specs.List.{All}
 use Rattle.std.specs.Prelude.{true, false, Option, Some, None, IfSome}
-use Rattle.std.proofs.lemmas.List.{get_or-set_same, get_or-set_other, get_or_default, get_or_append_left, length-append}
+use Rattle.std.proofs.lemmas.List.{get_or-set_same, get_or-set_other, get_or_default, get_or_append_left, get_or_push, length-append}
 use Rattle.std.proofs.lemmas.List.Sums.{fold-append}
-use Rattle.std.proofs.Math.Seq.{get_or-append_seam}
 use Rattle.ring_station.specs.declared.idle.Turn.{Turn}
 use Rattle.ring_station.specs.Idle.{turn_of_both}
 use Rattle.ring_station.specs.Turns.{HadTurns, TakeTurns, TakeAllTurns}
@@ -30,17 +29,17 @@ one_turn R k old now e y all m less turn h =
       number = length-append h.made (m ∷ []) ∙ ap (λ n. n + 1) h.number;
       before = λ j d n u. below_more (λ i. R i (slice_index_or old i d) (slice_index_or (set now k y) i d) (slice_index_or made i n)) k
           (λ i v.
-          subst (R i (slice_index_or old i d) (slice_index_or (set now k y) i d))
-          (sym (get_or_append_left h.made (m ∷ []) n i (subst (λ l. i < l) (sym h.number) v)))
-          (subst (λ x. R i (slice_index_or old i d) x (slice_index_or h.made i n)) (sym (get_or-set_other now k i y d (λ q. omega arith)))
-          (h.before i d n v)))
-          (subst (R k (slice_index_or old k d) (slice_index_or (set now k y) k d))
-          (sym (subst (λ i. slice_index_or made i n ≡ m) h.number (get_or-append_seam h.made m [] n)))
-          (subst (λ x. R k (slice_index_or old k d) x m) (sym (get_or-set_same now k y d less))
-          (subst (λ x. R k x y m) (get_or_default now k e d less ∙ h.behind k d (omega arith)) turn)))
+          rw (get_or_append_left h.made (m ∷ []) n i (rw h.number v), get_or-set_other now k i y d (λ q. omega arith)) (h.before i d n v))
+          (rw (
+            get_or_push h.made m n k h.number,
+            get_or-set_same now k y d less,
+            ← h.behind k d (omega arith),
+            get_or_default now k d e less,
+          )
+          turn)
           j u;
       behind = λ j d u. get_or-set_other now k j y d (λ q. omega arith) ∙ h.behind j d (omega arith);
-      all_is = ap (λ a. turn_of_both a m) h.all_is ∙ sym (fold-append turn_of_both None h.made (m ∷ []));
+      all_is = ap (λ a. turn_of_both a m) h.all_is ∙ sym (fold-append turn_of_both None h.made _);
     }
 
 -- what holds of each that has had its turn, and of the next one
@@ -49,20 +48,13 @@ pub one_more : {X : Type 0} (P : X → Type 0) (k : ℕ) (now : List X) (y : X) 
     → (j : ℕ) (d : X) → j < k + 1 → P (slice_index_or (set now k y) j d)
 one_more P k now y less before here = λ j d u.
     below_more (λ i. P (slice_index_or (set now k y) i d)) k
-    (λ i v. subst P (sym (get_or-set_other now k i y d (λ q. omega arith))) (before i d v))
-    (subst P (sym (get_or-set_same now k y d less)) here) j u
+    (λ i v. rw (get_or-set_other now k i y d (λ q. omega arith)) (before i d v)) (rw (get_or-set_same now k y d less) here) j u
 
 -- what two turns come to is `None` only if each is
 both_none : (one other : Option Turn) → turn_of_both one other ≡ None → (one ≡ None) × (other ≡ None)
-both_none None None e = (refl, refl)
-both_none None (Some other) e = cc
-both_none (Some one) None e = cc
-both_none (Some one) (Some other) e = cc
-
-none_of_both : (one other : Option Turn) → one ≡ None → other ≡ None → turn_of_both one other ≡ None
-none_of_both None None e f = refl
-none_of_both (Some one) other e f = cc
-none_of_both None (Some other) e f = cc
+both_none None other e = (refl, e)
+both_none one None e = (e, refl)
+both_none one other e = absurd (cc)
 
 -- all turns come to `None` if and only if each of the runs is over
 pub over_more : {X : Type 0} (P : X → Type 0) (k : ℕ) (now : List X) (y : X) (all m : Option Turn) → k < length now
@@ -70,15 +62,16 @@ pub over_more : {X : Type 0} (P : X → Type 0) (k : ℕ) (now : List X) (y : X)
     → (turn_of_both all m ≡ None) ↔ ((j : ℕ) (d : X) → j < k + 1 → P (slice_index_or (set now k y) j d))
 over_more P k now y all m less here before = (
   λ none. let both = both_none all m none in one_more P k now y less (before.0 both.0) (here.0 both.1),
-  λ over. none_of_both all m
-      (before.1 (λ j d u. subst P (get_or-set_other now k j y d (λ q. omega arith)) (over j d (omega arith))))
-      (here.1 (subst P (get_or-set_same now k y y less) (over k y (omega arith)))),
+  λ over. rw (
+    before.1 (λ j d u. rw (get_or-set_other now k j y d (λ q. omega arith)) at (over j d (omega arith))),
+    here.1 (rw (get_or-set_same now k y y less) at (over k y (omega arith))),
+  ) refl,
 )
 
 -- a turn behind which the run goes on comes to something
 pub none_if_over : (Q : Turn → Type 0) (m : Option Turn) {goes : _} → IfSome m (λ made. (goes ≡ true) × Q made) → goes ≡ false → m ≡ None
 none_if_over Q None h e = refl
-none_if_over Q (Some made) h e = let on = h.0 in cc
+none_if_over Q (Some made) h e = cc
 
 -- what each turn was is also what follows of it
 pub turns_so : {X : Type 0} (R S : ℕ → X → X → Option Turn → Type 0) (k : ℕ) (old now : List X) (all : Option Turn)
@@ -99,24 +92,22 @@ pub record HaveCome {Part : Type 0} (Takes : ℕ → List Part → List Part →
   pub at : turn ≡ had + count
   pub taken : TakeTurns Takes had count first last
 
-pub come_at_first : {Part : Type 0} (Takes : ℕ → List Part → List Part → Type 0) (had : ℕ) (xs : List Part) → HaveCome Takes had had xs xs
-come_at_first Takes had xs = record { count = 0; at = omega arith; taken = refl }
+pub come_at_first : {Part : Type 0} {Takes : ℕ → List Part → List Part → Type 0} {had : ℕ} {xs : List Part} → HaveCome Takes had had xs xs
+come_at_first = record { count = 0; at = omega arith; taken = refl }
 
-pub come_further : {Part : Type 0} (Takes : ℕ → List Part → List Part → Type 0) (had turn : ℕ) (first before last : List Part)
+pub come_further : {Part : Type 0} {Takes : ℕ → List Part → List Part → Type 0} {had turn : ℕ} {first before last : List Part}
     → HaveCome Takes had turn first before → Takes turn before last → HaveCome Takes had (turn + 1) first last
-come_further Takes had turn first before last h taken =
+come_further {before = before} h taken =
     let at = h.at in
     record {
       count = h.count + 1;
       at = omega arith;
-      taken = subst (λ n. TakeTurns Takes had n first last) (sym (add-one h.count))
-          (before, h.taken, subst (λ t. Takes t before last) at taken);
+      taken = rw (add-one h.count) (before, h.taken, rw (← at) taken);
     }
 
-pub come_to_last : {Part : Type 0} (Takes : ℕ → List Part → List Part → Type 0) (IsOver : Part → Type 0) (had turn turns : ℕ)
-    (first last : List Part) → turn ≡ turns → HaveCome Takes had turn first last → TakeAllTurns Takes IsOver had turns first last
-come_to_last Takes IsOver had turn turns first last e h = record { count = h.count; taken = h.taken; ended = inl (sym h.at ∙ e) }
-
-pub come_to_end : {Part : Type 0} (Takes : ℕ → List Part → List Part → Type 0) (IsOver : Part → Type 0) (had turn turns : ℕ)
-    (first last : List Part) → All IsOver last → HaveCome Takes had turn first last → TakeAllTurns Takes IsOver had turns first last
-come_to_end Takes IsOver had turn turns first last over h = record { count = h.count; taken = h.taken; ended = inr over }
+-- to the last one, or until the runs of all are over
+pub come_to_end : {Part : Type 0} {Takes : ℕ → List Part → List Part → Type 0} {IsOver : Part → Type 0} {had turn turns : ℕ}
+    {first last : List Part} → (turn ≡ turns) ⊎ All IsOver last → HaveCome Takes had turn first last
+    → TakeAllTurns Takes IsOver had turns first last
+come_to_end (inl all) h = record { count = h.count; taken = h.taken; ended = inl (sym h.at ∙ all) }
+come_to_end (inr over) h = record { count = h.count; taken = h.taken; ended = inr over }

@@ -1,4 +1,4 @@
-use Rattle.ring_station.proofs.Serving.{served_at_first}
+use Rattle.ring_station.proofs.Turning.{served_at_first}
 use Rattle.ring_station.proofs.bank_thread.run_bank_thread.Goals as goal
 
 pub returns-clause-served : goal.returns-clause-served

@@ -15,7 +15,7 @@ loop-k-preserved g c =
     let less : k < length now = search rules in
     record {
       turns = rw c.turn_of_both-all.ensures
-          (one_turn _ k c.args.runs.now now _ _ _ _ less (made.on, made.turn) c.loop-k.invariant.turns);
+          (one_turn _ k _ now _ _ _ _ less (made.on, made.turn) c.loop-k.invariant.turns);
       over = rw c.turn_of_both-all.ensures (over_more (λ r. goes_on r.end.fault ≡ false) k now _ _ _ less
           (made.over, none_if_over _ _ made.made) c.loop-k.invariant.over);
     }

@@ -1,73 +1,80 @@
-use Rattle.std.proofs.Common.{rules, arith, length, sym, ap, ◌∙◌, lit<}
-use Rattle.ring_station.proofs.GoingRound.{counted_within, takes_turn, turned, gone_round, gone_out}
-use Rattle.ring_station.proofs.Turning.{turn_notes, noted_more, noted_still, ended_more, ended_still, cache_ran, is_served, full_turn}
+use Rattle.std.proofs.Common.{rules, arith, refl, sym, ◌∙◌, lit<}
+use Rattle.ring_station.proofs.GoingRound.{counted_within, turned, gone_round}
+use Rattle.ring_station.proofs.Turning.{round_notes, ended_more, full_turn}
 use Rattle.ring_station.proofs.cache_thread.go_round.Goals as goal
 
 pub loop-turn-preserved : goal.loop-turn-preserved
 loop-turn-preserved g c =
     let made = c.turn_round-stepped.ensures.turn in
-    let notes = turn_notes _ _ _ _ _ made.turn in
-    let place = c.entries-entries.ensures ∙ ap length (sym made.looks.held) in
+    let notes = round_notes made in
+    let so_far = c.loop-turn.invariant in
+    let served = c.serve_beside-served.ensures in
     record {
-      same = c.turn_round-stepped.ensures.same ∙ c.loop-turn.invariant.same;
-      earlier = notes.earlier ∙ made.looks.earlier ∙ c.loop-turn.invariant.earlier;
-      noted = noted_more _ _ _ _ notes (noted_still _ _ _ _ made.looks.held c.loop-turn.invariant.noted);
-      banks = c.serve_beside-served.ensures.on _ c.loop-turn.invariant.banks;
-      within = counted_within _ _ _ _ c.serve_beside-served.ensures.counted c.loop-turn.invariant.within;
-      round = turned _ _ _ _ _ c.loop-turn.invariant.round
-          (takes_turn _ _ _ _ _ c.may.ensures c.are_banks_due.ensures c.serve_beside-served.ensures.counted made);
-      ended = ended_more _ _ _ _ _ _ _ notes place c.has_ended_port.ensures c.still_open-open_ports.ensures
-          (ended_still _ _ _ _ made.looks.held c.loop-turn.invariant.ended);
+      same = c.turn_round-stepped.ensures.same ∙ so_far.same;
+      earlier = notes.earlier ∙ so_far.earlier;
+      noted = omega (arith, notes.few, so_far.noted);
+      banks = served.on _ so_far.banks;
+      within = counted_within _ _ _ _ served.counted so_far.within;
+      round = turned _ _ _ _ _ _ _ so_far.round c.may.ensures c.are_banks_due.ensures served.counted made;
+      ended = ended_more _ _ notes c.entries-entries.ensures c.has_ended_port.ensures c.still_open-open_ports.ensures so_far.ended;
     }
 
 pub returns-then-is_at_rest-clause-cache : goal.returns-then-is_at_rest-clause-cache
 returns-then-is_at_rest-clause-cache g c =
     let made = c.turn_round-stepped.ensures.turn in
-    let notes = turn_notes _ _ _ _ _ made.turn in
-    let place = c.entries-entries.ensures ∙ ap length (sym made.looks.held) in
-    cache_ran _ _ _ _ _ _ _ c.over.ensures (search rules) (
-      search rules,
-      is_served _ _ _ c.still_open-open_ports.result _ (search rules) c.is_at_rest.ensures c.if-is_at_rest.true
-          (ended_more _ _ _ _ _ _ _ notes place c.has_ended_port.ensures c.still_open-open_ports.ensures
-          (ended_still _ _ _ _ made.looks.held c.loop-turn.invariant.ended)),
-    )
-    (c.turn_round-stepped.ensures.same ∙ c.loop-turn.invariant.same)
-    (notes.earlier ∙ made.looks.earlier ∙ c.loop-turn.invariant.earlier)
-    (noted_more _ _ _ _ notes (noted_still _ _ _ _ made.looks.held c.loop-turn.invariant.noted))
-
-pub returns-then-eq-clause-cache : goal.returns-then-eq-clause-cache
-returns-then-eq-clause-cache g c =
-    let made = c.turn_round-stepped.ensures.turn in
-    let notes = turn_notes _ _ _ _ _ made.turn in
-    cache_ran _ _ _ _ _ _ _ c.stopped.ensures (search rules)
-    (full_turn _ _ _ _ _ made.turn (search rules))
-    (c.turn_round-stepped.ensures.same ∙ c.loop-turn.invariant.same)
-    (notes.earlier ∙ made.looks.earlier ∙ c.loop-turn.invariant.earlier)
-    (noted_more _ _ _ _ notes (noted_still _ _ _ _ made.looks.held c.loop-turn.invariant.noted))
+    let notes = round_notes made in
+    let so_far = c.loop-turn.invariant in
+    let ended =
+    ended_more _ _ notes c.entries-entries.ensures c.has_ended_port.ensures c.still_open-open_ports.ensures so_far.ended in
+    rw c.over.ensures (record {
+      same = c.turn_round-stepped.ensures.same ∙ so_far.same;
+      earlier = notes.earlier ∙ so_far.earlier;
+      noted = omega (arith, notes.few, so_far.noted);
+      ended = record {
+        within = search rules;
+        stands = (search rules, record { rests = sym c.is_at_rest.ensures ∙ c.if-is_at_rest.true; ended = omega (arith, ended) });
+      };
+    })
 
 pub returns-then-is_at_rest-clause-banks : goal.returns-then-is_at_rest-clause-banks
 returns-then-is_at_rest-clause-banks g c = c.serve_beside-served.ensures.on _ c.loop-turn.invariant.banks
 
 pub returns-then-is_at_rest-clause-within : goal.returns-then-is_at_rest-clause-within
 returns-then-is_at_rest-clause-within g c =
-    let more = counted_within _ _ _ _ c.serve_beside-served.ensures.counted c.loop-turn.invariant.within in omega arith
+    omega (arith, counted_within _ _ _ _ c.serve_beside-served.ensures.counted c.loop-turn.invariant.within)
 
 pub returns-then-is_at_rest-clause-round : goal.returns-then-is_at_rest-clause-round
 returns-then-is_at_rest-clause-round g c =
-    gone_round _ _ _ _ _ _ _ _ c.over.ensures c.loop-turn.invariant.round
-    (takes_turn _ _ _ _ _ c.may.ensures c.are_banks_due.ensures c.serve_beside-served.ensures.counted c.turn_round-stepped.ensures.turn)
+    gone_round _ _ c.over.ensures refl
+    (turned _ _ _ _ _ _ _ c.loop-turn.invariant.round c.may.ensures c.are_banks_due.ensures c.serve_beside-served.ensures.counted
+    c.turn_round-stepped.ensures.turn)
+
+pub returns-then-eq-clause-cache : goal.returns-then-eq-clause-cache
+returns-then-eq-clause-cache g c =
+    let made = c.turn_round-stepped.ensures.turn in
+    let notes = round_notes made in
+    let so_far = c.loop-turn.invariant in
+    rw c.stopped.ensures (record {
+      same = c.turn_round-stepped.ensures.same ∙ so_far.same;
+      earlier = notes.earlier ∙ so_far.earlier;
+      noted = omega (arith, notes.few, so_far.noted);
+      ended = record {
+        within = search rules;
+        stands = full_turn _ _ _ _ _ made.turn (search rules);
+      };
+    })
 
 pub returns-then-eq-clause-banks : goal.returns-then-eq-clause-banks
 returns-then-eq-clause-banks g c = c.serve_beside-served.ensures.on _ c.loop-turn.invariant.banks
 
 pub returns-then-eq-clause-within : goal.returns-then-eq-clause-within
-returns-then-eq-clause-within g c =
-    let more = counted_within _ _ _ _ c.serve_beside-served.ensures.counted c.loop-turn.invariant.within in omega arith
+returns-then-eq-clause-within g c = omega (arith, counted_within _ _ _ _ c.serve_beside-served.ensures.counted c.loop-turn.invariant.within)
 
 pub returns-then-eq-clause-round : goal.returns-then-eq-clause-round
 returns-then-eq-clause-round g c =
-    gone_round _ _ _ _ _ _ _ _ c.stopped.ensures c.loop-turn.invariant.round
-    (takes_turn _ _ _ _ _ c.may.ensures c.are_banks_due.ensures c.serve_beside-served.ensures.counted c.turn_round-stepped.ensures.turn)
+    gone_round _ _ c.stopped.ensures refl
+    (turned _ _ _ _ _ _ _ c.loop-turn.invariant.round c.may.ensures c.are_banks_due.ensures c.serve_beside-served.ensures.counted
+    c.turn_round-stepped.ensures.turn)
 
 pub entries-entries-requires : goal.entries-entries-requires
 entries-entries-requires g c = lit< tt
@@ -82,4 +89,4 @@ pub is_at_rest-requires : goal.is_at_rest-requires
 is_at_rest-requires g c = lit< tt
 
 pub returns-clause-round : goal.returns-clause-round
-returns-clause-round g c = gone_out _ _ _ _ _ _ _ _ c.stopped-2.ensures (search rules) c.loop-turn.invariant.round
+returns-clause-round g c = gone_round _ _ c.stopped-2.ensures (search rules) c.loop-turn.invariant.round

@@ -12,7 +12,7 @@ loop-k-init g c = record { turns = no_turns _ _; over = (λ none j d less. absur
 
 pub turn_of_port-made-requires-clause-ready : goal.turn_of_port-made-requires-clause-ready
 turn_of_port-made-requires-clause-ready g c κs within =
-    ready_now c.args.scripts.now c.args.start c.args.turn c.loop-k.k c.args.runs.now c.loop-k.runs c.index-scripts-p.result _ _
+    ready_now _ _ _ c.loop-k.k _ c.loop-k.runs c.index-scripts-p.result _ _
     (c.as_slice.ensures.value ∙ ap (λ (v : Vec Ask). v.items) c.index-scripts-p.is) c.requires.ready (search rules)
     (λ d. c.loop-k.invariant.turns.behind c.loop-k.k d (omega arith))
 
@@ -22,7 +22,7 @@ loop-k-preserved g c =
     let now = c.loop-k.runs in
     let made = c.turn_of_port-made.ensures in
     let less : k < length now = search rules in
-    let on = goes_on_at c.args.scripts.now (c.args.start + k) c.args.turn c.index-scripts-p.result _ _ _
+    let on = goes_on_at _ (c.args.start + k) c.args.turn c.index-scripts-p.result _ _ _
     (c.as_slice.ensures.value ∙ ap (λ (v : Vec Ask). v.items) c.index-scripts-p.is) (search rules) made.on in
     record {
       turns = rw c.turn_of_both-all.ensures

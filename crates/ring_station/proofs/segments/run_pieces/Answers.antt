@@ -8,14 +8,16 @@ returns-in_err-keep-clause-stops g c =
     let told = c.from_residual-in_err-keep in
     let fault = err_from_is_err_and told.result told.ensures.1 in
     let ran = c.in_ok-segment.ensures in
-    let handed_out =
-    hands_out_next c.args.begin c.args.asks c.args.scripts.now c.in_ok-pieces.pieces.items c.deref.result.now c.args.station.now
-    c.run_and_renew.new.station c.in_ok-segment.segment c.deref.ensures.value c.in_ok-pieces.ensures
-    (c.requires.scripts ∙ c.args.station.now.ports.ok.0) ran.lists ran.journal in
-    rw fault.1
-    (record {
-      kept_is = (c.in_err-keep.ensures.refused, none_heard (g.G.Gate.has_heard c.args.gate.now));
-      handed_out = inr (c.in_ok-segment.segment, (handed_out, fault.2));
+    rw fault.1 (record {
+      kept_is = (c.in_err-keep.ensures.refused, none_heard (g.G.Gate.has_heard _));
+      handed_out = inr (
+        c.in_ok-segment.segment,
+        (
+          hands_out_next c.in_ok-pieces.ensures (c.requires.scripts ∙ c.args.station.now.ports.ok.0)
+              (rw c.deref.ensures.value at ran.lists) ran.journal,
+          fault.2,
+        ),
+      );
     })
 
 pub returns-clause-runs : goal.returns-clause-runs
@@ -23,9 +25,7 @@ returns-clause-runs g c =
     let ran = c.in_ok-segment.ensures in
     record {
       segment = c.in_ok-segment.segment;
-      kept_is = (c.in_ok-keep.ensures.kept, one_heard (g.G.Gate.has_heard c.args.gate.now) c.in_ok-segment.segment ran.heard);
-      handed_out =
-          hands_out_next c.args.begin c.args.asks c.args.scripts.now c.in_ok-pieces.pieces.items c.deref.result.now c.args.station.now
-          c.run_and_renew.new.station c.in_ok-segment.segment c.deref.ensures.value c.in_ok-pieces.ensures
-          (c.requires.scripts ∙ c.args.station.now.ports.ok.0) ran.lists ran.journal;
+      kept_is = (c.in_ok-keep.ensures.kept, one_heard (g.G.Gate.has_heard _) c.in_ok-segment.segment ran.heard);
+      handed_out = hands_out_next c.in_ok-pieces.ensures (c.requires.scripts ∙ c.args.station.now.ports.ok.0)
+          (rw c.deref.ensures.value at ran.lists) ran.journal;
     }

@@ -1,5 +1,4 @@
 use Rattle.std.proofs.Common.{rules}
-use Rattle.ring_station.proofs.CrewRunning.{chunk_served}
 use Rattle.ring_station.proofs.threads.run_banks.Goals as goal
 
 pub returns-clause-served : goal.returns-clause-served
@@ -7,7 +6,7 @@ returns-clause-served g c = record {
   number = search rules;
   each = λ b d less.
       let at = (c.for_each_share.ensures.each b d less).1 in
-      chunk_served _ _ _ _ _ at.old_element at.new_element (at.call.0.each at.offset d at.offset_in_chunk);
+      rw (← at.old_element, ← at.new_element) (at.call.0.each at.offset d at.offset_in_chunk);
 }
 
 pub returns-clause-threads : goal.returns-clause-threads

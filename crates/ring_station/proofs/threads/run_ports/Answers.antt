@@ -1,7 +1,6 @@
-use Rattle.std.proofs.Common.{◌<◌, sym, subst, rules}
+use Rattle.std.proofs.Common.{zero-add, rules}
 use denote.Param.Send.{sendable}
 use Rattle.std.proofs.Crossing.{crosses}
-use Rattle.ring_station.proofs.CrewRunning.{chunk_ran, chunk_heard}
 use Rattle.ring_station.proofs.Crossing.{port_run_sent}
 use Rattle.ring_station.proofs.threads.run_ports.Goals as goal
 
@@ -10,16 +9,15 @@ returns-clause-ran g c = record {
   number = search rules;
   each = λ p s d less.
       let at = (c.for_each_share.ensures.each p d less).1 in
-      chunk_ran c.args.scripts.now c.args.turns at.start at.offset p s _ _ _ _ at.start_plus_offset at.old_element at.new_element
-      (at.call.0.each at.offset s d at.offset_in_chunk);
+      let ran = rw at.start_plus_offset at (at.call.0.each at.offset s d at.offset_in_chunk) in
+      rw (← at.old_element, ← at.new_element) ran;
 }
 
 pub returns-clause-heard : goal.returns-clause-heard
 returns-clause-heard g c = λ p d less.
     let at = (c.for_each_share.ensures.each p d (search rules)).1 in
-    let there = subst (λ n. at.offset < n) (sym at.call.0.number) at.offset_in_chunk in
-    chunk_heard (g.G.Gate.has_heard c.args.gate.now) at.start at.offset p _ _ at.start_plus_offset at.new_element
-    (at.call.1.1 at.offset d there)
+    let heard = rw at.start_plus_offset at (at.call.1.1 at.offset d (rw at.call.0.number at.offset_in_chunk)) in
+    rw (zero-add, ← at.new_element) heard
 
 pub returns-clause-threads : goal.returns-clause-threads
 returns-clause-threads g c = λ n less.
