@@ -1,6 +1,6 @@
 -- What is read of one more entry of a journal.
 use Rattle.std.proofs.Common.{◌≡◌, ℕ, zero, suc, ◌+◌, ◌<◌, List, [], ◌∷◌, ◌++◌, length, take, get_or, slice_get, Option, Some, None, refl}
-use Rattle.std.proofs.Common.{sym, ap, ◌∙◌, arith}
+use Rattle.std.proofs.Common.{ap, arith}
 use Rattle.std.proofs.lemmas.List.{take_more}
 use Rattle.std.proofs.lemmas.Option.{get_or_from_slice_get, slice_get_within}
 use Rattle.flat_model.specs.declared.Event.{Event}
@@ -25,27 +25,19 @@ answers_of-append (Step source event answer ∷ xs) ys = ap (λ l. answer ∷ l)
 
 -- the entry that follows the first ones
 module _ (xs : List Entry) (i : ℕ) (d entry : Entry) (within : i < length xs) (is : get_or xs i d ≡ entry) where
-  one_more : take (i + 1) xs ≡ take i xs ++ entry ∷ []
-  one_more = take_more xs i d within ∙ ap (λ e. take i xs ++ e ∷ []) is
-
   pub events_more : (old new : List Event) → old ≡ events_of (take i xs) → new ≡ old ++ events_of (entry ∷ [])
       → new ≡ events_of (take (i + 1) xs)
-  events_more old new before adds =
-      adds ∙ ap (λ l. l ++ events_of (entry ∷ [])) before ∙ sym (events_of-append (take i xs) (entry ∷ [])) ∙ ap events_of (sym one_more)
+  events_more old new before adds = grind (arith, take_more xs i d, events_of-append)
 
   pub answers_more : (old new : List Answer) → old ≡ answers_of (take i xs) → new ≡ old ++ answers_of (entry ∷ [])
       → new ≡ answers_of (take (i + 1) xs)
-  answers_more old new before adds =
-      adds ∙ ap (λ l. l ++ answers_of (entry ∷ [])) before ∙ sym (answers_of-append (take i xs) (entry ∷ []))
-      ∙ ap answers_of (sym one_more)
+  answers_more old new before adds = grind (arith, take_more xs i d, answers_of-append)
 
 -- the telling of that entry, if it is one
 pub told_more : (port : ℕ) (xs : List Entry) (i : ℕ) (d : Entry) (telling : Option Told) (old new : List Told) → i < length xs
     → told_list telling ≡ told_of port (get_or xs i d ∷ []) → old ≡ told_of port (take i xs) → new ≡ old ++ told_list telling
     → new ≡ told_of port (take (i + 1) xs)
-told_more port xs i d telling old new within tells before adds =
-    adds ∙ ap (λ l. l ++ told_list telling) before ∙ ap (λ l. told_of port (take i xs) ++ l) tells
-    ∙ sym (told_of-append port (take i xs) (get_or xs i d ∷ [])) ∙ ap (told_of port) (sym (take_more xs i d within))
+told_more port xs i d telling old new within tells before adds = grind (arith, take_more xs i d, told_of-append)
 
 -- ---- entries that are read one by one
 
@@ -53,8 +45,7 @@ pub read_more : (xs : List Entry) (i : ℕ) (e : Entry) (old new : List Entry) �
     → new ≡ old ++ e ∷ []
     → new ≡ take (i + 1) xs
 read_more xs i e old new is before adds =
-    adds ∙ ap (λ l. l ++ e ∷ []) before ∙ ap (λ x. take i xs ++ x ∷ []) (sym (get_or_from_slice_get xs i e e is))
-    ∙ sym (take_more xs i e (slice_get_within xs i e is))
+    grind (arith, get_or_from_slice_get xs i e e, take_more xs i e, slice_get_within xs i e)
 
 pub read_none : {X : Type 0} (xs : List Entry) (i : ℕ) → slice_get xs i ≡ None → i < length xs → X
 read_none [] i none within = absurd (omega arith)

@@ -1,7 +1,7 @@
 -- Texts that are written one behind the other.
-use Rattle.std.proofs.Common.{◌≡◌, ℕ, zero, suc, ◌+◌, ◌<◌, List, [], ◌∷◌, ◌++◌, length, take, drop, get_or, refl, sym, ap, ◌∙◌, subst}
-use Rattle.std.proofs.Common.{add-zero, zero-add, append-nil, append_assoc, arith, Result, Ok, Err, OnOk}
-use Rattle.std.specs.Prelude.{Option, Some, None, flat_map}
+use Rattle.std.proofs.Common.{zero-add, ◌≡◌, ℕ, zero, suc, ◌+◌, ◌<◌, List, [], ◌∷◌, ◌++◌, length, take, drop, get_or, refl, add-one}
+use Rattle.std.proofs.Common.{append-nil, append_assoc, arith, Result, OnOk}
+use Rattle.std.specs.Prelude.{Option, flat_map}
 use Rattle.std.specs.List.{slice_get, enumerate_from}
 use Rattle.std.specs.Global.{Vec}
 use Rattle.std.specs.Io.KnownBytes.{Appends}
@@ -12,39 +12,26 @@ use Rattle.station_checks.specs.PortTexts.{final_verdicts, ask_line, placed_ask_
 
 pub appends_more : (old next new : Option (List ℕ)) (xs ys : List ℕ) → Appends old next xs → Appends next new ys
     → Appends old new (xs ++ ys)
-appends_more None next new xs ys p q = tt
-appends_more (Some bs) None new xs ys p q = absurd p
-appends_more (Some bs) (Some cs) None xs ys p q = absurd q
-appends_more (Some bs) (Some cs) (Some ds) xs ys p q = q ∙ ap (λ l. l ++ ys) p ∙ append_assoc bs xs ys
+appends_more old next new xs ys p q = grind (arith, append_assoc)
 
 pub more_told : {X E : Type 0} (r : Result X E) (old next new : Option (List ℕ)) (first second : List ℕ) → Appends old next first
     → OnOk r (Appends next new second) → OnOk r (Appends old new (first ++ second))
-more_told (Ok x) old next new first second p q = appends_more old next new first second p q
-more_told (Err e) old next new first second p q = tt
+more_told r old next new first second p q = grind (arith, appends_more)
 
 -- ---- items that are told with their places
 
 numbered_from : {X : Type 0} (f : ℕ × X → List ℕ) (n : ℕ) (xs : List X) (i : ℕ) (d : X) → i < length xs
     → flat_map f (enumerate_from n (take (suc i) xs)) ≡ flat_map f (enumerate_from n (take i xs)) ++ f (n + i, get_or xs i d)
 numbered_from f n [] i d within = absurd (omega arith)
-numbered_from f n (x ∷ xs) zero d within = append-nil (f (n, x)) ∙ ap (λ k. f (k, x)) (sym (add-zero n))
-numbered_from f n (x ∷ xs) (suc i) d within =
-    let e : n + 1 + i ≡ n + suc i = omega arith in
-    ap (λ l. f (n, x) ++ l) (numbered_from f (n + 1) xs i d (omega arith)
-    ∙ ap (λ k. flat_map f (enumerate_from (n + 1) (take i xs)) ++ f (k, get_or xs i d)) e)
-    ∙ sym (append_assoc (f (n, x)) (flat_map f (enumerate_from (n + 1) (take i xs))) (f (n + suc i, get_or xs i d)))
+numbered_from f n (x ∷ xs) zero d within = grind (arith, append-nil)
+numbered_from f n (x ∷ xs) (suc i) d within = grind (arith, append_assoc, numbered_from f (n + 1) xs i d)
 
 -- one item more
 pub numbered_more : {X : Type 0} (f : ℕ × X → List ℕ) (xs : List X) (i : ℕ) (d : X) (old next new : Option (List ℕ)) → i < length xs
     → Appends old next (flat_map f (enumerate_from 0 (take i xs))) → Appends next new (f (i, get_or xs i d))
     → Appends old new (flat_map f (enumerate_from 0 (take (i + 1) xs)))
-numbered_more f xs i d old next new within before adds =
-    let e : i + 1 ≡ suc i = omega arith in
-    let text = flat_map f (enumerate_from 0 (take i xs)) in
-    subst (Appends old new)
-    (ap (λ k. text ++ f (k, get_or xs i d)) (sym (zero-add i)) ∙ sym (numbered_from f 0 xs i d within)
-    ∙ ap (λ k. flat_map f (enumerate_from 0 (take k xs))) (sym e))
-    (appends_more old next new text (f (i, get_or xs i d)) before adds)
+numbered_more f xs i d old next new within before adds = rw (add-one, numbered_from f 0 xs i d within, zero-add i)
+    (appends_more old next new _ _ before adds)
 
 -- ---- what is left of a list
 
@@ -72,15 +59,12 @@ module _ (list : List Told) (asks : List Ask) (i : ℕ) (rest : List Told)
       → Appends old new (flat_map (placed_ask_line list) (enumerate_from 0 (take (i + 1) asks)))
   ask_more d verdict old next new within first told adds =
       numbered_more (placed_ask_line list) asks i d old next new within told
-      (subst (λ v. Appends next new (ask_line list (get_or asks i d) v))
-      (first ∙ ap (λ vs. slice_get vs 0) before ∙ first_left (final_verdicts list) i) adds)
+      (rw (first, before, first_left (final_verdicts list) i) at adds)
 
   -- and the others are left
   pub fewer_left : (behind : List Told) → final_verdicts behind ≡ drop 1 (final_verdicts rest)
       → final_verdicts behind ≡ drop (i + 1) (final_verdicts list)
-  fewer_left behind is =
-      let e : suc i ≡ i + 1 = omega arith in
-      is ∙ ap (drop 1) before ∙ one_less (final_verdicts list) i ∙ ap (λ k. drop k (final_verdicts list)) e
+  fewer_left behind is = rw add-one (cc (is, before, one_less (final_verdicts list) i))
 
 -- one port more
 pub port_more : (asks : ℕ) (lists : List (Vec Told)) (scripts : List (Vec Ask)) (i : ℕ) (script d : Vec Ask) (items : List Ask)
@@ -90,6 +74,4 @@ pub port_more : (asks : ℕ) (lists : List (Vec Told)) (scripts : List (Vec Ask)
     → Appends next new (port_text i asks items list)
     → Appends old new (flat_map (numbered_port_text asks lists) (enumerate_from 0 (take (i + 1) scripts)))
 port_more asks lists scripts i script d items list old next new within is holds told before adds =
-    numbered_more (numbered_port_text asks lists) scripts i d old next new within before
-    (subst (λ l. Appends next new (port_text i asks (get_or scripts i d).items l)) told
-    (subst (λ s. Appends next new (port_text i asks s list)) (holds ∙ ap (λ v. v.items) is) adds))
+    numbered_more (numbered_port_text asks lists) scripts i d old next new within before (rw (told, holds, is) at adds)

@@ -1,25 +1,20 @@
-use Rattle.std.proofs.Common.{◌∙◌, append-nil, ap, sym}
+use Rattle.std.proofs.Common.{append-nil, arith}
 use Rattle.station_checks.proofs.Reading.{events_more, answers_more}
 use Rattle.station_checks.proofs.checks.pairs_in.Goals as goal
 use Rattle.station_checks.proofs.checks.pairs_in.Goals.{in-Step+in_ok-push+in_ok-push-2, in_default}
 
 pub loop-entry-preserved : goal.loop-entry-preserved
 loop-entry-preserved c =
-    let xs = c.args.journal.now in let i = c.loop-entry.entry-index in let within = c.loop-entry-test.true in
-    let before = c.loop-entry.invariant in
+    let within = c.loop-entry-test.true in
     elim c.match-entry.branch [
       | in-Step+in_ok-push+in_ok-push-2 w ↦
           record {
-            events = events_more xs i _ _ within w.in-Step.is _ _ before.events
-                (ap (λ v. v.items) w.events-is ∙ w.in_ok-push.ensures.items);
-            answers = answers_more xs i _ _ within w.in-Step.is _ _ before.answers
-                (ap (λ v. v.items) w.answers-is ∙ w.in_ok-push-2.ensures.items);
+            events = events_more _ _ _ _ within w.in-Step.is _ _ c.loop-entry.invariant.events (grind arith);
+            answers = answers_more _ _ _ _ within w.in-Step.is _ _ c.loop-entry.invariant.answers (grind arith);
           }
       | in_default w ↦
           record {
-            events = events_more xs i _ _ within w.in_default.is _ _ before.events
-                (ap (λ v. v.items) w.events-is ∙ sym (append-nil c.loop-entry.events.items));
-            answers = answers_more xs i _ _ within w.in_default.is _ _ before.answers
-                (ap (λ v. v.items) w.answers-is ∙ sym (append-nil c.loop-entry.answers.items));
+            events = events_more _ _ _ _ within w.in_default.is _ _ c.loop-entry.invariant.events (grind (arith, append-nil));
+            answers = answers_more _ _ _ _ within w.in_default.is _ _ c.loop-entry.invariant.answers (grind (arith, append-nil));
           }
     ]

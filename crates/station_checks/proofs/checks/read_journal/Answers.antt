@@ -11,5 +11,5 @@ loop-place-preserved g c =
       | in-Some+in_ok-push w ↦
           read_more xs c.loop-place.place w.in-Some.entry _ _ (sym c.entry.ensures ∙ w.in-Some.is) c.loop-place.invariant
           (ap (λ v. v.items) w.entries-is ∙ w.in_ok-push.ensures.items)
-      | in_default w ↦ read_none xs c.loop-place.place (sym c.entry.ensures ∙ w.in_default.is) (omega (arith, c.entries-place-end.ensures))
+      | in_default w ↦ read_none xs c.loop-place.place (grind arith) (omega (arith, c.entries-place-end.ensures))
     ]

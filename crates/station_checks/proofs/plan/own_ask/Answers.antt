@@ -1,5 +1,4 @@
-use Rattle.std.proofs.Common.{ap, ◌∙◌}
-use Rattle.rand_pcg.specs.Pcg.{pcg32}
+use Rattle.std.proofs.Common.{arith}
 use Rattle.station_checks.specs.Asked.{drawn_on, own_word}
 use Rattle.station_checks.proofs.Asking.{is_drawn}
 use Rattle.station_checks.proofs.plan.own_ask.Goals as goal
@@ -12,4 +11,4 @@ returns-clause-asked c =
 
 pub returns-clause-rest : goal.returns-clause-rest
 unfolding drawn_on
-returns-clause-rest c = ap (λ p. p.1) c.next_word.ensures ∙ ap (λ g. (pcg32 g).1) (ap (λ p. p.1) c.next_word-pick.ensures)
+returns-clause-rest c = grind arith
