@@ -1,12 +1,12 @@
 -- A text is cut at its first space.
-use Rattle.std.proofs.Common.{◌≡◌, ◌≢◌, ℕ, zero, suc, ◌+◌, ◌<◌, Bool, true, false, Option, Some, None, List, [], ◌∷◌, ◌++◌, length, take}
-use Rattle.std.proofs.Common.{drop, get_or, take-append-drop, drop-cons, add-one, length-append, append-nil, refl, ◌∙◌, ap, subst}
+use Rattle.std.proofs.Common.{◌≡◌, ◌≢◌, ℕ, ◌+◌, ◌<◌, Bool, true, false, Option, Some, None, List, [], ◌∷◌, ◌++◌, length, take}
+use Rattle.std.proofs.Common.{drop, get_or, take-append-drop, drop-cons, add-one, length-append, append-nil, refl, sym, subst}
 use Rattle.std.proofs.Common.{arith}
-use Rattle.std.specs.Prelude.{cond, nat_lt, ◌==◌}
+use Rattle.std.specs.Prelude.{cond, ◌==◌}
 use Rattle.std.proofs.lemmas.Bool.Decides.{nat_tests}
 use Rattle.std.proofs.lemmas.Bool.{eqb-true}
-use Rattle.std.proofs.lemmas.List.Sums.{position_or_len_is, passes_at_first}
-use Rattle.std.proofs.Math.Seq.{take-append_seam, drop-append-add, get_or-append_seam}
+use Rattle.std.proofs.lemmas.List.Sums.{passes_at_first}
+use Rattle.std.proofs.Math.Seq.{take-append_seam, drop-append-add}
 use Rattle.std.specs.List.{AllByRecursion, position_or_len}
 use Rattle.trace_text.specs.Lines.{cut_at, cut_of}
 
@@ -14,37 +14,16 @@ use Rattle.trace_text.specs.Lines.{cut_at, cut_of}
 abbrev pub NoSpace : List ℕ → Type 0
 NoSpace = AllByRecursion (λ b. b ≢ 32)
 
-is_not : (b : ℕ) → b ≢ 32 → (b == 32) ≡ false
-is_not b ne = grind arith
-
-in_front : (xs ys : List ℕ) (k : ℕ) → NoSpace xs → k < length xs → (get_or (xs ++ ys) k 0 == 32) ≡ false
-in_front [] ys k none lt = absurd (omega arith)
-in_front (x ∷ xs) ys zero none lt = is_not x none.0
-in_front (x ∷ xs) ys (suc k) none lt = in_front xs ys k none.1 (omega arith)
-
-drop_seam : (xs : List ℕ) (y : ℕ) (ys : List ℕ) → drop (length xs + 1) (xs ++ y ∷ ys) ≡ ys
-drop_seam xs y ys = drop-append-add xs (y ∷ ys) 1
+place : (xs ys : List ℕ) → NoSpace xs → (0 < length ys → get_or ys 0 0 ≡ 32) → position_or_len (λ b. b == 32) (xs ++ ys) ≡ length xs
+place [] [] none first = refl
+place [] (y ∷ ys) none first = grind arith
+place (x ∷ xs) ys none first = grind (arith, place xs ys)
 
 pub cut_front : (xs ys : List ℕ) → NoSpace xs → cut_of (xs ++ 32 ∷ ys) ≡ (xs, Some ys)
-cut_front xs ys none =
-    let text = xs ++ 32 ∷ ys in
-    let lt : length xs < length text = omega (arith, length-append xs (32 ∷ ys)) in
-    let place : position_or_len (λ b. b == 32) text ≡ length xs =
-    position_or_len_is (λ b. b == 32) text (length xs) 0 (omega (arith, lt)) (λ k below. in_front xs (32 ∷ ys) k none below)
-    (λ _. ap (λ b. b == 32) (get_or-append_seam xs 32 ys 0)) in
-    let test : nat_lt (length xs) (length text) ≡ true = grind (arith, nat_tests) in
-    ap (λ i. cut_at text (cond (nat_lt i (length text)) (Some i) None)) place
-    ∙ ap (λ b. cut_at text (cond b (Some (length xs)) None)) test
-    ∙ ap (λ l. (l, Some (drop (length xs + 1) text))) (take-append_seam xs (32 ∷ ys))
-    ∙ ap (λ l. (xs, Some l)) (drop_seam xs 32 ys)
+cut_front xs ys none = grind (arith, place xs (32 ∷ ys), take-append_seam xs (32 ∷ ys), drop-append-add xs (32 ∷ ys) 1, length-append)
 
-pub cut_none : (xs : List ℕ) → NoSpace xs → cut_of xs ≡ (xs, None)
-cut_none xs none =
-    let place : position_or_len (λ b. b == 32) xs ≡ length xs =
-    position_or_len_is (λ b. b == 32) xs (length xs) 0 (omega arith)
-    (λ k below. subst (λ l. (get_or l k 0 == 32) ≡ false) (append-nil xs) (in_front xs [] k none below)) (λ h. absurd (omega (arith, h))) in
-    let test : nat_lt (length xs) (length xs) ≡ false = grind (arith, nat_tests) in
-    ap (λ i. cut_at xs (cond (nat_lt i (length xs)) (Some i) None)) place ∙ ap (λ b. cut_at xs (cond b (Some (length xs)) None)) test
+cut_none : (xs : List ℕ) → NoSpace xs → cut_of xs ≡ (xs, None)
+cut_none xs none = grind (arith, place xs [], append-nil)
 
 -- a front and what stands behind the space after it
 abbrev pub whole : List ℕ → Option (List ℕ) → List ℕ
@@ -63,18 +42,16 @@ cut_test text i false h = refl
 pub cut_is : (text : List ℕ) → text ≡ whole (cut_of text).0 (cut_of text).1
 cut_is text = grind (arith, cut_test, nat_tests, at_space, eqb-true, passes_at_first)
 
--- ---- fields without a space
+pub cut_whole : (front : List ℕ) (rest : Option (List ℕ)) → NoSpace front → cut_of (whole front rest) ≡ (front, rest)
+cut_whole front None none = cut_none front none
+cut_whole front (Some rest) none = cut_front front rest none
 
-abbrev pub no_space : List ℕ → Bool
-no_space [] = true
-no_space (b ∷ bs) = cond (b == 32) false (no_space bs)
-
-space_test : (b : Bool) (x : Bool) → cond b false x ≡ true → (b ≡ false) × (x ≡ true)
-space_test true x e = cc
-space_test false x e = (refl, e)
-
-pub no_space_in : (xs : List ℕ) → no_space xs ≡ true → NoSpace xs
-no_space_in [] e = tt
-no_space_in (b ∷ bs) e =
-    let t = space_test (b == 32) (no_space bs) e in
-    (λ is. let same : (b == 32) ≡ true = grind (arith, nat_tests) in cc, no_space_in bs t.1)
+-- what holds of each text that is cut and read as `l` holds of this one
+pub cut_read : {L : Type 0} (P : List ℕ → Type 0) (from : List ℕ × Option (List ℕ) → Option L) (l : L) (f : List ℕ)
+    → ((t : List ℕ) → from (t, None) ≡ None) → ((t a : List ℕ) → from (t, Some a) ≡ Some l → P (t ++ 32 ∷ a))
+    → from (cut_of f) ≡ Some l → P f
+cut_read P from l f none some e = subst P (sym (cut_is f)) (go (cut_of f) e)
+  where
+    go : (p : List ℕ × Option (List ℕ)) → from p ≡ Some l → P (whole p.0 p.1)
+    go (t, None) is = let nothing = none t in cc
+    go (t, Some a) is = some t a is

@@ -1,6 +1,6 @@
 -- The events of the lines so far.
-use Rattle.std.proofs.Common.{◌≡◌, ℕ, ◌+◌, ◌≤◌, Option, Some, None, Ok, List, [], ◌∷◌, ◌++◌, length, length-append}
-use Rattle.std.proofs.Common.{append_assoc, sym, ◌∙◌, ap, arith}
+use Rattle.std.proofs.Common.{◌≡◌, ℕ, ◌≤◌, Option, Ok, List, [], ◌∷◌, ◌++◌, length, length-append}
+use Rattle.std.proofs.Common.{append_assoc, arith}
 use Rattle.std.specs.Option.{option_to_list}
 use Rattle.flat_model.specs.declared.Event.{Event}
 use Rattle.trace_text.specs.Lines.{line_of}
@@ -12,24 +12,11 @@ use Rattle.trace_text.specs.declared.lines.Line.{Line}
 events_more : (texts : List (List ℕ)) (text : List ℕ) → trace_events (texts ++ text ∷ []) ≡ trace_events texts
     ++ option_to_list (event_of (line_of text))
 events_more [] text = grind arith
-events_more (t ∷ ts) text =
-    ap (λ l. option_to_list (event_of (line_of t)) ++ l) (events_more ts text)
-    ∙ sym (append_assoc (option_to_list (event_of (line_of t))) (trace_events ts) (option_to_list (event_of (line_of text))))
-
-one_at_most : (o : Option Event) → length (option_to_list o) ≤ 1
-one_at_most None = omega arith
-one_at_most (Some x) = omega arith
+events_more (t ∷ ts) text = grind (arith, events_more ts text, append_assoc)
 
 pub events_few : (texts : List (List ℕ)) → length (trace_events texts) ≤ length texts
 events_few [] = omega arith
-events_few (t ∷ ts) =
-    omega (
-      arith,
-      events_few ts,
-      one_at_most (event_of (line_of t)),
-      length-append (option_to_list (event_of (line_of t)))
-          (trace_events ts),
-    )
+events_few (t ∷ ts) = grind (arith, events_few ts, length-append)
 
 -- one line more
 pub gathered_more : (most : ℕ) (old new : Events) (event : Option Event) (said : Line) (texts : List (List ℕ)) (text : List ℕ)

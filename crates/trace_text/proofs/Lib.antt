@@ -1,7 +1,6 @@
 pub mod Places
 pub mod Ranges
 pub mod Numbers
-pub mod Words
 pub mod Serving
 pub mod Readings
 pub mod Ends

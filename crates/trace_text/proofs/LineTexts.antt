@@ -1,15 +1,13 @@
 -- How bytes become lines, one by one: whatever a line's fault is, and however long it may be.
-use Rattle.std.proofs.Common.{◌≡◌, ◌≢◌, ℕ, ◌+◌, ◌<◌, ◌≤◌, Bool, true, false, Option, Some, List, [], ◌∷◌, ◌++◌, length, take, drop, get_or}
-use Rattle.std.proofs.Common.{length-append, append-nil, append_assoc, take-append-drop, refl, sym, ◌∙◌, ap, arith}
-use Rattle.std.specs.Prelude.{nat_lt}
+use Rattle.std.proofs.Common.{◌≡◌, ◌≢◌, ℕ, ◌+◌, ◌<◌, ◌≤◌, Option, Some, List, [], ◌∷◌, ◌++◌, length, take, drop, get_or}
+use Rattle.std.proofs.Common.{length-append, append_assoc, take-append-drop, refl, sym, ◌∙◌, ap, arith}
 use Rattle.std.proofs.Math.Seq.{get_or-append_seam}
 use Rattle.std.proofs.lemmas.List.{get_or_append_left, take_all, take_more}
-use Rattle.std.proofs.lemmas.Bool.Decides.{nat_tests}
 use Rattle.trace_text.specs.Streams.{HasNoEnd}
 use Rattle.trace_text.specs.Reading.{joined_texts, IsGood, Good, BeginsFaulty}
 use Rattle.trace_text.specs.Lines.{IsSaid}
 use Rattle.trace_text.specs.declared.lines.LineFault.{LineFault}
-use Rattle.trace_text.specs.declared.lines.LineFault.TheVariants.{Unknown, Field, TooLong, NotEnded}
+use Rattle.trace_text.specs.declared.lines.LineFault.TheVariants.{TooLong, NotEnded}
 use Rattle.trace_text.proofs.Serving.{all_then}
 
 -- ---- bytes without an LF
@@ -17,27 +15,23 @@ use Rattle.trace_text.proofs.Serving.{all_then}
 pub none_yet : HasNoEnd []
 none_yet k lt e = omega (arith, lt)
 
-at_end : (bytes : List ℕ) (b k : ℕ) → b ≢ 10 → HasNoEnd bytes → k < length bytes + 1 → get_or (bytes ++ b ∷ []) k 0 ≢ 10
-at_end bytes b k ne none lt e = go (nat_lt k (length bytes)) refl
-  where
-    go : (t : Bool) → nat_lt k (length bytes) ≡ t → ⊥
-    go true is = grind (arith, nat_tests, get_or_append_left)
-    go false is =
-        let here : k ≡ length bytes = grind (arith, nat_tests) in
-        ne (sym (get_or-append_seam bytes b [] 0) ∙ sym (ap (λ i. get_or (bytes ++ b ∷ []) i 0) here) ∙ e)
-
 pub none_more : (bytes : List ℕ) (b : ℕ) → b ≢ 10 → HasNoEnd bytes → HasNoEnd (bytes ++ b ∷ [])
-none_more bytes b ne none k lt e = grind (arith, at_end, length-append)
+none_more bytes b ne none k lt e =
+    grind (arith, length-append, get_or_append_left bytes (b ∷ []) 0 k, get_or-append_seam bytes b [] 0, none k)
 
 -- ---- faulty lines
 
--- a line that ends here and has a fault that lines are said to have
+-- a first line that has a fault that lines are said to have
+pub begins_with : (fault_in : List ℕ → Option LineFault) (most : ℕ) (text more bytes : List ℕ) (f : LineFault) → bytes ≡ text ++ (10 ∷ more)
+    → length text ≤ most → HasNoEnd text → IsSaid f → fault_in text ≡ Some f → BeginsFaulty fault_in most bytes f
+begins_with fault_in most text more bytes TooLong is short none said fault = absurd said
+begins_with fault_in most text more bytes NotEnded is short none said fault = absurd said
+begins_with fault_in most text more bytes f is short none said fault = (text, more, is, short, none, fault)
+
+-- a line that ends here and has such a fault
 pub begins_said : (fault_in : List ℕ → Option LineFault) (most : ℕ) (text : List ℕ) (f : LineFault) → length text ≤ most → HasNoEnd text
     → IsSaid f → fault_in text ≡ Some f → BeginsFaulty fault_in most (text ++ 10 ∷ []) f
-begins_said fault_in most text Unknown short none said fault = grind arith
-begins_said fault_in most text Field short none said fault = grind arith
-begins_said fault_in most text TooLong short none said fault = absurd said
-begins_said fault_in most text NotEnded short none said fault = absurd said
+begins_said fault_in most text f = begins_with fault_in most text [] _ f refl
 
 -- a line that is too long already
 pub begins_long : (fault_in : List ℕ → Option LineFault) (most : ℕ) (bytes : List ℕ) → length bytes ≡ most + 1 → HasNoEnd bytes
@@ -46,10 +40,20 @@ begins_long fault_in most bytes long none = grind (arith, take_all)
 
 -- ---- lines
 
-joined_more : (texts : List (List ℕ)) (text : List ℕ) → joined_texts (texts ++ text ∷ []) ≡ joined_texts texts ++ (text ++ 10 ∷ [])
-joined_more [] text = refl
-joined_more (t ∷ ts) text =
-    ap (λ l. t ++ (10 ∷ l)) (joined_more ts text) ∙ sym (append_assoc t (10 ∷ joined_texts ts) (text ++ 10 ∷ []))
+joined_then : (xs ys : List (List ℕ)) → joined_texts (xs ++ ys) ≡ joined_texts xs ++ joined_texts ys
+joined_then [] ys = refl
+joined_then (x ∷ xs) ys = grind (arith, joined_then xs ys, append_assoc)
+
+pub good_then : {f : List ℕ → Option LineFault} {most : ℕ} {bytes ys rest : List ℕ} {xs zs : List (List ℕ)}
+    → Good f most bytes xs ys → Good f most ys zs rest → Good f most bytes (xs ++ zs) rest
+good_then {f = f} {most = most} {xs = xs} {zs = zs} p q = record {
+  each = all_then (IsGood f most) xs zs p.each q.each;
+  split = grind (arith, p.split, q.split, joined_then, append_assoc);
+}
+
+pub good_one : {f : List ℕ → Option LineFault} {most : ℕ} (text rest bytes : List ℕ)
+    → IsGood f most text → bytes ≡ text ++ (10 ∷ rest) → Good f most bytes (text ∷ []) rest
+good_one text rest bytes good e = record { each = (good, tt); split = e ∙ sym (append_assoc text (10 ∷ []) rest) }
 
 -- more bytes behind the lines
 pub good_more : {f : List ℕ → Option LineFault} {most : ℕ} {bytes rest : List ℕ} {texts : List (List ℕ)} (more : List ℕ)
@@ -62,21 +66,14 @@ good_more {rest = rest} {texts = texts} more p = record {
 -- the bytes behind the lines are a line that ends here
 pub good_line : {f : List ℕ → Option LineFault} {most : ℕ} {bytes text : List ℕ} {texts : List (List ℕ)} → Good f most bytes texts text
     → IsGood f most text → Good f most (bytes ++ 10 ∷ []) (texts ++ text ∷ []) []
-good_line {f = f} {most = most} {bytes = bytes} {text = text} {texts = texts} p good = record {
-  each = all_then (IsGood f most) texts (text ∷ []) p.each (good, tt);
-  split = (good_more (10 ∷ []) p).split ∙ sym (joined_more texts text) ∙ sym (append-nil (joined_texts (texts ++ text ∷ [])));
-}
+good_line {text = text} p good = good_then (good_more (10 ∷ []) p) (good_one text [] _ good refl)
 
 -- ---- bytes one by one
 
 pub one_more : (before bytes : List ℕ) (i b : ℕ) → i < length bytes → b ≡ get_or bytes i 0
     → (before ++ take i bytes) ++ b ∷ [] ≡ before ++ take (i + 1) bytes
-one_more before bytes i b lt is =
-    append_assoc before (take i bytes) (b ∷ []) ∙ ap (λ x. before ++ (take i bytes ++ x ∷ [])) is
-    ∙ ap (λ l. before ++ l) (sym (take_more bytes i 0 lt))
+one_more before bytes i b lt is = grind (arith, append_assoc, take_more bytes i 0 lt)
 
 pub rest_behind : (before bytes : List ℕ) (i b : ℕ) → i < length bytes → b ≡ get_or bytes i 0
     → ((before ++ take i bytes) ++ b ∷ []) ++ drop (i + 1) bytes ≡ before ++ bytes
-rest_behind before bytes i b lt is =
-    ap (λ l. l ++ drop (i + 1) bytes) (one_more before bytes i b lt is) ∙ append_assoc before (take (i + 1) bytes) (drop (i + 1) bytes)
-    ∙ ap (λ l. before ++ l) (take-append-drop (i + 1) bytes)
+rest_behind before bytes i b lt is = grind (arith, one_more before bytes i b lt is, append_assoc, take-append-drop)

@@ -1,12 +1,11 @@
 -- The number that digits stand for is the one that has them.
-use Rattle.std.proofs.Common.{◌≡◌, ℕ, zero, suc, ◌&&◌, ◌+◌, ◌-◌, ◌*◌, ◌^◌, ◌<◌, ◌≤◌, Bool, true, false, List, [], ◌∷◌, length, None}
-use Rattle.std.proofs.Common.{Some, Option, get_or, refl, sym, ◌∙◌, ap, arith, decimal}
-use Rattle.std.specs.Prelude.{nat_le, cond}
+use Rattle.std.proofs.Common.{◌≡◌, ℕ, zero, suc, ◌+◌, ◌-◌, ◌*◌, ◌^◌, ◌<◌, ◌≤◌, Bool, true, false, List, [], ◌∷◌, length}
+use Rattle.std.proofs.Common.{Some, get_or, refl, arith, decimal}
+use Rattle.std.specs.Prelude.{cond}
 use Rattle.std.proofs.Common.{rules}
 use Rattle.std.proofs.lemmas.Str.Parse.{IsNumeralModel, numerals_by_fold}
 use Rattle.std.proofs.lemmas.Fmt.{decimal-digits_value, digits_decimal, digits_value-decimal, decimal_nonempty, first_decimal}
 use Rattle.std.proofs.lemmas.Fmt.{decimal_digit}
-use Rattle.std.proofs.lemmas.Bool.{and_parts, leb-true}
 use Rattle.trace_text.specs.Fields.{is_digit, number_after, begins_badly, number_of}
 
 abbrev pub read_on : ℕ → List ℕ → ℕ
@@ -20,52 +19,26 @@ all_digits (c ∷ cs) = cond (is_digit c) (all_digits cs) false
 pub own : IsNumeralModel (λ ds. all_digits ds ≡ true) (read_on 0)
 own = numerals_by_fold _ (search rules) read_on (search rules)
 
-taken : (t : Bool) (x : Option ℕ) (m : ℕ) → cond t x None ≡ Some m → (t ≡ true) × (x ≡ Some m)
-taken true x m e = (refl, e)
-taken false x m e = cc
-
-of_le : (a b : ℕ) → a ≤ b → nat_le a b ≡ true
-of_le a b e = grind arith
-
 after_reads : (most n m : ℕ) (bs : List ℕ) → n ≤ most → number_after most n bs ≡ Some m → (all_digits bs ≡ true) × (read_on n bs ≡ m) ×
     (m ≤ most)
 after_reads most n m [] le e = grind arith
-after_reads most n m (b ∷ bs) le e =
-    let t = taken (is_digit b && nat_le (n * 10 + (b - 48)) most) (number_after most (n * 10 + (b - 48)) bs) m e in
-    let d = and_parts (is_digit b) (nat_le (n * 10 + (b - 48)) most) t.0 in
-    let rest = after_reads most (n * 10 + (b - 48)) m bs (leb-true (n * 10 + (b - 48)) most d.1) t.1 in
-    (ap (λ x. cond x (all_digits bs) false) d.0 ∙ rest.0, rest.1, rest.2)
+after_reads most n m (b ∷ bs) le e = grind (arith, after_reads most (n * 10 + (b - 48)) m bs)
 
 read_ge : (n : ℕ) (bs : List ℕ) → n ≤ read_on n bs
 read_ge n [] = omega arith
 read_ge n (b ∷ bs) = omega (arith, read_ge (n * 10 + (b - 48)) bs)
 
-pub digits_taken : (t x : Bool) → cond t x false ≡ true → (t ≡ true) × (x ≡ true)
-digits_taken true x e = (refl, e)
-digits_taken false x e = cc
-
 after_gives : (most n : ℕ) (bs : List ℕ) → all_digits bs ≡ true → read_on n bs ≤ most → number_after most n bs ≡ Some (read_on n bs)
 after_gives most n [] e le = refl
-after_gives most n (b ∷ bs) e le =
-    let d = digits_taken (is_digit b) (all_digits bs) e in
-    let small : nat_le (n * 10 + (b - 48)) most ≡ true = of_le (n * 10 + (b - 48)) most (omega (arith, read_ge (n * 10 + (b - 48)) bs)) in
-    ap (λ x. cond (x && nat_le (n * 10 + (b - 48)) most) (number_after most (n * 10 + (b - 48)) bs) None) d.0
-    ∙ ap (λ x. cond x (number_after most (n * 10 + (b - 48)) bs) None) small
-    ∙ after_gives most (n * 10 + (b - 48)) bs d.1 le
-
-not_taken : (t : Bool) (x : Option ℕ) (m : ℕ) → cond t None x ≡ Some m → (t ≡ false) × (x ≡ Some m)
-not_taken true x m e = cc
-not_taken false x m e = (refl, e)
+after_gives most n (b ∷ bs) e le = grind (arith, read_ge (n * 10 + (b - 48)) bs, after_gives most (n * 10 + (b - 48)) bs)
 
 good_front : (ds : List ℕ) → begins_badly ds ≡ false → (0 < length ds) × (get_or ds 0 0 ≡ 48 → length ds ≡ 1)
 good_front [] e = cc
-good_front (a ∷ []) e = grind arith
-good_front (a ∷ b ∷ ds) e = grind arith
+good_front (a ∷ ds) e = grind arith
 
 front_good : (ds : List ℕ) → 0 < length ds → (get_or ds 0 0 ≡ 48 → length ds ≡ 1) → begins_badly ds ≡ false
 front_good [] some h = absurd (omega arith)
-front_good (a ∷ []) some h = refl
-front_good (a ∷ b ∷ ds) some h = grind arith
+front_good (a ∷ ds) some h = grind arith
 
 short : (n : ℕ) → n < 2 ^ 64 → get_or (decimal n) 0 0 ≡ 48 → length (decimal n) ≡ 1
 short zero fits is = grind (arith, decimal_digit)
@@ -73,11 +46,7 @@ short (suc n) fits is = grind (arith, first_decimal)
 
 pub number_read : (most n : ℕ) (text : List ℕ) → most < 2 ^ 32 → number_of most text ≡ Some n → (text ≡ decimal n) × (n ≤ most)
 number_read most n text small e =
-    let t = not_taken (begins_badly text) (number_after most 0 text) n e in
-    let r = after_reads most 0 n text (omega arith) t.1 in
-    let f = good_front text t.0 in
-    let spelled : decimal (read_on 0 text) ≡ text = decimal-digits_value own text r.0 f.0 f.1 (omega (arith, r.1, r.2)) in
-    (sym spelled ∙ ap decimal r.1, r.2)
+    grind (arith, after_reads most 0 n text, good_front text, decimal-digits_value own text)
 
 pub number_written : (most n : ℕ) → most < 2 ^ 32 → n ≤ most → number_of most (decimal n) ≡ Some n
 number_written most n small le = grind (arith, digits_value-decimal, own, front_good, decimal_nonempty, short, after_gives, digits_decimal)

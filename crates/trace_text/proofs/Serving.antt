@@ -2,8 +2,9 @@
 use Rattle.std.proofs.Common.{◌≡◌, ℕ, take, drop, take-append-drop, Option, Some, None, List, [], ◌∷◌, ◌++◌, length, ◌≤◌, refl, sym, ◌∙◌}
 use Rattle.std.proofs.Common.{ap, append_assoc, append-nil, length-append, subst, arith}
 use Rattle.std.proofs.lemmas.List.{take_all}
+use Rattle.std.proofs.lemmas.List.Folds.{concat-append}
 use Rattle.std.specs.Option.{option_to_list, option_and_then}
-use Rattle.std.specs.List.{FoldsTo, concat, AllByRecursion}
+use Rattle.std.specs.List.{FoldsTo, AllByRecursion}
 use Rattle.flat_model.specs.declared.Event.{Event}
 use Rattle.flat_model.specs.declared.Answer.{Answer}
 use Rattle.flat_model.specs.Flat.{Flat, flat_step, flat_run}
@@ -18,12 +19,8 @@ use Rattle.trace_text.specs.Serving.{counted, counted_line, LineServed, Applied}
 
 folds_then : {S A : Type 0} (step : S → A → S → Type 0) (xs ys : List A) (r s t : S) → FoldsTo step r xs s → FoldsTo step s ys t
     → FoldsTo step r (xs ++ ys) t
-folds_then step [] ys r s t p q = subst (λ x. FoldsTo step x ys t) (sym p) q
+folds_then step [] ys r s t p q = rw p q
 folds_then step (x ∷ xs) ys r s t p q = (p.0, p.1, folds_then step xs ys p.0 s t p.2 q)
-
-concat_then : (xs ys : List (List ℕ)) → concat (xs ++ ys) ≡ concat xs ++ concat ys
-concat_then [] ys = refl
-concat_then (x ∷ xs) ys = ap (λ l. x ++ l) (concat_then xs ys) ∙ sym (append_assoc x (concat xs) (concat ys))
 
 pub moved_none : {S : Type 0} {step : S → List ℕ → S → Type 0} (s : S) → Moves step s [] s
 moved_none s = grind arith
@@ -33,7 +30,7 @@ pub moved_then : {S : Type 0} {step : S → List ℕ → S → Type 0} {r s t : 
 moved_then {step = step} {r = r} {s = s} {t = t} {xs = xs} {ys = ys} p q = record {
   pieces = p.pieces ++ q.pieces;
   steps = folds_then step p.pieces q.pieces r s t p.steps q.steps;
-  whole = concat_then p.pieces q.pieces ∙ ap (λ l. l ++ concat q.pieces) p.whole ∙ ap (λ l. xs ++ l) q.whole;
+  whole = grind (arith, concat-append, p.whole, q.whole);
 }
 
 pub moved_one : {S : Type 0} {step : S → List ℕ → S → Type 0} {s t : S} {xs : List ℕ} → step s xs t → Moves step s xs t
@@ -45,33 +42,7 @@ moved_more p q = moved_then p (moved_one q)
 
 pub moved_still : {S : Type 0} {step : S → List ℕ → S → Type 0} {r s t : S} {xs : List ℕ} → Moves step r xs s → step s [] t
     → Moves step r xs t
-moved_still {step = step} {r = r} {t = t} {xs = xs} p q = subst (λ l. Moves step r l t) (append-nil xs) (moved_more p q)
-
-after_then : (m : MachineState) (xs ys : List (List ℕ × Line)) → after_all m (xs ++ ys) ≡ after_all (after_all m xs) ys
-after_then m [] ys = refl
-after_then m (x ∷ xs) ys = after_then (after_line m x.1) xs ys
-
-told_then : (m : MachineState) (xs ys : List (List ℕ × Line)) → told_all m (xs ++ ys) ≡ told_all m xs ++ told_all (after_all m xs) ys
-told_then m [] ys = refl
-told_then m (x ∷ xs) ys = ap (λ l. told m x ++ l) (told_then (after_line m x.1) xs ys)
-    ∙ sym (append_assoc (told m x) (told_all (after_line m x.1) xs) _)
-
-counted_then : (m : MachineState) (c : Counts) (xs ys : List (List ℕ × Line))
-    → counted m c (xs ++ ys) ≡ counted (after_all m xs) (counted m c xs) ys
-counted_then m c [] ys = refl
-counted_then m c (x ∷ xs) ys = counted_then (after_line m x.1) (counted_line m c x.1) xs ys
-
-events_then : (xs ys : List (List ℕ × Line)) → events_of (xs ++ ys) ≡ events_of xs ++ events_of ys
-events_then [] ys = refl
-events_then (x ∷ xs) ys = ap (λ l. option_to_list (event_in x.1) ++ l) (events_then xs ys)
-    ∙ sym (append_assoc (option_to_list (event_in x.1)) (events_of xs) (events_of ys))
-
-answers_then : (m : MachineState) (xs ys : List (List ℕ × Line)) → answers_of m (xs ++ ys) ≡ answers_of m xs
-    ++ answers_of (after_all m xs) ys
-answers_then m [] ys = refl
-answers_then m (x ∷ xs) ys =
-    ap (λ l. option_to_list (answer_to m x.1) ++ l) (answers_then (after_line m x.1) xs ys)
-    ∙ sym (append_assoc (option_to_list (answer_to m x.1)) (answers_of (after_line m x.1) xs) _)
+moved_still {xs = xs} p q = rw (sym (append-nil xs)) (moved_more p q)
 
 and_then_more : (o : Option Flat) (f g : Flat → Option Flat) (t u : Flat) → ((v : Flat) → f v ≡ Some t → g v ≡ Some u)
     → option_and_then f o ≡ Some t → option_and_then g o ≡ Some u
@@ -81,26 +52,49 @@ and_then_more (Some v) f g t u more p = more v p
 -- a run, and a run from where it ended
 pub runs_then : (xs ys : List Event) (xa ya : List Answer) (s t u : Flat)
     → flat_run s xs xa ≡ Some t → flat_run t ys ya ≡ Some u → flat_run s (xs ++ ys) (xa ++ ya) ≡ Some u
-runs_then [] ys [] ya s t u p q = let here : s ≡ t = cc in subst (λ x. flat_run x ys ya ≡ Some u) (sym here) q
-runs_then [] ys (a ∷ xa) ya s t u p q = cc
-runs_then (x ∷ xs) ys [] ya s t u p q = cc
+runs_then [] ys [] ya s t u p q = cc
 runs_then (x ∷ xs) ys (a ∷ xa) ya s t u p q =
-    and_then_more (flat_step s x a) (λ v. flat_run v xs xa) (λ v. flat_run v (xs ++ ys) (xa ++ ya)) t u
-    (λ v here. runs_then xs ys xa ya v t u here q) p
+    and_then_more (flat_step s x a) (λ v. flat_run v xs xa) _ t u (λ v here. runs_then xs ys xa ya v t u here q) p
+runs_then xs ys xa ya s t u p q = cc
 
 pub all_then : {X : Type 0} (P : X → Type 0) (xs ys : List X) → AllByRecursion P xs → AllByRecursion P ys → AllByRecursion P (xs ++ ys)
 all_then P [] ys p q = q
 all_then P (x ∷ xs) ys p q = (p.0, all_then P xs ys p.1 q)
 
-texts_then : (xs ys : List (List ℕ × Line)) → texts_of (xs ++ ys) ≡ texts_of xs ++ texts_of ys
-texts_then [] ys = refl
-texts_then (x ∷ xs) ys = ap (λ l. x.0 ∷ l) (texts_then xs ys)
+-- one line more
+record Last (m : MachineState) (c : Counts) (xs : List (List ℕ × Line)) (y : List ℕ × Line) : Type 0 where
+  texts : texts_of (xs ++ y ∷ []) ≡ texts_of xs ++ y.0 ∷ []
+  after : after_all m (xs ++ y ∷ []) ≡ after_line (after_all m xs) y.1
+  written : told_all m (xs ++ y ∷ []) ≡ told_all m xs ++ told (after_all m xs) y
+  counts : counted m c (xs ++ y ∷ []) ≡ counted_line (after_all m xs) (counted m c xs) y.1
+  events : events_of (xs ++ y ∷ []) ≡ events_of xs ++ option_to_list (event_in y.1)
+  answers : answers_of m (xs ++ y ∷ []) ≡ answers_of m xs ++ option_to_list (answer_to (after_all m xs) y.1)
+
+last : (m : MachineState) (c : Counts) (xs : List (List ℕ × Line)) (y : List ℕ × Line) → Last m c xs y
+last m c [] y = record {
+  texts = refl;
+  after = refl;
+  written = append-nil (told m y);
+  counts = refl;
+  events = append-nil (option_to_list (event_in y.1));
+  answers = append-nil (option_to_list (answer_to m y.1));
+}
+last m c (x ∷ xs) y =
+    let rest = last (after_line m x.1) (counted_line m c x.1) xs y in
+    record {
+      texts = ap (λ l. x.0 ∷ l) rest.texts;
+      after = rest.after;
+      written = ap (λ l. told m x ++ l) rest.written ∙ sym (append_assoc (told m x) _ _);
+      counts = rest.counts;
+      events = grind (arith, rest.events, append_assoc);
+      answers = grind (arith, rest.answers, append_assoc);
+    }
 
 -- ---- lines that were applied
 
 pub applied_none : {W : Type 0} {took : W → List ℕ → W → Type 0} (w : W) (m : MachineState) (c : Counts) → c ≡ no_counts
     → Applied took w m [] w m c
-applied_none {took = took} w m c none = subst (Applied took w m [] w m) (sym none) (record {
+applied_none w m c none = rw none (record {
   lines = [];
   read = tt;
   whole = refl;
@@ -116,34 +110,21 @@ applied_none {took = took} w m c none = subst (Applied took w m [] w m) (sym non
 pub applied_line : {W : Type 0} {took : W → List ℕ → W → Type 0} {u v w : W} {k m n : MachineState} {b c : Counts} {texts : List (List ℕ)}
     (text : List ℕ)
     → Applied took u k texts v m b → LineServed took v m b text w n c → Applied took u k (texts ++ text ∷ []) w n c
-applied_line {took = took} {u = u} {v = v} {w = w} {k = k} {m = m} {n = n} {b = b} {c = c} {texts = texts} text p q =
-    let more = (text, q.line) ∷ [] in
+applied_line {took = took} {u = u} {w = w} {k = k} {m = m} {n = n} text p q =
+    let more : List ℕ × Line = (text, q.line) in
+    let all = last k no_counts p.lines more in
+    let both = runs_then (events_of p.lines) (option_to_list (event_in q.line)) (answers_of k p.lines) (option_to_list (answer_to m q.line))
+    (flat k) (flat m) (flat n) p.runs q.runs in
     record {
-      lines = p.lines ++ more;
-      read = all_then IsRead p.lines more p.read (q.said, tt);
-      whole = ap (λ l. l ++ text ∷ []) p.whole ∙ sym (texts_then p.lines more);
-      number = omega (arith, p.number, q.number, length-append texts (text ∷ []));
+      lines = p.lines ++ more ∷ [];
+      read = all_then IsRead p.lines (more ∷ []) p.read (q.said, tt);
+      whole = cc (p.whole, all.texts);
+      number = grind (arith, p.number, q.number, length-append);
       within = q.within;
-      counts = q.counts ∙ ap (λ x. counted_line m x q.line) p.counts ∙ ap (λ s. counted_line s (counted k no_counts p.lines) q.line) p.state
-          ∙ sym (counted_then k no_counts p.lines more);
-      written =
-          let told_last : told m (text, q.line) ≡ told_all (after_all k p.lines) more = ap (λ s. told s (text, q.line)) p.state
-          ∙ sym (append-nil (told (after_all k p.lines) (text, q.line))) in
-          subst (λ l. Moves took u l w) (ap (λ l. told_all k p.lines ++ l) told_last ∙ sym (told_then k p.lines more))
-          (moved_then p.written q.written);
-      state = q.state ∙ ap (λ s. after_line s q.line) p.state ∙ sym (after_then k p.lines more);
-      runs =
-          let last = option_to_list (event_in q.line) in
-          let both = runs_then (events_of p.lines) last (answers_of k p.lines) (option_to_list (answer_to m q.line)) (flat k) (flat m)
-          (flat n) p.runs q.runs in
-          let events : events_of p.lines ++ last ≡ events_of (p.lines ++ more) = ap (λ l. events_of p.lines ++ l) (sym (append-nil last))
-          ∙ sym (events_then p.lines more) in
-          let answers : answers_of k p.lines ++ option_to_list (answer_to m q.line) ≡ answers_of k (p.lines ++ more) =
-          ap (λ s. answers_of k p.lines ++ option_to_list (answer_to s q.line)) p.state
-          ∙ ap (λ l. answers_of k p.lines ++ l) (sym (append-nil (option_to_list (answer_to (after_all k p.lines) q.line))))
-          ∙ sym (answers_then k p.lines more) in
-          subst (λ l. flat_run (flat k) l (answers_of k (p.lines ++ more)) ≡ Some (flat n)) events
-          (subst (λ l. flat_run (flat k) (events_of p.lines ++ last) l ≡ Some (flat n)) answers both);
+      counts = cc (q.counts, p.counts, p.state, all.counts);
+      written = subst (λ l. Moves took u l w) (cc (all.written, p.state)) (moved_then p.written q.written);
+      state = cc (q.state, p.state, all.after);
+      runs = cc (both, all.events, all.answers, p.state);
     }
 
 -- a flush
@@ -156,8 +137,7 @@ pub partly_more : {S : Type 0} {step : S → List ℕ → S → Type 0} {r s t :
     → Partly step r bytes rest s → step s (take n rest) t → rest' ≡ drop n rest → Partly step r bytes rest' t
 partly_more {rest = rest} n rest' p q e = record {
   front = p.front ++ take n rest;
-  whole = p.whole ∙ ap (λ l. p.front ++ l) (sym (take-append-drop n rest)) ∙ sym (append_assoc p.front (take n rest) (drop n rest))
-      ∙ ap (λ l. (p.front ++ take n rest) ++ l) (sym e);
+  whole = grind (arith, p.whole, take-append-drop, append_assoc);
   moved = moved_more p.moved q;
 }
 

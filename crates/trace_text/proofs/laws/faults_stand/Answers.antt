@@ -2,4 +2,4 @@ use Rattle.trace_text.proofs.Unique.{fault_stands}
 use Rattle.trace_text.proofs.laws.faults_stand.Goals as goal
 
 pub returns : goal.returns
-returns c f most rest e h = fault_stands f most rest e h
+returns c = fault_stands

@@ -8,4 +8,4 @@ pub returns-clause-bound : goal.returns-clause-bound
 returns-clause-bound c most n text small e = (number_read most n text small e).1
 
 pub returns-clause-written : goal.returns-clause-written
-returns-clause-written c most n small le = number_written most n small le
+returns-clause-written c = number_written

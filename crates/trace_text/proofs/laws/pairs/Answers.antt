@@ -2,4 +2,4 @@ use Rattle.trace_text.proofs.Arrows.{pair_back}
 use Rattle.trace_text.proofs.laws.pairs.Goals as goal
 
 pub returns : goal.returns
-returns c m text l said fit = pair_back m text l said fit
+returns c = pair_back

@@ -10,16 +10,16 @@ returns-in_err-command-clause-command c =
 
 pub returns-in-empty-clause-command : goal.returns-in-empty-clause-command
 returns-in-empty-clause-command c =
-    command_is c.in_ok-command.command c.args.text.now None
-    (bare_said c.in_ok-command.command c.args.text.now c.in_ok-command.rest.now c.in_ok-command.ensures.some c.in-empty.len_below)
+    command_is _ c.args.text.now None
+    (bare_said _ _ _ c.in_ok-command.ensures.some c.in-empty.len_below)
 
 pub returns-in-32-clause-command : goal.returns-in-32-clause-command
 returns-in-32-clause-command c =
-    command_is c.in_ok-command.command c.args.text.now _
-    (fields_said c.in_ok-command.command c.args.text.now c.in_ok-command.rest.now c.in_ok-command.ensures.some
+    command_is _ c.args.text.now _
+    (fields_said _ _ _ c.in_ok-command.ensures.some
     (omega (arith, c.in-32.len_at_least)) (omega arith))
 
 pub returns-in_default-clause-command : goal.returns-in_default-clause-command
 returns-in_default-clause-command c =
-    sym (longer_said c.in_ok-command.command c.args.text.now c.in_ok-command.rest.now c.in_ok-command.ensures.some
+    sym (longer_said _ _ _ c.in_ok-command.ensures.some
     (omega (arith, c.in_default.len_at_least)) (λ is. omega (arith, is)))

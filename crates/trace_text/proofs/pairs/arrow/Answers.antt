@@ -1,4 +1,4 @@
-use Rattle.std.proofs.Common.{arith, ◌≡◌, ◌-◌, ◌∙◌, ap, sym, take, drop, length, false}
+use Rattle.std.proofs.Common.{arith, ◌≡◌, ◌∙◌, sym, drop, false}
 use Rattle.std.proofs.lemmas.Grind.{common_steps}
 use Rattle.std.specs.Prelude.{nat_eq, codes}
 use Rattle.std.specs.List.{starts_with}
@@ -21,12 +21,10 @@ pub loop-at-preserved : goal.loop-at-preserved
 loop-at-preserved c =
     let text = c.args.text.now in
     let at = c.loop-at.at in
-    let all : take (length text - at) (drop at text) ≡ drop at text = grind (arith, common_steps) in
     let none : starts_with nat_eq (drop at text) (codes " -> ") ≡ false =
     elim c.else-text-at-eq32.branch [
-      | else-text-at-eq32-via-then-text-at-eq32+else-starts_with w ↦ ap (λ l. starts_with nat_eq l (codes " -> ")) (sym all)
-          ∙ ap (starts_with nat_eq (take (length text - at) (drop at text))) (sym w.as_slice.ensures)
-          ∙ sym w.starts_with.ensures.value ∙ w.if-starts_with.false
+      | else-text-at-eq32-via-then-text-at-eq32+else-starts_with w ↦
+          grind (arith, common_steps, w.as_slice.ensures, w.starts_with.ensures.value, w.if-starts_with.false)
       | else-text-at-eq32-via-else-text-at-eq32 w ↦ no_arrow_at text at (omega arith) (λ is. omega (arith, is, w.if-text-at-eq32.false))
     ] in
     arrow_on text at (omega arith) none c.loop-at.invariant

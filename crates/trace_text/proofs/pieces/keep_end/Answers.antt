@@ -1,5 +1,4 @@
-use Rattle.std.proofs.Common.{arith, ◌≡◌, ◌<◌, ◌+◌, ◌-◌, length, take, length-take, length-drop, get_or, get_or-take, get_or-drop, ap, sym}
-use Rattle.std.proofs.Common.{◌∙◌}
+use Rattle.std.proofs.Common.{arith, ◌≡◌, ◌+◌, ◌-◌, length, take, length-take, length-drop, get_or-take, get_or-drop}
 use Rattle.std.proofs.lemmas.List.{ext_get_or}
 use Rattle.trace_text.proofs.pieces.keep_end.Goals as goal
 
@@ -11,10 +10,11 @@ returns c =
     let len : length new ≡ length old = c.copy_within.ensures.len in
     ext_get_or 0 _ _
     (omega (arith, len, length-take n new, length-drop c.args.from (take c.args.to old), length-take c.args.to old))
-    (λ k lt.
-    let below : k < n = omega (arith, lt, length-take n new) in
-    let below_to : c.args.from + k < c.args.to = omega arith in
-    let zero : k - 0 ≡ k = omega arith in
-    get_or-take n new k 0 below ∙ c.copy_within.ensures.by_index.0 k 0 (omega arith) (omega arith)
-    ∙ ap (λ i. get_or old (c.args.from + i) 0) zero
-    ∙ sym (get_or-drop c.args.from (take c.args.to old) k 0 ∙ get_or-take c.args.to old (c.args.from + k) 0 below_to))
+    (λ k lt. grind (
+      arith,
+      length-take n new,
+      get_or-take n new k 0,
+      c.copy_within.ensures.by_index.0 k 0,
+      get_or-drop c.args.from (take c.args.to old) k 0,
+      get_or-take c.args.to old (c.args.from + k) 0,
+    ))

@@ -15,7 +15,7 @@ pub returns-in_err-pause-clause-reads : goal.returns-in_err-pause-clause-reads
 returns-in_err-pause-clause-reads g c =
     let k = g.C.Collector in
     let halted = err_from_is_err_and c.from_residual.result c.from_residual.ensures.1 in
-    rw (halted.1, halted.2) (reads_unpaused g.R.Source.failed k.stopped k.paused k.unpaused c.pause.new.self c.pieces.invariant.reading
+    rw (halted.1, halted.2) (reads_unpaused g.R.Source.failed k.stopped k.paused k.unpaused _ c.pieces.invariant.reading
     c.in_err-pause.ensures.err)
 
 pub returns-in-Err-Halted-clause-reads : goal.returns-in-Err-Halted-clause-reads

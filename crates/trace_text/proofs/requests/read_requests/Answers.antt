@@ -2,7 +2,6 @@ use Rattle.std.proofs.Common.{arith, ◌≡◌, ℕ, List, sym, ◌∙◌, ap, s
 use Rattle.std.specs.List.{AllByRecursion}
 use Rattle.trace_text.specs.Requests.{IsRequest, requests_of}
 use Rattle.trace_text.specs.declared.requests.Requests.{Requests}
-use Rattle.trace_text.specs.Serving.{trace_fault}
 use Rattle.trace_text.proofs.Ends.{read_fails}
 use Rattle.trace_text.proofs.Held.{requests_are, requests_few}
 use Rattle.trace_text.proofs.requests.read_requests.Goals as goal
@@ -21,6 +20,5 @@ pub returns-in-Err-clause-fault : goal.returns-in-Err-clause-fault
 returns-in-Err-clause-fault g c =
     let went : Requests → List (List ℕ) → Requests → Type 0 = λ s texts t. t.events.items ≡ requests_of texts in
     let start : Requests = record { events = c.new.result } in
-    read_fails g.R.Source.gave g.R.Source.failed trace_fault went (λ s text t. Unit {0}) (λ s t. t.events.items ≡ s.events.items)
-    (λ s t. ⊥) 64 c.args.reader.now c.read_lines.new.reader start c.read_lines.new.collector c.in-Err.stop c.fault_or.result
-    c.in-Err.ensures.reads c.fault_or.ensures.fault c.fault_or.ensures.halted
+    read_fails _ g.R.Source.failed _ went (λ s text t. Unit {0}) (λ s t. t.events.items ≡ s.events.items) (λ s t. ⊥) _ _ _ start
+    c.read_lines.new.collector _ _ c.in-Err.ensures.reads c.fault_or.ensures.fault c.fault_or.ensures.halted

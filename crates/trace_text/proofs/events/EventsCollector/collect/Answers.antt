@@ -10,5 +10,5 @@ gather-requires c =
 
 pub returns-clause-kept : goal.returns-clause-kept
 returns-clause-kept c =
-    on_ok c.gather.result (λ one start texts number held. gathered_more start.most c.args.self.now c.gather.new.self c.event_told.result
-    c.in_ok-line.line texts c.args.text.now c.event_told.ensures c.in_ok-line.ensures.said one held) c.gather.ensures.ok
+    on_ok c.gather.result (λ one start texts number held.
+    gathered_more _ _ _ _ _ texts _ c.event_told.ensures c.in_ok-line.ensures.said one held) c.gather.ensures.ok
