@@ -1,9 +1,9 @@
 -- The commands of a bank: an event takes none away but a serve, which takes one.
-use Rattle.std.proofs.Common.{◌≡◌, ℕ, suc, ◌≤◌, List, [], ◌∷◌, length, set, Option, Some, None, refl, ap, subst, arith}
+use Rattle.std.proofs.Common.{◌≡◌, ℕ, suc, ◌≤◌, List, [], ◌∷◌, length, Option, Some, None, refl, ap, arith}
 use Rattle.std.proofs.lemmas.List.{length-append}
 use Rattle.flat_model.specs.declared.Cause.{Cause}
 use Rattle.flat_model.specs.declared.Event.{Event}
-use Rattle.flat_model.specs.declared.Event.TheVariants.{Load, Store, Prefetch, Evict, Drain, Serve, Arrive, Process, Take}
+use Rattle.flat_model.specs.declared.Event.TheVariants.{Serve, Arrive}
 use Rattle.memory_banks.specs.declared.Command.{Command}
 use Rattle.memory_banks.specs.declared.BankAnswer.{BankAnswer}
 use Rattle.memory_banks.specs.Banks.{Bank, bank_at, with_command, served, all_sent}
@@ -20,45 +20,26 @@ sent_more : (n : ℕ) (banks : List Bank) (sent : List (ℕ × Command)) (b : �
     → HasCommands n (bank_at (all_sent banks sent) b)
 unfolding with_command
 sent_more n banks [] b w = w
-sent_more n banks (c ∷ rest) b w = sent_more n _ rest b first
-  where
-    more : Bank
-    more = with_command (bank_at banks c.0) c.1
-
-    here : b ≡ c.0 → HasCommands n more
-    here e = grind (arith, length-append)
-
-    first : HasCommands n (bank_at (set banks c.0 more) b)
-    first = bank_at-set (HasCommands n) banks c.0 more b here w
+sent_more n banks (c ∷ rest) b w = sent_more n _ rest b
+    (bank_at-set (HasCommands n) banks c.0 (with_command (bank_at banks c.0) c.1) b (λ e. grind (arith, length-append)) w)
 
 module _ (z : Sizes) (m : Machine) (b n : ℕ) (w : n ≤ length (bank_at m.banks b).queue) where
-  abbrev Keeps : Machine → Type 0
-  Keeps after = n ≤ length (bank_at after.banks b).queue
-
   pub commands_stay : (event : Event) → leaves_commands b event → n ≤ length (bank_at (apply z m event).machine.banks b).queue
-  commands_stay (Load tag at) other = grind (arith, sent_more)
-  commands_stay (Store at word lanes) other = grind (arith, sent_more)
-  commands_stay (Prefetch at) other = grind (arith, sent_more)
-  commands_stay (Evict block) other = grind (arith, sent_more)
-  commands_stay Drain other = grind (arith, sent_more)
-  commands_stay (Process place) other = grind (arith, sent_more)
-  commands_stay (Take place) other = grind (arith, sent_more)
   commands_stay (Serve k) other = go (bank_at m.banks k).queue
     where
-      go : (queue : List Command) → Keeps (serve_from m k queue).machine
+      go : (queue : List Command) → HasCommands n (bank_at (serve_from m k queue).machine.banks b)
       go [] = w
       go (first ∷ rest) = bank_at-set (HasCommands n) m.banks k _ b (λ e. absurd (other e)) w
   commands_stay (Arrive k place) other = go _
     where
-      taken : (a : BankAnswer) (cause : Option Cause) → Keeps (take_in z m k place a cause).machine
+      taken : (a : BankAnswer) (cause : Option Cause) → HasCommands n (bank_at (take_in z m k place a cause).machine.banks b)
       taken a (Some cause) = w
-      taken a None =
-          bank_at-set (HasCommands n) m.banks k _ b
-          (λ e. subst (λ j. HasCommands n (bank_at m.banks j)) e w) w
+      taken a None = bank_at-set (HasCommands n) m.banks k _ b (λ e. grind arith) w
 
-      go : (o : Option BankAnswer) → Keeps (arrive_from z m k place o).machine
+      go : (o : Option BankAnswer) → HasCommands n (bank_at (arrive_from z m k place o).machine.banks b)
       go None = w
       go (Some a) = taken a _
+  commands_stay event other = grind (arith, sent_more)
 
 -- a bank that serves has one command less
 pub one_served : (z : Sizes) (m : Machine) (b n : ℕ) → suc n ≤ length (bank_at m.banks b).queue

@@ -1,25 +1,24 @@
 -- Every run of requests ends: among any latency + 1 rounds there is one in which the weight falls or a request ends.
-use Rattle.std.proofs.Common.{◌≡◌, ℕ, zero, suc, ◌+◌, ◌-◌, ◌*◌, ◌<◌, ◌≤◌, Bool, true, false, cond, ◌&&◌, List, [], ◌∷◌, ◌++◌, length, Some}
+use Rattle.std.proofs.Common.{◌≡◌, ℕ, zero, suc, ◌+◌, ◌-◌, ◌*◌, ◌<◌, ◌≤◌, Bool, true, false, cond, List, [], ◌∷◌, ◌++◌, length, Some}
 use Rattle.std.proofs.Common.{refl, sym, ap, ap₂, ◌∙◌, subst, arith, ◌⊎◌, inl, inr, mul-le-mul_right}
 use Rattle.std.specs.List.{list_all}
 use Rattle.std.proofs.lemmas.Bool.{and_parts}
 use Rattle.flat_model.specs.declared.Event.{Event}
 use Rattle.flat_model.specs.declared.Event.TheVariants.{Serve}
-use Rattle.cache_unit.specs.Sound.{InRange}
 use Rattle.machine_core.specs.Machine.{MachineState}
 use Rattle.machine_core.specs.Pump.{weight}
 use Rattle.machine_core.specs.Law.{ServesRequests}
 use Rattle.machine_core.specs.Whole.{IsWholeState}
-use Rattle.machine_core.specs.AnyMachine.{answered, after_event, weight_of}
+use Rattle.machine_core.specs.AnyMachine.{after_event, weight_of}
 use Rattle.machine_core.proofs.Whole.{bound_at_rest, lawful, roomy}
 use Rattle.machine_core.proofs.Weighing.{weight_bound, rests_or_waits, HasCommand, leaves_commands}
-use Rattle.round_driver.specs.Rounds.{Course, course, Run, is_end, ends, begun_at, first_begun, next_round, moves, ask, asked, after_round}
-use Rattle.round_driver.specs.Rounds.{is_over, rounds_until_over, opening, start_of, most_moves, most_rounds, whole_run}
+use Rattle.round_driver.specs.Rounds.{Course, course, Run, ends, first_begun, next_round, moves, ask, asked, after_round}
+use Rattle.round_driver.specs.Rounds.{is_over, rounds_until_over, start_of, most_moves, most_rounds, whole_run}
 use Rattle.round_driver.specs.Walks.{is_request, RequestsEnd}
 use Rattle.round_driver.specs.declared.timing.Timing.{Timing}
 use Rattle.round_driver.proofs.Requests.{request_stays, request_ends}
 use Rattle.round_driver.proofs.Runs.{stays, goes, round_over}
-use Rattle.round_driver.proofs.Moves.{AreBy, IsSteady, first_waits, Move, Stands, NothingArrives, NoAnswers}
+use Rattle.round_driver.proofs.Moves.{AreBy, IsSteady, first_waits, Move, Stands}
 use Rattle.round_driver.proofs.Moves.{steady_after, round_moves}
 
 -- ---- one request
@@ -42,11 +41,7 @@ cost r =
 
 -- what is on its way takes fewer rounds than a request may
 cheap : (s : MachineState) (k : ℕ) → IsWholeState s → weight s.machine * k + k ≤ most_moves s.sizes * k
-cheap s k whole =
-    shared _ _ (weight_bound s.sizes s.machine whole.sound whole.bounded)
-  where
-    shared : (n most : ℕ) → n ≤ most → n * k + k ≤ (most + 1) * k
-    shared n most le = grind arith
+cheap s k whole = let few = mul-le-mul_right k (weight_bound s.sizes s.machine whole.sound whole.bounded) in grind arith
 
 -- nothing need move in the next d rounds at most: these are as many as a bank takes, or a bank is due then
 abbrev IsQuietFor : ℕ → Run → Type 0
@@ -57,11 +52,6 @@ IsQuietFor d r =
 record IsSound (r : Run) : Type 0 where
   steady : IsSteady r.state r.schedule
   requests : list_all is_request r.left ≡ true
-
--- where those of a request fall away, and some of it are for what is on its way
-one_less : (n each left left' moving moving' weight latency d : ℕ) → left' ≡ n * each → left ≡ suc n * each
-    → moving' ≡ weight * (latency + 1) → weight * (latency + 1) + (latency + 1) ≤ each → left' + moving' + latency < left + moving + d
-one_less n each left left' moving moving' weight latency d after before is few = grind arith
 
 -- behind a round the run may take fewer rounds
 record Goes (d : ℕ) (r next : Run) : Type 0 where
@@ -83,18 +73,10 @@ module _ (d : ℕ) (r next : Run) (latency : next.schedule.timing.latency ≡ r.
   -- the same requests, with less on its way
   lighter : length next.left ≡ length r.left → weight next.state.machine < weight r.state.machine → Goes d r next
   lighter as_many less =
-      let k = r.schedule.timing.latency + 1 in
-      let fall = mul-le-mul_right k less in
+      let fall = mul-le-mul_right (r.schedule.timing.latency + 1) less in
       let left = ap₂ (λ n e. n * e) as_many same_each in
-      let moving =
-      ap (λ l. weight next.state.machine * (l + 1)) latency in
-      record {
-        sound = sound;
-        round = round;
-        quiet = r.schedule.timing.latency;
-        is_quiet = grind arith;
-        cheaper = grind arith;
-      }
+      let moving = ap (λ l. weight next.state.machine * (l + 1)) latency in
+      record { sound = sound; round = round; quiet = r.schedule.timing.latency; is_quiet = grind arith; cheaper = grind arith }
 
   -- a request less
   shorter : length r.left ≡ suc (length next.left) → Goes d r next
@@ -121,15 +103,7 @@ stands_waits : (c d : Course) → IsSteady d.state d.schedule → Stands c d →
     HasCommand d.state.sizes d.state.machine
 stands_waits c d steady stands =
     let z = d.state.sizes in
-    let rests = rests_or_waits z (lawful z range) (roomy z range) _ steady.whole.sound in
-    rests stands.taken stands.processed (none stands.arrived) stands.drained
-  where
-    range : InRange d.state.sizes
-    range = steady.whole.in_range
-
-    none : NothingArrives d.state → NoAnswers d.state
-    none (inr answers) = answers
-    none (inl full) = grind arith
+    grind (arith, rests_or_waits z, lawful z, roomy z, steady.whole, stands)
 
 -- the first course of the next round
 abbrev begun : Run → Course
@@ -157,9 +131,6 @@ module _ (d : ℕ) (r : Run) (sound : IsSound r) (quiet : IsQuietFor d r) (next 
   sizes : next.state.sizes ≡ r.state.sizes
   sizes = grind arith
 
-  banks : next.state.sizes.banks ≡ r.state.sizes.banks
-  banks = grind arith
-
   -- a busy bank is due a round sooner
   nearer : behind.state ≡ r.state → (b t : ℕ) → b < r.state.sizes.banks → first_begun behind.schedule b ≡ Some t
       → behind.schedule.round - t < behind.schedule.timing.latency → t ≤ r.schedule.round + 1
@@ -167,49 +138,29 @@ module _ (d : ℕ) (r : Run) (sound : IsSound r) (quiet : IsQuietFor d r) (next 
   nearer same b t there busy early begins due = go d refl due
     where
       go : (n : ℕ) → d ≡ n → (t + r.schedule.timing.latency ≤ r.schedule.round + d + 1) ⊎ (r.schedule.timing.latency ≤ d) → Goes d r next
-      go zero e (inl l) = grind arith
-      go zero e (inr l) = grind arith
-      go (suc n) e o = later (sooner o)
-        where
-          sooner : (t + r.schedule.timing.latency ≤ r.schedule.round + d + 1) ⊎ (r.schedule.timing.latency ≤ d)
-              → t + r.schedule.timing.latency ≤ r.schedule.round + d + 1
-          sooner (inl l) = l
-          sooner (inr l) = omega (arith, l, begins)
-
-          later : t + r.schedule.timing.latency ≤ r.schedule.round + d + 1 → Goes d r next
-          later l =
-              let still = ap (λ p. first_begun p b) schedule ∙ busy in
-              let weighs = ap (λ s. weight s.machine) (state ∙ same) in
-              let moving = ap₂ (λ w k. w * (k + 1)) weighs latency in
-              let left = ap₂ (λ n e. n * e) as_many (same_each d r next latency round sizes next_sound) in
-              let cost_same = ap₂ (λ a b. a + b) left moving in
-              record {
-                sound = next_sound;
-                round = round;
-                quiet = n;
-                is_quiet = grind arith;
-                cheaper = grind arith;
-              }
+      go zero e o = grind arith
+      go (suc n) e o =
+          let weighs = ap (λ s. weight s.machine) (state ∙ same) in
+          let moving = ap₂ (λ w k. w * (k + 1)) weighs latency in
+          let left = ap₂ (λ n e. n * e) as_many (same_each d r next latency round sizes next_sound) in
+          record {
+            sound = next_sound;
+            round = round;
+            quiet = n;
+            is_quiet = inr (b, t, grind arith, grind arith, grind arith);
+            cheaper = grind arith;
+          }
 
   -- where no move did anything, a bank is busy, and comes nearer to its service
   stood : behind.state ≡ r.state → Stands (begun r) behind → (weight behind.state.machine ≡ 0 → ⊥) → Goes d r next
   stood same stands busy = go quiet
     where
-      long_quiet : r.schedule.timing.latency ≤ d → (weight behind.state.machine ≡ 0) ⊎ HasCommand behind.state.sizes behind.state.machine
-          → Goes d r next
-      long_quiet enough (inl rest) = absurd (busy rest)
-      long_quiet enough (inr x) = grind (arith, sizes, stands.begins, first_waits, nearer)
-
       go : IsQuietFor d r → Goes d r next
-      go (inl enough) = grind (arith, long_quiet, stands_waits)
+      go (inl enough) = grind (arith, stands_waits, sizes, stands.begins, first_waits, nearer)
       go (inr x) = grind (arith, first_waits, stands.kept, stands.begins, nearer)
 
   goes_on : (behind.state ≡ r.state → weight behind.state.machine ≡ 0 → ⊥) → Goes d r next
-  goes_on busy = go move.lighter
-    where
-      go : (weight behind.state.machine < weight r.state.machine) ⊎ ((behind.state ≡ r.state) × Stands (begun r) behind) → Goes d r next
-      go (inl less) = grind (arith, lighter, latency, round, sizes)
-      go (inr x) = stood x.0 x.1 (busy x.0)
+  goes_on busy = grind (arith, move.lighter, lighter, stood)
 
 -- a run that isn't over takes fewer rounds behind the next one
 round_goes : (d : ℕ) (r : Run) → IsSound r → IsQuietFor d r → is_over r ≡ false → Goes d r (after_round r)
@@ -242,16 +193,10 @@ round_goes d r sound quiet going = go r.left refl sound.requests
     asks event rest e request requests true h =
         grind (arith, next, steady_then, request_leaves, shorter, move.latency, move.round, move.sizes)
     asks event rest e request requests false h =
-        let same = request_stays behind.state event request h in
-        let all = ap₂ (λ a b. a && b) request requests in
         let next_sound : IsSound (next event rest false) =
-        record { steady = steady_then event (request_leaves event request); requests = all } in
-        let busy = λ (stood : behind.state ≡ r.state) (light : weight behind.state.machine ≡ 0). ended event
-        (request_ends behind.state (serves behind.state move.steady.whole light) event request) h in
-        goes_on d r sound quiet _ move same refl (sym (ap length e)) next_sound busy
-      where
-        ended : (event : Event) → is_end (answered behind.state event) ≡ true → ends event behind ≡ false → ⊥
-        ended event ends_so not_so_here = cc
+        record { steady = steady_then event (request_leaves event request); requests = grind arith } in
+        goes_on d r sound quiet _ move (request_stays behind.state event request h) refl (sym (ap length e)) next_sound
+        (λ stood light. grind (arith, request_ends, serves, move.steady.whole))
 
     go : (left : List Event) → r.left ≡ left → list_all is_request r.left ≡ true → Goes d r (asked r.told left behind)
     go [] e requests = grind (arith, behind, goes_on, move, over)
@@ -275,8 +220,7 @@ over_within zero d r sound quiet few = go (is_over r) refl
     go : (b : Bool) → is_over r ≡ b → IsOverWithin 0 r
     go true e = over_now 0 r e
     go false e = let more = (round_goes d r sound quiet e).cheaper in absurd (omega (arith, more, few))
-over_within (suc n) d r sound quiet few =
-    go (λ q next is_quiet fewer. over_within n q _ next is_quiet fewer) _ refl
+over_within (suc n) d r sound quiet few = go (λ q. over_within n q (after_round r)) _ refl
   where
     go : ((q : ℕ) → IsSound (after_round r) → IsQuietFor q (after_round r) → cost (after_round r) + q ≤ n → IsOverWithin n (after_round r))
         → (b : Bool) → is_over r ≡ b → IsOverWithin (suc n) r
@@ -284,15 +228,12 @@ over_within (suc n) d r sound quiet few =
     go later false e =
         let more = round_goes d r sound quiet e in
         let rest = later more.quiet more.sound more.is_quiet (omega (arith, more.cheaper, few)) in
-        let same = ap (λ q. q.schedule.round) (goes n r e) in
-        record { over = ap is_over (goes n r e) ∙ rest.over; in_time = grind arith }
+        grind (arith, goes, rest, more.round)
 
 pub requests_end : (timing : Timing) (s : MachineState) (requests : List Event) → IsWholeState s → RequestsEnd timing s requests
 requests_end timing s requests whole all =
-    let rest = over_within most timing.latency start sound (inl (omega arith)) few in
-    let same : whole_run timing s requests ≡ rounds_until_over most start =
-    round_over most _ start (omega (arith, below)) rest.over in
-    let round = ap (λ r. r.schedule.round) same in
+    let rest = over_within most timing.latency start sound (inl (omega arith)) room.1 in
+    let same : whole_run timing s requests ≡ rounds_until_over most start = round_over most _ start (omega (arith, room)) rest.over in
     record { over = grind arith; in_time = grind arith }
   where
     start : Run
@@ -301,12 +242,6 @@ requests_end timing s requests whole all =
     -- a round less than there may be
     most : ℕ
     most = most_rounds s.sizes timing.latency (length requests) - 1
-
-    none : List ℕ
-    none = []
-
-    idle : (b : ℕ) → begun_at (opening timing) b ≡ none
-    idle b = grind arith
 
     sound : IsSound start
     sound = grind arith
@@ -321,9 +256,3 @@ requests_end timing s requests whole all =
 
     room : (most < most_rounds s.sizes timing.latency (length requests)) × (cost start + timing.latency ≤ most)
     room = grind (arith, with_room, little)
-
-    below : most < most_rounds s.sizes timing.latency (length requests)
-    below = room.0
-
-    few : cost start + timing.latency ≤ most
-    few = room.1

@@ -1,5 +1,5 @@
 -- What the turns of the banks and an arrival keep of a course.
-use Rattle.std.proofs.Common.{ℕ, zero, suc, Bool, true, false, cond, Option, Some, None}
+use Rattle.std.proofs.Common.{ℕ, zero, suc, Option, Some, None, arith}
 use Rattle.flat_model.specs.declared.Event.TheVariants.{Serve, Arrive}
 use Rattle.round_driver.specs.declared.schedule.Schedule.{Schedule}
 use Rattle.round_driver.specs.Rounds.{Course, attempt, scheduled, begin, serve_due, bank_turns, arrive_from, arrive}
@@ -7,17 +7,13 @@ use Rattle.round_driver.specs.Rounds.{Course, attempt, scheduled, begin, serve_d
 module _ (Keeps : Course → Type 0) (rescheduled : (p : Schedule) (c : Course) → Keeps c → Keeps (scheduled p c))
     (served : (b : ℕ) (c : Course) → Keeps c → Keeps (attempt (Serve b) c))
     (arrived : (b : ℕ) (c : Course) → Keeps c → Keeps (attempt (Arrive b 0) c)) where
-  one_of : (b : Bool) (c d : Course) → Keeps c → Keeps d → Keeps (cond b c d)
-  one_of true c d p q = p
-  one_of false c d p q = q
-
   begun : (b : ℕ) (c : Course) → Keeps c → Keeps (begin b c)
   unfolding begin
-  begun b c k = one_of _ _ c (rescheduled _ c k) k
+  begun b c k = grind (arith, rescheduled)
 
   had_turn : (b : ℕ) (c : Course) → Keeps c → Keeps (serve_due b c)
   unfolding serve_due
-  had_turn b c k = one_of _ _ c (served b _ (rescheduled _ c k)) k
+  had_turn b c k = grind (arith, served, rescheduled)
 
   had_turns : (n b : ℕ) (c : Course) → Keeps c → Keeps (bank_turns n b c)
   unfolding bank_turns
@@ -31,4 +27,4 @@ module _ (Keeps : Course → Type 0) (rescheduled : (p : Schedule) (c : Course) 
   -- the first moves of a round
   pub arrives : (n b : ℕ) (c : Course) → Keeps c → Keeps (arrive (bank_turns n b c))
   unfolding arrive
-  arrives n b c k = let turned = had_turns n b c k in one_of _ _ _ (one_arrived _ _ turned) turned
+  arrives n b c k = let turned = had_turns n b c k in grind (arith, one_arrived, turned)

@@ -1,8 +1,7 @@
 -- The moves of a round: one of them lowers the weight, or all leave the machine as it was, and show why.
-use Rattle.std.proofs.Common.{◌≡◌, ℕ, zero, suc, ◌+◌, ◌-◌, ◌<◌, ◌≤◌, Bool, true, false, cond, not, ◌&&◌, nat_lt, List, [], ◌∷◌, ◌++◌}
-use Rattle.std.proofs.Common.{length, drop, get_or, slice_get, Option, Some, None, refl, sym, ap, ◌∙◌, subst, arith, ◌⊎◌, inl, inr, ⊎_elim}
+use Rattle.std.proofs.Common.{◌≡◌, ℕ, zero, suc, ◌+◌, ◌-◌, ◌<◌, ◌≤◌, Bool, true, false, cond, ◌&&◌, nat_lt, List, [], ◌∷◌, ◌++◌}
+use Rattle.std.proofs.Common.{length, drop, slice_get, Option, Some, None, refl, sym, ap, subst, arith, ◌⊎◌, inl, ⊎_elim}
 use Rattle.std.proofs.Common.{length-set, get_or-set_same, get_or-set_other, ltb-true, lt-ltb}
-use Rattle.std.specs.Option.{option_or}
 use Rattle.std.proofs.lemmas.Bool.{and_parts, cases_eq, cases_lt, true≢false as never}
 use Rattle.std.proofs.lemmas.List.{get_or_past, length-append}
 use Rattle.flat_model.specs.declared.limits.TheConstants.{MAX_BANKS}
@@ -88,13 +87,6 @@ steady_after event s p steady leaves = grind (arith, whole_after, steady.busy, c
 
 -- ---- from one course to the next
 
-abbrev weighs : MachineState → ℕ
-weighs s = weight s.machine
-
--- the weight falls, or the machine stays and this is so
-abbrev Lighter : Course → Course → Type 0 → Type 0
-Lighter c d why = (weighs d.state < weighs c.state) ⊎ ((d.state ≡ c.state) × why)
-
 -- some moves: the run stays steady, and its weight falls or they show why it doesn't
 pub record Move (c d : Course) (why : Type 0) : Type 0 where
   pub steady : IsSteady d.state d.schedule
@@ -109,24 +101,23 @@ then {F} {G} {H} c d e first second both = grind arith
 
 -- ---- the banks
 
-begun-same : (p : Schedule) (b : ℕ) (begun : List ℕ) → b < length p.begun → begun_at (with_begun p b begun) b ≡ begun
-begun-same p b begun l = get_or-set_same p.begun b begun [] l
-
-begun-other : (p : Schedule) (b k : ℕ) (begun : List ℕ) → (k ≡ b → ⊥) → begun_at (with_begun p b begun) k ≡ begun_at p k
-begun-other p b k begun apart = get_or-set_other p.begun b k begun [] apart
+-- what holds of these at the bank, and of the others as they were, holds at each bank
+at_each : (P : ℕ → List ℕ → Type 0) (p : Schedule) (b : ℕ) (begun : List ℕ) → b < length p.begun → P b begun
+    → ((k : ℕ) → (k ≡ b → ⊥) → P k (begun_at p k)) → (k : ℕ) → P k (begun_at (with_begun p b begun) k)
+at_each P p b begun l here other k =
+    ⊎_elim (λ q. grind (arith, get_or-set_same)) (λ apart. subst (P k) (sym (get_or-set_other p.begun b k begun [] apart)) (other k apart))
+    (cases_eq k b)
 
 -- one more that was begun in this round
 more_by : (round : ℕ) (begun : List ℕ) → AreBy round begun → AreBy round (begun ++ round ∷ [])
 more_by round [] h = (omega arith, tt)
 more_by round (t ∷ ts) h = (h.0, more_by round ts h.1)
 
-first_stays : (begun : List ℕ) (round t : ℕ) → slice_get begun 0 ≡ Some t → slice_get (begun ++ round ∷ []) 0 ≡ Some t
-first_stays [] round t e = cc
-first_stays (u ∷ us) round t e = e
-
-first_there : (begun : List ℕ) (round : ℕ) → (t : ℕ) × (slice_get (begun ++ round ∷ []) 0 ≡ Some t)
-first_there [] round = (round, refl)
-first_there (t ∷ ts) round = (t, refl)
+-- behind it there is a first one, which is the first as before
+first_more : (begun : List ℕ) (round : ℕ)
+    → (t : ℕ) × (slice_get (begun ++ round ∷ []) 0 ≡ Some t) × ((u : ℕ) → slice_get begun 0 ≡ Some u → t ≡ u)
+first_more [] round = (round, refl, λ u e. cc)
+first_more (t ∷ ts) round = (t, refl, λ u e. cc)
 
 long : {X : Type 0} (xs : List X) → has_items xs ≡ true → 0 < length xs
 long [] e = cc
@@ -154,55 +145,34 @@ begun b c steady few = go _ refl
     there : b < length c.schedule.begun
     there = grind arith
 
-    same : begun_at now.schedule b ≡ before ++ c.schedule.round ∷ []
-    same = begun-same c.schedule b (before ++ c.schedule.round ∷ []) there
-
-    other : (k : ℕ) → (k ≡ b → ⊥) → begun_at now.schedule k ≡ begun_at c.schedule k
-    other k apart = grind (arith, begun-other, c.schedule, before)
-
     starts : length before < waiting c.state b → Begun b c now
     starts free =
+        let first = first_more before c.schedule.round in
         record {
           steady = record {
             whole = steady.whole;
-            places = length-set _ b (before ++ c.schedule.round ∷ []) ∙ steady.places;
-            busy = λ k. ⊎_elim (λ q. subst Flies (sym q) here) (λ apart. subst (InFlightAt k) (sym (other k apart)) (steady.busy k))
-                (cases_eq k b);
+            places = grind (arith, length-set);
+            busy = at_each (λ k begun. IsInFlight c.schedule.round (waiting c.state k) begun) c.schedule b _ there
+                (record { early = more_by c.schedule.round before (steady.busy b).early; fits = grind (arith, length-append) })
+                (λ k apart. steady.busy k);
           };
           state = refl;
           round = refl;
           latency = refl;
-          kept = λ k t e. ⊎_elim (λ q. first_here k t q e) (λ apart. ap (λ l. slice_get l 0) (other k apart) ∙ e) (cases_eq k b);
-          begins = λ w. let first = first_there before c.schedule.round in (first.0, ap (λ l. slice_get l 0) same ∙ first.1);
+          kept = at_each (λ k begun. (t : ℕ) → first_begun c.schedule k ≡ Some t → slice_get begun 0 ≡ Some t) c.schedule b _ there
+              (λ t e. grind (arith, first)) (λ k apart t e. e);
+          begins = λ w. (first.0, grind (arith, first, get_or-set_same));
         }
-      where
-        InFlightAt : ℕ → List ℕ → Type 0
-        InFlightAt k begun = IsInFlight c.schedule.round (waiting c.state k) begun
-
-        Flies : ℕ → Type 0
-        Flies k = InFlightAt k (begun_at now.schedule k)
-
-        here : Flies b
-        here = grind (arith, length-append, before, c.schedule.round, InFlightAt, more_by, steady.busy, same)
-
-        first_here : (k t : ℕ) → k ≡ b → first_begun c.schedule k ≡ Some t → first_begun now.schedule k ≡ Some t
-        first_here k t q e = grind (arith, same, first_stays, before)
-
-    stays : (Waits c.state b → (t : ℕ) × (first_begun c.schedule b ≡ Some t)) → Begun b c c
-    stays begins = grind arith
 
     -- a bank that begins nothing, and has a command, has begun one
-    held : (is_free c.schedule b && nat_lt (length before) (waiting c.state b)) ≡ false → Waits c.state b → (t : ℕ) ×
-        (first_begun c.schedule b ≡ Some t)
-    held e w = go before refl
-      where
-        go : (l : List ℕ) → before ≡ l → (t : ℕ) × (first_begun c.schedule b ≡ Some t)
-        go (t ∷ ts) q = (t, ap (λ l. slice_get l 0) q)
-        go [] q = grind (arith, lt-ltb, c.state, long, c.schedule, never)
+    held : (l : List ℕ) → before ≡ l → (is_free c.schedule b && nat_lt (length before) (waiting c.state b)) ≡ false → Waits c.state b
+        → (t : ℕ) × (first_begun c.schedule b ≡ Some t)
+    held (t ∷ ts) q e w = (t, ap (λ l. slice_get l 0) q)
+    held [] q e w = grind (arith, lt-ltb, c.state, long, c.schedule, never)
 
     go : (h : Bool) → (is_free c.schedule b && nat_lt (length before) (waiting c.state b)) ≡ h → Begun b c (cond h now c)
     go true e = grind (arith, and_parts, starts, ltb-true)
-    go false e = stays (held e)
+    go false e = grind (arith, held before refl e)
 
 -- a command that isn't due yet
 abbrev pub NotDue : Course → ℕ → Type 0
@@ -218,7 +188,7 @@ ServedOrNot b c d = (d.schedule.begun ≡ c.schedule.begun) × ((t : ℕ) → fi
 
 serves : (b : ℕ) (c : Course) → Steady c → b < c.state.sizes.banks → Move c (serve_due b c) (ServedOrNot b c (serve_due b c))
 unfolding serve_due attempt after_event
-serves b c steady there = go (begun_at c.schedule b) refl
+serves b c steady there = go (begun_at c.schedule b) refl _ refl
   where
     ended : Course
     ended = attempt (Serve b) (scheduled (without_first c.schedule b) c)
@@ -226,63 +196,33 @@ serves b c steady there = go (begun_at c.schedule b) refl
     after : MachineState
     after = after_event c.state (Serve b)
 
-    InFlightAt : ℕ → List ℕ → Type 0
-    InFlightAt k begun = IsInFlight c.schedule.round (waiting after k) begun
-
-    Flies : ℕ → Type 0
-    Flies k = InFlightAt k (begun_at (without_first c.schedule b) k)
-
-    stays : ((t : ℕ) → first_begun c.schedule b ≡ Some t → NotDue c t) → Move c c (ServedOrNot b c c)
-    stays early = grind arith
-
     ends : (t : ℕ) (ts : List ℕ) → begun_at c.schedule b ≡ t ∷ ts → Move c ended (ServedOrNot b c ended)
     ends t ts e =
+        let before : IsInFlight c.schedule.round (waiting c.state b) (t ∷ ts) = grind (arith, steady.busy) in
+        let rest : IsInFlight c.schedule.round (waiting after b) ts =
+        record { early = before.early.1; fits = one_served c.state.sizes c.state.machine b _ before.fits } in
         record {
           steady = record {
             whole = whole_after c.state (Serve b) steady.whole;
-            places = length-set _ b (drop 1 (begun_at c.schedule b)) ∙ steady.places;
-            busy = λ k. ⊎_elim (λ q. subst Flies (sym q) here) (other k) (cases_eq k b);
+            places = grind (arith, length-set);
+            busy = at_each (λ k begun. IsInFlight c.schedule.round (waiting after k) begun) c.schedule b _
+                (omega (arith, there, steady.places, steady.whole.in_range.few_banks))
+                (subst (λ l. IsInFlight c.schedule.round (waiting after b) (drop 1 l)) (sym e) rest)
+                (λ k apart. let all = steady.busy k in
+                record { early = all.early; fits = commands_stay c.state.sizes c.state.machine k _ all.fits (Serve b) apart });
           };
           round = refl;
           latency = refl;
           sizes = refl;
-          lighter = inl falls;
+          lighter = inl (grind (arith, steady.whole, first_waits, c.state, c.schedule, serve_falls));
         }
-      where
-        within : b < length c.schedule.begun
-        within = omega (arith, there, steady.places, steady.whole.in_range.few_banks)
 
-        rest : begun_at (without_first c.schedule b) b ≡ ts
-        rest = grind (arith, begun-same, c.schedule, within)
-
-        before : IsInFlight c.schedule.round (waiting c.state b) (t ∷ ts)
-        before = grind (arith, steady.busy)
-
-        here : Flies b
-        here =
-            let fits = one_served c.state.sizes c.state.machine b _ before.fits in
-            subst (InFlightAt b) (sym rest) (record { early = before.early.1; fits = fits })
-
-        other : (k : ℕ) → (k ≡ b → ⊥) → Flies k
-        other k apart =
-            let same = begun-other c.schedule b k _ apart in
-            let all = steady.busy k in
-            let fits = commands_stay c.state.sizes c.state.machine k _ all.fits (Serve b) apart in
-            subst (InFlightAt k) (sym same) (record { early = all.early; fits = fits })
-
-        falls : weight after.machine < weight c.state.machine
-        falls = grind (arith, steady.whole, first_waits, c.state, c.schedule, serve_falls)
-
-    due : (t : ℕ) (ts : List ℕ) → begun_at c.schedule b ≡ t ∷ ts → (early : Bool) → nat_lt (c.schedule.round - t) c.schedule.timing.latency
-        ≡ early → Move c (cond (not early) ended c) (ServedOrNot b c (cond (not early) ended c))
-    due t ts e true q = grind arith
-    due t ts e false q = ends t ts e
-
-    go : (begun : List ℕ) → begun_at c.schedule b ≡ begun
-        → Move c (cond (is_due_since c.schedule (slice_get begun 0)) ended c)
-        (ServedOrNot b c (cond (is_due_since c.schedule (slice_get begun 0)) ended c))
-    go [] e = grind arith
-    go (t ∷ ts) e = due t ts e _ refl
+    go : (begun : List ℕ) → begun_at c.schedule b ≡ begun → (due : Bool) → is_due_since c.schedule (slice_get begun 0) ≡ due
+        → Move c (cond due ended c) (ServedOrNot b c (cond due ended c))
+    go [] e true q = cc
+    go (t ∷ ts) e true q = ends t ts e
+    go [] e false q = grind arith
+    go (t ∷ ts) e false q = grind arith
 
 -- n banks from this one on had their turns and served nothing: each that has a command has begun one, which isn't due
 pub record Turned (from n : ℕ) (c d : Course) : Type 0 where
@@ -321,18 +261,7 @@ turn_then n b c steady all later = then c e f first rest both
     serving = grind (arith, serves, d, begins.steady, sizes, there)
 
     first : Move c e (ServedOrNot b d e)
-    first =
-        record {
-          steady = serving.steady;
-          round = serving.round ∙ begins.round;
-          latency = serving.latency ∙ begins.latency;
-          sizes = serving.sizes ∙ sizes;
-          lighter = go serving.lighter;
-        }
-      where
-        go : Lighter d e (ServedOrNot b d e) → Lighter c e (ServedOrNot b d e)
-        go (inl p) = grind (arith, begins.state)
-        go (inr p) = inr (p.0 ∙ begins.state, p.1)
+    first = grind (arith, begins, serving)
 
     rest : Move e f (Turned (b + 1) n e f)
     rest = grind (arith, first.steady, first.sizes)
@@ -340,23 +269,14 @@ turn_then n b c steady all later = then c e f first rest both
     both : ServedOrNot b d e → Turned (b + 1) n e f → e.state ≡ c.state → f.state ≡ e.state → Turned b (suc n) c f
     both served turned same stayed =
         record {
-          kept = λ k t h. turned.kept k t (still k ∙ begins.kept k t h);
-          begins = λ k lo hi w. ⊎_elim (λ q. here k q w) (λ apart. there_too k lo hi apart w) (cases_eq k b);
+          kept = grind (arith, turned.kept, begins.kept, served.0);
+          begins = λ k lo hi w. ⊎_elim (λ q. here k q w) (λ apart. grind (arith, turned.begins)) (cases_eq k b);
         }
       where
-        still : (k : ℕ) → first_begun e.schedule k ≡ first_begun d.schedule k
-        still k = ap (λ l. slice_get (get_or l k []) 0) served.0
-
-        there_too : (k : ℕ) → b ≤ k → k < b + suc n → (k ≡ b → ⊥) → Waits c.state k → IsBusy f k
-        there_too k lo hi apart w = grind (arith, turned.begins)
-
         here : (k : ℕ) → k ≡ b → Waits c.state k → IsBusy f k
         here k q w =
-            let at = begins.begins (subst (Waits c.state) q w) in (
-              at.0,
-              ap (first_begun f.schedule) q ∙ (turned.kept b at.0 (still b ∙ at.1)),
-              omega (arith, served.1 at.0 at.1, rest.round ∙ serving.round, rest.latency ∙ serving.latency),
-            )
+            let at = begins.begins (subst (Waits c.state) q w) in
+            (at.0, grind (arith, turned.kept b at.0, served.0), grind (arith, served.1 at.0 at.1, rest, serving))
 
 turns : (n b : ℕ) (c : Course) → Steady c → b + n ≡ c.state.sizes.banks → AllTurns n b c
 unfolding bank_turns
@@ -368,34 +288,19 @@ turns (suc n) b c steady all = turn_then n b c steady all (λ s a. turns n _ _ s
 answer_there : (s : MachineState) (n b k : ℕ) → first_with_answer s n b ≡ Some k → has_answer s k ≡ true
 unfolding first_with_answer
 answer_there s zero b k e = cc
-answer_there s (suc n) b k e = go _ refl (answer_there s n _ k) e
-  where
-    go : (h : Bool) → has_answer s b ≡ h → (first_with_answer s n (b + 1) ≡ Some k → has_answer s k ≡ true)
-        → cond h (Some b) (first_with_answer s n (b + 1)) ≡ Some k → has_answer s k ≡ true
-    go true q later r = grind arith
-    go false q later r = later r
+answer_there s (suc n) b k e = grind (arith, answer_there s n (b + 1) k)
 
 no_answer : (s : MachineState) (n b k : ℕ) → first_with_answer s n b ≡ None → b ≤ k → k < b + n → has_answer s k ≡ false
 unfolding first_with_answer
 no_answer s zero b k e lo hi = grind arith
-no_answer s (suc n) b k e lo hi = go _ refl (no_answer s n _ k) e
-  where
-    go : (h : Bool) → has_answer s b ≡ h → (first_with_answer s n (b + 1) ≡ None → b + 1 ≤ k → k < b + 1 + n → has_answer s k ≡ false)
-        → cond h (Some b) (first_with_answer s n (b + 1)) ≡ None → has_answer s k ≡ false
-    go true q later r = cc
-    go false q later r = grind arith
+no_answer s (suc n) b k e lo hi = grind (arith, no_answer s n (b + 1) k)
 
 -- no bank has an answer
 abbrev pub NoAnswers : MachineState → Type 0
 NoAnswers s = (b : ℕ) → b < s.sizes.banks → (bank_at s.machine.banks b).answers ≡ []
 
 next_there : (s : MachineState) (next k : ℕ) → next_with_answer s next ≡ Some k → has_answer s k ≡ true
-next_there s next k e = go _ refl e
-  where
-    go : (o : Option ℕ) → first_with_answer s (s.sizes.banks - next) next ≡ o → option_or o (first_with_answer s next 0) ≡ Some k
-        → has_answer s k ≡ true
-    go (Some b) q r = answer_there s _ next k (q ∙ r)
-    go None q r = answer_there s next 0 k r
+next_there s next k e = grind (arith, answer_there)
 
 none_left : {X : Type 0} (xs : List X) → has_items xs ≡ false → xs ≡ []
 none_left [] e = refl
@@ -403,15 +308,8 @@ none_left (x ∷ xs) e = cc
 
 nowhere : (s : MachineState) (next : ℕ) → next_with_answer s next ≡ None → NoAnswers s
 unfolding has_answer
-nowhere s next e b l = go _ refl e
-  where
-    go : (o : Option ℕ) → first_with_answer s (s.sizes.banks - next) next ≡ o → option_or o (first_with_answer s next 0) ≡ None
-        → (bank_at s.machine.banks b).answers ≡ []
-    go (Some k) q r = cc
-    go None q r =
-        let before = λ (h : b < next). no_answer s next 0 b r (omega arith) (omega (arith, h)) in
-        let behind = λ (h : next ≤ b). no_answer s _ next b q h (omega (arith, h, l)) in
-        none_left (bank_at s.machine.banks b).answers (⊎_elim before behind (cases_lt b next))
+nowhere s next e b l =
+    none_left (bank_at s.machine.banks b).answers (grind (arith, no_answer s next 0 b, no_answer s (s.sizes.banks - next) next b))
 
 -- the stack is full, or there is nothing to arrive
 abbrev pub NothingArrives : MachineState → Type 0
@@ -427,11 +325,8 @@ attempt_steady event c steady leaves = steady_after event _ _ steady leaves
 
 arrives : (c : Course) → Steady c → Move c (arrive c) (Shows c (arrive c) NothingArrives)
 unfolding arrive has_stack_room has_answer attempt after_event
-arrives c steady = go _ refl
+arrives c steady = go _ refl (next_with_answer c.state c.schedule.next) refl
   where
-    stays : NothingArrives c.state → Move c c (Shows c c NothingArrives)
-    stays why = grind arith
-
     comes : length c.state.machine.cache.stack < c.state.sizes.depth → (b : ℕ) → has_answer c.state b ≡ true
         → Move c (arrive_from (Some b) c) (Shows c (arrive_from (Some b) c) NothingArrives)
     comes room_left b some =
@@ -454,24 +349,15 @@ arrives c steady = go _ refl
         falls [] e = let none = ap has_items e in cc
         falls (a ∷ rest) e =
             let w = steady.whole in
-            let within = there (cases_lt b _) in
+            let within = ⊎_elim (λ l. l) (λ past. grind (arith, get_or_past)) (cases_lt b (length c.state.machine.banks)) in
             arrive_lowers _ (law c.state w) (room c.state w) _ w.sound b a rest within e room_left
-          where
-            there : (b < length c.state.machine.banks) ⊎ (length c.state.machine.banks ≤ b) → b < length c.state.machine.banks
-            there (inl l) = l
-            there (inr past) = grind (arith, get_or_past)
 
-    next : length c.state.machine.cache.stack < c.state.sizes.depth → (o : Option ℕ) → next_with_answer c.state c.schedule.next ≡ o
-        → Move c (arrive_from o c) (Shows c (arrive_from o c) NothingArrives)
-    next room_left None e = stays (inr (nowhere c.state c.schedule.next e))
-    next room_left (Some b) e = comes room_left b (next_there c.state c.schedule.next b e)
-
-    go : (h : Bool) → nat_lt (length c.state.machine.cache.stack) c.state.sizes.depth ≡ h
-        → Move c (cond h (arrive_from (next_with_answer c.state c.schedule.next) c) c)
-        (Shows c (cond h (arrive_from (next_with_answer c.state c.schedule.next) c) c) NothingArrives)
-    go true e =
-        next (ltb-true _ _ e) _ refl
-    go false e = grind arith
+    go : (h : Bool) → nat_lt (length c.state.machine.cache.stack) c.state.sizes.depth ≡ h → (o : Option ℕ)
+        → next_with_answer c.state c.schedule.next ≡ o
+        → Move c (cond h (arrive_from o c) c) (Shows c (cond h (arrive_from o c) c) NothingArrives)
+    go true l None e = grind (arith, nowhere c.state c.schedule.next e)
+    go true l (Some b) e = comes (ltb-true _ _ l) b (next_there c.state c.schedule.next b e)
+    go false l o e = grind arith
 
 -- ---- the stack, the replies, the write queue
 
@@ -488,11 +374,6 @@ attempted event c why steady leaves falls =
       sizes = refl;
       lighter = grind arith;
     }
-  where
-    go : FallsOr c.state.machine (apply c.state.sizes c.state.machine event).machine (why c.state)
-        → Lighter c (attempt event c) (Shows c (attempt event c) why)
-    go (inl p) = inl p
-    go (inr p) = grind arith
 
 -- ---- all moves of a round
 
@@ -552,22 +433,11 @@ round_moves c steady = then c c3 c5 (then c c1 c3 turned first (λ f g p q. (f, 
         → Shows c3 c5 (λ s. (s.machine.cache.ready ≡ []) × Drained s) → c3.state ≡ c.state → c5.state ≡ c3.state → Stands c c5
     all f g p q =
         record {
-          kept = grind arith;
-          begins = λ b l w. busy b (f.0.begins b (omega arith) (omega (arith, l)) w);
+          kept = grind (arith, f, g);
+          begins = λ b l w. let busy = f.0.begins b (omega arith) (omega (arith, l)) w in
+              (busy.0, grind (arith, busy, f, g), grind (arith, busy, last, first));
           arrived = grind arith;
           processed = grind arith;
           taken = g.1.0;
           drained = g.1.1;
         }
-      where
-        still : (b : ℕ) → first_begun c5.schedule b ≡ first_begun c1.schedule b
-        still b = ap (λ l. slice_get (get_or l b []) 0) (g.0 ∙ f.1.0)
-
-        round : c5.schedule.round ≡ c1.schedule.round
-        round = last.round ∙ first.round
-
-        latency : c5.schedule.timing.latency ≡ c1.schedule.timing.latency
-        latency = last.latency ∙ first.latency
-
-        busy : (b : ℕ) → IsBusy c1 b → IsBusy c5 b
-        busy b x = grind (arith, still, round, latency)

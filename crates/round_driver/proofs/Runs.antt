@@ -1,27 +1,26 @@
 -- Rounds, one after another.
 use Rattle.std.proofs.Common.{◌≡◌, ℕ, zero, suc, ◌+◌, ◌≤◌, Bool, true, false, cond, List, [], ◌∷◌, ◌++◌, append_assoc, append-nil, take}
-use Rattle.std.proofs.Common.{length, length-append, get_or, ◌<◌, Result, Ok, Err, IfErr, IsErrAnd, refl, sym, ap, ap₂, ◌∙◌, arith}
-use Rattle.std.proofs.lemmas.Bool.{true≢false as no}
+use Rattle.std.proofs.Common.{length, length-append, get_or, ◌<◌, Result, Ok, Err, IfErr, IsErrAnd, refl, sym, ap, ◌∙◌, arith}
 use Rattle.std.proofs.lemmas.List.{take_more}
 use Rattle.flat_model.specs.declared.Event.{Event}
 use Rattle.machine_core.specs.Machine.{MachineState}
 use Rattle.trace_text.specs.Streams.{Moves, Stopped}
-use Rattle.trace_text.proofs.Serving.{moved_none, moved_then}
+use Rattle.trace_text.proofs.Serving.{moved_then}
 use Rattle.trace_text.specs.declared.fault.TraceFault.{TraceFault}
 use Rattle.trace_text.specs.declared.fault.TraceFault.TheVariants.{Write, OutOfMemory}
 use Rattle.round_driver.specs.declared.note.Note.{Note}
 use Rattle.round_driver.specs.declared.schedule.Schedule.{Schedule}
 use Rattle.round_driver.specs.declared.timing.Timing.{Timing}
-use Rattle.round_driver.specs.Rounds.{Run, run_of, after_round, is_over, is_over_at, rounds_until_over, opening, start_of}
+use Rattle.round_driver.specs.Rounds.{Run, run_of, after_round, is_over, is_over_at, rounds_until_over, start_of}
 use Rattle.round_driver.specs.Rounds.{most_rounds, whole_run, EndsInTime}
-use Rattle.round_driver.specs.Tables.{Counting, counted, counted_all, nothing}
+use Rattle.round_driver.specs.Tables.{Counting, counted, counted_all}
 use Rattle.round_driver.specs.Written.{note_line, run_text, BreaksOff}
 
 once : (n : ℕ) (r : Run) → rounds_until_over (suc n) r ≡ cond (is_over r) r (rounds_until_over n (after_round r))
 unfolding rounds_until_over
 once n r = refl
 
-none : (r : Run) → rounds_until_over 0 r ≡ r
+pub none : (r : Run) → rounds_until_over 0 r ≡ r
 unfolding rounds_until_over
 none r = refl
 
@@ -44,58 +43,32 @@ round_more (suc n) r h = go (λ going. round_more n _ going) _ refl
     go : (is_over (rounds_until_over n (after_round r)) ≡ false
         → rounds_until_over (n + 1) (after_round r) ≡ after_round (rounds_until_over n (after_round r))) → (b : Bool) → is_over r ≡ b
         → rounds_until_over (suc n + 1) r ≡ after_round (rounds_until_over (suc n) r)
-    go later true e = grind (arith, no, stays)
+    go later true e = grind (arith, stays)
     go later false e = grind (arith, next, goes)
 
 -- behind the end there are no rounds
 pub round_over : (n m : ℕ) (r : Run) → n ≤ m → is_over (rounds_until_over n r) ≡ true → rounds_until_over m r ≡ rounds_until_over n r
 round_over zero m r le h = grind (arith, stays, none)
 round_over (suc n) zero r le h = grind arith
-round_over (suc n) (suc m) r le h = go (λ fewer over. round_over n m _ fewer over) _ refl
-  where
-    go : (n ≤ m → is_over (rounds_until_over n (after_round r)) ≡ true
-        → rounds_until_over m (after_round r) ≡ rounds_until_over n (after_round r)) → (b : Bool) → is_over r ≡ b
-        → rounds_until_over (suc m) r ≡ rounds_until_over (suc n) r
-    go later true e = stays _ r e ∙ sym (stays _ r e)
-    go later false e = grind (arith, goes)
-
-no_more : (n most rounds : ℕ) → rounds ≡ n → n ≡ most → rounds < most → ⊥
-no_more n most rounds p q h = omega arith
+round_over (suc n) (suc m) r le h = grind (arith, once, round_over n m (after_round r))
 
 -- ---- text
 
 pub text_then : (xs ys : List Note) → run_text (xs ++ ys) ≡ run_text xs ++ run_text ys
 text_then [] ys = refl
-text_then (x ∷ xs) ys = ap (λ t. note_line x ++ t) (text_then xs ys) ∙ sym (append_assoc _ (run_text xs) (run_text ys))
+text_then (x ∷ xs) ys = grind (arith, text_then xs ys, append_assoc)
 
 -- one line more
-pub text_more : (xs : List Note) (i : ℕ) (d : Note) (before line after : List ℕ) → i < length xs → before ≡ run_text (take i xs)
-    → line ≡ note_line (get_or xs i d) → after ≡ before ++ line → after ≡ run_text (take (i + 1) xs)
-text_more xs i d before line after h p q r =
-    r ∙ ap₂ (λ a b. a ++ b) p (q ∙ sym (append-nil _)) ∙ sym (text_then _ _) ∙ ap run_text (sym (take_more xs i d h))
+pub text_more : (xs : List Note) (i : ℕ) (d : Note) → i < length xs
+    → run_text (take (i + 1) xs) ≡ run_text (take i xs) ++ note_line (get_or xs i d)
+text_more xs i d h =
+    ap run_text (take_more xs i d h) ∙ text_then (take i xs) _ ∙ ap (λ line. run_text (take i xs) ++ line) (append-nil _)
 
 -- ---- counts
 
 pub counted_then : (c : Counting) (xs ys : List Note) → counted_all c (xs ++ ys) ≡ counted_all (counted_all c xs) ys
 counted_then c [] ys = refl
 counted_then c (x ∷ xs) ys = counted_then (counted c x) xs ys
-
--- ---- before the first round
-
-module _ (timing : Timing) (s : MachineState) (requests : List Event) where
-  pub run_begins : {p : Schedule} → p ≡ opening timing → run_of s p requests (rounds_until_over 0 (start_of timing s requests)).told
-      ≡ rounds_until_over 0 (start_of timing s requests)
-  unfolding rounds_until_over
-  run_begins h = grind arith
-
-  pub text_begins : {S : Type 0} {step : S → List ℕ → S → Type 0} {w : S}
-      → Moves step w (run_text (rounds_until_over 0 (start_of timing s requests)).told) w
-  unfolding rounds_until_over
-  text_begins {w} = moved_none w
-
-  pub counts_begin : {c : Counting} → c ≡ nothing → c ≡ counted_all nothing (rounds_until_over 0 (start_of timing s requests)).told
-  unfolding rounds_until_over
-  counts_begin h = h
 
 -- ---- a turn of the loop: i rounds of a run, and one more
 
@@ -110,14 +83,14 @@ module _ (i : ℕ) (start : Run) {s : MachineState} {p : Schedule} {left : List 
     behind : run_of s' p' left' ((rounds_until_over i start).told ++ notes) ≡ rounds_until_over (i + 1) start
     behind = grind (arith, round_more)
 
-    pub told_next : (rounds_until_over (i + 1) start).told ≡ (rounds_until_over i start).told ++ notes
-    told_next = sym (ap (λ r. r.told) behind)
+    told_next : (rounds_until_over (i + 1) start).told ≡ (rounds_until_over i start).told ++ notes
+    told_next = grind (arith, behind)
 
     pub run_next : run_of s' p' left' (rounds_until_over (i + 1) start).told ≡ rounds_until_over (i + 1) start
-    run_next = ap (run_of s' p' left') told_next ∙ behind
+    run_next = grind (arith, behind)
 
-    pub state_next : s' ≡ (rounds_until_over (i + 1) start).state
-    state_next = ap (λ r. r.state) behind
+    state_next : s' ≡ (rounds_until_over (i + 1) start).state
+    state_next = grind (arith, behind)
 
     -- for the lines of the round that was made there is no memory
     pub lines_lack_memory : {W : Type 0} {took : W → List ℕ → W → Type 0} (refused : W → W → Type 0) {u v : W}
@@ -125,43 +98,41 @@ module _ (i : ℕ) (start : Run) {s : MachineState} {p : Schedule} {left : List 
         → IsErrAnd result (λ fault. fault ≡ OutOfMemory)
         → IfErr result (BreaksOff took refused u start v s')
     lines_lack_memory refused (Ok rounds) written told = tt
-    lines_lack_memory {took} refused {u} {v} (Err f) written told = grind (arith, state_next)
+    lines_lack_memory refused (Err f) written told = grind (arith, state_next)
 
     text : run_text (rounds_until_over (i + 1) start).told ≡ run_text (rounds_until_over i start).told ++ run_text notes
     text = grind (arith, told_next, text_then)
 
     pub text_next : {S : Type 0} {step : S → List ℕ → S → Type 0} {u v w : S} → Moves step u (run_text (rounds_until_over i start).told) v
         → Moves step v (run_text notes) w → Moves step u (run_text (rounds_until_over (i + 1) start).told) w
-    text_next {step} {u} {w} a b = grind (arith, text, moved_then)
+    text_next a b = grind (arith, text, moved_then)
 
     -- a write of the lines of the round that was made is refused
     pub lines_refused : {W : Type 0} {took : W → List ℕ → W → Type 0} {refused : W → W → Type 0} {u v w : W}
         → Moves took u (run_text (rounds_until_over i start).told) v → Stopped took refused v (run_text notes) w
         → BreaksOff took refused u start w s' Write
-    lines_refused written stopped =
-        let before = run_text (rounds_until_over i start).told in
-        let whole = text ∙ ap (λ l. before ++ l) stopped.whole ∙ sym (append_assoc before stopped.front stopped.back) in
-        let moved = moved_then written stopped.moved in (
-          i,
-          (
-            record {
-              front = before ++ stopped.front;
-              back = stopped.back;
-              whole = whole;
-              last = stopped.last;
-              moved = moved;
-              refusal = stopped.refusal;
-            },
-            omega (arith, length-append before stopped.front),
-          ),
-          state_next,
-        )
+    lines_refused written stopped = (
+      i,
+      (
+        record {
+          front = run_text (rounds_until_over i start).told ++ stopped.front;
+          back = stopped.back;
+          whole = grind (arith, text, append_assoc);
+          last = stopped.last;
+          moved = moved_then written stopped.moved;
+          refusal = stopped.refusal;
+        },
+        grind (arith, length-append),
+      ),
+      state_next,
+    )
 
-    pub counts_next : {c d : Counting} → c ≡ counted_all nothing (rounds_until_over i start).told → d ≡ counted_all c notes
-        → d ≡ counted_all nothing (rounds_until_over (i + 1) start).told
-    counts_next p q =
-        q ∙ ap (λ x. counted_all x notes) p ∙ sym (counted_then nothing (rounds_until_over i start).told notes)
-        ∙ ap (counted_all nothing) (sym told_next)
+    -- what is folded over all that was told
+    pub fold_next : {A : Type 0} (fold : A → List Note → A) → ((a : A) (xs ys : List Note) → fold a (xs ++ ys) ≡ fold (fold a xs) ys)
+        → (first : A) {a b : A} → a ≡ fold first (rounds_until_over i start).told → b ≡ fold a notes
+        → b ≡ fold first (rounds_until_over (i + 1) start).told
+    fold_next fold then first p q =
+        q ∙ ap (λ x. fold x notes) p ∙ sym (then first (rounds_until_over i start).told notes) ∙ ap (fold first) (sym told_next)
 
 -- ---- the loop's end: the run is over, or all rounds that it may take were made
 
@@ -171,16 +142,8 @@ module _ (timing : Timing) (s : MachineState) (requests : List Event) {turns mos
     (value : most ≡ most_rounds s.sizes timing.latency (length requests)) where
   pub whole_over : {b : Bool} → turns < most → b ≡ is_over_at m left → b ≡ true
       → run_of m p left (rounds_until_over turns (start_of timing s requests)).told ≡ whole_run timing s requests
-  whole_over lt answer over =
-      over_here _ _ here most (omega (arith, lt)) (sym answer ∙ over)
+  whole_over lt answer over = over_here _ _ here most (omega (arith, lt)) (sym answer ∙ over)
       ∙ ap (λ n. rounds_until_over n (start_of timing s requests)) value
-
-  pub whole_spent : turns ≡ most
-      → run_of m p left (rounds_until_over turns (start_of timing s requests)).told ≡ whole_run timing s requests
-  whole_spent all = grind arith
-
-  pub over_early : {b : Bool} → turns < most → b ≡ is_over_at m left → b ≡ true → EndsInTime timing s requests
-  over_early lt answer over h = grind (arith, whole_over)
 
   pub spent_early : turns ≡ most → p.round ≡ turns → EndsInTime timing s requests
   spent_early all round h = grind arith

@@ -1,29 +1,24 @@
-use Rattle.std.proofs.Common.{◌+◌, sym, ap, ◌∙◌, arith}
-use Rattle.round_driver.specs.Tables.{nothing, counted_all, with_rounds, total}
-use Rattle.round_driver.proofs.Runs.{run_begins, counts_begin, whole_over, over_early, run_next, counts_next}
+use Rattle.std.proofs.Common.{sym, ap, ◌∙◌, arith}
+use Rattle.round_driver.specs.Rounds.{is_over}
+use Rattle.round_driver.specs.Tables.{nothing, counted_all}
+use Rattle.round_driver.proofs.Runs.{none, whole_over, run_next, fold_next, counted_then}
 use Rattle.round_driver.proofs.Ends.{requests_end}
 use Rattle.round_driver.proofs.driving.summarize_with.Goals as goal
 
 pub loop-turn-init : goal.loop-turn-init
-loop-turn-init c = grind (arith, c.in_ok-counter.ensures.nothing, run_begins, counts_begin)
+loop-turn-init c = grind (arith, c.in_ok-counter.ensures.nothing, none)
 
-pub returns-then-is_over-clause-table : goal.returns-then-is_over-clause-table
-returns-then-is_over-clause-table c =
+pub returns-then-is_over : goal.returns-then-is_over
+returns-then-is_over c =
     let whole = whole_over _ _ _ c.loop-turn.invariant.run c.most_rounds-turn-end.ensures.value c.loop-turn-test.true c.is_over.ensures
     c.if-is_over.true in
-    c.table_after.ensures ∙ ap (λ x. with_rounds x (c.loop-turn.schedule.round + 1)) c.loop-turn.invariant.counts
-    ∙ ap (λ r. with_rounds (counted_all nothing r.told) (r.schedule.round + 1)) whole
-
-pub returns-then-is_over-clause-machine : goal.returns-then-is_over-clause-machine
-returns-then-is_over-clause-machine c =
-    let whole = whole_over _ _ _ c.loop-turn.invariant.run c.most_rounds-turn-end.ensures.value c.loop-turn-test.true c.is_over.ensures
-    c.if-is_over.true in
-    ap (λ r. r.state) whole
-
-pub returns-then-is_over-clause-early : goal.returns-then-is_over-clause-early
-returns-then-is_over-clause-early c =
-    over_early _ _ _ c.loop-turn.invariant.run c.most_rounds-turn-end.ensures.value c.loop-turn-test.true c.is_over.ensures
-    c.if-is_over.true
+    record {
+      table = grind (arith, whole);
+      machine = ap (λ r. r.state) whole;
+      over = requests_end _ _ _ c.keeps_whole.ensures;
+      early = λ h. sym (ap is_over whole) ∙ sym c.is_over.ensures ∙ c.if-is_over.true;
+      unchanged = tt;
+    }
 
 pub returns-clause-early : goal.returns-clause-early
 returns-clause-early c = grind arith
@@ -35,7 +30,7 @@ loop-turn-preserved c =
     let made = c.round-left.ensures.run in
     record {
       run = run_next _ _ here made going;
-      counts = counts_next _ _ here made going c.loop-turn.invariant.counts
+      counts = fold_next _ _ here made going counted_all counted_then nothing c.loop-turn.invariant.counts
           (c.count_all.ensures.counts ∙ ap (counted_all _) c.as_slice.ensures.value);
       sizes = grind arith;
       time = grind arith;
@@ -45,10 +40,5 @@ loop-turn-preserved c =
       tags = grind arith;
     }
 
-pub returns-then-is_over-clause-over : goal.returns-then-is_over-clause-over
-returns-then-is_over-clause-over c =
-    requests_end _ _ _ c.keeps_whole.ensures
-
 pub returns-clause-over : goal.returns-clause-over
-returns-clause-over c =
-    requests_end _ _ _ c.keeps_whole.ensures
+returns-clause-over c = requests_end _ _ _ c.keeps_whole.ensures

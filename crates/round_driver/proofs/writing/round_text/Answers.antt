@@ -1,8 +1,6 @@
-use Rattle.std.proofs.Common.{◌∙◌}
+use Rattle.std.proofs.Common.{arith}
 use Rattle.round_driver.proofs.Runs.{text_more}
 use Rattle.round_driver.proofs.writing.round_text.Goals as goal
 
 pub loop-note-preserved : goal.loop-note-preserved
-loop-note-preserved c =
-    text_more _ c.loop-note.note-index _ _ _ _ c.loop-note-test.true c.loop-note.invariant
-    (c.as_str.ensures.value ∙ c.in_ok-line.ensures) c.in_ok-push_str.ensures.bytes
+loop-note-preserved c = grind (arith, text_more)
