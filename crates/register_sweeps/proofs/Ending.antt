@@ -6,9 +6,8 @@ use Rattle.flat_model.specs.declared.Event.{Event}
 use Rattle.flat_model.specs.declared.Event.TheVariants.{Load, Take}
 use Rattle.flat_model.specs.declared.Answer.{Answer}
 use Rattle.flat_model.specs.declared.Answer.TheVariants.{Accepted, Value, Refused}
-use Rattle.flat_model.specs.declared.Cause.{Cause}
 use Rattle.flat_model.specs.Memory.{is_load}
-use Rattle.flat_model.specs.Flat.{Flat, may_answer, flat_after, flat_step, word_at, is_owed}
+use Rattle.flat_model.specs.Flat.{Flat, may_answer, flat_after, flat_step, word_at}
 use Rattle.cache_unit.specs.declared.Sizes.{Sizes}
 use Rattle.machine_core.specs.Law.{IsLawful}
 use Rattle.machine_core.specs.Machine.{Machine, MachineState, flat_of, flat_due}
@@ -89,7 +88,7 @@ Counted c ended loads = IsCounted c.state (c.row.accepted + c.row.denied) c.row.
 -- what an event does to what is owed
 due_after : (s : MachineState) (event : Event) → IsWholeState s
     → due_of (after_event s event) ≡ (flat_after (flat_of s.sizes s.machine) event (answered s event)).due
-due_after s event g = sym (ap (λ f. f.due) (changed _ _ event (answered s event) (step_of s event g)))
+due_after s event g = grind (arith, changed, step_of)
 
 -- what an answer leaves owed: a value pays one tag
 record Settled (due : ℕ → Option Word) (tags : List ℕ) (a : Answer) : Type 0 where
@@ -97,15 +96,11 @@ record Settled (due : ℕ → Option Word) (tags : List ℕ) (a : Answer) : Type
   owing : Owing due left
   values : (row : Row) → length left + (with_pump row a).values ≡ length tags + row.values
 
-owed_is_some : (o : Option Word) (w : Word) → is_owed o w ≡ true → is_some o ≡ true
-owed_is_some None w h = cc
-owed_is_some (Some v) w h = refl
-
 settles : (f : Flat) (event : Event) (a : Answer) (tags : List ℕ) → Owing f.due tags → may_answer f event a ≡ true → is_load event ≡ false
     → Settled (flat_after f event a).due tags a
-settles f (Load tag at) a tags owes may load = absurd (no load)
+settles f (Load tag at) a tags owes may load = cc
 settles f (Take place) (Value t w) tags owes may load =
-    let paid = pay f.due tags t owes (owed_is_some (f.due t) w may) in
+    let paid = pay f.due tags t owes (grind arith) in
     record { left = paid.0; owing = paid.1; values = λ row. omega (arith, paid.2) }
 settles f event (Value t w) tags owes may load = absurd (no (sym may))
 settles f event a tags owes may load = record { left = tags; owing = owes; values = λ row. refl }
@@ -120,12 +115,10 @@ pumped_moves : (z : Sizes) (m : Machine) → Moves (pumped z m)
 pumped_moves z m = grind arith
 
 pump_ends : (row : Row) (a : Answer) → (with_pump row a).accepted + (with_pump row a).denied ≡ row.accepted + row.denied
-pump_ends row (Value t w) = refl
-pump_ends row a = refl
+pump_ends row a = grind arith
 
 pumped_accepts : (row : Row) (o : Option (Event × Answer)) → (with_pumped row o).accepted ≡ row.accepted
-pumped_accepts row None = refl
-pumped_accepts row (Some told) = grind arith
+pumped_accepts row o = grind arith
 
 -- a pump ends no request, and pays what it takes
 counted_pump : (c : Course) (ended loads : ℕ) → Counted c ended loads → Counted (pump_once c) ended loads
@@ -151,22 +144,13 @@ counted_pump c ended loads k = go (pumped c.state.sizes c.state.machine) (pumped
 
 end_counts : (row : Row) (a : Answer) → is_end a ≡ true → (with_end row a).accepted + (with_end row a).denied
     ≡ row.accepted + row.denied + 1
-end_counts row Accepted h = omega arith
-end_counts row (Refused cause) h = rw h (omega arith)
-end_counts row a h = cc
+end_counts row a h = grind arith
 
 end_waits : (row : Row) (a : Answer) → is_end a ≡ false → with_end row a ≡ row
-end_waits row Accepted h = cc
-end_waits row (Refused cause) h = rw h refl
-end_waits row a h = refl
+end_waits row a h = grind arith
 
 end_values : (row : Row) (a : Answer) → (with_end row a).values ≡ row.values
-end_values row (Refused cause) = grind arith
-end_values row a = refl
-
--- a refusal accepts nothing
-refused_accepts : (row : Row) (cause : Cause) → (with_end row (Refused cause)).accepted ≡ row.accepted
-refused_accepts row cause = grind arith
+end_values row a = grind arith
 
 -- what an answer to a request leaves owed: an accepted load's tag more
 record Taken (due : ℕ → Option Word) (tags : List ℕ) (event : Event) (row : Row) (a : Answer) : Type 0 where
@@ -182,10 +166,8 @@ takes f (Load tag at) Accepted tags row owes may r =
       owing = owe f.due tags tag (word_at f.mem at) owes (and_parts (nat_lt at (length f.mem)) (is_none (f.due tag)) may).1;
       more = omega arith;
     }
-takes f (Load tag at) (Refused cause) tags row owes may r =
-    let none = refused_accepts row cause in
-    record { left = tags; owing = owes; more = omega (arith, none) }
-takes f (Load tag at) a tags row owes may r = absurd (no (sym may))
+takes f (Load tag at) (Refused cause) tags row owes may r = record { left = tags; owing = owes; more = grind arith }
+takes f (Load tag at) a tags row owes may r = cc
 takes f event Accepted tags row owes may r = record { left = tags; owing = owes; more = omega arith }
 takes f event (Refused cause) tags row owes may r = record { left = tags; owing = owes; more = omega arith }
 takes f event a tags row owes may r = cc
@@ -280,13 +262,8 @@ owes_nothing : (s : MachineState) → IsWholeState s → weight s.machine ≡ 0 
 unfolding answered
 owes_nothing s g rest tag =
     let accepted = (serves s g rest).loads tag 0 (omega (arith, g.in_range.some_memory)) in
-    let f = flat_of s.sizes s.machine in
-    let may : may_answer f (Load tag 0) Accepted ≡ true = sym (ap (may_answer f (Load tag 0)) accepted) ∙ may_of s (Load tag 0) g in
-    none_is (due_of s tag) (and_parts (nat_lt 0 (length f.mem)) (is_none (due_of s tag)) may).1
-  where
-    none_is : (o : Option Word) → is_none o ≡ true → is_some o ≡ false
-    none_is None h = refl
-    none_is (Some v) h = cc
+    let may = may_of s (Load tag 0) g in
+    grind (arith, accepted, may)
 
 -- ---- the row
 
@@ -302,8 +279,8 @@ row_counts s regs events g none r =
     let nothing : Owing (due_of s) [] = record { apart = tt; owed = none } in
     let opened : Counted begin 0 0 = record { good = g; ends = refl; tags = []; owes = nothing; paid = refl } in
     let end = serve_all events begin in
-    let counted = counted_all events begin 0 0 r opened in
-    let dried = dry (weight end.state.machine) end (0 + length events) (0 + accepted_loads events begin) counted (omega arith) in
+    let dried = dry (weight end.state.machine) end (0 + length events) (0 + accepted_loads events begin)
+    (counted_all events begin 0 0 r opened) (omega arith) in
     let last = run_dry end in
     let k : Counted last (0 + length events) (0 + accepted_loads events begin) = dried.0 in
     let paid = all_paid (due_of last.state) k.tags k.owes (owes_nothing last.state k.good dried.1) in

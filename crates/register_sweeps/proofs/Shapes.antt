@@ -1,11 +1,9 @@
 -- The first shape or machine with a bad number, and the rows of machines that have none.
-use Rattle.std.proofs.Common.{◌≡◌, ℕ, zero, suc, ◌+◌, ◌<◌, List, [], ◌∷◌, map, length, get_or, Option, Some, None, Result, Ok, Err, IfOk}
-use Rattle.std.proofs.Common.{OnOk, Vec, Global, refl, sym, ap, ap₂, subst, ◌∙◌, arith}
+use Rattle.std.proofs.Common.{◌≡◌, ℕ, zero, suc, ◌+◌, ◌<◌, List, [], ◌∷◌, map, length, get_or, Option, None, Result, Ok, Err, IfOk}
+use Rattle.std.proofs.Common.{OnOk, Vec, Global, refl, sym, ap, ap₂, ◌∙◌, arith}
 use Rattle.std.specs.List.{All}
-use Rattle.std.specs.Option.{option_map, option_or}
 use Rattle.std.proofs.lemmas.List.{get_or-map, length-map}
 use Rattle.flat_model.specs.declared.ShapeField.{ShapeField}
-use Rattle.shape_files.specs.MachineFile.{bad_machine}
 use Rattle.cache_unit.specs.declared.Sizes.{Sizes}
 use Rattle.shape_files.specs.declared.shape_file.TheConstants.{DEFAULT_SHAPE}
 use Rattle.shape_files.specs.declared.shape_file.ToolShape.{ToolShape}
@@ -15,26 +13,12 @@ use Rattle.shape_files.specs.ShapeFile.{sizes_of, bad_field as bad_shape}
 use Rattle.shape_files.proofs.Fits.{sizes_fit}
 use Rattle.register_sweeps.specs.Sweep.{AreGood, bad_from}
 
-not_none : {X : Type 0} {x : X} → Some x ≡ None → ⊥
-not_none h = cc
-
 -- Of shapes, or of machines, by what is out of its range in one.
 module _ {S : Type 0} (bad : S → Option ShapeField) where
-  -- what is found at a place, and the rest
-  abbrev found : ℕ → Option ShapeField → List S → Option (ℕ × ShapeField)
-  found place here ss = option_or (option_map (λ field. (place, field)) here) (bad_from bad (place + 1) ss)
-
   good_one : (ss : List S) (place i : ℕ) (d : S) → bad_from bad place ss ≡ None → i < length ss → bad (get_or ss i d) ≡ None
   good_one [] place i d h l = absurd (omega arith)
-  good_one (s ∷ ss) place i d h l = go (λ j p q. good_one ss (place + 1) j d p q) (bad s) refl i h l
-    where
-      go : ((j : ℕ) → bad_from bad (place + 1) ss ≡ None → j < length ss → bad (get_or ss j d) ≡ None) → (o : Option ShapeField) → bad s ≡ o
-          → (i : ℕ) → found place (bad s) ss ≡ None → i < suc (length ss) → bad (get_or (s ∷ ss) i d) ≡ None
-      go later (Some f) e i h l =
-          let here : Some (place, f) ≡ None = sym (ap (λ o. found place o ss) e) ∙ h in
-          absurd (not_none here)
-      go later None e zero h l = e
-      go later None e (suc j) h l = later j (sym (ap (λ o. found place o ss) e) ∙ h) (omega arith)
+  good_one (s ∷ ss) place zero d h l = grind arith
+  good_one (s ∷ ss) place (suc i) d h l = grind (arith, good_one ss (place + 1) i d)
 
   -- where none is found, each is good
   pub each_good : (ss : List S) → bad_from bad 0 ss ≡ None → All (λ s. bad s ≡ None) ss
@@ -43,11 +27,9 @@ module _ {S : Type 0} (bad : S → Option ShapeField) where
 -- the machines of good shapes are good
 pub machines_good : (ts : List ToolShape) (zs : List Sizes) → bad_from bad_shape 0 ts ≡ None → zs ≡ map sizes_of ts → AreGood zs
 machines_good ts zs good same = λ i d l.
-    let count : length zs ≡ length ts = ap length same ∙ length-map ts sizes_of in
-    let inside : i < length ts = omega (arith, count, l) in
-    let one = ap (λ xs. get_or xs i d) same ∙ get_or-map sizes_of ts i DEFAULT_SHAPE d inside in
+    let inside : i < length ts = grind (arith, length-map) in
     let fits = sizes_fit (get_or ts i DEFAULT_SHAPE) (each_good bad_shape ts good i DEFAULT_SHAPE inside) in
-    subst (λ z. bad_machine z ≡ None) (sym one) fits
+    grind (arith, fits, get_or-map)
 
 -- ---- the rows of these machines, whatever a row is and shows of its machine
 
@@ -59,9 +41,7 @@ module _ {A : Type 0} (gives : Sizes → A) (shows : Sizes → Type 0) where
   each_row [] (r ∷ rows) h e = grind arith
   each_row (t ∷ ts) [] h e = absurd (omega (arith, h))
   each_row (t ∷ ts) (r ∷ rows) h e =
-      let first : r ≡ gives t = e 0 t r (omega arith) in
-      let rest : rows ≡ map gives ts = each_row ts rows (omega (arith, h)) (λ i u s l. e (suc i) u s (omega arith)) in
-      ap₂ (λ x xs. x ∷ xs) first rest
+      ap₂ (λ x xs. x ∷ xs) (e 0 t r (omega arith)) (each_row ts rows (omega (arith, h)) (λ i u s l. e (suc i) u s (omega arith)))
 
   -- this row is that of the machine, and shows what it shows
   abbrev IsRow : Sizes → A → Type 0

@@ -26,8 +26,7 @@ module _ (n i : ℕ) (event : Event) (c d e : Course) (pumped : d ≡ pump_and_w
 
   once : (b : Bool) → ends event d ≡ b → ask_again (n - i) event c
       ≡ cond b (ask event (pump_and_wait c)) (ask_again (n - (i + 1)) event (ask event (pump_and_wait c)))
-  once b h =
-      ap (λ k. ask_again k event c) (left n i turn) ∙ ask_again_step (n - (i + 1)) event c b (sym (ap (ends event) pumped) ∙ h)
+  once b h = grind (arith, left, ask_again_step)
 
   pub turn_ends : ends event d ≡ true → ask_again (n - i) event c ≡ e
   turn_ends h = once true h ∙ sym told
@@ -56,15 +55,9 @@ module _ (Keeps : MachineState → Type 0) (event_keeps : (s : MachineState) (ev
   pub turns_keep : (n : ℕ) (event : Event) (c : Course) → Keeps c.state → Keeps (ask_again n event c).state
   unfolding ask_again
   turns_keep zero event c k = k
-  turns_keep (suc n) event c k = go (ends event (pump_and_wait c)) (turns_keep n event (ask event (pump_and_wait c)) asked)
-    where
-      asked : Keeps (ask event (pump_and_wait c)).state
-      asked = event_keeps _ event (pump_keeps c.state k)
-
-      go : (b : Bool) → Keeps (ask_again n event (ask event (pump_and_wait c))).state
-          → Keeps (cond b (ask event (pump_and_wait c)) (ask_again n event (ask event (pump_and_wait c)))).state
-      go true rest = asked
-      go false rest = rest
+  turns_keep (suc n) event c k =
+      let asked = event_keeps _ event (pump_keeps c.state k) in
+      grind (arith, asked, turns_keep n event (ask event (pump_and_wait c)) asked)
 
 pub again_sizes : (n : ℕ) (event : Event) (c : Course) → (ask_again n event c).state.sizes ≡ c.state.sizes
 unfolding after_event

@@ -14,17 +14,11 @@ returns-then-is_ended-clause-course c =
     sym ended ∙ sym c.loop-turn.invariant.course ∙ same
 
 pub loop-turn-preserved : goal.loop-turn-preserved
-loop-turn-preserved c =
-    let here = course c.loop-turn.machine c.loop-turn.row in
-    let turn : c.loop-turn._turn < c.most_turns-turn-end.result = c.loop-turn-test.true in
-    let goes = sym c.turn-asked.ensures.ends ∙ sym c.is_ended.ensures ∙ c.if-is_ended.false in
-    let goes_on = turn_goes_on c.most_turns-turn-end.result c.loop-turn._turn c.args.event here (pump_and_wait here) _ refl
-    c.turn-asked.ensures.course turn goes in
-    record {
-      course = c.loop-turn.invariant.course ∙ goes_on;
-      total = omega (arith, c.loop-turn.invariant.total, c.turn-asked.ensures.total);
-      lacks = c.turn-asked.ensures.lacks;
-    }
+loop-turn-preserved c = record {
+  course = grind (arith, turn_goes_on);
+  total = grind arith;
+  lacks = c.turn-asked.ensures.lacks;
+}
 
 pub returns-clause-course : goal.returns-clause-course
 returns-clause-course c =

@@ -1,15 +1,12 @@
-use Rattle.std.proofs.Common.{sym, ap, subst, ◌∙◌}
-use Rattle.machine_core.specs.Whole.{IsWholeState}
+use Rattle.std.proofs.Common.{sym, ap, ◌∙◌, arith}
 use Rattle.round_driver.proofs.Moves.{whole_after}
-use Rattle.register_sweeps.specs.Sweep.{Course, course, ends}
+use Rattle.register_sweeps.specs.Sweep.{course, ends}
 use Rattle.register_sweeps.proofs.Turns.{again_sizes}
 use Rattle.register_sweeps.proofs.EnoughTurns.{whole_after_turns, still_waits}
 use Rattle.register_sweeps.proofs.row.serve.Goals as goal
 
 pub ask_again-requires-clause-whole : goal.ask_again-requires-clause-whole
-ask_again-requires-clause-whole c =
-    let asked = whole_after c.args.machine.now c.args.event c.requires.whole in
-    subst (λ (d : Course). IsWholeState d.state) (sym c.ask-asked.ensures.course) asked
+ask_again-requires-clause-whole c = grind (arith, whole_after)
 
 pub ask_again-requires-clause-waits : goal.ask_again-requires-clause-waits
 ask_again-requires-clause-waits c = λ request.
@@ -18,16 +15,10 @@ ask_again-requires-clause-waits c = λ request.
     ap (ends c.args.event) c.ask-asked.ensures.course ∙ still
 
 pub returns-then-not-is_ended-clause-whole : goal.returns-then-not-is_ended-clause-whole
-returns-then-not-is_ended-clause-whole c =
-    let asked = whole_after c.args.machine.now c.args.event c.requires.whole in
-    let here = subst (λ (d : Course). IsWholeState d.state) (sym c.ask-asked.ensures.course) asked in
-    subst (λ (d : Course). IsWholeState d.state) (sym c.ask_again.ensures.course) (whole_after_turns _ c.args.event _ here)
+returns-then-not-is_ended-clause-whole c = grind (arith, whole_after, whole_after_turns)
 
 pub returns-else-not-is_ended-clause-whole : goal.returns-else-not-is_ended-clause-whole
-returns-else-not-is_ended-clause-whole c =
-    let asked = whole_after c.args.machine.now c.args.event c.requires.whole in
-    subst (λ (d : Course). IsWholeState d.state) (sym c.ask-asked.ensures.course) asked
+returns-else-not-is_ended-clause-whole c = grind (arith, whole_after)
 
 pub returns-then-not-is_ended-clause-sizes : goal.returns-then-not-is_ended-clause-sizes
-returns-then-not-is_ended-clause-sizes c =
-    ap (λ d. d.state.sizes) c.ask_again.ensures.course ∙ again_sizes _ c.args.event _ ∙ c.ask-asked.ensures.sizes
+returns-then-not-is_ended-clause-sizes c = grind (arith, again_sizes)
