@@ -1,28 +1,31 @@
--- A sound machine's unit is a sound one, and its flat memory is read from the unit's forms.
+-- A sound machine's unit is a sound one, and its flat memory is read from the unit's forms. What is on its way stays within
+-- the limits, and each read and each answer is at the bank of its word.
 use Rattle.std.proofs.Common.{not, ◌||◌, ◌≡◌, ℕ, zero, suc, ◌+◌, ◌≤◌, Bool, true, false, ◌&&◌, ◌==◌, List, [], ◌∷◌, length, Some, remove}
-use Rattle.std.proofs.Common.{slice_get, refl, sym, ap, ap₂, ◌∙◌, arith, eq-eqb, ltb-true, cond, map, Option, None, option_map, find}
-use Rattle.std.proofs.Common.{eqb-true, ◌/◌, ◌<◌, ◌++◌, set, length-set, ◌⊎◌, ⊎_elim, get_or, get_or-set_same, get_or-set_other, ◌-◌, ◌%◌}
-use Rattle.std.proofs.Common.{ne_eqb}
-use Rattle.std.proofs.lemmas.Bool.{and_parts, not-true, cases_eq, cases_lt}
+use Rattle.std.proofs.Common.{slice_get, refl, sym, ap, ◌∙◌, arith, eq-eqb, ltb-true, cond, map, Option, None, option_map, find, eqb-true}
+use Rattle.std.proofs.Common.{◌/◌, ◌<◌, ◌++◌, set, length-set, ◌⊎◌, ⊎_elim, get_or, get_or-set_same, get_or-set_other, ◌-◌, ◌%◌, ne_eqb}
+use Rattle.std.proofs.Common.{◌*◌, nat_lt, length-append, lt-ltb}
+use Rattle.std.proofs.lemmas.Bool.{and_parts, not-true, cases_eq, cases_lt, ltb-false}
 use Rattle.flat_model.specs.declared.Word.{Word}
-use Rattle.flat_model.specs.Words.{merged, Lane, Lane0, Lane1, Lane2, Lane3, byte, has, joined, zero_word}
-use Rattle.memory_banks.specs.Banks.{Bank, bank_at, all_pending, words_after}
+use Rattle.flat_model.specs.Words.{merged, Lane, byte, has, joined, zero_word}
+use Rattle.memory_banks.specs.Banks.{Bank, bank_at, all_pending, words_after, no_bank, room_in, all_sent, commands_for, pending, answers_to}
+use Rattle.memory_banks.specs.Banks.{after}
 use Rattle.input_stack.specs.declared.Entry.{Entry}
 use Rattle.cache_unit.specs.declared.Sizes.{Sizes}
 use Rattle.cache_unit.specs.State.{Cache, tags, cell_of, block_of, place_in, register_at, field_at, Target, targets, is_live, live_for}
-use Rattle.cache_unit.specs.State.{frame_of, Frame, Frames, empty_frame, frame_at, first_of}
+use Rattle.cache_unit.specs.State.{frame_of, Frame, Frames, empty_frame, frame_at, first_of, Field, Register, clear_field, free_register}
+use Rattle.cache_unit.specs.State.{is_present, with_cell, with_field, address, free_slot}
 use Rattle.cache_unit.specs.SoundCache.{HasWord, IsSoundCache}
 use Rattle.cache_unit.specs.Counts.{tally, bit}
 use Rattle.cache_unit.proofs.Lists.{Adds-tally, Adds-remove, tally-filter, waits_for, Within, Beside, Adds, Adds-find_other, Adds-find_same}
-use Rattle.cache_unit.proofs.Lists.{target_valid, live_for-some, frame_of-is, frame_of-some}
+use Rattle.cache_unit.proofs.Lists.{target_valid, live_for-some, frame_of-is, frame_of-some, tally-append}
 use Rattle.machine_core.specs.Law.{IsLawful}
-use Rattle.machine_core.specs.Machine.{Machine, backing, flat_word, Outcome, apply, flat_word_in, flat_due, flat_of}
+use Rattle.machine_core.specs.Machine.{Machine, backing, flat_word, Outcome, apply, flat_due, flat_of}
 use Rattle.machine_core.specs.Sound.{is_for, is_entry_for, AllIn, InOrder, IsSound, IsBounded, word_in, is_in}
-use Rattle.std.specs.List.{range_with_len}
+use Rattle.std.specs.List.{range_with_len, list_any, filter}
 use Rattle.std.specs.Option.{option_or}
 use Rattle.flat_model.specs.declared.Lanes.{Lanes}
 use Rattle.flat_model.specs.declared.Event.{Event}
-use Rattle.flat_model.specs.Flat.{flat_step}
+use Rattle.flat_model.specs.Flat.{flat_step, stored, word_at}
 use Rattle.flat_model.proofs.Lanewise.{byte_word_of, same_word_from, byte-merged, merged-none, merged_held, merged_over, merged_no_lane}
 use Rattle.memory_banks.specs.declared.BankAnswer.{BankAnswer}
 use Rattle.input_stack.specs.Stack.{stack_word}
@@ -35,19 +38,26 @@ use Rattle.cache_directory.specs.Frames.{without, released as released_frame, ze
 use Rattle.write_queue.specs.declared.Queued.{Queued}
 use Rattle.write_queue.specs.Queue.{overlaid, queued_lanes}
 use Rattle.cache_directory.specs.declared.Cell.{Cell}
-use Rattle.cache_unit.specs.Causes.{dirty_from, owed_by, dirty_words}
+use Rattle.cache_unit.specs.Causes.{dirty_from, owed_by, dirty_words, first_cause, choose, addresses, lacks_places, lacks_room, miss_causes}
+use Rattle.cache_unit.specs.Causes.{Found, Here, Coming}
 use Rattle.cache_unit.proofs.FormsWords.{address_is}
-use Rattle.cache_unit.specs.Steps.{released, evicted}
+use Rattle.cache_unit.specs.Steps.{released, evicted, obsoleted, installed, missed, reads, fetched, fetches, loaded, noted, written_in}
+use Rattle.cache_unit.specs.Steps.{written, arrived, processed}
 use Rattle.cache_unit.proofs.FormsEvents.{EvictedBy, evicted-by}
+use Rattle.std.proofs.lemmas.Nat.{mod-mul-add}
+use Rattle.memory_banks.specs.declared.Command.{Command}
+use Rattle.memory_banks.specs.declared.Command.TheVariants.{Read, Write}
+use Rattle.memory_banks.proofs.Sending.{all_sent-length, all_sent-at}
+use Rattle.miss_registers.specs.Registers.{without_code, made_obsolete, finished, finished_fields, marked, is_done}
+use Rattle.cache_unit.specs.Begun.{begun_field, begun_register}
+use Rattle.cache_unit.proofs.Requesting.{Able, free_register_at, some_frame}
 use Rattle.cache_directory.specs.Frames as dir
 
 pub bit-le : (b : Bool) → bit b ≤ 1
-bit-le true = omega arith
-bit-le false = omega arith
+bit-le b = grind arith
 
 pub bit-pos : (b : Bool) → 1 ≤ bit b → b ≡ true
-bit-pos true h = refl
-bit-pos false h = absurd (omega arith)
+bit-pos b h = grind arith
 
 -- ---- the stack's words
 
@@ -57,31 +67,24 @@ own_entry e = grind arith
 pub entry_counted : (stack : List Entry) (k : ℕ) (e : Entry) → slice_get stack k ≡ Some e
     → tally (is_entry_for e.slot e.i) stack ≡ 1 + tally (is_entry_for e.slot e.i) (remove stack k)
 entry_counted stack k e found =
-    let n = Adds-tally (is_entry_for e.slot e.i) e _ _ (Adds-remove e stack k found) in
-    let one = ap bit (own_entry e) in
-    omega arith
+    omega (arith, Adds-tally (is_entry_for e.slot e.i) e _ _ (Adds-remove e stack k found), ap bit (own_entry e))
 
 passes : {X : Type 0} (p : X → Bool) (xs : List X) (k : ℕ) (x : X) → slice_get xs k ≡ Some x → p x ≡ true → 1 ≤ tally p xs
-passes p xs k x found e = let n = Adds-tally p x _ _ (Adds-remove x xs k found) in let one = ap bit e in omega arith
+passes p xs k x found e = omega (arith, Adds-tally p x _ _ (Adds-remove x xs k found), ap bit e)
 
 -- where one passes at most, it has one place
 one_place : {X : Type 0} (p : X → Bool) (xs : List X) → tally p xs ≤ 1 → (j k : ℕ) (x y : X)
     → slice_get xs j ≡ Some x → slice_get xs k ≡ Some y → p x ≡ true → p y ≡ true → j ≡ k
-one_place p [] l j k x y ex ey px py = cc
 one_place p (v ∷ xs) l zero zero x y ex ey px py = refl
-one_place p (v ∷ xs) l zero (suc k) x y ex ey px py = grind (arith, passes)
-one_place p (v ∷ xs) l (suc j) zero x y ex ey px py = grind (arith, passes)
 one_place p (v ∷ xs) l (suc j) (suc k) x y ex ey px py = ap suc (one_place p xs (omega arith) j k x y ex ey px py)
+one_place p xs l j k x y ex ey px py = grind (arith, passes)
 
 -- the register of a word in the stack waits for it
 pub entry_waits : (z : Sizes) (m : Machine) → IsSound z m → (k : ℕ) (e : Entry) → slice_get m.cache.stack k ≡ Some e → HasWord z m.cache e
 entry_waits z m h k e found =
-    let there = entry_counted _ k e found in
-    let count = h.counted e.slot e.i in
-    let w = bit-pos _ (omega arith) in
-    let p = and_parts (register_at m.cache e.slot).valid _ w in
+    let p = and_parts _ _ (bit-pos _ (omega (arith, entry_counted _ k e found, h.counted e.slot e.i))) in
     let q = and_parts _ _ p.1 in
-    record { valid = p.0; there = ltb-true e.i _ q.0; waits = not-true (field_at m.cache e.slot e.i).processed q.1 }
+    record { valid = p.0; there = ltb-true e.i _ q.0; waits = not-true _ q.1 }
 
 pub sound_unit : (z : Sizes) → IsLawful z → (m : Machine) → IsSound z m → IsSoundCache z m.cache
 sound_unit z lawful m h = record {
@@ -96,11 +99,11 @@ sound_unit z lawful m h = record {
   fields = h.whole_registers;
   placed = h.in_order.placed;
   entries = entry_waits z m h;
-  entries_apart = λ j k d e p q s i.
-      let count = h.counted d.slot d.i in
-      let most = bit-le (waits_for z m.cache d.slot d.i) in
-      let same = ap₂ (λ x y. x && y) (eq-eqb e.slot _ (sym s)) (eq-eqb e.i d.i (sym i)) in
-      one_place (is_entry_for _ d.i) _ (omega arith) j k d e p q (own_entry d) same;
+  entries_apart = λ j k d e p q s i. one_place (is_entry_for d.slot d.i) _ (omega (
+    arith,
+    h.counted d.slot d.i,
+    bit-le (waits_for z m.cache d.slot d.i),
+  )) j k d e p q (own_entry d) (grind arith);
   once = λ tag. rw (tally-filter (λ t. t == tag) _) (h.once tag);
 }
 
@@ -121,11 +124,6 @@ pub kept_same : (z : Sizes) (m m' : Machine) → IsSound z m → (at : ℕ) → 
     → backing z m' at ≡ backing z m at → flat_word z m' at ≡ kept_word z m' at
 kept_same z m m' h at words cell back = grind arith
 
--- the banks have as many words
-pub record BanksLike (old new : List Bank) : Type 0 where
-  pub number : length new ≡ length old
-  pub lengths : (b : ℕ) → length (bank_at new b).words ≡ length (bank_at old b).words
-
 -- ---- machines within a sound one
 
 pub InOrder-within : (z : Sizes) (c d : Cache) → Within c d → d.directory.orders ≡ c.directory.orders → InOrder z c.directory
@@ -135,15 +133,16 @@ InOrder-within z c d w e h = grind arith
 pub sound_within : (z : Sizes) (m m' : Machine) → IsSound z m → Within m.cache m'.cache → InOrder z m'.cache.directory
     → AllIn z m'.cache.queue → ((tag : ℕ) → tally (λ t. t == tag) (tags m'.cache) ≤ 1)
     → ((s i : ℕ) → tally (is_for s i) (all_pending m'.banks) + tally (is_entry_for s i) m'.cache.stack ≡ bit (waits_for z m'.cache s i))
-    → ((at : ℕ) → flat_word z m' at ≡ kept_word z m' at) → BanksLike m.banks m'.banks → IsSound z m'
-sound_within z m m' h w order queue once counted kept banks = record {
+    → ((at : ℕ) → flat_word z m' at ≡ kept_word z m' at) → length m'.banks ≡ length m.banks
+    → ((b : ℕ) → length (bank_at m'.banks b).words ≡ length (bank_at m.banks b).words) → IsSound z m'
+sound_within z m m' h w order queue once counted kept number lengths = record {
   frames_apart = λ f g b p q. h.frames_apart f g b (w.frames.held f b p).0 (w.frames.held g b q).0;
   live_apart = grind arith;
   live_present = grind arith;
   counted = counted;
   once = once;
   kept = kept;
-  whole_frames = λ f b p. let a = w.frames.held f b p in let k = h.whole_frames f b a.0 in (a.1 ∙ k.0, k.1);
+  whole_frames = λ f b p. grind (arith, w.frames.held f b p, h.whole_frames f b);
   whole_registers = grind arith;
   queue_in = queue;
   in_order = order;
@@ -162,7 +161,7 @@ sound_beside z m d h b once kept =
     sound_within z m (record { cache = d; banks = m.banks }) h b.within (InOrder-within z _ d b.within b.orders h.in_order)
     (rw (sym b.queue) at h.queue_in) once
     (λ s i. (cc (b.stack, h.counted s i, ap bit (sym (b.waits s i)))))
-    kept (record { number = refl; lengths = λ k. refl })
+    kept refl (λ k. refl)
 
 -- the same frames and registers
 pub within_refl : (c d : Cache) → d.directory.frames ≡ c.directory.frames → d.registers ≡ c.registers → Within c d
@@ -179,35 +178,32 @@ value-byte (a ∷ answers) b = value-byte answers b
 -- a lane that is asked for is that of the first answer
 value-asked : (answers : List BankAnswer) (slot i : ℕ) (l : Lane)
     → value answers (Asked slot i l) ≡ byte (word_in (find (is_for slot i) answers)) l
-value-asked [] slot i Lane0 = refl
-value-asked [] slot i Lane1 = refl
-value-asked [] slot i Lane2 = refl
-value-asked [] slot i Lane3 = refl
+value-asked [] slot i l = grind arith
 value-asked (a ∷ answers) slot i l = grind (arith, value-byte, value-asked answers slot i l)
+
+-- a form is filled to the word with its lanes' bytes
+filled-is : (answers : List BankAnswer) (f : Form) (w : Word) → ((l : Lane) → value answers (f l) ≡ byte w l) → filled_by answers f ≡ w
+filled-is answers f w same = same_word_from _ _ (λ l. byte_word_of (λ k. value answers (f k)) l ∙ same l)
 
 -- two lists fill a form alike that fill each lane alike
 filled-like : (old new : List BankAnswer) (f g : Form) → ((l : Lane) → value new (g l) ≡ value old (f l))
     → filled_by new g ≡ filled_by old f
-filled-like old new f g same =
-    same_word_from _ _ (λ l. byte_word_of (λ k. value new (g k)) l ∙ same l ∙ sym (byte_word_of (λ k. value old (f k)) l))
+filled-like old new f g same = filled-is new g _ (λ l. same l ∙ sym (byte_word_of (λ k. value old (f k)) l))
 
 pub filled-bytes : (answers : List BankAnswer) (w : Word) → filled_by answers (bytes_of w) ≡ w
-filled-bytes answers w = same_word_from _ _ (λ l. byte_word_of (λ k. value answers (Byte (byte w k))) l ∙ value-byte answers _)
+filled-bytes answers w = filled-is answers _ w (λ l. value-byte answers _)
 
 -- some lanes of a word, over a form
 pub filled-over : (answers : List BankAnswer) (lanes : Lanes) (w : Word) (f : Form)
     → filled_by answers (over_form lanes w f) ≡ merged (filled_by answers f) w lanes
-filled-over answers lanes w f = same_word_from _ _ (λ l. byte_word_of (λ k. value answers (over_form lanes w f k)) l ∙ over _ l
-    ∙ sym (byte-merged _ w lanes l))
-  where
-    over : (b : Bool) (l : Lane) → value answers (cond b (Byte (byte w l)) (f l)) ≡ cond b (byte w l) (byte (filled_by answers f) l)
-    over true l = value-byte answers _
-    over false l = sym (byte_word_of (λ k. value answers (f k)) l)
+filled-over answers lanes w f = filled-is answers _ _ (λ l. elim (has lanes l) as
+    (λ b. value answers (cond b (Byte (byte w l)) (f l)) ≡ cond b (byte w l) (byte (filled_by answers f) l))
+    [ true ↦ value-byte answers _ | false ↦ sym (byte_word_of (λ k. value answers (f k)) l) ] ∙ sym (byte-merged _ w lanes l))
 
 -- a word that is asked for, whole
 pub filled-asked : (answers : List BankAnswer) (slot i : ℕ)
     → filled_by answers (λ l. Asked slot i l) ≡ word_in (find (is_for slot i) answers)
-filled-asked answers slot i = same_word_from _ _ (λ l. byte_word_of (λ k. value answers (Asked slot i k)) l ∙ value-asked answers slot i l)
+filled-asked answers slot i = filled-is answers _ _ (value-asked answers slot i)
 
 -- an answer that arrives is filled in, and no longer on its way
 pub filled-arrived : (a : BankAnswer) (new old : List BankAnswer) → Adds a new old → tally (is_for a.slot a.i) new ≡ 0
@@ -219,11 +215,10 @@ filled-arrived a new old less none f = filled-like old new f _ (λ l. each (f l)
     each (Asked s i l) = go _ refl
       where
         go : (t : Bool) → is_for s i a ≡ t → value new (cond t (Byte (byte a.word l)) (Asked s i l)) ≡ value old (Asked s i l)
-        go true e =
-            let p = and_parts _ _ e in
-            let other = rw (eqb-true a.slot s p.0) at none in
-            let none' = rw (eqb-true a.i i p.1) at other in
-            value-byte new _ ∙ sym (cc (value-asked old s i l, Adds-find_same _ a new old less e none'))
+        go true e = value-byte new _ ∙ sym (cc (
+          value-asked old s i l,
+          Adds-find_same (is_for s i) a new old less e (grind (arith, none, e)),
+        ))
         go false e = cc (value-asked new s i l, Adds-find_other _ a new old less e, value-asked old s i l)
 
 -- whom a lane asks
@@ -250,16 +245,12 @@ word_from answers backed (Some f) = filled_by answers f
 pub flat_word-form : (z : Sizes) (m : Machine) (at : ℕ)
     → flat_word z m at ≡ word_from (all_pending m.banks) (backing z m at) (form_at z m.cache at)
 unfolding form_at
-flat_word-form z m at = go _
-  where
-    go : (o : Option ℕ) → flat_word_in z m at o ≡ word_from (all_pending m.banks) (backing z m at) (form_where z m.cache at o)
-    go None = refl
-    go (Some f) = refl
+flat_word-form z m at = grind arith
 
 -- the same form, over the same backing
 pub word_same : (z : Sizes) (m m' : Machine) (at : ℕ) → form_at z m'.cache at ≡ form_at z m.cache at
     → all_pending m'.banks ≡ all_pending m.banks → backing z m' at ≡ backing z m at → flat_word z m' at ≡ flat_word z m at
-word_same z m m' at e p b = cc (flat_word-form z m' at, e, ap₂ (λ ps w. word_from ps w (form_at z m.cache at)) p b, flat_word-form z m at)
+word_same z m m' at e p b = grind (arith, flat_word-form)
 
 -- a word of a present block has a form
 pub form_present : (z : Sizes) (c : Cache) (at k : ℕ) → frame_of c (block_of z at) ≡ Some k
@@ -283,21 +274,19 @@ pub word_asks : (P : ℕ → Type 0) (z : Sizes) (c : Cache) (at : ℕ) → ((s 
 unfolding form_at
 word_asks P z c at live f e l = go _ e
   where
-    buffer : Word
-    buffer = (cell_of c (block_of z at) (place_in z at)).word
-
     i : ℕ
     i = place_in z at
 
-    shown : (o : Option ℕ) → live_for c (block_of z at) ≡ o → AskedOf P (form_in c o (place_in z at) buffer l)
+    buffer : Word
+    buffer = (cell_of c (block_of z at) i).word
+
+    shown : (o : Option ℕ) → live_for c (block_of z at) ≡ o → AskedOf P (form_in c o i buffer l)
     shown None q = tt
-    shown (Some s) q =
-        let p = live s (live_for-some c _ s q).0 in
-        elim (field_at c s i).processed as (λ b. AskedOf P
+    shown (Some s) q = elim (field_at c s i).processed as (λ b. AskedOf P
         (cond b (bytes_of buffer) (over_form (field_at c s i).code buffer (coming_form c s i)) l)) [
           | true ↦ tt
           | false ↦ asks_over P (field_at c s i).code buffer _
-              (asks_missing P (stack_word _ s i) s i p) l
+              (asks_missing P (stack_word _ s i) s i (live s (live_for-some c _ s q).0)) l
         ]
 
     go : (o : Option ℕ) → form_where z c at o ≡ Some f → AskedOf P (f l)
@@ -319,9 +308,8 @@ due_other P c old new same valid tag = go (find (λ (r : Reply). r.tag == tag) _
     go None None e = refl
     go None (Some t) e =
         let p = valid t.slot (target_valid _ (λ x. x.load.tag == tag) t e) in
-        let asks = asks_over P t.load.lanes t.load.held _
-        (asks_missing P (stack_word c.stack t.slot t.i) t.slot t.i p) in
-        ap Some (filled-other P old new same (target_form c t) asks)
+        ap Some (filled-other P old new same (target_form c t) (asks_over P t.load.lanes t.load.held _
+        (asks_missing P (stack_word c.stack t.slot t.i) t.slot t.i p)))
 
 -- ---- the same flat memory
 
@@ -330,16 +318,16 @@ pub record Same (z : Sizes) (m m' : Machine) : Type 0 where
   pub words : (at : ℕ) → flat_word z m' at ≡ flat_word z m at
   pub owing : (tag : ℕ) → flat_due m' tag ≡ flat_due m tag
 
-pub flat_of-same : (z : Sizes) (m m' : Machine) → Same z m m' → flat_of z m' ≡ flat_of z m
-flat_of-same z m m' s = λ i. record { mem = map (λ at. s.words at i) (range_with_len 0 z.words); due = λ tag. s.owing tag i }
+pub flat_of-same : (z : Sizes) (m m' : Machine) → Same z m m' → Some (flat_of z m) ≡ Some (flat_of z m')
+flat_of-same z m m' s =
+    λ i. Some (record { mem = map (λ at. sym (s.words at) i) (range_with_len 0 z.words); due = λ tag. sym (s.owing tag) i })
 
 -- the same forms and answers to come, over the same backing
 pub forms_same : (z : Sizes) (m m' : Machine) → forms z m'.cache ≡ forms z m.cache → all_pending m'.banks ≡ all_pending m.banks
     → ((at : ℕ) → backing z m' at ≡ backing z m at) → Same z m m'
 forms_same z m m' e p b = record {
   words = λ at. word_same z m m' at (ap (λ fs. fs.words at) e) p (b at);
-  owing = λ tag. ap (λ fs. option_map (filled_by (all_pending m'.banks)) (fs.owing tag)) e
-      ∙ ap (λ ps. option_map (filled_by ps) (owed m.cache tag)) p;
+  owing = λ tag. (cc (ap (λ fs. fs.owing tag) e, p));
 }
 
 -- ---- events
@@ -380,11 +368,8 @@ InOrder-released z d f h = record {
   sized = length-set _ _ _ ∙ h.sized;
 }
   where
-    empty : block_at (set d.frames f empty_frame) f ≡ None
-    empty = grind (arith, get_or-set_same, set_past, get_or_past, cases_lt)
-
     other : (g b : ℕ) → block_at (set d.frames f empty_frame) g ≡ Some b → (g ≡ f → ⊥)
-    other g b e q = let no = ap (block_at _) q ∙ empty in cc
+    other g b e q = grind (arith, get_or-set_same, set_past, get_or_past, cases_lt)
 
 is_in-push : (order : List ℕ) (f g : ℕ) → is_in (order ++ f ∷ []) g ≡ (is_in order g || (f == g))
 is_in-push [] f g = grind arith
@@ -404,16 +389,14 @@ InOrder-installed z d f s new own l h = record {
 pub overlaid-split : (w v : Word) (queue : List Queued) (at : ℕ)
     → overlaid w queue at ≡ merged w (overlaid v queue at) (queued_lanes queue at)
 overlaid-split w v [] at = sym (merged-none w v)
-overlaid-split w v (q ∷ rest) at =
-    elim (q.at == at) as (λ b. overlaid (cond b (merged w q.word q.lanes) w) rest at
-    ≡ merged w (overlaid (cond b (merged v q.word q.lanes) v) rest at)
-    (cond b (joined q.lanes (queued_lanes rest at)) (queued_lanes rest at))) [
-      | true ↦ overlaid-split _ v rest at
-          ∙ ap (λ u. merged u (overlaid v rest at) (queued_lanes rest at)) (sym (merged_held w v q.word q.lanes))
-          ∙ sym (merged_over w _ _ q.lanes _) ∙ ap (λ u. merged w u (joined q.lanes (queued_lanes rest at)))
-          (sym (overlaid-split (merged v q.word q.lanes) v rest at))
-      | false ↦ overlaid-split w v rest at
-    ]
+overlaid-split w v (q ∷ rest) at = grind (
+  arith,
+  overlaid-split w v rest at,
+  overlaid-split (merged w q.word q.lanes) v rest at,
+  overlaid-split (merged v q.word q.lanes) v rest at,
+  merged_held w v q.word q.lanes,
+  merged_over,
+)
 
 -- ---- What an eviction queues, laid over memory; and the addresses of a block.
 
@@ -434,10 +417,7 @@ overlaid_at w block n (cell ∷ rest) zero at e = grind (arith, overlaid_below, 
 overlaid_at w block n (cell ∷ rest) (suc k) at e = grind (arith, overlaid_at w block (n + 1) rest k at)
 
 overlaid_past : (w : Word) (block n : ℕ) (cells : List Cell) (at : ℕ) → n + length cells ≤ at → overlaid w (dirty_from block n cells) at ≡ w
-overlaid_past w block n cells at l =
-    let k = at - n in
-    let e : at ≡ n + k = omega arith in
-    cc (overlaid_at w block n cells k at e, get_or_past cells k zero_cell (omega arith), merged-none w zero_word)
+overlaid_past w block n cells at l = grind (arith, overlaid_at w block n cells (at - n), get_or_past, merged-none)
 
 -- ---- addresses
 
@@ -459,14 +439,10 @@ AllIn-dirty z block n (cell ∷ rest) l = grind (arith, AllIn-dirty z block (n +
 
 -- ---- a frame's dirty words
 
-dirty_is : (z : Sizes) (m : Machine) (f b : ℕ) → (frame_at m.cache f).block ≡ Some b
-    → dirty_words z m.cache (Some f) ≡ dirty_from b (first_of z b) (frame_at m.cache f).cells
-dirty_is z m f b e = grind arith
-
 -- laid over the backing, they are what is kept of their block, and nothing of another
 pub dirty_within : (z : Sizes) (m : Machine) → IsSound z m → (f at : ℕ) → (frame_at m.cache f).block ≡ Some (block_of z at)
     → overlaid (backing z m at) (dirty_words z m.cache (Some f)) at ≡ kept_word z m at
-dirty_within z m h f at e = grind (arith, m.cache, frame_of-is, h.frames_apart, dirty_is, overlaid_at, address_is)
+dirty_within z m h f at e = grind (arith, m.cache, frame_of-is, h.frames_apart, overlaid_at, address_is)
 
 pub dirty_elsewhere : (z : Sizes) → IsLawful z → (m : Machine) → IsSound z m → (f at : ℕ)
     → ((frame_at m.cache f).block ≡ Some (block_of z at) → ⊥)
@@ -481,9 +457,7 @@ dirty_in z lawful m h f = AllIn-append z _ _ h.queue_in (go (frame_at m.cache f)
     go None e = tt
     go (Some b) e =
         let w = h.whole_frames f b e in
-        let k = w.0 in
-        let l = block_in z lawful b w.1 in
-        AllIn-dirty z b _ (frame_at m.cache f).cells (omega arith)
+        AllIn-dirty z b _ _ (omega (arith, w.0, block_in z lawful b w.1))
 
 -- the backing of a machine whose queue has them, too
 pub backing_dirty : (z : Sizes) (m m' : Machine) (f at : ℕ)
@@ -521,38 +495,284 @@ module _ (z : Sizes) (lawful : IsLawful z) (m : Machine) (h : IsSound z m) (bloc
   backing_here at e = backing_dirty z m gone f at refl queue ∙ dirty_within z m h f at (held ∙ ap Some e)
 
   backing_there : (at : ℕ) → (block ≡ block_of z at → ⊥) → backing z gone at ≡ backing z m at
-  backing_there at n = backing_dirty z m gone f at refl queue ∙ dirty_elsewhere z lawful m h f at (λ e. let same = sym held
-      ∙ e in let q : block ≡ block_of z at = cc in n q)
+  backing_there at n = backing_dirty z m gone f at refl queue ∙ dirty_elsewhere z lawful m h f at (λ e. grind (arith, held))
 
   word_here : (at : ℕ) → block ≡ block_of z at → flat_word z gone at ≡ backing z gone at
-  word_here at e = flat_word-form z gone at ∙ ap (λ fs. word_from (all_pending m.banks) (backing z gone at) (fs.words at)) by.after
-      ∙ ap (λ b. word_from (all_pending m.banks) (backing z gone at) (cond b None (form_at z m.cache at))) (eq-eqb block _ e)
+  word_here at e = grind (arith, flat_word-form, by.after, eq-eqb)
 
   word_there : (at : ℕ) → (block ≡ block_of z at → ⊥) → flat_word z gone at ≡ flat_word z m at
-  word_there at n =
-      let form = ap (λ fs. fs.words at) by.after ∙ ap (λ b. cond b None (form_at z m.cache at)) (ne_eqb block _ n) in
-      word_same z m gone at form refl (backing_there at n)
+  word_there at n = word_same z m gone at (cc (ap (λ fs. fs.words at) by.after, ne_eqb block _ n)) refl (backing_there at n)
 
   pub gone_same : Same z m gone
   gone_same = record {
-    words = λ at. ⊎_elim (λ e. word_here at e ∙ backing_here at e ∙ sym (h.kept at)) (word_there at) (cases_eq block _);
-    owing = λ tag. ap (λ fs. option_map (filled_by (all_pending m.banks)) (fs.owing tag)) by.after;
+    words = λ at. grind (arith, word_here, backing_here, h.kept, word_there, cases_eq);
+    owing = λ tag. (cc (ap (λ fs. fs.owing tag) by.after));
   }
 
   kept : (at : ℕ) → flat_word z gone at ≡ kept_word z gone at
-  kept at = ⊎_elim here there (cases_eq block _)
-    where
-      here : block ≡ block_of z at → flat_word z gone at ≡ kept_word z gone at
-      here e = cc (word_here at e, merged-none _ zero_word, ap (frame_of gone.cache) (sym e) ∙ by.absent)
-
-      there : (block ≡ block_of z at → ⊥) → flat_word z gone at ≡ kept_word z gone at
-      there n = kept_same z m gone h at (word_there at n) (by.cells at n) (backing_there at n)
+  kept at = grind (arith, word_here, merged-none, by.absent, word_there, by.cells, backing_there, h.kept, cases_eq)
 
   pub gone_sound : IsSound z gone
   gone_sound = sound_within z m gone h by.within order (rw (sym queue) at (dirty_in z lawful m h f))
       (λ tag. rw (sym by.same_tags) at (h.once tag))
       (λ s i. (cc (stack, h.counted s i, ap bit (sym (by.waits s i)))))
-      kept (record { number = refl; lengths = λ b. refl })
+      kept refl (λ b. refl)
 
   pub gone_tags : tags gone.cache ≡ tags m.cache
   gone_tags = by.same_tags
+
+-- ---- What is on its way stays within the limits.
+
+-- what is so of the element that is set, and of each one before, is so of each one after
+each-set : {X : Type 0} (P : ℕ → X → Type 0) (d : X) (xs : List X) (k : ℕ) (y : X) → P k y → ((t : ℕ) → P t (get_or xs t d)) → (t : ℕ)
+    → P t (get_or (set xs k y) t d)
+each-set P d [] k y own h t = h t
+each-set P d (x ∷ xs) zero y own h zero = own
+each-set P d (x ∷ xs) zero y own h (suc t) = h (suc t)
+each-set P d (x ∷ xs) (suc k) y own h zero = h 0
+each-set P d (x ∷ xs) (suc k) y own h (suc t) = each-set (λ n. P (suc n)) d xs k y own (λ n. h (suc n)) t
+
+-- ---- commands that are queued behind others
+
+pub after-append : (words : List Word) (xs ys : List Command) → after words (xs ++ ys) ≡ after (after words xs) ys
+after-append words [] ys = refl
+after-append words (Read slot i place ∷ xs) ys = after-append words xs ys
+after-append words (Write place word lanes ∷ xs) ys = after-append (stored words place word lanes) xs ys
+
+pub answers_to-append : (words : List Word) (xs ys : List Command)
+    → answers_to words (xs ++ ys) ≡ answers_to words xs ++ answers_to (after words xs) ys
+answers_to-append words [] ys = refl
+answers_to-append words (Read slot i place ∷ xs) ys =
+    ap (λ l. record { slot = slot; i = i; word = word_at words place } ∷ l) (answers_to-append words xs ys)
+answers_to-append words (Write place word lanes ∷ xs) ys = answers_to-append (stored words place word lanes) xs ys
+
+-- ---- registers that stay for their blocks
+
+-- a register instead of another one: it is for the same block, and waits for a word if that one did
+abbrev pub Like : Register → Register → Type 0
+Like r new = new.valid ≡ true → (r.valid ≡ true) × (new.block ≡ r.block) × (is_done r.fields ≡ false → is_done new.fields ≡ false)
+
+abbrev pub AllLike : Cache → Cache → Type 0
+AllLike c d = (s : ℕ) → Like (register_at c s) (register_at d s)
+
+pub like_same : (c : Cache) → AllLike c c
+like_same c s v = (v, refl, λ n. n)
+
+one_like : (c : Cache) (slot : ℕ) (r : Register) → Like (register_at c slot) r → (s : ℕ)
+    → Like (register_at c s) (get_or (set c.registers slot r) s free_register)
+one_like c slot r own = each-set (λ s. Like (register_at c s)) free_register c.registers slot r own (like_same c)
+
+all-set : (fields : List Field) (i : ℕ) (f : Field) → f.processed ≡ (get_or fields i clear_field).processed
+    → is_done (set fields i f) ≡ is_done fields
+all-set [] i f e = refl
+all-set (x ∷ fields) zero f e = grind arith
+all-set (x ∷ fields) (suc i) f e = cc (all-set fields i f e)
+
+all-codeless : (fields : List Field) → is_done (map without_code fields) ≡ is_done fields
+all-codeless [] = refl
+all-codeless (f ∷ fields) = cc (all-codeless fields)
+
+like_field : (c : Cache) (slot i : ℕ) (f : Field) → f.processed ≡ (field_at c slot i).processed → AllLike c (with_field c slot i f)
+unfolding with_field
+like_field c slot i f e =
+    one_like c slot _ (λ v. (v, refl, λ n. all-set (register_at c slot).fields i f e ∙ n))
+
+pub like_arrived : (c : Cache) (slot i : ℕ) (word : Word) → AllLike c (arrived c slot i word)
+unfolding arrived marked with_field
+like_arrived c slot i word = like_field c slot i (record (field_at c slot i) { in_stack = true }) refl
+
+pub like_loaded : (c : Cache) (tag i : ℕ) (buffer : Word) (o : Found) → AllLike c (loaded c tag i buffer o)
+like_loaded c tag i buffer (Here w) = like_same c
+like_loaded c tag i buffer (Coming slot) = like_field c slot i _ refl
+
+like_noted : (c : Cache) (o : Option ℕ) (i : ℕ) (lanes : Lanes) → AllLike c (noted c o i lanes)
+like_noted c None i lanes = like_same c
+like_noted c (Some slot) i lanes = elim (field_at c slot i).processed as (λ b. AllLike c
+    (cond b c (with_field c slot i (record (field_at c slot i) { code = joined (field_at c slot i).code lanes }))))
+    [ true ↦ like_same c | false ↦ like_field c slot i _ refl ]
+
+pub like_written : (c : Cache) (block i : ℕ) (word : Word) (lanes : Lanes) → AllLike c (written c block i word lanes)
+unfolding with_cell
+like_written c block i word lanes = elim (frame_of c block) as
+    (λ f. AllLike c (noted (written_in c f i word lanes) (live_for c block) i lanes))
+    [ None ↦ like_noted c _ i lanes | Some f ↦ like_noted (written_in c (Some f) i word lanes) _ i lanes ]
+
+pub like_evicted : (z : Sizes) (c : Cache) (block f : ℕ) → AllLike c (evicted z c block f)
+unfolding evicted released made_obsolete
+like_evicted z c block f = elim (live_for c block) as
+    (λ o. (s : ℕ) → Like (register_at c s) (get_or (obsoleted c.registers o) s free_register)) [
+      | None ↦ like_same c
+      | Some slot ↦ one_like c slot _ (λ v. (v, refl, λ n. all-codeless (register_at c slot).fields ∙ n))
+    ]
+
+pub like_processed : (c : Cache) (place : ℕ) (e : Entry) → AllLike c (processed c place e)
+unfolding processed finished
+like_processed c place e = one_like c e.slot _ (go _ refl)
+  where
+    go : (b : Bool) → is_done (finished_fields (register_at c e.slot) e.i) ≡ b → Like (register_at c e.slot)
+        (cond b free_register (record (register_at c e.slot) { fields = finished_fields (register_at c e.slot) e.i }))
+    go true q v = cc
+    go false q v = (v, refl, λ n. q)
+
+-- ---- machines whose banks have no more on their way
+
+pub pending_part : (p : BankAnswer → Bool) (banks : List Bank) (b : ℕ) → tally p (pending (bank_at banks b)) ≤ tally p (all_pending banks)
+pending_part p [] b = omega arith
+pending_part p (x ∷ banks) zero = omega (arith, tally-append p (pending x) (all_pending banks))
+pending_part p (x ∷ banks) (suc b) = omega (arith, tally-append p (pending x) (all_pending banks), pending_part p banks b)
+
+-- what is on its way is for a valid register
+valid_for : (z : Sizes) (m : Machine) → IsSound z m → (b s i : ℕ) → 1 ≤ tally (is_for s i) (pending (bank_at m.banks b))
+    → (register_at m.cache s).valid ≡ true
+valid_for z m sound b s i l = grind (arith, pending_part, m.banks, sound.counted, bit-pos, m.cache, and_parts)
+
+bounded_like : (z : Sizes) (m m' : Machine) → IsSound z m' → IsBounded z m → AllLike m.cache m'.cache
+    → length (tags m'.cache) ≤ z.replies → length m'.cache.queue ≤ z.write_queue
+    → ((b : ℕ) → length (bank_at m'.banks b).queue ≤ z.bank_queue)
+    → ((b s i : ℕ) → tally (is_for s i) (pending (bank_at m'.banks b)) ≤ tally (is_for s i) (pending (bank_at m.banks b))) → IsBounded z m'
+bounded_like z m m' sound h like few_tags few_queued few_commands less = record {
+  unfinished = λ s v. (like s v).2 (h.unfinished s (like s v).0);
+  few_tags = few_tags;
+  few_queued = few_queued;
+  few_commands = few_commands;
+  at_its_bank = λ b s i n. grind (arith, valid_for z m' sound b s i n, like s, h.at_its_bank b s i, less b s i);
+}
+
+-- one bank is another
+pub bounded_bank : (z : Sizes) (m : Machine) (d : Cache) (k : ℕ) (bank : Bank)
+    → (let m' : Machine = record { cache = d; banks = set m.banks k bank } in IsSound z m' → IsBounded z m → AllLike m.cache d
+    → length (tags d) ≤ z.replies → length d.queue ≤ z.write_queue → length bank.queue ≤ z.bank_queue
+    → ((s i : ℕ) → tally (is_for s i) (pending bank) ≤ tally (is_for s i) (pending (bank_at m.banks k))) → IsBounded z m')
+bounded_bank z m d k bank sound h like few_tags few_queued few_commands less =
+    bounded_like z m (record { cache = d; banks = set m.banks k bank }) sound h like few_tags few_queued
+    (each-set (λ b x. length x.queue ≤ z.bank_queue) no_bank _ k bank few_commands h.few_commands)
+    (each-set (λ b (x : Bank). (s i : ℕ) → tally (is_for s i) (pending x) ≤ tally (is_for s i) (pending (bank_at m.banks b)))
+    no_bank _ k bank less (λ b s i. omega arith))
+
+-- none is
+pub bounded_unit : (z : Sizes) (m : Machine) (d : Cache) → (let m' : Machine = record { cache = d; banks = m.banks } in IsSound z m'
+    → IsBounded z m → AllLike m.cache d → length (tags d) ≤ z.replies → length d.queue ≤ z.write_queue → IsBounded z m')
+bounded_unit z m d sound h like few_tags few_queued =
+    bounded_like z m (record { cache = d; banks = m.banks }) sound h like few_tags few_queued h.few_commands (λ b s i. omega arith)
+
+-- ---- a miss
+
+-- a miss has no cause
+abbrev pub MayMiss : Sizes → Machine → ℕ → Type 0
+MayMiss z m block = is_present m.cache block ≡ false → first_cause (miss_causes z (room_in z.bank_queue m.banks) m.cache block) ≡ None
+
+-- what a miss needs
+pub may_able : (z : Sizes) (m : Machine) (block : ℕ) → MayMiss z m block → is_present m.cache block ≡ false → Able z m.cache block
+may_able z m block may e = grind arith
+
+-- the reads of these words
+abbrev pub commands : Sizes → ℕ → List ℕ → List (ℕ × Command)
+commands z slot ats = map (λ at. (at % z.banks, Read slot (at % z.block_words) (at / z.banks))) ats
+
+reads_for : (z : Sizes) (slot b : ℕ) (ats : List ℕ)
+    → length (commands_for b (commands z slot ats)) ≡ length (filter (λ at. at % z.banks == b) ats)
+reads_for z slot b [] = refl
+reads_for z slot b (at ∷ ats) = grind (arith, reads_for z slot b ats)
+
+any_none : (p : ℕ → Bool) (a n k : ℕ) → list_any p (range_with_len a n) ≡ false → a ≤ k → k < a + n → p k ≡ false
+any_none p a zero k e lo hi = absurd (omega arith)
+any_none p a (suc n) k e lo hi = grind (arith, any_none p (a + 1) n k)
+
+fresh_waits : (queue : List Queued) (a n : ℕ) → 0 < n → is_done (map (begun_field queue) (range_with_len a n)) ≡ false
+fresh_waits queue a zero l = absurd (omega arith)
+fresh_waits queue a (suc n) l = refl
+
+-- a bank reads those of a block's words that are its own
+reads_from : (z : Sizes) (slot block b s i n r a : ℕ) (words : List Word) → a ≡ block * z.block_words + r → r + n ≤ z.block_words
+    → 1 ≤ tally (is_for s i) (answers_to words (commands_for b (commands z slot (range_with_len a n))))
+    → (slot ≡ s) × (address z block i % z.banks ≡ b)
+reads_from z slot block b s i zero r a words e l h = absurd (omega arith)
+reads_from z slot block b s i (suc n) r a words e l h =
+    grind (arith, mod-mul-add, eqb-true, and_parts, reads_from z slot block b s i n (suc r) (a + 1) words)
+
+module _ (z : Sizes) (lawful : IsLawful z) (m : Machine) (sound : IsSound z m) (h : IsBounded z m) (block f slot : ℕ)
+    (there : slot < length m.cache.registers) (free : (register_at m.cache slot).valid ≡ false) where
+  abbrev began : Register
+  began = begun_register z.block_words (released z m.cache f).queue block f
+
+  abbrev sent : List (ℕ × Command)
+  sent = commands z slot (addresses z block)
+
+  few_sent : lacks_room z (room_in z.bank_queue m.banks) block ≡ false → (b : ℕ)
+      → length (bank_at (all_sent m.banks sent) b).queue ≤ z.bank_queue
+  few_sent room b = ⊎_elim (λ l. grind (
+    arith,
+    sound.banks_are,
+    any_none (λ k. nat_lt (room_in z.bank_queue m.banks k) (length (filter (λ at. at % z.banks == k) (addresses z block))))
+        0 z.banks b room,
+    ltb-false,
+    lt-ltb,
+    reads_for z slot b (addresses z block),
+    all_sent-at m.banks sent b l,
+    length-append,
+    h.few_commands b,
+  ))
+      (λ l. grind (arith, get_or_past, all_sent-length)) (cases_lt b (length m.banks))
+
+  -- the bank of word i of the register in slot s
+  abbrev bank_of_word : ℕ → ℕ → ℕ
+  bank_of_word s i = address z (get_or (set m.cache.registers slot began) s free_register).block i % z.banks
+
+  at_own_bank : (b s i : ℕ) → 1 ≤ tally (is_for s i) (pending (bank_at (all_sent m.banks sent) b)) → bank_of_word s i ≡ b
+  at_own_bank b s i l = ⊎_elim here (λ p. grind (arith, get_or_past, all_sent-length)) (cases_lt b _)
+    where
+      bank : Bank
+      bank = bank_at m.banks b
+
+      before : 1 ≤ tally (is_for s i) (pending bank) → bank_of_word s i ≡ b
+      before k =
+          each-set (λ t r. (register_at m.cache t).valid ≡ true → address z (register_at m.cache t).block i % z.banks ≡ b
+          → address z r.block i % z.banks ≡ b) free_register m.cache.registers slot began (λ v e. (cc)) (λ t v e. e) s
+          (valid_for z m sound b s i k) (h.at_its_bank b s i k)
+
+      here : b < length m.banks → bank_of_word s i ≡ b
+      here p = ⊎_elim before (λ none. grind (
+        arith,
+        all_sent-at m.banks sent b p,
+        answers_to-append,
+        tally-append,
+        reads_from z slot block b s i z.block_words 0 (first_of z block) (after bank.words bank.queue) (omega arith) (omega arith),
+        get_or-set_same,
+      )) (cases_lt 0 (tally (is_for s i) (pending bank)))
+
+  bounded_installed : lacks_places z m.cache (Some f) ≡ false → lacks_room z (room_in z.bank_queue m.banks) block ≡ false
+      → length (tags (installed z (released z m.cache f) block f slot)) ≤ z.replies → IsBounded z (record {
+        cache = installed z (released z m.cache f) block f slot;
+        banks = all_sent m.banks (reads z block (Some slot));
+      })
+  unfolding installed released
+  bounded_installed places room few = record {
+    unfinished = each-set (λ s r. r.valid ≡ true → is_done r.fields ≡ false) free_register _ slot _
+        (λ v. fresh_waits _ _ _ lawful.some_words) h.unfinished;
+    few_tags = few;
+    few_queued = grind (arith, length-append, m.cache.queue, ltb-false, h.few_queued);
+    few_commands = few_sent room;
+    at_its_bank = at_own_bank;
+  }
+
+abbrev pub fetched_machine : Sizes → Machine → ℕ → Machine
+fetched_machine z m block = record { cache = fetched z m.cache block; banks = all_sent m.banks (fetches z m.cache block) }
+
+pub bounded_fetch : (z : Sizes) (lawful : IsLawful z) (m : Machine) → IsSound z m → IsBounded z m → (block : ℕ) → MayMiss z m block
+    → length (tags (fetched z m.cache block)) ≤ z.replies → IsBounded z (fetched_machine z m block)
+unfolding fetched fetches
+bounded_fetch z lawful m sound h block may = go _ refl _ refl _ refl
+  where
+    go : (b : Bool) → is_present m.cache block ≡ b → (o : Option ℕ) → choose z m.cache block ≡ o → (s : Option ℕ) → free_slot m.cache ≡ s
+        → length (tags (cond b m.cache (missed z m.cache block o s))) ≤ z.replies → IsBounded z (record {
+          cache = cond b m.cache (missed z m.cache block o s);
+          banks = all_sent m.banks (cond b [] (reads z block s));
+        })
+    go true p o q s e l = h
+    go false p None q None e l = h
+    go false p (Some f) q None e l = h
+    go false p None q (Some slot) e l =
+        let some = some_frame z _ (sound_unit z lawful m sound) block (may_able z m block may p).1 in cc
+    go false p (Some f) q (Some slot) e l =
+        let free = free_register_at m.cache slot e in
+        bounded_installed z lawful m sound h block f slot free.0 free.1 (grind arith) (grind arith) l

@@ -1,6 +1,4 @@
 pub mod FromForms
-pub mod Limits
-pub mod Fetching
 pub mod Requests
 pub mod Walking
 pub mod Routing

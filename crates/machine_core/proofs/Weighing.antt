@@ -1,8 +1,8 @@
 -- The driver lowers the weight.
 use Rattle.std.proofs.Common.{◌≡◌, ℕ, ◌+◌, ◌*◌, ◌<◌, cond, List, [], ◌∷◌, ◌++◌, length, get_or, take, refl, ap, arith, zero, suc, ◌-◌, ◌%◌}
-use Rattle.std.proofs.Common.{◌≤◌, Bool, true, false, not, ◌&&◌, set, Option, Some, None, option_map, find, remove, slice_get, sym, ap₂}
-use Rattle.std.proofs.Common.{◌∙◌, length-append, ◌⊎◌, inl, inr, lt-ltb, mod-lt, flat_map, nat_lt, ⊎_elim, le-ltb, ◌==◌, map, subst}
-use Rattle.std.proofs.lemmas.List.{take_more, length-map}
+use Rattle.std.proofs.Common.{◌≤◌, Bool, true, false, not, ◌&&◌, set, Option, Some, None, option_map, find, remove, slice_get}
+use Rattle.std.proofs.Common.{length-append, ◌⊎◌, inl, inr, lt-ltb, mod-lt, flat_map, nat_lt, ⊎_elim, le-ltb, ◌==◌, map}
+use Rattle.std.proofs.lemmas.List.{take_more, length-map, set_past}
 use Rattle.std.proofs.lemmas.List.Sums.{sum_by-cons}
 use Rattle.std.specs.List.{count_by, range_with_len, list_all}
 use Rattle.memory_banks.specs.declared.Command.{Command}
@@ -10,7 +10,7 @@ use Rattle.memory_banks.specs.declared.Command.TheVariants.{Read, Write}
 use Rattle.memory_banks.specs.Memory.{is_read}
 use Rattle.machine_core.specs.Pump.{total, command_weight, bank_weight, field_weight, register_weight, weight, lowest, has_items, when}
 use Rattle.machine_core.specs.Pump.{pumped, first_event}
-use Rattle.std.proofs.lemmas.Bool.{lt-leb, cases_lt, and_parts, ltb-true, cases_eq}
+use Rattle.std.proofs.lemmas.Bool.{lt-leb, cases_lt, and_parts, ltb-true}
 use Rattle.flat_model.specs.declared.Event.{Event}
 use Rattle.flat_model.specs.declared.Event.TheVariants.{Take, Process, Arrive, Serve, Drain}
 use Rattle.flat_model.specs.declared.Word.{Word}
@@ -46,12 +46,10 @@ total-append f [] ys = omega arith
 total-append f (x ∷ xs) ys = let ih = total-append f xs ys in omega arith
 
 -- one element more
-pub total_more : {X : Type 0} (f : X → ℕ) (xs : List X) (k : ℕ) (d : X) (sum more : ℕ) → k < length xs → sum ≡ total f (take k xs)
-    → more ≡ sum + f (get_or xs k d) → more ≡ total f (take (k + 1) xs)
-total_more f xs k d sum more l so_far e =
-    let t = ap (total f) (take_more xs k d l) in
-    let a = total-append f (take k xs) (get_or xs k d ∷ []) in
-    omega arith
+pub total_more : {X : Type 0} (f : X → ℕ) (xs : List X) (k : ℕ) (d : X) (sum own : ℕ) → k < length xs → sum ≡ total f (take k xs)
+    → own ≡ f (get_or xs k d) → sum + own ≡ total f (take (k + 1) xs)
+total_more f xs k d sum own l so_far e =
+    omega (arith, ap (total f) (take_more xs k d l), total-append f (take k xs) (get_or xs k d ∷ []))
 
 -- 1 for a read
 abbrev read_counts : Command → ℕ
@@ -60,14 +58,7 @@ read_counts c = cond (is_read c) 1 0
 -- 1 for each command, and 3 more for a read
 pub commands_weigh_all : (queue : List Command) → total command_weight queue ≡ length queue + 3 * count_by is_read queue
 commands_weigh_all [] = refl
-commands_weigh_all (Read slot i place ∷ rest) =
-    let ih = commands_weigh_all rest in
-    let one = sum_by-cons read_counts (Read slot i place) rest in
-    omega arith
-commands_weigh_all (Write place word lanes ∷ rest) =
-    let ih = commands_weigh_all rest in
-    let none = sum_by-cons read_counts (Write place word lanes) rest in
-    omega arith
+commands_weigh_all (c ∷ rest) = grind (arith, sum_by-cons read_counts c rest, commands_weigh_all rest)
 
 -- ---- Each event of the driver.
 
@@ -77,20 +68,17 @@ total_set : {X : Type 0} (f : X → ℕ) (d : X) (xs : List X) (k : ℕ) (y : X)
     → total f (set xs k y) + f (get_or xs k d) ≡ total f xs + f y
 total_set f d [] k y l = absurd (omega arith)
 total_set f d (x ∷ xs) zero y l = omega arith
-total_set f d (x ∷ xs) (suc k) y l = let ih = total_set f d xs k y (omega arith) in omega arith
+total_set f d (x ∷ xs) (suc k) y l = omega (arith, total_set f d xs k y (omega arith))
 
 total_same : {X : Type 0} (f : X → ℕ) (d : X) (xs : List X) (k : ℕ) (y : X) → f y ≡ f (get_or xs k d) → total f (set xs k y) ≡ total f xs
-total_same f d [] k y e = refl
-total_same f d (x ∷ xs) zero y e = grind arith
-total_same f d (x ∷ xs) (suc k) y e = ap (λ n. f x + n) (total_same f d xs k y e)
+total_same f d xs k y e = grind (arith, total_set, set_past, cases_lt)
 
 total_none : {X : Type 0} (f : X → ℕ) (d : X) (xs : List X) → ((k : ℕ) → k < length xs → f (get_or xs k d) ≡ 0) → total f xs ≡ 0
 total_none f d [] h = refl
 total_none f d (x ∷ xs) h = grind (arith, h 0, total_none f d xs (λ k l. h (suc k) (omega arith)))
 
 processed_weight : (fields : List Field) → list_all (λ f. f.processed) fields ≡ true → total field_weight fields ≡ 0
-processed_weight fields e = total_none field_weight clear_field fields
-    (λ k l. ap (λ b. cond b 0 (length (get_or fields k clear_field).waiting - 1)) (all_processed fields e k l))
+processed_weight fields e = total_none field_weight clear_field fields (λ k l. grind (arith, all_processed))
 
 -- ---- searches for a bank
 
@@ -111,8 +99,7 @@ pub all_idle : (banks : List Bank) → ((b : ℕ) → b < length banks → ((ban
     → flat_map pending banks ≡ []
 all_idle [] f = refl
 all_idle (x ∷ banks) f =
-    let p = f 0 (omega arith) in
-    ap₂ ◌++◌ (ap₂ (λ xs q. xs ++ answers_to x.words q) p.0 p.1) (all_idle banks (λ b l. f (suc b) (omega arith)))
+    grind (arith, (f 0 (omega arith)).0, (f 0 (omega arith)).1, all_idle banks (λ b l. f (suc b) (omega arith)))
 
 -- a mark weighs nothing
 register-marked : (r : Register) (i : ℕ) → register_weight (marked r i) ≡ register_weight r
@@ -145,30 +132,27 @@ module _ (z : Sizes) (lawful : IsLawful z) (roomy : HasRoom z) (m : Machine) (h 
       let r = register_at c x.slot in
       let f = field_at c x.slot x.i in
       let w = entry_waits z m h 0 x found in
-      let there = slot_there z m 0 x h found in
-      let within = field_there z m 0 x h found in
-      let fields = set r.fields x.i done in
-      let by_field = total_set field_weight clear_field r.fields x.i done within in
-      let own = ap (λ b. cond b 0 (length f.waiting - 1)) w.waits in
-      let old = ap (λ b. cond b (total field_weight r.fields) 0) w.valid in
-      let new = fin (list_all (λ g. g.processed) fields) refl w.valid in
-      let by_register = total_set register_weight free_register _ x.slot (finished r x.i) there in
-      let told = told_all x.word f.waiting in
-      let ready = length-append c.ready (answered x.word f.waiting) in
-      let stack = ap (λ l. length (remove l 0) + 1) e ∙ (let k : length rest + 1 ≡ suc _ = omega arith in k) ∙ sym (ap length e) in
-      let queue = ap (λ (d : Cache). d.queue) (settled_only c x.slot x.i x.word) in
-      let queue' = ap length queue in
-      rw found (omega arith)
+      rw found (omega (
+        arith,
+        total_set field_weight clear_field r.fields x.i done (field_there z m 0 x h found),
+        ap (λ b. cond b 0 (length f.waiting - 1)) w.waits,
+        ap (λ b. cond b (total field_weight r.fields) 0) w.valid,
+        fin (list_all (λ g. g.processed) (set r.fields x.i done)) refl w.valid,
+        total_set register_weight free_register c.registers x.slot (finished r x.i) (slot_there z m 0 x h found),
+        told_all x.word f.waiting,
+        length-append c.ready (answered x.word f.waiting),
+        ap (λ l. length (remove l 0)) e,
+        ap length e,
+        ap (λ (d : Cache). length d.queue) (settled_only c x.slot x.i x.word),
+      ))
     where
       told_all : (word : Word) (ws : List Owed) → length (answered word ws) ≡ length ws
-      told_all word [] = refl
-      told_all word (y ∷ ws) = ap suc (told_all word ws)
+      told_all word ws = length-map ws _
 
       fin : (b : Bool) → list_all (λ g. g.processed) (set (register_at m.cache x.slot).fields x.i done) ≡ b
           → (register_at m.cache x.slot).valid ≡ true → register_weight (cond b free_register (with_fields (register_at m.cache x.slot)
           (set (register_at m.cache x.slot).fields x.i done))) ≡ total field_weight (set (register_at m.cache x.slot).fields x.i done)
-      fin true q v = sym (processed_weight _ q)
-      fin false q v = grind (arith, x.i, done)
+      fin b q v = grind (arith, processed_weight, x.i, done)
 
   -- an answer for which the stack has room
   pub arrive_lowers : (b : ℕ) (a : BankAnswer) (rest : List BankAnswer) → b < length m.banks → (bank_at m.banks b).answers ≡ a ∷ rest
@@ -204,13 +188,13 @@ module _ (z : Sizes) (lawful : IsLawful z) (roomy : HasRoom z) (m : Machine) (h 
   first_at items b e =
       let p = find_first (λ k. has_items (items (bank_at m.banks k))) 0 z.banks b e in
       let l = parts_of (items (bank_at m.banks b)) p.1 in
-      (let n = h.banks_are in let k = p.0 in omega arith, l.0, l.1, l.2)
+      (omega (arith, h.banks_are, p.0), l.0, l.1, l.2)
 
   none_at : {X : Type 0} (items : Bank → List X) → lowest z m (λ x. has_items (items x)) ≡ None → (b : ℕ) → b < length m.banks
       → items (bank_at m.banks b) ≡ []
-  none_at items e b l = let n = h.banks_are in
-      items_none _
-      (All-range (λ k. has_items (items (bank_at m.banks k)) ≡ false) 0 z.banks b (find-nowhere _ _ e) (omega arith) (omega arith))
+  none_at items e b l = items_none _
+      (All-range (λ k. has_items (items (bank_at m.banks k)) ≡ false) 0 z.banks b (find-nowhere _ _ e) (omega arith)
+      (omega (arith, h.banks_are)))
 
   -- the driver's event lowers the weight, and where there is none nothing is left
   abbrev Drives : Option Event → Type 0
@@ -227,45 +211,41 @@ module _ (z : Sizes) (lawful : IsLawful z) (roomy : HasRoom z) (m : Machine) (h 
       go [] er (x ∷ rest) es a ea t et queue eq = process_lowers x rest es
       go [] er [] es (Some b) ea t et queue eq =
           let p = first_at (λ x. x.answers) b ea in
-          arrive_lowers b p.1 p.2 p.0 p.3 (let none = ap length es in let room = roomy.some_depth in omega arith)
+          arrive_lowers b p.1 p.2 p.0 p.3 (omega (arith, ap length es, roomy.some_depth))
       go [] er [] es None ea (Some b) et queue eq = let p = first_at (λ x. x.queue) b et in serve_lowers b p.1 p.2 p.0 p.3
       go [] er [] es None ea None et (x ∷ rest) eq =
-          let lt = mod-lt x.at lawful.some_banks in
-          let none = ap length (none_at (λ x. x.queue) et (x.at % z.banks) (let n = h.banks_are in omega arith)) in
-          drain_lowers x rest eq (let room = some_queue z lawful roomy in omega arith)
+          drain_lowers x rest eq (omega (
+            arith,
+            some_queue z lawful roomy,
+            ap length (none_at (λ x. x.queue) et (x.at % z.banks) (omega (arith, mod-lt x.at lawful.some_banks, h.banks_are))),
+          ))
       go [] er [] es None ea None et [] eq =
-          let banks = total_none bank_weight no_bank _ (λ b l.
-          ap₂ (λ (q : List Command) (xs : List BankAnswer). total command_weight q + 3 * length xs)
-          (idle b l).1 (idle b l).0) in
-          let registers = total_none register_weight free_register _ quiet in
-          let r = ap length er in
-          let s = ap length es in
-          let k = ap length eq in
-          omega arith
+          omega (
+            arith,
+            total_none bank_weight no_bank m.banks (λ b l. grind (arith, (idle b l).0, (idle b l).1)),
+            total_none register_weight free_register m.cache.registers quiet,
+            ap length er,
+            ap length es,
+            ap length eq,
+          )
         where
           idle : (b : ℕ) → b < length m.banks → ((bank_at m.banks b).answers ≡ []) × ((bank_at m.banks b).queue ≡ [])
           idle b l = (none_at (λ x. x.answers) ea b l, none_at (λ x. x.queue) et b l)
 
           quiet : (s : ℕ) → s < length m.cache.registers → register_weight (register_at m.cache s) ≡ 0
-          quiet s l = by_valid (register_at m.cache s).valid refl
-            where
-              nothing : all_pending m.banks ≡ []
-              nothing = all_idle _ idle
-
-              each : (register_at m.cache s).valid ≡ true → (j : ℕ) → j < length (register_at m.cache s).fields
-                  → field_weight (field_at m.cache s j) ≡ 0
-              each v j k = grind (arith, nothing, h.counted s j, lt-ltb, h.whole_registers)
-
-              by_valid : (v : Bool) → (register_at m.cache s).valid ≡ v → cond v (total field_weight (register_at m.cache s).fields) 0 ≡ 0
-              by_valid false v = refl
-              by_valid true v = total_none field_weight clear_field (register_at m.cache s).fields (each v)
+          quiet s l = elim (register_at m.cache s).valid as (λ b. (register_at m.cache s).valid ≡ b
+              → cond b (total field_weight (register_at m.cache s).fields) 0 ≡ 0) [
+                | true ↦ (λ v. total_none field_weight clear_field (register_at m.cache s).fields
+                    (λ j k. grind (arith, all_idle m.banks idle, h.counted s j, lt-ltb, h.whole_registers)))
+                | false ↦ (λ v. refl)
+              ] refl
 
   pub pumped_lowers : (event : Event) → pumped z m ≡ Some event → Lowers event
-  pumped_lowers event e = subst Drives e pumped_drives
+  pumped_lowers event e = rw e at pumped_drives
 
   -- nothing is left where the driver has no event
   pub pumped_rests : pumped z m ≡ None → weight m ≡ 0
-  pumped_rests e = subst Drives e pumped_drives
+  pumped_rests e = rw e at pumped_drives
 
   -- a machine whose stack, replies and banks' answers are gone, and whose write queue waits for a bank if it isn't empty
   pub rests_or_waits : m.cache.ready ≡ [] → m.cache.stack ≡ [] → ((b : ℕ) → b < z.banks → (bank_at m.banks b).answers ≡ [])
@@ -277,11 +257,10 @@ module _ (z : Sizes) (lawful : IsLawful z) (roomy : HasRoom z) (m : Machine) (h 
           → (weight m ≡ 0) ⊎ HasCommand z m
       go a ea (Some b) et =
           let p = first_at (λ x. x.queue) b et in
-          inr (b, let n = h.banks_are in let l = p.0 in omega arith, ap has_items p.3)
+          inr (b, omega (arith, h.banks_are, p.0), ap has_items p.3)
       go (Some b) ea None et =
           let p = first_at (λ x. x.answers) b ea in
-          let no = none b (let n = h.banks_are in let l = p.0 in omega arith) in
-          cc (no, p.3)
+          cc (none b (omega (arith, h.banks_are, p.0)), p.3)
       go None ea None et = inl (pumped_rests (cc (er, es, ea, et, eq)))
 
   pub pumped_at_rest : weight m ≡ 0 → pumped z m ≡ None
@@ -289,7 +268,7 @@ module _ (z : Sizes) (lawful : IsLawful z) (roomy : HasRoom z) (m : Machine) (h 
     where
       go : (o : Option Event) → pumped z m ≡ o → pumped z m ≡ None
       go None e = e
-      go (Some event) e = let l = pumped_lowers event e in absurd (omega arith)
+      go (Some event) e = absurd (omega (arith, pumped_lowers event e))
 
 pub walk_is_driven : (z : Sizes) (image : List Word) (events : List Event) → WalkIsDriven z image events
 walk_is_driven z image events lawful roomy fits = grind (arith, walk_sound, sound_opening, pumped_lowers, pumped_rests, pumped_at_rest)
@@ -305,11 +284,8 @@ FallsOr m after why = (weight after < weight m) ⊎ ((after ≡ m) × why)
 module _ (z : Sizes) (lawful : IsLawful z) (roomy : HasRoom z) (m : Machine) (h : IsSound z m) where
   pub take_falls : FallsOr m (apply z m (Take 0)).machine (m.cache.ready ≡ [])
   unfolding take_step
-  take_falls = go _ refl
-    where
-      go : (ready : List Reply) → m.cache.ready ≡ ready → FallsOr m (apply z m (Take 0)).machine (m.cache.ready ≡ [])
-      go [] e = grind arith
-      go (r ∷ rest) e = grind arith
+  take_falls = elim m.cache.ready as (λ l. m.cache.ready ≡ l → FallsOr m (apply z m (Take 0)).machine (m.cache.ready ≡ []))
+      [ [] ↦ (λ e. grind arith) | r ∷ rest ↦ (λ e. grind arith) ] refl
 
   pub process_falls : FallsOr m (apply z m (Process 0)).machine (m.cache.stack ≡ [])
   unfolding process_step
@@ -328,23 +304,12 @@ module _ (z : Sizes) (lawful : IsLawful z) (roomy : HasRoom z) (m : Machine) (h 
   unfolding drain_step
   drain_falls = go _ refl
     where
-      full : (q : Queued) (rest : List Queued) → m.cache.queue ≡ q ∷ rest → z.bank_queue ≤ length (bank_at m.banks (q.at % z.banks)).queue
-          → FallsOr m (apply z m Drain).machine ((m.cache.queue ≡ []) ⊎ HasCommand z m)
-      full q rest e l =
-          let b = q.at % z.banks in
-          let within = mod-lt q.at lawful.some_banks in
-          let same : (apply z m Drain).machine ≡ m = grind (arith, le-ltb) in
-          inr (same, inr (b, within, some (bank_at _ b).queue (let k = some_queue z lawful roomy in omega (arith, k, l))))
-        where
-          some : {X : Type 0} (xs : List X) → 0 < length xs → has_items xs ≡ true
-          some [] k = absurd (omega arith)
-          some (x ∷ xs) k = refl
-
       go : (queue : List Queued) → m.cache.queue ≡ queue → FallsOr m (apply z m Drain).machine ((m.cache.queue ≡ []) ⊎ HasCommand z m)
       go [] e = inr (ap (λ qs. (joined_with m.banks (drain_first z (room_in z.bank_queue m.banks) m.cache qs)).machine) e, inl e)
-      go (q ∷ rest) e =
-          let waiting = length (bank_at _ (q.at % z.banks)).queue in
-          ⊎_elim (λ l. inl (drain_lowers z lawful roomy m h q rest e l)) (full q rest e) (cases_lt waiting z.bank_queue)
+      go (q ∷ rest) e = ⊎_elim (λ l. inl (drain_lowers z lawful roomy m h q rest e l)) (λ l. inr (
+        grind (arith, le-ltb),
+        inr (q.at % z.banks, mod-lt q.at lawful.some_banks, grind (arith, some_queue)),
+      )) (cases_lt (length (bank_at m.banks (q.at % z.banks)).queue) z.bank_queue)
 
 -- ---- a command waits until its bank serves it
 
@@ -364,23 +329,17 @@ below (suc n) f = below n f + f n
 below-le : (n c : ℕ) (f : ℕ → ℕ) → ((k : ℕ) → f k ≤ c) → below n f ≤ n * c
 unfolding below
 below-le zero c f h = omega arith
-below-le (suc n) c f h = let ih = below-le n c f h in let l = h n in omega arith
+below-le (suc n) c f h = omega (arith, below-le n c f h, h n)
 
-below-add : (n : ℕ) (f g : ℕ → ℕ) → below n (λ k. f k + g k) ≡ below n f + below n g
+below-add : (n : ℕ) (f g h : ℕ → ℕ) → ((k : ℕ) → h k ≡ f k + g k) → below n h ≡ below n f + below n g
 unfolding below
-below-add zero f g = refl
-below-add (suc n) f g = let ih = below-add n f g in omega arith
-
-below-same : (n : ℕ) (f g : ℕ → ℕ) → ((k : ℕ) → f k ≡ g k) → below n f ≡ below n g
-unfolding below
-below-same zero f g h = refl
-below-same (suc n) f g h = grind arith
+below-add zero f g h e = refl
+below-add (suc n) f g h e = omega (arith, below-add n f g h e, e n)
 
 below-hit : (n : ℕ) (f : ℕ → ℕ) (k : ℕ) → k < n → 1 ≤ f k → 1 ≤ below n f
 unfolding below
 below-hit zero f k l h = absurd (omega arith)
-below-hit (suc n) f k l h = ⊎_elim (λ e. let h' = rw e at h in omega arith)
-    (λ d. let ih = below-hit n f k (omega arith) h in omega arith) (cases_eq k n)
+below-hit (suc n) f k l h = grind (arith, below-hit n f k)
 
 -- ---- a list of pairs of numbers
 
@@ -403,9 +362,8 @@ length-summed n w (x ∷ xs) h =
     let one = below-hit n (λ s. below w (λ i. bit (is_pair s i x))) x.0 p.0
     (below-hit w (λ i. bit (is_pair x.0 i x)) x.1 p.1 (omega arith)) in
     let ih = length-summed n w xs (λ s i l. h s i (omega arith)) in
-    let inner = below-same n (λ s. below w (λ i. tally (is_pair s i) (x ∷ xs)))
-    (λ s. below w (λ i. bit (is_pair s i x)) + below w (λ i. tally (is_pair s i) xs)) (λ s. below-add w _ _) in
-    let outer = below-add n (λ s. below w (λ i. bit (is_pair s i x))) (λ s. below w (λ i. tally (is_pair s i) xs)) in
+    let both = below-add n (λ s. below w (λ i. bit (is_pair s i x))) (λ s. below w (λ i. tally (is_pair s i) xs)) _
+    (λ s. below-add w _ _ (λ i. tally (is_pair s i) (x ∷ xs)) (λ i. refl)) in
     omega arith
 
 -- ---- words on their way
@@ -413,52 +371,46 @@ length-summed n w (x ∷ xs) h =
 wanted_in : (z : Sizes) (m : Machine) → IsSound z m → (s i : ℕ) → 1 ≤ wanted z (register_at m.cache s) i
     → (s < z.regs) × (i < z.block_words)
 wanted_in z m sound s i l =
-    let w = bit-pos _ l in
-    let p = and_parts (register_at m.cache s).valid _ w in
-    let q = and_parts _ _ p.1 in
+    let p = and_parts (register_at m.cache s).valid _ (bit-pos _ l) in
     let there = in_range (λ (r : Register). r.valid) free_register _ s refl p.0 in
-    (let n = sound.registers_are in omega arith, ltb-true i _ q.0)
+    (omega (arith, there, sound.registers_are), ltb-true i _ (and_parts _ _ p.1).0)
 
 -- at most one for each word of each register
 pub on_their_way : (z : Sizes) (m : Machine) → IsSound z m → length (all_pending m.banks) + length m.cache.stack ≤ z.regs * z.block_words
 on_their_way z m sound =
-    let n = length-summed z.regs z.block_words pairs (λ s i l. wanted_in z m sound s i (let c = count s i in omega arith)) in
+    let n = length-summed z.regs z.block_words pairs (λ s i l. wanted_in z m sound s i (omega (arith, count s i))) in
     let most = below-le z.regs _ (λ s. below z.block_words (λ i. tally (is_pair s i) pairs)) (λ s.
-    below-le z.block_words 1 (λ i. tally (is_pair s i) pairs) (λ i. let c = count s i in let b =
-    bit-le ((register_at m.cache s).valid && (nat_lt i z.block_words && not (field_at m.cache s i).processed)) in omega arith)) in
+    below-le z.block_words 1 (λ i. tally (is_pair s i) pairs) (λ i. omega (
+      arith,
+      count s i,
+      bit-le ((register_at m.cache s).valid && (nat_lt i z.block_words && not (field_at m.cache s i).processed)),
+    ))) in
     omega (
       arith,
-      length-append awaited entries,
+      length-append (map answer_pair (all_pending m.banks)) (map entry_pair m.cache.stack),
       length-map (all_pending m.banks) answer_pair,
       length-map m.cache.stack entry_pair,
     )
   where
-    awaited : List (ℕ × ℕ)
-    awaited = map answer_pair (all_pending m.banks)
-
-    entries : List (ℕ × ℕ)
-    entries = map entry_pair m.cache.stack
-
     pairs : List (ℕ × ℕ)
-    pairs = awaited ++ entries
+    pairs = map answer_pair (all_pending m.banks) ++ map entry_pair m.cache.stack
 
     count : (s i : ℕ) → tally (is_pair s i) pairs ≡ wanted z (register_at m.cache s) i
-    count s i =
-        let c = sound.counted s i in
-        omega (
-          arith,
-          tally-append (is_pair s i) awaited entries,
-          tally-map answer_pair (is_pair s i) (all_pending m.banks),
-          tally-map entry_pair (is_pair s i) m.cache.stack,
-        )
+    count s i = omega (
+      arith,
+      sound.counted s i,
+      tally-append (is_pair s i) (map answer_pair (all_pending m.banks)) (map entry_pair m.cache.stack),
+      tally-map answer_pair (is_pair s i) (all_pending m.banks),
+      tally-map entry_pair (is_pair s i) m.cache.stack,
+    )
 
 -- ---- the parts of the weight
 
 commands_weigh : (words : List Word) (queue : List Command)
     → total command_weight queue ≡ 3 * length (answers_to words queue) + length queue
 commands_weigh words [] = refl
-commands_weigh words (Read slot i place ∷ rest) = let ih = commands_weigh words rest in omega arith
-commands_weigh words (Write place word lanes ∷ rest) = let ih = commands_weigh (stored words place word lanes) rest in omega arith
+commands_weigh words (Read slot i place ∷ rest) = omega (arith, commands_weigh words rest)
+commands_weigh words (Write place word lanes ∷ rest) = omega (arith, commands_weigh (stored words place word lanes) rest)
 
 banks_weigh : (most : ℕ) (banks : List Bank) → ((b : ℕ) → length (bank_at banks b).queue ≤ most)
     → total bank_weight banks ≤ 3 * length (flat_map pending banks) + length banks * most
@@ -473,10 +425,7 @@ all_weigh : {X : Type 0} (f : X → ℕ) (g : ℕ → X → List Target) → ((n
     → total f xs ≤ length (gathered g n xs) - 1
 all_weigh f g h n [] = omega arith
 all_weigh f g h n (x ∷ xs) =
-    let ih = all_weigh f g h (suc n) xs in
-    let own = h n x in
-    let k = length-append (g n x) (gathered g (suc n) xs) in
-    omega arith
+    omega (arith, all_weigh f g h (suc n) xs, h n x, length-append (g n x) (gathered g (suc n) xs))
 
 register_weighs : (slot : ℕ) (r : Register) → register_weight r ≤ length (targets_of slot r) - 1
 register_weighs slot r = grind (arith, all_weigh field_weight (targets_of_field slot) (field_weighs slot) 0 r.fields)
@@ -487,21 +436,19 @@ tags_count c = grind (arith, length-append, length-map)
 -- where one load waits at most, none weighs
 pub none_behind : (c : Cache) → length (tags c) - length c.ready < 2 → total register_weight c.registers ≡ 0
 unfolding targets
-none_behind c few =
-    let registers = all_weigh register_weight targets_of register_weighs 0 c.registers in
-    let n = tags_count c in
-    omega arith
+none_behind c few = omega (arith, all_weigh register_weight targets_of register_weighs 0 c.registers, tags_count c)
 
 pub weight_bound : (z : Sizes) (m : Machine) → IsSound z m → IsBounded z m → weight m ≤ most_weight z
 unfolding targets
 weight_bound z m sound bounded =
-    let way = on_their_way z m sound in
-    let banks = banks_weigh _ _ bounded.few_commands in
-    let registers = all_weigh register_weight targets_of register_weighs 0 m.cache.registers in
-    let n = tags_count m.cache in
-    let t = bounded.few_tags in
-    let q = bounded.few_queued in
-    let b = sound.banks_are in
-    let same = ap (λ k. k * z.bank_queue) b in
-    let four : 4 * z.regs * z.block_words ≡ 4 * (z.regs * z.block_words) = mul_assoc 4 _ _ in
-    omega arith
+    omega (
+      arith,
+      on_their_way z m sound,
+      banks_weigh _ _ bounded.few_commands,
+      all_weigh register_weight targets_of register_weighs 0 m.cache.registers,
+      tags_count m.cache,
+      bounded.few_tags,
+      bounded.few_queued,
+      ap (λ k. k * z.bank_queue) sound.banks_are,
+      mul_assoc 4 z.regs z.block_words,
+    )

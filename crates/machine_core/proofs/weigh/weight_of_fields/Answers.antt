@@ -1,4 +1,4 @@
-use Rattle.std.proofs.Common.{◌+◌, ap, arith}
+use Rattle.std.proofs.Common.{ap, arith}
 use Rattle.cache_unit.specs.declared.Sizes.{Sizes}
 use Rattle.cache_unit.specs.State.{register_at, clear_field}
 use Rattle.machine_core.specs.Pump.{field_weight}
@@ -8,9 +8,8 @@ use Rattle.machine_core.proofs.weigh.weight_of_fields.Goals as goal
 pub loop-i-preserved : goal.loop-i-preserved
 loop-i-preserved c =
     let words = ap (λ (z : Sizes). z.block_words) c.sizes.ensures in
-    let own = ap (λ n. c.loop-i.weight + n) c.weight_of_field-weight.ensures.value in
     record {
-      counted = total_more field_weight (register_at c.args.unit.now.cache _).fields c.loop-i.i clear_field c.loop-i.weight
-          _ (omega arith) c.loop-i.invariant.counted own;
+      counted = total_more field_weight (register_at c.args.unit.now.cache _).fields _ clear_field _ _ (omega arith)
+          c.loop-i.invariant.counted c.weight_of_field-weight.ensures.value;
       small = omega arith;
     }

@@ -1,4 +1,4 @@
-use Rattle.std.proofs.Common.{◌+◌, ap, sym, arith}
+use Rattle.std.proofs.Common.{ap, sym, arith}
 use Rattle.cache_unit.specs.declared.Sizes.{Sizes}
 use Rattle.cache_unit.specs.State.{free_register}
 use Rattle.machine_core.specs.Pump.{register_weight}
@@ -8,15 +8,12 @@ use Rattle.machine_core.proofs.weigh.weight_of_registers.Goals as goal
 pub loop-slot-preserved : goal.loop-slot-preserved
 loop-slot-preserved c =
     let regs = ap (λ (z : Sizes). z.regs) c.sizes.ensures in
-    let own = ap (λ n. c.loop-slot.weight + n) c.weight_of_register-weight.ensures.value in
     record {
-      counted = total_more register_weight _ c.loop-slot.slot free_register c.loop-slot.weight
-          _ (omega arith) c.loop-slot.invariant.counted own;
+      counted = total_more register_weight _ _ free_register _ _ (omega arith) c.loop-slot.invariant.counted
+          c.weight_of_register-weight.ensures.value;
       small = omega arith;
     }
 
 pub returns-then-owed-replies_len-lt2-clause-value : goal.returns-then-owed-replies_len-lt2-clause-value
 returns-then-owed-replies_len-lt2-clause-value c =
-    let owed = c.owed.ensures.value in
-    let ready = c.replies_len.ensures in
-    sym (none_behind c.args.unit.now.cache (omega arith))
+    sym (none_behind c.args.unit.now.cache (omega (arith, c.owed.ensures.value, c.replies_len.ensures)))

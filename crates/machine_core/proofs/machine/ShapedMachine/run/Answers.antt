@@ -1,12 +1,16 @@
-use Rattle.std.proofs.Common.{ℕ, take, arith}
+use Rattle.std.proofs.Common.{take, arith}
 use Rattle.machine_core.proofs.Whole.{takes_answers_walked, whole_walked, flat_then, is_kept}
 use Rattle.machine_core.proofs.machine.ShapedMachine.run.Goals as goal
 
 pub walk-requires : goal.walk-requires
 walk-requires c =
     let made = c.in_ok-answers.ensures in
-    let few = λ (n : ℕ) (b : ℕ). takes_answers_walked c.self.invariant (take n _) b in
-    record { limit = c.self.invariant.limit; few = few; empty = made.items; room = omega arith }
+    record {
+      limit = c.self.invariant.limit;
+      few = λ n. takes_answers_walked c.self.invariant (take n _);
+      empty = made.items;
+      room = omega arith;
+    }
 
 pub invariant_of-self : goal.invariant_of-self
 invariant_of-self c = c.self.invariant
@@ -19,8 +23,7 @@ invariant_of-self-2 c = whole_walked c.self.invariant c.args.events.now _ _ c.wa
 
 pub returns-clause-flat : goal.returns-clause-flat
 returns-clause-flat c =
-    let flat = flat_then c.self.invariant _ _ _ _ c.walk.ensures.answers c.walk.ensures.unit c.walk.ensures.banks in
-    rw (← c.self.view_is) flat
+    rw (← c.self.view_is) (flat_then c.self.invariant _ _ _ _ c.walk.ensures.answers c.walk.ensures.unit c.walk.ensures.banks)
 
 pub returns-clause-kept : goal.returns-clause-kept
 returns-clause-kept c = is_kept (whole_walked c.self.invariant c.args.events.now _ _ c.walk.ensures.unit c.walk.ensures.banks)

@@ -1,7 +1,7 @@
-use Rattle.std.proofs.Common.{◌≡◌, ◌+◌, ◌*◌, subst, sym, arith}
+use Rattle.std.proofs.Common.{◌≡◌, ◌+◌, ◌*◌, sym, arith}
 use Rattle.machine_core.specs.Pump.{weight}
-use Rattle.machine_core.specs.Whole.{machine_of, IsWholeState}
-use Rattle.machine_core.proofs.Whole.{is_served, is_whole}
+use Rattle.machine_core.specs.Whole.{machine_of}
+use Rattle.machine_core.proofs.Whole.{is_served}
 use Rattle.machine_core.proofs.machine.ShapedMachine.weight.Goals as goal
 
 pub returns-clause-within : goal.returns-clause-within
@@ -15,4 +15,6 @@ pub returns-clause-served : goal.returns-clause-served
 returns-clause-served c = rw (← c.self.view_is) (is_served c.self.invariant)
 
 pub returns-clause-whole : goal.returns-clause-whole
-returns-clause-whole c = subst IsWholeState c.self.view_is (is_whole c.self.invariant)
+returns-clause-whole c =
+    let whole = c.self.invariant in
+    rw (← c.self.view_is) (record { in_range = whole.in_range; sound = whole.sound; bounded = whole.bounded })
