@@ -1,8 +1,8 @@
 -- A block's words as they are begun, one after the other.
 use Rattle.std.proofs.Common.{◌≡◌, ℕ, suc, zero, ◌+◌, ◌<◌, ◌≤◌, Bool, true, false, cond, List, [], ◌∷◌, ◌++◌, length, take, get_or, refl}
-use Rattle.std.proofs.Common.{sym, ap, ◌∙◌, arith, append_assoc, ◌*◌, map, replicate, set, Some, ap₂, add-one}
-use Rattle.std.proofs.lemmas.List.{length-take-le, take_more, get_or-set_same, set-get_or, set-set}
-use Rattle.flat_model.specs.Words.{has_any, zero_word, merged, no_lanes, joined}
+use Rattle.std.proofs.Common.{ap, arith, append_assoc, ◌*◌, map, replicate, set, Some, add-one}
+use Rattle.std.proofs.lemmas.List.{length-replicate, length-take-le, take_more, get_or-set_same, set-get_or, set-set}
+use Rattle.flat_model.specs.Words.{has_any, zero_word, merged, no_lanes}
 use Rattle.flat_model.specs.declared.Word.{Word}
 use Rattle.flat_model.specs.declared.Lanes.{Lanes}
 use Rattle.write_queue.specs.declared.Queued.{Queued}
@@ -13,7 +13,7 @@ use Rattle.cache_directory.specs.Frames.{with_frame, filled}
 use Rattle.cache_unit.specs.Causes.{dirty_from}
 use Rattle.std.specs.List.{range_with_len}
 use Rattle.flat_model.proofs.Lanewise.{merged-none, joined-none}
-use Rattle.miss_registers.specs.Registers.{Field, Register, free_register, clear_field, register_at, field_of, fresh, noted}
+use Rattle.miss_registers.specs.Registers.{Register, free_register, clear_field, register_at, field_of, fresh, noted}
 use Rattle.cache_unit.specs.Begun.{begun_cell, begun_field, begun_frame, begun_register}
 
 -- ---- The words with dirty lanes, one cell at a time.
@@ -66,26 +66,22 @@ begun_to g d a (suc i) zero = []
 begun_to g d a (suc i) (suc n) = g a ∷ begun_to g d (a + 1) i n
 
 begun_set : {X : Type 0} (g : ℕ → X) (d : X) (a i n : ℕ) → i < n → set (begun_to g d a i n) i (g (a + i)) ≡ begun_to g d a (suc i) n
-begun_set g d a zero zero h = absurd (omega arith)
-begun_set g d a zero (suc n) h = grind arith
-begun_set g d a (suc i) zero h = absurd (omega arith)
 begun_set g d a (suc i) (suc n) h =
     let e : a + suc i ≡ a + 1 + i = omega arith in
-    ap (λ l. g a ∷ l) (cc (e, begun_set g d (a + 1) i n (omega arith)))
+    cc (e, begun_set g d (a + 1) i n (omega arith))
+begun_set g d a i n h = grind arith
 
 begun_at : {X : Type 0} (g : ℕ → X) (d e : X) (a i n : ℕ) → i < n → get_or (begun_to g d a i n) i e ≡ d
-begun_at g d e a zero zero h = absurd (omega arith)
 begun_at g d e a zero (suc n) h = refl
-begun_at g d e a (suc i) zero h = absurd (omega arith)
 begun_at g d e a (suc i) (suc n) h = begun_at g d e (a + 1) i n (omega arith)
+begun_at g d e a i zero h = absurd (omega arith)
 
 begun_all : {X : Type 0} (g : ℕ → X) (d : X) (a n : ℕ) → begun_to g d a n n ≡ map g (range_with_len a n)
 begun_all g d a zero = refl
-begun_all g d a (suc n) = ap (λ l. g a ∷ l) (begun_all g d (a + 1) n)
+begun_all g d a (suc n) = cc (begun_all g d (a + 1) n)
 
 pub begun-length : {X : Type 0} (g : ℕ → X) (d : X) (a i n : ℕ) → i ≤ n → length (begun_to g d a i n) ≡ n
-begun-length g d a zero zero h = refl
-begun-length g d a zero (suc n) h = ap suc (begun-length g d a zero n (omega arith))
+begun-length g d a zero n h = length-replicate n d
 begun-length g d a (suc i) zero h = absurd (omega arith)
 begun-length g d a (suc i) (suc n) h = ap suc (begun-length g d (a + 1) i n (omega arith))
 
@@ -113,16 +109,15 @@ frame_next d d' d'' words entries block frame i there small e e' =
     let g = begun_cell entries in
     let now = frame_to words entries block i in
     let at : frame_at d'.frames frame ≡ now = cc (e, get_or-set_same _ frame now empty_frame there) in
-    let word = overlaid zero_word entries _ in
-    let bytes : merged word (cell_at now i).word no_lanes ≡ word = merged-none word (cell_at now i).word in
-    let clean : (cell_at now i).dirty ≡ no_lanes = ap (λ c. c.dirty) (begun_at g zero_cell zero_cell _ i words small) in
-    let one : filled now i word no_lanes ≡ frame_to words entries block _ =
-    ap (λ cs. let f : Frame = record { block = Some block; pending = true; cells = cs } in f)
-    (ap₂ (λ w m. let c : Cell = record { word = w; dirty = m } in set now.cells i c) bytes clean ∙ begun_set g zero_cell _ i words small
-    ∙ ap (λ k. begun_to g zero_cell (block * words) k words) (sym (add-one i))) in
-    e' ∙ ap (λ f. with_frame d' frame (filled f i word no_lanes)) at ∙ ap (λ f. with_frame d' frame f) one
-    ∙ ap (λ x. with_frame x frame (frame_to words entries block (i + 1))) e
-    ∙ ap (λ fs. let x : Frames = record { frames = fs; orders = d.orders } in x) (set-set _ frame now _)
+    let word = overlaid zero_word entries (block * words + i) in
+    let one : filled now i word no_lanes ≡ frame_to words entries block (i + 1) =
+    cc (
+      merged-none word (cell_at now i).word,
+      begun_at g zero_cell zero_cell (block * words) i words small,
+      begun_set g zero_cell (block * words) i words small,
+      add-one i,
+    ) in
+    cc (e, e', at, one, set-set d.frames frame now (frame_to words entries block (i + 1)))
 
 -- the register's next code is noted
 pub register_next : (rs rs' rs'' : List Register) (words : ℕ) (entries : List Queued) (block frame slot i : ℕ) → slot < length rs
@@ -134,17 +129,15 @@ register_next rs rs' rs'' words entries block frame slot i there small e e' =
     let g = begun_field entries in
     let now = register_to words entries block frame i in
     let at : register_at rs' slot ≡ now = cc (e, get_or-set_same rs slot now free_register there) in
-    let lanes = queued_lanes entries _ in
-    let clear : field_of now i ≡ clear_field = begun_at g clear_field clear_field _ i words small in
-    let field : (f : Field) → f ≡ clear_field → ◌≡◌ {A = Field} (record f { code = joined f.code lanes }) _ =
-    λ f q. ap (λ x. let y : Field = record x { code = joined x.code lanes } in y) q
-    ∙ ap (λ m. let y : Field = record { in_stack = false; processed = false; code = m; waiting = [] } in y) (joined-none lanes) in
-    let one : noted now i lanes ≡ register_to words entries block frame _ =
-    ap (λ fs. let r : Register = record { valid = true; obsolete = false; block = block; frame = frame; fields = fs } in r)
-    (ap (λ f. set now.fields i f) (field _ clear) ∙ begun_set g clear_field _ i words small
-    ∙ ap (λ k. begun_to g clear_field (block * words) k words) (sym (add-one i))) in
-    e' ∙ ap (λ r. set rs' slot (noted r i lanes)) at ∙ ap (λ r. set rs' slot r) one
-    ∙ ap (λ x. set x slot (register_to words entries block frame (i + 1))) e ∙ set-set rs slot now _
+    let lanes = queued_lanes entries (block * words + i) in
+    let one : noted now i lanes ≡ register_to words entries block frame (i + 1) =
+    cc (
+      begun_at g clear_field clear_field (block * words) i words small,
+      joined-none lanes,
+      begun_set g clear_field (block * words) i words small,
+      add-one i,
+    ) in
+    cc (e, e', at, one, set-set rs slot now (register_to words entries block frame (i + 1)))
 
 pub frame_whole : (words : ℕ) (entries : List Queued) (block i : ℕ) → i ≡ words
     → frame_to words entries block i ≡ begun_frame words entries block

@@ -1,6 +1,6 @@
 -- What a miss may take, how a block loses its frame, and what the unit shows.
-use Rattle.std.proofs.Common.{◌≡◌, ℕ, suc, ◌-◌, ◌*◌, ◌%◌, ◌/◌, ◌<◌, ◌≤◌, nat_lt, ◌==◌, not, Bool, true, false, cond, List, [], ◌∷◌, length}
-use Rattle.std.proofs.Common.{get_or, Option, Some, None, is_none, refl, ap, ap₂, ◌∙◌, arith, eq-eqb, option_map, ◌+◌, sym, subst, le-ltb}
+use Rattle.std.proofs.Common.{◌≡◌, ℕ, suc, ◌-◌, ◌*◌, ◌%◌, ◌/◌, ◌<◌, ◌≤◌, nat_lt, ◌==◌, not, Bool, true, false, List, [], ◌∷◌, length}
+use Rattle.std.proofs.Common.{get_or, Option, Some, None, is_none, refl, ap, ◌∙◌, arith, eq-eqb, option_map, ◌+◌, sym, le-ltb}
 use Rattle.std.proofs.Common.{ltb-false, zero, ◌++◌, map, set, length-set, length-append, is_some, ◌&&◌, slice_get}
 use Rattle.std.specs.Option.{option_or}
 use Rattle.std.specs.List.{find, filter, list_all, list_any, range_with_len, All, sum_by}
@@ -50,8 +50,7 @@ use Rattle.miss_registers.specs.Views as shows
 
 find-same : (p q : ℕ → Bool) (xs : List ℕ) → ((k : ℕ) → k < length xs → p (get_or xs k 0) ≡ q (get_or xs k 0)) → find p xs ≡ find q xs
 find-same p q [] h = refl
-find-same p q (x ∷ xs) h =
-    ap₂ (λ b (o : Option ℕ). cond b (Some x) o) (h 0 (omega arith)) (find-same p q xs (λ k l. h (suc k) (omega arith)))
+find-same p q (x ∷ xs) h = cc (h 0 (omega arith), find-same p q xs (λ k l. h (suc k) (omega arith)))
 
 list_all-same : (p q : ℕ → Bool) (xs : List ℕ) → ((x : ℕ) → p x ≡ q x) → list_all p xs ≡ list_all q xs
 list_all-same p q [] h = refl
@@ -81,15 +80,9 @@ pub chosen_can : (ways words : ℕ) (d : Frames) (set f : ℕ) → dir.IsWhole w
 chosen_can ways words d set f h s e = go _ refl e
   where
     go : (o : Choice) → dir.chosen ways d set ≡ o → chosen_frame o ≡ Some f → CanTake ways d set f
-    go (Free g) q k =
-        let same : g ≡ f = cc in
-        let way = chosen-free ways words d set f h s (q ∙ ap Free same) in
-        record { there = way.there; in_set = way.in_set; idle = grind arith }
-    go (Victim g) q k =
-        let same : g ≡ f = cc in
-        let way = chosen-victim ways words d set f h (q ∙ ap Victim same) in
-        record { there = way.there; in_set = way.in_set; idle = way.settled }
-    go AllPending q k = absurd (none-some f k)
+    go (Free g) q k = grind (arith, chosen-free ways words d set g h s q)
+    go (Victim g) q k = grind (arith, chosen-victim ways words d set g h q)
+    go AllPending q k = cc
 
 -- all ways of the set are pending exactly where no frame is chosen
 pub chosen_none : (ways words : ℕ) (d : Frames) (set : ℕ) → dir.IsWhole ways words d
@@ -166,10 +159,17 @@ module _ (z : Sizes) (c : Cache) (h : IsSound z c) (room : ℕ → ℕ) (block :
   -- why a miss fails, by the register and the frame that there are for it
   pub causes_are : (s f : Option ℕ) (a b : Bool) → regs.free_slot c.registers ≡ s → to_take ≡ f → lacks_places z c f ≡ a → shorts ≡ b
       → first_cause (miss_causes z room c block) ≡ by_tests (is_none s) (is_none f) a b
-  causes_are s f a b e k l m = ap₂ (λ x y. by_tests x y (lacks_places z c (choose z c block)) shorts)
-      (register-test c z.regs h.registers.registers_there ∙ ap is_none e)
-      (cc (all_pending-shown z c h block, chosen_none _ _ _ _ h.directory, set_is, k))
-      ∙ ap₂ (by_tests (is_none s) (is_none f)) (ap (lacks_places z c) (frame_chosen ∙ k) ∙ l) m
+  causes_are s f a b e k l m = cc (
+    register-test c z.regs h.registers.registers_there,
+    e,
+    all_pending-shown z c h block,
+    chosen_none z.ways z.block_words c.directory (block % z.sets) h.directory,
+    set_is,
+    k,
+    frame_chosen,
+    l,
+    m,
+  )
 
   pub find_places : (s f : ℕ) → regs.free_slot c.registers ≡ Some s → to_take ≡ Some f
       → length (owed_words z.block_words c.directory f) ≤ z.write_queue - length c.queue → shorts ≡ false
@@ -197,7 +197,7 @@ takes_from z c h room block places m =
     let same = ap (λ n. block % n) h.sets in
     let taken : chosen_frame (dir.chosen z.ways c.directory (set_of c.directory block)) ≡ Some places.frame = cc in
     let none = last_two _ _ (sym (causes_are z c h room block _ _ _ _ m.slot taken refl refl) ∙ m.no_cause) in
-    let there = subst (λ n. block % z.sets < n) (sym h.sets) (omega (arith, h.ranges.some_sets)) in
+    let there : block % z.sets < length c.directory.orders = omega (arith, h.ranges.some_sets, h.sets) in
     let can = chosen_can _ _ _ _ places.frame h.directory there chosen in
     let found = free_slot-found _ places.slot (m.slot) in
     let fits : length (owed_words z.block_words c.directory places.frame) ≤ z.write_queue - length c.queue = ltb-false _ _ none.0 in
@@ -299,31 +299,23 @@ module _ (z : Sizes) (c : Cache) (h : IsSound z c) (block f : ℕ) (holds : fram
     frames = λ s l. (
         let w = lived s l in
         let x = h.tied.frames s w.0.live in
-        let n = other_frame s w.0.live w.1 in
-        let here = (frame_of-some _ _ _ x.holds).1 in
-        let same = unmoved (register_at c s).frame n in
+        let same = unmoved (register_at c s).frame (other_frame s w.0.live w.1) in
         let found = frame_of-is fs' (register_at c s).block (register_at c s).frame
-        (λ a b k p r. h.directory.alone a b k (still_there a k p) (still_there b k r)) (cc (same, here)) in
+        (λ a b k p r. h.directory.alone a b k (still_there a k p) (still_there b k r)) (cc (same, (frame_of-some _ _ _ x.holds).1)) in
         record {
-          holds = ap (dir.frame_of fs') w.0.block ∙ found ∙ ap Some (sym w.0.frame);
+          holds = cc (w.0.block, found, w.0.frame);
           cells = cc (w.0.frame, same, x.cells, w.0.count);
           pending = cc (w.0.frame, same, x.pending);
         });
     pending = λ g t. (
         let p = pending_elsewhere _ f g empty_frame refl t in
         let w = h.tied.pending g p.1 in
-        let n : (register_at c w.slot).block ≡ block
-        → ⊥ = λ b. p.0 (sym w.frame ∙ same_Some _ _ (sym (h.tied.frames w.slot w.live).holds ∙ ap (frame_of c) b ∙ holds)) in
-        let on = lives_on w.slot w.live n in
-        record { slot = w.slot; live = ap is_live on ∙ w.live; frame = cc (on, w.frame) });
+        let on = lives_on w.slot w.live (λ b. grind (arith, p.0, w.frame, h.tied.frames w.slot w.live)) in
+        record { slot = w.slot; live = cc (on, w.live); frame = cc (on, w.frame) });
   }
 
   marks_after : (s : ℕ) → SameMarks (register_at c s) (regs.register_at gone s)
-  marks_after s = go _ refl
-    where
-      go : (o : Option ℕ) → live_for c block ≡ o → SameMarks (register_at c s) (regs.register_at (obsoleted c.registers o) s)
-      go None e = SameMarks-self _
-      go (Some t) e = related-set SameMarks SameMarks-self _ t _ (live_for-some _ block t e).0 (SameMarks-obsolete _) s
+  marks_after s = grind (arith, related-set SameMarks SameMarks-self, live_for-some, SameMarks-self, SameMarks-obsolete)
 
   owes_after : OwesSound z c.ready gone
   owes_after = go _ refl
@@ -332,37 +324,23 @@ module _ (z : Sizes) (c : Cache) (h : IsSound z c) (block f : ℕ) (holds : fram
       go None e = h.owes
       go (Some t) e = owes-same z _ _ t _ (live_for-some _ block t e).0 (λ p. loads-obsolete p _) h.owes
 
-  sets_after : length (dir.released z.ways c.directory f).orders ≡ z.sets
-  unfolding dir.released
-  sets_after = length-set _ _ _ ∙ h.sets
-
-  blocks_after : (g b : ℕ) → (dir.frame_at (dir.released z.ways c.directory f).frames g).block ≡ Some b → (frame_at c g).block ≡ Some b
-  unfolding dir.released
-  blocks_after g b e = still_there g b e
-
-  tied_released : Tied (dir.released z.ways c.directory f).frames gone
-  unfolding dir.released
-  tied_released = tied_after
-
   pub IsSound-given_up : length c.queue + length dirty ≤ z.write_queue
       → dir.IsWhole z.ways z.block_words (dir.released z.ways c.directory f) → IsWhole z.block_words z.regs gone
       → IsSound z (record c { directory = dir.released z.ways c.directory f; registers = gone; queue = c.queue ++ dirty })
+  unfolding dir.released
   IsSound-given_up room wd wr = record {
     ranges = h.ranges;
     directory = wd;
-    sets = sets_after;
-    in_memory = λ g b e. h.in_memory g b (blocks_after g b e);
+    sets = length-set _ _ _ ∙ h.sets;
+    in_memory = λ g b e. h.in_memory g b (still_there g b e);
     registers = wr;
     stack_sound = StackSound-same _ _ _ marks_after h.stack_sound;
-    tied = tied_released;
+    tied = tied_after;
     queue_sound = record {
-      within = (
-          let a = length-append c.queue dirty in
-          omega arith);
+      within = omega (arith, length-append c.queue dirty);
       addresses = (
-          let m = h.in_memory f block f_holds in
-          let n = h.directory.cells f block f_holds in
-          All-append (λ e. e.at < z.words) _ dirty h.queue_sound.addresses (dirty_in_memory block _ _ (frame_at c f).cells (omega arith)));
+          All-append (λ e. e.at < z.words) _ dirty h.queue_sound.addresses (dirty_in_memory block _ _ (frame_at c f).cells
+          (omega (arith, h.in_memory f block f_holds, h.directory.cells f block f_holds))));
     };
     owes = owes_after;
   }
@@ -379,9 +357,6 @@ module _ (z : Sizes) (c : Cache) (h : IsSound z c) (block f : ℕ) (holds : fram
 
   -- ---- what the calls need
 
-  few_enough : (a b : ℕ) → nat_lt a b ≡ false → b ≤ a
-  few_enough a b e = grind arith
-
   -- what the frame owes are the block's dirty words, and without it the frame is released
   pub owes_block : owed_words z.block_words c.directory f ≡ dirty
   owes_block = grind (arith, f_holds)
@@ -392,19 +367,13 @@ module _ (z : Sizes) (c : Cache) (h : IsSound z c) (block f : ℕ) (holds : fram
   pub can_give_up : lacks_places z c (Some f) ≡ false → (f < length c.directory.frames) ×
       ((b : ℕ) → (frame_at c f).block ≡ Some b → b * z.block_words + z.block_words < 4294967296) ×
       (length c.queue + length dirty ≤ z.write_queue)
-  can_give_up e = grind (arith, few_enough, words-shown, frame_of-some)
-
-  more : (a b : ℕ) → a < b → nat_lt a b ≡ true
-  more a b l = grind arith
-
-  not_more : (a b : ℕ) → b ≤ a → nat_lt a b ≡ false
-  not_more a b l = grind arith
+  can_give_up e = grind (arith, ltb-false, words-shown, frame_of-some)
 
   pub lacks-true : (n room : ℕ) → n ≡ length dirty → room ≡ z.write_queue - length c.queue → room < n → lacks_places z c (Some f) ≡ true
-  lacks-true n room e r l = grind (arith, words-shown, more)
+  lacks-true n room e r l = grind (arith, words-shown, nat_tests)
 
   pub lacks-false : (n room : ℕ) → n ≡ length dirty → room ≡ z.write_queue - length c.queue → n ≤ room → lacks_places z c (Some f) ≡ false
-  lacks-false n room e r l = grind (arith, words-shown, not_more)
+  lacks-false n room e r l = grind (arith, words-shown, le-ltb)
 
 -- ---- A block that no frame holds.
 
@@ -413,8 +382,7 @@ absent_frame c block e = grind arith
 
 -- a live register's block is in a frame
 pub no_live : (fs : List Frame) (rs : List Register) (block : ℕ) → Tied fs rs → dir.frame_of fs block ≡ None → regs.live_for rs block ≡ None
-no_live fs rs block h absent = live_for-none rs block (λ s live e. none-some (regs.register_at rs s).frame
-    (sym absent ∙ ap (dir.frame_of fs) (sym e) ∙ (h.frames s live).holds))
+no_live fs rs block h absent = live_for-none rs block (λ s live e. (cc (absent, (h.frames s live).holds)))
 
 -- the reads that the step sends
 pub fetches-shown : (z : Sizes) (c : Cache) (block slot : ℕ) → is_present c block ≡ false → free_slot c ≡ Some slot
@@ -447,8 +415,7 @@ register-shown z c slot h = go _ refl
     go : (o : Option Register) → slice_get c.registers slot ≡ o → option_map shows.shown_register o ≡ option_map (shown_register c) o
     go None e = refl
     go (Some r) e =
-        let at = get_or_from_slice_get _ slot r regs.free_register e in
-        ap Some (register-same c r (λ l. rw at at (h.tied.frames slot (ap is_live at ∙ l)).holds))
+        grind (arith, register-same c r, get_or_from_slice_get c.registers slot r regs.free_register e, h.tied.frames slot)
 
 -- a register that isn't shown isn't there
 pub not_shown : (rs : List Register) (slot : ℕ) → shows.register_view rs slot ≡ None → regs.register_at rs slot ≡ regs.free_register

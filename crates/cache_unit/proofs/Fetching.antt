@@ -1,7 +1,7 @@
 -- A miss brings its block in: what is sent, what the parts show and hold then, and what a call has made.
 use Rattle.std.proofs.Common.{◌≡◌, ℕ, suc, zero, ◌+◌, ◌<◌, ◌≤◌, Bool, true, false, cond, [], ◌∷◌, ◌++◌, length, refl, sym, ap, ◌∙◌, arith}
-use Rattle.std.proofs.Common.{add-one, length-append, ◌≢◌, ◌%◌, ◌/◌, ◌==◌, ◌⊎◌, inl, inr, List, subst, append_assoc, append-nil}
-use Rattle.std.proofs.Common.{eq-eqb, ltb-false, mod-lt, map, set, Some, get_or, ◌*◌, Option, None, length-set}
+use Rattle.std.proofs.Common.{length-append, ◌≢◌, ◌%◌, ◌/◌, ◌==◌, ◌⊎◌, inl, inr, List, append_assoc, append-nil}
+use Rattle.std.proofs.Common.{eq-eqb, ltb-false, mod-lt, map, set, Some, get_or, ◌*◌, None, length-set}
 use Rattle.std.specs.List.{filter, list_any, range_with_len, sum_by, All, remove}
 use Rattle.std.proofs.lemmas.Bool.{false_from_ne_true, false≢true, cases_eq, cases_lt}
 use Rattle.std.proofs.lemmas.List.Elements.{filter-append, All-append}
@@ -20,7 +20,7 @@ use Rattle.cache_directory.specs.Frames.{without, times_in}
 use Rattle.cache_unit.specs.Steps.{released, installed, fetched, take_step, take_reply, Stepped}
 use Rattle.cache_unit.specs.Begun.{begun_frame, begun_field, begun_register}
 use Rattle.cache_unit.specs.GivenUp.{owed_words, given_up, missed_frames, missed_registers}
-use Rattle.std.proofs.lemmas.Option.{same_Some, none-some, slice_get-get_or, slice_get_past}
+use Rattle.std.proofs.lemmas.Option.{same_Some, slice_get-get_or, slice_get_past}
 use Rattle.write_queue.specs.declared.Queued.{Queued}
 use Rattle.miss_registers.specs.Whole.{IsWhole}
 use Rattle.cache_unit.specs.Sound.{HasFrame, FilledBy, loads_of_field, StackSound, Tied, QueueSound, OwesSound, IsSound}
@@ -43,15 +43,10 @@ use Rattle.miss_registers.specs.Registers as regs
 
 -- ---- Tests and counts over the numbers from one on.
 
-range_last : (a n : ℕ) → range_with_len a (suc n) ≡ range_with_len a n ++ (a + n) ∷ []
-range_last a zero = grind arith
-range_last a (suc n) =
-    let e : a + 1 + n ≡ a + suc n = omega arith in
-    ap (λ l. a ∷ l) (cc (range_last (a + 1) n, e))
-
 -- one more number, at the end
 pub range_more : (a n : ℕ) → range_with_len a (n + 1) ≡ range_with_len a n ++ (a + n) ∷ []
-range_more a n = ap (range_with_len a) (add-one n) ∙ range_last a n
+range_more a zero = grind arith
+range_more a (suc n) = grind (arith, range_more (a + 1) n)
 
 -- one more number is counted where it passes the test
 pub count_more : (p : ℕ → Bool) (a n : ℕ) (b : Bool) → p (a + n) ≡ b
@@ -61,13 +56,11 @@ count_more p a n b e = grind (arith, range_more, filter-append, length-append)
 -- one number settles whether some number passes
 pub any_found : (p : ℕ → Bool) (n k : ℕ) → k < n → p k ≡ true → list_any p (range_with_len 0 n) ≡ true
 any_found p n k h e =
-    let there : k < length _ = omega (arith, length-range_with_len 0 n) in
-    let at : 0 + k ≡ k = omega arith in
-    list_any_at p _ k 0 there (ap p (get_or-range_with_len 0 n k 0 h ∙ at) ∙ e)
+    grind (arith, length-range_with_len, get_or-range_with_len, list_any_at p (range_with_len 0 n) k 0)
 
 -- no number below n passes
 pub none_found : (p : ℕ → Bool) (n : ℕ) → ((k : ℕ) → k < n → p k ≡ false) → list_any p (range_with_len 0 n) ≡ false
-none_found p n h = list_any_none p _ (range_within (λ x. p x ≡ false) 0 n (λ x l m. h x (omega arith)))
+none_found p n h = list_any_none p _ (range_within _ 0 n (λ x l m. h x (omega arith)))
 
 -- fewer numbers have no more that pass
 pub count_within : (p : ℕ → Bool) (a k n : ℕ) → k ≤ n → length (filter p (range_with_len a k)) ≤ length (filter p (range_with_len a n))
@@ -121,12 +114,9 @@ pub room_for_next : {L : Type 0} (sent_to : L → ℕ → List Command) (room_of
     → HasSent sent_to room_of same a m (block_reads slot first words banks k) → 0 < room_of m ((first + k) % banks)
 room_for_next sent_to room_of same a m slot first words banks k h r s =
     let b = (first + k) % banks in
-    let all = length-commands_for-block_reads b slot first words banks words in
-    let before = length-commands_for-block_reads b slot first words banks k in
     let next = count_more (λ at. (at % banks) == b) first k true (eq-eqb b b refl) in
     let within = count_within (λ at. (at % banks) == b) first (k + 1) words (omega arith) in
-    let left = s.rooms b in
-    omega arith
+    omega (arith, length-commands_for-block_reads b slot first words banks, s.rooms b)
 
 -- the next read
 pub block_reads_more : (slot first words banks k : ℕ) → block_reads slot first words banks (k + 1) ≡ block_reads slot first words banks k
@@ -182,19 +172,16 @@ installed-shown : (z : Sizes) (c : Cache) (block f slot : ℕ) → dir.IsWhole z
     → (missed_cache z c block f slot) ≡ installed z (released z c f) block f slot
 unfolding installed released dir.released dir.installed
 installed-shown z c block f slot whole of_set =
-    let q' = c.queue ++ owed_words _ c.directory f in
-    let begun = begun_frame _ q' block in
-    let frames = set-set (given_up _ _ f).frames f _ begun ∙ given_frames _ _ f begun ∙ sym (set-set _ f empty_frame begun) in
-    let last : List _ → ℕ → List _ = λ os s. set os s (get_or os s [] ++ f ∷ []) in
-    let orders = ap (λ os. last os (f / z.ways)) (given_orders _ _ _ f whole) ∙ ap (last (set _ _ _)) of_set in
-    let registers = set-set _ slot _ _ in
-    λ i. record {
-      directory = record { frames = frames i; orders = orders i };
-      registers = registers i;
-      stack = c.stack;
-      queue = q';
-      ready = c.ready;
-    }
+    let begun = begun_frame z.block_words (c.queue ++ owed_words z.block_words c.directory f) block in
+    cc (
+      set-set (given_up z.ways c.directory f).frames f (dir.fresh_frame z.block_words block) begun,
+      given_frames z.ways c.directory f begun,
+      set-set c.directory.frames f empty_frame begun,
+      given_orders z.ways z.block_words c.directory f whole,
+      of_set,
+      set-set c.registers slot (regs.fresh z.block_words block f)
+          (begun_register z.block_words (c.queue ++ owed_words z.block_words c.directory f) block f),
+    )
 
 -- the parts after a miss show what the step says
 pub fetched-shown : (z : Sizes) (c : Cache) (block f slot : ℕ) → dir.IsWhole z.ways z.block_words c.directory → f / z.ways ≡ block % z.sets
@@ -216,8 +203,10 @@ pub QueueSound-given : (z : Sizes) (d : Frames) (f : ℕ) (q : List Queued) → 
     → ((g block : ℕ) → (dir.frame_at d.frames g).block ≡ Some block → block * z.block_words + z.block_words ≤ z.words)
     → length q + length (owed_words z.block_words d f) ≤ z.write_queue → QueueSound z q → QueueSound z (q ++ owed_words z.block_words d f)
 QueueSound-given z d f q whole within room h =
-    let n = length-append q (owed_words z.block_words d f) in
-    record { within = omega arith; addresses = All-append (λ e. e.at < z.words) q _ h.addresses (owed_in z d f whole within) }
+    record {
+      within = omega (arith, length-append q (owed_words z.block_words d f));
+      addresses = All-append (λ e. e.at < z.words) q _ h.addresses (owed_in z d f whole within);
+    }
 
 -- ---- the frames
 
@@ -291,14 +280,7 @@ module _ (z : Sizes) (c : Cache) (h : IsSound z c) (block f slot : ℕ) (q' : Li
       held = (frame_of-some _ b g e).1
 
       only : (j : ℕ) → (dir.frame_at fs j).block ≡ Some b → j ≡ g
-      only j k = go (cases_eq j f)
-        where
-          go : (j ≡ f) ⊎ (j ≡ f → ⊥) → j ≡ g
-          go (inl m) =
-              let same : block ≡ b = same_Some block b (sym (ap (λ n. (dir.frame_at fs n).block) m ∙ ap (λ x. x.block) here) ∙ k) in
-              let no : ◌≡◌ {A = Option ℕ} None _ = sym absent ∙ ap (frame_of c) same ∙ e in
-              absurd (none-some g no)
-          go (inr m) = h.directory.alone j g b (cc (elsewhere j m, k)) held
+      only j k = grind (arith, cases_eq j f, here, elsewhere j, h.directory.alone j g b, held)
 
   old_frame : (s : ℕ) → is_live (register_at c s) ≡ true → (register_at c s).frame ≡ f → ⊥
   old_frame s live e = grind arith
@@ -314,32 +296,18 @@ module _ (z : Sizes) (c : Cache) (h : IsSound z c) (block f slot : ℕ) (q' : Li
       }
 
       frames : (s : ℕ) → is_live (regs.register_at rs s) ≡ true → (s ≡ slot) ⊎ (s ≡ slot → ⊥) → HasFrame fs (regs.register_at rs s)
-      frames s live (inl e) =
-          let P : Register → Type 0 = HasFrame fs in
-          subst P (sym (ap (regs.register_at rs) e ∙ slot_new)) new_frame
+      frames s live (inl e) = rw (e, slot_new) new_frame
       frames s live (inr n) =
-          let was : is_live (register_at c s) ≡ true = ap is_live (sym (slot_other s n)) ∙ live in
-          let old = h.tied.frames s was in
-          let apart = old_frame s was in
+          let was : is_live (register_at c s) ≡ true = cc (slot_other s n, live) in
           let r = register_at c s in
-          let now : HasFrame fs _ = record {
-            holds = old_found r.block r.frame old.holds apart;
-            cells = cc (elsewhere r.frame apart, old.cells);
-            pending = cc (elsewhere r.frame apart, old.pending);
-          } in
-          let P : Register → Type 0 = HasFrame fs in
-          subst P (sym (slot_other s n)) now
+          grind (arith, slot_other s n, h.tied.frames s was, old_found r.block r.frame, elsewhere r.frame, old_frame s was)
 
       pending : (g : ℕ) → (dir.frame_at fs g).pending ≡ true → (g ≡ f) ⊎ (g ≡ f → ⊥) → FilledBy rs g
       pending g p (inl e) = record { slot = slot; live = ap is_live slot_new; frame = cc (slot_new, e) }
       pending g p (inr n) =
           let old = h.tied.pending g (cc (elsewhere g n, p)) in
-          let apart = live_other old.slot old.live in
-          record {
-            slot = old.slot;
-            live = ap is_live (slot_other old.slot apart) ∙ old.live;
-            frame = cc (slot_other old.slot apart, old.frame);
-          }
+          let same = slot_other old.slot (live_other old.slot old.live) in
+          record { slot = old.slot; live = cc (same, old.live); frame = cc (same, old.frame) }
 
   missed_stack : StackSound rs c.stack
   missed_stack = grind (arith, cases_eq, false≢true, slot_other, slot_new, not_in_stack)
@@ -410,8 +378,8 @@ pub makes : (z : Sizes) (c : Cache) → IsSound z c → (step : Stepped) (a : An
     → step ≡ record { answer = a; cache = after; sent = sent } → (shown : Cache) → shown ≡ after → Makes step (made z c) a (made z shown)
 makes z c h step a after sent is shown e = record {
   sound = sound_cache z c h;
-  answer = sym (ap (λ t. t.answer) is);
-  unit = ap (made z) (e ∙ sym (ap (λ t. t.cache) is));
+  answer = cc is;
+  unit = cc (e, is);
 }
 
 -- ---- by the unit's state

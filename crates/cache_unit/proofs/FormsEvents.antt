@@ -1,6 +1,6 @@
 -- The events that move a word or a value: a drained write, a word that arrives, a value that is taken.
-use Rattle.std.proofs.Common.{◌≡◌, ℕ, Bool, ◌==◌, List, ◌++◌, map, length, Option, Some, None, option_map, find, refl, sym, ap, ap₂, ◌∙◌}
-use Rattle.std.proofs.Common.{filter, zero, suc, ◌+◌, ◌<◌, true, false, cond, not, ◌&&◌, nat_lt, is_some, [], ◌∷◌, get_or, set, length-set}
+use Rattle.std.proofs.Common.{◌≡◌, ℕ, Bool, ◌==◌, List, ◌++◌, map, length, Option, Some, None, option_map, find, refl, sym, ap, ◌∙◌}
+use Rattle.std.proofs.Common.{filter, zero, suc, ◌+◌, ◌<◌, true, false, cond, not, ◌&&◌, nat_lt, [], ◌∷◌, get_or, set, length-set}
 use Rattle.std.proofs.Common.{⊎_elim, get_or-set_same, get_or-set_other, eq-eqb, ne_eqb, ◌≤◌, remove, slice_get, arith, eqb-true}
 use Rattle.std.proofs.lemmas.List.Folds.{find-append}
 use Rattle.std.proofs.lemmas.List.{map-append, length-map}
@@ -17,23 +17,19 @@ use Rattle.cache_unit.specs.State.{targets_of, targets_of_field}
 use Rattle.cache_unit.specs.Forms.{Form, bytes_of, missing_form, over_form, form_in, owed, coming_form, form, fill}
 use Rattle.cache_unit.specs.FormLaws.{form_where, form_at, forms, words_without, EvictForms, but_at, filled_form, DrainForms, ArriveForms}
 use Rattle.cache_unit.specs.FormLaws.{TakeForms, TakenForms}
-use Rattle.cache_unit.specs.Counts.{tally, bit}
+use Rattle.cache_unit.specs.Counts.{tally}
 use Rattle.cache_unit.proofs.Lists.{tally-map, tally-filter, find-map, gathered_part, read_set, in_range, frame_of-some, live_for-some}
 use Rattle.cache_unit.proofs.Lists.{none_live, frame-stays, frame-goes, holds-not, live-stays, serves-not, waits_for, RegistersWithin}
 use Rattle.cache_unit.proofs.Lists.{registers_within-same, registers_within-set, Within, Adds, Adds-tally, Adds-find_other, Adds-find_same}
 use Rattle.cache_unit.proofs.Lists.{find_none, Adds-right, Adds-map, Adds-remove}
 use Rattle.std.proofs.lemmas.Bool.{cases_eq}
-use Rattle.flat_model.specs.declared.Cause.TheVariants.{OutOfRange, NotPresent, QueueFull}
-use Rattle.flat_model.specs.declared.Answer.TheVariants.{Accepted}
-use Rattle.cache_unit.specs.Causes.{evict_cause, lacks_places}
+use Rattle.cache_unit.specs.Causes.{evict_cause}
 use Rattle.miss_registers.specs.Registers.{without_code, made_obsolete, marked, field_of}
-use Rattle.cache_unit.specs.Steps.{Stepped, unless, obsoleted, released, evicted, evicted_from, evict_step, moved, drain_first, drain_step}
-use Rattle.cache_unit.specs.Steps.{arrived, arrive_step, take_reply, take_step}
+use Rattle.cache_unit.specs.Steps.{obsoleted, released, evicted, evict_step, drain_step}
+use Rattle.cache_unit.specs.Steps.{arrived, arrive_step, take_step}
 use Rattle.cache_unit.specs.SoundCache.{IsSoundCache}
 use Rattle.flat_model.specs.declared.Lanes.{Lanes}
-use Rattle.flat_model.specs.declared.Cause.{Cause}
 use Rattle.flat_model.specs.Words.{Lane}
-use Rattle.write_queue.specs.declared.Queued.{Queued}
 use Rattle.miss_registers.specs.Registers as regs
 use Rattle.cache_directory.specs.Frames as dir
 
@@ -56,21 +52,12 @@ form_at-same z c d at ef el ec parts = grind arith
 pub form_at-live : (z : Sizes) (c : Cache) (at k s j : ℕ) → frame_of c (block_of z at) ≡ Some k → live_for c (block_of z at) ≡ Some s
     → place_in z at ≡ j → form_at z c at ≡ Some (form_in c (Some s) j (cell_in c (Some k) j).word)
 unfolding form_at
-form_at-live z c at k s j ef el ej = cc (
-  ef,
-  ap Some (ap (λ o. form_in c (live_for c (block_of z at)) (place_in z at)
-      (cell_in c o (place_in z at)).word) ef ∙ ap (λ o. form_in c o (place_in z at) (cell_in c (Some k) (place_in z at)).word) el
-      ∙ ap (λ n. form_in c (Some s) n (cell_in c (Some k) n).word) ej),
-)
+form_at-live z c at k s j ef el ej = simp (ef, el, ej)
 
 pub form_at-resident : (z : Sizes) (c : Cache) (at k : ℕ) → frame_of c (block_of z at) ≡ Some k → live_for c (block_of z at) ≡ None
     → form_at z c at ≡ Some (bytes_of (cell_in c (Some k) (place_in z at)).word)
 unfolding form_at
-form_at-resident z c at k ef el = cc (
-  ef,
-  ap Some (ap (λ o. form_in c (live_for c (block_of z at)) (place_in z at)
-      (cell_in c o (place_in z at)).word) ef ∙ ap (λ o. form_in c o (place_in z at) (cell_in c (Some k) (place_in z at)).word) el),
-)
+form_at-resident z c at k ef el = simp (ef, el)
 
 pub form_at-absent : (z : Sizes) (c : Cache) (at : ℕ) → frame_of c (block_of z at) ≡ None → form_at z c at ≡ None
 unfolding form_at
@@ -109,15 +96,12 @@ owed-due c tag = grind (arith, find-map, find-append, due_ready, due_to)
 pub owed-same : (c d : Cache) → d.ready ≡ c.ready → targets d.registers ≡ targets c.registers → d.stack ≡ c.stack → (tag : ℕ)
     → owed d tag ≡ owed c tag
 unfolding dues
-owed-same c d er et es tag = cc (owed-due d tag, same, owed-due c tag)
-  where
-    same : dues d ≡ dues c
-    same = cc (ap₂ (λ r t. map due_ready r ++ map (due_to d.stack) t) er et, es)
+owed-same c d er et es tag = rw (er, et, es)
 
 -- the tags of what is owed
 pub tags-dues : (c : Cache) → map (λ d. d.tag) (dues c) ≡ tags c
 unfolding dues
-tags-dues c = map-append (λ (d : Due). d.tag) _ _ ∙ ap₂ ◌++◌ (map-map (λ d. d.tag) due_ready _) (map-map (λ (d : Due). d.tag) _ _)
+tags-dues c = simp (map-append, map-map)
 
 pub dues-passing : (p : ℕ → Bool) (c : Cache) → tally (λ (d : Due). p d.tag) (dues c) ≡ tally p (tags c)
 dues-passing p c = sym (tally-map (λ d. d.tag) p _) ∙ ap (tally p) (tags-dues c)
@@ -136,7 +120,7 @@ forms-from z d words owing w o = λ i. record { words = λ at. w at i; owing = �
 pub codeless_targets : (slot n : ℕ) (fields : List Field)
     → gathered (targets_of_field slot) n (map without_code fields) ≡ gathered (targets_of_field slot) n fields
 codeless_targets slot n [] = refl
-codeless_targets slot n (f ∷ fields) = ap (λ l. targets_of_field slot n f ++ l) (codeless_targets slot _ fields)
+codeless_targets slot n (f ∷ fields) = cc (codeless_targets slot (suc n) fields)
 
 -- the word of another block stands in another frame
 pub cell-other : (z : Sizes) (c d : Cache) (at f : ℕ) (new : Frame) → d.directory.frames ≡ set c.directory.frames f new
@@ -148,7 +132,7 @@ cell-other z c d at f new ed ef n = cc (ef, go _ refl)
     go None e = refl
     go (Some k) e =
         let p = frame_of-some _ _ k e in
-        cc (ed, get_or-set_other _ f k new empty_frame (λ q. n (ap (λ x. (frame_at c x).block) (sym q) ∙ p.1)))
+        cc (ed, get_or-set_other _ f k new empty_frame (λ q. n (cc (q, p.1))))
 
 abbrev pub waits_in : Sizes → ℕ → Register → Bool
 waits_in z j r = r.valid && (nat_lt j z.block_words && not (get_or r.fields j clear_field).processed)
@@ -187,24 +171,20 @@ module _ (z : Sizes) (c : Cache) (h : IsSoundCache z c) (block : ℕ) where
       let p = live_for-some c block s e in
       let there = in_range is_live free_register _ s refl p.0 in
       let part = gathered_part targets_of free_register 0 _ s there in
-      let own = get_or-set_same _ s _ free_register there in
+      let own = get_or-set_same c.registers s (made_obsolete r) free_register there in
       let within = registers_within-set _ s _ (λ l. let n = never r.valid in cc)
       (λ v. (v, length-map r.fields without_code)) in
       record {
         stays = λ b n d ed. live-stays c d s _ b ed
             (cc (never r.valid, serves-not r b (λ l q. n (sym q ∙ p.1))));
-        others = λ b t n l. get_or-set_other _ s t _ free_register
-            (λ q. n (cc (sym (live_for-some c b t l).1, q, p.1)));
+        others = λ b t n l. grind (arith, get_or-set_other, live_for-some);
         same_targets = cc (part.then _, codeless_targets _ 0 r.fields, part.now);
         within = within;
         not_live = λ t l b.
             let q = h.live_apart t s (within.live t l).0 p.0 (b ∙ sym p.1) in
-            let dead =
-            ap (λ k. is_live (get_or (set c.registers s (made_obsolete r)) k free_register)) q ∙ ap is_live own ∙ never r.valid in
+            let dead = never r.valid in
             cc;
-        waits = λ t j. read_set (waits_in z j) free_register _ s _
-            (ap (λ y. r.valid && (nat_lt j z.block_words && not y))
-            (ap (λ y. y.processed) (get_or-map without_code r.fields j clear_field))) t;
+        waits = λ t j. read_set (waits_in z j) free_register _ s _ (rw (get_or-map without_code r.fields j clear_field)) t;
       }
     where
       never : (b : Bool) → (b && false) ≡ false
@@ -241,13 +221,8 @@ module _ (z : Sizes) (c : Cache) (h : IsSoundCache z c) (block : ℕ) where
             let ef = frame-stays c gone f empty_frame (block_of z at) refl (sym (holds-not (frame_at c f) _ (far _ n))) in
             cc (
               form_at-same z c gone at ef (ret.stays _ n' gone refl)
-                  (ap (λ x. x.word) (cell-other z c gone at f empty_frame refl ef (far _ n))) (λ t l.
-                  let same = ret.others (block_of z at) t n' l in (
-                    ap (λ r. (get_or r.fields (place_in z at) clear_field).processed) same,
-                    ap
-                        (λ r. (get_or r.fields (place_in z at) clear_field).code) same,
-                    refl,
-                  )),
+                  (ap (λ x. x.word) (cell-other z c gone at f empty_frame refl ef (far _ n)))
+                  (λ t l. grind (arith, ret.others (block_of z at) t n' l)),
               ne_eqb block _ n,
             )
 
@@ -256,24 +231,17 @@ module _ (z : Sizes) (c : Cache) (h : IsSoundCache z c) (block : ℕ) where
     gone_within = record {
       frames = record {
         number = length-set _ f empty_frame;
-        held = λ k b e. let same = elsewhere k (holds_other k b e) in
-            (cc (same, e), ap (λ x. length x.cells) same);
+        held = λ k b e. grind (arith, elsewhere, holds_other);
       };
       registers = ret.within;
-      stays = λ s k l e. (cc (
-        elsewhere k (λ q. ret.not_live s l (let p = sym e ∙ ap (λ x. (frame_at c x).block) q ∙ held.1 in cc)),
-        e,
-      ));
+      stays = λ s k l e. grind (arith, elsewhere, ret.not_live, held);
     }
       where
         elsewhere : (k : ℕ) → (k ≡ f → ⊥) → get_or (set c.directory.frames f empty_frame) k empty_frame ≡ frame_at c k
         elsewhere k n = get_or-set_other _ f k empty_frame empty_frame n
 
         holds_other : (k b : ℕ) → (get_or (set c.directory.frames f empty_frame) k empty_frame).block ≡ Some b → (k ≡ f → ⊥)
-        holds_other k b e q =
-            let no = ap (λ x. (get_or (set c.directory.frames f empty_frame) x empty_frame).block) q
-            ∙ ap (λ x. x.block) (get_or-set_same _ f empty_frame empty_frame held.0) in
-            cc
+        holds_other k b e q = grind (arith, get_or-set_same, held)
 
     pub evicted-by : EvictedBy z c block gone
     unfolding evicted released dir.released
@@ -291,25 +259,7 @@ module _ (z : Sizes) (c : Cache) (h : IsSoundCache z c) (block : ℕ) where
 pub evict_forms : (z : Sizes) (c : Cache) → IsSoundCache z c → (block : ℕ)
     → EvictForms z c block (evict_step z c block).answer (evict_step z c block).cache
 unfolding EvictForms evict_step evict_cause
-evict_forms z c h block = go _ _ refl
-  where
-    accept : Option ℕ → Stepped
-    accept o = record { answer = Accepted; cache = evicted_from z c block o; sent = [] }
-
-    step : Bool → Option ℕ → Bool → Stepped
-    step x o y = unless (cond (not x) (Some OutOfRange) (cond (not (is_some o)) (Some NotPresent) (cond y (Some QueueFull) None))) c
-        (accept o)
-
-    by_room : (f : ℕ) → frame_of c block ≡ Some f → (y : Bool)
-        → EvictForms z c block (step true (Some f) y).answer (step true (Some f) y).cache
-    by_room f e true = refl
-    by_room f e false = (evicted-by z c h block f e).after
-
-    go : (x : Bool) (o : Option ℕ) → frame_of c block ≡ o
-        → EvictForms z c block (step x o (lacks_places z c o)).answer (step x o (lacks_places z c o)).cache
-    go false o e = refl
-    go true None e = refl
-    go true (Some f) e = by_room f e _
+evict_forms z c h block = grind (arith, evicted-by z c h block)
 
 -- ---- The mark of a word in the stack changes nothing but itself.
 
@@ -317,8 +267,8 @@ evict_forms z c h block = go _ _ refl
 gathered-set : {X Y : Type 0} (f : ℕ → X → List Y) (d : X) (n : ℕ) (xs : List X) (s : ℕ) (y : X)
     → ((k : ℕ) → f k y ≡ f k (get_or xs s d)) → gathered f n (set xs s y) ≡ gathered f n xs
 gathered-set f d n [] s y h = refl
-gathered-set f d n (x ∷ xs) zero y h = ap (λ l. l ++ gathered f (suc n) xs) (h n)
-gathered-set f d n (x ∷ xs) (suc s) y h = ap (λ l. f n x ++ l) (gathered-set f d _ xs s y h)
+gathered-set f d n (x ∷ xs) zero y h = cc (h n)
+gathered-set f d n (x ∷ xs) (suc s) y h = cc (gathered-set f d (suc n) xs s y h)
 
 targets_of-marked : (slot : ℕ) (r : Register) (i : ℕ) → targets_of slot (marked r i) ≡ targets_of slot r
 unfolding marked
@@ -356,8 +306,7 @@ module _ (c : Cache) (slot i : ℕ) where
   unfolding marked
   waits-marked z s j =
       let r = register_at c slot in
-      read_set (waits_in z j) free_register _ slot _
-      (ap (λ p. r.valid && (nat_lt j z.block_words && not p)) (field-marked (λ f. f.processed) (λ f. refl) r i j)) s
+      read_set (waits_in z j) free_register _ slot _ (cc (field-marked (λ f. f.processed) (λ f. refl) r i j)) s
 
   pub live-marked : (b : ℕ) → live_for with_mark b ≡ live_for c b
   unfolding marked
@@ -371,14 +320,9 @@ module _ (c : Cache) (slot i : ℕ) where
 
 -- ---- drain
 
-drained : (z : Sizes) (room : ℕ → ℕ) (c : Cache) (queue : List Queued) → forms z (drain_first z room c queue).cache ≡ forms z c
-unfolding form_at dir.frame_of regs.live_for
-drained z room c [] = refl
-drained z room c (q ∷ rest) = grind arith
-
 pub drain_forms : (z : Sizes) (room : ℕ → ℕ) (c : Cache) → DrainForms z c (drain_step z room c).answer (drain_step z room c).cache
-unfolding DrainForms drain_step
-drain_forms z room c = drained z room c _
+unfolding DrainForms drain_step form_at dir.frame_of regs.live_for
+drain_forms z room c = grind arith
 
 -- ---- arrive
 
@@ -416,16 +360,10 @@ pub arrived_forms : (z : Sizes) (c : Cache) (slot i : ℕ) (w : Word) → forms 
 unfolding arrived
 arrived_forms z c slot i w = forms-marked _ slot i z ∙ forms-from z _ _ _ (word_filled z c slot i w) (owed_filled c slot i w)
 
-arrive_ok : (z : Sizes) (c : Cache) (slot i : ℕ) (w : Word) (o : Option Cause)
-    → ArriveForms z c slot i w (unless o c (moved (arrived c slot i w))).answer (unless o c (moved (arrived c slot i w))).cache
-unfolding ArriveForms
-arrive_ok z c slot i w (Some cause) = refl
-arrive_ok z c slot i w None = arrived_forms z c slot i w
-
 pub arrive_forms : (z : Sizes) (c : Cache) (slot i : ℕ) (w : Word)
     → ArriveForms z c slot i w (arrive_step z c slot i w).answer (arrive_step z c slot i w).cache
-unfolding arrive_step
-arrive_forms z c slot i w = arrive_ok z c slot i w _
+unfolding ArriveForms arrive_step
+arrive_forms z c slot i w = grind (arith, arrived_forms)
 
 -- ---- take
 
@@ -438,34 +376,19 @@ tag_other r t e = grind arith
 pub due_in-added : (r : Due) (xs ys : List Due) → Adds r xs ys → tally (has_tag r.tag) xs ≡ 0 → (t : ℕ)
     → due_in ys t ≡ but_at (due_in xs) r.tag (Some r.form) t
 unfolding due_in
-due_in-added r xs ys a none t = go _ refl
-  where
-    go : (b : Bool) → (t == r.tag) ≡ b → due_in ys t ≡ cond b (Some r.form) (due_in xs t)
-    go true e = ap (option_map (λ x. x.form)) (Adds-find_same _ r xs ys a (tag_same r t e)
-        (rw (sym (eqb-true t r.tag e)) at none))
-    go false e = ap (option_map (λ x. x.form)) (Adds-find_other _ r xs ys a (tag_other r t e))
+due_in-added r xs ys a none t =
+    grind (arith, Adds-find_same (has_tag t) r xs ys a, Adds-find_other (has_tag t) r xs ys a, tag_same, tag_other, eqb-true)
 
 due_in-removed : (r : Due) (xs ys : List Due) → Adds r xs ys → tally (has_tag r.tag) ys ≤ 1 → (t : ℕ)
     → due_in xs t ≡ but_at (due_in ys) r.tag None t
 unfolding due_in
-due_in-removed r xs ys a once t = go _ refl
-  where
-    go : (b : Bool) → (t == r.tag) ≡ b → due_in xs t ≡ cond b None (due_in ys t)
-    go true e =
-        let same = sym (eqb-true t r.tag e) in
-        let count = Adds-tally (has_tag t) r xs ys a in
-        let one = ap bit (tag_same r t e) in
-        let once' = rw same at once in
-        ap (option_map (λ x. x.form)) (find_none _ xs (omega arith))
-    go false e = ap (option_map (λ x. x.form)) (sym (Adds-find_other _ r xs ys a (tag_other r t e)))
+due_in-removed r xs ys a once t =
+    grind (arith, Adds-tally (has_tag t) r xs ys a, Adds-find_other (has_tag t) r xs ys a, find_none, tag_same, tag_other, eqb-true)
 
 -- the value that is taken is the one that is owed
 due_in-at : (r : Due) (xs ys : List Due) → Adds r xs ys → tally (has_tag r.tag) ys ≤ 1 → due_in ys r.tag ≡ Some r.form
 unfolding due_in
-due_in-at r xs ys a once =
-    let count = Adds-tally (has_tag r.tag) r xs ys a in
-    let one = ap bit (eq-eqb r.tag r.tag refl) in
-    ap (option_map (λ x. x.form)) (Adds-find_same _ r xs ys a (eq-eqb r.tag r.tag refl) (omega arith))
+due_in-at r xs ys a once = grind (arith, Adds-tally (has_tag r.tag) r xs ys a, Adds-find_same (has_tag r.tag) r xs ys a, eq-eqb)
 
 same_words : (z : Sizes) (c : Cache) (ready : List Reply) (at : ℕ) → form_at z (record c { ready = ready }) at ≡ form_at z c at
 unfolding form_at dir.frame_of regs.live_for
@@ -491,13 +414,7 @@ took_forms z c h place r e =
           (λ tag. (cc (owed-due d tag, due_in-removed _ _ _ less once tag, owed-due c tag)));
     }
 
-take_ok : (z : Sizes) (c : Cache) → IsSoundCache z c → (place : ℕ) (o : Option Reply) → slice_get c.ready place ≡ o
-    → TakenForms z c (take_reply c place o).answer (take_reply c place o).cache
-unfolding TakenForms
-take_ok z c h place None e = refl
-take_ok z c h place (Some r) e = took_forms z c h place r e
-
 pub take_forms : (z : Sizes) (c : Cache) → IsSoundCache z c → (place : ℕ)
     → TakenForms z c (take_step c place).answer (take_step c place).cache
-unfolding take_step
-take_forms z c h place = take_ok z c h place _ refl
+unfolding TakenForms take_step
+take_forms z c h place = grind (arith, took_forms z c h place)

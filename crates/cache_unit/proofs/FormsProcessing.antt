@@ -1,9 +1,9 @@
 -- A word of the stack is processed.
-use Rattle.std.proofs.Common.{◌≡◌, ℕ, zero, suc, ◌+◌, ◌<◌, Bool, true, false, cond, not, ◌&&◌, nat_lt, List, [], ◌∷◌, ◌++◌, map, length}
-use Rattle.std.proofs.Common.{get_or, set, Option, Some, None, option_map, find, remove, slice_get, refl, sym, ap, ap₂, ◌∙◌, subst, arith}
+use Rattle.std.proofs.Common.{◌≡◌, ℕ, suc, ◌+◌, ◌<◌, Bool, true, false, cond, ◌&&◌, List, [], ◌∷◌, ◌++◌, map, length}
+use Rattle.std.proofs.Common.{get_or, set, Option, Some, None, option_map, find, remove, slice_get, refl, sym, ap, ap₂, ◌∙◌, arith}
 use Rattle.std.proofs.Common.{length-set, ◌⊎◌, inl, inr, ⊎_elim, eqb-true, eq-eqb, mod-lt, get_or-set_same, get_or-set_other, ltb-true}
 use Rattle.std.specs.List.{list_all}
-use Rattle.std.proofs.lemmas.Bool.{false≢true, cases_eq, cases_Bool, and_parts, false_from_ne_true}
+use Rattle.std.proofs.lemmas.Bool.{cases_eq, cases_Bool, and_parts, false_from_ne_true}
 use Rattle.std.proofs.lemmas.List.{map-append}
 use Rattle.flat_model.specs.declared.Word.{Word}
 use Rattle.flat_model.specs.Words.{merged}
@@ -18,15 +18,16 @@ use Rattle.cache_unit.specs.State.{Frame, Field, Register, Cache, empty_frame, c
 use Rattle.cache_unit.specs.State.{field_at, is_live, live_for, cell_in, cell_of, gathered, targets_of, targets_of_field, targets, tags}
 use Rattle.cache_unit.specs.State.{with_cell, block_of, place_in}
 use Rattle.miss_registers.specs.Registers.{finished, finished_field, finished_fields, is_done}
-use Rattle.cache_unit.specs.Steps.{answered, filled, filled_in, settled_in, settled_for, processed, process_entry, process_step}
-use Rattle.cache_unit.specs.Forms.{bytes_of, missing_form, coming_form, over_form, owed}
+use Rattle.cache_unit.specs.Steps.{answered, filled, filled_in, settled_in, settled_for, processed, process_step}
+use Rattle.cache_unit.specs.Forms.{bytes_of, missing_form, over_form, owed}
 use Rattle.cache_unit.specs.FormLaws.{form_at, forms, ProcessForms}
 use Rattle.cache_unit.specs.SoundCache.{HasWord, IsSoundCache}
 use Rattle.cache_unit.specs.Counts.{tally}
-use Rattle.cache_unit.proofs.Lists.{read_set, Adds, Adds-find_other, Adds-remove, find-only, gathered_part, in_range, nested_same}
+use Rattle.cache_unit.proofs.Lists.{list_all-at, read_set, Adds, Adds-find_other, Adds-remove, find-only, gathered_part, in_range}
+use Rattle.cache_unit.proofs.Lists.{nested_same}
 use Rattle.cache_unit.proofs.Lists.{nested_other, find_swapped, tally_swapped, targets_map, WordPart, word_part, frame_of-some}
 use Rattle.cache_unit.proofs.Lists.{frame_of-is, live_for-some, live_for-is, with_fields, with_field_in, same_at, field_elsewhere}
-use Rattle.cache_unit.proofs.Lists.{field_here, holds, frame-stays, live-stays, live-goes, serves, is_entry, waits_for, FramesLike}
+use Rattle.cache_unit.proofs.Lists.{field_here, frame-stays, live-stays, live-goes, serves, is_entry, waits_for, FramesLike}
 use Rattle.cache_unit.proofs.Lists.{frames_like-set, RegistersWithin, registers_within-set, Within}
 use Rattle.cache_unit.proofs.FormsEvents.{form_at-same, form_at-live, form_at-resident, form_at-absent, Due, due_ready, due_to, dues}
 use Rattle.cache_unit.proofs.FormsEvents.{has_tag, due_in, owed-due, dues-passing, dues-tally, forms-from}
@@ -38,17 +39,12 @@ done = finished_field
 
 pub all_processed : (fields : List Field) → list_all (λ f. f.processed) fields ≡ true → (j : ℕ) → j < length fields
     → (get_or fields j clear_field).processed ≡ true
-all_processed [] h j l = absurd (omega arith)
-all_processed (f ∷ fields) h zero l = grind arith
-all_processed (f ∷ fields) h (suc j) l =
-    all_processed fields (and_parts f.processed (list_all (λ f. f.processed) fields) h).1 j (omega arith)
+all_processed fields h j l = list_all-at (λ f. f.processed) fields j clear_field h l
 
 pub no_targets : (slot n : ℕ) (fields : List Field) → list_all (λ f. f.processed) fields ≡ true
     → gathered (targets_of_field slot) n fields ≡ []
 no_targets slot n [] h = refl
-no_targets slot n (f ∷ fields) h =
-    let p = and_parts f.processed (list_all (λ f. f.processed) fields) h in
-    ap₂ ◌++◌ (ap (λ b. cond b [] (map (λ w. record { slot = slot; i = n; load = w }) f.waiting)) p.0) (no_targets slot _ fields p.1)
+no_targets slot n (f ∷ fields) h = grind (arith, no_targets slot (suc n) fields)
 
 -- the word's bytes outside the code
 abbrev filled_cell : Entry → Cell → Lanes → Cell
@@ -241,26 +237,15 @@ module _ (z : Sizes) (c : Cache) (h : IsSoundCache z c) (place : ℕ) (e : Entry
         at_hit : IsHit at → form_at z (turned registers1) at ≡ form_at z c at
         at_hit hit =
             let k = hit_frame at hit in
-            let buffer = (cell_in (turned registers1) (Some k.0) e.i).word in
-            form_at-live z _ at k.0 e.slot e.i (filling.stays (turned registers1) refl _ ∙ k.1)
-            (live1 _ ∙ hit_live at hit) (sym hit.2) ∙ ap
-            (λ x. Some (cond x.processed (bytes_of buffer)
-            (over_form x.code buffer (coming_form (turned registers1) e.slot e.i)))) own_field
-            ∙ ap (λ w. Some (bytes_of w)) (hit_cell registers1 at hit) ∙ sym (hit_before at hit)
+            let live = form_at-live z (turned registers1) at k.0 e.slot e.i (filling.stays (turned registers1) refl _ ∙ k.1)
+            (live1 _ ∙ hit_live at hit) (sym hit.2) in
+            cc (live, own_field, hit_cell registers1 at hit, hit_before at hit)
 
         elsewhere : (IsHit at → ⊥) → form_at z (turned registers1) at ≡ form_at z c at
         elsewhere n = form_at-same z c _ at (filling.stays (turned registers1) refl _) (live1 _)
             (ap (λ x. x.word) (cell_other registers1 at n)) (λ t k.
-            let l = live_for-some c _ t k in
-            let differs : t ≡ e.slot → place_in z at ≡ e.i
-            → ⊥ = λ q i. n (
-              rw q at l.0,
-              subst
-                  (λ x. (register_at c x).block ≡ block_of z at) q l.1,
-              sym i,
-            ) in
-            let f = other_field t _ differs in
-            (ap (λ x. x.processed) f, ap (λ x. x.code) f, other_word t _ differs))
+            let differs : t ≡ e.slot → place_in z at ≡ e.i → ⊥ = grind (arith, live_for-some c _ t k, n) in
+            grind (arith, other_field t _ differs, other_word t _ differs))
 
     -- ---- the words, where the register is free
 
@@ -283,20 +268,21 @@ module _ (z : Sizes) (c : Cache) (h : IsSoundCache z c) (place : ℕ) (e : Entry
             frames_of : (o : Option ℕ) → frame_of c (block_of z at) ≡ o → form_at z (turned registers2) at ≡ form_at z c at
             frames_of None q = form_at-absent z _ at (filling.stays (turned registers2) refl _ ∙ q) ∙ sym (form_at-absent z c at q)
             frames_of (Some k) q =
-                let w = (cell_in (turned registers1) (Some k) (place_in z at)).word in
                 let there = filling.stays (turned registers1) refl (block_of z at) ∙ q in
-                form_at-resident z (turned registers2) at k (filling.stays (turned registers2) refl _ ∙ q) gone
-                ∙ ap (λ b. Some (cond b (bytes_of w) (over_form (field_at (turned registers1) e.slot (place_in z at)).code w
-                (coming_form (turned registers1) e.slot (place_in z at))))) (sym (done_now all _ (mod-lt at h.some_words)))
-                ∙ sym (form_at-live z (turned registers1) at k e.slot _ there (live1 _ ∙ before) refl) ∙ words1 at
+                cc (
+                  form_at-resident z (turned registers2) at k (filling.stays (turned registers2) refl _ ∙ q) gone,
+                  done_now all (place_in z at) (mod-lt at h.some_words),
+                  form_at-live z (turned registers1) at k e.slot _ there (live1 _ ∙ before) refl,
+                  words1 at,
+                )
 
         other : serves (block_of z at) reg ≡ false → form_at z (turned registers2) at ≡ form_at z c at
         other s = form_at-same z c _ at (filling.stays (turned registers2) refl _)
             (live-stays c (turned registers2) e.slot free_register _ refl (sym s))
             (ap (λ x. x.word) (cell_other registers2 at not_hit)) (λ t k.
             let l = live_for-some c _ t k in
-            let far : t ≡ e.slot → ⊥ = λ q. not_here (ap (λ x. is_live (register_at c x)) (sym q) ∙ l.0)
-            (ap (λ x. (register_at c x).block) (sym q) ∙ l.1) in
+            let far : t ≡ e.slot → ⊥ = λ q. not_here (cc (q, l.0))
+            (cc (q, l.1)) in
             let same = get_or-set_other _ e.slot t free_register free_register far in (
               ap (λ r. (get_or r.fields (place_in z at) clear_field).processed) same,
               ap
@@ -328,7 +314,7 @@ module _ (z : Sizes) (c : Cache) (h : IsSoundCache z c) (place : ℕ) (e : Entry
         go : (ws : List Owed) → map (due_to c.stack) (map (λ w. record { slot = e.slot; i = e.i; load = w }) ws)
             ≡ map due_ready (answered e.word ws)
         go [] = refl
-        go (w ∷ ws) = ap₂ (λ x xs. x ∷ xs) (ap (λ f. record { tag = w.tag; form = f }) (one w)) (go ws)
+        go (w ∷ ws) = cc (one w, go ws)
 
     front : List Due
     front = map (due_to c.stack) part.front
@@ -344,10 +330,7 @@ module _ (z : Sizes) (c : Cache) (h : IsSoundCache z c) (place : ℕ) (e : Entry
     targets1 = part.then worked done waits.valid refl
 
     same_dues : map (due_to (remove c.stack place)) (targets registers1) ≡ map (due_to c.stack) (targets registers1)
-    same_dues = targets_map _ _ registers1 (λ t j w v p. ap
-        (λ o. let d : Due = record { tag = w.tag; form = over_form w.lanes w.held (missing_form o t j) } in d)
-        (other_word t j (λ a b. let here : get_or (get_or registers1 t free_register).fields j clear_field ≡ done = rw (a, b) own_field in
-        false≢true (sym p ∙ ap (λ x. x.processed) here))))
+    same_dues = targets_map _ _ registers1 (λ t j w v p. (cc (other_word t j (λ a b. grind (arith, own_field)))))
 
     dues_after : (registers : List Register) → targets registers ≡ targets registers1
         → dues (turned registers) ≡ (map due_ready c.ready ++ seg) ++ (front ++ back)
@@ -371,20 +354,21 @@ module _ (z : Sizes) (c : Cache) (h : IsSoundCache z c) (place : ℕ) (e : Entry
         → tally p (tags (turned registers)) ≡ tally p (tags c)
     passing p registers same =
         let q : Due → Bool = λ d. p d.tag in
-        sym (dues-passing p _) ∙ ap (tally q) (dues_after registers same)
-        ∙ tally_swapped q _ seg front back ∙ ap (tally q) (sym dues_before) ∙ dues-passing p c
+        cc (
+          dues-passing p (turned registers),
+          dues_after registers same,
+          tally_swapped q (map due_ready c.ready) seg front back,
+          dues_before,
+          dues-passing p c,
+        )
 
     -- ---- what is waited for
-
-    abbrev waits_in : ℕ → Register → Bool
-    waits_in j r = r.valid && (nat_lt j z.block_words && not (get_or r.fields j clear_field).processed)
 
     own1 : waits_for z (turned registers1) e.slot e.i ≡ false
     own1 = grind (arith, own_field, never)
 
     waits1 : (t j : ℕ) → (t ≡ e.slot → j ≡ e.i → ⊥) → waits_for z (turned registers1) t j ≡ waits_for z c t j
-    waits1 t j n = ap₂ (λ x y. x && (nat_lt j z.block_words && not y)) (same_at _ e.slot e.i done (λ r. r.valid) refl t)
-        (ap (λ x. x.processed) (other_field t j n))
+    waits1 t j n = cc (same_at _ e.slot e.i done (λ r. r.valid) refl t, other_field t j n)
 
     own2 : (j : ℕ) → waits_for z (turned registers2) e.slot j ≡ false
     own2 j = grind (arith, get_or-set_same, slot_there)
@@ -404,7 +388,7 @@ module _ (z : Sizes) (c : Cache) (h : IsSoundCache z c) (place : ℕ) (e : Entry
             ≡ cell_of c (block_of z at) (place_in z at)) ⊎ HasCome z c (turned registers) at
         come hit =
             let k = hit_frame at hit in
-            let here = filling.here hit.0 k.0 (ap (frame_of c) hit.1 ∙ k.1) in
+            let here = filling.here hit.0 k.0 (cc (hit.1, k.1)) in
             let cell = ap₂ (λ o j. cell_in (turned registers) o j) (filling.stays (turned registers) refl _ ∙ k.1) (sym hit.2) ∙ here in
             inr (record { dirty = grind arith; form = cc (same, hit_before at hit, cell) })
 
@@ -450,13 +434,8 @@ module _ (z : Sizes) (c : Cache) (h : IsSoundCache z c) (place : ℕ) (e : Entry
             stays = λ d ed b. frame-stays c d f _ b ed refl;
             others = λ k j n. nested_other (λ x. x.cells) with_cells
                 (λ x ys. refl) empty_frame zero_cell _ f e.i k j cell' (λ p r. n l (cc (p, at_f.1)) r);
-            here = λ l' k p.
-                let same : f ≡ k = cc in
-                let there = nested_same (λ x. x.cells) with_cells
-                (λ x ys. refl) empty_frame zero_cell _ f e.i cell' at_f.0 room in
-                let new = set _ f _ in
-                subst (λ x. get_or (get_or new x empty_frame).cells e.i zero_cell
-                ≡ filled_cell e (get_or (frame_at c x).cells e.i zero_cell) fld.code) same there;
+            here = λ l' k p. (cc (nested_same (λ x. x.cells) with_cells
+                (λ x ys. refl) empty_frame zero_cell c.directory.frames f e.i cell' at_f.0 room));
             like = frames_like-set _ f _ refl
                 (length-set (frame_at c f).cells e.i cell');
           }
@@ -469,25 +448,14 @@ module _ (z : Sizes) (c : Cache) (h : IsSoundCache z c) (place : ℕ) (e : Entry
   settled_filling frames h (Some f) =
       let d = record c { directory = record c.directory { frames = frames } } in
       let new = settled (get_or frames f empty_frame) in
-      let read = cell_settled frames f in
-      let like = frames_like-settled frames f in
+      let read = λ (k j : ℕ). read_set (λ x. get_or x.cells j zero_cell) empty_frame frames f new refl k in
+      let like = frames_like-set frames f new refl refl in
       record {
-        stays = λ x ex b. frame-stays d x f new b ex (same_block frames f b) ∙ h.stays d refl b;
+        stays = λ x ex b. frame-stays d x f new b ex refl ∙ h.stays d refl b;
         others = grind arith;
         here = grind arith;
         like = grind arith;
       }
-    where
-      cell_settled : (fs : List Frame) (f k j : ℕ)
-          → get_or (get_or (set fs f (settled (get_or fs f empty_frame))) k empty_frame).cells j zero_cell
-          ≡ get_or (get_or fs k empty_frame).cells j zero_cell
-      cell_settled fs f k j = read_set (λ x. get_or x.cells j zero_cell) empty_frame fs f _ refl k
-
-      frames_like-settled : (fs : List Frame) (f : ℕ) → FramesLike fs (set fs f (settled (get_or fs f empty_frame)))
-      frames_like-settled fs f = frames_like-set fs f _ refl refl
-
-      same_block : (fs : List Frame) (f b : ℕ) → holds b (settled (get_or fs f empty_frame)) ≡ holds b (get_or fs f empty_frame)
-      same_block fs f b = refl
 
   last : Bool
   last = is_live reg && is_done (finished_fields reg e.i)
@@ -516,12 +484,7 @@ module _ (z : Sizes) (c : Cache) (h : IsSoundCache z c) (place : ℕ) (e : Entry
   unfolding processed after
   processed-by = grind (arith, after, settled_only, turned_by, turned_frames)
 
-process_ok : (z : Sizes) (c : Cache) → IsSoundCache z c → (place : ℕ) (o : Option Entry) → slice_get c.stack place ≡ o
-    → forms z (process_entry c place o).cache ≡ forms z c
-process_ok z c h place None e = refl
-process_ok z c h place (Some x) e = (processed-by z c h place x e).same_forms
-
 pub process_forms : (z : Sizes) (c : Cache) → IsSoundCache z c → (place : ℕ)
     → ProcessForms z c (process_step c place).answer (process_step c place).cache
 unfolding ProcessForms process_step
-process_forms z c h place = process_ok z c h place _ refl
+process_forms z c h place = grind (arith, processed-by z c h place)

@@ -1,6 +1,6 @@
 -- The forms of a block's words: a store, a load, and a miss.
 use Rattle.std.proofs.Common.{◌≡◌, ℕ, ◌<◌, Bool, true, false, cond, List, length, get_or, set, Option, Some, None, option_map, refl, sym}
-use Rattle.std.proofs.Common.{ap, ◌∙◌, subst, arith, length-set, mod-lt, eq-eqb, not, ◌&&◌, ◌||◌, nat_lt, [], ◌∷◌, ◌++◌, map, ap₂, zero}
+use Rattle.std.proofs.Common.{ap, ◌∙◌, arith, length-set, mod-lt, eq-eqb, ◌||◌, [], ◌∷◌, ◌++◌, map, zero}
 use Rattle.std.proofs.Common.{suc, ◌+◌, ◌⊎◌, inr, ⊎_elim, get_or-set_same, get_or-set_other, ne_eqb}
 use Rattle.std.proofs.lemmas.Bool.{cases_eq}
 use Rattle.flat_model.specs.declared.Word.{Word}
@@ -13,14 +13,14 @@ use Rattle.cache_directory.specs.Frames.{zero_cell}
 use Rattle.cache_unit.specs.State.{Frame, Field, Register, Cache, empty_frame, clear_field, free_register, frame_at, frame_of, register_at}
 use Rattle.cache_unit.specs.State.{field_at, is_live, live_for, cell_in, cell_of, targets, tags, with_cell, with_field, block_of, place_in}
 use Rattle.cache_unit.specs.State.{Target, is_present, gathered, targets_of, targets_of_field, first_of}
-use Rattle.cache_unit.specs.Steps.{noted, written_in, written, replied, awaited, loaded}
-use Rattle.cache_unit.specs.Forms.{Form, bytes_of, coming_form, over_form, form_in, owed, Asked, missing_form}
+use Rattle.cache_unit.specs.Steps.{written, replied, awaited, loaded}
+use Rattle.cache_unit.specs.Forms.{Form, bytes_of, coming_form, over_form, form_in, owed}
 use Rattle.cache_unit.specs.FormLaws.{form_at, but_at, words_without, asked_form, missed_words, fetched_words}
 use Rattle.cache_unit.proofs.Lists.{in_range, nested_same, nested_other, word_part, frame_of-some, live_for-some, with_field_in, same_at}
 use Rattle.cache_unit.proofs.Lists.{field_elsewhere, field_here, field_part, frame-stays, live-stays, waits_for, frames_like-set}
 use Rattle.cache_unit.proofs.Lists.{RegistersWithin, registers_within-set, Within, within_like, Beside, Adds, Adds-push, Adds-left}
 use Rattle.cache_unit.proofs.Lists.{Adds-right, Adds-map, Adds-same, with_fields, frames_like-same, registers_within-same, gathered_part}
-use Rattle.cache_unit.proofs.Lists.{none_in_frames, frame-comes, frame-goes, holds-not, live-comes, serves-not, stack_word-none}
+use Rattle.cache_unit.proofs.Lists.{none_in_frames, frame-comes, frame-goes, holds-not, live-comes, stack_word-none}
 use Rattle.cache_unit.proofs.FormsEvents.{form_at-same, form_at-live, form_at-resident, owed-same, due_ready, dues, has_tag, owed-due}
 use Rattle.cache_unit.proofs.FormsEvents.{tags-dues, due_in-added, form_at-absent, cell-other}
 use Rattle.input_stack.specs.Stack.{stack_word}
@@ -31,7 +31,7 @@ use Rattle.cache_unit.specs.Counts.{tally}
 use Rattle.std.specs.List.{range_with_len}
 use Rattle.std.proofs.lemmas.List.FromFn.{length-map-range_with_len}
 use Rattle.write_queue.specs.declared.Queued.{Queued}
-use Rattle.write_queue.specs.Queue.{overlaid, queued_lanes}
+use Rattle.write_queue.specs.Queue.{overlaid}
 use Rattle.cache_unit.specs.Begun.{begun_frame, begun_register, begun_field}
 use Rattle.cache_unit.specs.SoundCache.{IsSoundCache}
 use Rattle.cache_directory.specs.Frames as dir
@@ -128,9 +128,6 @@ module _ (z : Sizes) (some : 0 < z.block_words) (c : Cache) (at : ℕ) (hit : Hi
 
   -- ---- the unit with the word written
 
-  k : ℕ
-  k = hit.frame
-
   abbrev old_cell : Cell
   old_cell = get_or (frame_at c hit.frame).cells (place_in z at) zero_cell
 
@@ -163,17 +160,12 @@ module _ (z : Sizes) (some : 0 < z.block_words) (c : Cache) (at : ℕ) (hit : Hi
     apart a n b i = grind arith
 
     cell_other : (a : ℕ) → (a ≡ at → ⊥) → cell_of stored (block_of z a) (place_in z a) ≡ cell_of c (block_of z a) (place_in z a)
-    cell_other a n = ap (λ o. cell_in stored o (place_in z a)) (frames_same _) ∙ go _ refl
+    cell_other a n = cc (frames_same (block_of z a), go _ refl)
       where
         go : (o : Option ℕ) → frame_of c (block_of z a) ≡ o → cell_in stored o (place_in z a) ≡ cell_in c o (place_in z a)
         go None e = refl
-        go (Some f) e =
-            let p = frame_of-some _ _ f e in
-            nested_other (λ x. x.cells) with_cells
-            (λ x ys. refl) empty_frame zero_cell _ hit.frame _ f _ new_cell (λ q i.
-            let same = sym p.1 ∙ ap (λ x. (frame_at c x).block) q ∙ at_k.1 in
-            let b : block_of z a ≡ block_of z at = cc in
-            apart a n b i)
+        go (Some f) e = nested_other (λ x. x.cells) with_cells (λ x ys. refl) empty_frame zero_cell _ hit.frame _ f _ new_cell
+            (λ q i. grind (arith, frame_of-some c.directory.frames _ f e, at_k, apart a n))
 
     other_word : (a : ℕ) → (a ≡ at → ⊥) → form_at z stored a ≡ form_at z c a
     other_word a n = form_at-same z c stored a (frames_same _) (note.stays stored refl _) (ap (λ x. x.word) (cell_other a n)) (λ t e. (
@@ -189,9 +181,6 @@ module _ (z : Sizes) (some : 0 < z.block_words) (c : Cache) (at : ℕ) (hit : Hi
         frame' : frame_of stored (block_of z at) ≡ Some hit.frame
         frame' = frames_same _ ∙ hit.present
 
-        over : Option Form → Option Form
-        over o = option_map (over_form lanes w) o
-
         go : (o : Option ℕ) → live_for c (block_of z at) ≡ o → form_at z stored at ≡ option_map (over_form lanes w) (form_at z c at)
         go None e = cc (
           form_at-resident z stored at hit.frame frame' (note.stays stored refl _ ∙ e),
@@ -202,29 +191,21 @@ module _ (z : Sizes) (some : 0 < z.block_words) (c : Cache) (at : ℕ) (hit : Hi
         go (Some s) e = by_field (field_at c s _).processed refl
           where
             after : form_at z stored at ≡ Some (form_in stored (Some s) (place_in z at) new_cell.word)
-            after = form_at-live z stored at hit.frame s _ frame' (note.stays stored refl _ ∙ e) refl
-                ∙ ap (λ x. Some (form_in stored (Some s) (place_in z at) x.word)) cell_there
+            after = cc (form_at-live z stored at hit.frame s _ frame' (note.stays stored refl _ ∙ e) refl, cell_there)
 
             before : form_at z c at ≡ Some (form_in c (Some s) (place_in z at) old_cell.word)
             before = grind (arith, form_at-live)
 
-            come : Form
-            come = coming_form c s (place_in z at)
-
             by_field : (p : Bool) → (field_at c s (place_in z at)).processed ≡ p
                 → form_at z stored at ≡ option_map (over_form lanes w) (form_at z c at)
-            by_field true p = after ∙ ap (λ b. Some (cond b (bytes_of new_cell.word)
-                (over_form (field_at stored s (place_in z at)).code new_cell.word (coming_form c s (place_in z at)))))
-                (note.same_processed s _ ∙ p) ∙ ap Some (bytes-merged old_cell.word w lanes) ∙ sym (ap (option_map _)
-                (before ∙ ap (λ b. Some (cond b (bytes_of old_cell.word)
-                (over_form (field_at c s (place_in z at)).code old_cell.word (coming_form c s (place_in z at))))) p))
-            by_field false p = after ∙ ap (λ b. Some (cond b (bytes_of new_cell.word)
-                (over_form (field_at stored s (place_in z at)).code new_cell.word (coming_form c s (place_in z at)))))
-                (note.same_processed s _ ∙ p)
-                ∙ ap (λ m. Some (over_form m new_cell.word (coming_form c s (place_in z at)))) (note.own_code s e p)
-                ∙ ap Some (over-joined old_cell.word w (field_at c s _).code lanes _) ∙ sym (ap (option_map _)
-                (before ∙ ap (λ b. Some (cond b (bytes_of old_cell.word)
-                (over_form (field_at c s (place_in z at)).code old_cell.word (coming_form c s (place_in z at))))) p))
+            by_field true p = cc (after, note.same_processed s (place_in z at), bytes-merged old_cell.word w lanes, before)
+            by_field false p = cc (
+              after,
+              note.same_processed s (place_in z at),
+              note.own_code s e p,
+              over-joined old_cell.word w (field_at c s (place_in z at)).code lanes (coming_form c s (place_in z at)),
+              before,
+            )
 
     stored_word : (a : ℕ) → form_at z stored a ≡ but_at (form_at z c) at (option_map (over_form lanes w) (form_at z c at)) a
     stored_word a = grind (arith, cases_eq, own_word, eq-eqb, other_word)
@@ -260,48 +241,20 @@ pub record StoredBy (z : Sizes) (c : Cache) (at : ℕ) (w : Word) (lanes : Lanes
 pub stored-by : (z : Sizes) → 0 < z.block_words → (c : Cache) (at : ℕ) → Hit z c (block_of z at) → (w : Word) (lanes : Lanes)
     → StoredBy z c at w lanes (written c (block_of z at) (place_in z at) w lanes)
 unfolding with_cell with_field
-stored-by z some c at hit w lanes = rw hit.present (go _ refl)
-  where
-    i : ℕ
-    i = place_in z at
-
-    ok : (o : Option ℕ) (e : live_for c (block_of z at) ≡ o)
-        → StoredBy z c at w lanes (stored z some c at hit w lanes (noted_in c o (place_in z at) lanes)
-        (subst (λ x. NotedBy c x (place_in z at) lanes (noted_in c o (place_in z at) lanes)) (sym e) (noting z some c at hit w lanes o e)))
-    ok o e =
-        let n = subst (λ x. NotedBy c x (place_in z at) lanes (noted_in c o (place_in z at) lanes)) (sym e)
-        (noting z some c at hit w lanes o e) in
-        let d = stored z some c at hit w lanes _ n in
-        record {
-          words = stored_word z some c at hit w lanes _ n;
-          owing = owed-same c d refl n.same_targets refl;
-          frame = hit.frame;
-          present = stored_present z some c at hit w lanes _ n;
-          beside = stored_beside z some c at hit w lanes _ n;
-          same_tags = grind arith;
-          cell = stored_cell z some c at hit w lanes _ n;
-          cells = cell_other z some c at hit w lanes _ n;
-        }
-
-    d : Cache
-    d = written_in c (Some hit.frame) (place_in z at) w lanes
-
-    with_noted : ℕ → Bool → Cache
-    with_noted s x = record d {
-      registers = cond x c.registers
-          (with_field_in c.registers s (place_in z at)
-          (record (field_at c s (place_in z at)) { code = joined (field_at c s (place_in z at)).code lanes }));
-    }
-
-    by_field : (s : ℕ) (e : live_for c (block_of z at) ≡ Some s) (b : Bool) → (field_at c s (place_in z at)).processed ≡ b
-        → StoredBy z c at w lanes (cond b d (with_field d s (place_in z at)
-        (record (field_at c s (place_in z at)) { code = joined (field_at c s (place_in z at)).code lanes })))
-    by_field s e true p = rw p at (ok _ e)
-    by_field s e false p = subst (λ x. StoredBy z c at w lanes (with_noted s x)) p (ok _ e)
-
-    go : (o : Option ℕ) → live_for c (block_of z at) ≡ o → StoredBy z c at w lanes (noted d o (place_in z at) lanes)
-    go None e = ok None e
-    go (Some s) e = by_field s e (field_at c s _).processed refl
+stored-by z some c at hit w lanes =
+    let note = noting z some c at hit w lanes _ refl in
+    let is : written c (block_of z at) (place_in z at) w lanes
+    ≡ stored z some c at hit w lanes (noted_in c (live_for c (block_of z at)) (place_in z at) lanes) note = grind (arith, hit.present) in
+    rw is (record {
+      words = stored_word z some c at hit w lanes _ note;
+      owing = owed-same c (stored z some c at hit w lanes _ note) refl note.same_targets refl;
+      frame = hit.frame;
+      present = stored_present z some c at hit w lanes _ note;
+      beside = stored_beside z some c at hit w lanes _ note;
+      same_tags = cc note.same_targets;
+      cell = stored_cell z some c at hit w lanes _ note;
+      cells = cell_other z some c at hit w lanes _ note;
+    })
 
 -- ---- A load of a word of a present block.
 
@@ -325,13 +278,17 @@ pub record LoadedBy (z : Sizes) (c : Cache) (tag at : ℕ) (d : Cache) : Type 0 
 
 module _ (z : Sizes) (some : 0 < z.block_words) (c : Cache) (tag at : ℕ) (hit : Hit z c (block_of z at))
     (fresh : tally (has_tag tag) (dues c) ≡ 0) where
+  -- the word's place in its block
+  abbrev own_place : ℕ
+  own_place = place_in z at
+
   owed-more : (form : Form) → form_at z c at ≡ Some form → (d : Cache) → Adds (record { tag = tag; form = form }) (dues c) (dues d)
       → (t : ℕ) → owed d t ≡ but_at (owed c) tag (form_at z c at) t
   owed-more form right d more t = cc (owed-due d t, due_in-added (record { tag = tag; form = form }) _ _ more fresh t, owed-due c t, right)
 
   tags-more : (form : Form) (d : Cache) → Adds (record { tag = tag; form = form }) (dues c) (dues d) → Adds tag (tags c) (tags d)
-  tags-more form d more = Adds-same tag _ _ _ _ (sym (tags-dues c)) (sym (tags-dues d))
-      (Adds-map (λ x. x.tag) (record { tag = tag; form = form }) _ _ more)
+  tags-more form d more =
+      rw (← tags-dues c, ← tags-dues d) (Adds-map (λ x. x.tag) (record { tag = tag; form = form }) _ _ more)
 
   -- ---- the word is ready
 
@@ -359,12 +316,12 @@ module _ (z : Sizes) (some : 0 < z.block_words) (c : Cache) (tag at : ℕ) (hit 
 
   -- ---- the tag waits for the word
 
-  module _ (s : ℕ) (live : live_for c (block_of z at) ≡ Some s) (missing : (field_at c s (place_in z at)).processed ≡ false) where
+  module _ (s : ℕ) (live : live_for c (block_of z at) ≡ Some s) (missing : (field_at c s own_place).processed ≡ false) where
     abbrev fld : Field
-    fld = field_at c s (place_in z at)
+    fld = field_at c s own_place
 
     abbrev buffer : Word
-    buffer = (cell_of c (block_of z at) (place_in z at)).word
+    buffer = (cell_of c (block_of z at) own_place).word
 
     abbrev load : Owed
     load = record { tag = tag; lanes = fld.code; held = merged zero_word buffer fld.code }
@@ -373,25 +330,21 @@ module _ (z : Sizes) (some : 0 < z.block_words) (c : Cache) (tag at : ℕ) (hit 
     longer = record fld { waiting = fld.waiting ++ load ∷ [] }
 
     abbrev waiting_more : Cache
-    waiting_more = record c { registers = with_field_in c.registers s (place_in z at) longer }
+    waiting_more = record c { registers = with_field_in c.registers s own_place longer }
 
-    fit : Fits c s (place_in z at)
+    fit : Fits c s own_place
     fit = fits z some c at hit s live
 
     awaited_words : (a : ℕ) → form_at z waiting_more a ≡ form_at z c a
     unfolding dir.frame_of
-    awaited_words a = form_at-same z c waiting_more a refl (live-stays c waiting_more s
-        _ _ refl refl) refl
-        (λ t e. (
-          field_part _ s _ longer
-              (λ x. x.processed) (fit).slot_there (fit).field_there refl t _,
-          field_part _ s
-              _ longer (λ x. x.code) (fit).slot_there (fit).field_there refl t _,
-          refl,
-        ))
+    awaited_words a = form_at-same z c waiting_more a refl (live-stays c waiting_more s _ _ refl refl) refl (λ t e. (
+      field_part _ s _ longer (λ x. x.processed) fit.slot_there fit.field_there refl t _,
+      field_part _ s _ longer (λ x. x.code) fit.slot_there fit.field_there refl t _,
+      refl,
+    ))
 
     told : Form
-    told = over_form fld.code (merged zero_word buffer fld.code) (coming_form c s (place_in z at))
+    told = over_form fld.code (merged zero_word buffer fld.code) (coming_form c s own_place)
 
     right_form : form_at z c at ≡ Some told
     unfolding told
@@ -406,13 +359,12 @@ module _ (z : Sizes) (some : 0 < z.block_words) (c : Cache) (tag at : ℕ) (hit 
     unfolding dues told
     more_dues =
         let p = word_part _ s _ (fit).valid (fit).field_there in
-        let t : Target = record { slot = s; i = place_in z at; load = load } in
-        let mk : Owed → Target = λ w. record { slot = s; i = place_in z at; load = w } in
-        let seg = ap (λ b. cond b [] (map mk fld.waiting)) missing in
-        let seg' = ap (λ b. cond b [] (map mk (fld.waiting ++ load ∷ []))) missing in
+        let t : Target = record { slot = s; i = own_place; load = load } in
+        let mk : Owed → Target = λ w. record { slot = s; i = own_place; load = w } in
         let all = Adds-left p.front t _ _ (Adds-right p.back t _ _ (Adds-map mk load _ _ (Adds-push load fld.waiting))) in
-        let before = p.now ∙ ap (λ l. p.front ++ (l ++ p.back)) seg in
-        let after = p.then _ longer (fit).valid refl ∙ ap (λ l. p.front ++ (l ++ p.back)) seg' in
+        let before : targets c.registers ≡ p.front ++ (map mk fld.waiting ++ p.back) = cc (p.now, missing) in
+        let after : targets waiting_more.registers ≡ p.front ++ (map mk (fld.waiting ++ load ∷ []) ++ p.back) =
+        cc (p.then (with_fields (register_at c s) (set (register_at c s).fields own_place longer)) longer fit.valid refl, missing) in
         Adds-left _ _ _ _ (Adds-map _ t _ _ (Adds-same t _ _ _ _ before after all))
 
     awaited_beside : Beside z c waiting_more
@@ -421,15 +373,16 @@ module _ (z : Sizes) (some : 0 < z.block_words) (c : Cache) (tag at : ℕ) (hit 
         (λ v. (v, length-set (register_at c s).fields _ longer)) in
         record {
           within = within_like c waiting_more (frames_like-same _) registers;
-          waits = λ t j. ap₂ (λ x y. x && (nat_lt j z.block_words && not y))
-              (same_at _ s _ longer (λ r. r.valid) refl t)
-              (field_part _ s _ longer (λ x. x.processed) (fit).slot_there (fit).field_there refl t j);
+          waits = λ t j. (cc (
+            same_at _ s _ longer (λ r. r.valid) refl t,
+            field_part _ s _ longer (λ x. x.processed) fit.slot_there fit.field_there refl t j,
+          ));
           orders = refl;
           stack = refl;
           queue = refl;
         }
 
-    awaited_ok : LoadedBy z c tag at (awaited c s (place_in z at) tag buffer)
+    awaited_ok : LoadedBy z c tag at (awaited c s own_place tag buffer)
     unfolding with_field dir.frame_of
     awaited_ok = record {
       words = awaited_words;
@@ -444,40 +397,34 @@ module _ (z : Sizes) (some : 0 < z.block_words) (c : Cache) (tag at : ℕ) (hit 
   -- ---- all cases
 
   abbrev buf : Word
-  buf = (cell_of c (block_of z at) (place_in z at)).word
+  buf = (cell_of c (block_of z at) own_place).word
 
   after_load : Found → Cache
-  after_load f = loaded c tag (place_in z at) (cell_of c (block_of z at) (place_in z at)).word f
+  after_load f = loaded c tag own_place (cell_of c (block_of z at) own_place).word f
 
-  in_register : (s : ℕ) → live_for c (block_of z at) ≡ Some s → LoadedBy z c tag at (after_load (found_in c (Some s) (place_in z at) buf))
+  in_register : (s : ℕ) → live_for c (block_of z at) ≡ Some s → LoadedBy z c tag at (after_load (found_in c (Some s) own_place buf))
   unfolding after_load
-  in_register s live = go (field_at c s _).processed refl _ refl
+  in_register s live = go (field_at c s own_place).processed refl _ refl _ refl
     where
       f : Field
-      f = field_at c s (place_in z at)
+      f = field_at c s own_place
 
-      shown : (p : Bool) → (field_at c s (place_in z at)).processed ≡ p → form_at z c at ≡ Some (cond p (bytes_of buf)
-          (over_form (field_at c s (place_in z at)).code buf (coming_form c s (place_in z at))))
-      shown p e = cc (form_at-live z c at hit.frame s _ hit.present live refl, hit.present, e)
+      shown : form_at z c at ≡ Some (form_in c (Some s) own_place buf)
+      shown = cc (form_at-live z c at hit.frame s _ hit.present live refl, hit.present)
 
-      in_stack : (o : Option Word) → stack_word c.stack s (place_in z at) ≡ o → (field_at c s (place_in z at)).processed ≡ false
-          → LoadedBy z c tag at (after_load (found_missing o s (field_at c s (place_in z at)).code buf))
-      in_stack (Some w) e p = replied_ok _
-          (cc (shown false p, e, ap Some (sym (bytes-merged w buf (field_at c s _).code))))
-      in_stack None e p = awaited_ok s live p
-
-      go : (p : Bool) → (field_at c s (place_in z at)).processed ≡ p → (q : Bool) → has_all (field_at c s (place_in z at)).code ≡ q
-          → LoadedBy z c tag at (after_load (cond (p || q) (Here buf)
-          (found_missing (stack_word c.stack s (place_in z at)) s (field_at c s (place_in z at)).code buf)))
-      go true e q r = replied_ok buf (shown true e)
-      go false e true r = replied_ok buf (shown false e ∙ ap Some (over-all (field_at c s _).code buf _ r))
-      go false e false r = in_stack _ refl e
+      go : (p : Bool) → (field_at c s own_place).processed ≡ p → (q : Bool) → has_all (field_at c s own_place).code ≡ q
+          → (o : Option Word) → stack_word c.stack s own_place ≡ o → LoadedBy z c tag at (after_load (cond (p || q) (Here buf)
+          (found_missing o s (field_at c s own_place).code buf)))
+      go true e q r o k = replied_ok buf (cc (shown, e))
+      go false e true r o k = replied_ok buf (cc (shown, e, over-all (field_at c s own_place).code buf _ r))
+      go false e false r (Some w) k = replied_ok _ (cc (shown, e, k, bytes-merged w buf (field_at c s own_place).code))
+      go false e false r None k = awaited_ok s live e
 
   pub loaded-by : LoadedBy z c tag at (loaded c tag (place_in z at) buf (found c (block_of z at) (place_in z at)))
   unfolding after_load
   loaded-by = go _ refl
     where
-      go : (o : Option ℕ) → live_for c (block_of z at) ≡ o → LoadedBy z c tag at (after_load (found_in c o (place_in z at) buf))
+      go : (o : Option ℕ) → live_for c (block_of z at) ≡ o → LoadedBy z c tag at (after_load (found_in c o own_place buf))
       go None e = replied_ok buf (cc (form_at-resident z c at hit.frame hit.present e, hit.present))
       go (Some s) e = in_register s e
 
@@ -486,7 +433,7 @@ module _ (z : Sizes) (some : 0 < z.block_words) (c : Cache) (tag at : ℕ) (hit 
 pub range_at : {X : Type 0} (g : ℕ → X) (d : X) (a n j : ℕ) → j < n → get_or (map g (range_with_len a n)) j d ≡ g (a + j)
 range_at g d a zero j l = absurd (omega arith)
 range_at g d a (suc n) zero l = grind arith
-range_at g d a (suc n) (suc j) l = let e : a + 1 + j ≡ a + suc j = omega arith in range_at g d (a + 1) n j (omega arith) ∙ ap g e
+range_at g d a (suc n) (suc j) l = grind (arith, range_at g d (a + 1) n j)
 
 pub no_loads : (queue : List Queued) (slot n a k : ℕ)
     → gathered (targets_of_field slot) n (map (begun_field queue) (range_with_len a k)) ≡ []
@@ -558,8 +505,7 @@ module _ (z : Sizes) (c : Cache) (h : IsSoundCache z c) (block f slot : ℕ) (ab
   own_register = get_or-set_same _ slot _ free_register slot_there
 
   found_now : frame_of with_block block ≡ Some f
-  found_now = frame-comes c with_block f _ block refl f_there refl
-      (λ k e. absurd (none_in_frames c block absent k e))
+  found_now = frame-comes c with_block f _ block refl f_there refl (λ k e. absurd (none_in_frames c block absent k e))
 
   live_now : live_for with_block block ≡ Some slot
   live_now = live-comes c with_block slot _ block refl slot_there (eq-eqb block block refl)
@@ -569,8 +515,7 @@ module _ (z : Sizes) (c : Cache) (h : IsSoundCache z c) (block f slot : ℕ) (ab
   not_live l = grind arith
 
   live_same : (b : ℕ) → (b ≡ block → ⊥) → live_for with_block b ≡ live_for c b
-  live_same b n = live-stays c with_block slot _ b refl
-      (ne_eqb block b (λ q. n (sym q)) ∙ sym (serves-not (register_at c slot) b (λ l e. not_live l)))
+  live_same b n = live-stays c with_block slot _ b refl (grind (arith, not_live, ne_eqb))
 
   block_other : (b : ℕ) → (b ≡ block → ⊥) → Some block ≡ Some b → ⊥
   block_other b n q = grind arith
@@ -580,7 +525,7 @@ module _ (z : Sizes) (c : Cache) (h : IsSoundCache z c) (block f slot : ℕ) (ab
       (λ k q. h.frames_apart k f b q e)
 
   frame_same : (b : ℕ) → (b ≡ block → ⊥) → ((frame_at c f).block ≡ Some b → ⊥) → frame_of with_block b ≡ frame_of c b
-  frame_same b n far = frame-stays c with_block f _ b refl (ne_eqb block b (λ q. n (sym q)) ∙ sym (holds-not (frame_at c f) b far))
+  frame_same b n far = frame-stays c with_block f _ b refl (grind (arith, ne_eqb, holds-not))
 
   cell_same : (at : ℕ) → (block_of z at ≡ block → ⊥) → ((frame_at c f).block ≡ Some (block_of z at) → ⊥)
       → cell_of with_block (block_of z at) (place_in z at) ≡ cell_of c (block_of z at) (place_in z at)
@@ -598,21 +543,18 @@ module _ (z : Sizes) (c : Cache) (h : IsSoundCache z c) (block f slot : ℕ) (ab
   none_came : (j : ℕ) → stack_word c.stack slot j ≡ None
   none_came j = grind (arith, stack_word-none)
 
-  abbrev form_with : ℕ → Word → Field → Option Word → Form
-  form_with j w x o = cond x.processed (bytes_of w) (over_form x.code w (missing_form o slot j))
-
   word_asked : (at : ℕ) → block_of z at ≡ block → form_at z with_block at ≡ Some (asked_form z queue_then slot at)
   word_asked at e =
       let j = place_in z at in
       let l = mod-lt at h.some_words in
       let a = ap (λ b. first_of z b + place_in z at) (sym e) ∙ address_is z at in
-      let w = overlaid zero_word queue_then _ in
-      form_at-live z with_block at f slot _ (ap (frame_of with_block) e ∙ found_now)
-      (ap (live_for with_block) e ∙ live_now) refl ∙ ap (λ x. Some (form_in with_block (Some slot) (place_in z at) x.word)) (own_cell _ l)
-      ∙ ap (λ x. Some (form_with (place_in z at) w x (stack_word c.stack slot (place_in z at)))) (own_field _ l)
-      ∙ ap (λ o. Some (over_form (queued_lanes queue_then (first_of z block + place_in z at)) w
-      (missing_form o slot (place_in z at)))) (none_came _)
-      ∙ ap (λ n. Some (over_form (queued_lanes queue_then n) (overlaid zero_word queue_then n) (λ k. Asked slot (place_in z at) k))) a
+      cc (
+        form_at-live z with_block at f slot _ (cc (e, found_now)) (cc (e, live_now)) refl,
+        own_cell j l,
+        own_field j l,
+        none_came j,
+        a,
+      )
 
   -- ---- the other words
 
@@ -635,15 +577,8 @@ module _ (z : Sizes) (c : Cache) (h : IsSoundCache z c) (block f slot : ℕ) (ab
       stays far =
           let no = holds-not (frame_at c f) _ far in
           cc (
-            form_at-same z c with_block at (frame_same _ n far) (live_same _ n)
-                (ap (λ x. x.word) (cell_same at n far)) (λ t l.
-                let same = get_or-set_other _ slot t _ free_register
-                (λ q. not_live (ap (λ x. is_live (register_at c x)) (sym q) ∙ (live_for-some c _ t l).0)) in (
-                  ap (λ r. (get_or r.fields (place_in z at) clear_field).processed) same,
-                  ap
-                      (λ r. (get_or r.fields (place_in z at) clear_field).code) same,
-                  refl,
-                )),
+            form_at-same z c with_block at (frame_same _ n far) (live_same _ n) (ap (λ x. x.word) (cell_same at n far))
+                (λ t l. grind (arith, get_or-set_other, not_live, live_for-some)),
             no,
           )
 
@@ -656,8 +591,12 @@ module _ (z : Sizes) (c : Cache) (h : IsSoundCache z c) (block f slot : ℕ) (ab
   unfolding targets
   targets_kept =
       let p = gathered_part targets_of free_register 0 _ slot slot_there in
-      p.then _ ∙ ap (λ l. p.front ++ (l ++ p.back)) (no_loads queue_then _ 0 _ z.block_words
-      ∙ sym (ap (λ v. cond v (gathered (targets_of_field (0 + slot)) 0 (register_at c slot).fields) []) invalid)) ∙ sym p.now
+      cc (
+        p.then (begun_register z.block_words queue_then block f),
+        no_loads queue_then (0 + slot) 0 (first_of z block) z.block_words,
+        invalid,
+        p.now,
+      )
 
   pub missed-by : MissedBy z c block f slot with_block
   missed-by = record {
@@ -673,8 +612,7 @@ module _ (z : Sizes) (c : Cache) (h : IsSoundCache z c) (block f slot : ℕ) (ab
     same_stack = refl;
     queue = refl;
     clean = λ at e.
-        ap (λ o. (cell_in with_block o (place_in z at)).dirty) (ap (frame_of with_block) e ∙ found_now)
-        ∙ ap (λ x. x.dirty) (own_cell _ (mod-lt at h.some_words));
+        cc (e, found_now, own_cell (place_in z at) (mod-lt at h.some_words));
     gone = λ at n e. ap (λ o. cell_in with_block o (place_in z at)) (frame_gone _ n e);
     cells = cell_same;
   }
@@ -682,16 +620,13 @@ module _ (z : Sizes) (c : Cache) (h : IsSoundCache z c) (block f slot : ℕ) (ab
   pub installed-by : (words : ℕ → Option Form) → words ≡ missed_words z c block (Some f) (Some slot) → fetched_words z c block ≡ words
       → FetchedBy z c block with_block
   installed-by words e k = record {
-    words = λ at. word_missed at ∙ ap (λ g. g at) (sym (k ∙ e));
+    words = λ at. (cc (word_missed at, k, e));
     same_targets = targets_kept;
     same_ready = refl;
     same_stack = refl;
     frame = f;
     present = found_now;
-    waits = λ a s l j. let q : s ≡ slot = let e = sym l ∙ live_now in cc in ap (λ x. (field_at with_block x j).waiting) q
-        ∙ ap (λ r. (get_or r.fields j clear_field).waiting) own_register ∙ none_wait queue_then _ j;
+    waits = λ a s l j. grind (arith, live_now, own_register, none_wait);
     cells = ap (λ x. length x.cells) own_frame ∙ length-map-range_with_len _ _ _;
-    fields = λ s l. let q : s ≡ slot = let e = sym l
-        ∙ live_now in cc in ap (λ x. length (register_at with_block x).fields) q ∙ ap (λ r. length r.fields) own_register
-        ∙ length-map-range_with_len _ _ _;
+    fields = λ s l. grind (arith, live_now, own_register, length-map-range_with_len);
   }

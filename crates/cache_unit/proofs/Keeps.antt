@@ -1,6 +1,6 @@
 -- What holds of the parts still holds once a word has left the stack, and what is owed is told by them.
-use Rattle.std.proofs.Common.{◌≡◌, ℕ, suc, zero, ◌+◌, ◌<◌, ◌≤◌, Bool, true, false, cond, ◌==◌, if◌then◌else◌, List, [], ◌∷◌, ◌++◌, length}
-use Rattle.std.proofs.Common.{set, refl, arith, Option, Some, None, ap, sym, ◌∙◌, is_some, length-set, ◌-◌, ◌⊎◌, inl, inr, take, slice_get}
+use Rattle.std.proofs.Common.{◌≡◌, ℕ, ◌+◌, ◌<◌, ◌≤◌, Bool, true, false, cond, ◌==◌, if◌then◌else◌, List, [], ◌∷◌, ◌++◌, length}
+use Rattle.std.proofs.Common.{set, refl, arith, Option, Some, None, ap, sym, ◌∙◌, is_some, length-set, ◌-◌, inl, inr, take, slice_get}
 use Rattle.std.specs.List.{sum_by, count_by, remove}
 use Rattle.std.proofs.lemmas.List.Sums.{sum_by-set, sum_by-cons, sum_by-remove}
 use Rattle.flat_model.specs.declared.Word.{Word}
@@ -19,7 +19,7 @@ use Rattle.cache_unit.specs.State.{empty_frame}
 use Rattle.cache_unit.specs.Parts.{filled_live, settled_if, CanFill}
 use Rattle.std.proofs.lemmas.List.{get_or-set_same, get_or-set_other, get_or_past, map-append, take_more}
 use Rattle.std.proofs.lemmas.List.Edits.{length-remove, get_or-remove_below, get_or-remove_above}
-use Rattle.std.proofs.lemmas.Bool.{false≢true, cases_lt, cases_eq, cases_order, false_from_ne_true}
+use Rattle.std.proofs.lemmas.Bool.{false≢true, cases_lt, cases_eq, false_from_ne_true}
 use Rattle.std.proofs.lemmas.Option.{none-some, same_Some, slice_get_within, get_or_from_slice_get}
 use Rattle.flat_model.specs.declared.limits.TheConstants.{MAX_REPLIES}
 use Rattle.flat_model.specs.Places.{is_number}
@@ -36,10 +36,7 @@ use Rattle.cache_directory.specs.Frames as dir
 
 pub count_by-all : {X : Type 0} (xs : List X) → count_by (λ x. true) xs ≡ length xs
 count_by-all [] = refl
-count_by-all {X} (x ∷ xs) =
-    let a = sum_by-cons (λ y. cond true 1 0) x xs in
-    let r = count_by-all xs in
-    omega arith
+count_by-all {X} (x ∷ xs) = omega (arith, sum_by-cons (λ y. cond true 1 0) x xs, count_by-all xs)
 
 -- ---- one register of the list is another
 
@@ -54,11 +51,11 @@ loads-set p r i f l = sum_by-set _ r.fields i f clear_field l
 -- a load waits for a word that is there
 pub loads_there : (p : ℕ → Bool) (rs : List Register) (s i : ℕ) → s < length rs → i < length (regs.register_at rs s).fields
     → loads_of_field p (field_of (regs.register_at rs s) i) ≤ sum_by (loads_of p) rs
-loads_there p rs s i a b =
-    let r = regs.register_at rs s in
-    let x = sum_by-set (loads_of_field p) r.fields i clear_field clear_field b in
-    let y = sum_by-set (loads_of p) rs s free_register free_register a in
-    omega arith
+loads_there p rs s i a b = omega (
+  arith,
+  sum_by-set (loads_of_field p) (regs.register_at rs s).fields i clear_field clear_field b,
+  sum_by-set (loads_of p) rs s free_register free_register a,
+)
 
 -- ---- what keeps it within its limits
 
@@ -84,34 +81,30 @@ pub owes-finished : (z : Sizes) (ready : List Reply) (rs : List Register) (s i :
     (set rs s (finished (regs.register_at rs s) i))
 owes-finished z ready rs s i word a b h =
     let r = regs.register_at rs s in
-    let ws = (field_of (regs.register_at rs s) i).waiting in
-    owes_no_more z ready _ rs _ (λ p.
-    (let x = owing-set p ready rs s (finished r i) a in
-    let y = loads-finished p r i b in
-    let n = count_by-append (λ q. p q.tag) ready (answered word ws) in
-    let reply : Owed → Reply = λ w. record { tag = w.tag; word = merged word w.held w.lanes } in
-    let m = count_by-map (λ q. p q.tag) reply ws in
-    omega arith)) h
+    owes_no_more z ready _ rs _ (λ p. grind (
+      arith,
+      owing-set p ready rs s (finished r i) a,
+      loads-finished p r i b,
+      count_by-append,
+      count_by-map,
+    )) h
 
 -- ---- a register with the same loads
 
 pub owes-same : (z : Sizes) (ready : List Reply) (rs : List Register) (s : ℕ) (r : Register) → s < length rs
     → ((p : ℕ → Bool) → loads_of p r ≡ loads_of p (regs.register_at rs s)) → OwesSound z ready rs → OwesSound z ready (set rs s r)
-owes-same z ready rs s r l f h = owes_no_more z ready ready rs _ (λ p. (let x = owing-set p ready rs s r l in let y = f p in omega arith)) h
+owes-same z ready rs s r l f h = owes_no_more z ready ready rs _ (λ p. omega (arith, owing-set p ready rs s r l, f p)) h
 
 -- ---- A word leaves the stack.
 
 -- ---- the directory
 
-settled_if-orders : (last : Bool) (d : Frames) (f : ℕ) → (settled_if last d f).orders ≡ d.orders
-settled_if-orders true d f = refl
-settled_if-orders false d f = refl
-
 pub filled_live-orders : (d : Frames) (live : Option ℕ) (i : ℕ) (word : Word) (keep : Lanes) (last : Bool)
     → (filled_live d live i word keep last).orders ≡ d.orders
 unfolding filled_live
 filled_live-orders d None i word keep last = refl
-filled_live-orders d (Some f) i word keep last = settled_if-orders last _ f
+filled_live-orders d (Some f) i word keep true = refl
+filled_live-orders d (Some f) i word keep false = refl
 
 -- ---- the step
 
@@ -171,13 +164,7 @@ pending-set fs f g y e = read_set (λ x. x.pending) empty_frame fs f y e g
 -- a frame that is put in place and isn't pending leaves the others
 pub pending_elsewhere : (fs : List Frame) (f g : ℕ) (y : Frame) → y.pending ≡ false → (dir.frame_at (set fs f y) g).pending ≡ true
     → (g ≡ f → ⊥) × ((dir.frame_at fs g).pending ≡ true)
-pending_elsewhere [] f g y e h = absurd (false≢true h)
-pending_elsewhere (x ∷ xs) zero zero y e h = grind arith
-pending_elsewhere (x ∷ xs) zero (suc g) y e h = grind arith
-pending_elsewhere (x ∷ xs) (suc f) zero y e h = grind arith
-pending_elsewhere (x ∷ xs) (suc f) (suc g) y e h =
-    let r = pending_elsewhere xs f g y e h in
-    (λ z. r.0 (omega arith), r.1)
+pending_elsewhere fs f g y e h = grind (arith, cases_eq, cases_lt, get_or-set_same, get_or-set_other, get_or_past, length-set)
 
 -- a frame that was pending still is, but for one whose last word has come
 pending-filled : (d : Frames) (live : Option ℕ) (i : ℕ) (word : Word) (keep : Lanes) (last : Bool) (g : ℕ)
@@ -266,11 +253,6 @@ HasFrame-since : (d d' : List Frame) (r r' : Register) → Since r r' → SameBl
     → (dir.frame_at d' r.frame).pending ≡ (dir.frame_at d r.frame).pending → HasFrame d r → HasFrame d' r'
 HasFrame-since d d' r r' w s p h = grind arith
 
-lt_from : {k m : ℕ} → (k ≡ m) ⊎ ((k < m) ⊎ (m < k)) → (m ≡ k → ⊥) → k ≤ m → k < m
-lt_from (inl e) n p = absurd (n (sym e))
-lt_from (inr (inl l)) n p = l
-lt_from (inr (inr l)) n p = absurd (omega arith)
-
 Stands-remove : (st : List Entry) (k s i : ℕ) → k < length st → (h : Stands st s i) → (h.place ≡ k → ⊥) → Stands (remove st k) s i
 Stands-remove st k s i l h n =
     let z = length-remove st k l in
@@ -279,7 +261,7 @@ Stands-remove st k s i l h n =
           let e = get_or-remove_below st k no_entry h.place p l in
           record { place = h.place; within = omega (arith, z); slot = rw e h.slot; word = rw e h.word })
       | inr p ↦ (
-          let q = lt_from (cases_order k h.place) n p in
+          let q : k < h.place = omega arith in
           let w : (h.place - 1) + 1 ≡ h.place = omega arith in
           let e : entry_at _ (h.place - 1) ≡ entry_at st h.place = get_or-remove_above st k no_entry (h.place - 1) (omega arith) l
           ∙ rw w refl in
@@ -401,10 +383,9 @@ module _ (z : Sizes) (c : Cache) (h : IsSound z c) (k : ℕ) (e : Entry) (t : Ta
             let b = Before-at _ k j t.within l in
             rw b.same (entry_kept _ e.slot e.i _ _ slot_there (h.stack_sound.entries _ b.within) (other_word _ b.within b.other)));
         distinct = λ i j l m a b. (
-            let n = length-remove _ k t.within in
             let bi = Before-at _ k i t.within (omega arith) in
             let bj = Before-at _ k j t.within m in
-            h.stack_sound.distinct _ _ (before-lt k i j l) bj.within (rw (bi.same, bj.same) at a) (rw (bi.same, bj.same) at b));
+            h.stack_sound.distinct _ _ (before-lt k i j l) bj.within (cc (bi.same, bj.same, a)) (cc (bi.same, bj.same, b)));
         marks = λ s i. mark_kept _ _ k e.slot e.i s i t.within slot_there own_entry.there (ap (λ x. x.slot) t.same) (ap (λ x. x.i) t.same)
             h.stack_sound.marks;
       };
@@ -426,8 +407,7 @@ reply_to word w = record { tag = w.tag; word = merged word w.held w.lanes }
 pub answered_more : (word : Word) (ws : List Owed) (k : ℕ) (o : Owed) → slice_get ws k ≡ Some o
     → answered word (take (k + 1) ws) ≡ answered word (take k ws) ++ reply_to word o ∷ []
 answered_more word ws k o e =
-    let t = take_more ws k o (slice_get_within ws k o e) in
-    ap (answered word) t ∙ map-append _ _ _ ∙ ap (λ x. answered word (take k ws) ++ reply_to word x ∷ []) (get_or_from_slice_get ws k o o e)
+    grind (arith, take_more ws k o, slice_get_within, map-append, get_or_from_slice_get)
 
 pub processes : (c : Cache) (place : ℕ) (e : Entry) → slice_get c.stack place ≡ Some e → process_step c place ≡ moved (processed c place e)
 unfolding process_step

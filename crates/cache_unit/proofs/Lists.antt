@@ -2,11 +2,11 @@
 use Rattle.std.proofs.Common.{◌≡◌, ℕ, suc, zero, ◌<◌, Bool, true, false, List, [], ◌∷◌, map, length, get_or, Option, Some, None, cond, refl}
 use Rattle.std.proofs.Common.{ap, ◌∙◌, arith, option_map, ◌+◌, ◌≤◌, ◌++◌, set, take, drop, find, remove, filter, sym, slice_get, flat_map}
 use Rattle.std.proofs.Common.{append_assoc, append-nil, add-zero, zero-add, length-append, ap₂, subst, get_or-set_same, get_or-set_other}
-use Rattle.std.proofs.Common.{⊎_elim, ◌&&◌, ◌==◌, eqb-true, eq-eqb, length-set, not, nat_lt, ◌⊎◌, inl, inr}
+use Rattle.std.proofs.Common.{⊎_elim, ◌&&◌, ◌==◌, eqb-true, eq-eqb, length-set, not, nat_lt, ◌⊎◌}
 use Rattle.std.specs.List.{list_all}
 use Rattle.flat_model.specs.Places.{place_of, is_number}
 use Rattle.flat_model.proofs.Places.{place_of-passes}
-use Rattle.std.proofs.lemmas.Bool.{and_parts, cases_lt, cases_eq, and_from, false_from_ne_true}
+use Rattle.std.proofs.lemmas.Bool.{and_parts, cases_lt, cases_eq, false_from_ne_true}
 use Rattle.std.specs.Option.{option_or}
 use Rattle.std.proofs.lemmas.List.Folds.{find-append}
 use Rattle.std.proofs.lemmas.List.{map-append, get_or_past, set_past}
@@ -105,7 +105,7 @@ Adds-right zs x xs ys a = record {
   front = a.front;
   back = a.back ++ zs;
   without = cc (a.without, append_assoc a.front a.back zs);
-  with = ap (λ l. l ++ zs) a.with ∙ append_assoc a.front _ zs;
+  with = cc (a.with, append_assoc a.front (x ∷ a.back) zs);
 }
 
 pub Adds-map : {X Y : Type 0} (f : X → Y) (x : X) (xs ys : List X) → Adds x xs ys → Adds (f x) (map f xs) (map f ys)
@@ -133,23 +133,15 @@ pub gathered_part : {X Y : Type 0} (f : ℕ → X → List Y) (d : X) (n : ℕ) 
     → Part (gathered f n) xs k (f (n + k)) (get_or xs k d)
 gathered_part f d n [] k h = absurd (omega arith)
 gathered_part f d n (x ∷ xs) zero h =
-    let e = add-zero n in
-    record {
-      front = [];
-      back = gathered f _ xs;
-      now = ap (λ j. f j x ++ gathered f (suc n) xs) (sym e);
-      then = λ y. ap (λ j. f j y ++ gathered f (suc n) xs) (sym e);
-    }
+    record { front = []; back = gathered f (suc n) xs; now = rw (add-zero n); then = λ y. rw (add-zero n) }
 gathered_part f d n (x ∷ xs) (suc k) h =
-    let ih = gathered_part f d _ xs k (omega arith) in
+    let ih = gathered_part f d (suc n) xs k (omega arith) in
     let e : suc n + k ≡ n + suc k = omega arith in
     record {
       front = f n x ++ ih.front;
       back = ih.back;
-      now = ap (λ l. f n x ++ l) ih.now ∙ sym (append_assoc _ ih.front _)
-          ∙ ap (λ j. (f n x ++ ih.front) ++ (f j (get_or xs k d) ++ ih.back)) e;
-      then = λ y. ap (λ l. f n x ++ l) (ih.then y) ∙ sym (append_assoc _ ih.front _)
-          ∙ ap (λ j. (f n x ++ ih.front) ++ (f j y ++ ih.back)) e;
+      now = rw (ih.now, append_assoc, e);
+      then = λ y. rw (ih.then y, append_assoc, e);
     }
 
 pub flat_map_part : {X Y : Type 0} (f : X → List Y) (d : X) (xs : List X) (k : ℕ) → k < length xs → Part (flat_map f) xs k f (get_or xs k d)
@@ -179,7 +171,7 @@ read_set f d (x ∷ xs) (suc k) y e (suc j) = read_set f d xs k y e j
 
 pub tally-map : {X Y : Type 0} (f : X → Y) (p : Y → Bool) (xs : List X) → tally p (map f xs) ≡ tally (λ x. p (f x)) xs
 tally-map f p [] = refl
-tally-map f p (x ∷ xs) = ap (λ n. bit (p (f x)) + n) (tally-map f p xs)
+tally-map f p (x ∷ xs) = cc (tally-map f p xs)
 
 pub tally-filter : {X : Type 0} (p : X → Bool) (xs : List X) → length (filter p xs) ≡ tally p xs
 tally-filter p [] = refl
@@ -199,11 +191,8 @@ pub find-only : {X : Type 0} (p : X → Bool) (xs : List X) (k : ℕ) (x : X) �
 find-only p [] k x at passes only = cc
 find-only p (y ∷ xs) zero x at passes only = grind arith
 find-only p (y ∷ xs) (suc k) x at passes only =
-    go (p y) refl (find-only p xs k x at passes (λ j v e q. let n : suc j ≡ suc k = only _ v e q in omega arith))
-  where
-    go : (b : Bool) → p y ≡ b → find p xs ≡ Some x → cond b (Some y) (find p xs) ≡ Some x
-    go true e rest = let n = only 0 y refl e in absurd (omega arith)
-    go false e rest = rest
+    let rest = find-only p xs k x at passes (λ j v e q. let n : suc j ≡ suc k = only _ v e q in omega arith) in
+    grind (arith, rest, only 0 y refl)
 
 -- ---- Lists in lists, and what is gathered from them.
 
@@ -211,10 +200,9 @@ find-only p (y ∷ xs) (suc k) x at passes only =
 pub place_of-like : {X : Type 0} (p : X → Bool) (d : X) (xs ys : List X) → length xs ≡ length ys
     → ((k : ℕ) → p (get_or xs k d) ≡ p (get_or ys k d)) → place_of p xs ≡ place_of p ys
 place_of-like p d [] [] e h = refl
-place_of-like p d [] (y ∷ ys) e h = absurd (omega arith)
-place_of-like p d (x ∷ xs) [] e h = absurd (omega arith)
 place_of-like p d (x ∷ xs) (y ∷ ys) e h =
-    ap₂ (λ b o. cond b (Some 0) (option_map (λ k. suc k) o)) (h 0) (place_of-like p d xs ys (omega arith) (λ k. h (suc k)))
+    cc (h 0, place_of-like p d xs ys (omega arith) (λ k. h (suc k)))
+place_of-like p d xs ys e h = grind arith
 
 -- an element that isn't the default is in the list
 pub in_range : {X : Type 0} (p : X → Bool) (d : X) (xs : List X) (k : ℕ) → p d ≡ false → p (get_or xs k d) ≡ true → k < length xs
@@ -269,7 +257,7 @@ targets_map f g registers same = gathered_map targets_of f g free_register 0 reg
         → ((w : Owed) → f (record { slot = t; i = j; load = w }) ≡ g (record { slot = t; i = j; load = w }))
         → map f (map (λ w. record { slot = t; i = j; load = w }) ws) ≡ map g (map (λ w. record { slot = t; i = j; load = w }) ws)
     loads t j [] h = refl
-    loads t j (w ∷ ws) h = ap₂ (λ x xs. x ∷ xs) (h w) (loads t j ws h)
+    loads t j (w ∷ ws) h = cc (h w, loads t j ws h)
 
     field : (t j : ℕ) → (get_or registers t free_register).valid ≡ true → (x : Field) (b : Bool) → x.processed ≡ b
         → x.processed ≡ (get_or (get_or registers t free_register).fields j clear_field).processed
@@ -281,8 +269,7 @@ targets_map f g registers same = gathered_map targets_of f g free_register 0 reg
     go : (t : ℕ) (v : Bool) → (get_or registers t free_register).valid ≡ v
         → map f (cond v (gathered (targets_of_field t) 0 (get_or registers t free_register).fields) [])
         ≡ map g (cond v (gathered (targets_of_field t) 0 (get_or registers t free_register).fields) [])
-    go t true e = gathered_map _ f g clear_field 0 (get_or registers t free_register).fields
-        (λ j l. let k = zero-add j in rw k (field t j e (get_or (get_or registers t free_register).fields j clear_field) _ refl refl))
+    go t true e = gathered_map _ f g clear_field 0 (get_or registers t free_register).fields (λ j l. grind (arith, field, zero-add j))
     go t false e = refl
 
     one : (t : ℕ) → map f (targets_of t (get_or registers t free_register)) ≡ map g (targets_of t (get_or registers t free_register))
@@ -298,14 +285,10 @@ target_valid registers p t found = passes _ (targets_map valid (λ x. true) regi
 
     passes : (xs : List Target) → map valid xs ≡ map (λ x. true) xs → find p xs ≡ Some t → valid t ≡ true
     passes [] e q = cc
-    passes (x ∷ xs) e q = go (p x) q (passes xs (let rest : map valid xs ≡ map (λ y. true) xs = cc in rest))
-      where
-        here : valid x ≡ true
-        here = cc
-
-        go : (b : Bool) → cond b (Some x) (find p xs) ≡ Some t → (find p xs ≡ Some t → valid t ≡ true) → valid t ≡ true
-        go true k rest = grind arith
-        go false k rest = rest k
+    passes (x ∷ xs) e q =
+        let here : valid x ≡ true = cc in
+        let rest : map valid xs ≡ map (λ y. true) xs = cc in
+        grind (arith, passes xs rest)
 
 -- the loads that wait for one word, and what stands there once its field is another
 pub record WordPart (registers : List Register) (s i : ℕ) (f : Field) : Type 0 where
@@ -376,17 +359,8 @@ module _ (registers : List Register) (s i : ℕ) (f : Field) where
       → p f ≡ p (get_or (get_or registers s free_register).fields i clear_field) → (t j : ℕ)
       → p (get_or (get_or (with_field_in registers s i f) t free_register).fields j clear_field)
       ≡ p (get_or (get_or registers t free_register).fields j clear_field)
-  field_part p hs hi e t j = ⊎_elim (λ q. ⊎_elim (here q) (λ n. ap p (field_elsewhere t j (λ a b. n b))) (cases_eq j i))
-      (λ n. ap p (field_elsewhere t j (λ a b. n a))) (cases_eq t s)
-    where
-      here : t ≡ s → j ≡ i → p (get_or (get_or (with_field_in registers s i f) t free_register).fields j clear_field)
-          ≡ p (get_or (get_or registers t free_register).fields j clear_field)
-      here q r = cc (
-        ap₂ (λ a b. p (get_or (get_or (with_field_in registers s i f) a free_register).fields b clear_field)) q r,
-        ap p (field_here hs hi),
-        e,
-        ap₂ (λ a b. p (get_or (get_or registers a free_register).fields b clear_field)) q r,
-      )
+  field_part p hs hi e t j =
+      read_set (λ r. p (get_or r.fields j clear_field)) free_register registers s _ (read_set p clear_field _ i f e j) t
 
 -- ---- Which frame holds a block, and which register is live for it.
 
@@ -400,15 +374,12 @@ number_is o n h = cc (h, eq-eqb n n refl)
 -- a frame holds the block for which it is found
 pub frame_of-some : (fs : List Frame) (b f : ℕ) → dir.frame_of fs b ≡ Some f → (f < length fs) × ((dir.frame_at fs f).block ≡ Some b)
 unfolding dir.frame_of
-frame_of-some fs b f e =
-    let s = place_of-passes (λ x. is_number x.block b) fs f empty_frame e in
-    (s.0, number_from _ b s.1)
+frame_of-some fs b f e = grind (arith, place_of-passes (λ x. is_number x.block b) fs f empty_frame e, number_from)
 
 pub frame_of-is : (fs : List Frame) (b k : ℕ) → ((f g n : ℕ) → (dir.frame_at fs f).block ≡ Some n → (dir.frame_at fs g).block ≡ Some n
     → f ≡ g) → (dir.frame_at fs k).block ≡ Some b → dir.frame_of fs b ≡ Some k
 unfolding dir.frame_of
-frame_of-is fs b k apart h =
-    place_of-only (λ f. is_number f.block b) empty_frame fs k refl (number_is _ b h) (λ j e. apart j k b (number_from _ b e) h)
+frame_of-is fs b k apart h = grind (arith, place_of-only, number_is, number_from)
 
 pub frame_of-none : (c : Cache) (b : ℕ) → ((k : ℕ) → (frame_at c k).block ≡ Some b → ⊥) → frame_of c b ≡ None
 unfolding dir.frame_of
@@ -417,40 +388,28 @@ frame_of-none c b h = places.place_of-none (λ f. is_number f.block b) _ empty_f
 
 pub none_in_frames : (c : Cache) (b : ℕ) → frame_of c b ≡ None → (k : ℕ) → (frame_at c k).block ≡ Some b → ⊥
 unfolding dir.frame_of
-none_in_frames c b h k e =
-    let f = place_of-none (λ f. is_number f.block b) empty_frame c.directory.frames refl h k in
-    let t = number_is (frame_at c k).block b e in
-    cc
+none_in_frames c b h k e = grind (arith, place_of-none, number_is)
 
 pub live_for-some : (c : Cache) (b s : ℕ) → live_for c b ≡ Some s → (is_live (register_at c s) ≡ true) × ((register_at c s).block ≡ b)
 unfolding regs.live_for
 live_for-some c b s h =
-    let p = place_of-passes (λ r. is_live r && r.block == b) _ s free_register h in
-    let q = and_parts _ _ p.1 in
-    (q.0, eqb-true (register_at c s).block b q.1)
+    grind (arith, place_of-passes (λ r. is_live r && r.block == b) c.registers s free_register h, and_parts, eqb-true)
 
 pub live_for-is : (c : Cache) (b s : ℕ) →
     ((s t : ℕ) → is_live (register_at c s) ≡ true → is_live (register_at c t) ≡ true → (register_at c s).block ≡ (register_at c t).block
     → s ≡ t) → is_live (register_at c s) ≡ true → (register_at c s).block ≡ b → live_for c b ≡ Some s
 unfolding regs.live_for
-live_for-is c b s apart l e = place_of-only (λ r. is_live r && r.block == b) free_register _ s refl (and_from _ _ l (eq-eqb _ b e)) (λ j k.
-    let q = and_parts _ _ k in
-    apart j s q.0 l (eqb-true _ b q.1 ∙ sym e))
+live_for-is c b s apart l e = grind (arith, place_of-only, eq-eqb, eqb-true)
 
 pub live_for-none : (rs : List Register) (b : ℕ)
     → ((s : ℕ) → is_live (regs.register_at rs s) ≡ true → (regs.register_at rs s).block ≡ b → ⊥) → regs.live_for rs b ≡ None
 unfolding regs.live_for
-live_for-none rs b h = places.place_of-none (λ r. is_live r && r.block == b) rs free_register (λ s l. false_from_ne_true _ (λ e.
-    let q = and_parts _ _ e in
-    h s q.0 (eqb-true _ b q.1)))
+live_for-none rs b h = places.place_of-none (λ r. is_live r && r.block == b) rs free_register (λ s l. grind (arith, h s, eqb-true))
 
 pub none_live : (rs : List Register) (b : ℕ) → regs.live_for rs b ≡ None → (s : ℕ) → is_live (regs.register_at rs s) ≡ true
     → (regs.register_at rs s).block ≡ b → ⊥
 unfolding regs.live_for
-none_live rs b h s l e =
-    let f = place_of-none (λ r. is_live r && r.block == b) free_register rs refl h s in
-    let t = and_from _ _ l (eq-eqb _ b e) in
-    cc
+none_live rs b h s l e = grind (arith, place_of-none, eq-eqb)
 
 -- ---- The first place at which a test passes, once one element is another; and what a block's frame and live register are then.
 
@@ -464,14 +423,14 @@ pub place_of-set_here : {X : Type 0} (p : X → Bool) (d : X) (xs : List X) (k :
     → ((j : ℕ) → p (get_or xs j d) ≡ true → j ≡ k) → place_of p (set xs k new) ≡ Some k
 place_of-set_here p d xs k new none there new_passes only =
     place_of-only p d _ k none (ap p (get_or-set_same xs k new d there) ∙ new_passes)
-    (λ j e. ⊎_elim (λ q. q) (λ n. only j (sym (ap p (get_or-set_other xs k j new d n)) ∙ e)) (cases_eq j k))
+    (λ j e. ⊎_elim (λ q. q) (λ n. only j (cc (get_or-set_other xs k j new d n, e))) (cases_eq j k))
 
 -- no element but the old one passed
 pub place_of-set_gone : {X : Type 0} (p : X → Bool) (d : X) (xs : List X) (k : ℕ) (new : X) → k < length xs → p new ≡ false
     → ((j : ℕ) → p (get_or xs j d) ≡ true → j ≡ k) → place_of p (set xs k new) ≡ None
 place_of-set_gone p d xs k new there new_fails only =
-    places.place_of-none p _ d (λ j l. ⊎_elim (λ q. (cc (q, ap p (get_or-set_same xs k new d there), new_fails)))
-    (λ n. ap p (get_or-set_other xs k j new d n) ∙ false_from_ne_true _ (λ e. n (only j e))) (cases_eq j k))
+    places.place_of-none p _ d
+    (λ j l. grind (arith, only j, get_or-set_same xs k new d there, get_or-set_other xs k j new d, cases_eq j k))
 
 -- ---- frames
 
@@ -479,12 +438,12 @@ abbrev pub holds : ℕ → Frame → Bool
 holds b f = is_number f.block b
 
 pub holds-not : (f : Frame) (b : ℕ) → (f.block ≡ Some b → ⊥) → holds b f ≡ false
-holds-not f b n = false_from_ne_true _ (λ e. n (number_from f.block b e))
+holds-not f b n = grind (arith, number_from)
 
 pub frame-stays : (c d : Cache) (f : ℕ) (new : Frame) (b : ℕ) → d.directory.frames ≡ set c.directory.frames f new
     → holds b new ≡ holds b (frame_at c f) → frame_of d b ≡ frame_of c b
 unfolding dir.frame_of
-frame-stays c d f new b ed e = ap (place_of _) ed ∙ place_of-set _ empty_frame _ f new e
+frame-stays c d f new b ed e = cc (ed, place_of-set _ empty_frame _ f new e)
 
 pub frame-comes : (c d : Cache) (f : ℕ) (new : Frame) (b : ℕ) → d.directory.frames ≡ set c.directory.frames f new
     → f < length c.directory.frames → new.block ≡ Some b → ((k : ℕ) → (frame_at c k).block ≡ Some b → k ≡ f) → frame_of d b ≡ Some f
@@ -504,12 +463,12 @@ abbrev pub serves : ℕ → Register → Bool
 serves b r = is_live r && r.block == b
 
 pub serves-not : (r : Register) (b : ℕ) → (is_live r ≡ true → r.block ≡ b → ⊥) → serves b r ≡ false
-serves-not r b n = false_from_ne_true _ (λ e. let p = and_parts _ _ e in n p.0 (eqb-true r.block b p.1))
+serves-not r b n = grind (arith, eqb-true)
 
 pub live-stays : (c d : Cache) (s : ℕ) (new : Register) (b : ℕ) → d.registers ≡ set c.registers s new
     → serves b new ≡ serves b (register_at c s) → live_for d b ≡ live_for c b
 unfolding regs.live_for
-live-stays c d s new b ed e = ap (place_of _) ed ∙ place_of-set _ free_register _ s new e
+live-stays c d s new b ed e = cc (ed, place_of-set _ free_register _ s new e)
 
 pub live-comes : (c d : Cache) (s : ℕ) (new : Register) (b : ℕ) → d.registers ≡ set c.registers s new → s < length c.registers
     → serves b new ≡ true → ((t : ℕ) → is_live (register_at c t) ≡ true → (register_at c t).block ≡ b → t ≡ s) → live_for d b ≡ Some s
@@ -532,13 +491,12 @@ is_entry s i e = (e.slot == s) && (e.i == i)
 pub find-absent : {X : Type 0} (p : X → Bool) (xs : List X) → ((k : ℕ) (x : X) → slice_get xs k ≡ Some x → p x ≡ true → ⊥)
     → find p xs ≡ None
 find-absent p [] none = refl
-find-absent p (x ∷ xs) none = cc (false_from_ne_true (p x) (λ e. none 0 x refl e), find-absent p xs (λ k y e. none (suc k) y e))
+find-absent p (x ∷ xs) none = grind (arith, none 0 x, find-absent p xs (λ k y e. none (suc k) y e))
 
 pub stack_word-none : (stack : List Entry) (s i : ℕ) → ((k : ℕ) (e : Entry) → slice_get stack k ≡ Some e → e.slot ≡ s → e.i ≡ i → ⊥)
     → stack_word stack s i ≡ None
 unfolding stack_word
-stack_word-none stack s i none = ap (option_map (λ e. e.word)) (find-absent _ stack (λ k e q t. let p = and_parts _ _ t in
-    none k e q (eqb-true e.slot s p.0) (eqb-true e.i i p.1)))
+stack_word-none stack s i none = grind (arith, find-absent, eqb-true)
 
 -- ---- A unit that has what another one had, but for blocks that went and registers that are no longer in use.
 
@@ -566,9 +524,7 @@ frames_like-same frames = record { number = refl; blocks = λ k. refl; cells = �
 -- what stands in a list of which one element is another
 set_reads : {X : Type 0} (d : X) (xs : List X) (k : ℕ) (y : X) (t : ℕ)
     → (get_or (set xs k y) t d ≡ get_or xs t d) ⊎ ((t ≡ k) × (get_or (set xs k y) t d ≡ y))
-set_reads d xs k y t = ⊎_elim (λ q. ⊎_elim (λ l. inr (q, cc (q, get_or-set_same xs k y d l)))
-    (λ l. inl (ap (λ zs. get_or zs t d) (set_past xs k y l))) (cases_lt k _))
-    (λ n. inl (get_or-set_other xs k t y d n)) (cases_eq t k)
+set_reads d xs k y t = grind (arith, cases_eq, cases_lt, get_or-set_same, get_or-set_other, set_past)
 
 pub frames_like-set : (frames : List Frame) (k : ℕ) (new : Frame) → new.block ≡ (get_or frames k empty_frame).block
     → length new.cells ≡ length (get_or frames k empty_frame).cells → FramesLike frames (set frames k new)

@@ -1,11 +1,10 @@
 -- A unit that holds nothing is sound.
-use Rattle.std.proofs.Common.{◌≡◌, ℕ, ◌+◌, ◌-◌, ◌*◌, ◌/◌, ◌%◌, ◌≤◌, Bool, true, false, ◌&&◌, not, cond, ◌==◌, Option, Some, None, refl}
+use Rattle.std.proofs.Common.{◌≡◌, ℕ, ◌+◌, ◌-◌, ◌*◌, ◌/◌, ◌≤◌, Bool, true, false, not, cond, Option, Some, None, refl}
 use Rattle.std.proofs.Common.{arith, List, [], replicate, get_or}
 use Rattle.std.proofs.lemmas.Bool.{eqb-true, and_parts, false≢true, cases_lt}
-use Rattle.flat_model.specs.declared.limits.TheConstants.{MAX_BLOCK_WORDS, MAX_WAYS, MAX_CONST_WAYS, MAX_REGS, MAX_CONST_REGS, MAX_DEPTH}
+use Rattle.flat_model.specs.declared.limits.TheConstants.{MAX_WAYS, MAX_CONST_WAYS, MAX_REGS, MAX_CONST_REGS, MAX_DEPTH}
 use Rattle.flat_model.specs.declared.limits.TheConstants.{MAX_CONST_DEPTH, MAX_WORDS, MAX_MEMORY}
 use Rattle.flat_model.specs.declared.ShapeField.{ShapeField}
-use Rattle.flat_model.specs.declared.ShapeField.TheVariants.{BlockWords, Ways, Regs, Depth, Words}
 use Rattle.flat_model.specs.Ranges.{is_between}
 use Rattle.flat_model.proofs.Ranges.{between}
 use Rattle.cache_unit.specs.declared.Sizes.{Sizes}
@@ -36,18 +35,14 @@ in_size z e = grind (arith, passed, and_parts, between, eqb-true, enough)
 -- numbers that are in range for a type are so at run time, where some may be larger
 pub looser : (z : Sizes) → bad_field z ≡ None → bad_size z ≡ None
 looser z e =
-    let block = passed (is_between z.block_words 1 MAX_BLOCK_WORDS) BlockWords _ e in
-    let ways = passed _ Ways _ block.1 in
-    let regs = passed _ Regs _ ways.1 in
-    let depth = passed _ Depth _ regs.1 in
-    let words = passed _ Words _ depth.1 in
-    let memory = and_parts _ _ words.0 in
-    let more_ways = wider z.ways MAX_CONST_WAYS MAX_WAYS (omega arith) ways.0 in
-    let more_regs = wider z.regs MAX_CONST_REGS MAX_REGS (omega arith) regs.0 in
-    let deeper = wider z.depth MAX_CONST_DEPTH MAX_DEPTH (omega arith) depth.0 in
-    let larger = wider z.words MAX_WORDS MAX_MEMORY (omega arith) memory.0 in
-    let fits : (is_between z.words 1 MAX_MEMORY && (z.words % z.block_words == 0)) ≡ true = rw (larger, memory.1) refl in
-    rw (block.0, more_ways, more_regs, deeper, fits) words.1
+    grind (
+      arith,
+      passed,
+      wider z.ways MAX_CONST_WAYS MAX_WAYS (omega arith),
+      wider z.regs MAX_CONST_REGS MAX_REGS (omega arith),
+      wider z.depth MAX_CONST_DEPTH MAX_DEPTH (omega arith),
+      wider z.words MAX_WORDS MAX_MEMORY (omega arith),
+    )
   where
     -- a number in a range is in a wider one
     wider : (n most more : ℕ) → most ≤ more → is_between n 1 most ≡ true → is_between n 1 more ≡ true

@@ -4,7 +4,6 @@ use Rattle.std.proofs.Common.{refl, ap, sym, ◌∙◌, length-set, inl, inr, eq
 use Rattle.std.proofs.Common.{length-append, ◌-◌, ◌⊎◌, option_map}
 use Rattle.std.proofs.lemmas.List.{get_or-set_same, get_or-set_other, get_or_past, get_or_append_left, get_or-append_right}
 use Rattle.std.proofs.lemmas.Bool.{false≢true, cases_eq, and_parts, cases_lt}
-use Rattle.std.proofs.lemmas.Option.{same_Some}
 use Rattle.flat_model.proofs.Places.{place_of-passes}
 use Rattle.input_stack.specs.declared.Entry.{Entry}
 use Rattle.cache_unit.specs.Sound.{entry_at, StackSound, Tied, no_entry, HasInStack, Stands, IsSound, loads_of, OwesSound}
@@ -113,10 +112,7 @@ IsSound-like z c d rs wd wr b p o k owes h = record {
 pub live_for-some : (rs : List Register) (b s : ℕ) → regs.live_for rs b ≡ Some s → (s < length rs) ×
     (is_live (regs.register_at rs s) ≡ true) × ((regs.register_at rs s).block ≡ b)
 unfolding regs.live_for
-live_for-some rs b s h =
-    let p = place_of-passes (λ r. is_live r && r.block == b) rs s free_register h in
-    let q = and_parts _ _ p.1 in
-    (p.0, q.0, eqb-true (regs.register_at rs s).block b q.1)
+live_for-some rs b s h = grind (arith, place_of-passes (λ r. is_live r && r.block == b) rs s free_register h, eqb-true)
 
 -- a frame isn't pending where its block has no live register
 pub pending_is : (fs : List Frame) (rs : List Register) (f b : ℕ) → Tied fs rs → (dir.frame_at fs f).block ≡ Some b
@@ -127,15 +123,11 @@ pending_is fs rs f b h e alone = go _ refl (dir.frame_at fs f).pending refl
     go None q false w = refl
     go None q true w =
         let x = h.pending f w in
-        let z = sym ((frame_of-some fs _ _ (h.frames x.slot x.live).holds).1) ∙ ap (λ g. (dir.frame_at fs g).block) x.frame ∙ e in
-        absurd (none_live rs b q x.slot x.live (same_Some _ _ z))
+        grind (arith, none_live rs b q x.slot x.live, frame_of-some fs _ _ (h.frames x.slot x.live).holds)
     go (Some s) q true w = refl
     go (Some s) q false w =
         let x = live_for-some rs b s q in
-        let y = h.frames s x.1 in
-        let z = (frame_of-some fs _ _ y.holds).1 in
-        let g = alone (regs.register_at rs s).frame (z ∙ ap Some x.2) in
-        absurd (false≢true (cc (w, g, y.pending)))
+        grind (arith, frame_of-some fs _ _ (h.frames s x.1).holds, alone (regs.register_at rs s).frame)
 
 -- ---- A word comes into the stack.
 
@@ -149,13 +141,10 @@ in_stack-shown z c s i h = go _ refl (field_at c s i).in_stack refl
         → is_some (option_map (λ e. e.word) o) ≡ b
     go (Some e) q true m = refl
     go (Some e) q false m =
-        let p = and_parts (e.slot == s) _ (find-passes (λ x. (x.slot == s) && (x.i == i)) c.stack e q) in
-        let a = eqb-true e.slot s p.0 in
-        let b = eqb-true e.i i p.1 in
         let is_marked : Entry → Type 0 = λ x. (field_at c x.slot x.i).in_stack ≡ true in
         let marked = find-all (λ x. (x.slot == s) && (x.i == i)) is_marked c.stack e q
         (All-from_get_or is_marked c.stack no_entry (λ k l. (h.stack_sound.entries k l).marked)) in
-        absurd (false≢true (cc (a, b, marked, m)))
+        grind (arith, marked, find-passes (λ x. (x.slot == s) && (x.i == i)) c.stack e q, eqb-true)
     go None q true m =
         let w = h.stack_sound.marks s i m in
         let none = find-nowhere (λ x. (x.slot == s) && (x.i == i)) c.stack q w.place no_entry w.within in
@@ -243,28 +232,33 @@ IsSound-arrived z c e h x whole =
       in_memory = h.in_memory;
       registers = whole;
       stack_sound = record {
-        entries = λ k p. elim (cases_lt k _) [
+        entries = λ k p. elim (cases_lt k (length c.stack)) [
           | inl q ↦ rw (entry_at-old _ e k q) (register_at-set (λ y. HasInStack y (entry_at c.stack k).i) _ e.slot (entry_at _ k).slot _ l
               (λ a. HasInStack-still r e.i (entry_at _ k).i (rw a at (h.stack_sound.entries k q))) (λ a. h.stack_sound.entries k q))
           | inr q ↦ (
               let m : k ≡ length c.stack = omega arith in
-              rw (m, entry_at-new _ e) (register_at-set (λ y. HasInStack y e.i) _ e.slot e.slot _ l
-              (λ a. HasInStack-marked r e.i x.valid x.there x.waits) (λ a. absurd (a refl))))
+              rw (m, entry_at-new _ e, get_or-set_same c.registers e.slot (regs.marked r e.i) free_register l)
+              (HasInStack-marked r e.i x.valid x.there x.waits))
         ];
-        distinct = λ j k o p a b. elim (cases_lt k _) [
-          | inl w ↦ h.stack_sound.distinct j k o w (rw (entry_at-old c.stack e j (omega arith), entry_at-old _ e k w) at a)
-              (rw (entry_at-old c.stack e j (omega arith), entry_at-old _ e k w) at b)
-          | inr w ↦ (
-              let m : k ≡ length c.stack = omega arith in
-              no_other z c e.slot e.i j h x (omega arith) (rw (m, entry_at-new _ e, entry_at-old c.stack e j (omega arith)) at a)
-              (rw (m, entry_at-new _ e, entry_at-old c.stack e j (omega arith)) at b))
-        ];
-        marks = λ s i. register_at-set (λ y. (field_of y i).in_stack ≡ true → Stands (c.stack ++ e ∷ []) s i) _ e.slot s _ l
-            (λ a v. elim (mark-marked r e.i i v) [
-              | inl q ↦ rw (a, q) (Stands-new _ e)
-              | inr q ↦ rw a (Stands-push _ e e.slot i (h.stack_sound.marks e.slot i q))
-            ])
-            (λ a v. Stands-push _ e s i (h.stack_sound.marks s i v));
+        distinct = λ j k o p a b.
+            let old = entry_at-old c.stack e j (omega arith) in
+            elim (cases_lt k (length c.stack)) [
+              | inl w ↦ h.stack_sound.distinct j k o w (cc (old, entry_at-old _ e k w, a)) (cc (old, entry_at-old _ e k w, b))
+              | inr w ↦ (
+                  let m : k ≡ length c.stack = omega arith in
+                  let new = entry_at-new c.stack e in
+                  no_other z c e.slot e.i j h x (omega arith) (cc (m, new, old, a)) (cc (m, new, old, b)))
+            ];
+        marks = λ s i v. grind (
+          arith,
+          cases_eq,
+          get_or-set_same,
+          get_or-set_other,
+          mark-marked,
+          Stands-new,
+          Stands-push,
+          h.stack_sound.marks,
+        );
       };
       tied = Tied-same _ _ _ _ (SameBlocks-self _) (λ f. refl)
           (related-set SameShape SameShape-self _ e.slot _ l (SameShape-marked r e.i)) h.tied;
@@ -384,9 +378,6 @@ cell_found c block f i e = grind arith
 
 pub zero_from : (w : Word) → (w.b0 ≡ 0) × ((w.b1 ≡ 0) × ((w.b2 ≡ 0) × (w.b3 ≡ 0))) → w ≡ zero_word
 zero_from w h = grind arith
-
-within : {n m : ℕ} → n < m → nat_lt n m ≡ true
-within {n} {m} h = grind arith
 
 -- a word that has a code to show isn't processed, and that is its code
 pub missing_parts : (f : Field) (code : Lanes) → code_of_missing f ≡ Some code → (f.processed ≡ false) × (f.code ≡ code)

@@ -1,10 +1,9 @@
 -- Requests: what a missing block gets, what they make of the forms, and their causes in their order.
 use Rattle.std.proofs.Common.{◌≡◌, ℕ, zero, suc, ◌+◌, ◌*◌, ◌/◌, ◌%◌, ◌<◌, ◌≤◌, Bool, true, false, cond, not, ◌==◌, List, [], ◌∷◌, ◌++◌}
-use Rattle.std.proofs.Common.{length, set, Option, Some, None, option_map, find, filter, is_some, is_none, refl, sym, ap, ◌∙◌, arith, ◌⊎◌}
+use Rattle.std.proofs.Common.{length, set, Option, Some, None, find, filter, is_some, is_none, refl, sym, ap, ◌∙◌, arith, ◌⊎◌}
 use Rattle.std.proofs.Common.{inl, inr, mod-lt, mul-le-mul_right, map, ap₂, nat_lt, nat_le}
 use Rattle.std.specs.List.{range_with_len, list_all, list_any}
 use Rattle.std.specs.Option.{option_or}
-use native.Mathlib.Nat.{div-eq_of_lt-le}
 use Rattle.std.proofs.lemmas.List.{set-set}
 use Rattle.write_queue.specs.declared.Queued.{Queued}
 use Rattle.cache_unit.specs.Begun.{begun_frame, begun_register}
@@ -15,8 +14,8 @@ use Rattle.cache_unit.specs.State.{is_pending_block, free_slot, Target, cell_of,
 use Rattle.cache_unit.specs.Causes.{choose, ways_of, is_resident_block, dirty_words, first_cause, miss_causes, is_in_use, found, load_cause}
 use Rattle.cache_unit.specs.Causes.{store_cause, prefetch_cause, evict_cause, lacks_places, targets_full}
 use Rattle.cache_unit.specs.Steps.{released, installed, reads, fetched, fetches, unless, loaded, written, load_step, store_step}
-use Rattle.cache_unit.specs.Steps.{prefetch_step, request_step, Stepped, evict_step, evicted_from, missed}
-use Rattle.cache_unit.specs.FormLaws.{form_at, missed_words, fetched_words, LoadForms, StoreForms, PrefetchForms, RequestForms}
+use Rattle.cache_unit.specs.Steps.{prefetch_step, request_step, Stepped, evict_step, evicted_from}
+use Rattle.cache_unit.specs.FormLaws.{missed_words, fetched_words, LoadForms, StoreForms, PrefetchForms, RequestForms}
 use Rattle.cache_unit.specs.SoundCache.{IsSoundCache}
 use Rattle.cache_unit.proofs.Lists.{frame-comes, in_range, frame_of-some, none_in_frames, live_for-some}
 use Rattle.cache_unit.proofs.FormsWords.{FetchedBy, installed-by, MissedBy, missed-by, Hit, stored-by, loaded-by}
@@ -26,13 +25,13 @@ use Rattle.cache_unit.proofs.Choosing.{register-test}
 use Rattle.flat_model.specs.declared.Word.{Word}
 use Rattle.flat_model.specs.declared.Lanes.{Lanes}
 use Rattle.flat_model.specs.declared.Cause.{Cause}
-use Rattle.flat_model.specs.declared.Cause.TheVariants.{OutOfRange, NoLanes, TagInUse, RepliesFull, NoRegister, SetPending, NotPresent}
+use Rattle.flat_model.specs.declared.Cause.TheVariants.{OutOfRange, NoLanes, TagInUse, RepliesFull, NotPresent}
 use Rattle.flat_model.specs.declared.Cause.TheVariants.{QueueFull, TargetsFull}
 use Rattle.flat_model.specs.declared.Answer.TheVariants.{Accepted, Refused}
 use Rattle.memory_banks.specs.declared.Command.{Command}
 use Rattle.cache_unit.specs.declared.Request.{Request}
 use Rattle.cache_unit.specs.declared.Request.TheVariants.{Load, Store, Prefetch}
-use Rattle.cache_unit.specs.Forms.{over_form, owed}
+use Rattle.cache_unit.specs.Forms.{owed}
 use Rattle.cache_unit.proofs.FormsEvents.{dues-tally, owed-same, forms-from, drain_forms, arrive_forms, take_forms, evict_forms}
 use Rattle.flat_model.specs.Words.{has_any}
 use Rattle.cache_unit.specs.Requests.{absence_cause, is_full_for, load_answer, load_present}
@@ -107,12 +106,8 @@ chosen z c h block f e = go _ refl _ refl e
     by_free : find free ways ≡ Some f → (f < length c.directory.frames) × MayGo c f × OfSet z c (block % z.sets) f
     by_free q =
         let r = find_range free _ _ f q in
-        let l = mod-lt block h.some_sets in
-        let k : suc _ * z.ways ≤ z.sets * z.ways = mul-le-mul_right _ l in
-        let n = h.frames_are in
-        let r1 = r.1 in
-        let own = div-eq_of_lt-le _ (let r0 = r.0 in omega arith) (let r2 = r.1 in omega arith) in
-        (omega arith, inl (none_from _ (find-passes free ways f q)), inl own)
+        let k : suc (block % z.sets) * z.ways ≤ z.sets * z.ways = mul-le-mul_right _ (mod-lt block h.some_sets) in
+        (omega (arith, h.frames_are), inl (none_from _ (find-passes free ways f q)), inl (grind arith))
 
     by_resident : find resident order ≡ Some f → (f < length c.directory.frames) × MayGo c f × OfSet z c (block % z.sets) f
     by_resident q =
@@ -133,11 +128,6 @@ free_register_at c slot e = free_slot-found c.registers slot e
 -- not every register is valid, and not every way is pending
 abbrev pub Able : Sizes → Cache → ℕ → Type 0
 Able z c block = ((length (filter (λ r. r.valid) c.registers) == z.regs) ≡ false) × (list_all (is_pending c) (ways_of z block) ≡ false)
-
-some_slot : (z : Sizes) (c : Cache) → IsSoundCache z c → (length (filter (λ r. r.valid) c.registers) == z.regs) ≡ false
-    → is_none (free_slot c) ≡ false
-unfolding regs.free_slot
-some_slot z c h e = sym (register-test c z.regs h.registers_are) ∙ e
 
 pub some_frame : (z : Sizes) (c : Cache) → IsSoundCache z c → (block : ℕ) → list_all (is_pending c) (ways_of z block) ≡ false
     → is_none (choose z c block) ≡ false
@@ -167,7 +157,7 @@ some_frame z c h block e = go (frame_at c x.0).block refl x.3
         grind (
           arith,
           found_member resident (order_of c.directory (block % z.sets)) x.0 here
-              (ap (is_resident_block c) q ∙ ap not (ap (is_pending_block c) (sym q) ∙ r)),
+              (cc (q, r)),
         )
 
 -- ---- the block is fetched
@@ -225,7 +215,8 @@ pub record Misses (z : Sizes) (c : Cache) (block : ℕ) : Type 0 where
 
 pub misses : (z : Sizes) (c : Cache) → IsSoundCache z c → (block : ℕ) → frame_of c block ≡ None → Able z c block → Misses z c block
 unfolding fetches
-misses z c h block absent able = go _ refl (some_frame z c h block able.1) _ refl (some_slot z c h able.0)
+misses z c h block absent able =
+    go _ refl (some_frame z c h block able.1) _ refl (sym (register-test c z.regs h.registers_are) ∙ able.0)
   where
     go : (o : Option ℕ) → choose z c block ≡ o → is_none o ≡ false → (s : Option ℕ) → free_slot c ≡ s → is_none s ≡ false → Misses z c block
     go None ef p s es q = cc
@@ -254,7 +245,7 @@ fetched-by z c h block able = go _ refl
     there : (k : ℕ) → frame_of c block ≡ Some k → FetchedBy z c block c
     there k e = record {
       waits = grind arith;
-      words = λ at. sym (ap (λ o. cond (is_some o) (form_at z c) (missed_words z c block (choose z c block) (free_slot c)) at) e);
+      words = λ at. rw e;
       same_targets = refl;
       same_ready = refl;
       same_stack = refl;
@@ -295,15 +286,10 @@ no-cause : (b : Bool) (k : Cause) (o : Option Cause) → cond b (Some k) o ≡ N
 no-cause true k o e = cc
 no-cause false k o e = (refl, e)
 
-able-from : (z : Sizes) (room : ℕ → ℕ) (c : Cache) (block : ℕ) → first_cause (miss_causes z room c block) ≡ None → Able z c block
-able-from z room c block e =
-    let p = no-cause _ NoRegister _ e in
-    (p.0, (no-cause _ SetPending _ p.1).0)
-
 -- a missing block meets the causes of a miss
 pub missing : (z : Sizes) (room : ℕ → ℕ) (c : Cache) (block : ℕ) (here : List (Bool × Cause))
     → first_cause (cond (is_present c block) here (miss_causes z room c block)) ≡ None → is_present c block ≡ false → Able z c block
-missing z room c block here e q = able-from z room c block (rw q at e)
+missing z room c block here e q = grind (arith, no-cause)
 
 pub none-counted : (p : ℕ → Bool) (xs : List ℕ) → list_any p xs ≡ false → length (filter p xs) ≡ 0
 none-counted p [] e = refl
@@ -326,8 +312,7 @@ module _ (z : Sizes) (c : Cache) (h : IsSoundCache z c) (at : ℕ) (d : Cache) (
       let s = stored-by z h.some_words d at there word lanes in
       record {
         present = ap is_some s.present;
-        after = forms-from z (written d _ _ word lanes) _ _ (λ a. s.words a
-            ∙ ap₂ (λ o p. cond (a == at) (option_map (over_form lanes word) o) p) (fetch.words at) (fetch.words a))
+        after = forms-from z (written d _ _ word lanes) _ _ (λ a. (cc (s.words a, fetch.words at, fetch.words a)))
             (λ tag. s.owing tag ∙ same_owed tag);
       }
 
@@ -342,7 +327,7 @@ module _ (z : Sizes) (c : Cache) (h : IsSoundCache z c) (at : ℕ) (d : Cache) (
       record {
         present = ap is_some l.present;
         after = forms-from z (loaded d tag _ (cell_of d _ _).word _) _ _ (λ a. l.words a ∙ fetch.words a)
-            (λ t. l.owing t ∙ ap₂ (λ o p. cond (t == tag) o p) (fetch.words at) (same_owed t));
+            (λ t. (cc (l.owing t, fetch.words at, same_owed t)));
       }
 
 -- ---- the steps
@@ -389,7 +374,7 @@ evict_by z c block a o b e f g = grind arith
 -- ---- the block
 
 pub present_cause : (z : Sizes) (room : ℕ → ℕ) (c : Cache) (block : ℕ) → is_present c block ≡ true → absence_cause z room c block ≡ None
-present_cause z room c block e = ap (λ b. first_cause (cond b [] (miss_causes z room c block))) e
+present_cause z room c block e = rw e
 
 pub absent_cause : (z : Sizes) (room : ℕ → ℕ) (c : Cache) (block : ℕ) (o : Option Cause) → is_present c block ≡ false
     → first_cause (miss_causes z room c block) ≡ o → absence_cause z room c block ≡ o
@@ -397,18 +382,18 @@ absent_cause z room c block o e k = cc (e, k)
 
 pub present_fetched : (z : Sizes) (c : Cache) (block : ℕ) → is_present c block ≡ true → fetched z c block ≡ c
 unfolding fetched
-present_fetched z c block e = ap (λ b. cond b c (missed z c block (choose z c block) (free_slot c))) e
+present_fetched z c block e = rw e
 
 pub present_fetches : (z : Sizes) (c : Cache) (block : ℕ) → is_present c block ≡ true → fetches z c block ≡ []
 unfolding fetches
-present_fetches z c block e = ap (λ b. cond b [] (reads z block (free_slot c))) e
+present_fetches z c block e = rw e
 
 -- what is owed stays as it was
 pub tags_kept : (z : Sizes) (room : ℕ → ℕ) (c : Cache) (block : ℕ) → IsSoundCache z c → absence_cause z room c block ≡ None
     → tags (fetched z c block) ≡ tags c
 tags_kept z room c block h e =
     let by = fetched-by z c h block (missing z room c block [] e) in
-    ap₂ (λ ready ts. map (λ r. r.tag) ready ++ map (λ t. t.load.tag) ts) by.same_ready by.same_targets
+    rw (by.same_ready, by.same_targets)
 
 -- where no load waits for a block's word, one more may
 targets_free : (c : Cache) (block i : ℕ) → ((s : ℕ) → live_for c block ≡ Some s → (j : ℕ) → (field_at c s j).waiting ≡ [])
@@ -429,41 +414,44 @@ abbrev store_tests : Bool → Bool → Option Cause → Option Cause
 store_tests a b rest = cond a (Some OutOfRange) (cond b (Some NoLanes) rest)
 
 module _ (z : Sizes) (room : ℕ → ℕ) (c : Cache) (at : ℕ) where
+  -- the word's block, and its place there
+  abbrev own_block : ℕ
+  own_block = block_of z at
+
+  abbrev place : ℕ
+  place = place_in z at
+
   abbrev Inside : Type 0
   Inside = not (nat_lt at z.words) ≡ false
 
   abbrev absence : Option Cause
-  absence = absence_cause z room c (block_of z at)
+  absence = absence_cause z room c own_block
 
   abbrev is_full : Bool
-  is_full = is_full_for c (block_of z at) (place_in z at)
+  is_full = is_full_for c own_block place
 
   abbrev owes_all : Bool
   owes_all = nat_le z.replies (length (tags c))
 
   abbrev load_last : Option Cause
-  load_last = first_cause (cond (is_present c (block_of z at))
-      ((targets_full c (place_in z at) (found c (block_of z at) (place_in z at)), TargetsFull) ∷ []) (miss_causes z room c (block_of z at)))
+  load_last = first_cause (cond (is_present c own_block)
+      ((targets_full c place (found c own_block place), TargetsFull) ∷ []) (miss_causes z room c own_block))
 
   -- ---- loads
 
   abbrev pub load_to : ℕ → Stepped
   load_to tag = record {
     answer = Accepted;
-    cache = loaded (fetched z c (block_of z at)) tag (place_in z at)
-        (cell_of (fetched z c (block_of z at)) (block_of z at) (place_in z at)).word
-        (found (fetched z c (block_of z at)) (block_of z at) (place_in z at));
-    sent = fetches z c (block_of z at);
+    cache = loaded (fetched z c own_block) tag place
+        (cell_of (fetched z c own_block) own_block place).word
+        (found (fetched z c own_block) own_block place);
+    sent = fetches z c own_block;
   }
-
-  abbrev load_told : ℕ → Bool → Bool → Bool → Stepped
-  load_told tag a b k = unless (load_tests a b k load_last) c (load_to tag)
 
   pub load_by : (tag : ℕ) (a b k : Bool) (o : Option Cause) → not (nat_lt at z.words) ≡ a → is_in_use c tag ≡ b → owes_all ≡ k
       → load_last ≡ o → load_step z room c tag at ≡ unless (load_tests a b k o) c (load_to tag)
   unfolding load_step load_cause
-  load_by tag a b k o e f g h = ap₂ (λ x y. unless (load_tests x y owes_all load_last) c (load_to tag)) e f
-      ∙ ap₂ (λ x y. unless (load_tests a b x y) c (load_to tag)) g h
+  load_by tag a b k o e f g h = cc (e, f, g, h)
 
   pub load_absent : (cause : Cause) → absence ≡ Some cause → load_last ≡ Some cause
   load_absent cause e = grind arith
@@ -472,15 +460,15 @@ module _ (z : Sizes) (room : ℕ → ℕ) (c : Cache) (at : ℕ) where
   abbrev pub load_on : ℕ → Bool → Stepped
   load_on tag full = record {
     answer = load_answer full;
-    cache = load_present (fetched z c (block_of z at)) tag (block_of z at) (place_in z at) full;
-    sent = fetches z c (block_of z at);
+    cache = load_present (fetched z c own_block) tag own_block place full;
+    sent = fetches z c own_block;
   }
 
   pub load_decided : (tag : ℕ) → Inside → is_in_use c tag ≡ false → owes_all ≡ false → absence ≡ None
       → load_step z room c tag at ≡ load_on tag is_full
-  load_decided tag e k l n = load_by tag _ _ _ _ e k l refl ∙ rest (is_present c (block_of z at)) refl n
+  load_decided tag e k l n = load_by tag _ _ _ _ e k l refl ∙ rest (is_present c own_block) refl n
     where
-      rest : (b : Bool) → is_present c (block_of z at) ≡ b → absence ≡ None → unless load_last c (load_to tag) ≡ load_on tag is_full
+      rest : (b : Bool) → is_present c own_block ≡ b → absence ≡ None → unless load_last c (load_to tag) ≡ load_on tag is_full
       rest b p n = grind (arith, present_fetched, present_fetches)
 
   -- ---- stores
@@ -488,25 +476,24 @@ module _ (z : Sizes) (room : ℕ → ℕ) (c : Cache) (at : ℕ) where
   abbrev pub store_to : Word → Lanes → Stepped
   store_to word lanes = record {
     answer = Accepted;
-    cache = written (fetched z c (block_of z at)) (block_of z at) (place_in z at) word lanes;
-    sent = fetches z c (block_of z at);
+    cache = written (fetched z c own_block) own_block place word lanes;
+    sent = fetches z c own_block;
   }
 
   pub store_by : (word : Word) (lanes : Lanes) (a b : Bool) (o : Option Cause) → not (nat_lt at z.words) ≡ a → not (has_any lanes) ≡ b
       → absence ≡ o → store_step z room c at word lanes ≡ unless (store_tests a b o) c (store_to word lanes)
   unfolding store_step store_cause
-  store_by word lanes a b o e f g = ap₂ (λ x y. unless (store_tests x y absence) c (store_to word lanes)) e f
-      ∙ ap (λ x. unless (store_tests a b x) c (store_to word lanes)) g
+  store_by word lanes a b o e f g = cc (e, f, g)
 
   -- ---- prefetches
 
   abbrev pub prefetch_to : Stepped
-  prefetch_to = record { answer = Accepted; cache = fetched z c (block_of z at); sent = fetches z c (block_of z at) }
+  prefetch_to = record { answer = Accepted; cache = fetched z c own_block; sent = fetches z c own_block }
 
   pub prefetch_by : (o : Option Cause) (b : Bool) → not (nat_lt at z.words) ≡ b → absence ≡ o
       → prefetch_step z room c at ≡ unless (cond b (Some OutOfRange) o) c prefetch_to
   unfolding prefetch_step prefetch_cause
-  prefetch_by o b e m = ap₂ (λ a r. unless (cond a (Some OutOfRange) r) c prefetch_to) e m
+  prefetch_by o b e m = cc (e, m)
 
 -- ---- What each step of a sound unit makes of the forms.
 

@@ -1,6 +1,6 @@
 -- The tags of the values that stand ready, and of the loads that wait.
-use Rattle.std.proofs.Common.{◌≡◌, ℕ, suc, ◌+◌, ◌<◌, ◌≤◌, Bool, true, false, cond, ◌||◌, ◌==◌, if◌then◌else◌, List, [], ◌∷◌, ◌++◌, map}
-use Rattle.std.proofs.Common.{length, get_or, set, refl, ap, ap₂, sym, ◌∙◌, arith, length-append, eqb-true, Some, ◌-◌, slice_get, ◌/◌}
+use Rattle.std.proofs.Common.{◌≡◌, ℕ, suc, ◌+◌, ◌<◌, ◌≤◌, Bool, true, false, ◌||◌, ◌==◌, if◌then◌else◌, List, [], ◌∷◌, ◌++◌, map}
+use Rattle.std.proofs.Common.{length, get_or, set, refl, ap, sym, ◌∙◌, arith, length-append, eqb-true, Some, ◌-◌, slice_get, ◌/◌}
 use Rattle.std.specs.List.{sum_by, count_by, list_any, flat_map}
 use Rattle.std.proofs.lemmas.Bool.{or_parts, cases_lt}
 use Rattle.std.proofs.lemmas.List.{map-append, length-map}
@@ -30,7 +30,7 @@ tag_of t = t.load.tag
 
 same_tags : (slot i : ℕ) (ws : List Owed) → map tag_of (map (λ w. record { slot = slot; i = i; load = w }) ws) ≡ map (λ w. w.tag) ws
 same_tags slot i [] = refl
-same_tags slot i (w ∷ ws) = ap (λ l. w.tag ∷ l) (same_tags slot i ws)
+same_tags slot i (w ∷ ws) = cc (same_tags slot i ws)
 
 tags_of-field : (slot i : ℕ) (b : Bool) (f : Field) → f.processed ≡ b → (f.processed ≡ true → f.waiting ≡ [])
     → map tag_of (if b then [] else map (λ w. record { slot = slot; i = i; load = w }) f.waiting) ≡ tags_of_field f
@@ -40,8 +40,8 @@ tags_of-field slot i false f e h = same_tags slot i f.waiting
 tags_of-fields : (slot n : ℕ) (fs : List Field) → ((i : ℕ) → (get_or fs i regs.clear_field).processed ≡ true
     → (get_or fs i regs.clear_field).waiting ≡ []) → map tag_of (gathered (targets_of_field slot) n fs) ≡ flat_map tags_of_field fs
 tags_of-fields slot n [] h = refl
-tags_of-fields slot n (f ∷ fs) h = map-append tag_of _ (gathered (targets_of_field slot) (suc n) fs)
-    ∙ ap₂ ◌++◌ (tags_of-field slot n f.processed f refl (h 0)) (tags_of-fields slot (suc n) fs (λ i. h (suc i)))
+tags_of-fields slot n (f ∷ fs) h =
+    rw map-append (cc (tags_of-field slot n f.processed f refl (h 0), tags_of-fields slot (suc n) fs (λ i. h (suc i))))
 
 tags_of-register : (words n : ℕ) (r : Register) → IsWholeRegister words r → map tag_of (targets_of n r) ≡ tags_of r
 tags_of-register words n r w = grind (arith, r.valid, r.fields, tags_of-fields, w.done)
@@ -49,8 +49,8 @@ tags_of-register words n r w = grind (arith, r.valid, r.fields, tags_of-fields, 
 tags_of-registers : (words n : ℕ) (rs : List Register) → ((s : ℕ) → IsWholeRegister words (get_or rs s regs.free_register))
     → map tag_of (gathered targets_of n rs) ≡ flat_map tags_of rs
 tags_of-registers words n [] h = refl
-tags_of-registers words n (r ∷ rs) h = map-append tag_of _ (gathered targets_of (suc n) rs)
-    ∙ ap₂ ◌++◌ (tags_of-register words n r (h 0)) (tags_of-registers words (suc n) rs (λ s. h (suc s)))
+tags_of-registers words n (r ∷ rs) h =
+    rw map-append (cc (tags_of-register words n r (h 0), tags_of-registers words (suc n) rs (λ s. h (suc s))))
 
 pub waiting-shown : (words regs' : ℕ) (rs : List Register) → IsWhole words regs' rs → map tag_of (targets rs) ≡ waiting_tags rs
 unfolding targets waiting_tags
@@ -86,10 +86,7 @@ owing-all c w =
 pub length-tags : {words regs' : ℕ} (c : Cache) → IsWhole words regs' c.registers
     → length (tags c) ≡ length (waiting_tags c.registers) + length c.ready
 length-tags c w =
-    let a = ap length (tags-shown c w) in
-    let b = length-append (map (λ r. r.tag) c.ready) (waiting_tags c.registers) in
-    let n = length-map c.ready (λ r. r.tag) in
-    omega arith
+    grind (arith, tags-shown c w, length-append, length-map)
 
 -- ---- a tag in use
 
@@ -115,17 +112,15 @@ owes-added z c rs ready tag h new room add = record {
 }
   where
     go : (t : ℕ) (b : Bool) → (tag == t) ≡ b → owing (λ x. x == t) ready rs ≤ 1
-    go t true e =
-        let same = eqb-true tag t e in
-        let none =
-        ap (list_any (λ x. x == t)) (sym (tags-shown c h.registers)) ∙ ap (λ n. list_any (λ x. x == n) (tags c)) (sym same) ∙ new in
-        let zero' = owing-tags (λ x. x == t) c.ready _ ∙ none_counted (λ x. x == t) (map (λ r. r.tag) _ ++ waiting_tags _) none in
-        let a = add (λ x. x == t) ∙ ap (λ v. owing (λ x. x == t) c.ready c.registers + cond v 1 0) e in
-        omega arith
-    go t false e =
-        let a = add (λ x. x == t) ∙ ap (λ v. owing (λ x. x == t) c.ready c.registers + cond v 1 0) e in
-        let b = h.owes.once t in
-        omega arith
+    go t true e = grind (
+      arith,
+      eqb-true tag t e,
+      tags-shown c h.registers,
+      owing-tags (λ x. x == t) c.ready c.registers,
+      none_counted (λ x. x == t) (map (λ r. r.tag) c.ready ++ waiting_tags c.registers),
+      add (λ x. x == t),
+    )
+    go t false e = grind (arith, add (λ x. x == t), h.owes.once t)
 
 -- a reply goes last
 pub owing-push : (p : ℕ → Bool) (ready : List Reply) (rs : List Register) (r : Reply)
@@ -140,11 +135,7 @@ unfolding awaited
 owing-awaited p ready rs s i o a b =
     let r = register_at rs s in
     let f = record (field_of r i) { waiting = (field_of r i).waiting ++ o ∷ [] } in
-    let x = owing-set p ready rs s (regs.with_field r i f) a in
-    let y = loads-set p r i f b in
-    let n = count_by-append (λ w. p w.tag) (field_of r i).waiting (o ∷ []) in
-    let m = sum_by-cons (λ w. cond (p w.tag) 1 0) o [] in
-    omega arith
+    grind (arith, owing-set p ready rs s (regs.with_field r i f) a, loads-set p r i f b, count_by-append, sum_by-cons)
 
 -- ---- What the forms rest on holds of each sound unit.
 
@@ -187,18 +178,10 @@ sound_cache z c h = record {
     there k e g =
         let t = Taken-from _ k e g in
         let w = h.stack_sound.entries k t.within in
-        let in_slot = rw t.same at w.valid in
-        let in_word = rw t.same at w.there in
-        let missing = rw t.same at w.waits in
-        let number = (h.registers.each e.slot).fields_there in_slot in
-        record { valid = in_slot; there = omega arith; waits = missing }
+        grind (arith, t.same, w, (h.registers.each e.slot).fields_there)
 
     never : (j k : ℕ) (x y : Entry) → slice_get c.stack j ≡ Some x → slice_get c.stack k ≡ Some y → x.slot ≡ y.slot → x.i ≡ y.i → j < k → ⊥
-    never j k x y gj gk es ei l =
-        let a = Taken-from _ j x gj in
-        let b = Taken-from _ k y gk in
-        h.stack_sound.distinct j k l b.within (cc (a.same, es, b.same))
-        (cc (a.same, ei, b.same))
+    never j k x y gj gk es ei l = grind (arith, Taken-from c.stack j x gj, Taken-from c.stack k y gk, h.stack_sound.distinct j k l)
 
     apart : (j k : ℕ) (x y : Entry) → slice_get c.stack j ≡ Some x → slice_get c.stack k ≡ Some y → x.slot ≡ y.slot → x.i ≡ y.i → j ≡ k
     apart j k x y gj gk es ei = grind (arith, never, cases_lt)

@@ -30,19 +30,15 @@ note_store-requires c =
 
 pub loop-i-preserved : goal.loop-i-preserved
 loop-i-preserved c =
-    let d = c.args.directory.now in
-    let rs = c.args.registers.now in
-    let entries = c.args.queue.now.entries in
-    let filled_now = c.fill.ensures.filled ∙ ap₂ (λ w m. with_frame c.loop-i.directory c.args.frame
-    (filled (frame_at c.loop-i.directory.frames c.args.frame) c.loop-i.i w m)) (ap (λ f. f.word) c.newest-newest.ensures)
-    c.none.ensures in
-    let noted_now = c.note_store.ensures.registers
-    ∙ ap (λ f. set c.loop-i.registers c.args.slot (noted (register_at c.loop-i.registers c.args.slot) c.loop-i.i f.lanes))
-    c.newest-newest.ensures in (
-      frame_next d c.loop-i.directory _ _ entries _ _ c.loop-i.i c.requires.frame c.loop-i-test.true c.loop-i.invariant.0 filled_now,
+    let entries = c.args.queue.now.entries in (
+      frame_next c.args.directory.now c.loop-i.directory _ _ entries _ _ c.loop-i.i c.requires.frame c.loop-i-test.true
+          c.loop-i.invariant.0 (c.fill.ensures.filled ∙ ap₂ (λ w m. with_frame c.loop-i.directory c.args.frame (filled (frame_at
+          c.loop-i.directory.frames c.args.frame) c.loop-i.i w m)) (ap (λ f. f.word) c.newest-newest.ensures) c.none.ensures),
       c.fill.ensures.whole _ _ c.loop-i.invariant.1,
       c.note_store.ensures.whole _ _ c.loop-i.invariant.2,
-      register_next rs c.loop-i.registers _ _ entries _ _ _ c.loop-i.i c.requires.slot c.loop-i-test.true c.loop-i.invariant.3 noted_now,
+      register_next c.args.registers.now c.loop-i.registers _ _ entries _ _ _ c.loop-i.i c.requires.slot c.loop-i-test.true
+          c.loop-i.invariant.3 (c.note_store.ensures.registers ∙ ap (λ f. set c.loop-i.registers c.args.slot (noted (register_at
+          c.loop-i.registers c.args.slot) c.loop-i.i f.lanes)) c.newest-newest.ensures),
     )
 
 pub returns-clause-directory : goal.returns-clause-directory

@@ -9,9 +9,9 @@ use Rattle.cache_unit.proofs.fetch.bring_in.Goals as goal
 pub install-requires : goal.install-requires
 install-requires g c =
     let f = c.args.places.frame in
-    let m = given_may_install _ _ c.args.directory.now f _ c.requires.whole c.requires.absent c.requires.frame c.requires.of_set in
     let P : dir.Frames → Type 0 = λ x. MayInstall c.args.sizes.now.ways x f c.args.block in
-    let n = subst P (sym c.vacate.ensures.directory) m in
+    let n = subst P (sym c.vacate.ensures.directory) (given_may_install _ _ c.args.directory.now f _ c.requires.whole c.requires.absent
+    c.requires.frame c.requires.of_set) in
     record { whole = c.vacate.ensures.whole; frame = n.there; free = n.free; of_set = n.of_set; absent = n.absent }
 
 pub allocate-requires : goal.allocate-requires
@@ -28,9 +28,9 @@ begin_words-requires g c =
     let slot = c.args.places.slot in
     let rs = c.args.registers.now in
     let given = c.vacate.new.directory in
-    let m = given_may_install _ _ c.args.directory.now f _ c.requires.whole c.requires.absent c.requires.frame c.requires.of_set in
     let P : dir.Frames → Type 0 = λ x. MayInstall c.args.sizes.now.ways x f c.args.block in
-    let n = subst P (sym c.vacate.ensures.directory) m in
+    let n = subst P (sym c.vacate.ensures.directory) (given_may_install _ _ c.args.directory.now f _ c.requires.whole c.requires.absent
+    c.requires.frame c.requires.of_set) in
     let there : f < length _ = rw (sym (ap (λ x. length x.frames) c.install.ensures.installed ∙ installed_frames _ _ given f _)) at
     n.there in
     let fresh = ap (λ x. dir.frame_at x.frames f) c.install.ensures.installed ∙ installed-here _ _ given f _ n.there in

@@ -10,7 +10,6 @@ send-requires g c = room_for_next g.L.Lines.sent_to g.L.Lines.room_of g.L.Lines.
 
 pub loop-k-preserved : goal.loop-k-preserved
 loop-k-preserved g c =
-    let same = g.met.L.Lines.same_steps _ _ _ c.loop-k.invariant.kept c.send.ensures.same in
-    let all = HasSent-more g.L.Lines.sent_to g.L.Lines.room_of g.L.Lines.same _ c.loop-k.lines _ _ _ _ same c.loop-k.invariant
-    c.send.ensures.sent c.send.ensures.room c.send.ensures.others in
-    rw (block_reads_more _ _ _ _ c.loop-k.k) all
+    rw (block_reads_more _ _ _ _ c.loop-k.k) (HasSent-more g.L.Lines.sent_to g.L.Lines.room_of g.L.Lines.same _ c.loop-k.lines _ _ _ _
+    (g.met.L.Lines.same_steps _ _ _ c.loop-k.invariant.kept c.send.ensures.same) c.loop-k.invariant c.send.ensures.sent
+    c.send.ensures.room c.send.ensures.others)

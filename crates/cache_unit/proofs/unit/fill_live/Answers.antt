@@ -5,8 +5,8 @@ use Rattle.cache_unit.proofs.unit.fill_live.Goals as goal
 
 pub settle_frame-requires : goal.settle_frame-requires
 settle_frame-requires c =
-    let there = rw c.in-Some.is at c.requires.there in
-    ap (λ d. dir.is_held d c.in-Some.frame) c.fill.ensures.filled ∙ (held-filled c.args.directory.now c.in-Some.frame _ _ _ there.0)
+    ap (λ d. dir.is_held d c.in-Some.frame) c.fill.ensures.filled ∙ (held-filled c.args.directory.now c.in-Some.frame _ _ _ (rw
+    c.in-Some.is at c.requires.there).0)
 
 pub returns-then-last-clause-whole : goal.returns-then-last-clause-whole
 returns-then-last-clause-whole c ways words h = c.settle_frame.ensures.whole ways words (c.fill.ensures.whole ways words h)

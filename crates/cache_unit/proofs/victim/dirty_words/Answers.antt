@@ -17,11 +17,10 @@ loop-i-preserved c =
     c.requires.held in
     let there : c.loop-i.i < length cells = omega arith in
     let test = sym (ap has_any c.dirty.ensures.dirty) ∙ sym c.has_any.ensures in
-    let cell = get_or cells c.loop-i.i zero_cell in
     let front = dirty_from 0 0 (take c.loop-i.i cells) in
     elim c.if-has_any.branch [
       | then-has_any w ↦ (let e = ap length (dirty_more 0 0 cells c.loop-i.i true there (test ∙ w.if-has_any.true))
-          ∙ length-append front (queued_cell 0 (0 + c.loop-i.i) cell ∷ []) in (omega arith, omega arith))
+          ∙ length-append front (queued_cell 0 (0 + c.loop-i.i) (get_or cells c.loop-i.i zero_cell) ∷ []) in (omega arith, omega arith))
       | else-has_any w ↦
           (let e = ap length (dirty_more 0 0 cells c.loop-i.i false there (test ∙ w.if-has_any.false)) ∙ ap length (append-nil front) in
           (omega arith, omega arith))

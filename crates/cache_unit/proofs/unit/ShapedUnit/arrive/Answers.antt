@@ -9,34 +9,32 @@ pub invariant_of-self : goal.invariant_of-self
 invariant_of-self c =
     let s = c.self.inside in
     let e : Entry = record { slot = c.args.slot; i = c.args.i; word = c.args.word } in
-    let w = rw c.mark_in_stack.ensures.registers at
-    (c.mark_in_stack.ensures.whole s.sizes.block_words s.sizes.regs c.self.invariant.sound.registers) in
     record {
       sound = rw (c.mark_in_stack.ensures.registers, c.in-Ok.ensures.ok)
           (IsSound-arrived s.sizes _ e c.self.invariant.sound (Expected-from _ _ (sym c.expects.ensures.answer ∙ c.if-not-expects.false))
-          w);
+          (rw c.mark_in_stack.ensures.registers at (c.mark_in_stack.ensures.whole s.sizes.block_words s.sizes.regs
+          c.self.invariant.sound.registers)));
       limit = c.self.invariant.limit;
     }
 
 pub returns-then-not-expects : goal.returns-then-not-expects
 returns-then-not-expects c =
     let s = c.self.inside in
-    let stray = sym (stray-shown s.sizes _ _ _ c.self.invariant.sound) ∙ rw (← c.expects.ensures.answer, c.if-not-expects.true) refl in
-    let is = arrive_by s.sizes _ _ _ _ true _ stray refl in
-    rw (← c.self.view_is) (makes s.sizes _ c.self.invariant.sound _ _ _ _ is _ refl)
+    rw (← c.self.view_is) (makes s.sizes _ c.self.invariant.sound _ _ _ _ (arrive_by s.sizes _ _ _ _ true _ (sym (stray-shown s.sizes _ _ _
+    c.self.invariant.sound) ∙ rw (← c.expects.ensures.answer, c.if-not-expects.true) refl) refl) _ refl)
 
 pub returns-in-Ok : goal.returns-in-Ok
 returns-in-Ok c =
     let s = c.self.inside in
-    let awaited = sym (stray-shown s.sizes _ _ _ c.self.invariant.sound) ∙ rw (← c.expects.ensures.answer, c.if-not-expects.false) refl in
-    let is = arrive_by s.sizes _ _ _ _ false false awaited (lt-leb _ _ (c.in-Ok.ensures.variant.0 refl)) in
     rw (c.mark_in_stack.ensures.registers, c.in-Ok.ensures.ok, ← c.self.view_is)
-    (makes s.sizes _ c.self.invariant.sound _ _ _ _ is _ (arrived-shown _ _ _ _))
+    (makes s.sizes _ c.self.invariant.sound _ _ _ _ (arrive_by s.sizes _ _ _ _ false false (sym (stray-shown s.sizes _ _ _
+    c.self.invariant.sound) ∙ rw (← c.expects.ensures.answer, c.if-not-expects.false) refl) (lt-leb _ _ (c.in-Ok.ensures.variant.0
+    refl))) _ (arrived-shown _ _ _ _))
 
 pub returns-in-Err : goal.returns-in-Err
 returns-in-Err c =
     let s = c.self.inside in
-    let awaited = sym (stray-shown s.sizes _ _ _ c.self.invariant.sound) ∙ rw (← c.expects.ensures.answer, c.if-not-expects.false) refl in
     let full : nat_le s.sizes.depth (length s.stack) ≡ true = grind (arith, c.in-Err.ensures.variant.1, false≢true) in
     rw (c.in-Err.ensures.err, ← c.self.view_is)
-    (makes s.sizes _ c.self.invariant.sound _ _ _ _ (arrive_by s.sizes _ _ _ _ false true awaited full) _ refl)
+    (makes s.sizes _ c.self.invariant.sound _ _ _ _ (arrive_by s.sizes _ _ _ _ false true (sym (stray-shown s.sizes _ _ _
+    c.self.invariant.sound) ∙ rw (← c.expects.ensures.answer, c.if-not-expects.false) refl) full) _ refl)

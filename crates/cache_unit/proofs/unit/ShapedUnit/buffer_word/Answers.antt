@@ -1,6 +1,5 @@
 use Rattle.std.proofs.Common.{◌∙◌, ap, sym, Some}
 use Rattle.std.specs.Option.{option_map}
-use Rattle.cache_unit.specs.View.{cache_of}
 use borrow.Author.Tests.{ltb-true}
 use Rattle.cache_unit.proofs.Choosing.{some-within, cell-there}
 use Rattle.cache_directory.specs.Frames as dir
@@ -9,15 +8,11 @@ use Rattle.cache_unit.proofs.unit.ShapedUnit.buffer_word.Goals as goal
 
 pub word-requires : goal.word-requires
 word-requires c =
-    let s = c.self.inside in
-    let there = rw (← c.self.view_is) at (sym c.has_word.ensures ∙ c.if-has_word.true) in
-    ltb-true _ _ (sym (some-within (dir.frame_at s.directory.frames _).cells _) ∙ there)
+    ltb-true _ _ (sym (some-within (dir.frame_at c.self.inside.directory.frames _).cells _) ∙ (rw (← c.self.view_is) at (sym
+    c.has_word.ensures ∙ c.if-has_word.true)))
 
 pub returns-then-has_word : goal.returns-then-has_word
 returns-then-has_word c =
     let s = c.self.inside in
-    let now = cache_of s in
-    let there = rw (← c.self.view_is) at (sym c.has_word.ensures ∙ c.if-has_word.true) in
-    let part = ap Some c.word.ensures.word
-    ∙ ap (option_map (λ x. x.word)) (sym (cell-there (dir.frame_at s.directory.frames _).cells _ there)) in
-    rw (← c.self.view_is) part
+    rw (← c.self.view_is) (ap Some c.word.ensures.word ∙ ap (option_map (λ x. x.word)) (sym (cell-there (dir.frame_at s.directory.frames
+    _).cells _ (rw (← c.self.view_is) at (sym c.has_word.ensures ∙ c.if-has_word.true)))))

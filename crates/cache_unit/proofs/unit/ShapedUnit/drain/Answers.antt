@@ -10,7 +10,6 @@ use Rattle.cache_unit.proofs.unit.ShapedUnit.drain.Goals as goal
 queue_less : (z : Sizes) (entries : List Queued) → QueueSound z entries → QueueSound z (drop 1 entries)
 queue_less z [] h = h
 queue_less z (q ∷ rest) h =
-    let l = h.within in
     record { within = omega arith; addresses = λ k d m. h.addresses (suc k) d (omega arith) }
 
 pub invariant_of-self : goal.invariant_of-self

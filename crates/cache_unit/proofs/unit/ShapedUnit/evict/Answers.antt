@@ -16,11 +16,9 @@ dirty_words-dirty-requires c = grind (arith, frame_of-some, c.in-Some.frame)
 pub returns-then-first-words : goal.returns-then-first-words
 returns-then-first-words c =
     let s = c.self.inside in
-    let z = s.sizes in
-    let ge = rw c.from.ensures at (subst (λ n. n ≤ c.from.result * z.block_words) c.from-words.ensures
-    (rw (← c.from-2.ensures) c.if-first-words.true)) in
-    let is = evict_by z _ _ false _ _ (le-ltb _ _ ge) refl refl in
-    rw (← c.self.view_is) (makes s.sizes _ c.self.invariant.sound _ _ _ _ is _ refl)
+    rw (← c.self.view_is) (makes s.sizes _ c.self.invariant.sound _ _ _ _ (evict_by s.sizes _ _ false _ _ (le-ltb _ _ (rw c.from.ensures at
+    (subst (λ n. n ≤ c.from.result * s.sizes.block_words) c.from-words.ensures (rw (← c.from-2.ensures) c.if-first-words.true)))) refl
+    refl) _ refl)
 
 -- the block's first word is in memory
 within : (first words block number block_words size : ℕ) → first ≡ block → words ≡ size → number ≡ block_words → first * number < words
@@ -30,23 +28,18 @@ within first words block number block_words size a b e l = grind arith
 pub returns-in_default : goal.returns-in_default
 returns-in_default c =
     let s = c.self.inside in
-    let z = s.sizes in
-    let lt = within _ _ _ _ _ _ c.from.ensures c.from-words.ensures c.from-2.ensures c.if-first-words.false in
-    let none = sym c.look.ensures.found ∙ c.in_default.is in
-    let is = evict_by z _ _ true None _ (lt-ltb _ _ lt) none refl in
-    rw (← c.self.view_is) (makes s.sizes _ c.self.invariant.sound _ _ _ _ is _ refl)
+    rw (← c.self.view_is) (makes s.sizes _ c.self.invariant.sound _ _ _ _ (evict_by s.sizes _ _ true None _ (lt-ltb _ _ (within _ _ _ _ _ _
+    c.from.ensures c.from-words.ensures c.from-2.ensures c.if-first-words.false)) (sym c.look.ensures.found ∙ c.in_default.is) refl) _
+    refl)
 
 pub returns-then-room-dirty : goal.returns-then-room-dirty
 returns-then-room-dirty c =
     let s = c.self.inside in
-    let z = s.sizes in
-    let lt = within _ _ _ _ _ _ c.from.ensures c.from-words.ensures c.from-2.ensures c.if-first-words.false in
     let holds = sym c.in-Some.ensures.found in
-    let count = c.dirty_words-dirty.ensures.count _ _ in
-    let lacks = lacks-true z _ c.self.invariant.sound _ c.in-Some.frame holds
-    c.dirty_words-dirty.result _ count (rw (← c.self.invariant.limit) c.room.ensures.value) c.if-room-dirty.true in
-    let is = evict_by z _ _ true (Some c.in-Some.frame) true (lt-ltb _ _ lt) holds lacks in
-    rw (← c.self.view_is) (makes s.sizes _ c.self.invariant.sound _ _ _ _ is _ refl)
+    rw (← c.self.view_is) (makes s.sizes _ c.self.invariant.sound _ _ _ _ (evict_by s.sizes _ _ true (Some c.in-Some.frame) true (lt-ltb _
+    _ (within _ _ _ _ _ _ c.from.ensures c.from-words.ensures c.from-2.ensures c.if-first-words.false)) holds (lacks-true s.sizes _
+    c.self.invariant.sound _ c.in-Some.frame holds c.dirty_words-dirty.result _ (c.dirty_words-dirty.ensures.count _ _) (rw (←
+    c.self.invariant.limit) c.room.ensures.value) c.if-room-dirty.true)) _ refl)
 
 pub give_up-requires : goal.give_up-requires
 give_up-requires c = grind arith
@@ -55,14 +48,11 @@ pub returns : goal.returns
 returns c =
     let s = c.self.inside in
     let z = s.sizes in
-    let u = c.args.self.now in
-    let now = cache_of s in
-    let lt = within _ _ _ _ _ _ c.from.ensures c.from-words.ensures c.from-2.ensures c.if-first-words.false in
     let holds = sym c.in-Some.ensures.found in
-    let count = c.dirty_words-dirty.ensures.count _ _ in
-    let lacks = lacks-false z _ c.self.invariant.sound _ c.in-Some.frame holds
-    c.dirty_words-dirty.result _ count (rw (← c.self.invariant.limit) c.room.ensures.value) c.if-room-dirty.false in
-    let is = evict_by z now _ true (Some c.in-Some.frame) false (lt-ltb _ _ lt) holds lacks in
+    let is = evict_by z (cache_of s) _ true (Some c.in-Some.frame) false (lt-ltb _ _ (within _ _ _ _ _ _ c.from.ensures
+    c.from-words.ensures c.from-2.ensures c.if-first-words.false)) holds (lacks-false z _ c.self.invariant.sound _ c.in-Some.frame
+    holds c.dirty_words-dirty.result _ (c.dirty_words-dirty.ensures.count _ _) (rw (← c.self.invariant.limit) c.room.ensures.value)
+    c.if-room-dirty.false) in
     rw (← c.self.view_is) (record {
       sound = sound_cache _ _ c.self.invariant.sound;
       answer = sym (ap (λ x. x.answer) is);

@@ -5,7 +5,4 @@ use Rattle.cache_unit.proofs.unit.ShapedUnit.field.Goals as goal
 
 pub returns : goal.returns
 returns c =
-    let s = c.self.inside in
-    let sizes = s.sizes in
-    let shown = field-shown sizes _ _ _ c.self.invariant.sound in
-    rw (← c.self.view_is) (c.field.ensures.answer ∙ shown)
+    rw (← c.self.view_is) (c.field.ensures.answer ∙ (field-shown c.self.inside.sizes _ _ _ c.self.invariant.sound))

@@ -21,30 +21,26 @@ said_of c block i (Coming slot) = refl
 
 pub returns-in_default : goal.returns-in_default
 returns-in_default c =
-    let s = c.self.inside in
-    let away = ap (λ v. is_present v.cache c.args.block) (sym c.self.view_is) ∙ ap is_some (sym c.look.ensures.found ∙ c.in_default.is) in
-    sym (ap (λ b. if b then lookup_in (found c.args.self.now.cache c.args.block c.args.i) else Miss) away)
+    sym (ap (λ b. if b then lookup_in (found c.args.self.now.cache c.args.block c.args.i) else Miss) (ap (λ v. is_present v.cache
+    c.args.block) (sym c.self.view_is) ∙ ap is_some (sym c.look.ensures.found ∙ c.in_default.is)))
 
 pub find_word-requires : goal.find_word-requires
 find_word-requires c =
-    let s = c.self.inside in
     let held = ap (λ v. frame_of v.cache c.args.block) (sym c.self.view_is) ∙ (sym c.in-Some.ensures.found) in
     record { word = c.requires; held = held }
 
 pub returns-in-Here : goal.returns-in-Here
 unfolding said
 returns-in-Here c =
-    let s = c.self.inside in
     let u = c.args.self.now in
-    let here = ap (λ v. is_present v.cache c.args.block) (sym c.self.view_is) ∙ ap is_some (sym c.in-Some.ensures.found) in
-    let e = ap said (sym c.in-Here.is ∙ c.find_word.ensures) ∙ said_of u.cache _ _ _ in
-    e ∙ sym (ap (λ b. if b then lookup_in (found u.cache c.args.block c.args.i) else Miss) here)
+    (ap said (sym c.in-Here.is ∙ c.find_word.ensures) ∙ said_of u.cache _ _ _) ∙ sym (ap (λ b. if b then lookup_in (found u.cache
+    c.args.block c.args.i) else Miss) (ap (λ v. is_present v.cache c.args.block) (sym c.self.view_is) ∙ ap is_some (sym
+    c.in-Some.ensures.found)))
 
 pub returns-in-Coming : goal.returns-in-Coming
 unfolding said
 returns-in-Coming c =
-    let s = c.self.inside in
     let u = c.args.self.now in
-    let here = ap (λ v. is_present v.cache c.args.block) (sym c.self.view_is) ∙ ap is_some (sym c.in-Some.ensures.found) in
-    let e = ap said (sym c.in-Coming.is ∙ c.find_word.ensures) ∙ said_of u.cache _ _ _ in
-    e ∙ sym (ap (λ b. if b then lookup_in (found u.cache c.args.block c.args.i) else Miss) here)
+    (ap said (sym c.in-Coming.is ∙ c.find_word.ensures) ∙ said_of u.cache _ _ _) ∙ sym (ap (λ b. if b then lookup_in (found u.cache
+    c.args.block c.args.i) else Miss) (ap (λ v. is_present v.cache c.args.block) (sym c.self.view_is) ∙ ap is_some (sym
+    c.in-Some.ensures.found)))

@@ -5,19 +5,13 @@ use Rattle.cache_unit.proofs.unit.ShapedUnit.find_places.Goals as goal
 
 pub returns-in_default-clause-refused : goal.returns-in_default-clause-refused
 returns-in_default-clause-refused g c =
-    let s = c.self.inside in
-    let room = g.L.Lines.room_of _ in
-    let t = causes_are s.sizes _ c.self.invariant.sound room _ None _ _ _ (sym c.free_slot.ensures.answer ∙ c.in_default.is) refl refl
-    refl in
-    rw (← c.self.view_is) t
+    rw (← c.self.view_is) (causes_are c.self.inside.sizes _ c.self.invariant.sound (g.L.Lines.room_of _) _ None _ _ _ (sym
+    c.free_slot.ensures.answer ∙ c.in_default.is) refl refl refl)
 
 pub returns-in_default-choose_frame-clause-refused : goal.returns-in_default-choose_frame-clause-refused
 returns-in_default-choose_frame-clause-refused g c =
-    let s = c.self.inside in
-    let room = g.L.Lines.room_of _ in
-    let t = causes_are s.sizes _ c.self.invariant.sound room _ (Some c.in-Some.slot) None _ _ (sym c.in-Some.ensures.answer)
-    (sym c.choose_frame.ensures ∙ c.in_default-choose_frame.is) refl refl in
-    rw (← c.self.view_is) t
+    rw (← c.self.view_is) (causes_are c.self.inside.sizes _ c.self.invariant.sound (g.L.Lines.room_of _) _ (Some c.in-Some.slot) None _ _
+    (sym c.in-Some.ensures.answer) (sym c.choose_frame.ensures ∙ c.in_default-choose_frame.is) refl refl)
 
 pub choose_frame-requires : goal.choose_frame-requires
 choose_frame-requires g c = grind arith
@@ -26,48 +20,32 @@ pub words_owed-requires : goal.words_owed-requires
 words_owed-requires g c =
     let s = c.self.inside in
     let h = c.self.invariant.sound in
-    let there = chosen_can s.sizes.ways s.sizes.block_words s.directory _ c.in-Some-choose_frame.frame h.directory
-    (mod-lt _ h.directory.some_set) (sym c.in-Some-choose_frame.ensures) in
-    record { whole = h.directory; frame = there.there }
+    record {
+      whole = h.directory;
+      frame = (chosen_can s.sizes.ways s.sizes.block_words s.directory _ c.in-Some-choose_frame.frame
+          h.directory (mod-lt _ h.directory.some_set) (sym c.in-Some-choose_frame.ensures)).there;
+    }
 
 pub returns-then-room-words_owed-clause-refused : goal.returns-then-room-words_owed-clause-refused
 returns-then-room-words_owed-clause-refused g c =
     let s = c.self.inside in
-    let z = s.sizes in
     let now = cache_of s in
-    let room = g.L.Lines.room_of _ in
-    let r = c.room.ensures.value in
-    let limit = c.self.invariant.limit in
-    let w = c.words_owed.ensures in
-    let t = causes_are z _ c.self.invariant.sound room _ (Some c.in-Some.slot) (Some c.in-Some-choose_frame.frame) _ _
-    (sym c.in-Some.ensures.answer)
-    (sym c.in-Some-choose_frame.ensures) (lt-ltb _ _ (omega arith)) refl in
-    rw (← c.self.view_is) t
+    rw (← c.self.view_is) (causes_are s.sizes _ c.self.invariant.sound (g.L.Lines.room_of _) _ (Some c.in-Some.slot) (Some
+    c.in-Some-choose_frame.frame) _ _ (sym c.in-Some.ensures.answer) (sym c.in-Some-choose_frame.ensures) (lt-ltb _ _ (omega arith))
+    refl)
 
 pub returns-then-lacks_room-clause-refused : goal.returns-then-lacks_room-clause-refused
 returns-then-lacks_room-clause-refused g c =
     let s = c.self.inside in
-    let z = s.sizes in
     let now = cache_of s in
-    let room = g.L.Lines.room_of _ in
-    let r = c.room.ensures.value in
-    let limit = c.self.invariant.limit in
-    let w = c.words_owed.ensures in
-    let t = causes_are z _ c.self.invariant.sound room _ (Some c.in-Some.slot) (Some c.in-Some-choose_frame.frame) _ _
-    (sym c.in-Some.ensures.answer)
-    (sym c.in-Some-choose_frame.ensures)
-    (le-ltb _ _ (omega arith)) (sym c.lacks_room.ensures ∙ c.if-lacks_room.true) in
-    rw (← c.self.view_is) t
+    rw (← c.self.view_is) (causes_are s.sizes _ c.self.invariant.sound (g.L.Lines.room_of _) _ (Some c.in-Some.slot) (Some
+    c.in-Some-choose_frame.frame) _ _ (sym c.in-Some.ensures.answer) (sym c.in-Some-choose_frame.ensures) (le-ltb _ _ (omega arith))
+    (sym c.lacks_room.ensures ∙ c.if-lacks_room.true))
 
 pub returns-clause-found : goal.returns-clause-found
 returns-clause-found g c =
     let s = c.self.inside in
-    let z = s.sizes in
     let now = cache_of s in
-    let room = g.L.Lines.room_of _ in
-    let r = c.room.ensures.value in
-    let limit = c.self.invariant.limit in
-    let w = c.words_owed.ensures in
-    let t = find_places z _ c.self.invariant.sound room _ c.in-Some.slot c.in-Some-choose_frame.frame (sym c.in-Some.ensures.answer)
-    (sym c.in-Some-choose_frame.ensures) (omega arith) (sym c.lacks_room.ensures ∙ c.if-lacks_room.false) in
-    rw (← c.self.view_is) t
+    rw (← c.self.view_is) (find_places s.sizes _ c.self.invariant.sound (g.L.Lines.room_of _) _ c.in-Some.slot c.in-Some-choose_frame.frame
+    (sym c.in-Some.ensures.answer) (sym c.in-Some-choose_frame.ensures) (omega arith) (sym c.lacks_room.ensures ∙
+    c.if-lacks_room.false))

@@ -11,72 +11,57 @@ use Rattle.cache_unit.proofs.Lists.{frame_of-some}
 pub word-buffer-requires : goal.word-buffer-requires
 word-buffer-requires c =
     let s = c.self.inside in
-    let held = rw (← c.self.view_is) at c.requires.held in
-    let b = (frame_of-some s.directory.frames _ _ held).1 in
-    let l = rw (sym c.self.view_is) at c.requires.word in
-    rw (sym (held-cells s.sizes.ways s.sizes.block_words s.directory _ c.self.invariant.sound.directory (ap is_some b))) at l
+    rw (sym (held-cells s.sizes.ways s.sizes.block_words s.directory _ c.self.invariant.sound.directory (ap is_some ((frame_of-some
+    s.directory.frames _ _ (rw (← c.self.view_is) at c.requires.held)).1)))) at (rw (sym c.self.view_is) at c.requires.word)
 
 pub returns-in_default : goal.returns-in_default
 returns-in_default c =
-    let s = c.self.inside in
-    let now = cache_of s in
-    let held = rw (← c.self.view_is) at c.requires.held in
-    let buffer = c.word-buffer.ensures.word ∙ sym (ap (λ x. x.word) (cell_found now _ _ _ held)) in
+    let now = cache_of c.self.inside in
     rw (← c.self.view_is)
-    (ap Here buffer ∙ sym (finding-resident now _ _ (sym c.live_for.ensures.answer ∙ c.in_default.is)))
+    (ap Here (c.word-buffer.ensures.word ∙ sym (ap (λ x. x.word) (cell_found now _ _ _ (rw (← c.self.view_is) at c.requires.held)))) ∙ sym
+    (finding-resident now _ _ (sym c.live_for.ensures.answer ∙ c.in_default.is)))
 
 pub missing_code-requires : goal.missing_code-requires
 missing_code-requires c = (live_for-some _ _ c.in-Some.slot (sym c.in-Some.ensures.answer)).0
 
 pub returns-in_default-missing_code : goal.returns-in_default-missing_code
 returns-in_default-missing_code c =
-    let s = c.self.inside in
-    let now = cache_of s in
-    let held = rw (← c.self.view_is) at c.requires.held in
-    let buffer = c.word-buffer.ensures.word ∙ sym (ap (λ x. x.word) (cell_found now _ _ _ held)) in
-    let is = finding-processed now _ _ c.in-Some.slot (sym c.in-Some.ensures.answer)
-    (sym c.missing_code.ensures ∙ c.in_default-missing_code.is) in
+    let now = cache_of c.self.inside in
     rw (← c.self.view_is)
-    (ap Here buffer ∙ sym is)
+    (ap Here (c.word-buffer.ensures.word ∙ sym (ap (λ x. x.word) (cell_found now _ _ _ (rw (← c.self.view_is) at c.requires.held)))) ∙ sym
+    (finding-processed now _ _ c.in-Some.slot (sym c.in-Some.ensures.answer) (sym c.missing_code.ensures ∙
+    c.in_default-missing_code.is)))
 
 pub returns-then-has_all : goal.returns-then-has_all
 returns-then-has_all c =
-    let s = c.self.inside in
-    let now = cache_of s in
-    let held = rw (← c.self.view_is) at c.requires.held in
-    let buffer = c.word-buffer.ensures.word ∙ sym (ap (λ x. x.word) (cell_found now _ _ _ held)) in
-    let is = finding-written now _ _ c.in-Some.slot (sym c.in-Some.ensures.answer) c.in-Some-missing_code.code
-    (sym c.in-Some-missing_code.ensures) (sym c.has_all.ensures ∙ c.if-has_all.true) in
+    let now = cache_of c.self.inside in
     rw (← c.self.view_is)
-    (ap Here buffer ∙ sym is)
+    (ap Here (c.word-buffer.ensures.word ∙ sym (ap (λ x. x.word) (cell_found now _ _ _ (rw (← c.self.view_is) at c.requires.held)))) ∙ sym
+    (finding-written now _ _ c.in-Some.slot (sym c.in-Some.ensures.answer) c.in-Some-missing_code.code (sym
+    c.in-Some-missing_code.ensures) (sym c.has_all.ensures ∙ c.if-has_all.true)))
 
 pub returns-in-Some-find : goal.returns-in-Some-find
 returns-in-Some-find c =
     let s = c.self.inside in
-    let z = s.sizes in
     let now = cache_of s in
-    let held = rw (← c.self.view_is) at c.requires.held in
-    let buffer = c.word-buffer.ensures.word ∙ sym (ap (λ x. x.word) (cell_found now _ _ _ held)) in
-    let code = c.in-Some-missing_code.code in
-    let word = c.in-Some-find.word in
-    let is = finding-stacked now _ _ c.in-Some.slot (sym c.in-Some.ensures.answer) code
-    (sym c.in-Some-missing_code.ensures) word (sym c.has_all.ensures ∙ c.if-has_all.false) (sym c.in-Some-find.ensures) in
     rw (← c.self.view_is)
-    (ap Here (cc (c.merge.ensures, buffer)) ∙ sym is)
+    (ap Here (cc (
+      c.merge.ensures,
+      (c.word-buffer.ensures.word ∙ sym (ap (λ x. x.word) (cell_found now _ _ _ (rw (← c.self.view_is) at
+          c.requires.held)))),
+    )) ∙ sym (finding-stacked now _ _ c.in-Some.slot (sym c.in-Some.ensures.answer) c.in-Some-missing_code.code (sym
+    c.in-Some-missing_code.ensures) c.in-Some-find.word (sym c.has_all.ensures ∙ c.if-has_all.false) (sym c.in-Some-find.ensures)))
 
 pub waiting-requires : goal.waiting-requires
 waiting-requires c = (live_for-some _ _ c.in-Some.slot (sym c.in-Some.ensures.answer)).0
 
 pub returns-in-None : goal.returns-in-None
 returns-in-None c =
-    let s = c.self.inside in
-    let now = cache_of s in
-    let held = rw (← c.self.view_is) at c.requires.held in
-    let buffer = c.word-buffer.ensures.word ∙ sym (ap (λ x. x.word) (cell_found now _ _ _ held)) in
+    let now = cache_of c.self.inside in
     let code = c.in-Some-missing_code.code in
-    let is = finding-coming now _ _ c.in-Some.slot (sym c.in-Some.ensures.answer) code
-    (sym c.in-Some-missing_code.ensures) (sym c.has_all.ensures ∙ c.if-has_all.false) (sym c.find.ensures ∙ c.in-None.is) in
-    let held_bytes = c.merge-in-None.ensures ∙ ap (λ w. merged w c.word-buffer.result code) (zero_from _ c.default.ensures)
-    ∙ ap (λ w. merged zero_word w code) buffer in
     rw (← c.self.view_is)
-    (ap₂ (λ w n. Coming c.in-Some.slot w code n) held_bytes c.waiting.ensures ∙ sym is)
+    (ap₂ (λ w n. Coming c.in-Some.slot w code n) (c.merge-in-None.ensures ∙ ap (λ w. merged w c.word-buffer.result code) (zero_from _
+    c.default.ensures) ∙ ap (λ w. merged zero_word w code) (c.word-buffer.ensures.word ∙ sym (ap (λ x. x.word) (cell_found now _ _ _
+    (rw (← c.self.view_is) at c.requires.held))))) c.waiting.ensures ∙ sym (finding-coming now _ _ c.in-Some.slot (sym
+    c.in-Some.ensures.answer) code (sym c.in-Some-missing_code.ensures) (sym c.has_all.ensures ∙ c.if-has_all.false) (sym
+    c.find.ensures ∙ c.in-None.is)))

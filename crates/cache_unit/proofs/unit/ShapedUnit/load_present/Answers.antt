@@ -21,13 +21,14 @@ use Rattle.cache_unit.proofs.unit.ShapedUnit.load_present.Goals as goal
 pub invariant_of-self : goal.invariant_of-self
 invariant_of-self c =
     let s = c.self.inside in
-    let z = s.sizes in
     let now = cache_of s in
-    let new_tag = rw (sym c.self.view_is) at c.requires.new_tag in
-    let room = rw (sym c.self.view_is) at c.requires.replies in
     let r : Reply = record { tag = c.args.tag; word = c.in-Here.word } in
-    let o = owes-added z now s.registers _ _ c.self.invariant.sound new_tag room (λ p. owing-push p s.ready.items s.registers r) in
-    record { sound = rw c.push.ensures.items (IsSound-ready z now _ o c.self.invariant.sound); limit = c.self.invariant.limit }
+    record {
+      sound = rw c.push.ensures.items (IsSound-ready s.sizes now _ (owes-added s.sizes now s.registers _ _ c.self.invariant.sound
+          (rw (sym c.self.view_is) at c.requires.new_tag) (rw (sym c.self.view_is) at c.requires.replies) (λ p. owing-push p s.ready.items
+          s.registers r)) c.self.invariant.sound);
+      limit = c.self.invariant.limit;
+    }
 
 pub await_word-requires : goal.await_word-requires
 await_word-requires c =
@@ -41,7 +42,6 @@ await_word-requires c =
     there said in
     let tag = not_waiting now _ c.self.invariant.sound.registers new_tag in
     let owed = length-tags now c.self.invariant.sound.registers in
-    let most = c.self.invariant.sound.ranges.few_replies in
     let few : length (regs.field_at s.registers c.in-Coming.slot c.args.i).waiting < MAX_WAITING = omega (arith, can.waiting_is) in
     record { slot = can.slot_there; live = can.live; expected = can.expected; room = few; few = grind arith; new_tag = tag }
 
@@ -49,20 +49,16 @@ pub invariant_of-self-in-Coming : goal.invariant_of-self-in-Coming
 invariant_of-self-in-Coming c =
     let s = c.self.inside in
     let now = cache_of s in
-    let new_tag = rw (sym c.self.view_is) at c.requires.new_tag in
-    let room = rw (sym c.self.view_is) at c.requires.replies in
-    let said = rw (sym c.self.view_is) at (sym c.find_word.ensures ∙ c.in-Coming.is) in
-    let there = rw (sym c.self.view_is) at c.requires.word in
     let can = can_await s.sizes now c.self.invariant.sound _ _ c.in-Coming.slot c.in-Coming.held c.in-Coming.code c.in-Coming.waiting
-    there said in
+    (rw (sym c.self.view_is) at c.requires.word) (rw (sym c.self.view_is) at (sym c.find_word.ensures ∙ c.in-Coming.is)) in
     let o : Owed = record { tag = c.args.tag; held = c.in-Coming.held; lanes = c.in-Coming.code } in
-    let w = rw c.await_word.ensures.registers at (c.await_word.ensures.whole s.sizes.block_words s.sizes.regs
-    c.self.invariant.sound.registers) in
-    let owes = owes-added s.sizes now (set s.registers c.in-Coming.slot _) s.ready.items _ c.self.invariant.sound new_tag room
-    (λ p. owing-awaited p s.ready.items s.registers c.in-Coming.slot _ o can.slot_there can.there) in
     record {
       sound = rw c.await_word.ensures.registers
-          (IsSound-awaited s.sizes now c.in-Coming.slot _ o can.slot_there w owes c.self.invariant.sound);
+          (IsSound-awaited s.sizes now c.in-Coming.slot _ o can.slot_there (rw c.await_word.ensures.registers at
+          (c.await_word.ensures.whole s.sizes.block_words s.sizes.regs c.self.invariant.sound.registers)) (owes-added s.sizes now (set
+          s.registers c.in-Coming.slot _) s.ready.items _ c.self.invariant.sound (rw (sym c.self.view_is) at c.requires.new_tag) (rw
+          (sym c.self.view_is) at c.requires.replies) (λ p. owing-awaited p s.ready.items s.registers c.in-Coming.slot _ o
+          can.slot_there can.there)) c.self.invariant.sound);
       limit = c.self.invariant.limit;
     }
 
@@ -75,26 +71,22 @@ pub returns-in-Here-clause-unit : goal.returns-in-Here-clause-unit
 returns-in-Here-clause-unit c =
     let s = c.self.inside in
     let now = cache_of s in
-    let said = rw (sym c.self.view_is) at (sym c.find_word.ensures ∙ c.in-Here.is) in
-    let here = here_from now _ _ _ c.in-Here.word said in
-    let e = ap (loaded now _ _ ((cell_of now _ _).word)) (sym here) ∙ ap (load_present now _ _ _) (sym (ap (targets_full now _) here)) in
-    rw (c.push.ensures.items, ← c.self.view_is) (ap (made s.sizes) e)
+    let here = here_from now _ _ _ c.in-Here.word (rw (sym c.self.view_is) at (sym c.find_word.ensures ∙ c.in-Here.is)) in
+    rw (c.push.ensures.items, ← c.self.view_is) (ap (made s.sizes) (ap (loaded now _ _ ((cell_of now _ _).word)) (sym here) ∙ ap
+    (load_present now _ _ _) (sym (ap (targets_full now _) here))))
 
 pub returns-else-waiting-clause-unit : goal.returns-else-waiting-clause-unit
 returns-else-waiting-clause-unit c =
     let s = c.self.inside in
     let now = cache_of s in
-    let said = rw (sym c.self.view_is) at (sym c.find_word.ensures ∙ c.in-Coming.is) in
-    let there = rw (sym c.self.view_is) at c.requires.word in
     let can = can_await s.sizes now c.self.invariant.sound _ _ c.in-Coming.slot c.in-Coming.held c.in-Coming.code c.in-Coming.waiting
-    there said in
+    (rw (sym c.self.view_is) at c.requires.word) (rw (sym c.self.view_is) at (sym c.find_word.ensures ∙ c.in-Coming.is)) in
     let few : length (regs.field_at s.registers c.in-Coming.slot c.args.i).waiting < MAX_WAITING = omega (arith, can.waiting_is) in
-    let targets = ap (targets_full now c.args.i) can.coming ∙ lt-leb MAX_WAITING _ few in
     let buffer = (cell_of now _ _).word in
     let waiting : Word → Lanes → Cache = λ h m. record now {
       registers = set s.registers c.in-Coming.slot
           (regs.awaited (regs.register_at s.registers c.in-Coming.slot) c.args.i (record { tag = c.args.tag; held = h; lanes = m }));
     } in
-    let e = ap (λ h. waiting h c.in-Coming.code) can.held_is ∙ ap (waiting _) can.code_is ∙ awaited-shown now c.in-Coming.slot _ _ buffer
-    ∙ ap (loaded now _ _ buffer) (sym can.coming) ∙ ap (load_present now _ _ _) (sym targets) in
-    rw (c.await_word.ensures.registers, ← c.self.view_is) (ap (made s.sizes) e)
+    rw (c.await_word.ensures.registers, ← c.self.view_is) (ap (made s.sizes) (ap (λ h. waiting h c.in-Coming.code) can.held_is ∙ ap
+    (waiting _) can.code_is ∙ awaited-shown now c.in-Coming.slot _ _ buffer ∙ ap (loaded now _ _ buffer) (sym can.coming) ∙ ap
+    (load_present now _ _ _) (sym (ap (targets_full now c.args.i) can.coming ∙ lt-leb MAX_WAITING _ few))))

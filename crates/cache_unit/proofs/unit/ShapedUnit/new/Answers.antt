@@ -8,10 +8,10 @@ invariant_of-result c =
     let ranges = in_size z (sym c.bad_size.ensures ∙ c.in_default.is) in
     let made = c.in_ok-directory.ensures.made in
     let file = c.in_ok-registers.ensures.ok in
-    let directory = rw made at (c.in_ok-directory.ensures.whole _ ranges.some_words ranges.few_words) in
-    let registers = rw file at (c.in_ok-registers.ensures.whole _ ranges.some_words ranges.few_words ranges.some_regs ranges.few_regs) in
     record {
-      sound = rw (made, file, c.new-4.ensures, c.in_ok-queue.ensures.ok, c.new-5.ensures) (IsSound-opening z ranges directory registers);
+      sound = rw (made, file, c.new-4.ensures, c.in_ok-queue.ensures.ok, c.new-5.ensures) (IsSound-opening z ranges (rw made at
+          (c.in_ok-directory.ensures.whole _ ranges.some_words ranges.few_words)) (rw file at (c.in_ok-registers.ensures.whole _
+          ranges.some_words ranges.few_words ranges.some_regs ranges.few_regs)));
       limit = ap (λ q. q.limit) c.in_ok-queue.ensures.ok;
     }
 

@@ -8,9 +8,6 @@ overflow_add-result c =
     let s = c.self.inside in
     let a = owing-all (cache_of s) c.self.invariant.sound.registers in
     let b = length-tags (cache_of s) c.self.invariant.sound.registers in
-    let few = c.self.invariant.sound.owes.few in
-    let most = c.self.invariant.sound.ranges.few_replies in
-    let x = c.awaited.ensures.answer in
     omega arith
 
 pub returns-clause-value : goal.returns-clause-value
@@ -18,7 +15,6 @@ returns-clause-value c =
     let s = c.self.inside in
     let now = cache_of s in
     let b = length-tags (cache_of s) c.self.invariant.sound.registers in
-    let x = c.awaited.ensures.answer in
     rw (← c.self.view_is) (omega arith)
 
 pub returns-clause-few : goal.returns-clause-few
@@ -26,8 +22,6 @@ returns-clause-few c =
     let s = c.self.inside in
     let a = owing-all (cache_of s) c.self.invariant.sound.registers in
     let b = length-tags (cache_of s) c.self.invariant.sound.registers in
-    let few = c.self.invariant.sound.owes.few in
-    let x = c.awaited.ensures.answer in
     rw (← c.self.view_is) (omega arith)
 
 pub returns-clause-sound : goal.returns-clause-sound

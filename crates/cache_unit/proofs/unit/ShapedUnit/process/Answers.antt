@@ -10,36 +10,34 @@ use Rattle.cache_unit.proofs.unit.ShapedUnit.process.Goals as goal
 pub finish_word-end-requires : goal.finish_word-end-requires
 finish_word-end-requires c =
     let s = c.self.inside in
-    let t = Taken-from s.stack _ c.in-Some.e (sym c.remove.ensures.value ∙ c.in-Some.is) in
-    let r = can_finish s.sizes _ c.self.invariant.sound _ c.in-Some.e t in
+    let r = can_finish s.sizes _ c.self.invariant.sound _ c.in-Some.e (Taken-from s.stack _ c.in-Some.e (sym c.remove.ensures.value ∙
+    c.in-Some.is)) in
     record { slot = r.0; in_stack = r.1; done = (c.self.invariant.sound.registers.each c.in-Some.e.slot).done }
 
 pub fill_live-requires : goal.fill_live-requires
 fill_live-requires c =
     let s = c.self.inside in
-    let t = Taken-from s.stack _ c.in-Some.e (sym c.remove.ensures.value ∙ c.in-Some.is) in
-    let there = can_fill s.sizes _ c.self.invariant.sound _ c.in-Some.e t in
+    let there = can_fill s.sizes _ c.self.invariant.sound _ c.in-Some.e (Taken-from s.stack _ c.in-Some.e (sym c.remove.ensures.value ∙
+    c.in-Some.is)) in
     record { there = rw (sym c.finish_word-end.ensures.live) at there }
 
 pub answer_all-requires : goal.answer_all-requires
 answer_all-requires c =
     let s = c.self.inside in
-    let t = Taken-from s.stack _ c.in-Some.e (sym c.remove.ensures.value ∙ c.in-Some.is) in
-    rw c.finish_word-end.ensures.send (can_answer s.sizes _ c.self.invariant.sound _ c.in-Some.e t)
+    rw c.finish_word-end.ensures.send (can_answer s.sizes _ c.self.invariant.sound _ c.in-Some.e (Taken-from s.stack _ c.in-Some.e (sym
+    c.remove.ensures.value ∙ c.in-Some.is)))
 
 pub invariant_of-self-2 : goal.invariant_of-self-2
 invariant_of-self-2 c =
     let s = c.self.inside in
     let e = c.in-Some.e in
     let f = c.finish_word-end.ensures in
-    let r = regs.register_at s.registers e.slot in
-    let d = subst (λ x. dir.IsWhole s.sizes.ways s.sizes.block_words x) (c.fill_live.ensures.filled ∙ rw (f.live, f.keep, f.last) refl)
-    (c.fill_live.ensures.whole s.sizes.ways s.sizes.block_words c.self.invariant.sound.directory) in
-    let w = rw f.registers at (f.whole s.sizes.block_words s.sizes.regs c.self.invariant.sound.registers) in
     record {
       sound = rw (c.fill_live.ensures.filled, f.registers, c.in-Some.ensures.taken, f.live, f.keep, f.last, c.answer_all.ensures, f.send)
-          (IsSound-processed s.sizes _ c.self.invariant.sound _ e (Taken-from s.stack _ e (sym c.remove.ensures.value ∙ c.in-Some.is)) _ d
-          w);
+          (IsSound-processed s.sizes _ c.self.invariant.sound _ e (Taken-from s.stack _ e (sym c.remove.ensures.value ∙ c.in-Some.is)) _
+          (subst (λ x. dir.IsWhole s.sizes.ways s.sizes.block_words x) (c.fill_live.ensures.filled ∙ rw (f.live, f.keep, f.last) refl)
+          (c.fill_live.ensures.whole s.sizes.ways s.sizes.block_words c.self.invariant.sound.directory))
+          (rw f.registers at (f.whole s.sizes.block_words s.sizes.regs c.self.invariant.sound.registers)));
       limit = c.self.invariant.limit;
     }
 
@@ -48,7 +46,6 @@ returns c =
     let s = c.self.inside in
     let e = c.in-Some.e in
     let some = sym c.remove.ensures.value ∙ c.in-Some.is in
-    let shown = shown_after s.sizes _ c.self.invariant.sound _ e (Taken-from s.stack _ e some) in
     let f = c.finish_word-end.ensures in
     rw (
       c.fill_live.ensures.filled,
@@ -60,7 +57,8 @@ returns c =
       f.keep,
       f.last,
       ← c.self.view_is,
-    ) (makes s.sizes _ c.self.invariant.sound _ _ _ _ (processes _ _ e some) _ shown)
+    ) (makes s.sizes _ c.self.invariant.sound _ _ _ _ (processes _ _ e some) _ (shown_after s.sizes _ c.self.invariant.sound _ e
+    (Taken-from s.stack _ e some)))
 
 pub returns-in_default : goal.returns-in_default
 unfolding process_step

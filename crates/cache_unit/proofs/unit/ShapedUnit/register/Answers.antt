@@ -5,7 +5,4 @@ use Rattle.cache_unit.proofs.unit.ShapedUnit.register.Goals as goal
 
 pub returns : goal.returns
 returns c =
-    let s = c.self.inside in
-    let sizes = s.sizes in
-    let shown = register-shown sizes _ _ c.self.invariant.sound in
-    rw (← c.self.view_is) (c.register.ensures.answer ∙ shown)
+    rw (← c.self.view_is) (c.register.ensures.answer ∙ (register-shown c.self.inside.sizes _ _ c.self.invariant.sound))

@@ -10,20 +10,16 @@ use Rattle.cache_unit.proofs.Lists.{frame_of-some}
 pub write-requires : goal.write-requires
 write-requires c =
     let s = c.self.inside in
-    let held = rw (← c.self.view_is) at c.requires.held in
-    let b = (frame_of-some s.directory.frames _ _ held).1 in
-    let l = rw (sym c.self.view_is) at c.requires.word in
-    rw (sym (held-cells s.sizes.ways s.sizes.block_words s.directory _ c.self.invariant.sound.directory (ap is_some b))) at l
+    rw (sym (held-cells s.sizes.ways s.sizes.block_words s.directory _ c.self.invariant.sound.directory (ap is_some ((frame_of-some
+    s.directory.frames _ _ (rw (← c.self.view_is) at c.requires.held)).1)))) at (rw (sym c.self.view_is) at c.requires.word)
 
 pub invariant_of-self : goal.invariant_of-self
 invariant_of-self c =
     let s = c.self.inside in
-    let z = s.sizes in
-    let l = rw (sym c.self.view_is) at c.requires.word in
-    let d = rw c.write.ensures.written at (c.write.ensures.whole s.sizes.ways s.sizes.block_words c.self.invariant.sound.directory) in
-    let w = rw c.note_code.ensures.noted at c.note_code.ensures.whole in
     record {
-      sound = rw (c.write.ensures.written, c.note_code.ensures.noted) (IsSound-stored z _ _ _ _ _ (Some _) l d w c.self.invariant.sound);
+      sound = rw (c.write.ensures.written, c.note_code.ensures.noted) (IsSound-stored s.sizes _ _ _ _ _ (Some _) (rw (sym c.self.view_is)
+          at c.requires.word) (rw c.write.ensures.written at (c.write.ensures.whole s.sizes.ways s.sizes.block_words
+          c.self.invariant.sound.directory)) (rw c.note_code.ensures.noted at c.note_code.ensures.whole) c.self.invariant.sound);
       limit = c.self.invariant.limit;
     }
 

@@ -7,19 +7,18 @@ use Rattle.cache_unit.proofs.unit.ShapedUnit.take.Goals as goal
 pub invariant_of-self : goal.invariant_of-self
 invariant_of-self c =
     let s = c.self.inside in
-    let z = s.sizes in
-    let o = owes-remove z s.ready.items s.registers _ c.remove-reply.result (omega arith) c.self.invariant.sound.owes in
-    record { sound = rw c.remove-reply.ensures.items (IsSound-ready z _ _ o c.self.invariant.sound); limit = c.self.invariant.limit }
+    record {
+      sound = rw c.remove-reply.ensures.items (IsSound-ready s.sizes _ _ (owes-remove s.sizes s.ready.items s.registers _
+          c.remove-reply.result (omega arith) c.self.invariant.sound.owes) c.self.invariant.sound);
+      limit = c.self.invariant.limit;
+    }
 
 pub returns-then-place-len : goal.returns-then-place-len
 returns-then-place-len c =
     let s = c.self.inside in
-    let is = taken _ _ c.remove-reply.result (omega arith) c.remove-reply.ensures.value in
-    let shown = ap (λ r. record (cache_of s) { ready = r }) c.remove-reply.ensures.items in
-    rw (← c.self.view_is) (makes s.sizes _ c.self.invariant.sound _ _ _ _ is _ shown)
+    rw (← c.self.view_is) (makes s.sizes _ c.self.invariant.sound _ _ _ _ (taken _ _ c.remove-reply.result (omega arith)
+    c.remove-reply.ensures.value) _ (ap (λ r. record (cache_of s) { ready = r }) c.remove-reply.ensures.items))
 
 pub returns-else-place-len : goal.returns-else-place-len
 returns-else-place-len c =
-    let s = c.self.inside in
-    let is = none_taken _ _ (omega arith) in
-    rw (← c.self.view_is) (makes s.sizes _ c.self.invariant.sound _ _ _ _ is _ refl)
+    rw (← c.self.view_is) (makes c.self.inside.sizes _ c.self.invariant.sound _ _ _ _ (none_taken _ _ (omega arith)) _ refl)

@@ -7,6 +7,4 @@ use Rattle.cache_unit.proofs.unit.ShapedUnit.target.Goals as goal
 pub returns : goal.returns
 returns c =
     let s = c.self.inside in
-    let now = cache_of s in
-    let shown = target-shown (cache_of s) _ _ _ in
-    rw (← c.self.view_is) (c.target.ensures.answer ∙ shown)
+    rw (← c.self.view_is) (c.target.ensures.answer ∙ (target-shown (cache_of s) _ _ _))

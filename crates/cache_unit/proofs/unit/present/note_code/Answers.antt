@@ -14,8 +14,13 @@ note_store-requires c =
     let p = live_for-some rs _ c.in-Some.slot (sym c.in-Some.ensures.answer) in
     let n = (c.requires.whole.each c.in-Some.slot).fields_there (and_parts _ _ p.1).0 in
     let there : c.args.i < length (regs.register_at rs c.in-Some.slot).fields = omega (arith, c.requires.there) in
-    let e = missing_parts (regs.field_at rs c.in-Some.slot _) _ (sym c.in-Some-missing_code.ensures) in
-    record { slot = p.0; live = p.1; there = there; unprocessed = e.0 }
+    record {
+      slot = p.0;
+      live = p.1;
+      there = there;
+      unprocessed = (missing_parts (regs.field_at rs c.in-Some.slot _) _ (sym
+          c.in-Some-missing_code.ensures)).0;
+    }
 
 pub returns-in_default-missing_code-clause-noted : goal.returns-in_default-missing_code-clause-noted
 returns-in_default-missing_code-clause-noted c = grind arith
