@@ -243,7 +243,9 @@ def clean_ends(folder):
             running = served.children()
             same("the status", served.end(number), 0)
             asked.exception()
-        time.sleep(0.3)
+        until = time.monotonic() + 5
+        while any(is_running(it) for it in running) and time.monotonic() < until:
+            time.sleep(0.01)
         same("processes that are left", [it for it in running if is_running(it)], [])
         same("files that are left", list(room.iterdir()), [])
     closed = subprocess.run(["sh", "-c", 'exec "$0" >&-', TOP / "kroft-page"], capture_output=True, text=True, timeout=20)
