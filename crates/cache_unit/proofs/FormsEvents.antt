@@ -1,6 +1,6 @@
 -- The events that move a word or a value: a drained write, a word that arrives, a value that is taken.
 use Rattle.std.proofs.Common.{◌≡◌, ℕ, Bool, ◌==◌, List, ◌++◌, map, length, Option, Some, None, option_map, find, refl, sym, ap, ◌∙◌}
-use Rattle.std.proofs.Common.{filter, zero, suc, ◌+◌, ◌<◌, true, false, cond, not, ◌&&◌, nat_lt, [], ◌∷◌, get_or, set, length-set}
+use Rattle.std.proofs.Common.{zero, suc, ◌+◌, ◌<◌, true, false, cond, not, ◌&&◌, nat_lt, [], ◌∷◌, get_or, set, length-set}
 use Rattle.std.proofs.Common.{⊎_elim, get_or-set_same, get_or-set_other, eq-eqb, ne_eqb, ◌≤◌, remove, slice_get, arith, eqb-true}
 use Rattle.std.proofs.lemmas.List.Folds.{find-append}
 use Rattle.std.proofs.lemmas.List.{map-append, length-map}
@@ -18,7 +18,7 @@ use Rattle.cache_unit.specs.Forms.{Form, bytes_of, missing_form, over_form, form
 use Rattle.cache_unit.specs.FormLaws.{form_where, form_at, forms, words_without, EvictForms, but_at, filled_form, DrainForms, ArriveForms}
 use Rattle.cache_unit.specs.FormLaws.{TakeForms, TakenForms}
 use Rattle.cache_unit.specs.Counts.{tally}
-use Rattle.cache_unit.proofs.Lists.{tally-map, tally-filter, find-map, gathered_part, read_set, in_range, frame_of-some, live_for-some}
+use Rattle.cache_unit.proofs.Lists.{tally-map, find-map, gathered_part, read_set, in_range, frame_of-some, live_for-some}
 use Rattle.cache_unit.proofs.Lists.{none_live, frame-stays, frame-goes, holds-not, live-stays, serves-not, waits_for, RegistersWithin}
 use Rattle.cache_unit.proofs.Lists.{registers_within-same, registers_within-set, Within, Adds, Adds-tally, Adds-find_other, Adds-find_same}
 use Rattle.cache_unit.proofs.Lists.{find_none, Adds-right, Adds-map, Adds-remove}
@@ -106,8 +106,8 @@ tags-dues c = simp (map-append, map-map)
 pub dues-passing : (p : ℕ → Bool) (c : Cache) → tally (λ (d : Due). p d.tag) (dues c) ≡ tally p (tags c)
 dues-passing p c = sym (tally-map (λ d. d.tag) p _) ∙ ap (tally p) (tags-dues c)
 
-pub dues-tally : (c : Cache) (tag : ℕ) → tally (has_tag tag) (dues c) ≡ length (filter (λ t. t == tag) (tags c))
-dues-tally c tag = dues-passing (λ t. t == tag) c ∙ sym (tally-filter (λ t. t == tag) _)
+pub dues-tally : (c : Cache) (tag : ℕ) → tally (has_tag tag) (dues c) ≡ tally (λ t. t == tag) (tags c)
+dues-tally c tag = dues-passing (λ t. t == tag) c
 
 -- ---- both
 

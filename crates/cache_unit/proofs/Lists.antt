@@ -1,6 +1,6 @@
 -- Lists and their parts, a block's frame and live register, and what stays of them when an element is another.
 use Rattle.std.proofs.Common.{◌≡◌, ℕ, suc, zero, ◌<◌, Bool, true, false, List, [], ◌∷◌, map, length, get_or, Option, Some, None, cond, refl}
-use Rattle.std.proofs.Common.{ap, ◌∙◌, arith, option_map, ◌+◌, ◌≤◌, ◌++◌, set, take, drop, find, remove, filter, sym, slice_get, flat_map}
+use Rattle.std.proofs.Common.{ap, ◌∙◌, arith, option_map, ◌+◌, ◌≤◌, ◌++◌, set, take, drop, find, remove, sym, slice_get, flat_map}
 use Rattle.std.proofs.Common.{append_assoc, append-nil, add-zero, zero-add, length-append, ap₂, subst, get_or-set_same, get_or-set_other}
 use Rattle.std.proofs.Common.{⊎_elim, ◌&&◌, ◌==◌, eqb-true, eq-eqb, length-set, not, nat_lt, ◌⊎◌}
 use Rattle.std.specs.List.{list_all}
@@ -172,10 +172,6 @@ read_set f d (x ∷ xs) (suc k) y e (suc j) = read_set f d xs k y e j
 pub tally-map : {X Y : Type 0} (f : X → Y) (p : Y → Bool) (xs : List X) → tally p (map f xs) ≡ tally (λ x. p (f x)) xs
 tally-map f p [] = refl
 tally-map f p (x ∷ xs) = cc (tally-map f p xs)
-
-pub tally-filter : {X : Type 0} (p : X → Bool) (xs : List X) → length (filter p xs) ≡ tally p xs
-tally-filter p [] = refl
-tally-filter p (x ∷ xs) = grind (arith, tally-filter p xs)
 
 pub map-same : {X Y : Type 0} (f g : X → Y) (xs : List X) → ((x : X) → f x ≡ g x) → map f xs ≡ map g xs
 map-same f g [] h = refl

@@ -32,6 +32,7 @@ use Rattle.memory_banks.specs.declared.Command.{Command}
 use Rattle.cache_unit.specs.declared.Request.{Request}
 use Rattle.cache_unit.specs.declared.Request.TheVariants.{Load, Store, Prefetch}
 use Rattle.cache_unit.specs.Forms.{owed}
+use Rattle.cache_unit.specs.Counts.{tally}
 use Rattle.cache_unit.proofs.FormsEvents.{dues-tally, owed-same, forms-from, drain_forms, arrive_forms, take_forms, evict_forms}
 use Rattle.flat_model.specs.Words.{has_any}
 use Rattle.cache_unit.specs.Requests.{absence_cause, is_full_for, load_answer, load_present}
@@ -291,7 +292,7 @@ pub missing : (z : Sizes) (room : ℕ → ℕ) (c : Cache) (block : ℕ) (here :
     → first_cause (cond (is_present c block) here (miss_causes z room c block)) ≡ None → is_present c block ≡ false → Able z c block
 missing z room c block here e q = grind (arith, no-cause)
 
-pub none-counted : (p : ℕ → Bool) (xs : List ℕ) → list_any p xs ≡ false → length (filter p xs) ≡ 0
+pub none-counted : (p : ℕ → Bool) (xs : List ℕ) → list_any p xs ≡ false → tally p xs ≡ 0
 none-counted p [] e = refl
 none-counted p (x ∷ xs) e = grind (arith, none-counted p xs)
 
@@ -322,7 +323,7 @@ module _ (z : Sizes) (c : Cache) (h : IsSoundCache z c) (at : ℕ) (d : Cache) (
   load-ok tag unused =
       let same = ap₂ (λ r (t : List Target). map (λ x. x.tag) r ++ map
       (λ x. x.load.tag) t) fetch.same_ready fetch.same_targets in
-      let fresh = dues-tally d tag ∙ ap (λ ts. length (filter (λ t. t == tag) ts)) same ∙ none-counted (λ t. t == tag) _ unused in
+      let fresh = dues-tally d tag ∙ ap (tally (λ t. t == tag)) same ∙ none-counted (λ t. t == tag) _ unused in
       let l = loaded-by z h.some_words d tag at there fresh in
       record {
         present = ap is_some l.present;

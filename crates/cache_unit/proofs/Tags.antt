@@ -1,10 +1,10 @@
 -- The tags of the values that stand ready, and of the loads that wait.
 use Rattle.std.proofs.Common.{◌≡◌, ℕ, suc, ◌+◌, ◌<◌, ◌≤◌, Bool, true, false, ◌||◌, ◌==◌, if◌then◌else◌, List, [], ◌∷◌, ◌++◌, map}
 use Rattle.std.proofs.Common.{length, get_or, set, refl, ap, sym, ◌∙◌, arith, length-append, eqb-true, Some, ◌-◌, slice_get, ◌/◌}
-use Rattle.std.specs.List.{sum_by, count_by, list_any, flat_map}
-use Rattle.std.proofs.lemmas.Bool.{or_parts, cases_lt}
+use Rattle.std.specs.List.{sum_by, count_by, list_any, flat_map, All, AllByRecursion}
+use Rattle.std.proofs.lemmas.Bool.{or_parts, and_parts, cases_lt}
 use Rattle.std.proofs.lemmas.List.{map-append, length-map}
-use Rattle.std.proofs.lemmas.List.Sums.{sum_by-cons, length-filter}
+use Rattle.std.proofs.lemmas.List.Sums.{sum_by-cons}
 use Rattle.std.proofs.lemmas.List.Folds.{list_any-append}
 use Rattle.miss_registers.specs.Whole.{IsWhole, IsWholeRegister}
 use Rattle.miss_registers.proofs.Tags.{list_any-map, none_counted, count_by-append, count_by-map}
@@ -19,6 +19,7 @@ use Rattle.miss_registers.specs.Registers.{tags_of_field, tags_of, waiting_tags,
 use Rattle.input_stack.specs.declared.Entry.{Entry}
 use Rattle.cache_unit.proofs.Lists.{frame_of-some}
 use Rattle.cache_unit.specs.SoundCache.{HasWord, IsSoundCache}
+use Rattle.cache_unit.specs.Counts.{tally}
 use Rattle.cache_directory.specs.Frames.{times_in}
 use Rattle.cache_directory.specs.Frames as dir
 use Rattle.miss_registers.specs.Registers as regs
@@ -145,6 +146,22 @@ stands_in : (order : List ℕ) (f : ℕ) → 1 ≤ times_in order f → list_any
 stands_in [] f l = absurd (omega arith)
 stands_in (x ∷ order) f l = grind (arith, stands_in order f)
 
+stands_once : (order : List ℕ) (f : ℕ) → list_any (λ g. g == f) order ≡ true → 1 ≤ times_in order f
+stands_once [] f e = cc
+stands_once (x ∷ order) f e = grind (arith, stands_once order f)
+
+-- ---- the queue
+
+each_of : {X : Type 0} (P : X → Type 0) (xs : List X) → All P xs → AllByRecursion P xs
+each_of P [] h = tt
+each_of P (x ∷ xs) h = (h 0 x (omega arith), each_of P xs (λ k d l. h (suc k) d (omega arith)))
+
+-- ---- counts
+
+tally-count : {X : Type 0} (p : X → Bool) (xs : List X) → tally p xs ≡ count_by p xs
+tally-count p [] = refl
+tally-count p (x ∷ xs) = grind (arith, sum_by-cons (λ y. if p y then 1 else 0) x xs, tally-count p xs)
+
 -- ---- all of it
 
 pub sound_cache : (z : Sizes) (c : Cache) → IsSound z c → IsSoundCache z c
@@ -152,6 +169,7 @@ sound_cache z c h = record {
   some_words = let l = h.ranges.some_words in omega arith;
   some_sets = let l = h.ranges.some_sets in omega arith;
   frames_are = cc (h.directory.frames_there, h.sets);
+  orders_are = h.sets;
   registers_are = h.registers.registers_there;
   frames_apart = λ f g b p k. h.directory.alone f g b p k;
   live_apart = λ s t a b e. h.registers.one_live s t a b e;
@@ -159,13 +177,16 @@ sound_cache z c h = record {
       (f, (frame_of-some _ (regs.register_at c.registers s).block f t.holds).1);
   cells = λ f b p. h.directory.cells f b p;
   fields = λ s v. (h.registers.each s).fields_there v;
+  in_memory = h.in_memory;
+  queue_in = each_of _ _ h.queue_sound.addresses;
   placed = λ f b p. stands_in _ f (held_once f b p);
+  in_set = λ s f e. grind (arith, stands_once, h.directory.ordered s f, eqb-true, and_parts);
   entries = there;
   entries_apart = apart;
   once = λ tag. let b = h.owes.once tag in
       omega (
         arith,
-        length-filter (λ t. t == tag) (tags c),
+        tally-count (λ t. t == tag) (tags c),
         ap (count_by (λ t. t == tag)) (tags-shown c h.registers),
         owing-tags (λ t. t == tag) c.ready c.registers,
       );

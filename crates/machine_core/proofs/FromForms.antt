@@ -14,14 +14,14 @@ use Rattle.cache_unit.specs.declared.Sizes.{Sizes}
 use Rattle.cache_unit.specs.State.{Cache, tags, cell_of, block_of, place_in, register_at, field_at, Target, targets, is_live, live_for}
 use Rattle.cache_unit.specs.State.{frame_of, Frame, Frames, empty_frame, frame_at, first_of, Field, Register, clear_field, free_register}
 use Rattle.cache_unit.specs.State.{is_present, with_cell, with_field, address, free_slot}
-use Rattle.cache_unit.specs.SoundCache.{HasWord, IsSoundCache}
+use Rattle.cache_unit.specs.SoundCache.{HasWord}
 use Rattle.cache_unit.specs.Counts.{tally, bit}
-use Rattle.cache_unit.proofs.Lists.{Adds-tally, Adds-remove, tally-filter, waits_for, Within, Beside, Adds, Adds-find_other, Adds-find_same}
+use Rattle.cache_unit.proofs.Lists.{Adds-tally, Adds-remove, waits_for, Within, Beside, Adds, Adds-find_other, Adds-find_same}
 use Rattle.cache_unit.proofs.Lists.{target_valid, live_for-some, frame_of-is, frame_of-some, tally-append}
 use Rattle.machine_core.specs.Law.{IsLawful}
 use Rattle.machine_core.specs.Machine.{Machine, backing, flat_word, Outcome, apply, flat_due, flat_of}
-use Rattle.machine_core.specs.Sound.{is_for, is_entry_for, AllIn, InOrder, IsSound, IsBounded, word_in, is_in}
-use Rattle.std.specs.List.{range_with_len, list_any, filter}
+use Rattle.machine_core.specs.Sound.{is_for, is_entry_for, IsSound, IsBounded, word_in}
+use Rattle.std.specs.List.{range_with_len, list_any, filter, AllByRecursion}
 use Rattle.std.specs.Option.{option_or}
 use Rattle.flat_model.specs.declared.Lanes.{Lanes}
 use Rattle.flat_model.specs.declared.Event.{Event}
@@ -53,6 +53,14 @@ use Rattle.cache_unit.specs.Begun.{begun_field, begun_register}
 use Rattle.cache_unit.proofs.Requesting.{Able, free_register_at, some_frame}
 use Rattle.cache_directory.specs.Frames as dir
 
+-- whether a frame stands in an order
+abbrev is_in : List ℕ → ℕ → Bool
+is_in order f = list_any (λ g. g == f) order
+
+-- every queued word lies in memory
+abbrev pub AllIn : Sizes → List Queued → Type 0
+AllIn z queue = AllByRecursion (λ q. q.at < z.words) queue
+
 pub bit-le : (b : Bool) → bit b ≤ 1
 bit-le b = grind arith
 
@@ -79,33 +87,24 @@ one_place p (v ∷ xs) l zero zero x y ex ey px py = refl
 one_place p (v ∷ xs) l (suc j) (suc k) x y ex ey px py = ap suc (one_place p xs (omega arith) j k x y ex ey px py)
 one_place p xs l j k x y ex ey px py = grind (arith, passes)
 
--- the register of a word in the stack waits for it
-pub entry_waits : (z : Sizes) (m : Machine) → IsSound z m → (k : ℕ) (e : Entry) → slice_get m.cache.stack k ≡ Some e → HasWord z m.cache e
-entry_waits z m h k e found =
-    let p = and_parts _ _ (bit-pos _ (omega (arith, entry_counted _ k e found, h.counted e.slot e.i))) in
+-- each word that a register waits for is once on its way, and nothing else is
+abbrev IsCounted : Sizes → Machine → Type 0
+IsCounted z m = (s i : ℕ) → tally (is_for s i) (all_pending m.banks) + tally (is_entry_for s i) m.cache.stack ≡ bit (waits_for z m.cache s i)
+
+-- so the register of a word in the stack waits for it, and no two words there are for one
+pub entry_waits : (z : Sizes) (m : Machine) → IsCounted z m → (k : ℕ) (e : Entry) → slice_get m.cache.stack k ≡ Some e → HasWord z m.cache e
+entry_waits z m counted k e found =
+    let p = and_parts _ _ (bit-pos _ (omega (arith, entry_counted _ k e found, counted e.slot e.i))) in
     let q = and_parts _ _ p.1 in
     record { valid = p.0; there = ltb-true e.i _ q.0; waits = not-true _ q.1 }
 
-pub sound_unit : (z : Sizes) → IsLawful z → (m : Machine) → IsSound z m → IsSoundCache z m.cache
-sound_unit z lawful m h = record {
-  some_words = lawful.some_words;
-  some_sets = lawful.some_sets;
-  frames_are = h.frames_are;
-  registers_are = h.registers_are;
-  frames_apart = h.frames_apart;
-  live_apart = h.live_apart;
-  live_present = h.live_present;
-  cells = λ f b e. (h.whole_frames f b e).0;
-  fields = h.whole_registers;
-  placed = h.in_order.placed;
-  entries = entry_waits z m h;
-  entries_apart = λ j k d e p q s i. one_place (is_entry_for d.slot d.i) _ (omega (
-    arith,
-    h.counted d.slot d.i,
-    bit-le (waits_for z m.cache d.slot d.i),
-  )) j k d e p q (own_entry d) (grind arith);
-  once = λ tag. rw (tally-filter (λ t. t == tag) _) (h.once tag);
-}
+pub entry_apart : (z : Sizes) (m : Machine) → IsCounted z m → (j k : ℕ) (d e : Entry) → slice_get m.cache.stack j ≡ Some d
+    → slice_get m.cache.stack k ≡ Some e → d.slot ≡ e.slot → d.i ≡ e.i → j ≡ k
+entry_apart z m counted j k d e p q s i = one_place (is_entry_for d.slot d.i) _ (omega (
+  arith,
+  counted d.slot d.i,
+  bit-le (waits_for z m.cache d.slot d.i),
+)) j k d e p q (own_entry d) (grind arith)
 
 -- ---- what is kept
 
@@ -126,6 +125,15 @@ kept_same z m m' h at words cell back = grind arith
 
 -- ---- machines within a sound one
 
+-- each frame that holds a block stands in its set's order, and no other set's
+pub record InOrder (z : Sizes) (d : Frames) : Type 0 where
+  pub placed : (f b : ℕ) → (dir.frame_at d.frames f).block ≡ Some b → is_in (dir.order_of d (f / z.ways)) f ≡ true
+  pub in_set : (s f : ℕ) → is_in (dir.order_of d s) f ≡ true → f / z.ways ≡ s
+  pub sized : length d.orders ≡ z.sets
+
+pub ordered : (z : Sizes) (m : Machine) → IsSound z m → InOrder z m.cache.directory
+ordered z m h = record { placed = h.unit.placed; in_set = h.unit.in_set; sized = h.unit.orders_are }
+
 pub InOrder-within : (z : Sizes) (c d : Cache) → Within c d → d.directory.orders ≡ c.directory.orders → InOrder z c.directory
     → InOrder z d.directory
 InOrder-within z c d w e h = grind arith
@@ -135,22 +143,33 @@ pub sound_within : (z : Sizes) (m m' : Machine) → IsSound z m → Within m.cac
     → ((s i : ℕ) → tally (is_for s i) (all_pending m'.banks) + tally (is_entry_for s i) m'.cache.stack ≡ bit (waits_for z m'.cache s i))
     → ((at : ℕ) → flat_word z m' at ≡ kept_word z m' at) → length m'.banks ≡ length m.banks
     → ((b : ℕ) → length (bank_at m'.banks b).words ≡ length (bank_at m.banks b).words) → IsSound z m'
-sound_within z m m' h w order queue once counted kept number lengths = record {
-  frames_apart = λ f g b p q. h.frames_apart f g b (w.frames.held f b p).0 (w.frames.held g b q).0;
-  live_apart = grind arith;
-  live_present = grind arith;
-  counted = counted;
-  once = once;
-  kept = kept;
-  whole_frames = λ f b p. grind (arith, w.frames.held f b p, h.whole_frames f b);
-  whole_registers = grind arith;
-  queue_in = queue;
-  in_order = order;
-  registers_are = grind arith;
-  frames_are = grind arith;
-  banks_are = grind arith;
-  banks_hold = grind arith;
-}
+sound_within z m m' h w order queue once counted kept number lengths =
+    let u = h.unit in
+    record {
+      unit = record {
+        some_words = u.some_words;
+        some_sets = u.some_sets;
+        frames_are = grind arith;
+        orders_are = order.sized;
+        registers_are = grind arith;
+        frames_apart = λ f g b p q. u.frames_apart f g b (w.frames.held f b p).0 (w.frames.held g b q).0;
+        live_apart = grind arith;
+        live_present = grind arith;
+        cells = λ f b p. grind (arith, w.frames.held f b p, u.cells f b);
+        fields = grind arith;
+        in_memory = λ f b p. u.in_memory f b (w.frames.held f b p).0;
+        queue_in = queue;
+        placed = order.placed;
+        in_set = order.in_set;
+        entries = entry_waits z m' counted;
+        entries_apart = entry_apart z m' counted;
+        once = once;
+      };
+      counted = counted;
+      kept = kept;
+      banks_are = grind arith;
+      banks_hold = grind arith;
+    }
 
 -- a request of a present block, which changes no bank
 pub sound_beside : (z : Sizes) (m : Machine) (d : Cache) → IsSound z m → Beside z m.cache d
@@ -158,8 +177,8 @@ pub sound_beside : (z : Sizes) (m : Machine) (d : Cache) → IsSound z m → Bes
     → (let m' : Machine = record { cache = d; banks = m.banks } in (at : ℕ) → flat_word z m' at ≡ kept_word z m' at)
     → (let m' : Machine = record { cache = d; banks = m.banks } in IsSound z m')
 sound_beside z m d h b once kept =
-    sound_within z m (record { cache = d; banks = m.banks }) h b.within (InOrder-within z _ d b.within b.orders h.in_order)
-    (rw (sym b.queue) at h.queue_in) once
+    sound_within z m (record { cache = d; banks = m.banks }) h b.within (InOrder-within z _ d b.within b.orders (ordered z m h))
+    (rw (sym b.queue) at h.unit.queue_in) once
     (λ s i. (cc (b.stack, h.counted s i, ap bit (sym (b.waits s i)))))
     kept refl (λ k. refl)
 
@@ -421,13 +440,9 @@ overlaid_past w block n cells at l = grind (arith, overlaid_at w block n cells (
 
 -- ---- addresses
 
--- a block that begins in memory lies in it
-block_in : (z : Sizes) → IsLawful z → (b : ℕ) → first_of z b < z.words → first_of z b + z.block_words ≤ z.words
-block_in z lawful b l = grind arith
-
 -- an address of another block is outside
-outside : (z : Sizes) → IsLawful z → (b at : ℕ) → (block_of z at ≡ b → ⊥) → (at < first_of z b) ⊎ (first_of z b + z.block_words ≤ at)
-outside z lawful b at n = grind arith
+outside : (z : Sizes) → 0 < z.block_words → (b at : ℕ) → (block_of z at ≡ b → ⊥) → (at < first_of z b) ⊎ (first_of z b + z.block_words ≤ at)
+outside z some b at n = grind arith
 
 AllIn-append : (z : Sizes) (xs ys : List Queued) → AllIn z xs → AllIn z ys → AllIn z (xs ++ ys)
 AllIn-append z [] ys h k = k
@@ -442,22 +457,22 @@ AllIn-dirty z block n (cell ∷ rest) l = grind (arith, AllIn-dirty z block (n +
 -- laid over the backing, they are what is kept of their block, and nothing of another
 pub dirty_within : (z : Sizes) (m : Machine) → IsSound z m → (f at : ℕ) → (frame_at m.cache f).block ≡ Some (block_of z at)
     → overlaid (backing z m at) (dirty_words z m.cache (Some f)) at ≡ kept_word z m at
-dirty_within z m h f at e = grind (arith, m.cache, frame_of-is, h.frames_apart, overlaid_at, address_is)
+dirty_within z m h f at e = grind (arith, m.cache, frame_of-is, h.unit.frames_apart, overlaid_at, address_is)
 
-pub dirty_elsewhere : (z : Sizes) → IsLawful z → (m : Machine) → IsSound z m → (f at : ℕ)
+pub dirty_elsewhere : (z : Sizes) (m : Machine) → IsSound z m → (f at : ℕ)
     → ((frame_at m.cache f).block ≡ Some (block_of z at) → ⊥)
     → overlaid (backing z m at) (dirty_words z m.cache (Some f)) at ≡ backing z m at
-dirty_elsewhere z lawful m h f at n = grind (arith, m.cache, z.block_words, h.whole_frames, overlaid_below, overlaid_past, outside)
+dirty_elsewhere z m h f at n =
+    grind (arith, m.cache, z.block_words, h.unit.cells, h.unit.in_memory, h.unit.some_words, overlaid_below, overlaid_past, outside)
 
 -- the queue with them lies in memory
-pub dirty_in : (z : Sizes) → IsLawful z → (m : Machine) → IsSound z m → (f : ℕ) → AllIn z (m.cache.queue ++ dirty_words z m.cache (Some f))
-dirty_in z lawful m h f = AllIn-append z _ _ h.queue_in (go (frame_at m.cache f).block refl)
+pub dirty_in : (z : Sizes) (m : Machine) → IsSound z m → (f : ℕ) → AllIn z (m.cache.queue ++ dirty_words z m.cache (Some f))
+dirty_in z m h f = AllIn-append z _ _ h.unit.queue_in (go (frame_at m.cache f).block refl)
   where
     go : (o : Option ℕ) → (frame_at m.cache f).block ≡ o → AllIn z (owed_by z.block_words o (frame_at m.cache f).cells)
     go None e = tt
     go (Some b) e =
-        let w = h.whole_frames f b e in
-        AllIn-dirty z b _ _ (omega (arith, w.0, block_in z lawful b w.1))
+        AllIn-dirty z b _ _ (omega (arith, h.unit.cells f b e, h.unit.in_memory f b e))
 
 -- the backing of a machine whose queue has them, too
 pub backing_dirty : (z : Sizes) (m m' : Machine) (f at : ℕ)
@@ -468,12 +483,12 @@ backing_dirty z m m' f at ew eq = grind (arith, overlaid-append)
 
 -- ---- A block is given up.
 
-module _ (z : Sizes) (lawful : IsLawful z) (m : Machine) (h : IsSound z m) (block f : ℕ) (found : frame_of m.cache block ≡ Some f) where
+module _ (z : Sizes) (m : Machine) (h : IsSound z m) (block f : ℕ) (found : frame_of m.cache block ≡ Some f) where
   abbrev pub gone : Machine
   gone = record { cache = evicted z m.cache block f; banks = m.banks }
 
   by : EvictedBy z m.cache block (evicted z m.cache block f)
-  by = evicted-by z _ (sound_unit z lawful m h) block f found
+  by = evicted-by z _ h.unit block f found
 
   queue : gone.cache.queue ≡ m.cache.queue ++ dirty_words z m.cache (Some f)
   unfolding evicted released
@@ -485,7 +500,7 @@ module _ (z : Sizes) (lawful : IsLawful z) (m : Machine) (h : IsSound z m) (bloc
 
   order : InOrder z gone.cache.directory
   unfolding evicted released
-  order = InOrder-released z _ f h.in_order
+  order = InOrder-released z _ f (ordered z m h)
 
   held : (frame_at m.cache f).block ≡ Some block
   held = (frame_of-some _ block f found).1
@@ -495,7 +510,7 @@ module _ (z : Sizes) (lawful : IsLawful z) (m : Machine) (h : IsSound z m) (bloc
   backing_here at e = backing_dirty z m gone f at refl queue ∙ dirty_within z m h f at (held ∙ ap Some e)
 
   backing_there : (at : ℕ) → (block ≡ block_of z at → ⊥) → backing z gone at ≡ backing z m at
-  backing_there at n = backing_dirty z m gone f at refl queue ∙ dirty_elsewhere z lawful m h f at (λ e. grind (arith, held))
+  backing_there at n = backing_dirty z m gone f at refl queue ∙ dirty_elsewhere z m h f at (λ e. grind (arith, held))
 
   word_here : (at : ℕ) → block ≡ block_of z at → flat_word z gone at ≡ backing z gone at
   word_here at e = grind (arith, flat_word-form, by.after, eq-eqb)
@@ -513,8 +528,8 @@ module _ (z : Sizes) (lawful : IsLawful z) (m : Machine) (h : IsSound z m) (bloc
   kept at = grind (arith, word_here, merged-none, by.absent, word_there, by.cells, backing_there, h.kept, cases_eq)
 
   pub gone_sound : IsSound z gone
-  gone_sound = sound_within z m gone h by.within order (rw (sym queue) at (dirty_in z lawful m h f))
-      (λ tag. rw (sym by.same_tags) at (h.once tag))
+  gone_sound = sound_within z m gone h by.within order (rw (sym queue) at (dirty_in z m h f))
+      (λ tag. rw (sym by.same_tags) at (h.unit.once tag))
       (λ s i. (cc (stack, h.counted s i, ap bit (sym (by.waits s i)))))
       kept refl (λ b. refl)
 
@@ -690,7 +705,7 @@ reads_from z slot block b s i zero r a words e l h = absurd (omega arith)
 reads_from z slot block b s i (suc n) r a words e l h =
     grind (arith, mod-mul-add, eqb-true, and_parts, reads_from z slot block b s i n (suc r) (a + 1) words)
 
-module _ (z : Sizes) (lawful : IsLawful z) (m : Machine) (sound : IsSound z m) (h : IsBounded z m) (block f slot : ℕ)
+module _ (z : Sizes) (m : Machine) (sound : IsSound z m) (h : IsBounded z m) (block f slot : ℕ)
     (there : slot < length m.cache.registers) (free : (register_at m.cache slot).valid ≡ false) where
   abbrev began : Register
   began = begun_register z.block_words (released z m.cache f).queue block f
@@ -748,7 +763,7 @@ module _ (z : Sizes) (lawful : IsLawful z) (m : Machine) (sound : IsSound z m) (
   unfolding installed released
   bounded_installed places room few = record {
     unfinished = each-set (λ s r. r.valid ≡ true → is_done r.fields ≡ false) free_register _ slot _
-        (λ v. fresh_waits _ _ _ lawful.some_words) h.unfinished;
+        (λ v. fresh_waits _ _ _ sound.unit.some_words) h.unfinished;
     few_tags = few;
     few_queued = grind (arith, length-append, m.cache.queue, ltb-false, h.few_queued);
     few_commands = few_sent room;
@@ -758,10 +773,10 @@ module _ (z : Sizes) (lawful : IsLawful z) (m : Machine) (sound : IsSound z m) (
 abbrev pub fetched_machine : Sizes → Machine → ℕ → Machine
 fetched_machine z m block = record { cache = fetched z m.cache block; banks = all_sent m.banks (fetches z m.cache block) }
 
-pub bounded_fetch : (z : Sizes) (lawful : IsLawful z) (m : Machine) → IsSound z m → IsBounded z m → (block : ℕ) → MayMiss z m block
+pub bounded_fetch : (z : Sizes) (m : Machine) → IsSound z m → IsBounded z m → (block : ℕ) → MayMiss z m block
     → length (tags (fetched z m.cache block)) ≤ z.replies → IsBounded z (fetched_machine z m block)
 unfolding fetched fetches
-bounded_fetch z lawful m sound h block may = go _ refl _ refl _ refl
+bounded_fetch z m sound h block may = go _ refl _ refl _ refl
   where
     go : (b : Bool) → is_present m.cache block ≡ b → (o : Option ℕ) → choose z m.cache block ≡ o → (s : Option ℕ) → free_slot m.cache ≡ s
         → length (tags (cond b m.cache (missed z m.cache block o s))) ≤ z.replies → IsBounded z (record {
@@ -772,7 +787,7 @@ bounded_fetch z lawful m sound h block may = go _ refl _ refl _ refl
     go false p None q None e l = h
     go false p (Some f) q None e l = h
     go false p None q (Some slot) e l =
-        let some = some_frame z _ (sound_unit z lawful m sound) block (may_able z m block may p).1 in cc
+        let some = some_frame z _ sound.unit block (may_able z m block may p).1 in cc
     go false p (Some f) q (Some slot) e l =
         let free = free_register_at m.cache slot e in
-        bounded_installed z lawful m sound h block f slot free.0 free.1 (grind arith) (grind arith) l
+        bounded_installed z m sound h block f slot free.0 free.1 (grind arith) (grind arith) l

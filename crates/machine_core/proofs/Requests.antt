@@ -15,8 +15,8 @@ use Rattle.cache_unit.specs.declared.Sizes.{Sizes}
 use Rattle.cache_unit.specs.Counts.{tally, bit}
 use Rattle.cache_unit.proofs.Lists.{Adds, Adds-tally, Adds-find_other, Adds-find_same, Adds-push, Adds-left, Adds-right, Adds-same}
 use Rattle.cache_unit.proofs.Lists.{find_none, flat_map_part, read_set, map-same, none_in_frames, none_live, holds-not, Adds-length}
-use Rattle.cache_unit.proofs.Lists.{tally-filter, frame_of-none}
-use Rattle.machine_core.specs.Sound.{is_for, is_entry_for, word_in, InOrder, IsSound, IsBounded, wanted}
+use Rattle.cache_unit.proofs.Lists.{frame_of-none}
+use Rattle.machine_core.specs.Sound.{is_for, is_entry_for, word_in, IsSound, IsBounded, wanted}
 use Rattle.std.proofs.lemmas.List.FromFn.{length-map-range_with_len}
 use Rattle.flat_model.specs.Words.{merged, zero_word, has_any}
 use Rattle.flat_model.proofs.Lanewise.{merged-none, merged_over, merged_no_lane, has-none}
@@ -40,10 +40,10 @@ use Rattle.machine_core.specs.Machine.{flat_word_in}
 use Rattle.memory_banks.proofs.Sending.{all_sent-length, all_sent-at}
 use Rattle.machine_core.proofs.FromForms.{commands, fetched_machine, after-append, answers_to-append, MayMiss, may_able, bounded_fetch}
 use Rattle.machine_core.proofs.FromForms.{bounded_unit, like_loaded, like_written, like_evicted, filled-asked, filled-over, filled-other}
-use Rattle.machine_core.proofs.FromForms.{word_asks, due_other, word_from, flat_word-form, Same, bit-le, sound_unit, kept_word, kept_same}
+use Rattle.machine_core.proofs.FromForms.{word_asks, due_other, word_from, flat_word-form, Same, bit-le, kept_word, kept_same, InOrder}
 use Rattle.machine_core.proofs.FromForms.{overlaid-split, InOrder-released, InOrder-installed, dirty_within, dirty_elsewhere, dirty_in}
 use Rattle.machine_core.proofs.FromForms.{backing_dirty, word_same, form_present, flat_of-same, Kept, KeptBy, cell_frames, sound_beside}
-use Rattle.machine_core.proofs.FromForms.{gone_same, gone_sound, gone_tags}
+use Rattle.machine_core.proofs.FromForms.{gone_same, gone_sound, gone_tags, ordered, entry_waits, entry_apart}
 use Rattle.flat_model.specs.declared.Lanes.{Lanes}
 use Rattle.flat_model.specs.declared.Cause.{Cause}
 use Rattle.flat_model.specs.declared.Cause.TheVariants.{OutOfRange, TagInUse, RepliesFull, TargetsFull, NoRegister, SetPending, QueueFull}
@@ -169,7 +169,7 @@ pub record FetchedBy (z : Sizes) (m : Machine) (block : ℕ) (m' : Machine) : Ty
   pub bounded : IsBounded z m → IsBounded z m'
 
 module _ (z : Sizes) (lawful : IsLawful z) (m : Machine) (h : IsSound z m) (block : ℕ) (absent : frame_of m.cache block ≡ None)
-    (in_memory : first_of z block < z.words) (miss : Misses z m.cache block) where
+    (in_memory : first_of z block + z.block_words ≤ z.words) (miss : Misses z m.cache block) where
   abbrev f : ℕ
   f = miss.frame
 
@@ -272,7 +272,7 @@ module _ (z : Sizes) (lawful : IsLawful z) (m : Machine) (h : IsSound z m) (bloc
   backing_gone at e = backing_dirty z m with_block f at (base_same at) miss.by.queue ∙ dirty_within z m h f at e
 
   backing_same : (at : ℕ) → ((frame_at m.cache f).block ≡ Some (block_of z at) → ⊥) → backing z with_block at ≡ backing z m at
-  backing_same at n = backing_dirty z m with_block f at (base_same at) miss.by.queue ∙ dirty_elsewhere z lawful m h f at n
+  backing_same at n = backing_dirty z m with_block f at (base_same at) miss.by.queue ∙ dirty_elsewhere z m h f at n
 
   -- ---- the words: of the block that comes, of the one that goes, and the others
 
@@ -350,7 +350,7 @@ module _ (z : Sizes) (lawful : IsLawful z) (m : Machine) (h : IsSound z m) (bloc
   installed_order own =
       let c = released z m.cache f in
       InOrder-installed z _ f _ _ own (mod-lt block lawful.some_sets)
-      (InOrder-released z _ f h.in_order)
+      (InOrder-released z _ f (ordered z m h))
 
   order : InOrder z with_block.cache.directory
   order = grind (arith, installed_order)
@@ -359,27 +359,35 @@ module _ (z : Sizes) (lawful : IsLawful z) (m : Machine) (h : IsSound z m) (bloc
   same_tags = grind arith
 
   with_block_sound : IsSound z with_block
-  with_block_sound = record {
-    frames_apart = apart_after;
-    live_apart = live_apart_after;
-    live_present = λ t l. ⊎_elim (λ q. (f, grind (arith, miss.by.own_frame, own_block)))
-        (λ x. let p = h.live_present t x.1 in (p.0, grind (arith, miss.by.other_frame, live_elsewhere))) (lives t l);
-    counted = λ t j. (cc (miss.by.same_stack, counted_after t j));
-    once = grind arith;
-    kept = kept;
-    whole_frames = λ k b e. ⊎_elim (λ x. (
-      grind (arith, miss.by.own_frame, length-map-range_with_len),
-      rw (sym x.1) at in_memory,
-    ))
-        (λ x. let p = h.whole_frames k b x.1 in (grind (arith, miss.by.other_frame), p.1)) (holds k b e);
-    whole_registers = whole_after;
-    queue_in = rw (sym miss.by.queue) at (dirty_in z lawful m h f);
-    frames_are = grind arith;
-    in_order = order;
-    registers_are = grind arith;
-    banks_are = all_sent-length m.banks (commands z slot (addresses z block)) ∙ h.banks_are;
-    banks_hold = λ at l. grind (arith, mod-lt, all_sent-at, h.banks_hold, h.banks_are);
-  }
+  with_block_sound =
+      let u = h.unit in
+      record {
+        unit = record {
+          some_words = u.some_words;
+          some_sets = u.some_sets;
+          frames_are = grind arith;
+          orders_are = order.sized;
+          registers_are = grind arith;
+          frames_apart = apart_after;
+          live_apart = live_apart_after;
+          live_present = λ t l. ⊎_elim (λ q. (f, grind (arith, miss.by.own_frame, own_block)))
+              (λ x. let p = u.live_present t x.1 in (p.0, grind (arith, miss.by.other_frame, live_elsewhere))) (lives t l);
+          cells = λ k b e. ⊎_elim (λ x. grind (arith, miss.by.own_frame, length-map-range_with_len))
+              (λ x. grind (arith, u.cells k b x.1, miss.by.other_frame)) (holds k b e);
+          fields = whole_after;
+          in_memory = λ k b e. ⊎_elim (λ x. rw (sym x.1) at in_memory) (λ x. u.in_memory k b x.1) (holds k b e);
+          queue_in = rw (sym miss.by.queue) at (dirty_in z m h f);
+          placed = order.placed;
+          in_set = order.in_set;
+          entries = entry_waits z with_block counted;
+          entries_apart = entry_apart z with_block counted;
+          once = grind arith;
+        };
+        counted = counted;
+        kept = kept;
+        banks_are = all_sent-length m.banks (commands z slot (addresses z block)) ∙ h.banks_are;
+        banks_hold = λ at l. grind (arith, mod-lt, all_sent-at, h.banks_hold, h.banks_are);
+      }
     where
       own_field : (j : ℕ) → j < z.block_words → field_at with_block.cache slot j ≡ begun_field with_block.cache.queue (first_of z block + j)
       own_field j l = grind (arith, range_at)
@@ -389,11 +397,16 @@ module _ (z : Sizes) (lawful : IsLawful z) (m : Machine) (h : IsSound z m) (bloc
       counted_after t j = ⊎_elim (λ q. grind (arith, own_tally, none_pending, own_field, ltb-true))
           (λ n. grind (arith, other_tally)) (cases_eq t slot)
 
+      counted : (t j : ℕ) → tally (is_for t j) (all_pending with_block.banks) + tally (is_entry_for t j) with_block.cache.stack
+          ≡ wanted z (register_at with_block.cache t) j
+      counted t j = cc (miss.by.same_stack, counted_after t j)
+
       whole_after : (t : ℕ) → (register_at with_block.cache t).valid ≡ true → length (register_at with_block.cache t).fields ≡ z.block_words
       whole_after t v = grind (arith, length-map-range_with_len, cases_eq)
 
 -- a block is fetched where nothing stands against it
-pub fetch_ok : (z : Sizes) (lawful : IsLawful z) (m : Machine) → IsSound z m → (block : ℕ) → first_of z block < z.words
+pub fetch_ok : (z : Sizes) (lawful : IsLawful z) (m : Machine) → IsSound z m → (block : ℕ)
+    → first_of z block + z.block_words ≤ z.words
     → MayMiss z m block → FetchedBy z m block (fetched_machine z m block)
 unfolding fetched fetches
 fetch_ok z lawful m h block in_memory may = go _ refl
@@ -401,21 +414,21 @@ fetch_ok z lawful m h block in_memory may = go _ refl
     go : (o : Option ℕ) → frame_of m.cache block ≡ o → FetchedBy z m block (fetched_machine z m block)
     go (Some k) e = grind arith
     go None e =
-        let miss = misses z _ (sound_unit z lawful m h) block e (may_able z m block may (ap is_some e)) in
+        let miss = misses z _ h.unit block e (may_able z m block may (ap is_some e)) in
         let is = ap (all_sent m.banks) miss.sent in
         let tags_same = same_tags z lawful m h block e in_memory miss in
         record {
           sound = rw (sym is) at (with_block_sound z lawful m h block e in_memory miss);
           same = rw (sym is) at (with_block_same z lawful m h block e in_memory miss);
           same_tags = tags_same;
-          bounded = λ b. bounded_fetch z lawful m h b block may (rw (sym tags_same) at b.few_tags);
+          bounded = λ b. bounded_fetch z m h b block may (rw (sym tags_same) at b.few_tags);
         }
 
 -- the block is present then, with all its words
-pub fetched_hit : (z : Sizes) (lawful : IsLawful z) (m : Machine) → IsSound z m → (block : ℕ)
+pub fetched_hit : (z : Sizes) (m : Machine) → IsSound z m → (block : ℕ)
     → (is_present m.cache block ≡ false → Able z m.cache block) → Hit z (fetched z m.cache block) block
-fetched_hit z lawful m h block able =
-    let f = fetched-by z _ (sound_unit z lawful m h) block able in
+fetched_hit z m h block able =
+    let f = fetched-by z _ h.unit block able in
     record { frame = f.frame; present = f.present; cells = f.cells; fields = f.fields }
 
 -- ---- Loads, stores, prefetches and evictions.
@@ -474,9 +487,9 @@ once_more tag xs ys more none once t =
 
 -- ---- the causes of a miss
 
--- a block begins in memory where one of its words is there
-pub starts_in : (z : Sizes) (at : ℕ) → at < z.words → first_of z (block_of z at) < z.words
-starts_in z at l = grind arith
+-- a block is in memory where one of its words is
+pub lies_in : (z : Sizes) → IsLawful z → (at : ℕ) → at < z.words → first_of z (block_of z at) + z.block_words ≤ z.words
+lies_in z lawful at l = grind arith
 
 -- ---- requests
 
@@ -495,7 +508,7 @@ module _ (z : Sizes) (lawful : IsLawful z) (m : Machine) (h : IsSound z m) where
   accept_load tag at l unused room m2 f hit =
       let c = m2.cache in
       let ps = all_pending m2.banks in
-      let none = ap (λ ts. length (filter (λ t. t == tag) ts)) f.same_tags ∙ none-counted (λ t. t == tag) _ unused in
+      let none = ap (tally (λ t. t == tag)) f.same_tags ∙ none-counted (λ t. t == tag) _ unused in
       let by = loaded-by z lawful.some_words c tag at hit (dues-tally c tag ∙ none) in
       let m3 : Machine = record {
         cache = loaded c tag _ (cell_of c _ _).word
@@ -509,7 +522,7 @@ module _ (z : Sizes) (lawful : IsLawful z) (m : Machine) (h : IsSound z m) where
       λ t. grind (arith, by.owing t, form, flat_word-form z m2 at, f.same.words at, mem_at z m at l, f.same.owing t) in
       let after : flat_after _ (Load tag at) Accepted ≡ flat_of z m3 =
       λ i. record { mem = map (λ a. sym (words a ∙ f.same.words a) i) (range_with_len 0 z.words); due = λ t. sym (gained t) i } in
-      let once = once_more tag _ _ by.more (sym (tally-filter (λ t. t == tag) _) ∙ none) f.sound.once in
+      let once = once_more tag _ _ by.more none f.sound.unit.once in
       let sound = sound_beside z m2 _ f.sound by.beside once
       (λ a. kept_same z m2 m3 f.sound a (words a) (cell_frames c m3.cache by.frames _ _) (back a)) in
       record {
@@ -543,7 +556,7 @@ module _ (z : Sizes) (lawful : IsLawful z) (m : Machine) (h : IsSound z m) where
       cc (mem_length z m, flat_in_use m tag, refused)) (λ e.
       let may : MayMiss z m (block_of z at) = λ absent. grind arith in
       accept_load tag at (grind (arith, ltb-true)) (grind arith) (grind (arith, leb-false)) _
-      (fetch_ok z lawful m h _ (starts_in z at (grind (arith, ltb-true))) may) (fetched_hit z lawful m h _ (may_able z m _ may)))
+      (fetch_ok z lawful m h _ (lies_in z lawful at (grind (arith, ltb-true))) may) (fetched_hit z m h _ (may_able z m _ may)))
 
   -- ---- stores
 
@@ -576,7 +589,7 @@ module _ (z : Sizes) (lawful : IsLawful z) (m : Machine) (h : IsSound z m) where
       let owing : (t : ℕ) → flat_due m3 t ≡ flat_due m t = λ t. (cc (by.owing t, f.same.owing t)) in
       let after : flat_after _ (Store at word lanes) Accepted ≡ flat_of z m3 =
       λ i. record { mem = sym mem i; due = λ t. sym (owing t) i } in
-      let sound = sound_beside z m2 _ f.sound by.beside (λ tag. rw (sym by.same_tags) at (f.sound.once tag)) kept in
+      let sound = sound_beside z m2 _ f.sound by.beside (λ tag. rw (sym by.same_tags) at (f.sound.unit.once tag)) kept in
       record {
         sound = sound;
         run = grind (arith, after, mem_length z m, any, lt-ltb);
@@ -590,7 +603,7 @@ module _ (z : Sizes) (lawful : IsLawful z) (m : Machine) (h : IsSound z m) where
       (λ c e. grind (arith, mem_length)) (λ e.
       let may : MayMiss z m (block_of z at) = λ absent. grind arith in
       accept_store at word lanes (grind (arith, ltb-true)) (grind arith) _
-      (fetch_ok z lawful m h _ (starts_in z at (grind (arith, ltb-true))) may) (fetched_hit z lawful m h _ (may_able z m _ may)))
+      (fetch_ok z lawful m h _ (lies_in z lawful at (grind (arith, ltb-true))) may) (fetched_hit z m h _ (may_able z m _ may)))
 
   -- ---- prefetches
 
@@ -600,7 +613,7 @@ module _ (z : Sizes) (lawful : IsLawful z) (m : Machine) (h : IsSound z m) where
       (λ c e. grind (arith, mem_length)) (λ e.
       let may : MayMiss z m (block_of z at) = λ absent. grind arith in
       let l : at < z.words = grind (arith, ltb-true) in
-      let f = fetch_ok z lawful m h _ (starts_in z at l) may in
+      let f = fetch_ok z lawful m h _ (lies_in z lawful at l) may in
       record { sound = f.sound; run = grind (arith, mem_length, lt-ltb, flat_of-same); bounded = f.bounded })
 
   -- ---- evictions
@@ -616,12 +629,12 @@ module _ (z : Sizes) (lawful : IsLawful z) (m : Machine) (h : IsSound z m) where
           })
       accept None e some room = cc
       accept (Some f) e some room =
-          let sound = gone_sound z lawful m h block f e in
+          let sound = gone_sound z m h block f e in
           record {
             sound = sound;
-            run = flat_of-same z m _ (gone_same z lawful m h block f e);
+            run = flat_of-same z m _ (gone_same z m h block f e);
             bounded = λ b. bounded_unit z m _ sound b (like_evicted z m.cache block f)
-                (rw (sym (gone_tags z lawful m h block f e)) at b.few_tags)
+                (rw (sym (gone_tags z m h block f e)) at b.few_tags)
                 (grind (arith, length-append, m.cache.queue, ltb-false, b.few_queued));
           }
 
@@ -679,22 +692,27 @@ module _ (z : Sizes) (lawful : IsLawful z) (image : List Word) (fits : length im
 
   pub sound_opening : IsSound z m0
   sound_opening = record {
-    frames_apart = λ f g b p q. absurd (no_block f b p);
-    live_apart = λ s t p q e. grind (arith, free_registers);
-    live_present = λ s p. grind (arith, free_registers);
-    counted = λ s i. (cc (opening_idle, free_registers s));
-    once = λ tag. rw nothing_owed (omega arith);
-    kept = λ at. (cc (opening_word at, merged-none (backing z m0 at) zero_word, absent (block_of z at)));
-    whole_frames = λ f b p. absurd (no_block f b p);
-    whole_registers = λ s v. grind (arith, free_registers);
-    queue_in = tt;
-    frames_are = length-replicate _ empty_frame;
-    in_order = record {
+    unit = record {
+      some_words = lawful.some_words;
+      some_sets = lawful.some_sets;
+      frames_are = length-replicate _ empty_frame;
+      orders_are = length-replicate _ [];
+      registers_are = length-replicate _ free_register;
+      frames_apart = λ f g b p q. absurd (no_block f b p);
+      live_apart = λ s t p q e. grind (arith, free_registers);
+      live_present = λ s p. grind (arith, free_registers);
+      cells = λ f b p. absurd (no_block f b p);
+      fields = λ s v. grind (arith, free_registers);
+      in_memory = λ f b p. absurd (no_block f b p);
+      queue_in = tt;
       placed = λ f b p. absurd (no_block f b p);
       in_set = λ s f p. grind (arith, all_same);
-      sized = length-replicate _ [];
+      entries = λ k e p. cc;
+      entries_apart = λ j k d e p. cc;
+      once = λ tag. rw nothing_owed (omega arith);
     };
-    registers_are = length-replicate _ free_register;
+    counted = λ s i. (cc (opening_idle, free_registers s));
+    kept = λ at. (cc (opening_word at, merged-none (backing z m0 at) zero_word, absent (block_of z at)));
     banks_are = length-map-range_with_len bank_of 0 _;
     banks_hold = λ at l. grind (arith, bank_is, mod-lt, share_length, place_there);
   }

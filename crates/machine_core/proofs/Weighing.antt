@@ -34,7 +34,7 @@ use Rattle.machine_core.specs.Machine.{Machine, apply, joined_with}
 use Rattle.machine_core.specs.Law.{IsLawful, HasRoom, WalkIsDriven, most_weight}
 use Rattle.machine_core.specs.Sound.{IsSound, wanted, IsBounded}
 use Rattle.machine_core.proofs.Walking.{slot_there, field_there, not_stray, walk_sound}
-use Rattle.machine_core.proofs.FromForms.{entry_waits, bit-pos, bit-le}
+use Rattle.machine_core.proofs.FromForms.{bit-pos, bit-le}
 use Rattle.machine_core.proofs.Requests.{sound_opening}
 use Rattle.std.proofs.Math.Nat.{mul_assoc}
 use Rattle.flat_model.specs.Flat.{stored}
@@ -131,7 +131,7 @@ module _ (z : Sizes) (lawful : IsLawful z) (roomy : HasRoom z) (m : Machine) (h 
       let found = ap (λ l. slice_get l 0) e in
       let r = register_at c x.slot in
       let f = field_at c x.slot x.i in
-      let w = entry_waits z m h 0 x found in
+      let w = h.unit.entries 0 x found in
       rw found (omega (
         arith,
         total_set field_weight clear_field r.fields x.i done (field_there z m 0 x h found),
@@ -236,7 +236,7 @@ module _ (z : Sizes) (lawful : IsLawful z) (roomy : HasRoom z) (m : Machine) (h 
           quiet s l = elim (register_at m.cache s).valid as (λ b. (register_at m.cache s).valid ≡ b
               → cond b (total field_weight (register_at m.cache s).fields) 0 ≡ 0) [
                 | true ↦ (λ v. total_none field_weight clear_field (register_at m.cache s).fields
-                    (λ j k. grind (arith, all_idle m.banks idle, h.counted s j, lt-ltb, h.whole_registers)))
+                    (λ j k. grind (arith, all_idle m.banks idle, h.counted s j, lt-ltb, h.unit.fields)))
                 | false ↦ (λ v. refl)
               ] refl
 
@@ -271,7 +271,13 @@ module _ (z : Sizes) (lawful : IsLawful z) (roomy : HasRoom z) (m : Machine) (h 
       go (Some event) e = absurd (omega (arith, pumped_lowers event e))
 
 pub walk_is_driven : (z : Sizes) (image : List Word) (events : List Event) → WalkIsDriven z image events
-walk_is_driven z image events lawful roomy fits = grind (arith, walk_sound, sound_opening, pumped_lowers, pumped_rests, pumped_at_rest)
+walk_is_driven z image events lawful roomy fits =
+    let h = walk_sound z lawful _ (sound_opening z lawful image fits) events in
+    record {
+      lowers = pumped_lowers z lawful roomy _ h;
+      rests = pumped_rests z lawful roomy _ h;
+      at_rest = pumped_at_rest z lawful roomy _ h;
+    }
 
 -- ---- An event that moves something on lowers the weight; otherwise the machine stays as it was, and shows why.
 
@@ -373,7 +379,7 @@ wanted_in : (z : Sizes) (m : Machine) → IsSound z m → (s i : ℕ) → 1 ≤ 
 wanted_in z m sound s i l =
     let p = and_parts (register_at m.cache s).valid _ (bit-pos _ l) in
     let there = in_range (λ (r : Register). r.valid) free_register _ s refl p.0 in
-    (omega (arith, there, sound.registers_are), ltb-true i _ (and_parts _ _ p.1).0)
+    (omega (arith, there, sound.unit.registers_are), ltb-true i _ (and_parts _ _ p.1).0)
 
 -- at most one for each word of each register
 pub on_their_way : (z : Sizes) (m : Machine) → IsSound z m → length (all_pending m.banks) + length m.cache.stack ≤ z.regs * z.block_words

@@ -314,11 +314,16 @@ pub record Held (z : Sizes) (m : Machine) : Type 0 where
   pub bounded : IsBounded z m
 
 pub held_apply : (z : Sizes) → IsLawful z → (m : Machine) → Held z m → (event : Event) → Held z (apply z m event).machine
-held_apply z lawful m h event = grind (arith, event_ok, h.sound, bounded_apply, h.bounded)
+held_apply z lawful m h event = let k = event_ok z lawful m h.sound event in record { sound = k.sound; bounded = k.bounded h.bounded }
 
 pub held_walked : (z : Sizes) → IsLawful z → (m : Machine) → Held z m → (events : List Event) → Held z (walked z m events)
 held_walked z lawful m h [] = h
 held_walked z lawful m h (event ∷ events) = held_walked z lawful (apply z m event).machine (held_apply z lawful m h event) events
+
+held_from_opening : (z : Sizes) (image : List Word) (events : List Event) → IsLawful z → length image ≡ z.words
+    → Held z (walked z (opening z image) events)
+held_from_opening z image events lawful fits =
+    held_walked z lawful _ (record { sound = sound_opening z lawful image fits; bounded = bounded_opening z lawful image fits }) events
 
 -- after enough pumps the weight is 0
 driven : (z : Sizes) → IsLawful z → HasRoom z → (n : ℕ) (m : Machine) → Held z m → weight m ≤ n
@@ -332,13 +337,13 @@ driven z lawful roomy (suc n) m h l = elim (pumped z m) as (λ o. pumped z m ≡
     ] refl
 
 pub served_after_pumps : (z : Sizes) → IsLawful z → HasRoom z → (m : Machine) → IsSound z m → IsBounded z m → IsServed z m
-served_after_pumps z lawful roomy m sound bounded = grind (arith, driven, weight_bound, bound_at_rest)
+served_after_pumps z lawful roomy m sound bounded =
+    let d = driven z lawful roomy (weight m) m (record { sound = sound; bounded = bounded }) (omega arith) in
+    record { few = weight_bound z m sound bounded; rests = d.1; serves = bound_at_rest z lawful roomy _ d.0.sound d.0.bounded d.1 }
 
 pub requests_are_served : (z : Sizes) (image : List Word) (events : List Event) → RequestsAreServed z image events
 requests_are_served z image events lawful roomy fits =
-    let h = held_walked z lawful _
-    (record { sound = sound_opening z lawful image fits; bounded = bounded_opening z lawful image fits }) events in
-    served_after_pumps z lawful roomy _ h.sound h.bounded
+    let h = held_from_opening z image events lawful fits in served_after_pumps z lawful roomy _ h.sound h.bounded
 
 -- ---- What every machine of a walk keeps, said of it as it stands.
 
@@ -353,8 +358,8 @@ all_at_one p (x ∷ banks) (suc k) h =
 
 pub kept_whole : (z : Sizes) → IsLawful z → (m : Machine) → IsSound z m → IsBounded z m → IsKept z m
 kept_whole z lawful m sound bounded = record {
-  one_live = sound.live_apart;
-  tags_differ = sound.once;
+  one_live = sound.unit.live_apart;
+  tags_differ = sound.unit.once;
   tags_fit = bounded.few_tags;
   tags_owed = λ tag. some _ ∙ flat_in_use m tag;
   on_its_way = λ s i. omega (arith, all_at_one (is_for s i) m.banks _ (λ b d. elsewhere b s i d), sound.counted s i);
@@ -373,7 +378,7 @@ kept_whole z lawful m sound bounded = record {
     stray b place answer e run = grind arith
 
 pub walk_is_kept : (z : Sizes) (image : List Word) (events : List Event) → WalkIsKept z image events
-walk_is_kept z image events lawful fits = grind (arith, held_walked, sound_opening, bounded_opening, kept_whole)
+walk_is_kept z image events lawful fits = let h = held_from_opening z image events lawful fits in kept_whole z lawful _ h.sound h.bounded
 
 -- ---- the limits
 
@@ -397,6 +402,10 @@ few_answers z m r sound b = omega (
 
 -- ---- after some events
 
+held_whole : {unit : UnitState} {memory : Memory} → IsWhole unit memory → (events : List Event)
+    → Held unit.sizes (walked unit.sizes (machine_of unit memory) events)
+held_whole whole events = held_walked _ (lawful _ whole.in_range) _ (record { sound = whole.sound; bounded = whole.bounded }) events
+
 module _ {unit : UnitState} {memory : Memory}
     (whole : IsWhole unit memory) where
   -- the same shape, with another machine
@@ -413,7 +422,7 @@ module _ {unit : UnitState} {memory : Memory}
   pub whole_walked : (events : List Event) (u : UnitState) (n : Memory)
       → u ≡ record unit { cache = (walked unit.sizes (machine_of unit memory) events).cache }
       → n ≡ with_banks memory (walked unit.sizes (machine_of unit memory) events).banks → IsWhole u n
-  whole_walked events u n e f = grind (arith, held_walked, lawful, moved_on)
+  whole_walked events u n e f = let h = held_whole whole events in moved_on _ h.sound h.bounded u n e f
 
 -- ---- a new machine
 
@@ -500,7 +509,7 @@ module _ {unit : UnitState} {memory : Memory}
 
   -- wherever a walk stands, no bank has more answers
   pub takes_answers_walked : (events : List Event) (b : ℕ) → length (bank_at (walked unit.sizes now events).banks b).answers ≤ MAX_ANSWERS
-  takes_answers_walked events b = grind (arith, held_walked, lawful, few_answers)
+  takes_answers_walked events b = few_answers _ _ whole.in_range (held_whole whole events).sound b
 
 -- a stray word is no answer of flat memory
 pub never_stray : (s t : Flat) (event : Event) (answer : Answer) → flat_step s event answer ≡ Some t → answer ≡ Refused StrayWord → ⊥
