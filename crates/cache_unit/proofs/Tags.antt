@@ -190,6 +190,9 @@ sound_cache z c h = record {
         ap (count_by (λ t. t == tag)) (tags-shown c h.registers),
         owing-tags (λ t. t == tag) c.ready c.registers,
       );
+  unfinished = λ s v. (h.registers.each s).missing v;
+  few_tags = rw (owing-all c h.registers) at h.owes.few;
+  few_queued = h.queue_sound.within;
 }
   where
     held_once : (f b : ℕ) → (frame_at c f).block ≡ Some b → 1 ≤ times_in (dir.order_of c.directory (f / z.ways)) f

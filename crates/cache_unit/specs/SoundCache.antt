@@ -2,6 +2,7 @@
 use Rattle.std.specs.Prelude.{ℕ, ◌≡◌, ◌+◌, ◌<◌, ◌≤◌, ◌*◌, ◌/◌, true, false, ◌==◌, length, Some, slice_get}
 use Rattle.std.specs.List.{list_any, AllByRecursion}
 use Rattle.input_stack.specs.declared.Entry.{Entry}
+use Rattle.miss_registers.specs.Registers.{is_done}
 use Rattle.cache_unit.specs.declared.Sizes.{Sizes}
 use Rattle.cache_unit.specs.State.{Cache, frame_at, register_at, field_at, is_live, tags, order_of, first_of}
 use Rattle.cache_unit.specs.Counts.{tally}
@@ -38,5 +39,9 @@ pub record IsSoundCache (z : Sizes) (c : Cache) : Type 0 where
   pub entries : (k : ℕ) (e : Entry) → slice_get c.stack k ≡ Some e → HasWord z c e
   pub entries_apart : (j k : ℕ) (d e : Entry) → slice_get c.stack j ≡ Some d → slice_get c.stack k ≡ Some e → d.slot ≡ e.slot → d.i ≡ e.i
       → j ≡ k
-  -- a tag is owed one value
+  -- a valid register waits for a word
+  pub unfinished : (s : ℕ) → (register_at c s).valid ≡ true → is_done (register_at c s).fields ≡ false
+  -- a tag is owed one value; and no more is owed, and queued, than there is room for
   pub once : (tag : ℕ) → tally (λ t. t == tag) (tags c) ≤ 1
+  pub few_tags : length (tags c) ≤ z.replies
+  pub few_queued : length c.queue ≤ z.write_queue

@@ -18,9 +18,8 @@ use Rattle.cache_unit.specs.SoundCache.{HasWord}
 use Rattle.cache_unit.specs.Counts.{tally, bit}
 use Rattle.cache_unit.proofs.Lists.{Adds-tally, Adds-remove, waits_for, Within, Beside, Adds, Adds-find_other, Adds-find_same}
 use Rattle.cache_unit.proofs.Lists.{target_valid, live_for-some, frame_of-is, frame_of-some, tally-append}
-use Rattle.machine_core.specs.Law.{IsLawful}
 use Rattle.machine_core.specs.Machine.{Machine, backing, flat_word, Outcome, apply, flat_due, flat_of}
-use Rattle.machine_core.specs.Sound.{is_for, is_entry_for, IsSound, IsBounded, word_in}
+use Rattle.machine_core.specs.Sound.{is_for, is_entry_for, IsSound, word_in, own_bank}
 use Rattle.std.specs.List.{range_with_len, list_any, filter, AllByRecursion}
 use Rattle.std.specs.Option.{option_or}
 use Rattle.flat_model.specs.declared.Lanes.{Lanes}
@@ -88,8 +87,9 @@ one_place p (v ∷ xs) l (suc j) (suc k) x y ex ey px py = ap suc (one_place p x
 one_place p xs l j k x y ex ey px py = grind (arith, passes)
 
 -- each word that a register waits for is once on its way, and nothing else is
-abbrev IsCounted : Sizes → Machine → Type 0
-IsCounted z m = (s i : ℕ) → tally (is_for s i) (all_pending m.banks) + tally (is_entry_for s i) m.cache.stack ≡ bit (waits_for z m.cache s i)
+abbrev pub IsCounted : Sizes → Machine → Type 0
+IsCounted z m = (s i : ℕ) → tally (is_for s i) (all_pending m.banks) + tally (is_entry_for s i) m.cache.stack
+    ≡ bit (waits_for z m.cache s i)
 
 -- so the register of a word in the stack waits for it, and no two words there are for one
 pub entry_waits : (z : Sizes) (m : Machine) → IsCounted z m → (k : ℕ) (e : Entry) → slice_get m.cache.stack k ≡ Some e → HasWord z m.cache e
@@ -105,6 +105,162 @@ entry_apart z m counted j k d e p q s i = one_place (is_entry_for d.slot d.i) _ 
   counted d.slot d.i,
   bit-le (waits_for z m.cache d.slot d.i),
 )) j k d e p q (own_entry d) (grind arith)
+
+-- ---- What is on its way stays within the limits.
+
+-- what is on its way is within the limits, and where it belongs
+pub record InLimits (z : Sizes) (m : Machine) : Type 0 where
+  pub unfinished : (s : ℕ) → (register_at m.cache s).valid ≡ true → is_done (register_at m.cache s).fields ≡ false
+  pub few_tags : length (tags m.cache) ≤ z.replies
+  pub few_queued : length m.cache.queue ≤ z.write_queue
+  pub few_commands : (b : ℕ) → length (bank_at m.banks b).queue ≤ z.bank_queue
+  pub at_its_bank : (b s i : ℕ) → 1 ≤ tally (is_for s i) (pending (bank_at m.banks b)) → own_bank z m s i ≡ b
+
+-- what is so of the element that is set, and of each one before, is so of each one after
+each-set : {X : Type 0} (P : ℕ → X → Type 0) (d : X) (xs : List X) (k : ℕ) (y : X) → P k y → ((t : ℕ) → P t (get_or xs t d)) → (t : ℕ)
+    → P t (get_or (set xs k y) t d)
+each-set P d [] k y own h t = h t
+each-set P d (x ∷ xs) zero y own h zero = own
+each-set P d (x ∷ xs) zero y own h (suc t) = h (suc t)
+each-set P d (x ∷ xs) (suc k) y own h zero = h 0
+each-set P d (x ∷ xs) (suc k) y own h (suc t) = each-set (λ n. P (suc n)) d xs k y own (λ n. h (suc n)) t
+
+limits_of : (z : Sizes) (m : Machine) → IsSound z m → InLimits z m
+limits_of z m h = record {
+  unfinished = h.unit.unfinished;
+  few_tags = h.unit.few_tags;
+  few_queued = h.unit.few_queued;
+  few_commands = h.few_commands;
+  at_its_bank = h.at_its_bank;
+}
+
+-- ---- commands that are queued behind others
+
+pub after-append : (words : List Word) (xs ys : List Command) → after words (xs ++ ys) ≡ after (after words xs) ys
+after-append words [] ys = refl
+after-append words (Read slot i place ∷ xs) ys = after-append words xs ys
+after-append words (Write place word lanes ∷ xs) ys = after-append (stored words place word lanes) xs ys
+
+pub answers_to-append : (words : List Word) (xs ys : List Command)
+    → answers_to words (xs ++ ys) ≡ answers_to words xs ++ answers_to (after words xs) ys
+answers_to-append words [] ys = refl
+answers_to-append words (Read slot i place ∷ xs) ys =
+    ap (λ l. record { slot = slot; i = i; word = word_at words place } ∷ l) (answers_to-append words xs ys)
+answers_to-append words (Write place word lanes ∷ xs) ys = answers_to-append (stored words place word lanes) xs ys
+
+-- ---- registers that stay for their blocks
+
+-- a register instead of another one: it is for the same block, and waits for a word if that one did
+abbrev pub Like : Register → Register → Type 0
+Like r new = new.valid ≡ true → (r.valid ≡ true) × (new.block ≡ r.block) × (is_done r.fields ≡ false → is_done new.fields ≡ false)
+
+abbrev pub AllLike : Cache → Cache → Type 0
+AllLike c d = (s : ℕ) → Like (register_at c s) (register_at d s)
+
+pub like_same : (c : Cache) → AllLike c c
+like_same c s v = (v, refl, λ n. n)
+
+one_like : (c : Cache) (slot : ℕ) (r : Register) → Like (register_at c slot) r → (s : ℕ)
+    → Like (register_at c s) (get_or (set c.registers slot r) s free_register)
+one_like c slot r own = each-set (λ s. Like (register_at c s)) free_register c.registers slot r own (like_same c)
+
+all-set : (fields : List Field) (i : ℕ) (f : Field) → f.processed ≡ (get_or fields i clear_field).processed
+    → is_done (set fields i f) ≡ is_done fields
+all-set [] i f e = refl
+all-set (x ∷ fields) zero f e = grind arith
+all-set (x ∷ fields) (suc i) f e = cc (all-set fields i f e)
+
+all-codeless : (fields : List Field) → is_done (map without_code fields) ≡ is_done fields
+all-codeless [] = refl
+all-codeless (f ∷ fields) = cc (all-codeless fields)
+
+like_field : (c : Cache) (slot i : ℕ) (f : Field) → f.processed ≡ (field_at c slot i).processed → AllLike c (with_field c slot i f)
+unfolding with_field
+like_field c slot i f e =
+    one_like c slot _ (λ v. (v, refl, λ n. all-set (register_at c slot).fields i f e ∙ n))
+
+pub like_arrived : (c : Cache) (slot i : ℕ) (word : Word) → AllLike c (arrived c slot i word)
+unfolding arrived marked with_field
+like_arrived c slot i word = like_field c slot i (record (field_at c slot i) { in_stack = true }) refl
+
+pub like_loaded : (c : Cache) (tag i : ℕ) (buffer : Word) (o : Found) → AllLike c (loaded c tag i buffer o)
+like_loaded c tag i buffer (Here w) = like_same c
+like_loaded c tag i buffer (Coming slot) = like_field c slot i _ refl
+
+like_noted : (c : Cache) (o : Option ℕ) (i : ℕ) (lanes : Lanes) → AllLike c (noted c o i lanes)
+like_noted c None i lanes = like_same c
+like_noted c (Some slot) i lanes = elim (field_at c slot i).processed as (λ b. AllLike c
+    (cond b c (with_field c slot i (record (field_at c slot i) { code = joined (field_at c slot i).code lanes }))))
+    [ true ↦ like_same c | false ↦ like_field c slot i _ refl ]
+
+pub like_written : (c : Cache) (block i : ℕ) (word : Word) (lanes : Lanes) → AllLike c (written c block i word lanes)
+unfolding with_cell
+like_written c block i word lanes = elim (frame_of c block) as
+    (λ f. AllLike c (noted (written_in c f i word lanes) (live_for c block) i lanes))
+    [ None ↦ like_noted c _ i lanes | Some f ↦ like_noted (written_in c (Some f) i word lanes) _ i lanes ]
+
+pub like_evicted : (z : Sizes) (c : Cache) (block f : ℕ) → AllLike c (evicted z c block f)
+unfolding evicted released made_obsolete
+like_evicted z c block f = elim (live_for c block) as
+    (λ o. (s : ℕ) → Like (register_at c s) (get_or (obsoleted c.registers o) s free_register)) [
+      | None ↦ like_same c
+      | Some slot ↦ one_like c slot _ (λ v. (v, refl, λ n. all-codeless (register_at c slot).fields ∙ n))
+    ]
+
+pub like_processed : (c : Cache) (place : ℕ) (e : Entry) → AllLike c (processed c place e)
+unfolding processed finished
+like_processed c place e = one_like c e.slot _ (go _ refl)
+  where
+    go : (b : Bool) → is_done (finished_fields (register_at c e.slot) e.i) ≡ b → Like (register_at c e.slot)
+        (cond b free_register (record (register_at c e.slot) { fields = finished_fields (register_at c e.slot) e.i }))
+    go true q v = cc
+    go false q v = (v, refl, λ n. q)
+
+-- ---- machines whose banks have no more on their way
+
+pub pending_part : (p : BankAnswer → Bool) (banks : List Bank) (b : ℕ) → tally p (pending (bank_at banks b)) ≤ tally p (all_pending banks)
+pending_part p [] b = omega arith
+pending_part p (x ∷ banks) zero = omega (arith, tally-append p (pending x) (all_pending banks))
+pending_part p (x ∷ banks) (suc b) = omega (arith, tally-append p (pending x) (all_pending banks), pending_part p banks b)
+
+-- what is on its way is for a valid register
+valid_for : (z : Sizes) (m : Machine) → IsCounted z m → (b s i : ℕ) → 1 ≤ tally (is_for s i) (pending (bank_at m.banks b))
+    → (register_at m.cache s).valid ≡ true
+valid_for z m counted b s i l = grind (arith, pending_part, m.banks, counted, bit-pos, m.cache, and_parts)
+
+bounded_like : (z : Sizes) (m m' : Machine) → IsSound z m → IsCounted z m' → AllLike m.cache m'.cache
+    → length (tags m'.cache) ≤ z.replies → length m'.cache.queue ≤ z.write_queue
+    → ((b : ℕ) → length (bank_at m'.banks b).queue ≤ z.bank_queue)
+    → ((b s i : ℕ) → tally (is_for s i) (pending (bank_at m'.banks b)) ≤ tally (is_for s i) (pending (bank_at m.banks b))) → InLimits z m'
+bounded_like z m m' h counted like few_tags few_queued few_commands less = record {
+  unfinished = λ s v. (like s v).2 (h.unit.unfinished s (like s v).0);
+  few_tags = few_tags;
+  few_queued = few_queued;
+  few_commands = few_commands;
+  at_its_bank = λ b s i n. grind (arith, valid_for z m' counted b s i n, like s, h.at_its_bank b s i, less b s i);
+}
+
+-- one bank is another
+abbrev with_bank : Machine → Cache → ℕ → Bank → Machine
+with_bank m d k bank = record { cache = d; banks = set m.banks k bank }
+
+pub bounded_bank : (z : Sizes) (m : Machine) (d : Cache) (k : ℕ) (bank : Bank) → IsSound z m → IsCounted z (with_bank m d k bank)
+    → AllLike m.cache d → length (tags d) ≤ z.replies → length d.queue ≤ z.write_queue → length bank.queue ≤ z.bank_queue
+    → ((s i : ℕ) → tally (is_for s i) (pending bank) ≤ tally (is_for s i) (pending (bank_at m.banks k))) → InLimits z (with_bank m d k bank)
+bounded_bank z m d k bank h counted like few_tags few_queued few_commands less =
+    bounded_like z m (with_bank m d k bank) h counted like few_tags few_queued
+    (each-set (λ b x. length x.queue ≤ z.bank_queue) no_bank _ k bank few_commands h.few_commands)
+    (each-set (λ b (x : Bank). (s i : ℕ) → tally (is_for s i) (pending x) ≤ tally (is_for s i) (pending (bank_at m.banks b)))
+    no_bank _ k bank less (λ b s i. omega arith))
+
+-- none is
+abbrev with_unit : Machine → Cache → Machine
+with_unit m d = record { cache = d; banks = m.banks }
+
+pub bounded_unit : (z : Sizes) (m : Machine) (d : Cache) → IsSound z m → IsCounted z (with_unit m d) → AllLike m.cache d
+    → length (tags d) ≤ z.replies → length d.queue ≤ z.write_queue → InLimits z (with_unit m d)
+bounded_unit z m d h counted like few_tags few_queued =
+    bounded_like z m (with_unit m d) h counted like few_tags few_queued h.few_commands (λ b s i. omega arith)
 
 -- ---- what is kept
 
@@ -140,10 +296,9 @@ InOrder-within z c d w e h = grind arith
 
 pub sound_within : (z : Sizes) (m m' : Machine) → IsSound z m → Within m.cache m'.cache → InOrder z m'.cache.directory
     → AllIn z m'.cache.queue → ((tag : ℕ) → tally (λ t. t == tag) (tags m'.cache) ≤ 1)
-    → ((s i : ℕ) → tally (is_for s i) (all_pending m'.banks) + tally (is_entry_for s i) m'.cache.stack ≡ bit (waits_for z m'.cache s i))
-    → ((at : ℕ) → flat_word z m' at ≡ kept_word z m' at) → length m'.banks ≡ length m.banks
+    → IsCounted z m' → InLimits z m' → ((at : ℕ) → flat_word z m' at ≡ kept_word z m' at) → length m'.banks ≡ length m.banks
     → ((b : ℕ) → length (bank_at m'.banks b).words ≡ length (bank_at m.banks b).words) → IsSound z m'
-sound_within z m m' h w order queue once counted kept number lengths =
+sound_within z m m' h w order queue once counted limits kept number lengths =
     let u = h.unit in
     record {
       unit = record {
@@ -163,24 +318,28 @@ sound_within z m m' h w order queue once counted kept number lengths =
         in_set = order.in_set;
         entries = entry_waits z m' counted;
         entries_apart = entry_apart z m' counted;
+        unfinished = limits.unfinished;
         once = once;
+        few_tags = limits.few_tags;
+        few_queued = limits.few_queued;
       };
       counted = counted;
       kept = kept;
+      at_its_bank = limits.at_its_bank;
+      few_commands = limits.few_commands;
       banks_are = grind arith;
       banks_hold = grind arith;
     }
 
 -- a request of a present block, which changes no bank
-pub sound_beside : (z : Sizes) (m : Machine) (d : Cache) → IsSound z m → Beside z m.cache d
-    → ((tag : ℕ) → tally (λ t. t == tag) (tags d) ≤ 1)
-    → (let m' : Machine = record { cache = d; banks = m.banks } in (at : ℕ) → flat_word z m' at ≡ kept_word z m' at)
-    → (let m' : Machine = record { cache = d; banks = m.banks } in IsSound z m')
-sound_beside z m d h b once kept =
-    sound_within z m (record { cache = d; banks = m.banks }) h b.within (InOrder-within z _ d b.within b.orders (ordered z m h))
-    (rw (sym b.queue) at h.unit.queue_in) once
-    (λ s i. (cc (b.stack, h.counted s i, ap bit (sym (b.waits s i)))))
-    kept refl (λ k. refl)
+pub sound_beside : (z : Sizes) (m : Machine) (d : Cache) → IsSound z m → Beside z m.cache d → AllLike m.cache d
+    → ((tag : ℕ) → tally (λ t. t == tag) (tags d) ≤ 1) → length (tags d) ≤ z.replies
+    → ((at : ℕ) → flat_word z (with_unit m d) at ≡ kept_word z (with_unit m d) at) → IsSound z (with_unit m d)
+sound_beside z m d h b like once few kept =
+    let counted : IsCounted z (with_unit m d) = λ s i. (cc (b.stack, h.counted s i, ap bit (sym (b.waits s i)))) in
+    let order = InOrder-within z _ d b.within b.orders (ordered z m h) in
+    let limits = bounded_unit z m d h counted like few (rw (sym b.queue) at h.unit.few_queued) in
+    sound_within z m (with_unit m d) h b.within order (rw (sym b.queue) at h.unit.queue_in) once counted limits kept refl (λ k. refl)
 
 -- the same frames and registers
 pub within_refl : (c d : Cache) → d.directory.frames ≡ c.directory.frames → d.registers ≡ c.registers → Within c d
@@ -355,7 +514,6 @@ forms_same z m m' e p b = record {
 pub record KeptBy (z : Sizes) (m : Machine) (event : Event) (o : Outcome) : Type 0 where
   pub sound : IsSound z o.machine
   pub run : flat_step (flat_of z m) event o.answer ≡ Some (flat_of z o.machine)
-  pub bounded : IsBounded z m → IsBounded z o.machine
 
 abbrev pub Kept : Sizes → Machine → Event → Type 0
 Kept z m event = KeptBy z m event (apply z m event)
@@ -527,148 +685,15 @@ module _ (z : Sizes) (m : Machine) (h : IsSound z m) (block f : ℕ) (found : fr
   kept : (at : ℕ) → flat_word z gone at ≡ kept_word z gone at
   kept at = grind (arith, word_here, merged-none, by.absent, word_there, by.cells, backing_there, h.kept, cases_eq)
 
-  pub gone_sound : IsSound z gone
-  gone_sound = sound_within z m gone h by.within order (rw (sym queue) at (dirty_in z m h f))
-      (λ tag. rw (sym by.same_tags) at (h.unit.once tag))
-      (λ s i. (cc (stack, h.counted s i, ap bit (sym (by.waits s i)))))
+  counted : IsCounted z gone
+  counted s i = cc (stack, h.counted s i, ap bit (sym (by.waits s i)))
+
+  pub gone_sound : lacks_places z m.cache (Some f) ≡ false → IsSound z gone
+  gone_sound room = sound_within z m gone h by.within order (rw (sym queue) at (dirty_in z m h f))
+      (λ tag. rw (sym by.same_tags) at (h.unit.once tag)) counted
+      (bounded_unit z m gone.cache h counted (like_evicted z m.cache block f) (rw (sym by.same_tags) at h.unit.few_tags)
+      (grind (arith, queue, length-append, m.cache.queue, ltb-false, h.unit.few_queued)))
       kept refl (λ b. refl)
-
-  pub gone_tags : tags gone.cache ≡ tags m.cache
-  gone_tags = by.same_tags
-
--- ---- What is on its way stays within the limits.
-
--- what is so of the element that is set, and of each one before, is so of each one after
-each-set : {X : Type 0} (P : ℕ → X → Type 0) (d : X) (xs : List X) (k : ℕ) (y : X) → P k y → ((t : ℕ) → P t (get_or xs t d)) → (t : ℕ)
-    → P t (get_or (set xs k y) t d)
-each-set P d [] k y own h t = h t
-each-set P d (x ∷ xs) zero y own h zero = own
-each-set P d (x ∷ xs) zero y own h (suc t) = h (suc t)
-each-set P d (x ∷ xs) (suc k) y own h zero = h 0
-each-set P d (x ∷ xs) (suc k) y own h (suc t) = each-set (λ n. P (suc n)) d xs k y own (λ n. h (suc n)) t
-
--- ---- commands that are queued behind others
-
-pub after-append : (words : List Word) (xs ys : List Command) → after words (xs ++ ys) ≡ after (after words xs) ys
-after-append words [] ys = refl
-after-append words (Read slot i place ∷ xs) ys = after-append words xs ys
-after-append words (Write place word lanes ∷ xs) ys = after-append (stored words place word lanes) xs ys
-
-pub answers_to-append : (words : List Word) (xs ys : List Command)
-    → answers_to words (xs ++ ys) ≡ answers_to words xs ++ answers_to (after words xs) ys
-answers_to-append words [] ys = refl
-answers_to-append words (Read slot i place ∷ xs) ys =
-    ap (λ l. record { slot = slot; i = i; word = word_at words place } ∷ l) (answers_to-append words xs ys)
-answers_to-append words (Write place word lanes ∷ xs) ys = answers_to-append (stored words place word lanes) xs ys
-
--- ---- registers that stay for their blocks
-
--- a register instead of another one: it is for the same block, and waits for a word if that one did
-abbrev pub Like : Register → Register → Type 0
-Like r new = new.valid ≡ true → (r.valid ≡ true) × (new.block ≡ r.block) × (is_done r.fields ≡ false → is_done new.fields ≡ false)
-
-abbrev pub AllLike : Cache → Cache → Type 0
-AllLike c d = (s : ℕ) → Like (register_at c s) (register_at d s)
-
-pub like_same : (c : Cache) → AllLike c c
-like_same c s v = (v, refl, λ n. n)
-
-one_like : (c : Cache) (slot : ℕ) (r : Register) → Like (register_at c slot) r → (s : ℕ)
-    → Like (register_at c s) (get_or (set c.registers slot r) s free_register)
-one_like c slot r own = each-set (λ s. Like (register_at c s)) free_register c.registers slot r own (like_same c)
-
-all-set : (fields : List Field) (i : ℕ) (f : Field) → f.processed ≡ (get_or fields i clear_field).processed
-    → is_done (set fields i f) ≡ is_done fields
-all-set [] i f e = refl
-all-set (x ∷ fields) zero f e = grind arith
-all-set (x ∷ fields) (suc i) f e = cc (all-set fields i f e)
-
-all-codeless : (fields : List Field) → is_done (map without_code fields) ≡ is_done fields
-all-codeless [] = refl
-all-codeless (f ∷ fields) = cc (all-codeless fields)
-
-like_field : (c : Cache) (slot i : ℕ) (f : Field) → f.processed ≡ (field_at c slot i).processed → AllLike c (with_field c slot i f)
-unfolding with_field
-like_field c slot i f e =
-    one_like c slot _ (λ v. (v, refl, λ n. all-set (register_at c slot).fields i f e ∙ n))
-
-pub like_arrived : (c : Cache) (slot i : ℕ) (word : Word) → AllLike c (arrived c slot i word)
-unfolding arrived marked with_field
-like_arrived c slot i word = like_field c slot i (record (field_at c slot i) { in_stack = true }) refl
-
-pub like_loaded : (c : Cache) (tag i : ℕ) (buffer : Word) (o : Found) → AllLike c (loaded c tag i buffer o)
-like_loaded c tag i buffer (Here w) = like_same c
-like_loaded c tag i buffer (Coming slot) = like_field c slot i _ refl
-
-like_noted : (c : Cache) (o : Option ℕ) (i : ℕ) (lanes : Lanes) → AllLike c (noted c o i lanes)
-like_noted c None i lanes = like_same c
-like_noted c (Some slot) i lanes = elim (field_at c slot i).processed as (λ b. AllLike c
-    (cond b c (with_field c slot i (record (field_at c slot i) { code = joined (field_at c slot i).code lanes }))))
-    [ true ↦ like_same c | false ↦ like_field c slot i _ refl ]
-
-pub like_written : (c : Cache) (block i : ℕ) (word : Word) (lanes : Lanes) → AllLike c (written c block i word lanes)
-unfolding with_cell
-like_written c block i word lanes = elim (frame_of c block) as
-    (λ f. AllLike c (noted (written_in c f i word lanes) (live_for c block) i lanes))
-    [ None ↦ like_noted c _ i lanes | Some f ↦ like_noted (written_in c (Some f) i word lanes) _ i lanes ]
-
-pub like_evicted : (z : Sizes) (c : Cache) (block f : ℕ) → AllLike c (evicted z c block f)
-unfolding evicted released made_obsolete
-like_evicted z c block f = elim (live_for c block) as
-    (λ o. (s : ℕ) → Like (register_at c s) (get_or (obsoleted c.registers o) s free_register)) [
-      | None ↦ like_same c
-      | Some slot ↦ one_like c slot _ (λ v. (v, refl, λ n. all-codeless (register_at c slot).fields ∙ n))
-    ]
-
-pub like_processed : (c : Cache) (place : ℕ) (e : Entry) → AllLike c (processed c place e)
-unfolding processed finished
-like_processed c place e = one_like c e.slot _ (go _ refl)
-  where
-    go : (b : Bool) → is_done (finished_fields (register_at c e.slot) e.i) ≡ b → Like (register_at c e.slot)
-        (cond b free_register (record (register_at c e.slot) { fields = finished_fields (register_at c e.slot) e.i }))
-    go true q v = cc
-    go false q v = (v, refl, λ n. q)
-
--- ---- machines whose banks have no more on their way
-
-pub pending_part : (p : BankAnswer → Bool) (banks : List Bank) (b : ℕ) → tally p (pending (bank_at banks b)) ≤ tally p (all_pending banks)
-pending_part p [] b = omega arith
-pending_part p (x ∷ banks) zero = omega (arith, tally-append p (pending x) (all_pending banks))
-pending_part p (x ∷ banks) (suc b) = omega (arith, tally-append p (pending x) (all_pending banks), pending_part p banks b)
-
--- what is on its way is for a valid register
-valid_for : (z : Sizes) (m : Machine) → IsSound z m → (b s i : ℕ) → 1 ≤ tally (is_for s i) (pending (bank_at m.banks b))
-    → (register_at m.cache s).valid ≡ true
-valid_for z m sound b s i l = grind (arith, pending_part, m.banks, sound.counted, bit-pos, m.cache, and_parts)
-
-bounded_like : (z : Sizes) (m m' : Machine) → IsSound z m' → IsBounded z m → AllLike m.cache m'.cache
-    → length (tags m'.cache) ≤ z.replies → length m'.cache.queue ≤ z.write_queue
-    → ((b : ℕ) → length (bank_at m'.banks b).queue ≤ z.bank_queue)
-    → ((b s i : ℕ) → tally (is_for s i) (pending (bank_at m'.banks b)) ≤ tally (is_for s i) (pending (bank_at m.banks b))) → IsBounded z m'
-bounded_like z m m' sound h like few_tags few_queued few_commands less = record {
-  unfinished = λ s v. (like s v).2 (h.unfinished s (like s v).0);
-  few_tags = few_tags;
-  few_queued = few_queued;
-  few_commands = few_commands;
-  at_its_bank = λ b s i n. grind (arith, valid_for z m' sound b s i n, like s, h.at_its_bank b s i, less b s i);
-}
-
--- one bank is another
-pub bounded_bank : (z : Sizes) (m : Machine) (d : Cache) (k : ℕ) (bank : Bank)
-    → (let m' : Machine = record { cache = d; banks = set m.banks k bank } in IsSound z m' → IsBounded z m → AllLike m.cache d
-    → length (tags d) ≤ z.replies → length d.queue ≤ z.write_queue → length bank.queue ≤ z.bank_queue
-    → ((s i : ℕ) → tally (is_for s i) (pending bank) ≤ tally (is_for s i) (pending (bank_at m.banks k))) → IsBounded z m')
-bounded_bank z m d k bank sound h like few_tags few_queued few_commands less =
-    bounded_like z m (record { cache = d; banks = set m.banks k bank }) sound h like few_tags few_queued
-    (each-set (λ b x. length x.queue ≤ z.bank_queue) no_bank _ k bank few_commands h.few_commands)
-    (each-set (λ b (x : Bank). (s i : ℕ) → tally (is_for s i) (pending x) ≤ tally (is_for s i) (pending (bank_at m.banks b)))
-    no_bank _ k bank less (λ b s i. omega arith))
-
--- none is
-pub bounded_unit : (z : Sizes) (m : Machine) (d : Cache) → (let m' : Machine = record { cache = d; banks = m.banks } in IsSound z m'
-    → IsBounded z m → AllLike m.cache d → length (tags d) ≤ z.replies → length d.queue ≤ z.write_queue → IsBounded z m')
-bounded_unit z m d sound h like few_tags few_queued =
-    bounded_like z m (record { cache = d; banks = m.banks }) sound h like few_tags few_queued h.few_commands (λ b s i. omega arith)
 
 -- ---- a miss
 
@@ -705,7 +730,7 @@ reads_from z slot block b s i zero r a words e l h = absurd (omega arith)
 reads_from z slot block b s i (suc n) r a words e l h =
     grind (arith, mod-mul-add, eqb-true, and_parts, reads_from z slot block b s i n (suc r) (a + 1) words)
 
-module _ (z : Sizes) (m : Machine) (sound : IsSound z m) (h : IsBounded z m) (block f slot : ℕ)
+module _ (z : Sizes) (m : Machine) (h : IsSound z m) (block f slot : ℕ)
     (there : slot < length m.cache.registers) (free : (register_at m.cache slot).valid ≡ false) where
   abbrev began : Register
   began = begun_register z.block_words (released z m.cache f).queue block f
@@ -717,7 +742,7 @@ module _ (z : Sizes) (m : Machine) (sound : IsSound z m) (h : IsBounded z m) (bl
       → length (bank_at (all_sent m.banks sent) b).queue ≤ z.bank_queue
   few_sent room b = ⊎_elim (λ l. grind (
     arith,
-    sound.banks_are,
+    h.banks_are,
     any_none (λ k. nat_lt (room_in z.bank_queue m.banks k) (length (filter (λ at. at % z.banks == k) (addresses z block))))
         0 z.banks b room,
     ltb-false,
@@ -743,7 +768,7 @@ module _ (z : Sizes) (m : Machine) (sound : IsSound z m) (h : IsBounded z m) (bl
       before k =
           each-set (λ t r. (register_at m.cache t).valid ≡ true → address z (register_at m.cache t).block i % z.banks ≡ b
           → address z r.block i % z.banks ≡ b) free_register m.cache.registers slot began (λ v e. (cc)) (λ t v e. e) s
-          (valid_for z m sound b s i k) (h.at_its_bank b s i k)
+          (valid_for z m h.counted b s i k) (h.at_its_bank b s i k)
 
       here : b < length m.banks → bank_of_word s i ≡ b
       here p = ⊎_elim before (λ none. grind (
@@ -756,16 +781,16 @@ module _ (z : Sizes) (m : Machine) (sound : IsSound z m) (h : IsBounded z m) (bl
       )) (cases_lt 0 (tally (is_for s i) (pending bank)))
 
   bounded_installed : lacks_places z m.cache (Some f) ≡ false → lacks_room z (room_in z.bank_queue m.banks) block ≡ false
-      → length (tags (installed z (released z m.cache f) block f slot)) ≤ z.replies → IsBounded z (record {
+      → length (tags (installed z (released z m.cache f) block f slot)) ≤ z.replies → InLimits z (record {
         cache = installed z (released z m.cache f) block f slot;
         banks = all_sent m.banks (reads z block (Some slot));
       })
   unfolding installed released
   bounded_installed places room few = record {
     unfinished = each-set (λ s r. r.valid ≡ true → is_done r.fields ≡ false) free_register _ slot _
-        (λ v. fresh_waits _ _ _ sound.unit.some_words) h.unfinished;
+        (λ v. fresh_waits _ _ _ h.unit.some_words) h.unit.unfinished;
     few_tags = few;
-    few_queued = grind (arith, length-append, m.cache.queue, ltb-false, h.few_queued);
+    few_queued = grind (arith, length-append, m.cache.queue, ltb-false, h.unit.few_queued);
     few_commands = few_sent room;
     at_its_bank = at_own_bank;
   }
@@ -773,21 +798,21 @@ module _ (z : Sizes) (m : Machine) (sound : IsSound z m) (h : IsBounded z m) (bl
 abbrev pub fetched_machine : Sizes → Machine → ℕ → Machine
 fetched_machine z m block = record { cache = fetched z m.cache block; banks = all_sent m.banks (fetches z m.cache block) }
 
-pub bounded_fetch : (z : Sizes) (m : Machine) → IsSound z m → IsBounded z m → (block : ℕ) → MayMiss z m block
-    → length (tags (fetched z m.cache block)) ≤ z.replies → IsBounded z (fetched_machine z m block)
+pub bounded_fetch : (z : Sizes) (m : Machine) → IsSound z m → (block : ℕ) → MayMiss z m block
+    → length (tags (fetched z m.cache block)) ≤ z.replies → InLimits z (fetched_machine z m block)
 unfolding fetched fetches
-bounded_fetch z m sound h block may = go _ refl _ refl _ refl
+bounded_fetch z m h block may = go _ refl _ refl _ refl
   where
     go : (b : Bool) → is_present m.cache block ≡ b → (o : Option ℕ) → choose z m.cache block ≡ o → (s : Option ℕ) → free_slot m.cache ≡ s
-        → length (tags (cond b m.cache (missed z m.cache block o s))) ≤ z.replies → IsBounded z (record {
+        → length (tags (cond b m.cache (missed z m.cache block o s))) ≤ z.replies → InLimits z (record {
           cache = cond b m.cache (missed z m.cache block o s);
           banks = all_sent m.banks (cond b [] (reads z block s));
         })
-    go true p o q s e l = h
-    go false p None q None e l = h
-    go false p (Some f) q None e l = h
+    go true p o q s e l = limits_of z m h
+    go false p None q None e l = limits_of z m h
+    go false p (Some f) q None e l = limits_of z m h
     go false p None q (Some slot) e l =
-        let some = some_frame z _ sound.unit block (may_able z m block may p).1 in cc
+        let some = some_frame z _ h.unit block (may_able z m block may p).1 in cc
     go false p (Some f) q (Some slot) e l =
         let free = free_register_at m.cache slot e in
-        bounded_installed z m sound h block f slot free.0 free.1 (grind arith) (grind arith) l
+        bounded_installed z m h block f slot free.0 free.1 (grind arith) (grind arith) l

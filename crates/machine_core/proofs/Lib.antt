@@ -1,6 +1,5 @@
 pub mod FromForms
 pub mod Requests
 pub mod Walking
-pub mod Routing
 pub mod Weighing
 pub mod Whole

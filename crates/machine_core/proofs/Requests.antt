@@ -1,10 +1,10 @@
 -- A miss: the block that goes, and the one that comes, whose words are asked for. Then loads, stores, prefetches and evictions.
 use Rattle.std.proofs.Common.{◌≡◌, ℕ, zero, suc, ◌+◌, ◌*◌, ◌/◌, ◌%◌, ◌<◌, ◌≤◌, Bool, true, false, cond, ◌&&◌, ◌==◌, nat_lt, nat_le, List}
 use Rattle.std.proofs.Common.{[], ◌∷◌, ◌++◌, map, length, set, Some, find, refl, ap, ap₂, ◌∙◌, arith, length-set, ⊎_elim, mod-lt, eq-eqb}
-use Rattle.std.proofs.Common.{ne_eqb, not, Option, None, sym, ◌⊎◌, le-leb, ltb-true, zero-add, is_some, option_map, filter, is_none, lt-ltb}
-use Rattle.std.proofs.Common.{add-zero, ◌-◌, get_or, replicate, div-add-mod', flat_map, ext_get_or, length-append}
+use Rattle.std.proofs.Common.{ne_eqb, not, Option, None, sym, ◌⊎◌, le-leb, ltb-true, zero-add, is_some, option_map, is_none, lt-ltb}
+use Rattle.std.proofs.Common.{add-zero, ◌-◌, get_or, replicate, div-add-mod', flat_map, ext_get_or}
 use Rattle.std.specs.List.{range_with_len, list_any, list_all}
-use Rattle.std.proofs.lemmas.Bool.{cases_eq, not-false, leb-false, ltb-false, and_parts, not-true}
+use Rattle.std.proofs.lemmas.Bool.{cases_eq, not-false, leb-false, and_parts, not-true}
 use Rattle.std.proofs.lemmas.Nat.{mod-mul-add}
 use Rattle.flat_model.specs.declared.Word.{Word}
 use Rattle.flat_model.specs.Flat.{word_at, with_due, flat_after, flat_step, load_refusals}
@@ -16,7 +16,7 @@ use Rattle.cache_unit.specs.Counts.{tally, bit}
 use Rattle.cache_unit.proofs.Lists.{Adds, Adds-tally, Adds-find_other, Adds-find_same, Adds-push, Adds-left, Adds-right, Adds-same}
 use Rattle.cache_unit.proofs.Lists.{find_none, flat_map_part, read_set, map-same, none_in_frames, none_live, holds-not, Adds-length}
 use Rattle.cache_unit.proofs.Lists.{frame_of-none}
-use Rattle.machine_core.specs.Sound.{is_for, is_entry_for, word_in, IsSound, IsBounded, wanted}
+use Rattle.machine_core.specs.Sound.{is_for, is_entry_for, word_in, IsSound, wanted}
 use Rattle.std.proofs.lemmas.List.FromFn.{length-map-range_with_len}
 use Rattle.flat_model.specs.Words.{merged, zero_word, has_any}
 use Rattle.flat_model.proofs.Lanewise.{merged-none, merged_over, merged_no_lane, has-none}
@@ -39,11 +39,11 @@ use Rattle.machine_core.specs.Machine.{Machine, backing, flat_word, joined_with,
 use Rattle.machine_core.specs.Machine.{flat_word_in}
 use Rattle.memory_banks.proofs.Sending.{all_sent-length, all_sent-at}
 use Rattle.machine_core.proofs.FromForms.{commands, fetched_machine, after-append, answers_to-append, MayMiss, may_able, bounded_fetch}
-use Rattle.machine_core.proofs.FromForms.{bounded_unit, like_loaded, like_written, like_evicted, filled-asked, filled-over, filled-other}
+use Rattle.machine_core.proofs.FromForms.{like_loaded, like_written, filled-asked, filled-over, filled-other}
 use Rattle.machine_core.proofs.FromForms.{word_asks, due_other, word_from, flat_word-form, Same, bit-le, kept_word, kept_same, InOrder}
 use Rattle.machine_core.proofs.FromForms.{overlaid-split, InOrder-released, InOrder-installed, dirty_within, dirty_elsewhere, dirty_in}
 use Rattle.machine_core.proofs.FromForms.{backing_dirty, word_same, form_present, flat_of-same, Kept, KeptBy, cell_frames, sound_beside}
-use Rattle.machine_core.proofs.FromForms.{gone_same, gone_sound, gone_tags, ordered, entry_waits, entry_apart}
+use Rattle.machine_core.proofs.FromForms.{gone_same, gone_sound, ordered, entry_waits, entry_apart, pending_part, InLimits}
 use Rattle.flat_model.specs.declared.Lanes.{Lanes}
 use Rattle.flat_model.specs.declared.Cause.{Cause}
 use Rattle.flat_model.specs.declared.Cause.TheVariants.{OutOfRange, TagInUse, RepliesFull, TargetsFull, NoRegister, SetPending, QueueFull}
@@ -166,7 +166,6 @@ pub record FetchedBy (z : Sizes) (m : Machine) (block : ℕ) (m' : Machine) : Ty
   pub sound : IsSound z m'
   pub same : Same z m m'
   pub same_tags : tags m'.cache ≡ tags m.cache
-  pub bounded : IsBounded z m → IsBounded z m'
 
 module _ (z : Sizes) (lawful : IsLawful z) (m : Machine) (h : IsSound z m) (block : ℕ) (absent : frame_of m.cache block ≡ None)
     (in_memory : first_of z block + z.block_words ≤ z.words) (miss : Misses z m.cache block) where
@@ -358,8 +357,8 @@ module _ (z : Sizes) (lawful : IsLawful z) (m : Machine) (h : IsSound z m) (bloc
   same_tags : tags with_block.cache ≡ tags m.cache
   same_tags = grind arith
 
-  with_block_sound : IsSound z with_block
-  with_block_sound =
+  with_block_sound : InLimits z with_block → IsSound z with_block
+  with_block_sound limits =
       let u = h.unit in
       record {
         unit = record {
@@ -381,10 +380,15 @@ module _ (z : Sizes) (lawful : IsLawful z) (m : Machine) (h : IsSound z m) (bloc
           in_set = order.in_set;
           entries = entry_waits z with_block counted;
           entries_apart = entry_apart z with_block counted;
+          unfinished = limits.unfinished;
           once = grind arith;
+          few_tags = limits.few_tags;
+          few_queued = limits.few_queued;
         };
         counted = counted;
         kept = kept;
+        at_its_bank = limits.at_its_bank;
+        few_commands = limits.few_commands;
         banks_are = all_sent-length m.banks (commands z slot (addresses z block)) ∙ h.banks_are;
         banks_hold = λ at l. grind (arith, mod-lt, all_sent-at, h.banks_hold, h.banks_are);
       }
@@ -417,11 +421,11 @@ fetch_ok z lawful m h block in_memory may = go _ refl
         let miss = misses z _ h.unit block e (may_able z m block may (ap is_some e)) in
         let is = ap (all_sent m.banks) miss.sent in
         let tags_same = same_tags z lawful m h block e in_memory miss in
+        let limits = bounded_fetch z m h block may (rw (sym tags_same) at h.unit.few_tags) in
         record {
-          sound = rw (sym is) at (with_block_sound z lawful m h block e in_memory miss);
+          sound = rw (sym is) at (with_block_sound z lawful m h block e in_memory miss (rw is at limits));
           same = rw (sym is) at (with_block_same z lawful m h block e in_memory miss);
           same_tags = tags_same;
-          bounded = λ b. bounded_fetch z m h b block may (rw (sym tags_same) at b.few_tags);
         }
 
 -- the block is present then, with all its words
@@ -461,7 +465,7 @@ unless_kept : (z : Sizes) (m : Machine) (event : Event) (step : Stepped) (cause 
     → ((c : Cause) → cause ≡ Some c → flat_step (flat_of z m) event (Refused c) ≡ Some (flat_of z m))
     → (cause ≡ None → KeptBy z m event (joined_with m.banks step)) → KeptBy z m event (joined_with m.banks (unless cause m.cache step))
 unless_kept z m event step None h refused go_on = go_on refl
-unless_kept z m event step (Some c) h refused go_on = record { sound = h; run = refused c refl; bounded = λ b. b }
+unless_kept z m event step (Some c) h refused go_on = record { sound = h; run = refused c refl }
 
 -- ---- tags
 
@@ -523,15 +527,12 @@ module _ (z : Sizes) (lawful : IsLawful z) (m : Machine) (h : IsSound z m) where
       let after : flat_after _ (Load tag at) Accepted ≡ flat_of z m3 =
       λ i. record { mem = map (λ a. sym (words a ∙ f.same.words a) i) (range_with_len 0 z.words); due = λ t. sym (gained t) i } in
       let once = once_more tag _ _ by.more none f.sound.unit.once in
-      let sound = sound_beside z m2 _ f.sound by.beside once
-      (λ a. kept_same z m2 m3 f.sound a (words a) (cell_frames c m3.cache by.frames _ _) (back a)) in
       record {
-        sound = sound;
+        sound = sound_beside z m2 _ f.sound by.beside (like_loaded c tag _ _ _) once
+            (omega (arith, Adds-length tag _ _ by.more, ap length f.same_tags, room))
+            (λ a. kept_same z m2 m3 f.sound a (words a) (cell_frames c m3.cache by.frames _ _) (back a));
         run = ap (λ b. cond b (Some (flat_after (flat_of z m) (Load tag at) Accepted)) None) (ap₂ (λ x y. nat_lt at x && y) (mem_length z m)
             (not-false _ (flat_in_use m tag ∙ unused)) ∙ ap (λ b. b && true) (lt-ltb at z.words l)) ∙ ap Some after;
-        bounded = λ b. bounded_unit z m2 _ sound (f.bounded b) (like_loaded c tag _ _ _)
-            (omega (arith, Adds-length tag _ _ by.more, ap length f.same_tags, room))
-            (rw (sym by.beside.queue) at (f.bounded b).few_queued);
       }
 
   load_refused : (x y v : Bool) (o : Option Cause) (c : Cause)
@@ -589,12 +590,10 @@ module _ (z : Sizes) (lawful : IsLawful z) (m : Machine) (h : IsSound z m) where
       let owing : (t : ℕ) → flat_due m3 t ≡ flat_due m t = λ t. (cc (by.owing t, f.same.owing t)) in
       let after : flat_after _ (Store at word lanes) Accepted ≡ flat_of z m3 =
       λ i. record { mem = sym mem i; due = λ t. sym (owing t) i } in
-      let sound = sound_beside z m2 _ f.sound by.beside (λ tag. rw (sym by.same_tags) at (f.sound.unit.once tag)) kept in
       record {
-        sound = sound;
+        sound = sound_beside z m2 _ f.sound by.beside (like_written c _ _ word lanes)
+            (λ tag. rw (sym by.same_tags) at (f.sound.unit.once tag)) (rw (sym by.same_tags) at f.sound.unit.few_tags) kept;
         run = grind (arith, after, mem_length z m, any, lt-ltb);
-        bounded = λ b. bounded_unit z m2 _ sound (f.bounded b) (like_written c _ _ word lanes)
-            (rw (sym by.same_tags) at (f.bounded b).few_tags) (rw (sym by.beside.queue) at (f.bounded b).few_queued);
       }
 
   pub store_ok : (at : ℕ) (word : Word) (lanes : Lanes) → Kept z m (Store at word lanes)
@@ -614,7 +613,7 @@ module _ (z : Sizes) (lawful : IsLawful z) (m : Machine) (h : IsSound z m) where
       let may : MayMiss z m (block_of z at) = λ absent. grind arith in
       let l : at < z.words = grind (arith, ltb-true) in
       let f = fetch_ok z lawful m h _ (lies_in z lawful at l) may in
-      record { sound = f.sound; run = grind (arith, mem_length, lt-ltb, flat_of-same); bounded = f.bounded })
+      record { sound = f.sound; run = grind (arith, mem_length, lt-ltb, flat_of-same) })
 
   -- ---- evictions
 
@@ -629,16 +628,18 @@ module _ (z : Sizes) (lawful : IsLawful z) (m : Machine) (h : IsSound z m) where
           })
       accept None e some room = cc
       accept (Some f) e some room =
-          let sound = gone_sound z m h block f e in
           record {
-            sound = sound;
+            sound = gone_sound z m h block f e room;
             run = flat_of-same z m _ (gone_same z m h block f e);
-            bounded = λ b. bounded_unit z m _ sound b (like_evicted z m.cache block f)
-                (rw (sym (gone_tags z m h block f e)) at b.few_tags)
-                (grind (arith, length-append, m.cache.queue, ltb-false, b.few_queued));
           }
 
 -- ---- The opening machine, and a settled one.
+
+quiet : (g : ℕ → List Word) (ks : List ℕ) (most b : ℕ)
+    → length (bank_at (map (λ k. record { words = g k; queue = []; answers = [] }) ks) b).queue ≤ most
+quiet g [] most b = omega arith
+quiet g (k ∷ ks) most zero = omega arith
+quiet g (k ∷ ks) most (suc b) = quiet g ks most b
 
 no_targets : (n k : ℕ) → gathered targets_of k (replicate n free_register) ≡ []
 no_targets zero k = refl
@@ -709,10 +710,15 @@ module _ (z : Sizes) (lawful : IsLawful z) (image : List Word) (fits : length im
       in_set = λ s f p. grind (arith, all_same);
       entries = λ k e p. cc;
       entries_apart = λ j k d e p. cc;
+      unfinished = λ s v. grind (arith, free_registers);
       once = λ tag. rw nothing_owed (omega arith);
+      few_tags = rw nothing_owed (omega arith);
+      few_queued = omega arith;
     };
     counted = λ s i. (cc (opening_idle, free_registers s));
     kept = λ at. (cc (opening_word at, merged-none (backing z m0 at) zero_word, absent (block_of z at)));
+    at_its_bank = λ b s i l. absurd (omega (arith, pending_part (is_for s i) m0.banks b, ap (tally (is_for s i)) opening_idle));
+    few_commands = quiet _ _ z.bank_queue;
     banks_are = length-map-range_with_len bank_of 0 _;
     banks_hold = λ at l. grind (arith, bank_is, mod-lt, share_length, place_there);
   }

@@ -32,7 +32,7 @@ use Rattle.cache_unit.proofs.Lists.{with_fields, in_range, tally-append, tally-m
 use Rattle.cache_directory.proofs.Finds.{All-range, find-nowhere}
 use Rattle.machine_core.specs.Machine.{Machine, apply, joined_with}
 use Rattle.machine_core.specs.Law.{IsLawful, HasRoom, WalkIsDriven, most_weight}
-use Rattle.machine_core.specs.Sound.{IsSound, wanted, IsBounded}
+use Rattle.machine_core.specs.Sound.{IsSound, wanted}
 use Rattle.machine_core.proofs.Walking.{slot_there, field_there, not_stray, walk_sound}
 use Rattle.machine_core.proofs.FromForms.{bit-pos, bit-le}
 use Rattle.machine_core.proofs.Requests.{sound_opening}
@@ -444,17 +444,17 @@ pub none_behind : (c : Cache) → length (tags c) - length c.ready < 2 → total
 unfolding targets
 none_behind c few = omega (arith, all_weigh register_weight targets_of register_weighs 0 c.registers, tags_count c)
 
-pub weight_bound : (z : Sizes) (m : Machine) → IsSound z m → IsBounded z m → weight m ≤ most_weight z
+pub weight_bound : (z : Sizes) (m : Machine) → IsSound z m → weight m ≤ most_weight z
 unfolding targets
-weight_bound z m sound bounded =
+weight_bound z m sound =
     omega (
       arith,
       on_their_way z m sound,
-      banks_weigh _ _ bounded.few_commands,
+      banks_weigh _ _ sound.few_commands,
       all_weigh register_weight targets_of register_weighs 0 m.cache.registers,
       tags_count m.cache,
-      bounded.few_tags,
-      bounded.few_queued,
+      sound.unit.few_tags,
+      sound.unit.few_queued,
       ap (λ k. k * z.bank_queue) sound.banks_are,
       mul_assoc 4 z.regs z.block_words,
     )

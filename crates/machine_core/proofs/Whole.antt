@@ -1,6 +1,6 @@
 -- What a whole machine keeps, and what follows of it.
 use Rattle.std.proofs.Common.{◌≡◌, ℕ, List, [], ◌∷◌, ◌++◌, slice_set, Option, Some, None, refl, ap, ◌∙◌, subst, zero, suc, ◌+◌, ◌-◌, ◌*◌}
-use Rattle.std.proofs.Common.{◌/◌, ◌%◌, ◌<◌, ◌≤◌, Bool, true, false, cond, ◌==◌, nat_lt, map, length, get_or, arith, ⊎_elim, lt-ltb, le-ltb}
+use Rattle.std.proofs.Common.{◌/◌, ◌%◌, ◌<◌, ◌≤◌, Bool, true, false, cond, ◌==◌, nat_lt, length, get_or, arith, ⊎_elim, lt-ltb, le-ltb}
 use Rattle.std.proofs.Common.{eq-eqb, ne_eqb, mod-lt, div-add-mod', mul-le-mul_right, ◌≢◌, not, is_none, is_some, flat_map}
 use Rattle.std.proofs.Common.{length-append}
 use Rattle.flat_model.specs.declared.Cause.{Cause}
@@ -19,7 +19,7 @@ use Rattle.cache_unit.specs.Makes.{MakesOver}
 use Rattle.cache_unit.specs.Causes.{first_cause, dirty_from, dirty_words, addresses, lacks_places, lacks_room, miss_causes, load_cause}
 use Rattle.cache_unit.specs.Causes.{store_cause, prefetch_cause, evict_cause}
 use Rattle.cache_unit.specs.Steps.{Stepped, unless, arrive_step, evict_step, process_step, take_step, load_step, store_step, prefetch_step}
-use Rattle.machine_core.specs.Machine.{Machine, joined_with, apply, walked, told, arrive_from, opening, flat_of, MachineState}
+use Rattle.machine_core.specs.Machine.{Machine, joined_with, apply, walked, told, arrive_from, flat_of, MachineState}
 use Rattle.machine_core.specs.Whole.{machine_of, Makes, IsWhole, Serves, or_image}
 use Rattle.std.specs.List.{list_all, list_any, filter, range_with_len}
 use Rattle.std.proofs.lemmas.Bool.{cases_lt, lt-leb}
@@ -30,15 +30,14 @@ use Rattle.flat_model.specs.declared.Event.TheVariants.{Load, Store, Prefetch, E
 use Rattle.cache_directory.specs.declared.Cell.{Cell}
 use Rattle.cache_unit.specs.Counts.{tally}
 use Rattle.cache_unit.proofs.Lists.{live_for-none, tally-append}
-use Rattle.cache_unit.proofs.Made.{all_same, in_size}
+use Rattle.cache_unit.proofs.Made.{in_size}
 use Rattle.machine_core.specs.Law.{IsLawful, HasRoom, ServesRequests, IsServed, RequestsAreServed, IsKept, WalkIsKept, IsDriven}
 use Rattle.machine_core.specs.Pump.{total, bank_weight, weight, pumped, after_event, after_pumps}
-use Rattle.machine_core.specs.Sound.{is_for, IsSound, IsBounded, own_bank}
-use Rattle.machine_core.proofs.Requests.{sound_opening, nothing_owed, opening_idle, flat_in_use, flat_opening}
-use Rattle.machine_core.proofs.Walking.{tally_all, event_ok, flat_apply, flat_walked}
+use Rattle.machine_core.specs.Sound.{is_for, IsSound, own_bank}
+use Rattle.machine_core.proofs.Requests.{sound_opening, flat_in_use, flat_opening}
+use Rattle.machine_core.proofs.Walking.{tally_all, event_ok, flat_apply, flat_walked, walk_sound, sound_apply}
 use Rattle.machine_core.proofs.Weighing.{commands_weigh_all, all_idle, pumped_lowers, pumped_rests, weight_bound, on_their_way}
 use Rattle.machine_core.proofs.Weighing.{pumped_at_rest}
-use Rattle.machine_core.proofs.Routing.{bounded_apply}
 use Rattle.machine_core.proofs.FromForms.{pending_part}
 use Rattle.flat_model.specs.declared.Cause.TheVariants.{StrayWord}
 use Rattle.flat_model.specs.Flat.{flat_step, Flat, flat_run}
@@ -218,7 +217,7 @@ dirty_few block at (cell ∷ rest) = grind (arith, dirty_few block (at + 1) rest
 
 -- ---- a machine at weight 0
 
-module _ (z : Sizes) (lawful : IsLawful z) (roomy : HasRoom z) (m : Machine) (sound : IsSound z m) (bounded : IsBounded z m)
+module _ (z : Sizes) (lawful : IsLawful z) (roomy : HasRoom z) (m : Machine) (sound : IsSound z m)
     (rest : weight m ≡ 0) where
   no_ready : m.cache.ready ≡ []
   no_ready = nil_from_length _ (omega arith)
@@ -289,61 +288,25 @@ module _ (z : Sizes) (lawful : IsLawful z) (roomy : HasRoom z) (m : Machine) (so
 
 -- ---- the driver brings a machine there
 
-pub bounded_opening : (z : Sizes) → IsLawful z → (image : List Word) → length image ≡ z.words → IsBounded z (opening z image)
-bounded_opening z lawful image fits = record {
-  unfinished = λ s v. grind (arith, all_same);
-  few_tags = rw (ap length (nothing_owed z lawful image fits)) (omega arith);
-  few_queued = omega arith;
-  at_its_bank = λ b s i l. absurd (omega (
-    arith,
-    pending_part (is_for s i) (opening z image).banks b,
-    ap (tally (is_for s i)) (opening_idle z lawful image fits),
-  ));
-  few_commands = quiet _ _;
-}
-  where
-    quiet : (g : ℕ → List Word) (ks : List ℕ) (b : ℕ)
-        → length (bank_at (map (λ k. record { words = g k; queue = []; answers = [] }) ks) b).queue ≤ z.bank_queue
-    quiet g [] b = omega arith
-    quiet g (k ∷ ks) zero = omega arith
-    quiet g (k ∷ ks) (suc b) = quiet g ks b
-
--- what a walk keeps
-pub record Held (z : Sizes) (m : Machine) : Type 0 where
-  pub sound : IsSound z m
-  pub bounded : IsBounded z m
-
-pub held_apply : (z : Sizes) → IsLawful z → (m : Machine) → Held z m → (event : Event) → Held z (apply z m event).machine
-held_apply z lawful m h event = let k = event_ok z lawful m h.sound event in record { sound = k.sound; bounded = k.bounded h.bounded }
-
-pub held_walked : (z : Sizes) → IsLawful z → (m : Machine) → Held z m → (events : List Event) → Held z (walked z m events)
-held_walked z lawful m h [] = h
-held_walked z lawful m h (event ∷ events) = held_walked z lawful (apply z m event).machine (held_apply z lawful m h event) events
-
-held_from_opening : (z : Sizes) (image : List Word) (events : List Event) → IsLawful z → length image ≡ z.words
-    → Held z (walked z (opening z image) events)
-held_from_opening z image events lawful fits =
-    held_walked z lawful _ (record { sound = sound_opening z lawful image fits; bounded = bounded_opening z lawful image fits }) events
-
 -- after enough pumps the weight is 0
-driven : (z : Sizes) → IsLawful z → HasRoom z → (n : ℕ) (m : Machine) → Held z m → weight m ≤ n
-    → Held z (after_pumps z n m) × (weight (after_pumps z n m) ≡ 0)
+driven : (z : Sizes) → IsLawful z → HasRoom z → (n : ℕ) (m : Machine) → IsSound z m → weight m ≤ n
+    → IsSound z (after_pumps z n m) × (weight (after_pumps z n m) ≡ 0)
 driven z lawful roomy zero m h l = (h, omega arith)
 driven z lawful roomy (suc n) m h l = elim (pumped z m) as (λ o. pumped z m ≡ o
-    → Held z (after_pumps z n (after_event z m o)) × (weight (after_pumps z n (after_event z m o)) ≡ 0)) [
-      | None ↦ (λ e. grind (arith, pumped_rests, h.sound, driven z lawful roomy n m h))
-      | (Some event) ↦ (λ e. driven z lawful roomy n _ (held_apply z lawful m h event)
-          (omega (arith, pumped_lowers z lawful roomy m h.sound event e)))
+    → IsSound z (after_pumps z n (after_event z m o)) × (weight (after_pumps z n (after_event z m o)) ≡ 0)) [
+      | None ↦ (λ e. driven z lawful roomy n m h (omega (arith, pumped_rests z lawful roomy m h e)))
+      | (Some event) ↦ (λ e. driven z lawful roomy n _ (sound_apply z lawful m h event)
+          (omega (arith, pumped_lowers z lawful roomy m h event e)))
     ] refl
 
-pub served_after_pumps : (z : Sizes) → IsLawful z → HasRoom z → (m : Machine) → IsSound z m → IsBounded z m → IsServed z m
-served_after_pumps z lawful roomy m sound bounded =
-    let d = driven z lawful roomy (weight m) m (record { sound = sound; bounded = bounded }) (omega arith) in
-    record { few = weight_bound z m sound bounded; rests = d.1; serves = bound_at_rest z lawful roomy _ d.0.sound d.0.bounded d.1 }
+pub served_after_pumps : (z : Sizes) → IsLawful z → HasRoom z → (m : Machine) → IsSound z m → IsServed z m
+served_after_pumps z lawful roomy m sound =
+    let d = driven z lawful roomy (weight m) m sound (omega arith) in
+    record { few = weight_bound z m sound; rests = d.1; serves = bound_at_rest z lawful roomy _ d.0 d.1 }
 
 pub requests_are_served : (z : Sizes) (image : List Word) (events : List Event) → RequestsAreServed z image events
 requests_are_served z image events lawful roomy fits =
-    let h = held_from_opening z image events lawful fits in served_after_pumps z lawful roomy _ h.sound h.bounded
+    served_after_pumps z lawful roomy _ (walk_sound z lawful _ (sound_opening z lawful image fits) events)
 
 -- ---- What every machine of a walk keeps, said of it as it stands.
 
@@ -356,11 +319,11 @@ all_at_one p (x ∷ banks) zero h =
 all_at_one p (x ∷ banks) (suc k) h =
     grind (arith, h 0 (λ e. omega arith), tally-append, all_at_one p banks k (λ b d. h (suc b) (λ e. d (omega arith))))
 
-pub kept_whole : (z : Sizes) → IsLawful z → (m : Machine) → IsSound z m → IsBounded z m → IsKept z m
-kept_whole z lawful m sound bounded = record {
+pub kept_whole : (z : Sizes) → IsLawful z → (m : Machine) → IsSound z m → IsKept z m
+kept_whole z lawful m sound = record {
   one_live = sound.unit.live_apart;
   tags_differ = sound.unit.once;
-  tags_fit = bounded.few_tags;
+  tags_fit = sound.unit.few_tags;
   tags_owed = λ tag. some _ ∙ flat_in_use m tag;
   on_its_way = λ s i. omega (arith, all_at_one (is_for s i) m.banks _ (λ b d. elsewhere b s i d), sound.counted s i);
   nowhere_else = elsewhere;
@@ -378,7 +341,7 @@ kept_whole z lawful m sound bounded = record {
     stray b place answer e run = grind arith
 
 pub walk_is_kept : (z : Sizes) (image : List Word) (events : List Event) → WalkIsKept z image events
-walk_is_kept z image events lawful fits = let h = held_from_opening z image events lawful fits in kept_whole z lawful _ h.sound h.bounded
+walk_is_kept z image events lawful fits = kept_whole z lawful _ (walk_sound z lawful _ (sound_opening z lawful image fits) events)
 
 -- ---- the limits
 
@@ -402,27 +365,26 @@ few_answers z m r sound b = omega (
 
 -- ---- after some events
 
-held_whole : {unit : UnitState} {memory : Memory} → IsWhole unit memory → (events : List Event)
-    → Held unit.sizes (walked unit.sizes (machine_of unit memory) events)
-held_whole whole events = held_walked _ (lawful _ whole.in_range) _ (record { sound = whole.sound; bounded = whole.bounded }) events
+sound_walked : {unit : UnitState} {memory : Memory} → IsWhole unit memory → (events : List Event)
+    → IsSound unit.sizes (walked unit.sizes (machine_of unit memory) events)
+sound_walked whole events = walk_sound _ (lawful _ whole.in_range) _ whole.sound events
 
 module _ {unit : UnitState} {memory : Memory}
     (whole : IsWhole unit memory) where
   -- the same shape, with another machine
-  moved_on : (m : Machine) → IsSound unit.sizes m → IsBounded unit.sizes m → (u : UnitState) (n : Memory)
+  moved_on : (m : Machine) → IsSound unit.sizes m → (u : UnitState) (n : Memory)
       → u ≡ record unit { cache = m.cache } → n ≡ with_banks memory m.banks → IsWhole u n
-  moved_on m sound bounded u n e f = rw e (rw f (record {
+  moved_on m sound u n e f = rw e (rw f (record {
     memory_words = whole.memory_words;
     limit = whole.limit;
     in_range = whole.in_range;
     sound = sound;
-    bounded = bounded;
   }))
 
   pub whole_walked : (events : List Event) (u : UnitState) (n : Memory)
       → u ≡ record unit { cache = (walked unit.sizes (machine_of unit memory) events).cache }
       → n ≡ with_banks memory (walked unit.sizes (machine_of unit memory) events).banks → IsWhole u n
-  whole_walked events u n e f = let h = held_whole whole events in moved_on _ h.sound h.bounded u n e f
+  whole_walked events u n e f = moved_on _ (sound_walked whole events) u n e f
 
 -- ---- a new machine
 
@@ -446,7 +408,6 @@ module _ (z : Sizes) (image : List Word) (s : Shape) (unit : UnitState) (memory 
         limit = refl;
         in_range = range;
         sound = sound_opening z (lawful z range) image fits.1;
-        bounded = bounded_opening z (lawful z range) image fits.1;
       })))
 
   -- it stands for the image, and owes nothing
@@ -465,7 +426,7 @@ module _ {unit : UnitState} {memory : Memory}
   now = machine_of unit memory
 
   pub is_kept : IsKept unit.sizes now
-  is_kept = kept_whole unit.sizes (lawful unit.sizes whole.in_range) now whole.sound whole.bounded
+  is_kept = kept_whole unit.sizes (lawful unit.sizes whole.in_range) now whole.sound
 
   pub is_driven : IsDriven unit.sizes now
   is_driven =
@@ -479,7 +440,7 @@ module _ {unit : UnitState} {memory : Memory}
 
   pub is_served : IsServed unit.sizes now
   is_served = served_after_pumps unit.sizes (lawful unit.sizes whole.in_range)
-      (roomy unit.sizes whole.in_range) now whole.sound whole.bounded
+      (roomy unit.sizes whole.in_range) now whole.sound
 
   pub serves : (event : Event) → weight now ≡ 0 → Serves unit.sizes event (apply unit.sizes now event).answer
   serves event rest = go event
@@ -509,7 +470,7 @@ module _ {unit : UnitState} {memory : Memory}
 
   -- wherever a walk stands, no bank has more answers
   pub takes_answers_walked : (events : List Event) (b : ℕ) → length (bank_at (walked unit.sizes now events).banks b).answers ≤ MAX_ANSWERS
-  takes_answers_walked events b = few_answers _ _ whole.in_range (held_whole whole events).sound b
+  takes_answers_walked events b = few_answers _ _ whole.in_range (sound_walked whole events) b
 
 -- a stray word is no answer of flat memory
 pub never_stray : (s t : Flat) (event : Event) (answer : Answer) → flat_step s event answer ≡ Some t → answer ≡ Refused StrayWord → ⊥

@@ -1,14 +1,13 @@
 -- What each machine that a walk comes to keeps.
-use Rattle.std.specs.Prelude.{◌≡◌, ℕ, ◌+◌, ◌/◌, ◌%◌, ◌<◌, ◌≤◌, Bool, true, false, ◌&&◌, not, ◌==◌, nat_lt, length}
+use Rattle.std.specs.Prelude.{◌≡◌, ℕ, ◌+◌, ◌/◌, ◌%◌, ◌<◌, ◌≤◌, Bool, ◌&&◌, not, ◌==◌, nat_lt, length}
 use Rattle.std.specs.Prelude.{Option, Some, None, slice_index_or}
-use Rattle.std.specs.List.{list_all}
 use Rattle.flat_model.specs.declared.Word.{Word}
 use Rattle.flat_model.specs.Words.{merged, zero_word}
 use Rattle.memory_banks.specs.declared.BankAnswer.{BankAnswer}
 use Rattle.memory_banks.specs.Banks.{bank_at, pending, all_pending}
 use Rattle.input_stack.specs.declared.Entry.{Entry}
 use Rattle.cache_unit.specs.declared.Sizes.{Sizes}
-use Rattle.cache_unit.specs.State.{Register, clear_field, register_at, cell_of, tags, block_of, place_in, address}
+use Rattle.cache_unit.specs.State.{Register, clear_field, register_at, cell_of, block_of, place_in, address}
 use Rattle.cache_unit.specs.Counts.{bit, tally}
 use Rattle.cache_unit.specs.SoundCache.{IsSoundCache}
 use Rattle.machine_core.specs.Machine.{Machine, backing, flat_word}
@@ -36,9 +35,10 @@ abbrev pub word_in : Option BankAnswer → Word
 word_in None = zero_word
 word_in (Some a) = a.word
 
--- ---- the invariants
+-- ---- the invariant
 
--- what keeps the flat memory that a machine stands for: that of its unit, and of the words of its banks
+-- what keeps the flat memory that a machine stands for, and what is on its way within the limits: what holds of its unit, and of the
+-- words on their way between that and the banks
 pub record IsSound (z : Sizes) (m : Machine) : Type 0 where
   pub unit : IsSoundCache z m.cache
   -- each word that a register waits for is once on its way, and nothing else is
@@ -47,16 +47,9 @@ pub record IsSound (z : Sizes) (m : Machine) : Type 0 where
   -- a word is its backing with the buffer's bytes in the dirty lanes
   pub kept : (at : ℕ) → flat_word z m at ≡ merged (backing z m at) (cell_of m.cache (block_of z at) (place_in z at)).word
       (cell_of m.cache (block_of z at) (place_in z at)).dirty
+  -- each read and each answer is at the bank of its word, and no bank has more commands than there is room for
+  pub at_its_bank : (b s i : ℕ) → 1 ≤ tally (is_for s i) (pending (bank_at m.banks b)) → own_bank z m s i ≡ b
+  pub few_commands : (b : ℕ) → length (bank_at m.banks b).queue ≤ z.bank_queue
   -- each word of memory has its place in its bank
   pub banks_are : length m.banks ≡ z.banks
   pub banks_hold : (at : ℕ) → at < z.words → at / z.banks < length (bank_at m.banks (at % z.banks)).words
-
--- what is on its way is within the limits, and where it belongs
-pub record IsBounded (z : Sizes) (m : Machine) : Type 0 where
-  -- a valid register waits for a word
-  pub unfinished : (s : ℕ) → (register_at m.cache s).valid ≡ true → list_all (λ f. f.processed) (register_at m.cache s).fields ≡ false
-  pub few_tags : length (tags m.cache) ≤ z.replies
-  pub few_queued : length m.cache.queue ≤ z.write_queue
-  pub few_commands : (b : ℕ) → length (bank_at m.banks b).queue ≤ z.bank_queue
-  -- each read and each answer is at the bank of its word
-  pub at_its_bank : (b s i : ℕ) → 1 ≤ tally (is_for s i) (pending (bank_at m.banks b)) → own_bank z m s i ≡ b

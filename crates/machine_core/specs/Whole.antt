@@ -17,7 +17,7 @@ use Rattle.cache_unit.specs.Sound.{InRange}
 use Rattle.cache_unit.specs.Limits as limits
 use Rattle.machine_core.specs.Machine.{Machine, MachineState, Outcome, apply, bank_word}
 use Rattle.machine_core.specs.Law.{serves_eviction}
-use Rattle.machine_core.specs.Sound.{IsSound, IsBounded}
+use Rattle.machine_core.specs.Sound.{IsSound}
 
 -- a unit and a memory together
 abbrev pub machine_of : UnitState → Memory → Machine
@@ -43,13 +43,11 @@ pub record IsWhole (unit : UnitState) (memory : Memory) : Type 0 where
   pub limit : memory.limit ≡ unit.sizes.bank_queue
   pub in_range : InRange unit.sizes
   pub sound : IsSound unit.sizes (machine_of unit memory)
-  pub bounded : IsBounded unit.sizes (machine_of unit memory)
 
 -- what each machine keeps, by its state alone: its numbers are in their ranges, and what is on its way is in order
 pub record IsWholeState (s : MachineState) : Type 0 where
   pub in_range : InRange s.sizes
   pub sound : IsSound s.sizes s.machine
-  pub bounded : IsBounded s.sizes s.machine
 
 -- the first number of a machine that is out of its range, given the first one of its unit; the image's length comes last
 abbrev pub or_image : Option ShapeField → Sizes → ℕ → Option ShapeField

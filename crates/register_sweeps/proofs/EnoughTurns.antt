@@ -50,6 +50,6 @@ unfolding weight_of
 enough_turns n event c request whole h most =
     let z = c.state.sizes in
     let range = whole.in_range in
-    let bound = (served_after_pumps z (lawful z range) (roomy z range) c.state.machine whole.sound whole.bounded).few in
+    let bound = (served_after_pumps z (lawful z range) (roomy z range) c.state.machine whole.sound).few in
     let some = some_weight c.state event whole request h in
     same_turns n (weight c.state.machine) event c request whole some (omega (arith, bound, most)) (omega arith)

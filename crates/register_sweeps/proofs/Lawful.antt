@@ -12,7 +12,7 @@ use Rattle.cache_unit.specs.declared.Sizes.{Sizes}
 use Rattle.cache_unit.proofs.Made as numbers
 use Rattle.machine_core.specs.Whole.{IsWholeState}
 use Rattle.machine_core.proofs.Requests.{sound_opening, flat_opening}
-use Rattle.machine_core.proofs.Whole.{bounded_opening, lawful}
+use Rattle.machine_core.proofs.Whole.{lawful}
 use Rattle.round_driver.specs.Walks.{is_request}
 use Rattle.register_sweeps.specs.declared.row.Row.{Row}
 use Rattle.register_sweeps.specs.declared.sweeps.SweepFault.{SweepFault}
@@ -25,7 +25,6 @@ good_machine z r =
     record {
       in_range = r;
       sound = sound_opening z (lawful z r) (replicate z.words zero_word) words;
-      bounded = bounded_opening z (lawful z r) (replicate z.words zero_word) words;
     }
 
 -- the row of such a machine counts each request once, and each accepted load's value

@@ -25,7 +25,7 @@ use Rattle.round_driver.proofs.Moves.{steady_after, round_moves}
 
 -- where nothing is on its way, requests are served
 pub serves : (s : MachineState) → IsWholeState s → weight s.machine ≡ 0 → ServesRequests s.sizes s.machine
-serves s whole rest = grind (arith, bound_at_rest, s.sizes, lawful, roomy, s.machine, whole.sound, whole.bounded)
+serves s whole rest = grind (arith, bound_at_rest, s.sizes, lawful, roomy, s.machine, whole.sound)
 
 -- a request leaves each bank its commands
 request_leaves : (event : Event) → is_request event ≡ true → (b : ℕ) → leaves_commands b event
@@ -41,7 +41,7 @@ cost r =
 
 -- what is on its way takes fewer rounds than a request may
 cheap : (s : MachineState) (k : ℕ) → IsWholeState s → weight s.machine * k + k ≤ most_moves s.sizes * k
-cheap s k whole = let few = mul-le-mul_right k (weight_bound s.sizes s.machine whole.sound whole.bounded) in grind arith
+cheap s k whole = let few = mul-le-mul_right k (weight_bound s.sizes s.machine whole.sound) in grind arith
 
 -- nothing need move in the next d rounds at most: these are as many as a bank takes, or a bank is due then
 abbrev IsQuietFor : ℕ → Run → Type 0

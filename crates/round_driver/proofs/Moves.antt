@@ -17,7 +17,6 @@ use Rattle.machine_core.specs.Sound.{IsSound}
 use Rattle.machine_core.specs.Whole.{IsWholeState}
 use Rattle.machine_core.specs.AnyMachine.{after_event}
 use Rattle.machine_core.proofs.Walking.{sound_apply}
-use Rattle.machine_core.proofs.Routing.{bounded_apply}
 use Rattle.machine_core.proofs.Whole.{lawful, roomy}
 use Rattle.machine_core.proofs.Weighing.{arrive_lowers}
 use Rattle.machine_core.proofs.Weighing.{FallsOr, HasCommand, take_falls, process_falls, serve_falls, drain_falls, leaves_commands}
@@ -76,7 +75,6 @@ whole_after s event h =
     record {
       in_range = h.in_range;
       sound = sound_apply s.sizes (law s h) s.machine h.sound event;
-      bounded = bounded_apply s.sizes (law s h) s.machine h.sound h.bounded event;
     }
 
 -- an event that leaves the banks their commands

@@ -17,4 +17,4 @@ returns-clause-served c = rw (← c.self.view_is) (is_served c.self.invariant)
 pub returns-clause-whole : goal.returns-clause-whole
 returns-clause-whole c =
     let whole = c.self.invariant in
-    rw (← c.self.view_is) (record { in_range = whole.in_range; sound = whole.sound; bounded = whole.bounded })
+    rw (← c.self.view_is) (record { in_range = whole.in_range; sound = whole.sound })
