@@ -16,9 +16,9 @@ use Rattle.cache_unit.specs.declared.Sizes.{Sizes}
 use Rattle.cache_directory.specs.Frames.{zero_cell, settled}
 use Rattle.cache_unit.specs.State.{Frame, Field, Register, Cache, empty_frame, clear_field, free_register, frame_at, frame_of, register_at}
 use Rattle.cache_unit.specs.State.{field_at, is_live, live_for, cell_in, cell_of, gathered, targets_of, targets_of_field, targets, tags}
-use Rattle.cache_unit.specs.State.{with_cell, block_of, place_in}
+use Rattle.cache_unit.specs.State.{block_of, place_in}
 use Rattle.miss_registers.specs.Registers.{finished, finished_field, finished_fields, is_done}
-use Rattle.cache_unit.specs.Steps.{answered, filled, filled_in, settled_in, settled_for, processed, process_step}
+use Rattle.cache_unit.specs.Steps.{answered, frame_for, settled_if, filled_live, processed, process_step}
 use Rattle.cache_unit.specs.Forms.{bytes_of, missing_form, over_form, owed}
 use Rattle.cache_unit.specs.FormLaws.{form_at, forms, ProcessForms}
 use Rattle.cache_unit.specs.SoundCache.{HasWord, IsSoundCache}
@@ -84,15 +84,12 @@ record Filling (c : Cache) (e : Entry) (frames : List Frame) : Type 0 where
   pub like : FramesLike c.directory.frames frames
 
 -- filling changes the frames alone
-pub filled_only : (c : Cache) (s i : ℕ) (w : Word)
-    → filled c s i w ≡ record c { directory = record c.directory { frames = (filled c s i w).directory.frames } }
-unfolding with_cell
-filled_only c s i w = grind arith
-
-pub settled_only : (c : Cache) (s i : ℕ) (w : Word) → settled_for c s i (filled c s i w) ≡ record c {
-  directory = record c.directory { frames = (settled_for c s i (filled c s i w)).directory.frames };
-}
-settled_only c s i w = grind (arith, filled_only)
+filled_live-frames : (d : dir.Frames) (o : Option ℕ) (i : ℕ) (w : Word) (keep : Lanes) (last : Bool)
+    → filled_live d o i w keep last ≡ record d { frames = (filled_live d o i w keep last).frames }
+unfolding filled_live
+filled_live-frames d None i w keep last = refl
+filled_live-frames d (Some f) i w keep true = refl
+filled_live-frames d (Some f) i w keep false = refl
 
 module _ (z : Sizes) (c : Cache) (h : IsSoundCache z c) (place : ℕ) (e : Entry) (found : slice_get c.stack place ≡ Some e) where
   abbrev reg : Register
@@ -412,40 +409,12 @@ module _ (z : Sizes) (c : Cache) (h : IsSoundCache z c) (place : ℕ) (e : Entry
 
   -- ---- the buffer is filled
 
-  filling_of : Filling c e (filled c e.slot e.i e.word).directory.frames
-  unfolding with_cell dir.frame_of
-  filling_of = go _ refl _ refl
-    where
-      unfilled : (is_live reg ≡ true → (k : ℕ) → frame_of c reg.block ≡ Some k → ⊥) → Filling c e c.directory.frames
-      unfilled impossible = grind arith
-
-      go : (b : Bool) → is_live reg ≡ b → (o : Option ℕ) → frame_of c reg.block ≡ o
-          → Filling c e (cond b (filled_in c o e.i e.word fld.code) c).directory.frames
-      go false l o q = unfilled (λ l' k p. cc)
-      go true l None q = unfilled (λ l' k p. cc)
-      go true l (Some f) q =
-          let at_f = frame_of-some c.directory.frames reg.block f q in
-          let whole = h.cells f reg.block at_f.1 in
-          let cell = get_or (frame_at c f).cells e.i zero_cell in
-          let cell' : Cell = record { word = merged e.word cell.word fld.code; dirty = cell.dirty } in
-          let w = waits.there in
-          let room : e.i < length (frame_at c f).cells = omega arith in
-          record {
-            stays = λ d ed b. frame-stays c d f _ b ed refl;
-            others = λ k j n. nested_other (λ x. x.cells) with_cells
-                (λ x ys. refl) empty_frame zero_cell _ f e.i k j cell' (λ p r. n l (cc (p, at_f.1)) r);
-            here = λ l' k p. (cc (nested_same (λ x. x.cells) with_cells
-                (λ x ys. refl) empty_frame zero_cell c.directory.frames f e.i cell' at_f.0 room));
-            like = frames_like-set _ f _ refl
-                (length-set (frame_at c f).cells e.i cell');
-          }
-
   -- a frame that is no longer pending has the words that it had
-  settled_filling : (frames : List Frame) → Filling c e frames → (o : Option ℕ)
-      → Filling c e (settled_in (record c { directory = record c.directory { frames = frames } }) o).directory.frames
+  settled_filling : (frames : List Frame) → Filling c e frames → (b : Bool) (f : ℕ)
+      → Filling c e (settled_if b (record c.directory { frames = frames }) f).frames
   unfolding settled
-  settled_filling frames h None = h
-  settled_filling frames h (Some f) =
+  settled_filling frames h false f = h
+  settled_filling frames h true f =
       let d = record c { directory = record c.directory { frames = frames } } in
       let new = settled (get_or frames f empty_frame) in
       let read = λ (k j : ℕ). read_set (λ x. get_or x.cells j zero_cell) empty_frame frames f new refl k in
@@ -457,21 +426,36 @@ module _ (z : Sizes) (c : Cache) (h : IsSoundCache z c) (place : ℕ) (e : Entry
         like = grind arith;
       }
 
-  last : Bool
-  last = is_live reg && is_done (finished_fields reg e.i)
+  frames_then : List Frame
+  frames_then = (filled_live c.directory (frame_for c reg) e.i e.word fld.code (is_done (finished_fields reg e.i))).frames
 
-  turned_frames : Filling c e (settled_for c e.slot e.i (filled c e.slot e.i e.word)).directory.frames
-  unfolding last
-  turned_frames = rw (sym (filled_only c e.slot e.i e.word)) at (go last)
+  filling_then : Filling c e frames_then
+  unfolding frames_then filled_live dir.filled dir.frame_of
+  filling_then = go _ refl _ refl
     where
-      filled_frames : List Frame
-      filled_frames = (filled c e.slot e.i e.word).directory.frames
+      unfilled : (is_live reg ≡ true → (k : ℕ) → frame_of c reg.block ≡ Some k → ⊥) → Filling c e c.directory.frames
+      unfilled impossible = grind arith
 
-      go : (b : Bool) → Filling c e (cond b (settled_in (record c { directory = record c.directory { frames = filled_frames } })
-          (frame_of c reg.block))
-          (record c { directory = record c.directory { frames = filled_frames } })).directory.frames
-      go true = settled_filling filled_frames filling_of _
-      go false = filling_of
+      go : (b : Bool) → is_live reg ≡ b → (o : Option ℕ) → frame_of c reg.block ≡ o
+          → Filling c e (filled_live c.directory (cond b o None) e.i e.word fld.code (is_done (finished_fields reg e.i))).frames
+      go false l o q = unfilled (λ l' k p. cc)
+      go true l None q = unfilled (λ l' k p. cc)
+      go true l (Some f) q =
+          let at_f = frame_of-some c.directory.frames reg.block f q in
+          let whole = h.cells f reg.block at_f.1 in
+          let cell = get_or (frame_at c f).cells e.i zero_cell in
+          let cell' : Cell = record { word = merged e.word cell.word fld.code; dirty = cell.dirty } in
+          let w = waits.there in
+          let room : e.i < length (frame_at c f).cells = omega arith in
+          settled_filling _ (record {
+            stays = λ d ed b. frame-stays c d f _ b ed refl;
+            others = λ k j n. nested_other (λ x. x.cells) with_cells
+                (λ x ys. refl) empty_frame zero_cell _ f e.i k j cell' (λ p r. n l (cc (p, at_f.1)) r);
+            here = λ l' k p. (cc (nested_same (λ x. x.cells) with_cells
+                (λ x ys. refl) empty_frame zero_cell c.directory.frames f e.i cell' at_f.0 room));
+            like = frames_like-set _ f _ refl
+                (length-set (frame_at c f).cells e.i cell');
+          }) _ f
 
   after : Cache → Cache
   after d = record d {
@@ -481,8 +465,8 @@ module _ (z : Sizes) (c : Cache) (h : IsSoundCache z c) (place : ℕ) (e : Entry
   }
 
   pub processed-by : ProcessedBy z c place e (processed c place e)
-  unfolding processed after
-  processed-by = grind (arith, after, settled_only, turned_by, turned_frames)
+  unfolding processed after frames_then
+  processed-by = grind (arith, after, filled_live-frames, turned_by, filling_then)
 
 pub process_forms : (z : Sizes) (c : Cache) → IsSoundCache z c → (place : ℕ)
     → ProcessForms z c (process_step c place).answer (process_step c place).cache

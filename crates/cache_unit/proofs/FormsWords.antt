@@ -11,7 +11,7 @@ use Rattle.cache_directory.specs.declared.Cell.{Cell}
 use Rattle.cache_unit.specs.declared.Sizes.{Sizes}
 use Rattle.cache_directory.specs.Frames.{zero_cell}
 use Rattle.cache_unit.specs.State.{Frame, Field, Register, Cache, empty_frame, clear_field, free_register, frame_at, frame_of, register_at}
-use Rattle.cache_unit.specs.State.{field_at, is_live, live_for, cell_in, cell_of, targets, tags, with_cell, with_field, block_of, place_in}
+use Rattle.cache_unit.specs.State.{field_at, is_live, live_for, cell_in, cell_of, targets, tags, block_of, place_in}
 use Rattle.cache_unit.specs.State.{Target, is_present, gathered, targets_of, targets_of_field, first_of}
 use Rattle.cache_unit.specs.Steps.{written, replied, awaited, loaded}
 use Rattle.cache_unit.specs.Forms.{Form, bytes_of, coming_form, over_form, form_in, owed}
@@ -240,7 +240,7 @@ pub record StoredBy (z : Sizes) (c : Cache) (at : ℕ) (w : Word) (lanes : Lanes
 
 pub stored-by : (z : Sizes) → 0 < z.block_words → (c : Cache) (at : ℕ) → Hit z c (block_of z at) → (w : Word) (lanes : Lanes)
     → StoredBy z c at w lanes (written c (block_of z at) (place_in z at) w lanes)
-unfolding with_cell with_field
+unfolding dir.written regs.noted
 stored-by z some c at hit w lanes =
     let note = noting z some c at hit w lanes _ refl in
     let is : written c (block_of z at) (place_in z at) w lanes
@@ -383,7 +383,7 @@ module _ (z : Sizes) (some : 0 < z.block_words) (c : Cache) (tag at : ℕ) (hit 
         }
 
     awaited_ok : LoadedBy z c tag at (awaited c s own_place tag buffer)
-    unfolding with_field dir.frame_of
+    unfolding regs.awaited dir.frame_of
     awaited_ok = record {
       words = awaited_words;
       owing = owed-more told right_form waiting_more more_dues;

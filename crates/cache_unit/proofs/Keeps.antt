@@ -9,14 +9,13 @@ use Rattle.miss_registers.specs.declared.Owed.{Owed}
 use Rattle.miss_registers.proofs.Tags.{count_by-append, count_by-map}
 use Rattle.cache_unit.specs.declared.Reply.{Reply}
 use Rattle.cache_unit.specs.declared.Sizes.{Sizes}
-use Rattle.cache_unit.specs.Steps.{answered, processed, moved, process_step, process_entry}
+use Rattle.cache_unit.specs.Steps.{answered, processed, moved, process_step, process_entry, filled_live, settled_if, CanFill}
 use Rattle.cache_unit.specs.Sound.{loads_of_field, loads_of, owing, OwesSound, HasFrame, no_entry, entry_at, HasInStack, Stands, FilledBy}
 use Rattle.cache_unit.specs.Sound.{IsSound}
 use Rattle.flat_model.specs.declared.Lanes.{Lanes}
 use Rattle.input_stack.specs.declared.Entry.{Entry}
-use Rattle.cache_unit.specs.State.{Cache, with_cell, register_at, Register, Field, clear_field, free_register, is_live, Frames, Frame}
+use Rattle.cache_unit.specs.State.{Cache, register_at, Register, Field, clear_field, free_register, is_live, Frames, Frame}
 use Rattle.cache_unit.specs.State.{empty_frame}
-use Rattle.cache_unit.specs.Parts.{filled_live, settled_if, CanFill}
 use Rattle.std.proofs.lemmas.List.{get_or-set_same, get_or-set_other, get_or_past, map-append, take_more}
 use Rattle.std.proofs.lemmas.List.Edits.{length-remove, get_or-remove_below, get_or-remove_above}
 use Rattle.std.proofs.lemmas.Bool.{false≢true, cases_lt, cases_eq, false_from_ne_true}
@@ -332,7 +331,7 @@ module _ (z : Sizes) (c : Cache) (h : IsSound z c) (k : ℕ) (e : Entry) (t : Ta
   can_answer = grind (arith, slot_there, own_entry, loads_there, count_by-all, c.ready)
 
   pub shown_after : processed_parts (field_of r e.i).code ≡ processed c k e
-  unfolding processed filled_live with_cell dir.filled
+  unfolding processed
   shown_after = grind (arith, own_entry, h.tied.frames, register_at)
 
   -- ---- what still holds

@@ -14,16 +14,16 @@ use Rattle.std.specs.List.{find}
 use Rattle.flat_model.specs.declared.Word.{Word}
 use Rattle.input_stack.specs.Stack.{stack_word}
 use Rattle.cache_unit.specs.declared.Sizes.{Sizes}
-use Rattle.cache_unit.specs.State.{Cache, register_at, field_at, Field, frame_at, frame_of, live_for, cell_of, with_cell, with_field, Frame}
+use Rattle.cache_unit.specs.State.{Cache, register_at, field_at, Field, frame_at, frame_of, live_for, cell_of, Frame}
 use Rattle.cache_unit.specs.State.{Frames, Register, free_register, is_live}
 use Rattle.cache_unit.specs.Causes.{first_cause, is_stray, arrive_cause, Coming, found}
 use Rattle.flat_model.specs.declared.Cause.TheVariants.{StrayWord, StackFull}
-use Rattle.cache_unit.specs.Steps.{unless, moved, arrived, arrive_step, awaited, noted, written_in, written}
+use Rattle.cache_unit.specs.Steps.{unless, moved, arrived, arrive_step, written_for, noted_for}
 use Rattle.miss_registers.specs.Whole.{IsWhole}
 use Rattle.flat_model.specs.declared.Lanes.{Lanes}
 use Rattle.flat_model.specs.Words.{zero_word, merged, has_all}
 use Rattle.miss_registers.specs.declared.Owed.{Owed}
-use Rattle.cache_unit.specs.Parts.{finding_of, written_for, noted_for}
+use Rattle.cache_unit.specs.Lookups.{finding_of}
 use Rattle.miss_registers.specs.Registers.{field_of, code_of_missing}
 use Rattle.cache_unit.specs.declared.unit.present.Finding.TheVariants.{Here}
 use Rattle.cache_directory.specs.Frames as dir
@@ -282,17 +282,6 @@ arrived-shown c s i word = refl
 
 -- ---- a load waits
 
-pub awaited-shown : (c : Cache) (slot i tag : ℕ) (buffer : Word) → (record c {
-  registers = set c.registers slot
-      (regs.awaited (register_at c slot) i (record {
-        tag = tag;
-        held = merged zero_word buffer (field_at c slot i).code;
-        lanes = (field_at c slot i).code;
-      }));
-}) ≡ awaited c slot i tag buffer
-unfolding regs.awaited with_field
-awaited-shown c slot i tag buffer = refl
-
 pub IsSound-awaited : (z : Sizes) (c : Cache) (slot i : ℕ) (o : Owed) → slot < length c.registers
     → IsWhole z.block_words z.regs (set c.registers slot (regs.awaited (register_at c slot) i o))
     → OwesSound z c.ready (set c.registers slot (regs.awaited (register_at c slot) i o)) → IsSound z c
@@ -350,24 +339,6 @@ IsSound-stored z c block i word m o l wd wr h =
               related-set SameKind SameKind-self _ t _ p.0 (SameKind-noted _ i m),
               owes-same z _ _ t _ p.0 (λ x. loads-noted x _ i m (omega arith)) h.owes,
             )
-
-noted-shown : (c : Cache) (o : Option ℕ) (i : ℕ)
-    (m : Lanes) → (record c { registers = noted_for c.registers o i m }) ≡ noted c o i m
-unfolding regs.noted with_field
-noted-shown c None i m = refl
-noted-shown c (Some t) i m = grind arith
-
-written_in-shown : (c : Cache) (o : Option ℕ) (i : ℕ) (word : Word) (m : Lanes)
-    → (record c { directory = written_for c.directory o i word m }) ≡ written_in c o i word m
-unfolding dir.written with_cell
-written_in-shown c None i word m = refl
-written_in-shown c (Some f) i word m = refl
-
-pub stored-shown : (c : Cache) (block i : ℕ) (word : Word) (m : Lanes) → (record c {
-  directory = written_for c.directory (frame_of c block) i word m;
-  registers = noted_for c.registers (live_for c block) i m;
-}) ≡ written c block i word m
-stored-shown c block i word m = grind (arith, noted-shown, written_in-shown)
 
 -- ---- the buffer's word
 

@@ -1,6 +1,6 @@
 -- The shown state of the cache unit, and how it is read.
 use Rattle.std.specs.Prelude.{ℕ, suc, ◌+◌, ◌*◌, ◌/◌, ◌%◌, Bool, false, if◌then◌else◌, List, [], ◌∷◌, ◌++◌, map, replicate, Option, Some}
-use Rattle.std.specs.Prelude.{None, is_some, slice_set, slice_index_or}
+use Rattle.std.specs.Prelude.{None, is_some, slice_index_or}
 use Rattle.cache_unit.specs.declared.Reply.{Reply}
 use Rattle.input_stack.specs.declared.Entry.{Entry}
 use Rattle.write_queue.specs.declared.Queued.{Queued}
@@ -94,14 +94,6 @@ targets registers = gathered targets_of 0 registers
 -- the tags of the values that stand ready, and of the loads that wait
 abbrev pub tags : Cache → List ℕ
 tags c = map (λ r. r.tag) c.ready ++ map (λ t. t.load.tag) (targets c.registers)
-
--- ---- writing one part
-
-unfoldable pub with_cell : Cache → ℕ → ℕ → Cell → Cache
-with_cell c f i cell = record c { directory = dir.with_frame c.directory f (dir.with_cell (frame_at c f) i cell) }
-
-unfoldable pub with_field : Cache → ℕ → ℕ → Field → Cache
-with_field c slot i field = record c { registers = slice_set c.registers slot (regs.with_field (register_at c slot) i field) }
 
 -- ---- addresses
 

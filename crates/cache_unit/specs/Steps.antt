@@ -1,5 +1,5 @@
 -- What each event makes of the cache unit.
-use Rattle.std.specs.Prelude.{ℕ, ◌/◌, ◌%◌, ◌&&◌, if◌then◌else◌, nat_lt, List, [], ◌∷◌, ◌++◌, map, Option, Some, None}
+use Rattle.std.specs.Prelude.{ℕ, ◌/◌, ◌%◌, ◌<◌, Bool, IsTrue, if◌then◌else◌, nat_lt, List, [], ◌∷◌, ◌++◌, map, length, Option, Some, None}
 use Rattle.std.specs.Prelude.{slice_get, slice_set}
 use Rattle.std.specs.List.{remove}
 use Rattle.flat_model.specs.declared.Word.{Word}
@@ -8,7 +8,7 @@ use Rattle.flat_model.specs.declared.Cause.{Cause}
 use Rattle.flat_model.specs.declared.Cause.TheVariants.{BankFull}
 use Rattle.flat_model.specs.declared.Answer.{Answer}
 use Rattle.flat_model.specs.declared.Answer.TheVariants.{Accepted, Moved, Value, Nothing, Refused}
-use Rattle.flat_model.specs.Words.{zero_word, joined, merged}
+use Rattle.flat_model.specs.Words.{zero_word, merged}
 use Rattle.memory_banks.specs.declared.Command.{Command}
 use Rattle.memory_banks.specs.declared.Command.TheVariants.{Read, Write}
 use Rattle.cache_unit.specs.declared.Request.{Request}
@@ -21,8 +21,8 @@ use Rattle.cache_unit.specs.declared.Sizes.{Sizes}
 use Rattle.cache_directory.specs.Frames as dir
 use Rattle.miss_registers.specs.Registers.{marked, finished, finished_fields, is_done}
 use Rattle.miss_registers.specs.Registers as regs
-use Rattle.cache_unit.specs.State.{Register, Cache, frame_at, frame_of, is_present, register_at, field_at, is_live, live_for, free_slot}
-use Rattle.cache_unit.specs.State.{cell_of, with_cell, with_field, block_of, place_in, order_of}
+use Rattle.cache_unit.specs.State.{Register, Cache, frame_of, is_present, register_at, field_at, is_live, live_for, free_slot}
+use Rattle.cache_unit.specs.State.{cell_of, block_of, place_in, order_of}
 use Rattle.cache_unit.specs.Begun.{begun_frame, begun_register}
 use Rattle.cache_unit.specs.Causes.{choose, dirty_words, addresses, Found, Here, Coming, found, load_cause, store_cause, prefetch_cause}
 use Rattle.cache_unit.specs.Causes.{evict_cause, arrive_cause}
@@ -95,30 +95,31 @@ replied c tag w = record c { ready = c.ready ++ record { tag = tag; word = w } �
 
 abbrev pub awaited : Cache → ℕ → ℕ → ℕ → Word → Cache
 awaited c slot i tag buffer =
-    let field = field_at c slot i in
-    with_field c slot i (record field {
-      waiting = field.waiting ++ record { tag = tag; lanes = field.code; held = merged zero_word buffer field.code } ∷ [];
-    })
+    let code = (field_at c slot i).code in
+    let load : Owed = record { tag = tag; lanes = code; held = merged zero_word buffer code } in
+    record c { registers = slice_set c.registers slot (regs.awaited (register_at c slot) i load) }
 
 abbrev pub loaded : Cache → ℕ → ℕ → Word → Found → Cache
 loaded c tag i buffer (Here w) = replied c tag w
 loaded c tag i buffer (Coming slot) = awaited c slot i tag buffer
 
--- the lanes join the code of a word that is still missing
-abbrev pub noted : Cache → Option ℕ → ℕ → Lanes → Cache
-noted c None i lanes = c
-noted c (Some slot) i lanes =
-    let field = field_at c slot i in
-    if field.processed then c else with_field c slot i (record field { code = joined field.code lanes })
+-- the bytes go into the frame that holds the block
+abbrev pub written_for : dir.Frames → Option ℕ → ℕ → Word → Lanes → dir.Frames
+written_for d None i word lanes = d
+written_for d (Some f) i word lanes = dir.with_frame d f (dir.written (dir.frame_at d.frames f) i word lanes)
 
-abbrev pub written_in : Cache → Option ℕ → ℕ → Word → Lanes → Cache
-written_in c None i word lanes = c
-written_in c (Some f) i word lanes =
-    let cell = dir.cell_at (frame_at c f) i in
-    with_cell c f i (record { word = merged cell.word word lanes; dirty = joined cell.dirty lanes })
+-- and the lanes into the code of a word that is still missing
+abbrev pub noted_for : List Register → Option ℕ → ℕ → Lanes → List Register
+noted_for rs None i lanes = rs
+noted_for rs (Some slot) i lanes =
+    if (regs.field_at rs slot i).processed then rs else slice_set rs slot (regs.noted (regs.register_at rs slot) i lanes)
 
 abbrev pub written : Cache → ℕ → ℕ → Word → Lanes → Cache
-written c block i word lanes = noted (written_in c (frame_of c block) i word lanes) (live_for c block) i lanes
+written c block i word lanes =
+    record c {
+      directory = written_for c.directory (frame_of c block) i word lanes;
+      registers = noted_for c.registers (live_for c block) i lanes;
+    }
 
 unfoldable pub load_step : Sizes → (ℕ → ℕ) → Cache → ℕ → ℕ → Stepped
 load_step z room c tag at =
@@ -188,39 +189,36 @@ arrived c slot i word =
 unfoldable pub arrive_step : Sizes → Cache → ℕ → ℕ → Word → Stepped
 arrive_step z c slot i word = unless (arrive_cause z c slot i) c (moved (arrived c slot i word))
 
--- the bytes outside the code come from memory
-abbrev pub filled_in : Cache → Option ℕ → ℕ → Word → Lanes → Cache
-filled_in c None i word code = c
-filled_in c (Some f) i word code =
-    let cell = dir.cell_at (frame_at c f) i in
-    with_cell c f i (record cell { word = merged word cell.word code })
+-- the frame that a register's words go into: that of a live one's block
+abbrev pub frame_for : Cache → Register → Option ℕ
+frame_for c r = if is_live r then frame_of c r.block else None
 
--- a live register's word goes into the buffer
-abbrev pub filled : Cache → ℕ → ℕ → Word → Cache
-filled c slot i word =
-    let r = register_at c slot in
-    if is_live r then filled_in c (frame_of c r.block) i word (field_at c slot i).code else c
+-- a frame is no longer pending where its last word came
+abbrev pub settled_if : Bool → dir.Frames → ℕ → dir.Frames
+settled_if last d f = if last then dir.with_frame d f (dir.settled (dir.frame_at d.frames f)) else d
 
--- the frame of a live register whose last word this is is no longer pending
-abbrev pub settled_in : Cache → Option ℕ → Cache
-settled_in c None = c
-settled_in c (Some f) = record c { directory = dir.with_frame c.directory f (dir.settled (frame_at c f)) }
+-- a word goes into its frame, where there is one; the bytes outside the code come from memory
+unfoldable pub filled_live : dir.Frames → Option ℕ → ℕ → Word → Lanes → Bool → dir.Frames
+filled_live d None i word keep last = d
+filled_live d (Some f) i word keep last = settled_if last (dir.with_frame d f (dir.filled (dir.frame_at d.frames f) i word keep)) f
 
-abbrev pub settled_for : Cache → ℕ → ℕ → Cache → Cache
-settled_for c slot i d =
-    let r = register_at c slot in
-    if is_live r && is_done (finished_fields r i) then settled_in d (frame_of c r.block) else d
+-- that frame is there, and has the word
+abbrev pub CanFill : dir.Frames → Option ℕ → ℕ → Type 0
+CanFill d None i = Unit {0}
+CanFill d (Some f) i = IsTrue (dir.is_held d f) × (i < length (dir.frame_at d.frames f).cells)
 
 abbrev pub answered : Word → List Owed → List Reply
 answered word waiting = map (λ w. record { tag = w.tag; word = merged word w.held w.lanes }) waiting
 
 unfoldable pub processed : Cache → ℕ → Entry → Cache
 processed c place e =
-    let d = settled_for c e.slot e.i (filled c e.slot e.i e.word) in
-    record d {
+    let r = register_at c e.slot in
+    let field = field_at c e.slot e.i in
+    record c {
+      directory = filled_live c.directory (frame_for c r) e.i e.word field.code (is_done (finished_fields r e.i));
       stack = remove c.stack place;
-      ready = c.ready ++ answered e.word (field_at c e.slot e.i).waiting;
-      registers = slice_set c.registers e.slot (finished (register_at c e.slot) e.i);
+      ready = c.ready ++ answered e.word field.waiting;
+      registers = slice_set c.registers e.slot (finished r e.i);
     }
 
 abbrev pub process_entry : Cache → ℕ → Option Entry → Stepped

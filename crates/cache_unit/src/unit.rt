@@ -8,7 +8,7 @@ ghost use Rattle.cache_unit.specs.Views as views;
 ghost use Rattle.cache_unit.specs.Makes.{Makes, MakesOver};
 ghost use Rattle.cache_unit.specs.State.{frame_of};
 ghost use Rattle.cache_unit.specs.Causes.{lacks_places};
-ghost use Rattle.cache_unit.specs.Parts.{filled_live, CanFill};
+ghost use Rattle.cache_unit.specs.Steps.{filled_live, CanFill};
 ghost use Rattle.miss_registers.specs.Registers as regs;
 ghost use Rattle.miss_registers.specs.Whole.{IsWhole};
 
@@ -197,7 +197,7 @@ fn retire(registers: &mut RegisterTable, block: u32)
 }
 
 // A live register's word goes into its frame.
-#[tactic(auto, unfolding(crate::specs::Parts::filled_live))]
+#[tactic(auto, unfolding(crate::specs::Steps::filled_live))]
 fn fill_live(directory: &mut FrameTable, e: &Entry, live: Option<u32>, keep: Lanes, last: bool)
     requires there { CanFill directory.old live e.now.i }
     ensures filled { directory.new ≡ filled_live directory.old live e.now.i e.now.word keep last }

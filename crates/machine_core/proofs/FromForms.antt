@@ -6,14 +6,14 @@ use Rattle.std.proofs.Common.{◌/◌, ◌<◌, ◌++◌, set, length-set, ◌�
 use Rattle.std.proofs.Common.{◌*◌, nat_lt, length-append, lt-ltb}
 use Rattle.std.proofs.lemmas.Bool.{and_parts, not-true, cases_eq, cases_lt, ltb-false}
 use Rattle.flat_model.specs.declared.Word.{Word}
-use Rattle.flat_model.specs.Words.{merged, Lane, byte, has, joined, zero_word}
+use Rattle.flat_model.specs.Words.{merged, Lane, byte, has, zero_word}
 use Rattle.memory_banks.specs.Banks.{Bank, bank_at, all_pending, words_after, no_bank, room_in, all_sent, commands_for, pending, answers_to}
 use Rattle.memory_banks.specs.Banks.{after}
 use Rattle.input_stack.specs.declared.Entry.{Entry}
 use Rattle.cache_unit.specs.declared.Sizes.{Sizes}
 use Rattle.cache_unit.specs.State.{Cache, tags, cell_of, block_of, place_in, register_at, field_at, Target, targets, is_live, live_for}
 use Rattle.cache_unit.specs.State.{frame_of, Frame, Frames, empty_frame, frame_at, first_of, Field, Register, clear_field, free_register}
-use Rattle.cache_unit.specs.State.{is_present, with_cell, with_field, address, free_slot}
+use Rattle.cache_unit.specs.State.{is_present, address, free_slot}
 use Rattle.cache_unit.specs.SoundCache.{HasWord}
 use Rattle.cache_unit.specs.Counts.{tally, bit}
 use Rattle.cache_unit.proofs.Lists.{Adds-tally, Adds-remove, waits_for, Within, Beside, Adds, Adds-find_other, Adds-find_same}
@@ -40,7 +40,7 @@ use Rattle.cache_directory.specs.declared.Cell.{Cell}
 use Rattle.cache_unit.specs.Causes.{dirty_from, owed_by, dirty_words, first_cause, choose, addresses, lacks_places, lacks_room, miss_causes}
 use Rattle.cache_unit.specs.Causes.{Found, Here, Coming}
 use Rattle.cache_unit.proofs.FormsWords.{address_is}
-use Rattle.cache_unit.specs.Steps.{released, evicted, obsoleted, installed, missed, reads, fetched, fetches, loaded, noted, written_in}
+use Rattle.cache_unit.specs.Steps.{released, evicted, obsoleted, installed, missed, reads, fetched, fetches, loaded, noted_for}
 use Rattle.cache_unit.specs.Steps.{written, arrived, processed}
 use Rattle.cache_unit.proofs.FormsEvents.{EvictedBy, evicted-by}
 use Rattle.std.proofs.lemmas.Nat.{mod-mul-add}
@@ -51,6 +51,7 @@ use Rattle.miss_registers.specs.Registers.{without_code, made_obsolete, finished
 use Rattle.cache_unit.specs.Begun.{begun_field, begun_register}
 use Rattle.cache_unit.proofs.Requesting.{Able, free_register_at, some_frame}
 use Rattle.cache_directory.specs.Frames as dir
+use Rattle.miss_registers.specs.Registers as regs
 
 -- whether a frame stands in an order
 abbrev is_in : List ℕ → ℕ → Bool
@@ -174,30 +175,28 @@ all-codeless : (fields : List Field) → is_done (map without_code fields) ≡ i
 all-codeless [] = refl
 all-codeless (f ∷ fields) = cc (all-codeless fields)
 
-like_field : (c : Cache) (slot i : ℕ) (f : Field) → f.processed ≡ (field_at c slot i).processed → AllLike c (with_field c slot i f)
-unfolding with_field
-like_field c slot i f e =
-    one_like c slot _ (λ v. (v, refl, λ n. all-set (register_at c slot).fields i f e ∙ n))
+like_field : (c : Cache) (slot i : ℕ) (f : Field) → f.processed ≡ (field_at c slot i).processed → (s : ℕ)
+    → Like (register_at c s) (get_or (set c.registers slot (regs.with_field (register_at c slot) i f)) s free_register)
+like_field c slot i f e = one_like c slot _ (λ v. (v, refl, λ n. all-set (register_at c slot).fields i f e ∙ n))
 
 pub like_arrived : (c : Cache) (slot i : ℕ) (word : Word) → AllLike c (arrived c slot i word)
-unfolding arrived marked with_field
+unfolding arrived marked
 like_arrived c slot i word = like_field c slot i (record (field_at c slot i) { in_stack = true }) refl
 
 pub like_loaded : (c : Cache) (tag i : ℕ) (buffer : Word) (o : Found) → AllLike c (loaded c tag i buffer o)
+unfolding regs.awaited
 like_loaded c tag i buffer (Here w) = like_same c
 like_loaded c tag i buffer (Coming slot) = like_field c slot i _ refl
 
-like_noted : (c : Cache) (o : Option ℕ) (i : ℕ) (lanes : Lanes) → AllLike c (noted c o i lanes)
-like_noted c None i lanes = like_same c
-like_noted c (Some slot) i lanes = elim (field_at c slot i).processed as (λ b. AllLike c
-    (cond b c (with_field c slot i (record (field_at c slot i) { code = joined (field_at c slot i).code lanes }))))
-    [ true ↦ like_same c | false ↦ like_field c slot i _ refl ]
-
 pub like_written : (c : Cache) (block i : ℕ) (word : Word) (lanes : Lanes) → AllLike c (written c block i word lanes)
-unfolding with_cell
-like_written c block i word lanes = elim (frame_of c block) as
-    (λ f. AllLike c (noted (written_in c f i word lanes) (live_for c block) i lanes))
-    [ None ↦ like_noted c _ i lanes | Some f ↦ like_noted (written_in c (Some f) i word lanes) _ i lanes ]
+unfolding regs.noted
+like_written c block i word lanes = go (live_for c block)
+  where
+    go : (o : Option ℕ) (s : ℕ) → Like (register_at c s) (get_or (noted_for c.registers o i lanes) s free_register)
+    go None = like_same c
+    go (Some slot) = elim (field_at c slot i).processed as (λ b. (s : ℕ) → Like (register_at c s)
+        (get_or (cond b c.registers (set c.registers slot (regs.noted (register_at c slot) i lanes))) s free_register))
+        [ true ↦ like_same c | false ↦ like_field c slot i _ refl ]
 
 pub like_evicted : (z : Sizes) (c : Cache) (block f : ℕ) → AllLike c (evicted z c block f)
 unfolding evicted released made_obsolete

@@ -27,7 +27,7 @@ use Rattle.cache_unit.specs.Causes.{arrive_cause}
 use Rattle.miss_registers.specs.Registers.{finished, marked}
 use Rattle.cache_unit.specs.Steps.{answered, processed, arrived, take_step, process_step, drain_step, drain_first, process_entry}
 use Rattle.cache_unit.specs.Counts.{tally, bit}
-use Rattle.cache_unit.proofs.FormsProcessing.{all_processed, done, settled_only}
+use Rattle.cache_unit.proofs.FormsProcessing.{all_processed, done}
 use Rattle.cache_unit.proofs.Lists.{with_fields, in_range, tally-append, tally-map}
 use Rattle.cache_directory.proofs.Finds.{All-range, find-nowhere}
 use Rattle.machine_core.specs.Machine.{Machine, apply, joined_with}
@@ -143,7 +143,6 @@ module _ (z : Sizes) (lawful : IsLawful z) (roomy : HasRoom z) (m : Machine) (h 
         length-append c.ready (answered x.word f.waiting),
         ap (λ l. length (remove l 0)) e,
         ap length e,
-        ap (λ (d : Cache). length d.queue) (settled_only c x.slot x.i x.word),
       ))
     where
       told_all : (word : Word) (ws : List Owed) → length (answered word ws) ≡ length ws

@@ -18,10 +18,10 @@ use Rattle.miss_registers.specs.Registers as regs
 use Rattle.cache_unit.specs.declared.Sizes.{Sizes}
 use Rattle.cache_directory.specs.Frames as dir
 use Rattle.miss_registers.specs.Registers.{made_obsolete, marked, finished}
-use Rattle.cache_unit.specs.State.{frame_of, live_for, targets, with_cell, with_field}
+use Rattle.cache_unit.specs.State.{frame_of, live_for, targets}
 use Rattle.cache_unit.specs.Causes.{choose, load_cause, store_cause, prefetch_cause, evict_cause, arrive_cause}
 use Rattle.cache_unit.specs.Steps.{released, evicted, installed, fetched, fetches, load_step, store_step, prefetch_step, evict_step}
-use Rattle.cache_unit.specs.Steps.{drain_step, arrived, processed, process_step, take_step}
+use Rattle.cache_unit.specs.Steps.{filled_live, drain_step, arrived, processed, process_step, take_step}
 use Rattle.machine_core.specs.Machine.{Machine, opening, walked, told, bank_word, settled}
 use Rattle.machine_core.specs.Pump.{weight, weights}
 
@@ -100,7 +100,8 @@ word_brought = (Serve 1, Moved) ∷ (Arrive 1 0, Moved) ∷ (Process 0, Moved) �
 all_steps : ℕ
 unfolding has joined merged stack_word dir.settled dir.released made_obsolete marked finished with_command
     served dir.frame_of regs.live_for regs.free_slot targets
-    with_cell with_field choose load_cause store_cause prefetch_cause evict_cause arrive_cause released evicted installed fetched fetches
+    dir.written dir.filled filled_live regs.awaited regs.noted choose load_cause store_cause prefetch_cause evict_cause arrive_cause
+    released evicted installed fetched fetches
     load_step store_step prefetch_step evict_step drain_step arrived processed process_step take_step
 all_steps = zero
 

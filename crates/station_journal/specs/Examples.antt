@@ -11,10 +11,10 @@ use Rattle.input_stack.specs.Stack.{stack_word}
 use Rattle.cache_directory.specs.Frames as dir
 use Rattle.miss_registers.specs.Registers as regs
 use Rattle.cache_unit.specs.declared.Sizes.{Sizes}
-use Rattle.cache_unit.specs.State.{frame_of, live_for, targets, with_cell, with_field}
+use Rattle.cache_unit.specs.State.{frame_of, live_for, targets}
 use Rattle.cache_unit.specs.Causes.{choose, load_cause, store_cause, prefetch_cause, evict_cause, arrive_cause}
 use Rattle.cache_unit.specs.Steps.{released, evicted, installed, fetched, fetches, load_step, store_step, prefetch_step, evict_step}
-use Rattle.cache_unit.specs.Steps.{drain_step, arrive_step, arrived, processed, process_step, take_step}
+use Rattle.cache_unit.specs.Steps.{filled_live, drain_step, arrive_step, arrived, processed, process_step, take_step}
 use Rattle.station_journal.specs.declared.journal.Source.TheVariants as sources
 use Rattle.station_journal.specs.declared.journal.Entry.{Entry}
 use Rattle.station_journal.specs.declared.journal.Entry.TheVariants.{Step, Ended}
@@ -57,7 +57,8 @@ replied tag value = Step (sources.Reply 0) (Take 0) (Value tag value) ∷ []
 -- what the examples compute with
 unfoldable pub all_steps : ℕ
 unfolding has joined merged stack_word dir.frame_of dir.settled dir.released regs.live_for regs.free_slot
-    regs.made_obsolete regs.marked regs.finished targets with_cell with_field choose load_cause store_cause
+    regs.made_obsolete regs.marked regs.finished targets dir.written dir.filled filled_live regs.awaited regs.noted
+    choose load_cause store_cause
     prefetch_cause evict_cause arrive_cause released evicted installed fetched fetches load_step store_step prefetch_step evict_step
     drain_step arrive_step arrived processed process_step take_step
 all_steps = zero

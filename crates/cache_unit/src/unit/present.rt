@@ -6,9 +6,9 @@ ghost use Rattle.miss_registers.specs.Whole.{IsWhole};
 ghost use Rattle.cache_unit.specs.SoundCache.{IsSoundCache};
 ghost use Rattle.cache_unit.specs.State.{frame_of, tags};
 ghost use Rattle.cache_unit.specs.Causes.{found, is_in_use, targets_full};
-ghost use Rattle.cache_unit.specs.Steps.{written};
 ghost use Rattle.cache_unit.specs.Requests.{load_answer, load_present};
-ghost use Rattle.cache_unit.specs.Parts.{finding_of, noted_for};
+ghost use Rattle.cache_unit.specs.Lookups.{finding_of};
+ghost use Rattle.cache_unit.specs.Steps.{noted_for, written};
 
 use crate::{Reply, ShapedUnit, Sizes};
 use flat_model::{Answer, Cause, Lanes, Word, merge};

@@ -6,7 +6,7 @@ use Rattle.cache_unit.specs.declared.unit.present.Finding.TheVariants as finding
 use Rattle.cache_unit.specs.State.{Cache, is_present, frame_of}
 use Rattle.cache_unit.specs.Causes.{Found, Here, Coming, found}
 use Rattle.cache_unit.specs.Lookups.{lookup_in}
-use Rattle.cache_unit.specs.Parts.{finding_of}
+use Rattle.cache_unit.specs.Lookups.{finding_of}
 use Rattle.cache_unit.proofs.unit.ShapedUnit.find_in.Goals as goal
 
 -- what is said of a word of a present block

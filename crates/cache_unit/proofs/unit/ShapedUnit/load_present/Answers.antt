@@ -9,11 +9,11 @@ use Rattle.cache_unit.specs.declared.Reply.{Reply}
 use Rattle.cache_unit.specs.State.{Cache, cell_of}
 use Rattle.cache_unit.specs.Causes.{Found, Here, Coming, targets_full}
 use Rattle.cache_unit.specs.Steps.{loaded}
-use Rattle.cache_unit.specs.Parts.{finding_of}
+use Rattle.cache_unit.specs.Lookups.{finding_of}
 use Rattle.cache_unit.specs.Requests.{load_present}
 use Rattle.cache_unit.proofs.Fetching.{IsSound-ready, made}
 use Rattle.cache_unit.proofs.Tags.{length-tags, owes-added, owing-push, owing-awaited, not_waiting}
-use Rattle.cache_unit.proofs.Present.{can_await, awaited-shown, IsSound-awaited}
+use Rattle.cache_unit.proofs.Present.{can_await, IsSound-awaited}
 use Rattle.miss_registers.specs.Registers as regs
 use Rattle.cache_unit.specs.declared.unit.present.Finding.TheVariants as finding
 use Rattle.cache_unit.proofs.unit.ShapedUnit.load_present.Goals as goal
@@ -88,5 +88,5 @@ returns-else-waiting-clause-unit c =
           (regs.awaited (regs.register_at s.registers c.in-Coming.slot) c.args.i (record { tag = c.args.tag; held = h; lanes = m }));
     } in
     rw (c.await_word.ensures.registers, ← c.self.view_is) (ap (made s.sizes) (ap (λ h. waiting h c.in-Coming.code) can.held_is ∙ ap
-    (waiting _) can.code_is ∙ awaited-shown now c.in-Coming.slot _ _ buffer ∙ ap (loaded now _ _ buffer) (sym can.coming) ∙ ap
+    (waiting _) can.code_is ∙ ap (loaded now _ _ buffer) (sym can.coming) ∙ ap
     (load_present now _ _ _) (sym (ap (targets_full now c.args.i) can.coming ∙ lt-leb MAX_WAITING _ few))))

@@ -1,9 +1,9 @@
 use Rattle.std.proofs.Common.{Some, is_some, ap, ◌∙◌, sym}
 use Rattle.cache_unit.specs.View.{cache_of}
-use Rattle.cache_unit.specs.Parts.{written_for, noted_for}
+use Rattle.cache_unit.specs.Steps.{written_for, noted_for}
 use Rattle.cache_unit.proofs.Begins.{held-cells}
 use Rattle.cache_unit.proofs.Fetching.{made}
-use Rattle.cache_unit.proofs.Present.{IsSound-stored, stored-shown}
+use Rattle.cache_unit.proofs.Present.{IsSound-stored}
 use Rattle.cache_unit.proofs.unit.ShapedUnit.store_present.Goals as goal
 use Rattle.cache_unit.proofs.Lists.{frame_of-some}
 
@@ -29,6 +29,5 @@ returns c =
     let now = cache_of s in
     let held = rw (← c.self.view_is) at c.requires.held in
     let rs = noted_for s.registers _ _ _ in
-    let e = ap (λ o. record now { directory = written_for s.directory o c.args.i c.args.word c.args.lanes; registers = rs }) (sym held)
-    ∙ stored-shown now _ _ _ _ in
+    let e = ap (λ o. record now { directory = written_for s.directory o c.args.i c.args.word c.args.lanes; registers = rs }) (sym held) in
     rw (c.write.ensures.written, c.note_code.ensures.noted, ← c.self.view_is) (ap (made s.sizes) e)
