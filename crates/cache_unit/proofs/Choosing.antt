@@ -17,7 +17,8 @@ use Rattle.cache_unit.specs.State.{Frame, empty_frame, Field, is_live}
 use Rattle.cache_unit.specs.Causes.{first_cause, is_resident_block, ways_of, choose, lacks_places, miss_causes, dirty_from, dirty_words}
 use Rattle.cache_unit.specs.Sound.{IsSound, Tied, OwesSound, loads_of, loads_of_field}
 use Rattle.cache_unit.specs.Reads.{is_short, block_reads}
-use Rattle.cache_unit.specs.GivenUp.{owed_words, given_up}
+use Rattle.cache_unit.specs.Causes.{owed_words}
+use Rattle.cache_unit.specs.Steps.{given_up}
 use Rattle.cache_unit.specs.Miss.{chosen_frame, MayTake}
 use Rattle.cache_directory.proofs.Choices.{chosen-free, chosen-victim, chosen-all_pending}
 use Rattle.cache_unit.proofs.Present.{pending_is, SameMarks, SameMarks-self, related-set, StackSound-same, live_for-some, in_stack-shown}

@@ -15,11 +15,10 @@ use Rattle.cache_unit.specs.Reads.{block_reads, is_short}
 use Rattle.cache_unit.specs.declared.Sizes.{Sizes}
 use Rattle.cache_unit.specs.State.{empty_frame, is_present, free_slot, Cache, frame_at, frame_of, register_at, UnitState, Frames, Frame}
 use Rattle.cache_unit.specs.State.{Register, is_live}
-use Rattle.cache_unit.specs.Causes.{choose}
+use Rattle.cache_unit.specs.Causes.{choose, owed_words}
 use Rattle.cache_directory.specs.Frames.{without, times_in}
-use Rattle.cache_unit.specs.Steps.{released, installed, fetched, take_step, take_reply, Stepped}
+use Rattle.cache_unit.specs.Steps.{released, given_up, frames_with, installed, fetched, take_step, take_reply, Stepped}
 use Rattle.cache_unit.specs.Begun.{begun_frame, begun_field, begun_register}
-use Rattle.cache_unit.specs.GivenUp.{owed_words, given_up, missed_frames, missed_registers}
 use Rattle.std.proofs.lemmas.Option.{same_Some, slice_get-get_or, slice_get_past}
 use Rattle.write_queue.specs.declared.Queued.{Queued}
 use Rattle.miss_registers.specs.Whole.{IsWhole}
@@ -158,36 +157,35 @@ given_frames ways d f x = grind (arith, d.frames, set-set)
 
 -- ---- the whole miss
 
+-- what the calls make of the frames
+pub frames_made : (ways words : ℕ) (d : Frames) (q : List Queued) (f block : ℕ) → dir.IsWhole ways words d
+    → dir.with_frame (dir.installed ways words (given_up ways d f) f block) f (begun_frame words q block)
+    ≡ frames_with ways words (dir.released ways d f) q f block
+unfolding dir.released dir.installed
+frames_made ways words d q f block whole =
+    let begun = begun_frame words q block in
+    cc (
+      set-set (given_up ways d f).frames f (dir.fresh_frame words block) begun,
+      given_frames ways d f begun,
+      set-set d.frames f empty_frame begun,
+      given_orders ways words d f whole,
+    )
+
 -- the parts then
 abbrev pub missed_cache : Sizes → Cache → ℕ → ℕ → ℕ → Cache
 missed_cache z c block f slot =
     let queue = c.queue ++ owed_words z.block_words c.directory f in
     record c {
-      directory = missed_frames z.ways z.block_words c.directory queue f block;
-      registers = missed_registers z.block_words c.registers queue f slot block;
+      directory = frames_with z.ways z.block_words (dir.released z.ways c.directory f) queue f block;
+      registers = set c.registers slot (begun_register z.block_words queue block f);
       queue = queue;
     }
 
-installed-shown : (z : Sizes) (c : Cache) (block f slot : ℕ) → dir.IsWhole z.ways z.block_words c.directory → f / z.ways ≡ block % z.sets
-    → (missed_cache z c block f slot) ≡ installed z (released z c f) block f slot
-unfolding installed released dir.released dir.installed
-installed-shown z c block f slot whole of_set =
-    let begun = begun_frame z.block_words (c.queue ++ owed_words z.block_words c.directory f) block in
-    cc (
-      set-set (given_up z.ways c.directory f).frames f (dir.fresh_frame z.block_words block) begun,
-      given_frames z.ways c.directory f begun,
-      set-set c.directory.frames f empty_frame begun,
-      given_orders z.ways z.block_words c.directory f whole,
-      of_set,
-      set-set c.registers slot (regs.fresh z.block_words block f)
-          (begun_register z.block_words (c.queue ++ owed_words z.block_words c.directory f) block f),
-    )
-
--- the parts after a miss show what the step says
-pub fetched-shown : (z : Sizes) (c : Cache) (block f slot : ℕ) → dir.IsWhole z.ways z.block_words c.directory → f / z.ways ≡ block % z.sets
-    → is_present c block ≡ false → choose z c block ≡ Some f → free_slot c ≡ Some slot → (missed_cache z c block f slot) ≡ fetched z c block
-unfolding fetched
-fetched-shown z c block f slot whole of_set absent frame free = grind (arith, installed-shown)
+-- they show what the step says
+pub fetched-shown : (z : Sizes) (c : Cache) (block f slot : ℕ) → is_present c block ≡ false → choose z c block ≡ Some f
+    → free_slot c ≡ Some slot → (missed_cache z c block f slot) ≡ fetched z c block
+unfolding fetched installed released
+fetched-shown z c block f slot absent frame free = grind arith
 
 -- ---- A miss keeps what holds of the parts.
 
@@ -211,16 +209,15 @@ QueueSound-given z d f q whole within room h =
 -- ---- the frames
 
 -- what the frames are after the miss: one is the block's
-pub missed_is : (ways words : ℕ) (d : Frames) (q : List Queued) (f block : ℕ)
-    → (missed_frames ways words d q f block).frames ≡ set d.frames f (begun_frame words q block)
-unfolding dir.installed
-missed_is ways words d q f block = grind (arith, set-set, given_frames)
+missed_is : (ways words : ℕ) (d : Frames) (q : List Queued) (f block : ℕ)
+    → (frames_with ways words (dir.released ways d f) q f block).frames ≡ set d.frames f (begun_frame words q block)
+unfolding dir.released
+missed_is ways words d q f block = set-set d.frames f empty_frame _
 
-missed_orders : (ways words : ℕ) (d : Frames) (q : List Queued) (f block : ℕ) → dir.IsWhole ways words d
-    → length (missed_frames ways words d q f block).orders ≡ length d.orders
-unfolding dir.installed
-missed_orders ways words d q f block whole =
-    length-set (given_up ways d f).orders _ _ ∙ ap length (given_orders ways words d f whole) ∙ length-set _ _ _
+missed_orders : (ways words : ℕ) (d : Frames) (q : List Queued) (f block : ℕ)
+    → length (frames_with ways words (dir.released ways d f) q f block).orders ≡ length d.orders
+unfolding dir.released
+missed_orders ways words d q f block = length-set _ _ _ ∙ length-set d.orders _ _
 
 -- the frame of a block is the only one that holds it
 found_alone : (fs : List Frame) (block f : ℕ) → (dir.frame_at fs f).block ≡ Some block
@@ -340,10 +337,10 @@ pub IsSound-missed : (z : Sizes) (c : Cache) (block f slot : ℕ) → IsSound z 
 IsSound-missed z c block f slot h in_range idle absent there free small room whole whole' =
     let q' = c.queue ++ owed_words z.block_words c.directory f in
     let frames = missed_is z.ways z.block_words c.directory q' f block in
-    let registers = set-set c.registers slot (regs.fresh z.block_words block f) (begun_register z.block_words q' block f) in
-    rw (frames, registers) (missed_sound z c h block f slot q' in_range idle absent there free _
-    (missed_orders _ _ _ q' f block h.directory ∙ h.sets) small (QueueSound-given z _ f _ h.directory h.in_memory room h.queue_sound)
-    (rw frames at whole) (rw registers at whole'))
+    let orders = missed_orders z.ways z.block_words c.directory q' f block in
+    let queue = QueueSound-given z _ f _ h.directory h.in_memory room h.queue_sound in
+    rw frames (missed_sound z c h block f slot q' in_range idle absent there free _ (orders ∙ h.sets) small queue (rw frames at whole)
+    whole')
 
 -- ---- What a step says of a unit that is given by its parts.
 

@@ -13,6 +13,7 @@ use Rattle.flat_model.specs.Words.{zero_word, has_any, has_all, merged}
 use Rattle.write_queue.specs.declared.Queued.{Queued}
 use Rattle.input_stack.specs.Stack.{stack_word}
 use Rattle.cache_directory.specs.declared.Cell.{Cell}
+use Rattle.cache_directory.specs.Frames as dir
 use Rattle.cache_unit.specs.declared.Sizes.{Sizes}
 use Rattle.cache_unit.specs.State.{Cache, frame_at, frame_of, is_present, register_at, field_at, live_for, is_pending, cell_of, tags}
 use Rattle.cache_unit.specs.State.{block_of, place_in, first_of, order_of}
@@ -53,9 +54,13 @@ abbrev pub owed_by : ℕ → Option ℕ → List Cell → List Queued
 owed_by words None cells = []
 owed_by words (Some block) cells = dirty_from block (block * words) cells
 
+-- what a frame owes to memory
+abbrev pub owed_words : ℕ → dir.Frames → ℕ → List Queued
+owed_words words d f = owed_by words (dir.frame_at d.frames f).block (dir.frame_at d.frames f).cells
+
 abbrev pub dirty_words : Sizes → Cache → Option ℕ → List Queued
 dirty_words z c None = []
-dirty_words z c (Some f) = owed_by z.block_words (frame_at c f).block (frame_at c f).cells
+dirty_words z c (Some f) = owed_words z.block_words c.directory f
 
 -- ---- causes
 

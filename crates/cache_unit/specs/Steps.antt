@@ -61,14 +61,23 @@ evicted z c block f = record (released z c f) { registers = obsoleted c.register
 
 -- ---- a miss
 
--- the block in its frame, and its register, begin with the newest bytes of its words that are queued
+-- a frame that holds a block gives it up
+abbrev pub given_up : ℕ → dir.Frames → ℕ → dir.Frames
+given_up ways d f = if dir.is_held d f then dir.released ways d f else d
+
+-- a block stands in its frame, which goes last in the order of its set; it begins with the newest bytes of its words that are queued
+abbrev pub frames_with : ℕ → ℕ → dir.Frames → List Queued → ℕ → ℕ → dir.Frames
+frames_with ways words d queue f block =
+    record {
+      frames = slice_set d.frames f (begun_frame words queue block);
+      orders = slice_set d.orders (f / ways) (order_of d (f / ways) ++ f ∷ []);
+    }
+
+-- and so does its register
 unfoldable pub installed : Sizes → Cache → ℕ → ℕ → ℕ → Cache
 installed z c block f slot =
     record c {
-      directory = record {
-        frames = slice_set c.directory.frames f (begun_frame z.block_words c.queue block);
-        orders = slice_set c.directory.orders (block % z.sets) (order_of c.directory (block % z.sets) ++ f ∷ []);
-      };
+      directory = frames_with z.ways z.block_words c.directory c.queue f block;
       registers = slice_set c.registers slot (begun_register z.block_words c.queue block f);
     }
 

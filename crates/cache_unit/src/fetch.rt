@@ -1,5 +1,5 @@
 //! A miss, on the parts of the unit.
-ghost use Rattle.std.specs.Prelude.{◌≡◌, ℕ, ◌+◌, ◌*◌, ◌/◌, ◌^◌, ◌<◌, ◌≤◌, ◌++◌, length, false, None, Some};
+ghost use Rattle.std.specs.Prelude.{◌≡◌, ℕ, ◌+◌, ◌*◌, ◌/◌, ◌^◌, ◌<◌, ◌≤◌, ◌++◌, length, false, None, Some, slice_set};
 ghost use Rattle.cache_directory.specs.Frames as dir;
 ghost use Rattle.miss_registers.specs.Registers as regs;
 ghost use Rattle.miss_registers.specs.Whole as whole;
@@ -7,7 +7,9 @@ ghost use Rattle.write_queue.specs.Queue.{queue as queue_of};
 ghost use Rattle.memory_banks.specs.Banks.{HasSent, commands_for};
 ghost use Rattle.cache_unit.specs.Reads.{block_reads};
 ghost use Rattle.cache_unit.specs.Miss.{chosen_frame};
-ghost use Rattle.cache_unit.specs.GivenUp.{owed_words, missed_frames, missed_registers};
+ghost use Rattle.cache_unit.specs.Causes.{owed_words};
+ghost use Rattle.cache_unit.specs.Begun.{begun_register};
+ghost use Rattle.cache_unit.specs.Steps.{frames_with};
 
 use crate::begin::begin_words;
 use crate::reads::send_reads;
@@ -76,13 +78,15 @@ pub(crate) fn bring_in<L: Lines>(
         sizes.now.block_words))
         ≤ L.room_of lines.old b }
     ensures directory { directory.new
-        ≡ missed_frames sizes.now.ways sizes.now.block_words directory.old
+        ≡ frames_with sizes.now.ways sizes.now.block_words
+        (dir.released sizes.now.ways directory.old places.frame)
         (queue.old.entries ++ owed_words sizes.now.block_words directory.old places.frame) places.frame
         block }
     ensures registers { registers.new
-        ≡ missed_registers sizes.now.block_words registers.old
-        (queue.old.entries ++ owed_words sizes.now.block_words directory.old places.frame) places.frame
-        places.slot block }
+        ≡ slice_set registers.old places.slot
+        (begun_register sizes.now.block_words
+        (queue.old.entries ++ owed_words sizes.now.block_words directory.old places.frame) block
+        places.frame) }
     ensures queue { queue.new
         ≡ queue_of (queue.old.entries ++ owed_words sizes.now.block_words directory.old places.frame)
         queue.old.limit }

@@ -348,7 +348,7 @@ module _ (z : Sizes) (lawful : IsLawful z) (m : Machine) (h : IsSound z m) (bloc
   unfolding installed released
   installed_order own =
       let c = released z m.cache f in
-      InOrder-installed z _ f _ _ own (mod-lt block lawful.some_sets)
+      InOrder-installed z _ f _ _ refl (rw (sym own) at (mod-lt block lawful.some_sets))
       (InOrder-released z _ f (ordered z m h))
 
   order : InOrder z with_block.cache.directory

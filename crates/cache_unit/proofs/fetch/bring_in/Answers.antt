@@ -1,7 +1,9 @@
-use Rattle.std.proofs.Common.{◌<◌, length, sym, ap, ◌∙◌, subst, length-set}
-use Rattle.std.proofs.lemmas.List.{get_or-set_same}
+use Rattle.std.proofs.Common.{◌<◌, ◌++◌, length, sym, ap, ◌∙◌, subst, length-set}
+use Rattle.std.proofs.lemmas.List.{get_or-set_same, set-set}
 use Rattle.cache_directory.proofs.Misses.{MayInstall, installed-here}
 use Rattle.cache_unit.proofs.Choosing.{given_may_install, installed_frames}
+use Rattle.cache_unit.specs.Causes.{owed_words}
+use Rattle.cache_unit.proofs.Fetching.{frames_made}
 use Rattle.cache_directory.specs.Frames as dir
 use Rattle.miss_registers.specs.Registers as regs
 use Rattle.cache_unit.proofs.fetch.bring_in.Goals as goal
@@ -46,3 +48,16 @@ begin_words-requires g c =
       slot = slots;
       allocated = allocated;
     }
+
+pub returns-clause-directory : goal.returns-clause-directory
+returns-clause-directory g c = rw (
+  c.begin_words.ensures.directory,
+  c.install.ensures.installed,
+  c.vacate.ensures.directory,
+  c.vacate.ensures.queue,
+) (frames_made _ _ c.args.directory.now (c.args.queue.now.entries ++ owed_words c.args.sizes.now.block_words c.args.directory.now
+    c.args.places.frame) c.args.places.frame _ c.requires.whole)
+
+pub returns-clause-registers : goal.returns-clause-registers
+returns-clause-registers g c = rw (c.begin_words.ensures.registers, c.allocate.ensures.registers, c.vacate.ensures.queue)
+    (set-set c.args.registers.now c.args.places.slot _ _)

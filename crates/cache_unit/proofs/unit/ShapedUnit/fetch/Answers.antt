@@ -52,13 +52,11 @@ invariant_of-self g c =
 pub returns-clause-unit : goal.returns-clause-unit
 returns-clause-unit g c =
     let s = c.self.inside in
-    let h = c.self.invariant.sound in
     let z = s.sizes in
     let may = rw (← c.self.view_is) at c.requires.may_take in
     let b = c.bring_in.ensures in
     rw (b.directory, b.registers, b.queue, ← c.self.view_is) (ap (made z) (fetched-shown z _ _ c.args.places.frame c.args.places.slot
-    h.directory (cc ((takes_from z _ h (g.L.Lines.room_of _) _ _ may).of_set, h.sets)) (rw (← c.self.view_is) at
-    c.requires.absent) may.frame may.slot))
+    (rw (← c.self.view_is) at c.requires.absent) may.frame may.slot))
 
 pub returns-clause-lines : goal.returns-clause-lines
 returns-clause-lines g c =
