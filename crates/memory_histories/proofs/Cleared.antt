@@ -1,5 +1,5 @@
 -- Lanes that are written over, one by one.
-use Rattle.std.proofs.Common.{◌≡◌, ℕ, suc, ◌+◌, ◌<◌, ◌≤◌, List, [], ◌∷◌, ◌++◌, length, take, drop, get_or, set, Option, None, refl}
+use Rattle.std.proofs.Common.{◌≡◌, ℕ, ◌+◌, ◌<◌, ◌≤◌, List, [], ◌∷◌, ◌++◌, length, take, drop, get_or, set, Option, None, refl}
 use Rattle.std.proofs.Common.{append_assoc, add-one, drop-cons, take-append-drop, append-nil, drop-set-lt, arith}
 use Rattle.std.proofs.lemmas.List.{take_more_set, drop_all}
 use Rattle.memory_histories.specs.Parts.{cleared, cleared_lanes}
@@ -10,11 +10,15 @@ cleared_from k over lanes = take k lanes ++ cleared_lanes (drop k over) (drop k 
 
 pub clear_more : (over lanes : List (Option ℕ)) (k : ℕ) → k < length lanes → k < length over
     → cleared_from (k + 1) over (set lanes k (cleared (get_or over k None) (get_or lanes k None))) ≡ cleared_from k over lanes
-clear_more over lanes k h l =
-    let v = cleared (get_or over k None) (get_or lanes k None) in
-    let t = take_more_set lanes k v h in
-    let d = drop-set-lt (suc k) lanes k v (omega arith) in
-    rw (t, append_assoc, add-one, d, drop-cons over k None l, drop-cons lanes k None h) refl
+clear_more over lanes k h l = grind (
+  arith,
+  take_more_set,
+  append_assoc,
+  add-one,
+  drop-set-lt,
+  drop-cons over k None,
+  drop-cons lanes k None,
+)
 
 pub clear_past : (over lanes : List (Option ℕ)) (k : ℕ) → k < length lanes → length over ≤ k
     → cleared_from (k + 1) over lanes ≡ cleared_from k over lanes

@@ -7,7 +7,6 @@ pub mod ByteSets
 pub mod Live
 pub mod Requests
 pub mod Stands
-pub mod Taken
 -- what is kept of units once a store is answered
 pub mod Lanes
 pub mod Cleared

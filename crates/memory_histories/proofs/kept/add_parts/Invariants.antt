@@ -8,11 +8,11 @@ use Rattle.memory_histories.proofs.kept.add_parts.Given as goal
 
 -- with the bytes of the units that are left it is the whole, and there is room for them
 abbrev pub invariant-loop-unit : goal.invariant-loop-unit
-invariant-loop-unit l = record {
-  stores : parts_bytes l.stores.items
-      ++ filter (λ s. nat_le l.unit (unit_of s.address)) (store_bytes l.number l.address l.bytes l.enables l.moment)
-      ≡ parts_bytes l.initial.stores.items ++ store_bytes l.number l.address l.bytes l.enables l.moment;
-  loads : map (after_stores (filter (λ s. nat_le l.unit (unit_of s.address)) (store_bytes l.number l.address l.bytes l.enables l.moment)))
-      (loads_open l.loads) ≡ map (after_stores (store_bytes l.number l.address l.bytes l.enables l.moment)) (loads_open l.initial.loads);
-  room : vec_len l.stores + (l.last + 1) ≤ vec_capacity l.stores + l.unit;
-}
+invariant-loop-unit l =
+    let all = store_bytes l.number l.address l.bytes l.enables l.moment in
+    let left = filter (λ s. nat_le l.unit (unit_of s.address)) all in
+    record {
+      stores : parts_bytes l.stores.items ++ left ≡ parts_bytes l.initial.stores.items ++ all;
+      loads : map (after_stores left) (loads_open l.loads) ≡ map (after_stores all) (loads_open l.initial.loads);
+      room : vec_len l.stores + (l.last + 1) ≤ vec_capacity l.stores + l.unit;
+    }

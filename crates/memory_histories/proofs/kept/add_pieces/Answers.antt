@@ -1,4 +1,4 @@
-use Rattle.std.proofs.Common.{◌≡◌, ◌+◌, ◌*◌, ◌≤◌, arith, nat_eq}
+use Rattle.std.proofs.Common.{◌≡◌, ◌+◌, arith, nat_eq}
 use Rattle.std.specs.HashMap.{get}
 use Rattle.memory_histories.specs.Shown.{answered_in}
 use Rattle.memory_histories.proofs.ShownSets.{unit_more, from_unit}
@@ -9,15 +9,11 @@ loop-unit-preserved c =
     let a = c.args.address in
     let n = c.args.length in
     let u = c.loop-unit.unit in
-    let from = c.max-from.result in
-    let here : from_unit a n u ≡ from = omega arith in
-    let l : 8 * u ≤ from = omega arith in
-    let m : from + c.min-count.result ≤ 8 * u + 8 = omega arith in
-    let q : from_unit a n (u + 1) ≡ from + c.min-count.result = omega arith in
-    let w : from_unit a n (u + 1) ≤ a + n = omega arith in
+    let here : from_unit a n u ≡ c.max-from.result = omega arith in
     record {
-      items = unit_more c.args.memory.0.now c.args.memory.1 (answered_in (get nat_eq c.args.memory.2.now)) u c.args.number from
-          c.min-count.result (from_unit a n (u + 1)) (a + n) c.args.moment c.loop-unit.sets.items c.add_piece.new.sets.items _ l m q w
-          (rw c.parts_in.ensures at c.add_piece.ensures.items) (rw here at c.loop-unit.invariant.items);
+      items = unit_more c.args.memory.0.now c.args.memory.1 (answered_in (get nat_eq c.args.memory.2.now)) u c.args.number c.max-from.result
+          c.min-count.result (from_unit a n (u + 1)) (a + n) c.args.moment c.loop-unit.sets.items c.add_piece.new.sets.items _ (omega arith)
+          (omega arith) (omega arith) (omega arith) (rw c.parts_in.ensures at c.add_piece.ensures.items)
+          (rw here at c.loop-unit.invariant.items);
       room = omega arith;
     }

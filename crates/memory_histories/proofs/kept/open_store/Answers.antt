@@ -1,5 +1,6 @@
-use Rattle.memory_histories.proofs.Pieces.{opened_parts}
+use Rattle.memory_histories.proofs.Pieces.{filter_open}
+use Rattle.std.proofs.Common.{arith}
 use Rattle.memory_histories.proofs.kept.open_store.Goals as goal
 
 pub returns : goal.returns
-returns c = opened_parts c.open_parts.result c.args.number c.args.stores.now c.open_parts.ensures
+returns c = grind (arith, filter_open)

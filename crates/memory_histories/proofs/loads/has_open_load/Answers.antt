@@ -1,6 +1,6 @@
-use Rattle.std.proofs.Common.{◌∙◌, sym}
+use Rattle.std.proofs.Common.{arith}
 use Rattle.memory_histories.proofs.Opened.{any_open_load}
 use Rattle.memory_histories.proofs.loads.has_open_load.Goals as goal
 
 pub returns : goal.returns
-returns c = c.any_load.ensures ∙ sym (any_open_load c.args.number c.args.loads.now)
+returns c = grind (arith, any_open_load)

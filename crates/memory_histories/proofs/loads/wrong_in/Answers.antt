@@ -1,7 +1,5 @@
-use Rattle.std.proofs.Common.{rules}
 use Rattle.memory_histories.proofs.Opened.{place_bound}
 use Rattle.memory_histories.proofs.loads.wrong_in.Goals as goal
 
 pub returns-then-is_load_of-clause-bound : goal.returns-then-is_load_of-clause-bound
-returns-then-is_load_of-clause-bound c = place_bound c.first_wrong.result c.args.load.now.sets.items c.args.bytes.now
-    (search rules)
+returns-then-is_load_of-clause-bound c = place_bound _ _ _ c.first_wrong.ensures

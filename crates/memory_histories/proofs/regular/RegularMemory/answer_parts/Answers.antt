@@ -1,4 +1,4 @@
-use Rattle.std.proofs.Common.{◌≡◌, nat_eq, ap, ◌∙◌, refl}
+use Rattle.std.proofs.Common.{arith, ◌≡◌, nat_eq, ap, ◌∙◌, refl}
 use Rattle.std.specs.HashMap.{get}
 use Rattle.std.specs.List.{filter}
 use Rattle.std.proofs.Math.Path.{fun_ext}
@@ -14,14 +14,11 @@ unfolding kept
 returns-clause-ok c =
     let m = c.args.self.now in
     let before = answered_in (get nat_eq m.units) in
-    let ending = filter (is_open c.args.number) (parts_bytes m.stores.items) in
-    let cs = c.in_ok-changes.changes.items in
-    let bytes : parts_bytes c.as_slice-2.result.now ≡ ending = ap parts_bytes c.as_slice-2.ensures.value
-    ∙ (c.in_ok-ending.ensures ∙ ap (λ ps. filter (is_open c.args.number) (parts_bytes ps)) c.as_slice.ensures.value) in
+    let ending = parts_bytes c.as_slice-2.result.now in
+    let bytes : ending ≡ filter (is_open c.args.number) (parts_bytes m.stores.items) = grind arith in
     let same : get nat_eq c.reserve.new.self ≡ get nat_eq m.units = fun_ext c.in_ok-reserve.ensures.entries.2 in
     let after : answered_in (get nat_eq c.put_changes.new.units) ≡ (λ unit. answered_after m.moment ending unit (before unit)) =
     fun_ext (λ unit. c.put_changes.ensures unit
-    ∙ (ap (λ units. put_units (answered_in units) cs unit) same
-    ∙ (put_all m.moment c.as_slice-2.result.now before cs c.in_ok-changes.ensures.after c.in_ok-changes.ensures.whole unit
-    ∙ ap (λ xs. answered_after m.moment xs unit (before unit)) bytes))) in
-    rw (after, c.end_store.ensures) refl
+    ∙ (ap (λ units. put_units (answered_in units) c.in_ok-changes.changes.items unit) same
+    ∙ put_all m.moment c.as_slice-2.result.now before _ c.in_ok-changes.ensures.after c.in_ok-changes.ensures.whole unit)) in
+    rw (after, bytes, c.end_store.ensures) refl

@@ -1,12 +1,21 @@
-use Rattle.std.proofs.Common.{ap}
-use Rattle.memory_histories.specs.declared.events.HistoryEvent.TheVariants.{StoreResponse}
+use Rattle.std.proofs.Common.{◌∙◌, ◌+◌, Some, sym, ap}
+use Rattle.memory_histories.specs.Kept.{Kept}
 use Rattle.memory_histories.specs.Shown.{kept}
-use Rattle.memory_histories.proofs.Taken.{later, taken}
 use Rattle.memory_histories.proofs.regular.RegularMemory.take_store_response.Goals as goal
+
+-- what is kept one event later
+abbrev later : Kept → Kept
+later k = record {
+  image = k.image;
+  rest = k.rest;
+  moment = k.moment + 1;
+  stores = k.stores;
+  answered = k.answered;
+  open_bytes = k.open_bytes;
+}
 
 pub returns-clause-ok : goal.returns-clause-ok
 unfolding kept
 returns-clause-ok c =
-    taken (kept c.args.self.now) _ (StoreResponse c.args.number) c.store_response_fault.result
-    c.store_response_fault.ensures c.in_ok-refuse.ensures.none
-    (ap later c.in_ok-answer_store.ensures.ok)
+    rw (sym c.store_response_fault.ensures ∙ c.in_ok-refuse.ensures.none)
+    (ap (λ k. Some (later k)) (sym c.in_ok-answer_store.ensures.ok))
