@@ -1,7 +1,6 @@
 -- Events that a unit takes where it stands: what the search would find, and what is kept of the units.
-use Rattle.std.proofs.Common.{◌≡◌, ◌≢◌, ℕ, zero, suc, ◌*◌, ◌/◌, ◌<◌, ◌≤◌, Bool, true, false}
-use Rattle.std.proofs.Common.{List, [], ◌∷◌, length, take, get_or, Option, Some, None, Result, Ok, Err, IfOk}
-use Rattle.std.proofs.Common.{inl, inr, refl, sym, ap, ap₂, ◌∙◌, subst, arith}
+use Rattle.std.proofs.Common.{◌≡◌, ◌≢◌, ℕ, zero, suc, ◌*◌, ◌/◌, ◌<◌, ◌≤◌, Bool, true, false, List, [], ◌∷◌, length, take, get_or, Option}
+use Rattle.std.proofs.Common.{Some, None, Result, Ok, Err, IfOk, inl, inr, refl, sym, ap, ap₂, ◌∙◌, subst, arith}
 use Rattle.std.specs.List.{find}
 use Rattle.std.proofs.lemmas.List.{length-take-le, take-take, get_or-take}
 use Rattle.std.proofs.lemmas.Bool.{cases_Bool}
@@ -17,25 +16,22 @@ use Rattle.atomic_histories.specs.declared.stretches.Stretch.TheVariants.{Overwr
 use Rattle.atomic_histories.specs.declared.pairs.FollowedPair.{FollowedPair}
 use Rattle.atomic_histories.specs.declared.kept.KeptUnit.{KeptUnit}
 use Rattle.atomic_histories.specs.declared.memory.UnitSize.{UnitSize}
-use Rattle.atomic_histories.specs.declared.memory.UnitSize.TheVariants.{One, Two, Four, Eight}
 use Rattle.atomic_histories.specs.Operations.{Opened, opened_after}
 use Rattle.atomic_histories.specs.Words.{written, is_word_of}
 use Rattle.atomic_histories.specs.Law.{unit_at, may_answer_store, done_store}
 use Rattle.atomic_histories.specs.Pasts.{Past, Stood, stood, begins, after, got, missed, oldest, earlier, cut_for, overwritten}
 use Rattle.atomic_histories.specs.Branches.{may_come}
-use Rattle.atomic_histories.specs.Followed.{Pair, Ways, Aim, first_ways, has_way, effect_aim, word_aim, pair_after}
-use Rattle.atomic_histories.specs.Followed.{out_after, met, found, is_over, needs_more, load_needs_more, needs_too_many, ways_after}
-use Rattle.atomic_histories.specs.Followed.{is_under, loads_without, moment_with, pair_missed, gathered}
-use Rattle.atomic_histories.specs.Followed.{with_hope, answered_load, answered_store, ways_without_load}
+use Rattle.atomic_histories.specs.Followed.{Pair, Ways, Aim, first_ways, has_way, effect_aim, word_aim, pair_after, out_after, met, found}
+use Rattle.atomic_histories.specs.Followed.{is_over, needs_more, load_needs_more, needs_too_many, ways_after, is_under, loads_without}
+use Rattle.atomic_histories.specs.Followed.{moment_with, pair_missed, gathered, with_hope, answered_load, answered_store, ways_without_load}
 use Rattle.atomic_histories.specs.Held.{Held, covered, units_of, is_without, is_stuck, is_over_at}
 use Rattle.atomic_histories.specs.Few.{IsFewFor}
 use Rattle.atomic_histories.specs.Told.{GoOn}
 use Rattle.atomic_histories.specs.Judge.{bytes_of, kept_or, kept_at, words_of, IsTaken}
 use Rattle.atomic_histories.specs.Shown.{past_at, past_of, pasts, shown, shown_all}
 use Rattle.atomic_histories.proofs.Shares.{stands}
-use Rattle.atomic_histories.proofs.MayCome.{word_may_come, effect_comes}
-use Rattle.atomic_histories.proofs.Loops.{same_default}
-use Rattle.atomic_histories.proofs.KeptUnits.{some_oldest}
+use Rattle.atomic_histories.proofs.Answered.{word_may_come, effect_comes}
+use Rattle.atomic_histories.proofs.Loops.{same_default, some_oldest}
 use Rattle.atomic_histories.specs.AtOnce.{IsUnitTaken, AreTaken, AreTakenOrSame}
 
 abbrev Word : Type 0
@@ -50,32 +46,34 @@ met_alone loads moment (suc n) aim e = met_alone loads moment n aim e
 out_here : (goal : Pair → Bool) (e : Pair) → goal e ≡ true → out_after goal [] (e ∷ []) ≡ e ∷ []
 out_here goal e t = grind arith
 
--- a pair that meets what is wanted is the one that is found
-found_here : (loads : List WatchedLoad) (moment : ℕ) (aim : Aim) (e : Pair) → aim.goal e ≡ true
-    → found loads moment aim [] (e ∷ []) ≡ e ∷ []
-found_here loads moment aim e t = grind (arith, out_here, met_alone)
+module _ (loads : List WatchedLoad) (moment : ℕ) (aim : Aim) (e : Pair) where
+  -- a pair that meets what is wanted is the one that is found
+  found_here : aim.goal e ≡ true
+      → found loads moment aim [] (e ∷ []) ≡ e ∷ []
+  found_here t = grind (arith, out_here, met_alone)
 
--- so is what its one store makes of a pair that doesn't
-found_next : (loads : List WatchedLoad) (moment : ℕ) (aim : Aim) (e : Pair) (s : OpenStore) → e.stores ≡ s ∷ [] → s.is_done ≡ false
-    → aim.goal e ≡ false → aim.goal (pair_after (overwritten loads moment e.word e.past) e [] s []) ≡ true
-    → aim.hope (pair_after (overwritten loads moment e.word e.past) e [] s []) ≡ true
-    → found loads moment aim [] (e ∷ []) ≡ pair_after (overwritten loads moment e.word e.past) e [] s [] ∷ []
-found_next loads moment aim e s one open_ f t hope = grind arith
+  -- so is what its one store makes of a pair that doesn't
+  found_next : (s : OpenStore) → e.stores ≡ s ∷ [] → s.is_done ≡ false
+      → aim.goal e ≡ false → aim.goal (pair_after (overwritten loads moment e.word e.past) e [] s []) ≡ true
+      → aim.hope (pair_after (overwritten loads moment e.word e.past) e [] s []) ≡ true
+      → found loads moment aim [] (e ∷ []) ≡ pair_after (overwritten loads moment e.word e.past) e [] s [] ∷ []
+  found_next s one open_ f t hope = grind arith
 
 -- No search follows more than one pair at a time. ----
 
-over_alone : (limit : ℕ) (loads : List WatchedLoad) (moment n : ℕ) (aim : Aim) (e : Pair) → 0 < limit
-    → is_over limit loads moment n aim (e ∷ []) [] ≡ false
-over_alone limit loads moment zero aim e l = refl
-over_alone limit loads moment (suc n) aim e l = grind (arith, over_alone limit loads moment n aim e l)
+module _ (limit : ℕ) (loads : List WatchedLoad) (moment : ℕ) where
+  over_alone : (n : ℕ) (aim : Aim) (e : Pair) → 0 < limit
+      → is_over limit loads moment n aim (e ∷ []) [] ≡ false
+  over_alone zero aim e l = refl
+  over_alone (suc n) aim e l = grind (arith, over_alone n aim e l)
 
-few_here : (limit : ℕ) (loads : List WatchedLoad) (moment : ℕ) (aim : Aim) (e : Pair) → 0 < limit → aim.goal e ≡ true
-    → needs_more limit loads moment aim [] (e ∷ []) ≡ false
-few_here limit loads moment aim e l t = grind (arith, out_here, over_alone)
+  few_here : (aim : Aim) (e : Pair) → 0 < limit → aim.goal e ≡ true
+      → needs_more limit loads moment aim [] (e ∷ []) ≡ false
+  few_here aim e l t = grind (arith, out_here, over_alone)
 
-few_next : (limit : ℕ) (loads : List WatchedLoad) (moment : ℕ) (aim : Aim) (e : Pair) (s : OpenStore) → 0 < limit → e.stores ≡ s ∷ []
-    → aim.goal e ≡ false → needs_more limit loads moment aim [] (e ∷ []) ≡ false
-few_next limit loads moment aim e s l one f = grind arith
+  few_next : (aim : Aim) (e : Pair) (s : OpenStore) → 0 < limit → e.stores ≡ s ∷ []
+      → aim.goal e ≡ false → needs_more limit loads moment aim [] (e ∷ []) ≡ false
+  few_next aim e s l one f = grind arith
 
 -- a store that has taken effect, or the one of a pair that takes effect
 pub few_effects : (limit number : ℕ) (u : Ways) (e : Pair) → 0 < limit → u.pairs ≡ e ∷ [] → may_answer_store number e.stores ≡ true
@@ -116,17 +114,18 @@ stood_at ss end i d b earlier word moment l le is at_ =
     ap (past_at (pasts (take end ss))) at_
     ∙ stands_in ss end i s l le (sym is ∙ same_default ss i d s (omega (arith, l, le)))
 
-pub got_here : (is : Stood → Bool) (p q : Past) (word : Word) (moment : ℕ) → p ≡ after word moment q → is (stood word moment) ≡ true
-    → got is p ≡ Some p
-got_here is p q word moment e t = grind arith
+module _ (is : Stood → Bool) (p q : Past) (word : Word) (moment : ℕ) where
+  pub got_here : p ≡ after word moment q → is (stood word moment) ≡ true
+      → got is p ≡ Some p
+  got_here e t = grind arith
 
-pub missed_here : (is : Stood → Bool) (p q : Past) (word : Word) (moment : ℕ) → p ≡ after word moment q → is (stood word moment) ≡ true
-    → missed is p ≡ None
-missed_here is p q word moment e t = grind arith
+  pub missed_here : p ≡ after word moment q → is (stood word moment) ≡ true
+      → missed is p ≡ None
+  missed_here e t = grind arith
 
-pub missed_later : (is : Stood → Bool) (p q : Past) (word : Word) (moment : ℕ) → p ≡ after word moment q → is (stood word moment) ≡ false
-    → missed is q ≡ None → missed is p ≡ None
-missed_later is p q word moment e f m = grind arith
+  pub missed_later : p ≡ after word moment q → is (stood word moment) ≡ false
+      → missed is q ≡ None → missed is p ≡ None
+  missed_later e f m = grind arith
 
 -- one that may have got the word that the one store makes, where nothing stood before
 load_next : (unit : UnitPlace) (bytes : List ℕ) (l : WatchedLoad) (u : Ways) (e : Pair) (s : OpenStore) → u.pairs ≡ e ∷ []
@@ -154,27 +153,17 @@ few_load limit unit bytes l u e s some one store past f =
       | inl hope ↦
           let left : with_hope aim (gathered (pair_missed unit bytes l) u.pairs) ≡ e ∷ [] = rw (missed_, hope) refl in
           ap₂ (needs_more limit u.loads u.moment aim) got_ left ∙ few_next limit u.loads u.moment aim e s some store f
-      | inr none ↦
-          let left : with_hope aim (gathered (pair_missed unit bytes l) u.pairs) ≡ [] = rw (missed_, none) refl in
-          ap (needs_more limit u.loads u.moment aim (gathered _ u.pairs)) left
+      | inr none ↦ grind arith
     ]
 
 -- What an open load may ask for, once another is answered. ----
 
 pub behind_none : (ls : List WatchedLoad) (moment : ℕ) (word : Word) → oldest ls ≡ None → overwritten ls moment word begins ≡ begins
-behind_none [] moment word h = refl
-behind_none (l ∷ ls) moment word h = absurd (some_oldest l.since ls h)
+behind_none x0 moment word h = grind (arith, some_oldest)
 
 pub cut_none : (ls : List WatchedLoad) (moment : ℕ) (word : Word) → oldest ls ≡ None
     → cut_for (oldest ls) (overwritten ls moment word begins) ≡ overwritten ls moment word begins
-cut_none [] moment word h = refl
-cut_none (l ∷ ls) moment word h = absurd (some_oldest l.since ls h)
-
-cut_left : (ls : List WatchedLoad) (moment : ℕ) (word : Word)
-    → cut_for (oldest ls) (overwritten ls moment word begins) ≡ overwritten ls moment word begins
-    → cut_for (oldest ls) (after word moment begins) ≡ overwritten ls moment word begins
-cut_left [] moment word h = refl
-cut_left (l ∷ ls) moment word h = h
+cut_none x0 moment word h = grind (arith, some_oldest)
 
 -- a pair over whose word another stands, of which no load is asked for but those that are left
 behind : (number moment : ℕ) (ls : List WatchedLoad) (l : WatchedLoad) (es : List Pair) (word new : Word) (stores : List OpenStore)
@@ -187,17 +176,7 @@ behind : (number moment : ℕ) (ls : List WatchedLoad) (l : WatchedLoad) (es : L
       pairs = record { word = new; stores = stores; past = overwritten (loads_without number ls) moment word begins } ∷ [];
     } ≡ ways_without_load number (record { loads = ls; moment = moment; pairs = es })
     (record { word = new; stores = stores; past = overwritten ls moment word begins } ∷ [])
-behind number moment [] l es word new stores is cut_ = cc
-behind number moment (k ∷ ks) l es word new stores is cut_ = elim (cases_Bool (is_under number k)) [
-  | inl t ↦
-      let left = loads_without number ks in
-      rw t (ap (λ past. let w : Ways = record {
-        loads = left;
-        moment = moment_with moment left;
-        pairs = record { word = new; stores = stores; past = past } ∷ [];
-      } in w) (sym (cut_left left moment word (rw t at cut_))))
-  | inr n ↦ rw n refl
-]
+behind number moment x2 l es word new stores is cut_ = grind arith
 
 pub later_taken : (unit : UnitPlace) (bytes : List ℕ) (number : ℕ) (l : WatchedLoad) (u : Ways) (e : Pair) (s : OpenStore)
     → u.pairs ≡ e ∷ []
@@ -229,18 +208,14 @@ store_here number u e one t =
 -- One pair. ----
 
 pub one_pair : (ps : List FollowedPair) (d : FollowedPair) → length ps ≡ 1 → ps ≡ get_or ps 0 d ∷ []
-one_pair [] d h = grind arith
 one_pair (p ∷ []) d h = refl
-one_pair (p ∷ q ∷ ps) d h = grind arith
+one_pair _ d h = grind arith
 
 -- Units. ----
 
 -- the first byte of a unit has an address
 pub number_fits : (size : UnitSize) (a : ℕ) → a < 18446744073709551616 → a / bytes_of size * bytes_of size < 18446744073709551616
-number_fits One a h = omega arith
-number_fits Two a h = omega arith
-number_fits Four a h = omega arith
-number_fits Eight a h = omega arith
+number_fits x0 a h = grind arith
 
 -- the one unit that an event touches took it
 one_taken : (h next : Held) (event : HistoryEvent) (number : ℕ) → number ≡ (covered h.opened event).0 / h.size
@@ -248,13 +223,7 @@ one_taken : (h next : Held) (event : HistoryEvent) (number : ℕ) → number ≡
     → IsUnitTaken (unit_at h.size number) event (h.units number) (next.units number) true
     → ((k : ℕ) → k ≢ number → next.units k ≡ h.units k)
     → next.image ≡ h.image → next.rest ≡ h.rest → next.size ≡ h.size → next.opened ≡ h.opened → AreTaken h event next
-one_taken h next event number here one taken others image rest size opened = record {
-  image = image;
-  rest = rest;
-  size = size;
-  opened = opened;
-  units = grind arith;
-}
+one_taken h next event number here one taken others image rest size opened = grind arith
 
 -- what is kept, with these units
 abbrev kept : List ℕ → Rest → ℕ → Opened → (ℕ → Option KeptUnit) → Held
@@ -277,11 +246,10 @@ pub taken_at : {E : Type 0} (r : Result Bool E) (image : List ℕ) (rest : Rest)
     → ((k : ℕ) → k ≢ number → g k ≡ f k)
     → IfOk r (AreTakenOrSame (kept image rest size opened f) event (kept image rest size opened g))
 taken_at (Err e) image rest size opened event f g number here one taken words others = tt
-taken_at (Ok false) image rest size opened event f g number here one taken words others =
-    same_kept image rest size opened f g number taken (words refl) others
+taken_at (Ok false) image rest size opened event f g number here one taken words others = grind arith
 taken_at (Ok true) image rest size opened event f g number here one taken words others =
     one_taken _ _ event number here one
-    (taken (first_ways image rest (unit_at size number)))
+    (taken _)
     (λ k n. ap (λ x. kept_or x (first_ways image rest (unit_at size k))) (others k n)) refl refl refl refl
 
 -- and it halted nowhere

@@ -1,7 +1,7 @@
 -- Enables beyond the 64 that a number has, and steps of the loops over bytes.
-use Rattle.std.proofs.Common.{◌≡◌, ℕ, zero, suc, ◌+◌, ◌-◌, ◌^◌, ◌<◌, ◌≤◌, true, ◌&&◌, ◌==◌, List, [], ◌∷◌, ◌++◌, length}
-use Rattle.std.proofs.Common.{take, drop, get_or, set, Option, None, slice_get, nat_le, refl, sym, ap, ap₂, ◌∙◌, append_assoc, add-one}
-use Rattle.std.proofs.Common.{drop-cons, take-append-drop, append-nil, drop-set-lt, arith}
+use Rattle.std.proofs.Common.{◌≡◌, ℕ, zero, suc, ◌+◌, ◌-◌, ◌^◌, ◌<◌, ◌≤◌, true, ◌&&◌, ◌==◌, List, [], ◌∷◌, ◌++◌, length, take, drop, get_or}
+use Rattle.std.proofs.Common.{set, Option, None, slice_get, nat_le, refl, sym, ap, ap₂, ◌∙◌, append_assoc, add-one, drop-cons}
+use Rattle.std.proofs.Common.{take-append-drop, append-nil, drop-set-lt, arith}
 use Rattle.std.proofs.lemmas.Nat.Bits.{bit_at_above}
 use Rattle.std.proofs.lemmas.List.{at_drop_more, take_more_set, drop_all}
 use Rattle.std.specs.Option.{option_eq}
@@ -54,11 +54,7 @@ written_from k bytes word = take k word ++ written (drop k bytes) (drop k word)
 pub write_more : (bytes word : List (Option ℕ)) (k : ℕ) → k < length word → k < length bytes
     → written_from (k + 1) bytes (set word k (written_byte (get_or bytes k None) (get_or word k None))) ≡ written_from k bytes word
 unfolding written
-write_more bytes word k h l =
-    let v = written_byte (get_or bytes k None) (get_or word k None) in
-    let t = take_more_set word k v h in
-    let d = drop-set-lt (suc k) word k v (omega arith) in
-    rw (t, append_assoc, add-one, d, drop-cons bytes k None l, drop-cons word k None h) refl
+write_more bytes word k h l = grind (arith, take_more_set, drop-set-lt, append_assoc, add-one, drop-cons)
 
 pub write_past : (bytes word : List (Option ℕ)) (k : ℕ) → k < length word → length bytes ≤ k
     → written_from (k + 1) bytes word ≡ written_from k bytes word

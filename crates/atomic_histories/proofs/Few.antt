@@ -5,7 +5,6 @@ use Rattle.std.proofs.lemmas.List.Elements.{filter-append}
 use Rattle.memory_histories.specs.declared.events.HistoryEvent.{HistoryEvent}
 use Rattle.atomic_histories.specs.declared.search.TheConstants.{MOST_WORDS}
 use Rattle.atomic_histories.specs.declared.stretches.Before.{Before}
-use Rattle.atomic_histories.specs.declared.stretches.Before.TheVariants.{Nothing, Behind}
 use Rattle.atomic_histories.specs.declared.stretches.Stretch.{Stretch}
 use Rattle.atomic_histories.specs.declared.stretches.Stretch.TheVariants.{Overwritten, Either}
 use Rattle.atomic_histories.specs.declared.pairs.FollowedPair.{FollowedPair}
@@ -20,9 +19,8 @@ use Rattle.atomic_histories.proofs.Frames.{more_past}
 use Rattle.std.proofs.lemmas.Bool.{cases_lt}
 
 abbrev is_word : Past → Bool
-is_word begins = false
 is_word (after word moment p) = true
-is_word (either p q) = false
+is_word _ = false
 
 -- those of pasts that begin with a word
 abbrev words_of : List Past → List Past
@@ -40,8 +38,7 @@ among_at words (p ∷ ps) zero h = h.0
 among_at words (p ∷ ps) (suc place) h = among_at words ps place h.1
 
 among_past : (words ps : List Past) (b : Before) → Each (AreAmong words) ps → AreAmong words (past_at ps b)
-among_past words ps Nothing h = tt
-among_past words ps (Behind place) h = among_at words ps place h
+among_past words ps x2 h = grind (arith, among_at)
 
 -- one stretch more
 among_new : (ps : List Past) (s : Stretch) → Each (AreAmong (words_of ps)) ps
@@ -117,5 +114,5 @@ pub few_more : (h : Held) (event : HistoryEvent) (from end next : ℕ) → next 
     → IsFewFor (h.units end) event → AreFew h event from next
 few_more h event from end next e f g = λ j l m. elim (cases_lt j end) [
   | inl below ↦ f j l below
-  | inr above ↦ let same : end ≡ j = omega arith in subst (λ k. IsFewFor (h.units k) event) same g
+  | inr above ↦ grind arith
 ]

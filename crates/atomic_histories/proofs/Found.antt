@@ -1,26 +1,40 @@
 -- The search for the pairs on which a goal is met: what it finds was reached by stores that took effect, and it finds each way there.
-use Rattle.std.proofs.Common.{◌≡◌, ℕ, zero, suc, ◌+◌, ◌<◌, ◌≤◌, ◌⊎◌, Bool, true, false, List, [], ◌∷◌, ◌++◌, length, max, filter, fold}
-use Rattle.std.proofs.Common.{inl, inr, refl, sym, ap, ◌∙◌, subst, append_assoc, append-nil, arith}
-use Rattle.std.proofs.lemmas.Bool.{cases_Bool, and_parts}
+use Rattle.std.proofs.Common.{◌≡◌, ℕ, ◌==◌, List, Option, refl, ap, zero, suc, ◌+◌, ◌<◌, ◌≤◌, ◌⊎◌, Bool, true, false, not, [], ◌∷◌, ◌++◌}
+use Rattle.std.proofs.Common.{length, max, filter, fold, length-append, inl, inr, sym, ◌∙◌, subst, append_assoc, append-nil, arith}
+use Rattle.std.specs.Bool.{Decides}
+use Rattle.std.specs.Option.{option_eq}
+use Rattle.std.proofs.lemmas.Bool.Decides.{Decides-eqb, Decides-like, Decides-and}
+use Rattle.std.proofs.lemmas.Slice.Eq.{slice_eq-Decides}
 use Rattle.atomic_histories.specs.declared.unit.OpenStore.{OpenStore}
+use Rattle.atomic_histories.specs.Followed.{Pair, is_same_word, is_same_store, is_same_pair, Aim, way_on, pair_after, cons_effect}
+use Rattle.atomic_histories.specs.Followed.{effects_from, effects, merged_pair, with_pair, with_pairs, out_of, next_of, out_after, met}
+use Rattle.atomic_histories.specs.Followed.{rounds, found}
+use Rattle.std.proofs.lemmas.Bool.{cases_Bool, cond_both}
+use Rattle.std.proofs.lemmas.List.Sums.{length-filter, count_by-le-length}
+use Rattle.std.proofs.lemmas.List.Elements.{filter-append}
 use Rattle.atomic_histories.specs.declared.unit.WatchedLoad.{WatchedLoad}
 use Rattle.atomic_histories.specs.Law.{UnitMemory, HiddenStep, done_store}
 use Rattle.atomic_histories.specs.Pasts.{Past, Stood, stood, Has, overwritten}
 use Rattle.atomic_histories.specs.Branches.{Branch, effect_of}
-use Rattle.atomic_histories.specs.Followed.{Pair, Aim, way_on, pair_after, cons_effect, effects_from, effects}
-use Rattle.atomic_histories.specs.Followed.{is_same_pair, merged_pair, with_pair, with_pairs, out_of, next_of, out_after}
-use Rattle.atomic_histories.specs.Followed.{met, rounds, found}
 use Rattle.atomic_histories.specs.Stands.{Each, One, EachWay, OneWay, IsAsked, IsPairBy, IsOn, Leads, now, later}
-use Rattle.atomic_histories.proofs.Lists.{one_weaker, one_none, one_or, one_filter, each_filter}
-use Rattle.atomic_histories.proofs.SameWords.{same_word, same_stores}
-use Rattle.atomic_histories.proofs.Steps.{sound_effect}
+use Rattle.atomic_histories.proofs.Lists.{one_weaker, one_none, one_or, one_filter, each_filter, fold_each, fold_one}
+use Rattle.atomic_histories.proofs.Events.{sound_effect}
 use Rattle.atomic_histories.proofs.Paths.{some_path, merged_has, has_merged, by_overwritten, watched_more}
 
--- Pairs that are one. ----
+byte_decides : (a b : Option ℕ) → Decides (option_eq ◌==◌ a b) (a ≡ b)
+byte_decides x0 x1 = grind arith
 
-pub pair_parts : (f e : Pair) → is_same_pair f e ≡ true → (f.word ≡ e.word) × (f.stores ≡ e.stores)
+word_decides : (a b : List (Option ℕ)) → Decides (is_same_word a b) (a ≡ b)
+word_decides a b = slice_eq-Decides byte_decides a b _ refl
+
+store_decides : (a b : OpenStore) → Decides (is_same_store a b) (a ≡ b)
+store_decides a b = grind (arith, Decides-like, Decides-and, Decides-eqb, word_decides)
+
+pub pair_decides : (f e : Pair) → Decides (is_same_pair f e) ((f.word ≡ e.word) × (f.stores ≡ e.stores))
 unfolding is_same_pair
-pair_parts f e h = grind (arith, and_parts, same_word, same_stores)
+pair_decides f e = grind (arith, Decides-and, word_decides, slice_eq-Decides, store_decides)
+
+-- Pairs that are one. ----
 
 -- what holds of one of two holds of the two merged
 abbrev pub IsTaken : (Pair → Type 0) → Type 0
@@ -33,101 +47,48 @@ IsJoint Q = (f e : Pair) → is_same_pair f e ≡ true → Q f → Q e → Q (me
 -- a way to one is a way to the other
 same_way : (loads : List WatchedLoad) (f e : Pair) (path : List Stood) → is_same_pair f e ≡ true
     → way_on loads e path ≡ way_on loads (merged_pair f e) path
-same_way loads f e path h = grind (arith, pair_parts)
+same_way loads f e path h = grind (arith, pair_decides)
 
 pub one_taken : (loads : List WatchedLoad) (P : Branch → Type 0) → IsTaken (OneWay loads P)
-one_taken loads P f e h (inl o) = (o.0, merged_has f.past e.past o.0 (inl o.1), o.2)
-one_taken loads P f e h (inr o) = grind (arith, merged_has, same_way)
+one_taken loads x1 f e h x5 = grind (arith, merged_has, same_way)
 
 pub each_joint : (loads : List WatchedLoad) (P : Branch → Type 0) → IsJoint (EachWay loads P)
-each_joint loads P f e h a b = λ path has. elim (has_merged f.past e.past path has) [
-  | inl x ↦ a path x
-  | inr x ↦ subst P (same_way loads f e path h) (b path x)
-]
+each_joint loads P f e h a b = grind (arith, has_merged, same_way)
 
 pub by_joint : (moment : ℕ) → IsJoint (IsPairBy moment)
 by_joint moment f e h a b = grind arith
 
 -- One more pair. ----
 
-one_with : (Q : Pair → Type 0) → IsTaken Q → (es : List Pair) (e : Pair) → One Q es → One Q (with_pair es e)
-one_with Q t [] e h = absurd h
-one_with Q t (f ∷ fs) e h = elim (cases_Bool _) [
-  | inl y ↦
-      let on : One Q (merged_pair f e ∷ fs) = elim h [ inl q ↦ inl (t f e y (inl q)) | inr r ↦ inr r ] in
-      rw y on
-  | inr n ↦
-      let on : One Q (f ∷ with_pair fs e) = elim h [ inl q ↦ inl q | inr r ↦ inr (one_with Q t fs e r) ] in
-      rw n on
-]
-
-new_with : (Q : Pair → Type 0) → IsTaken Q → (es : List Pair) (e : Pair) → Q e → One Q (with_pair es e)
-new_with Q t [] e q = inl q
-new_with Q t (f ∷ fs) e q = elim (cases_Bool _) [
-  | inl y ↦ let on = inl (t f e y (inr q)) in rw y on
-  | inr n ↦ let on = inr (new_with Q t fs e q) in rw n on
-]
+one_with : (Q : Pair → Type 0) → IsTaken Q → (es : List Pair) (e : Pair) → One Q es ⊎ Q e → One Q (with_pair es e)
+one_with Q t [] e h = elim h [ inl o ↦ absurd o | inr q ↦ inl q ]
+one_with Q t (f ∷ fs) e (inl (inl q)) = grind arith
+one_with Q t (f ∷ fs) e (inl (inr h)) = grind (arith, one_with Q t fs e (inl h))
+one_with Q t (f ∷ fs) e (inr q) = grind (arith, one_with Q t fs e (inr q))
 
 pub each_with : (Q : Pair → Type 0) → IsJoint Q → (es : List Pair) (e : Pair) → Each Q es → Q e → Each Q (with_pair es e)
 each_with Q j [] e a q = (q, tt)
-each_with Q j (f ∷ fs) e a q = elim (cases_Bool (is_same_pair f e)) [
-  | inl y ↦ rw y (j f e y a.0 q, a.1)
-  | inr n ↦ rw n (a.0, each_with Q j fs e a.1 q)
-]
+each_with Q j (f ∷ fs) e a q = grind (arith, each_with Q j fs e a.1 q)
 
-one_withs : (Q : Pair → Type 0) → IsTaken Q → (es more : List Pair) → One Q es → One Q (with_pairs es more)
-one_withs Q t es [] h = h
-one_withs Q t es (e ∷ more) h = one_withs Q t (with_pair es e) more (one_with Q t es e h)
-
-new_withs : (Q : Pair → Type 0) → IsTaken Q → (es more : List Pair) → One Q more → One Q (with_pairs es more)
-new_withs Q t es [] h = absurd h
-new_withs Q t es (e ∷ more) (inl q) = one_withs Q t _ more (new_with Q t es e q)
-new_withs Q t es (e ∷ more) (inr h) = new_withs Q t (with_pair es e) more h
+one_withs : (Q : Pair → Type 0) → IsTaken Q → (es more : List Pair) → One Q es ⊎ One Q more → One Q (with_pairs es more)
+one_withs Q t es more h = fold_one _ Q with_pair (one_with Q t) es more h
 
 each_withs : (Q : Pair → Type 0) → IsJoint Q → (es more : List Pair) → Each Q es → Each Q more → Each Q (with_pairs es more)
-each_withs Q j es [] a b = a
-each_withs Q j es (e ∷ more) a b = each_withs Q j (with_pair es e) more (each_with Q j es e a b.0) b.1
+each_withs Q j es more a b = fold_each _ Q with_pair (each_with Q j) es more a b
 
 -- The pairs on. ----
 
 one_cons : (Q : Pair → Type 0) (b : Bool) (x : Pair) (es : List Pair) → One Q es → One Q (cons_effect b x es)
-one_cons Q true x es h = h
-one_cons Q false x es h = inr h
-
-new_cons : (Q : Pair → Type 0) (b : Bool) (x : Pair) (es : List Pair) → b ≡ false → Q x → One Q (cons_effect b x es)
-new_cons Q true x es e q = cc
-new_cons Q false x es e q = inl q
+one_cons x0 x1 x es h = grind arith
 
 each_cons : (Q : Pair → Type 0) (b : Bool) (x : Pair) (es : List Pair) → (b ≡ false → Q x) → Each Q es → Each Q (cons_effect b x es)
-each_cons Q true x es f a = a
-each_cons Q false x es f a = (f refl, a)
+each_cons x0 x1 x es f a = grind arith
 
-head_same : {X : Type 0} (x y : X) (xs ys : List X) → x ∷ xs ≡ y ∷ ys → x ≡ y
-head_same x y xs ys e = cc
-
-tail_same : {X : Type 0} (x y : X) (xs ys : List X) → x ∷ xs ≡ y ∷ ys → xs ≡ ys
-tail_same x y xs ys e = cc
-
-one_effect : (Q : Pair → Type 0) (p : Past) (e : Pair) (past ss before : List OpenStore) (s : OpenStore) (after : List OpenStore)
-    → ss ≡ before ++ s ∷ after → s.is_done ≡ false
-    → Q (pair_after p e (past ++ before) s after) → One Q (effects_from p e past ss)
-one_effect Q p e past [] [] s after split open_ q = cc
-one_effect Q p e past [] (b ∷ bs) s after split open_ q = cc
-one_effect Q p e past (x ∷ xs) [] s after split open_ q =
-    let x_s = head_same x s xs after split in
-    let xs_after = tail_same x s xs after split in
-    let q1 = subst (λ b. Q (pair_after p e b s after)) (append-nil past) q in
-    let q2 =
-    subst (λ y. Q (pair_after p e past y xs)) (sym x_s) (rw (sym xs_after) at q1) in
-    new_cons Q x.is_done _ _ (cc (x_s, open_)) q2
-one_effect Q p e past (x ∷ xs) (b ∷ bs) s after split open_ q =
-    let x_b = head_same x b xs _ split in
-    let rest = tail_same x b xs _ split in
-    let q1 = subst (λ y. Q (pair_after p e (past ++ y ∷ bs) s after)) (sym x_b) q in
-    let q2 =
-    subst (λ b. Q (pair_after p e b s after)) (sym (append_assoc past (x ∷ []) bs)) q1 in
-    one_cons Q x.is_done _ _
-    (one_effect Q p e (past ++ x ∷ []) xs bs s after rest open_ q2)
+one_effect : (Q : Pair → Type 0) (p : Past) (e : Pair) (past before : List OpenStore) (s : OpenStore) (after : List OpenStore)
+    → s.is_done ≡ false → Q (pair_after p e (past ++ before) s after) → One Q (effects_from p e past (before ++ s ∷ after))
+one_effect Q p e past [] s after o q = rw o (inl (rw append-nil at q))
+one_effect Q p e past (b ∷ bs) s after o q =
+    one_cons Q b.is_done _ _ (one_effect Q p e _ bs s after o (rw (sym (append_assoc past (b ∷ []) bs)) at q))
 
 each_effect : (Q : Pair → Type 0) (p : Past) (e : Pair) (past ss : List OpenStore)
     → ((before : List OpenStore) (s : OpenStore) (after : List OpenStore) → ss ≡ before ++ s ∷ after → s.is_done ≡ false
@@ -140,26 +101,12 @@ each_effect Q p e past (x ∷ xs) f =
     subst (λ b. Q (pair_after p e b s after)) (sym (append_assoc past (x ∷ []) before)) (f _ s after (ap (λ t. x ∷ t) split) o)))
 
 -- how many steps a pair is from the one at which all stores have taken effect
-abbrev undone_of : Bool → ℕ
-undone_of true = 0
-undone_of false = 1
-
 abbrev pub undone : List OpenStore → ℕ
-undone [] = 0
-undone (s ∷ ss) = undone_of s.is_done + undone ss
-
-undone_most : (b : Bool) → undone_of b ≤ 1
-undone_most true = omega arith
-undone_most false = omega arith
-
-undone_length : (ss : List OpenStore) → undone ss ≤ length ss
-undone_length [] = omega arith
-undone_length (s ∷ ss) = omega (arith, undone_most s.is_done, undone_length ss)
+undone ss = length (filter (λ s. not s.is_done) ss)
 
 pub undone_less : (before : List OpenStore) (s : OpenStore) (after : List OpenStore) → s.is_done ≡ false
     → undone (before ++ s ∷ after) ≡ suc (undone (before ++ done_store s ∷ after))
-undone_less [] s after o = rw o (omega arith)
-undone_less (b ∷ bs) s after o = omega (arith, undone_less bs s after o)
+undone_less before s after o = grind (arith, filter-append, length-append)
 
 more_rounds : (n : ℕ) (es : List Pair) → n ≤ fold (λ k e. max k (length e.stores)) n es
 more_rounds n [] = omega arith
@@ -168,8 +115,8 @@ more_rounds n (e ∷ es) = let h = more_rounds (max n (length e.stores)) es in o
 pub one_rounds : (Q : Pair → Type 0) (n : ℕ) (es : List Pair) → One Q es
     → One (λ e. Q e × (undone e.stores ≤ fold (λ k x. max k (length x.stores)) n es)) es
 one_rounds Q n [] h = absurd h
-one_rounds Q n (e ∷ es) (inl q) = grind (arith, more_rounds, e.stores, undone_length)
-one_rounds Q n (e ∷ es) (inr h) = inr (one_rounds Q (max n (length e.stores)) es h)
+one_rounds Q n (e ∷ es) (inl q) = grind (arith, more_rounds, e.stores, length-filter, count_by-le-length)
+one_rounds Q n (e ∷ es) (inr h) = inr (one_rounds Q (max n _) es h)
 
 -- The loads that are open, and the moment. ----
 
@@ -232,55 +179,37 @@ module _ (loads : List WatchedLoad) (moment : ℕ) (asked : Each (IsAsked moment
 
   -- One round. ----
 
-  out_keeps : (Q : Pair → Type 0) → IsTaken Q → (goal : Pair → Bool) (out es : List Pair) → One Q out → One Q (out_after goal out es)
-  out_keeps Q t goal out [] h = h
-  out_keeps Q t goal out (e ∷ es) h = elim (cases_Bool (goal e)) [
-    | inl u ↦ rw u (out_keeps Q t goal (with_pair out e) es (one_with Q t out e h))
-    | inr f ↦ rw f (out_keeps Q t goal out es h)
-  ]
-
   out_finds : (Q : Pair → Type 0) → IsTaken Q → (goal : Pair → Bool) (out es : List Pair)
-      → One (λ e. (goal e ≡ true) × Q e) es → One Q (out_after goal out es)
-  out_finds Q t goal out [] h = absurd h
-  out_finds Q t goal out (e ∷ es) (inl p) = rw p.0 (out_keeps Q t goal (with_pair out e) es (new_with Q t out e p.1))
-  out_finds Q t goal out (e ∷ es) (inr h) = out_finds Q t goal (out_of goal out e) es h
-
-  next_keeps : (Q : Pair → Type 0) → IsTaken Q → (aim : Aim) (next es : List Pair) → One Q next
-      → One Q (fold (next_of loads moment aim) next es)
-  next_keeps Q t aim next [] h = h
-  next_keeps Q t aim next (e ∷ es) h = elim (cases_Bool (aim.goal e)) [
-    | inl u ↦ rw u (next_keeps Q t aim next es h)
-    | inr f ↦
-        let on = filter aim.hope _ in
-        rw f (next_keeps Q t aim (with_pairs next on) es (one_withs Q t next on h))
-  ]
+      → One Q out ⊎ One (λ e. (goal e ≡ true) × Q e) es → One Q (out_after goal out es)
+  out_finds Q t goal out es h = fold_one (One Q) _ _ step out es h
+    where
+      step : (x : List Pair) (e : Pair) → One Q x ⊎ ((goal e ≡ true) × Q e) → One Q (out_of goal x e)
+      step x e (inl o) = cond_both _ _ _ (One Q) (λ u. one_with Q t x e (inl o)) (λ f. o)
+      step x e (inr p) = rw p.0 (one_with Q t x e (inr p.1))
 
   pub next_finds : (Q : Pair → Type 0) → IsTaken Q → (aim : Aim) (next es : List Pair)
-      → One (λ e. (aim.goal e ≡ false) × One Q (filter aim.hope (effects loads moment e))) es
+      → One Q next ⊎ One (λ e. (aim.goal e ≡ false) × One Q (filter aim.hope (effects loads moment e))) es
       → One Q (fold (next_of loads moment aim) next es)
-  next_finds Q t aim next [] h = absurd h
-  next_finds Q t aim next (e ∷ es) (inl p) = grind (arith, aim.hope, next_keeps, new_withs)
-  next_finds Q t aim next (e ∷ es) (inr h) = next_finds Q t aim (next_of loads moment aim next e) es h
+  next_finds Q t aim next es h = fold_one (One Q) _ _ step next es h
+    where
+      step : (x : List Pair) (e : Pair) → One Q x ⊎ ((aim.goal e ≡ false) × One Q (filter aim.hope (effects loads moment e)))
+          → One Q (next_of loads moment aim x e)
+      step x e (inl o) = cond_both _ _ _ (One Q) (λ u. o) (λ f. one_withs Q t x (filter aim.hope (effects loads moment e)) (inl o))
+      step x e (inr p) = rw p.0 (one_withs Q t x _ (inr p.1))
 
   -- what is found has a property that those which meet the goal have
   pub out_sound : (S R : Pair → Type 0) → IsJoint R → (goal : Pair → Bool) → ((e : Pair) → S e → goal e ≡ true → R e) → (out es : List Pair)
       → Each R out → Each S es → Each R (out_after goal out es)
-  out_sound S R j goal g out [] a b = a
-  out_sound S R j goal g out (e ∷ es) a b = elim (cases_Bool (goal e)) [
-    | inl t ↦ rw t (out_sound S R j goal g (with_pair out e) es (each_with R j out e a (g e b.0 t)) b.1)
-    | inr f ↦ rw f (out_sound S R j goal g out es a b.1)
-  ]
+  out_sound S R j goal g out es a b =
+      fold_each (Each R) S _
+      (λ x e r s. cond_both _ _ _ (Each R) (λ t. each_with R j x e r (g e s t)) (λ f. r)) out es a b
 
   pub next_sound : (S : Pair → Type 0) → IsJoint S → IsKept S → (aim : Aim) (next es : List Pair) → Each S next → Each S es
       → Each S (fold (next_of loads moment aim) next es)
-  next_sound S j kept aim next [] a b = a
-  next_sound S j kept aim next (e ∷ es) a b = elim (cases_Bool (aim.goal e)) [
-    | inl t ↦ rw t (next_sound S j kept aim next es a b.1)
-    | inr f ↦
-        let on = filter aim.hope _ in
-        rw f (next_sound S j kept aim (with_pairs next on) es
-        (each_withs S j next on a (each_filter S aim.hope (effects loads moment e) (each_effects S kept e b.0))) b.1)
-  ]
+  next_sound S j kept aim next es a b =
+      fold_each (Each S) S _
+      (λ x e r s. cond_both _ _ _ (Each S) (λ t. r)
+      (λ f. each_withs S j x _ r (each_filter S aim.hope _ (each_effects S kept e s)))) next es a b
 
   -- All rounds. ----
 
@@ -309,10 +238,9 @@ module _ (loads : List WatchedLoad) (moment : ℕ) (asked : Each (IsAsked moment
       split : Leads (way_on loads e path) m → undone e.stores < suc n → IsOn (way_on loads e path) m ⊎ One Q (effects loads moment e)
       split (now o) l = inl o
       split (later before s after is open_ r) l =
-          let less : undone e.stores ≡ suc _ = ap undone is ∙ undone_less before s after open_ in
+          let less = ap undone is ∙ undone_less before s after open_ in
           let p = on_path e before s after path has in
-          let few : undone _ < n = omega arith in
-          inr (one_effect Q _ e [] e.stores before s after is open_ (f before s after p.0 p.1 p.2 (r, few)))
+          inr (rw is (one_effect Q _ e [] before s after open_ (f before s after p.0 p.1 p.2 (r, omega arith))))
 
   -- The goal is met late: of the ways that haven't met it each state that it is about has it now or behind more effects. ----
 
@@ -336,7 +264,7 @@ module _ (loads : List WatchedLoad) (moment : ℕ) (asked : Each (IsAsked moment
         → One (Way n) (filter aim.hope (effects loads moment e))
     way_split n aim f e away w =
         elim (leads_split m (λ x. Way n x × (aim.hope x ≡ true)) n e w.0 w.1 w.2.0 on) [
-          | inl o ↦ let x = sym (f.here e w.0 w.2.1 o) ∙ away in cc
+          | inl o ↦ cc (f.here e w.0 w.2.1 o)
           | inr o ↦ one_filter _ aim.hope _ o
         ]
       where
@@ -345,10 +273,9 @@ module _ (loads : List WatchedLoad) (moment : ℕ) (asked : Each (IsAsked moment
             → LeadsWithin m n (effect_of (way_on loads e w.0) before s after)
             → Way n (pair_after (past_on e) e before s after) × (aim.hope (pair_after (past_on e) e before s after) ≡ true)
         on before s after more has same r =
-            let x = pair_after _ e before s after in
             let lead = subst (LeadsWithin m n) (sym same) r in
             let late = subst Late (sym same) (f.stays e w.0 before s after away w.2.1) in
-            ((more, has, (lead, late)), f.hopes x more late lead.0)
+            ((more, has, (lead, late)), f.hopes _ more late lead.0)
 
     none_within : (e : Pair) → Way zero e → ⊥
     none_within e w = grind arith
@@ -359,8 +286,8 @@ module _ (loads : List WatchedLoad) (moment : ℕ) (asked : Each (IsAsked moment
     met_finds aim f zero out es (inl h) = h
     met_finds aim f zero out es (inr h) = absurd (one_none es (one_weaker _ (λ e. ⊥) none_within es h))
     met_finds aim f (suc n) out es h =
-        let t : IsTaken LeadsThere = one_taken loads (λ b. Leads b m) in
-        let u : IsTaken _ = one_taken loads (λ b. LeadsWithin m n b × Late b) in
+        let t = one_taken loads (λ b. Leads b m) in
+        let u = one_taken loads (λ b. LeadsWithin m n b × Late b) in
         let Here : Pair → Type 0 = λ e. (aim.goal e ≡ true) × LeadsThere e in
         let There : Pair → Type 0 = λ e. (aim.goal e ≡ false) × One _ _ in
         let either : (e : Pair) → Way _ e → Here e ⊎ There e = λ e w. elim (cases_Bool _) [
@@ -369,12 +296,12 @@ module _ (loads : List WatchedLoad) (moment : ℕ) (asked : Each (IsAsked moment
         ] in
         elim h [
           | inl o ↦ met_finds aim f n _ _
-              (inl (out_keeps LeadsThere t aim.goal out es o))
+              (inl (out_finds LeadsThere t aim.goal out es (inl o)))
           | inr o ↦ elim (one_or Here There es (one_weaker _ (λ e. Here e ⊎ There e) either es o)) [
             | inl a ↦ met_finds aim f n _ _
-                (inl (out_finds LeadsThere t aim.goal out es a))
+                (inl (out_finds LeadsThere t aim.goal out es (inr a)))
             | inr a ↦ met_finds aim f n _ _
-                (inr (next_finds (Way n) u aim [] es a))
+                (inr (next_finds _ u aim [] es (inr a)))
           ]
         ]
 

@@ -1,15 +1,14 @@
 -- What stretches show, of which more are pushed behind those that there are.
-use Rattle.std.proofs.Common.{◌≡◌, ℕ, ◌+◌, ◌<◌, ◌≤◌, false, List, [], ◌∷◌, ◌++◌, fold, length, get_or, length-append}
-use Rattle.std.proofs.Common.{append_assoc, refl, sym, ap, ap₂, ◌∙◌, arith}
+use Rattle.std.proofs.Common.{◌≡◌, ℕ, ◌+◌, ◌<◌, ◌≤◌, false, List, [], ◌∷◌, ◌++◌, fold, length, get_or, length-append, append_assoc, refl}
+use Rattle.std.proofs.Common.{sym, ap, ap₂, ◌∙◌, arith}
 use Rattle.std.proofs.lemmas.List.{get_or_append_left, append-nil}
 use Rattle.std.proofs.Math.Seq.{get_or-append_seam}
 use Rattle.std.proofs.lemmas.List.Sums.{fold-append}
 use Rattle.atomic_histories.specs.declared.stretches.Before.{Before}
 use Rattle.atomic_histories.specs.declared.stretches.Before.TheVariants.{Nothing, Behind}
 use Rattle.atomic_histories.specs.declared.stretches.Stretch.{Stretch}
-use Rattle.atomic_histories.specs.declared.stretches.Stretch.TheVariants.{Overwritten, Either}
 use Rattle.atomic_histories.specs.declared.pairs.FollowedPair.{FollowedPair}
-use Rattle.atomic_histories.specs.Pasts.{Past, begins, after, either, is_beginning, merged}
+use Rattle.atomic_histories.specs.Pasts.{Past, begins, either, is_beginning, merged}
 use Rattle.atomic_histories.specs.Stands.{Each}
 use Rattle.atomic_histories.specs.Shown.{past_at, past_of, pasts, IsIn, Grows, shown, shown_all, AreIn}
 use Rattle.atomic_histories.proofs.Lists.{each_weaker, each_append, each_nth}
@@ -24,10 +23,7 @@ pasts_push ss s = fold-append more_past [] ss _
 
 length_more : (ps : List Past) (ss : List Stretch) → length (fold more_past ps ss) ≡ length ps + length ss
 length_more ps [] = omega arith
-length_more ps (s ∷ ss) =
-    let h = length_more (more_past ps s) ss in
-    let one = length-append ps (past_of ps s ∷ []) in
-    omega (arith, h, one)
+length_more ps (s ∷ ss) = grind (arith, length_more (more_past ps s) ss, length-append)
 
 pub length_pasts : (ss : List Stretch) → length (pasts ss) ≡ length ss
 length_pasts ss = grind (arith, length_more)
@@ -46,8 +42,7 @@ pasts_append ss more =
 
 -- a stretch shows a word at least
 more_of : (ps : List Past) (s : Stretch) → is_beginning (past_of ps s) ≡ false
-more_of ps (Overwritten word moment before) = refl
-more_of ps (Either one other) = refl
+more_of ps x1 = grind arith
 
 more_in : (ps : List Past) (ss : List Stretch) → Each (λ p. is_beginning p ≡ false) ps
     → Each (λ p. is_beginning p ≡ false) (fold more_past ps ss)
@@ -62,18 +57,17 @@ merged_first : (p q : Past) → is_beginning p ≡ false → merged p q ≡ eith
 merged_first p q h = rw h refl
 
 merged_second : (p q : Past) → is_beginning q ≡ false → merged p q ≡ either p q
-merged_second begins q h = rw h refl
-merged_second (after word moment p) q h = refl
-merged_second (either o p) q h = refl
+merged_second x0 q h = grind arith
 
--- one of two references is to one of them
-pub merged_one : (ss : List Stretch) (one other : Before) (place : ℕ) → one ≡ Behind place → IsIn ss one
-    → merged (past_at (pasts ss) one) (past_at (pasts ss) other) ≡ either (past_at (pasts ss) one) (past_at (pasts ss) other)
-merged_one ss one other place e i = grind (arith, more_behind, merged_first)
+module _ (ss : List Stretch) (one other : Before) (place : ℕ) where
+  -- one of two references is to one of them
+  pub merged_one : one ≡ Behind place → IsIn ss one
+      → merged (past_at (pasts ss) one) (past_at (pasts ss) other) ≡ either (past_at (pasts ss) one) (past_at (pasts ss) other)
+  merged_one e i = grind (arith, more_behind, merged_first)
 
-pub merged_other : (ss : List Stretch) (one other : Before) (place : ℕ) → other ≡ Behind place → IsIn ss other
-    → merged (past_at (pasts ss) one) (past_at (pasts ss) other) ≡ either (past_at (pasts ss) one) (past_at (pasts ss) other)
-merged_other ss one other place e i = grind (arith, more_behind, merged_second)
+  pub merged_other : other ≡ Behind place → IsIn ss other
+      → merged (past_at (pasts ss) one) (past_at (pasts ss) other) ≡ either (past_at (pasts ss) one) (past_at (pasts ss) other)
+  merged_other e i = grind (arith, more_behind, merged_second)
 
 -- More stretches. ----
 
@@ -87,8 +81,7 @@ pub grows_longer : (ss ts : List Stretch) → Grows ss ts → length ss ≤ leng
 grows_longer ss ts g = grind (arith, length-append)
 
 pub in_grown : (ss ts : List Stretch) → Grows ss ts → (b : Before) → IsIn ss b → IsIn ts b
-in_grown ss ts g Nothing h = tt
-in_grown ss ts g (Behind place) h = omega (arith, grows_longer ss ts g, h)
+in_grown ss ts g x3 h = grind (arith, grows_longer)
 
 pub past_grown : (ss ts : List Stretch) → Grows ss ts → (b : Before) → IsIn ss b → past_at (pasts ts) b ≡ past_at (pasts ss) b
 past_grown ss ts g Nothing h = refl

@@ -1,16 +1,14 @@
 -- Words by their lanes, and what holds of each byte that a unit may have.
-use Rattle.std.proofs.Common.{◌≡◌, ℕ, zero, suc, ◌+◌, ◌<◌, ◌⊎◌, Bool, true, false, if◌then◌else◌, nat_lt, List, [], ◌∷◌, Option}
-use Rattle.std.proofs.Common.{Some, None, inl, inr, refl, sym, ◌∙◌, subst, arith}
-use Rattle.std.proofs.lemmas.Bool.{cases_lt, and_parts, and_from, lt-ltb, le-ltb}
-use Rattle.std.proofs.lemmas.List.{get_or_past}
+use Rattle.std.proofs.Common.{◌≡◌, ℕ, zero, suc, ◌+◌, ◌<◌, ◌⊎◌, Bool, true, false, if◌then◌else◌, nat_lt, List, [], ◌∷◌, Option, Some, None}
+use Rattle.std.proofs.Common.{inl, inr, refl, sym, ◌∙◌, subst, arith}
+use Rattle.std.proofs.lemmas.Bool.{cases_lt, and_parts, and_from}
 use Rattle.std.proofs.lemmas.List.FromFn.{get_or-map-range_with_len}
 use Rattle.std.proofs.lemmas.Option.{same_Some}
 use Rattle.memory_histories.specs.declared.events.HistoryEvent.{HistoryEvent}
-use Rattle.memory_histories.specs.declared.events.HistoryEvent.TheVariants.{LoadRequest, LoadResponse, StoreRequest, StoreResponse}
+use Rattle.memory_histories.specs.declared.events.HistoryEvent.TheVariants.{StoreRequest}
 use Rattle.atomic_histories.specs.declared.unit.UnitPlace.{UnitPlace}
 use Rattle.atomic_histories.specs.Words.{at_unit, at_lane, stored_byte, byte_for, written, is_as_it_stood, is_word_of}
-use Rattle.atomic_histories.specs.Law.{UnitMemory, HiddenStep, MayBe, starts, steps, sees}
-use Rattle.atomic_histories.specs.Law.{with_load, with_store, seen}
+use Rattle.atomic_histories.specs.Law.{UnitMemory, HiddenStep, MayBe, starts, steps, sees, with_load, with_store, seen}
 use Rattle.atomic_histories.specs.Stands.{Each}
 use Rattle.atomic_histories.specs.May.{lane_of}
 use Rattle.atomic_histories.proofs.Lists.{each_append, each_at, each_replace, each_filter, each_split}
@@ -23,14 +21,13 @@ Word = List (Option ℕ)
 
 -- of a byte that isn't asked for nothing is said
 pub none_asked : (x : Option ℕ) → is_as_it_stood x None ≡ true
-none_asked None = refl
-none_asked (Some b) = refl
+none_asked x0 = grind arith
 
 pub word_lane : (first : ℕ) (w : Word) (a : ℕ) (bs : List ℕ) (j : ℕ) → is_word_of first w a bs ≡ true
     → is_as_it_stood (lane_of j w) (byte_for a bs (first + j)) ≡ true
 unfolding is_word_of
 word_lane first [] a bs j h = refl
-word_lane first (x ∷ w) a bs zero h = subst (λ p. is_as_it_stood x (byte_for a bs p) ≡ true) (omega arith) (and_parts _ _ h).0
+word_lane first (x ∷ w) a bs zero h = grind arith
 word_lane first (x ∷ w) a bs (suc j) h =
     subst (λ p. is_as_it_stood (lane_of j w) (byte_for a bs p) ≡ true) (omega arith) (word_lane (first + 1) w a bs j (and_parts _ _ h).1)
 
@@ -49,24 +46,19 @@ AreLanes P w = (j b : ℕ) → lane_of j w ≡ Some b → P j b
 
 written_lane : (bs ws : Word) (j b : ℕ) → lane_of j (written bs ws) ≡ Some b → (lane_of j bs ≡ Some b) ⊎ (lane_of j ws ≡ Some b)
 unfolding written
-written_lane [] ws j b h = inr h
-written_lane (x ∷ bs) [] j b h = inr h
-written_lane (None ∷ bs) (w ∷ ws) zero b h = inr h
 written_lane (Some x ∷ bs) (w ∷ ws) zero b h = inl h
 written_lane (x ∷ bs) (w ∷ ws) (suc j) b h = written_lane bs ws j b h
+written_lane _ _ _ b h = inr h
 
 then_some : {c : ℕ} (t : (ℕ → Option ℕ)) (j size : ℕ) → (if nat_lt j size then t j else None) ≡ Some c → (j < size) × (t j ≡ Some c)
-then_some t j size h = elim (cases_lt j size) [
-  | inl l ↦ (l, (rw (lt-ltb j size l) at h))
-  | inr l ↦ let x = (rw (le-ltb j size l) at h) in cc
-]
+then_some t j size h = grind arith
 
 pub unit_lane : (unit : UnitPlace) (f : ℕ → Option ℕ) (j b : ℕ) → lane_of j (at_unit unit f) ≡ Some b
     → (j < unit.size) × (f (unit.first + j) ≡ Some b)
 unit_lane unit f j b h = elim (cases_lt j 8) [
   | inl l ↦ then_some (λ k. f (unit.first + k)) j unit.size
       (sym (get_or-map-range_with_len (at_lane unit f) 0 8 j j None l (omega arith)) ∙ h)
-  | inr l ↦ let x = sym (get_or_past (at_unit unit f) j None l) ∙ h in cc
+  | inr l ↦ grind arith
 ]
 
 -- What holds of each byte that a unit may have. ----
@@ -110,7 +102,7 @@ module _ (P : ℕ → ℕ → Type 0) where
   holds_requested m number address true h = record {
     word = h.word;
     stores = h.stores;
-    loads = each_append (λ x. HasGot x.got) _ _ h.loads (tt, tt);
+    loads = grind (arith, each_append);
   }
 
   holds_stored : (m : UnitMemory) (number : ℕ) (bytes : Word) → AreLanes P bytes → (b : Bool) → Holds m
@@ -118,16 +110,13 @@ module _ (P : ℕ → ℕ → Type 0) where
   holds_stored m number bytes p false h = h
   holds_stored m number bytes p true h = record {
     word = h.word;
-    stores = each_append (λ x. AreLanes P x.bytes) _ _ h.stores (p, tt);
+    stores = grind (arith, each_append);
     loads = h.loads;
   }
 
   holds_seen : (unit : UnitPlace) (m n : UnitMemory) (event : HistoryEvent) → Writes unit event → Holds m → seen unit m event ≡ Some n
       → Holds n
-  holds_seen unit m n (LoadRequest number address k) w h e = grind (arith, same_Some, holds_requested)
-  holds_seen unit m n (LoadResponse number bytes) w h e = grind (arith, some_if, bytes.now, each_filter)
-  holds_seen unit m n (StoreRequest number address bytes enables) w h e = grind (arith, bytes.now, same_Some, holds_stored)
-  holds_seen unit m n (StoreResponse number) w h e = grind (arith, some_if, each_filter)
+  holds_seen unit m n x3 w h e = grind (arith, same_Some, holds_requested, some_if, each_filter, holds_stored)
 
   pub holds : (unit : UnitPlace) (start : UnitMemory) → Holds start → {history : List HistoryEvent} {m : UnitMemory}
       → MayBe unit start history m → Each (Writes unit) history → Holds m

@@ -1,7 +1,5 @@
 -- the lemmas of the crate: of lists and of the law, of pasts and of pairs, of loops over them
-pub mod Alone
 pub mod Answered
-pub mod Answering
 pub mod Apart
 pub mod AtOnce
 pub mod Bits
@@ -10,13 +8,11 @@ pub mod Exact
 pub mod Few
 pub mod Found
 pub mod Frames
-pub mod KeptUnits
 pub mod Lanes
 pub mod Links
 pub mod Lists
 pub mod Loops
 pub mod Marks
-pub mod MayCome
 pub mod MayLaws
 pub mod MaySteps
 pub mod Merges
@@ -24,13 +20,9 @@ pub mod Moving
 pub mod Parts
 pub mod Paths
 pub mod Ranges
-pub mod Returns
-pub mod SameWords
 pub mod Shares
 pub mod ShownBytes
-pub mod Steps
 pub mod Verdict
 pub mod Whole
 pub mod Wide
-pub mod Told
 pub mod Worked

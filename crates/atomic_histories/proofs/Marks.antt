@@ -1,27 +1,22 @@
 -- Pairs beside their marks: ways to one pair have one mark.
-use Rattle.std.proofs.Common.{◌≡◌, ℕ, zero, suc, ◌+◌, ◌<◌, ◌≤◌, true, false, ◌==◌, List, [], ◌∷◌, map, fold, drop, length, get_or, add-one}
-use Rattle.std.proofs.Common.{refl, sym, ap, ap₂, ◌∙◌, eq-eqb, inl, inr, arith}
-use Rattle.std.proofs.lemmas.Bool.{cases_Bool, cases_lt, and_parts}
+use Rattle.std.proofs.Common.{◌≡◌, ℕ, zero, suc, ◌+◌, ◌<◌, ◌≤◌, true, false, ◌==◌, List, [], ◌∷◌, map, drop, length, get_or, add-one, refl}
+use Rattle.std.proofs.Common.{sym, ap, ap₂, ◌∙◌, eq-eqb, inl, inr, arith}
+use Rattle.std.proofs.lemmas.Bool.{cases_lt}
 use Rattle.std.proofs.lemmas.List.{drop_all, get_or-map, length-map}
 use Rattle.atomic_histories.specs.declared.stretches.Stretch.{Stretch}
 use Rattle.atomic_histories.specs.declared.pairs.FollowedPair.{FollowedPair}
 use Rattle.atomic_histories.specs.Followed.{is_same_pair}
 use Rattle.atomic_histories.specs.Shown.{shown}
-use Rattle.atomic_histories.specs.Marks.{mark, mark_of, with_byte, with_store, before_mark}
-use Rattle.atomic_histories.proofs.SameWords.{same_word, same_stores}
+use Rattle.atomic_histories.specs.Marks.{mark, mark_of, before_mark}
+use Rattle.atomic_histories.proofs.Found.{pair_decides}
 
 same_mark : (ss : List Stretch) (p q : FollowedPair) → is_same_pair (shown ss p) (shown ss q) ≡ true → mark p ≡ mark q
-unfolding mark_of is_same_pair
-same_mark ss p q h =
-    let r = and_parts _ _ h in
-    ap₂ (λ w s. fold with_store (fold with_byte 0 w) s) (same_word p.word q.word r.0) (same_stores p.stores.items q.stores.items r.1)
+unfolding mark_of
+same_mark ss p q h = grind (arith, pair_decides)
 
 -- pairs with another mark are others
 pub other_pair : (ss : List Stretch) (p q : FollowedPair) → (mark p == mark q) ≡ false → is_same_pair (shown ss p) (shown ss q) ≡ false
-other_pair ss p q h = elim (cases_Bool _) [
-  | inl t ↦ let x = sym (eq-eqb (mark p) (mark q) (same_mark ss p q t)) ∙ h in cc
-  | inr o ↦ o
-]
+other_pair ss p q h = grind (arith, eq-eqb, same_mark)
 
 -- Marks one by one. ----
 
@@ -44,12 +39,8 @@ pub no_mark : (ms : List ℕ) (at n : ℕ) → length ms ≤ at → at + before_
 no_mark ms at n h = grind (arith, drop_all)
 
 before_other : (ms : List ℕ) (n k d : ℕ) → k < before_mark n ms → (get_or ms k d == n) ≡ false
-before_other [] n k d h = grind arith
-before_other (m ∷ ms) n zero d h = grind arith
-before_other (m ∷ ms) n (suc k) d h = elim (cases_Bool (m == n)) [
-  | inl t ↦ let x = rw t at h in absurd (omega (arith, x))
-  | inr o ↦ let x = rw o at h in before_other ms n k d (omega (arith, x))
-]
+before_other (m ∷ ms) n (suc k) d h = grind (arith, before_other ms n k d)
+before_other _ n _ d h = grind arith
 
 -- the marks from a place on to the next that is this one
 passed_by : (ms : List ℕ) (n from k d : ℕ) → from ≤ k → k < from + before_mark n (drop from ms) → (get_or ms k d == n) ≡ false

@@ -1,54 +1,417 @@
 -- What an open load may return is what the answers have that would be taken now.
-use Rattle.std.proofs.Common.{◌≡◌, ℕ, zero, suc, ◌+◌, ◌-◌, ◌*◌, ◌/◌, ◌%◌, ◌<◌, ◌≤◌, ◌↔◌, Bool, true, false, ◌||◌, not, ◌==◌, if◌then◌else◌}
-use Rattle.std.proofs.Common.{List, [], ◌∷◌, ◌++◌, map, length, Option, Some, None, slice_get, inl, inr, refl, sym, ap, ◌∙◌}
-use Rattle.std.proofs.Common.{subst, leb-true, ltb-true, eqb-true, eq-eqb, arith}
-use Rattle.std.specs.Borrow.{Bor}
-use Rattle.std.specs.List.{All, find, list_any, range_with_len}
-use Rattle.std.proofs.lemmas.Nat.{div-mul-add, mod-mul-add, div-add-mod'}
-use Rattle.std.proofs.lemmas.Bool.{cases_Bool, cases_lt, and_parts, and_from, lt-ltb, lt-leb, le-leb, or_right}
-use Rattle.std.proofs.lemmas.List.{same_from_push}
-use Rattle.std.proofs.lemmas.List.Elements.{All-head, All-tail, All-map}
-use Rattle.std.proofs.lemmas.List.FromFn.{get_or-map-range_with_len, length-map-range_with_len}
-use Rattle.std.proofs.lemmas.Option.{slice_get_within, slice_get_past, slice_get_read}
+use Rattle.atomic_histories.proofs.Links.{watched_any, none_got, fit_by, found_fit, inside_end, IsAlone, found_each, AreDistinct, is_of}
+use Rattle.atomic_histories.proofs.Links.{linked, then_some, each_none, alone, has_address, is_there, HaveGot, shown_word, the_load}
+use Rattle.atomic_histories.proofs.Links.{got_between}
+use Rattle.memory_histories.proofs.Lists.{list_any-map}
+use Rattle.std.proofs.Common.{◌≡◌, ℕ, zero, suc, ◌+◌, ◌/◌, ◌<◌, ◌≤◌, ◌⊎◌, ◌↔◌, Bool, true, false, ◌&&◌, ◌||◌, ◌==◌, nat_le, List, []}
+use Rattle.std.proofs.Common.{is_some, ap₂, ◌∷◌, ◌++◌, map, filter, length, Option, Some, None, Result, Ok, Err, IfOk, slice_get, inl, inr}
+use Rattle.std.proofs.Common.{refl, sym, ap, ◌∙◌, subst, arith, ◌-◌, ◌*◌, ◌%◌, not, if◌then◌else◌, eqb-true, eq-eqb}
+use Rattle.std.specs.List.{list_any, find, All, range_with_len}
+use Rattle.std.proofs.lemmas.Bool.{cases_Bool, and_parts, and_from, or_cases, or_right, or_left, lt-ltb, lt-leb, le-leb, cases_eq}
+use Rattle.std.proofs.lemmas.List.Folds.{list_any-append}
 use Rattle.memory_histories.specs.declared.events.HistoryEvent.{HistoryEvent}
-use Rattle.memory_histories.specs.declared.events.HistoryEvent.TheVariants.{LoadRequest, LoadResponse, StoreRequest, StoreResponse}
 use Rattle.memory_histories.specs.declared.events.Rest.{Rest}
-use Rattle.memory_histories.specs.declared.events.Rest.TheVariants.{Zeros, Unknown}
+use Rattle.memory_histories.specs.declared.sets.ByteSet.{ByteSet}
+use Rattle.memory_histories.specs.Sets.{has}
 use Rattle.atomic_histories.specs.declared.unit.Operation.{Operation}
 use Rattle.atomic_histories.specs.declared.unit.UnitPlace.{UnitPlace}
+use Rattle.atomic_histories.specs.declared.unit.WatchedLoad.{WatchedLoad}
+use Rattle.atomic_histories.specs.Operations.{opened_by, has_number, none_opened, answer_fault}
+use Rattle.atomic_histories.specs.Law.{OpenLoad, UnitMemory, HiddenStep, MayBe, steps, untouched, unit_at, is_load, sees, done_load, is_got}
+use Rattle.atomic_histories.specs.Law.{may_answer_load, without_load, seen, is_formed, IsAtomicAt}
+use Rattle.atomic_histories.specs.Pasts.{Past, begins, after, either, Stood, Has, shows, seen_since, got, after_any, merged_any}
+use Rattle.atomic_histories.specs.Branches.{Watched, Branch, is_watched}
+use Rattle.atomic_histories.specs.Followed.{Pair, Ways, never, watched, way_on, effects, is_under, next_after, rounds}
+use Rattle.atomic_histories.specs.Stands.{Each, One, EachWay, OneWay, IsAsked, IsPairBy, MayHaveGot, IsWatched, AreWatched, IsOn, Leads}
+use Rattle.atomic_histories.specs.Stands.{now, later, StandsFor}
+use Rattle.atomic_histories.specs.Held.{Held, StandsBut, is_lost}
+use Rattle.atomic_histories.specs.May.{lane_of, may_show, has_got, got_byte, MayGet, MayReturn, AreSetsOf, IsSetOf, asks, reached_in}
+use Rattle.atomic_histories.specs.May.{reached, shows_byte, is_shown, IsSet, may_get_at, address_of, AreSetsFrom, IsByteOf, HasSets}
+use Rattle.atomic_histories.proofs.Lists.{one_weaker, one_none, one_or, one_elim, each_both, find_one, one_any, one_each, one_filter}
+use Rattle.atomic_histories.proofs.Lists.{each_two, one_two, find_none, each_weaker, each_at, all_each, each_all, each_from_all}
+use Rattle.atomic_histories.proofs.Answered.{find_watched, seen_test, any_found, any_true}
+use Rattle.atomic_histories.proofs.Exact.{SoundOn, not_yet, watched_not_yet, last_seen}
+use Rattle.atomic_histories.proofs.Found.{leads_split, sound_joint, sound_kept, next_sound, next_finds, one_taken, undone, one_rounds}
+use Rattle.atomic_histories.proofs.Found.{LeadsWithin}
+use Rattle.atomic_histories.proofs.Whole.{alone_under, formed_more}
+use Rattle.atomic_histories.proofs.Paths.{some_path, part_has, has_part, HasAny}
+use Rattle.std.specs.Borrow.{Bor}
+use Rattle.std.proofs.lemmas.Nat.{div-mul-add, mod-mul-add, div-add-mod'}
+use Rattle.std.proofs.lemmas.List.Elements.{All-map}
+use Rattle.std.proofs.lemmas.List.FromFn.{get_or-map-range_with_len, length-map-range_with_len}
+use Rattle.std.proofs.lemmas.Option.{slice_get_within, slice_get_past, slice_get_read, get_or_from_slice_get}
+use Rattle.memory_histories.specs.declared.events.HistoryEvent.TheVariants.{LoadResponse, StoreRequest}
 use Rattle.atomic_histories.specs.Words.{first_byte, initial_byte, byte_for, stored_byte, is_as_it_stood, is_word_of}
-use Rattle.atomic_histories.specs.Operations.{none_opened, opened_by, has_number, answer_fault}
-use Rattle.atomic_histories.specs.Law.{OpenLoad, UnitMemory, MayBe, starts, steps, sees, untouched, done_load, is_load, is_got}
-use Rattle.atomic_histories.specs.Law.{may_answer_load, without_load, seen, unit_at, is_formed, IsAtomicAt}
-use Rattle.atomic_histories.specs.Stands.{Each, One}
-use Rattle.atomic_histories.specs.Held.{is_lost}
-use Rattle.atomic_histories.specs.May.{lane_of, may_show, got_byte, MayGet, MayReturn, asks}
 use Rattle.atomic_histories.specs.MayLaws.{IsByte, StoresBytes, IsOfLaw, MayAnswer, HasAnswer, HasAnswerFor, SetsAreOfAnswers}
 use Rattle.atomic_histories.specs.MayLaws.{SetIsOfAnswers, AreSameIn, HasAnswerIn, UnitsChooseAlone}
-use Rattle.atomic_histories.proofs.Lists.{one_elim, one_each, one_any, one_weaker, each_weaker, each_both, each_at, all_each, each_all}
-use Rattle.atomic_histories.proofs.Lists.{each_from_all, no_snoc}
-use Rattle.atomic_histories.proofs.Links.{AreDistinct, is_of, fit_by, linked, then_some}
-use Rattle.atomic_histories.proofs.Whole.{formed_more}
 use Rattle.atomic_histories.proofs.Verdict.{formed_last}
 use Rattle.atomic_histories.proofs.Lanes.{AreLanes, HasGot, Holds, Writes, holds, word_lane, lane_word, unit_lane}
-use Rattle.atomic_histories.proofs.Alone.{IsAlone, alone, has_address, is_there, HaveGot, each_none, shown_word, the_load, got_between}
 
 abbrev Word : Type 0
 Word = List (Option ℕ)
 
+-- One way. ----
+
+-- whether a load shows this byte
+abbrev shows_load : ℕ → ℕ → ℕ → Branch → Watched → Bool
+shows_load number k b e l =
+    is_watched number l && (may_show (lane_of k e.word) b || list_any (λ w. may_show (lane_of k w) b) l.words)
+
+-- What is shown may be got. ----
+
+word_shown : (k b : ℕ) (e : Branch) (l : Watched)
+    → (may_show (lane_of k e.word) b || list_any (λ w. may_show (lane_of k w) b) l.words) ≡ true
+    → (v : Word) × (may_show (lane_of k v) b ≡ true) × MayHaveGot e.word l.words (Some v)
+word_shown k b e l h = grind (arith, any_found)
+
+with_got : (number k b : ℕ) (e : Branch) (ls : List Watched) → list_any (shows_load number k b e) ls ≡ true
+    → (ms : List OpenLoad) × AreWatched e.word ls ms × (list_any (got_byte number k b) ms ≡ true)
+with_got number k b e [] h = cc
+with_got number k b e (l ∷ ls) h = elim (cases_Bool _) [
+  | inl t ↦
+      let p = and_parts _
+      (may_show _ b || list_any (λ w. may_show _ b) l.words) t in
+      let v = word_shown k b e l p.1 in
+      let m : OpenLoad = record { number = l.number; address = l.address; got = Some v.0 } in
+      let got : got_byte number k b m ≡ true = and_from _ _ p.0 v.1 in (
+        m ∷ map not_yet ls,
+        ((refl, refl, v.2), watched_not_yet e.word ls),
+        or_left _
+            _ got,
+      )
+  | inr f ↦
+      let r = with_got number k b e ls (rw f at h) in
+      (not_yet l ∷ r.0, (first, r.1), or_right _ _ r.2)
+]
+  where
+    first : IsWatched e.word l (not_yet l)
+    first = (refl, refl, tt)
+
+shown_got : (number k b : ℕ) (P : UnitMemory → Type 0) (e : Branch) → SoundOn P e → list_any (shows_load number k b e) e.loads ≡ true
+    → (m : UnitMemory) × P m × (list_any (got_byte number k b) m.loads ≡ true)
+shown_got number k b P e s h =
+    let r = with_got number k b e e.loads h in
+    let m : UnitMemory = record { word = e.word; stores = e.stores; loads = r.0 } in
+    (m, s m (record { word = refl; stores = refl; loads = r.1 }), r.2)
+
+got_shown : (k b : ℕ) (e : Branch) (l : Watched) (g : Option Word) → has_got k b g ≡ true → MayHaveGot e.word l.words g
+    → (may_show (lane_of k e.word) b || list_any (λ w. may_show (lane_of k w) b) l.words) ≡ true
+got_shown k b e l None t h = cc
+got_shown k b e l (Some v) t (inl same) = grind arith
+got_shown k b e l (Some v) t (inr past) =
+    or_right _ (list_any (λ w. may_show _ b) l.words)
+    (any_true (λ w. may_show _ b) v l.words t past)
+
+loads_show : (number k b : ℕ) (e : Branch) (ls : List Watched) (ms : List OpenLoad) → AreWatched e.word ls ms
+    → list_any (got_byte number k b) ms ≡ true
+    → list_any (shows_load number k b e) ls ≡ true
+loads_show number k b e [] [] a h = cc
+loads_show number k b e (l ∷ ls) (m ∷ ms) a h = elim (cases_Bool _) [
+  | inl t ↦
+      let p = and_parts _ _ t in
+      or_left _ _
+      (and_from _
+      (may_show _ b || list_any (λ w. may_show _ b) l.words) (ap (λ i. i == number) a.0.0 ∙ p.0)
+      (got_shown k b e l m.got p.1 a.0.2))
+  | inr f ↦ or_right _ _
+      (loads_show number k b e ls ms a.1 (rw f at h))
+]
+loads_show number k b e _ _ a h = absurd a
+
+-- The ways to a pair. ----
+
+-- whether a word that stood there since a moment passes a test
+abbrev since_then : (Word → Bool) → ℕ → Stood → Bool
+since_then is since s = nat_le since s.moment && is s.word
+
+module _ (is : Word → Bool) (since : ℕ) where
+  shows_got : (p : Past) → shows is since p ≡ is_some (got (since_then is since) p)
+  shows_got begins = refl
+  shows_got (after w t p) = elim (cases_Bool (nat_le since t && is w)) [
+    | inl y ↦ rw y refl
+    | inr f ↦ rw f (shows_got p ∙ more _)
+  ]
+    where
+      more : (o : Option Past) → is_some o ≡ is_some (after_any w t o)
+      more None = refl
+      more _ = refl
+  shows_got (either p q) = ap₂ ◌||◌ (shows_got p) (shows_got q) ∙ both _ _
+    where
+      both : (a b : Option Past) → (is_some a || is_some b) ≡ is_some (merged_any a b)
+      both None b = refl
+      both _ None = refl
+      both _ _ = refl
+
+  past_shows : (p : Past) → shows is since p ≡ true
+      → (path : List Stood) × Has p path × (list_any is (seen_since since path) ≡ true)
+  past_shows p h =
+      let r = some _ (sym (shows_got p) ∙ h) in
+      let g = has_part true _ p r.0 r.1 in
+      (r.0, g.0, sym (seen_test is since r.0) ∙ g.1)
+    where
+      some : (o : Option Past) → is_some o ≡ true → (path : List Stood) × HasAny o path
+      some None h = cc
+      some (Some q) h = some_path q
+
+  shows_past : (p : Past) (path : List Stood) → Has p path → list_any is (seen_since since path) ≡ true
+      → shows is since p ≡ true
+  shows_past p path has h =
+      shows_got p ∙ some _ (part_has true _ p path has (seen_test is since path ∙ h))
+    where
+      some : (o : Option Past) → HasAny o path → is_some o ≡ true
+      some None h = absurd h
+      some _ h = refl
+
+module _ (loads : List WatchedLoad) (moment : ℕ) (asked : Each (IsAsked moment) loads) (number k b : ℕ) (l : WatchedLoad)
+    (open_ : find (is_under number) loads ≡ Some l) where
+  abbrev is : Word → Bool
+  is = λ w. may_show (lane_of k w) b
+
+  abbrev shown : Pair → Bool
+  shown e = shows_byte l.since k b e
+
+  -- a way that shows what a pair does
+  way_shows : (e : Pair) → shown e ≡ true
+      → (path : List Stood) × Has e.past path × (list_any (shows_load number k b (way_on loads e path)) (map (watched path) loads) ≡ true)
+  way_shows e h =
+      let r : (path : List Stood) × Has e.past path × ((is e.word || list_any is (seen_since l.since path)) ≡ true) =
+      elim (or_cases _ _ h) [
+        | inl y ↦ let r = some_path e.past in (r.0, r.1, or_left _ _ y)
+        | inr y ↦ let r = past_shows is l.since e.past y in (r.0, r.1, or_right _ _ r.2)
+      ] in
+      let there =
+      find_one (is_watched number) _ _ (find_watched number r.0 loads l open_) in (
+        r.0,
+        r.1,
+        one_any _ _ (one_weaker _ (λ x. shows_load number k b (way_on loads e r.0) x ≡ true)
+            (λ x q. and_from _ _ q.1 (ap (λ y. is e.word || list_any is y.words) q.0 ∙ r.2)) _ there),
+      )
+
+  module _ (P : UnitMemory → Type 0) (closed : (m n : UnitMemory) → P m → HiddenStep m n → P n) where
+    abbrev Sound : Pair → Type 0
+    Sound e = EachWay loads (SoundOn P) e × IsPairBy moment e
+
+    got_by_pair : (e : Pair) → Sound e → shown e ≡ true → (m : UnitMemory) × P m × (list_any (got_byte number k b) m.loads ≡ true)
+    got_by_pair e s h = let r = way_shows e h in shown_got number k b P _ (s.0 r.0 r.1) r.2
+
+    any_got : (es : List Pair) → Each Sound es → list_any shown es ≡ true
+        → (m : UnitMemory) × P m × (list_any (got_byte number k b) m.loads ≡ true)
+    any_got es a h =
+        let r = any_found shown es h in
+        one_elim _ _ es (one_each _ Sound es r.2 a) (λ e q. got_by_pair e q.1 (ap shown (sym q.0) ∙ r.1))
+
+    reached_got : (n : ℕ) (es : List Pair) → Each Sound es → list_any shown (reached_in loads moment n es) ≡ true
+        → (m : UnitMemory) × P m × (list_any (got_byte number k b) m.loads ≡ true)
+    reached_got zero es a h = cc
+    reached_got (suc n) es a h =
+        let next = next_after loads moment never es in
+        let each =
+        next_sound loads moment asked Sound (sound_joint loads moment asked P) (sound_kept loads moment asked P closed) never [] es tt a in
+        elim (or_cases (list_any shown next) (list_any shown (reached_in loads moment n next))
+        (sym (list_any-append shown next (reached_in loads moment n next)) ∙ h)) [
+          | inl t ↦ any_got next each t
+          | inr f ↦ reached_got n next each f
+        ]
+
+  -- What may be got is shown. ----
+
+  module _ (alone : IsAlone (is_under number) loads) where
+    one_shows : (e : Pair) (path : List Stood) → Has e.past path → (ls : List WatchedLoad)
+        → Each (λ x. is_under number x ≡ true → x ≡ l) ls
+        → list_any (shows_load number k b (way_on loads e path)) (map (watched path) ls) ≡ true → shown e ≡ true
+    one_shows e path has [] a h = cc
+    one_shows e path has (x ∷ xs) a h =
+        elim (or_cases _ _ h) [
+          | inr r ↦ one_shows e path has xs a.1 r
+          | inl t ↦
+              let p = and_parts _ _ t in
+              let same = a.0 p.0 in
+              let there =
+              ap (λ y. is e.word || list_any is (seen_since y.since path)) (sym same) ∙ p.1 in
+              elim (or_cases _ _ there) [
+                | inl y ↦ or_left _ (shows is l.since e.past) y
+                | inr y ↦ grind (arith, or_right, shows_past)
+              ]
+        ]
+
+    module _ (m : UnitMemory) (got : list_any (got_byte number k b) m.loads ≡ true) where
+      here_shows : (e : Pair) (path : List Stood) → Has e.past path → IsOn (way_on loads e path) m → shown e ≡ true
+      here_shows e path has o =
+          one_shows e path has loads (found_each (is_under number) loads l alone open_)
+          (loads_show number k b (way_on loads e path) (map (watched path) loads) m.loads o.loads got)
+
+      -- a way is not late for anything
+      abbrev Never : Branch → Type 0
+      Never x = Unit {0}
+
+      abbrev There : ℕ → Pair → Type 0
+      There n e = OneWay loads (λ x. LeadsWithin loads moment asked m n x) e
+
+      none_there : (e : Pair) → There zero e → ⊥
+      none_there e w = grind arith
+
+      keep_there : (n : ℕ) (e : Pair) → There (suc n) e → (shown e ≡ true) ⊎ One (There n) (effects loads moment e)
+      keep_there n e w =
+          elim (leads_split loads moment asked m _ n e w.0 w.1 w.2
+          (λ before s after more has same r. (more, has, subst (LeadsWithin loads moment asked m n) (sym same) r))) [
+            | inl o ↦ inl (here_shows e w.0 w.1 o)
+            | inr o ↦ inr o
+          ]
+
+      -- a way that leads to the state comes to a pair that shows it
+      comes_there : (n : ℕ) (es : List Pair) → One (There (suc n)) es
+          → (list_any shown es || list_any shown (reached_in loads moment n es)) ≡ true
+      comes_there zero es h =
+          or_left _ false
+          (one_any shown es (one_weaker _ (λ e. shown e ≡ true)
+          (λ e w. elim (keep_there zero e w) [
+            | inl t ↦ t
+            | inr o ↦ absurd (one_none _ (one_weaker _ (λ x. ⊥) none_there _ o))
+          ]) es h))
+      comes_there (suc n) es h =
+          let next = next_after loads moment never es in
+          let More : Pair → Type 0 = λ e. (never.goal e ≡ false) × One (There (suc n)) (filter never.hope (effects loads moment e)) in
+          let either =
+          one_weaker _ (λ e. (shown e ≡ true) ⊎ More e)
+          (λ e w. elim (keep_there _ e w) [
+            | inl t ↦ inl t
+            | inr o ↦ inr (refl, one_filter _ never.hope _ (one_weaker _ _ (λ x w. (w, refl)) _ o))
+          ]) es h in
+          elim (one_or (λ e. shown e ≡ true) More es either) [
+            | inl a ↦ or_left _ _ (one_any shown es a)
+            | inr a ↦
+                let rest = comes_there n next (next_finds loads moment asked _
+                (one_taken loads (LeadsWithin loads moment asked m _)) never [] es (inr a)) in
+                or_right _ _
+                (list_any-append shown next _ ∙ rest)
+          ]
+
+      pub is_reached : (es : List Pair) → One (OneWay loads (λ x. Leads x m)) es
+          → list_any shown (es ++ reached_in loads moment (rounds es) es) ≡ true
+      is_reached es h =
+          let Q = OneWay loads (λ x. Leads x m) in
+          let n = rounds es in
+          let ways =
+          one_weaker (λ e. Q e × (undone e.stores ≤ n)) _ (λ e p. (p.0.0, p.0.1, (p.0.2, omega (arith, p.1)))) es
+          (one_rounds Q 0 es h) in
+          list_any-append shown es _ ∙ comes_there n es ways
+
+-- One unit. ----
+
+-- where a way leads those loads are open that are on it
+leads_any : (number : ℕ) {e : Branch} {m : UnitMemory} → Leads e m
+    → list_any (is_load number) m.loads ≡ list_any (is_watched number) e.loads
+leads_any number {e} {m} (now o) = watched_any number e.word e.loads _ o.loads
+leads_any number {e} {m} (later before s rest split open_ r) = leads_any number r ∙ list_any-map _ _ e.loads
+
+unit_law : (image : List ℕ) (rest : Rest) (history : List HistoryEvent) (unit : UnitPlace) (u : Ways)
+    → StandsFor (untouched image rest unit) unit u history → (number : ℕ) → IsAlone (is_under number) u.loads → (k b : ℕ)
+    → (is_shown (find (is_under number) u.loads) k b (reached u) ≡ true) ↔ MayGet image rest history unit number k b
+unit_law image rest history unit u s number alone k b = go _ refl
+  where
+    P : UnitMemory → Type 0
+    P = MayBe unit (untouched image rest unit) history
+
+    closed : (m n : UnitMemory) → P m → HiddenStep m n → P n
+    closed m n r step = steps history m n r step
+
+    go : (load : Option WatchedLoad) → find (is_under number) u.loads ≡ load
+        → (is_shown load k b (reached u) ≡ true) ↔ MayGet image rest history unit number k b
+    go None f = (
+      λ h. cc,
+      λ g. absurd (one_elim (OneWay u.loads (λ x. Leads x g.0)) ⊥ u.pairs (s.complete g.0 g.1)
+          (λ e w. cc (sym g.2 ∙ none_got number k b g.0.loads
+          (leads_any number w.2 ∙ (list_any-map _ _ u.loads ∙ find_none _ u.loads f))))),
+    )
+    go (Some l) f =
+        let sound =
+        each_both _ _ u.pairs s.sound s.timely in (
+          λ h. elim (or_cases _
+              _
+              (sym (list_any-append _ u.pairs _) ∙ h)) [
+                | inl t ↦ any_got u.loads u.moment s.asked number k b l f P closed u.pairs sound t
+                | inr t ↦ reached_got u.loads u.moment s.asked number k b l f P closed _ u.pairs sound t
+              ],
+          λ g. is_reached u.loads u.moment s.asked number k b l f alone g.0 g.2 u.pairs (s.complete g.0 g.1),
+        )
+
+-- All bytes of a load. ----
+
+shown_law : (h : Held) (lost : List ℕ) (history : List HistoryEvent) → StandsBut h lost history → (number a b : ℕ) (o : Operation)
+    → find (has_number number) (opened_by history).loads ≡ Some o
+    → (may_get_at h number a b ≡ true) ↔ MayReturn lost h.image h.rest h.size history number a b
+shown_law h lost history s number a b o open_ = elim (s.units (a / h.size)) [
+  | inl p ↦ (λ t. inl p.0, λ r. rw p.1 refl)
+  | inr p ↦
+      let unit = unit_at h.size _ in
+      let alone =
+      alone_under h.image h.rest unit history _ s.formed p.1.0 p.1.1 number o open_ in
+      let u = unit_law h.image h.rest history unit _ p.1.0 number alone _ b in (
+        λ t. inr (p.0, u.0 (rw p.1.1 at t)),
+        λ r. elim r [ inl y ↦ cc (p.0) | inr g ↦ rw p.1.1 (u.1 g.1) ],
+      )
+]
+
+asks_some : (load : Option Operation) (a : ℕ) → asks load a ≡ true → (o : Operation) × (load ≡ Some o)
+asks_some x0 a h = grind arith
+
+-- the answer of a call for one byte, over what is kept and over the history
+pub byte_law : {E : Type 0} (r : Result (Option ByteSet) E) (h : Held) (number a : ℕ) → IfOk r (IsByteOf h number a)
+    → (lost : List ℕ) (history : List HistoryEvent) → StandsBut h lost history
+    → IfOk r (IsSetOf lost h.image h.rest h.size history number a)
+byte_law (Err e) h number a p lost history s = tt
+byte_law (Ok None) h number a p lost history s = cc (s.opened, p)
+byte_law (Ok (Some set)) h number a p lost history s = grind (arith, asks_some, shown_law)
+
+module _ (h : Held) (number a : ℕ) where
+  sets_at : (n from : ℕ) (sets : List ByteSet) → AreSetsFrom h number a from n sets
+      → (i : ℕ) (set : ByteSet) → slice_get sets i ≡ Some set
+      → (i < n) × IsSet (may_get_at h number (address_of a (from + i))) set
+  sets_at zero from [] r i set e = let x = e in cc
+  sets_at (suc n) from (x ∷ xs) r zero set e = grind arith
+  sets_at (suc n) from (x ∷ xs) r (suc i) set e = grind (arith, sets_at n _ xs r.1 i set e)
+  sets_at _ from _ r i set e = absurd r
+
+  sets_length : (n from : ℕ) (sets : List ByteSet) → AreSetsFrom h number a from n sets → length sets ≡ n
+  sets_length zero from [] r = refl
+  sets_length (suc n) from (x ∷ xs) r = ap suc (sets_length n _ xs r.1)
+  sets_length _ from _ r = absurd r
+
+shown_sets : (h : Held) (lost : List ℕ) (history : List HistoryEvent) → StandsBut h lost history → (number : ℕ) (o : Operation)
+    → find (has_number number) h.opened.loads ≡ Some o → (sets : List ByteSet) → AreSetsFrom h number o.address 0 o.length sets
+    → AreSetsOf lost h.image h.rest h.size history number sets
+shown_sets h lost history s number o e sets r =
+    let found : find _ (opened_by history).loads ≡ Some o = grind arith in
+    let end : o.address + o.length ≤ 18446744073709551616 =
+    inside_end o.address o.length (found_fit number (opened_by history).loads o (fit_by history s.formed).loads.1 found) in
+    record {
+      load = o;
+      open_ = found;
+      length_ = grind (arith, sets_length);
+      exact = λ i set get b l.
+          let q = sets_at h number o.address o.length 0 sets r i set get in
+          let inside : i < o.length = q.0 in
+          let there : address_of o.address _ ≡ o.address + i = omega arith in
+          let same : has set b ≡ may_get_at h number _ b = q.1 b l ∙ ap (λ x. may_get_at h number x b) there in
+          let law = shown_law h lost history s number _ b o found in
+          (λ t. law.0 (sym same ∙ t), λ m. same ∙ law.1 m);
+    }
+
+-- the answer of a call, over what is kept and over the history
+pub may_law : {X E : Type 0} (r : Result X E) (items : X → List ByteSet) (h : Held) (number : ℕ) → IfOk r (λ x. HasSets h number (items x))
+    → (lost : List ℕ) (history : List HistoryEvent) → StandsBut h lost history
+    → IfOk r (λ x. AreSetsOf lost h.image h.rest h.size history number (items x))
+may_law x0 items h number p lost history s = grind (arith, shown_sets)
+
+-- As the answers that would be taken. ----
+
 -- Bytes. ----
 
-all_from : {X : Type 0} (P : X → Type 0) → ((x : X) → P x) → (xs : List X) → All P xs
-all_from P f xs = λ k d l. f _
-
 byte_of_all : (P : ℕ → Type 0) (xs : List ℕ) (i b : ℕ) → All P xs → slice_get xs i ≡ Some b → P b
-byte_of_all P [] i b h e = cc
-byte_of_all P (x ∷ xs) zero b h e = let same : x ≡ b = cc in subst P same (All-head P x xs h)
-byte_of_all P (x ∷ xs) (suc i) b h e = byte_of_all P xs i b (All-tail P x xs h) e
+byte_of_all P xs i b h e = grind (arith, P, get_or_from_slice_get, slice_get_within)
 
 pub then_it : {X : Type 0} (c : Bool) (o : Option X) (x : X) → (if c then o else None) ≡ Some x → (c ≡ true) × (o ≡ Some x)
-then_it true o x h = (refl, h)
-then_it false o x h = cc
+then_it x0 o x h = grind arith
 
 -- a byte that a unit has lies in it, and is a byte
 abbrev IsOf : UnitPlace → ℕ → ℕ → Type 0
@@ -61,17 +424,13 @@ stored_is address bytes enables a b h e =
     byte_of_all IsByte bytes _ b h q.1
 
 writes_bytes : (unit : UnitPlace) (event : HistoryEvent) → StoresBytes event → Writes (IsOf unit) unit event
-writes_bytes unit (LoadRequest number address n) h = tt
-writes_bytes unit (LoadResponse number bytes) h = tt
 writes_bytes unit (StoreRequest number address bytes enables) h = λ j b e.
     let p = unit_lane unit (stored_byte address bytes.now enables) j b e in
     (p.0, stored_is address bytes.now enables _ b h p.1)
-writes_bytes unit (StoreResponse number) h = tt
+writes_bytes unit _ h = tt
 
 first_is : (image : Option ℕ) (rest : Rest) (b : ℕ) → ((c : ℕ) → image ≡ Some c → IsByte c) → first_byte image rest ≡ Some b → IsByte b
-first_is (Some c) rest b h e = h b e
-first_is None Zeros b h e = grind arith
-first_is None Unknown b h e = cc
+first_is x0 rest b h e = grind arith
 
 holds_first : (image : List ℕ) (rest : Rest) (unit : UnitPlace) → All IsByte image → Holds (IsOf unit) (untouched image rest unit)
 holds_first image rest unit h = record {
@@ -88,11 +447,10 @@ holds_first image rest unit h = record {
 pub seen_last : (start : UnitMemory) (unit : UnitPlace) (history : List HistoryEvent) (event : HistoryEvent) (xs : List HistoryEvent)
     (m : UnitMemory) → MayBe unit start xs m → xs ≡ history ++ event ∷ []
     → (k : UnitMemory) × ((n : UnitMemory) × (MayBe unit start history k × (seen unit k event ≡ Some n)))
-seen_last start unit history event xs m starts h = absurd (no_snoc history event (sym h))
-seen_last start unit history event xs m (steps hs k n r step) h = seen_last start unit history event hs k r h
-seen_last start unit history event xs m (sees hs last k n r e) h =
-    let p = same_from_push hs history last event h in
-    (k, (n, (subst (λ x. MayBe unit start x k) p.0 r, subst (λ x. seen unit k x ≡ Some n) p.1 e)))
+seen_last start unit history event xs m r h =
+    last_seen start unit history event
+    (λ m. (k : UnitMemory) × ((n : UnitMemory) × (MayBe unit start history k × (seen unit k event ≡ Some n)))) (λ m n q step. q)
+    (λ k n there e. (k, (n, (there, e)))) xs m r h
 
 -- whether a load doesn't stand in the way of an answer
 abbrev lets : UnitPlace → ℕ → List ℕ → OpenLoad → Bool
@@ -103,66 +461,44 @@ abbrev Lets : List ℕ → Rest → List HistoryEvent → UnitPlace → ℕ → 
 Lets image rest history unit number bytes =
     (m : UnitMemory) × MayBe unit (untouched image rest unit) history m × Each (λ l. lets unit number bytes l ≡ true) m.loads
 
-lets_from : (image : List ℕ) (rest : Rest) (history : List HistoryEvent) (unit : UnitPlace) (number : ℕ) (answer : Bor (List ℕ))
-    → IsAtomicAt image rest unit (history ++ LoadResponse number answer ∷ []) → Lets image rest history unit number answer.now
-lets_from image rest history unit number answer h =
-    let event = LoadResponse number answer in
-    let r = seen_last _ unit history event _ h.0 h.1 refl in
-    let p = then_it _ _ r.1.0 r.1.1.1 in
-    (r.0, r.1.1.0, all_each _ r.0.loads p.0)
+module _ (image : List ℕ) (rest : Rest) (history : List HistoryEvent) (unit : UnitPlace) (number : ℕ) (answer : Bor (List ℕ)) where
+  lets_from : IsAtomicAt image rest unit (history ++ LoadResponse number answer ∷ []) → Lets image rest history unit number answer.now
+  lets_from h =
+      let event = LoadResponse number answer in
+      let r = seen_last _ unit history event _ h.0 h.1 refl in
+      let p = then_it _ _ r.1.0 r.1.1.1 in
+      (r.0, r.1.1.0, all_each _ r.0.loads p.0)
 
-from_lets : (image : List ℕ) (rest : Rest) (history : List HistoryEvent) (unit : UnitPlace) (number : ℕ) (answer : Bor (List ℕ))
-    → Lets image rest history unit number answer.now → IsAtomicAt image rest unit (history ++ LoadResponse number answer ∷ [])
-from_lets image rest history unit number answer h =
-    let may = each_all _ h.0.loads h.2 in (
-      without_load number h.0,
-      sees history _ h.0 _ h.1
-          (then_some (may_answer_load unit number answer.now h.0.loads) (without_load number h.0) may),
-    )
+  from_lets : Lets image rest history unit number answer.now → IsAtomicAt image rest unit (history ++ LoadResponse number answer ∷ [])
+  from_lets h =
+      let may = each_all _ h.0.loads h.2 in (
+        without_load number h.0,
+        sees history _ h.0 _ h.1
+            (then_some (may_answer_load unit number answer.now h.0.loads) (without_load number h.0) may),
+      )
 
 got_some : (unit : UnitPlace) (address : ℕ) (bytes : List ℕ) (g : Option Word) → is_got unit address bytes g ≡ true
     → (w : Word) × (g ≡ Some w) × (is_word_of unit.first w address bytes ≡ true)
-got_some unit address bytes None h = cc
-got_some unit address bytes (Some w) h = (w, refl, h)
+got_some unit address bytes x3 h = grind arith
 
 -- a word that is an answer's in a unit is another's that has the same bytes there
 same_word : (unit : UnitPlace) (w : Word) (a : ℕ) (bs cs : List ℕ) → AreLanes (IsOf unit) w
     → ((j : ℕ) → j < unit.size → byte_for a bs (unit.first + j) ≡ byte_for a cs (unit.first + j))
     → is_word_of unit.first w a bs ≡ true → is_word_of unit.first w a cs ≡ true
-same_word unit w a bs cs lanes same h = lane_word unit.first w a cs (λ j. lane j _ refl)
-  where
-    lane : (j : ℕ) (x : Option ℕ) → lane_of j w ≡ x → is_as_it_stood (lane_of j w) (byte_for a cs (unit.first + j)) ≡ true
-    lane j None e = rw e refl
-    lane j _ e = grind (arith, word_lane, unit.first)
+same_word unit w a bs cs lanes same h = grind (arith, lane_word, word_lane)
 
 -- a load that may be answered so may be answered with the same bytes in the unit
 same_lets : (unit : UnitPlace) (number a : ℕ) (bs cs : List ℕ)
     → ((j : ℕ) → j < unit.size → byte_for a bs (unit.first + j) ≡ byte_for a cs (unit.first + j))
     → (l : OpenLoad) → (is_load number l ≡ true → l.address ≡ a) → HasGot (IsOf unit) l.got → lets unit number bs l ≡ true
     → lets unit number cs l ≡ true
-same_lets unit number a bs cs same l at lanes h = elim (cases_Bool _) [
-  | inr f ↦ rw f refl
-  | inl t ↦
-      let got : is_got unit l.address bs l.got ≡ true = (rw t at h) in
-      or_right _ _ (other l.got lanes (rw (at t) at got) (at t))
-]
-  where
-    other : (g : Option Word) → HasGot (IsOf unit) g → is_got unit a bs g ≡ true → l.address ≡ a → is_got unit l.address cs g ≡ true
-    other None p t e = cc
-    other (Some w) p t e = grind (arith, unit.first, same_word)
+same_lets unit number a bs cs same l at lanes h = grind (arith, or_right, HasGot, same_word)
 
 -- Places. ----
 
 same_for : (size k address : ℕ) (bs cs : List ℕ) → AreSameIn size k address bs cs → (j : ℕ) → j < size
     → byte_for address bs (k * size + j) ≡ byte_for address cs (k * size + j)
-same_for size k address bs cs same j l = elim (cases_lt _ address) [
-  | inl below ↦ rw (lt-leb address (k * size + j) below) refl
-  | inr above ↦
-      let at : address + (k * size + j - address) ≡ k * size + j = omega arith in
-      let e : slice_get bs _ ≡ slice_get cs _ =
-      same _ (cc (at, div-mul-add k size j l)) in
-      rw (le-leb address _ above) e
-]
+same_for size k address bs cs same j l = grind (arith, lt-leb, div-mul-add, le-leb)
 
 pub byte_inside : (a : ℕ) (bs : List ℕ) (i : ℕ) → byte_for a bs (a + i) ≡ slice_get bs i
 byte_inside a bs i = grind arith
@@ -176,16 +512,11 @@ touches : (size : ℕ) (o : Operation) (i : ℕ) → 1 ≤ size → i < o.length
 touches size o i pos l = grind arith
 
 shows_stood : (x : Option ℕ) (b : ℕ) → is_as_it_stood x (Some b) ≡ true → may_show x b ≡ true
-shows_stood None b h = refl
-shows_stood (Some c) b h = h
+shows_stood x0 b h = grind arith
 
 abbrev or_zero : Option ℕ → ℕ
 or_zero None = 0
 or_zero (Some b) = b
-
-is_small : (x : Option ℕ) → ((c : ℕ) → x ≡ Some c → IsByte c) → IsByte (or_zero x)
-is_small None h = omega arith
-is_small (Some c) h = h c refl
 
 -- nothing is known of a word that has no lanes
 no_lane : (j : ℕ) → lane_of j [] ≡ None
@@ -193,10 +524,6 @@ no_lane j = grind arith
 
 no_lanes : (P : ℕ → ℕ → Type 0) → AreLanes P []
 no_lanes P j b e = grind arith
-
-false_true : {A : Type 0} (b : Bool) → b ≡ false → b ≡ true → A
-false_true true f t = cc
-false_true false f t = cc
 
 module _ (lost : List ℕ) (image : List ℕ) (rest : Rest) (size : ℕ) (history : List HistoryEvent) (number : ℕ)
     (law : IsOfLaw lost image rest size history) (o : Operation) (found : find (has_number number) (opened_by history).loads ≡ Some o) where
@@ -247,28 +574,19 @@ module _ (lost : List ℕ) (image : List ℕ) (rest : Rest) (size : ℕ) (histor
       let r = lets_from image rest history _ number other h in
       let m : UnitMemory = r.0 in
       let Known : OpenLoad → Type 0 = λ l. (is_load number l ≡ true → l.address ≡ o.address) × HasGot _ l.got in
-      let known : Each Known _ =
-      each_both (λ l. is_load number l ≡ true → l.address ≡ o.address) (λ l. HasGot _ l.got) _ (addresses k m r.1)
-      (holds_at k m r.1).loads in
+      let known : Each Known _ = grind (arith, each_both, HasGot, addresses, holds_at) in
       from_lets image rest history _ number answer (
         m,
         r.1,
-        each_weaker (λ l. Known l × (lets (unit k) number other.now l ≡ true)) (λ l. lets (unit k) number answer.now l ≡ true)
-            (λ l p. same_lets _ number o.address other.now answer.now
-            (λ j w. sym (same_for size k o.address answer.now other.now same j w)) l p.0.0 p.0.1 p.1) _
-            (each_both Known (λ l. lets (unit k) number other.now l ≡ true) _ known r.2),
+        each_two Known (λ l. lets (unit k) number other.now l ≡ true) (λ l. lets (unit k) number answer.now l ≡ true)
+            (λ l q p. same_lets _ number o.address other.now answer.now
+            (λ j w. sym (same_for size k o.address answer.now other.now same j w)) l q.0 q.1 p) _ known r.2,
       )
 
   pub units_alone : (answer : Bor (List ℕ)) → MayAnswer lost image rest size history number answer
       ↔ ((length answer.now ≡ o.length)
       × ((k : ℕ) → is_lost k lost ≡ false → HasAnswerIn lost image rest size history number o.address k answer.now))
-  units_alone answer = (
-    λ a. (answer_length answer a, λ k there. (answer, a, λ i e. refl)),
-    λ p. record {
-      formed = answer_formed answer p.0;
-      moments = λ k there. let c = p.1 k there in moments_same k answer c.0 c.2 (c.1.moments k there);
-    },
-  )
+  units_alone answer = grind (arith, answer_length, answer_formed, moments_same)
 
   -- What an answer has may be returned. ----
 
@@ -281,18 +599,13 @@ module _ (lost : List ℕ) (image : List ℕ) (rest : Rest) (size : ℕ) (histor
   gets_at k j b answer e there h =
       let r = lets_from image rest history _ number answer h in
       let m : UnitMemory = r.0 in
-      let one : One (λ l. is_load number l ≡ true) _ =
+      let one =
       is_there _ number m _ (linked image rest (unit k) r.1) distinct o found there in
-      let Known : OpenLoad → Type 0 = λ l. (is_load number l ≡ true → l.address ≡ o.address) × (lets (unit k) number answer.now l ≡ true) in
-      let known : Each Known _ =
-      each_both (λ l. is_load number l ≡ true → l.address ≡ o.address) (λ l. lets (unit k) number answer.now l ≡ true) _
-      (addresses k m r.1) r.2 in (
+      let At : OpenLoad → Type 0 = λ l. (is_load number l ≡ true → l.address ≡ o.address) × (lets (unit k) number answer.now l ≡ true) in (
         m,
         r.1,
-        one_any _ _
-            (one_weaker (λ l. (is_load number l ≡ true) × Known l) (λ l. got_byte number j b l ≡ true)
-            (λ l p. load_gets k j b answer.now e l p.0 p.1.1 (p.1.0 p.0)) _
-            (one_each (λ l. is_load number l ≡ true) Known _ one known)),
+        one_any _ _ (one_two (λ l. is_load number l ≡ true) At (λ l. got_byte number j b l ≡ true)
+            (λ l t q. load_gets k j b answer.now e l t q.1 (q.0 t)) _ one (grind (arith, each_both, answer.now, addresses))),
       )
 
   pub answer_may : (i b : ℕ) → HasAnswer lost image rest size history number i b
@@ -306,7 +619,7 @@ module _ (lost : List ℕ) (image : List ℕ) (rest : Rest) (size : ℕ) (histor
       ap (byte_for o.address answer.now) place ∙ (byte_inside o.address answer.now i ∙ e) in
       elim (cases_Bool _) [
         | inl t ↦ inl t
-        | inr f ↦ inr (f, gets_at q _ b answer byte (touches size o i law.sized within) (a.moments q f))
+        | inr f ↦ grind (arith, gets_at, touches)
       ]
 
   -- What may be returned an answer has. ----
@@ -318,25 +631,25 @@ module _ (lost : List ℕ) (image : List ℕ) (rest : Rest) (size : ℕ) (histor
   abbrev HasWord : ℕ → Type 0
   HasWord k = (w : Word) × AreLanes (IsOf (unit k)) w × IsGot k w
 
-  load_got : (k : ℕ) (m : UnitMemory) → Comes k m → (before : List OpenLoad) (l : OpenLoad) (after : List OpenLoad)
-      → m.loads ≡ before ++ l ∷ after → list_any (is_load number) before ≡ false → list_any (is_load number) after ≡ false
+  load_got : (k : ℕ) (m : UnitMemory) → Comes k m → (before : List OpenLoad) (l : OpenLoad) (behind : List OpenLoad)
+      → m.loads ≡ before ++ l ∷ behind → list_any (is_load number) before ≡ false → list_any (is_load number) behind ≡ false
       → (g : Option Word) → l.got ≡ g → HasWord k
-  load_got k m r before l after split b a None e =
-      let n : UnitMemory = record { word = m.word; stores = m.stores; loads = before ++ done_load _ l ∷ after } in (
+  load_got k m r before l behind split b a None e =
+      let n : UnitMemory = record { word = m.word; stores = m.stores; loads = before ++ done_load _ l ∷ behind } in (
         m.word,
         (holds_at k m r).word,
         (
           n,
-          steps history m n r (inr (before, l, after, split, e, refl)),
-          got_between number _ before _ after b a refl,
+          steps history m n r (inr (before, l, behind, split, e, refl)),
+          got_between number _ before _ behind b a refl,
         ),
       )
-  load_got k m r before l after split b a (Some w) e =
-      let each : Each (λ x. HasGot _ x.got) _ =
+  load_got k m r before l behind split b a (Some w) e =
+      let each =
       subst (Each (λ x. HasGot _ x.got)) split (holds_at k m r).loads in (
         w,
-        subst (HasGot (IsOf (unit k))) e (each_at (λ x. HasGot _ x.got) before l after each),
-        (m, r, subst (HaveGot number w) (sym split) (got_between number w before l after b a e)),
+        subst (HasGot _) e (each_at (λ x. HasGot _ x.got) before l behind each),
+        (m, r, subst (HaveGot number w) (sym split) (got_between number w before l behind b a e)),
       )
 
   some_word : (k : ℕ) → IsAtomicAt image rest (unit k) history → HasWord k
@@ -360,29 +673,20 @@ module _ (lost : List ℕ) (image : List ℕ) (rest : Rest) (size : ℕ) (histor
       (w : Word) × AreLanes (IsOf (unit k)) w × (is_lost k lost ≡ false → IsGot k w)
       × (k ≡ at / size → may_show (lane_of (at % size) w) b ≡ true)
 
+  lost_one : (at b k : ℕ) → is_lost k lost ≡ true → Choice at b k
+  lost_one at b k t = grind arith
+
   choose : (at b : ℕ) → MayReturn lost image rest size history number at b → (k : ℕ) → Choice at b k
-  choose at b may k = elim (cases_Bool _) [
-    | inl t ↦ (
-      [],
-      no_lanes _,
-      λ f. false_true _ f t,
-      λ e. ap (λ x. may_show x b) (no_lane (at % size)),
-    )
-    | inr f ↦ elim (cases_Bool _) [
-      | inr n ↦
-          let s = some_word k (law.atomic.moments k f) in
-          (s.0, s.1, λ x. s.2, λ e. false_true _ n (eq-eqb k (at / size) e))
-      | inl t ↦
-          let same = eqb-true k _ t in
-          elim may [
-            | inl y ↦ false_true _ f (ap (λ x. is_lost x lost) same ∙ y)
-            | inr g ↦ subst (Choice at b) (sym same) (of_shown (shown_at (at / size) (at % size) b g.1))
-          ]
+  choose at b may k = elim (cases_eq k (at / size)) [
+    | inl same ↦ subst (Choice at b) (sym same) (elim may [
+      | inl t ↦ lost_one at b _ t
+      | inr g ↦ let s = shown_at _ _ b g.1 in (s.0.0, s.0.1, λ f. s.0.2, λ e. s.1)
+    ])
+    | inr other ↦ elim (cases_Bool _) [
+      | inl t ↦ lost_one at b k t
+      | inr f ↦ let s = some_word k (law.atomic.moments k f) in (s.0, s.1, λ x. s.2, λ e. absurd (other e))
     ]
   ]
-    where
-      of_shown : (w : HasWord (at / size)) × (may_show (lane_of (at % size) w.0) b ≡ true) → Choice at b (at / size)
-      of_shown (w, s) = grind arith
 
   module _ (i b : ℕ) (inside : i < o.length) (small : b < 256) (may : MayReturn lost image rest size history number (o.address + i) b) where
     chosen : (k : ℕ) → Choice (o.address + i) b k
@@ -402,16 +706,11 @@ module _ (lost : List ℕ) (image : List ℕ) (rest : Rest) (size : ℕ) (histor
     given = record { ref_ptr = (0, 0); now = answer }
 
     byte_small : (x : ℕ) → IsByte (byte_at x)
-    byte_small x = elim (cases_Bool (x == i)) [
-      | inl t ↦ rw t small
-      | inr f ↦
-          let a = o.address + x in
-          let c = chosen _ in rw f (is_small _ (λ d e. (c.1 (a % size) d e).1))
-    ]
+    byte_small x = grind arith
 
     are_bytes : All IsByte answer
     are_bytes =
-        All-map IsByte byte_at _ (all_from (λ x. IsByte _) byte_small _)
+        All-map IsByte byte_at _ (λ k d l. byte_small _)
 
     is_long : length answer ≡ o.length
     is_long = length-map-range_with_len byte_at 0 o.length
@@ -436,56 +735,26 @@ module _ (lost : List ℕ) (image : List ℕ) (rest : Rest) (size : ℕ) (histor
           let it =
           subst (λ y. may_show y b ≡ true) e (rw lane at shows) in
           rw t it
-      | inr f ↦
-          let byte = ap byte_of place ∙ (byte_there k j l ∙ ap or_zero e) in
-          rw f (eq-eqb c (byte_of (o.address + x)) (sym byte))
+      | inr f ↦ grind (arith, byte_there, eq-eqb)
     ]
 
     stands : (k j : ℕ) (y : Option ℕ) → lane_of j (chosen k).0 ≡ y
         → is_as_it_stood (lane_of j (chosen k).0) (byte_for o.address answer (k * size + j)) ≡ true
-    stands k j None e = ap (λ y. is_as_it_stood y (byte_for o.address answer (k * size + j))) e
-    stands k j (Some c) e =
-        ap (λ y. is_as_it_stood y (byte_for o.address answer (k * size + j))) e
-        ∙ elim (cases_lt _ o.address) [
-          | inl below ↦ rw (lt-leb o.address (k * size + j) below) refl
-          | inr above ↦ elim (cases_lt _ o.length) [
-            | inr past ↦
-                let none : slice_get answer _ ≡ None =
-                slice_get_past answer _ (rw (sym is_long) at past) in
-                let all : byte_for o.address answer _ ≡ None = rw (le-leb o.address _ above) none in
-                ap (is_as_it_stood (Some c)) all
-            | inl within ↦
-                let x : ℕ = k * size + j - o.address in
-                let place : o.address + (k * size + j - o.address) ≡ k * size + j = omega arith in
-                let all : byte_for o.address answer _ ≡ Some _ =
-                rw (le-leb o.address _ above) (at_place (k * size + j - o.address) within) in
-                ap (is_as_it_stood (Some c)) all ∙ agrees k j c _ ((chosen k).1 j c e).0 e place
-          ]
-        ]
+    stands k j x2 e = grind (arith, lt-leb, slice_get_past, is_long, le-leb, at_place, agrees, chosen)
 
     load_lets : (k : ℕ) (l : OpenLoad) → (is_load number l ≡ true → l.address ≡ o.address)
         → (is_load number l ≡ true → l.got ≡ Some (chosen k).0) → lets (unit k) number answer l ≡ true
-    load_lets k l at got = elim (cases_Bool _) [
-      | inr f ↦ rw f refl
-      | inl t ↦
-          let word =
-          lane_word _ (chosen k).0 o.address answer (λ j. stands k j _ refl) in
-          let there =
-          ap (is_got (unit k) l.address answer) (got t) ∙ (cc (at t, word)) in
-          or_right _ _ there
-    ]
+    load_lets k l at got = grind (arith, lane_word, chosen, stands, or_right)
 
     given_at : (k : ℕ) → is_lost k lost ≡ false → IsAtomicAt image rest (unit k) (more given)
     given_at k f =
         let r = (chosen k).2 f in
-        let m : UnitMemory = r.0 in
-        let At : OpenLoad → Type 0 = λ l. is_load number l ≡ true → l.address ≡ o.address in
-        let Got : OpenLoad → Type 0 = λ l. is_load number l ≡ true → l.got ≡ Some (chosen k).0 in
+        let m = r.0 in
         from_lets image rest history _ number given (
           m,
           r.1,
-          each_weaker (λ l. At l × Got l) (λ l. lets (unit k) number answer l ≡ true) (λ l p. load_lets k l p.0 p.1) _
-              (each_both At Got m.loads (addresses k m r.1) r.2),
+          each_two (λ l. is_load number l ≡ true → l.address ≡ o.address) (λ l. is_load number l ≡ true → l.got ≡ Some (chosen k).0)
+              (λ l. lets (unit k) number answer l ≡ true) (load_lets k) _ (addresses k m r.1) r.2,
         )
 
     pub may_answer : HasAnswer lost image rest size history number i b
@@ -510,10 +779,7 @@ sets_law lost image rest size history number law sets s i set get b small =
 
 asked : (o : Option Operation) (a : ℕ) → asks o a ≡ true
     → (x : Operation) × (o ≡ Some x) × (x.address ≤ a) × (a < x.address + x.length)
-asked None a h = cc
-asked (Some x) a h =
-    let p = and_parts _ _ h in
-    (x, refl, leb-true x.address a p.0, ltb-true a _ p.1)
+asked x0 a h = grind arith
 
 module _ (lost : List ℕ) (image : List ℕ) (rest : Rest) (size : ℕ) (history : List HistoryEvent) (number : ℕ)
     (law : IsOfLaw lost image rest size history) (a b : ℕ) where
@@ -524,8 +790,7 @@ module _ (lost : List ℕ) (image : List ℕ) (rest : Rest) (size : ℕ) (histor
       let p = byte_place load.address a b answer.now e in
       let at : load.address + (a - load.address) ≡ a = omega (arith, p.0) in
       let long : length answer.now ≡ load.length = answer_length lost image rest size history number law load found answer h in
-      let inside : a - load.address < load.length =
-      subst (λ n. a - load.address < n) long (slice_get_within answer.now (a - load.address) b p.1) in (
+      let inside : a - load.address < load.length = grind (arith, slice_get_within) in (
         subst (λ x. MayReturn lost image rest size history number x b) at
             (answer_may lost image rest size history number law load found _ b (answer, bytes, p.1, h)),
         ap (λ x. asks x a) found
@@ -544,19 +809,17 @@ module _ (lost : List ℕ) (image : List ℕ) (rest : Rest) (size : ℕ) (histor
       (rw (sym at) at may) in
       (load, x.1, (r.0, r.1, rw (le-leb load.address a x.2) r.2, r.3))
 
-pub set_law : (lost : List ℕ) (image : List ℕ) (rest : Rest) (size : ℕ) (history : List HistoryEvent) (number : ℕ)
-    → SetIsOfAnswers lost image rest size history number
-set_law lost image rest size history number law a None none b small = (
-  λ t. cc,
-  λ h. false_true _ none
-      (answer_for_may lost image rest size history number law a b h).1,
-)
-set_law lost image rest size history number law a (Some set) p b small = (
-  λ t. may_answer_for lost image rest size history number law a b p.0 small ((p.1 b small).0 t),
-  λ h. (p.1 b small).1 (answer_for_may lost image rest size history number law a b h).0,
-)
+module _ (lost image : List ℕ) (rest : Rest) (size : ℕ) (history : List HistoryEvent) (number : ℕ) where
+  pub set_law : SetIsOfAnswers lost image rest size history number
+  set_law law a None none b small = (
+    λ t. cc,
+    λ h. cc ((answer_for_may lost image rest size history number law a b h).1),
+  )
+  set_law law a (Some set) p b small = (
+    λ t. may_answer_for lost image rest size history number law a b p.0 small ((p.1 b small).0 t),
+    λ h. (p.1 b small).1 (answer_for_may lost image rest size history number law a b h).0,
+  )
 
-pub units_law : (lost : List ℕ) (image : List ℕ) (rest : Rest) (size : ℕ) (history : List HistoryEvent) (number : ℕ)
-    → UnitsChooseAlone lost image rest size history number
-units_law lost image rest size history number law load found answer =
-    units_alone lost image rest size history number law load found answer
+  pub units_law : UnitsChooseAlone lost image rest size history number
+  units_law law load found answer =
+      units_alone lost image rest size history number law load found answer

@@ -1,6 +1,6 @@
 -- Steps towards what an open load may return: the sets of its bytes one after the other, and why there are none.
-use Rattle.std.proofs.Common.{◌≡◌, ℕ, zero, suc, ◌+◌, ◌-◌, ◌/◌, ◌%◌, ◌<◌, List, [], ◌∷◌, ◌++◌, length}
-use Rattle.std.proofs.Common.{Option, None, refl, ◌∙◌, arith, Some, false}
+use Rattle.std.proofs.Common.{◌≡◌, ℕ, zero, suc, ◌+◌, ◌-◌, ◌/◌, ◌%◌, ◌<◌, List, [], ◌∷◌, ◌++◌, length, Option, None, refl, ◌∙◌, arith, Some}
+use Rattle.std.proofs.Common.{false}
 use Rattle.std.specs.List.{find}
 use Rattle.std.proofs.lemmas.Bool.{lt-ltb}
 use Rattle.memory_histories.specs.declared.sets.ByteSet.{ByteSet}
@@ -13,59 +13,52 @@ use Rattle.atomic_histories.specs.declared.stretches.Stretch.{Stretch}
 use Rattle.atomic_histories.specs.declared.pairs.FollowedPair.{FollowedPair}
 use Rattle.atomic_histories.specs.declared.kept.KeptUnit.{KeptUnit}
 use Rattle.atomic_histories.specs.declared.memory.UnitSize.{UnitSize}
-use Rattle.atomic_histories.specs.declared.memory.UnitSize.TheVariants.{One, Two, Four, Eight}
 use Rattle.atomic_histories.specs.declared.memory.AtomicFault.{AtomicFault}
-use Rattle.atomic_histories.specs.declared.memory.AtomicFault.TheVariants.{Refused, Undecided, OutOfMemory}
 use Rattle.atomic_histories.specs.declared.search.Stop.{Stop}
-use Rattle.atomic_histories.specs.declared.search.Stop.TheVariants.{TooManyWays, NoMemory}
 use Rattle.atomic_histories.specs.Followed.{Ways, first_ways, is_under}
 use Rattle.atomic_histories.specs.Held.{Held}
 use Rattle.atomic_histories.specs.Judge.{bytes_of, fault_of, kept_or}
-use Rattle.atomic_histories.specs.May.{IsSet, is_shown, reached, may_get, may_get_at, address_of, AreSetsFrom, is_reach_wide}
-use Rattle.atomic_histories.specs.May.{is_wide_for, is_wide_at, AreNarrow, IsWideByte, IsWideLoad, IsNoVerdict}
+use Rattle.atomic_histories.specs.May.{IsSet, is_shown, reached, may_get, may_get_at, address_of, AreSetsFrom, is_reach_wide, is_wide_for}
+use Rattle.atomic_histories.specs.May.{is_wide_at, AreNarrow, IsWideByte, IsWideLoad, IsNoVerdict}
 use Rattle.atomic_histories.specs.Shown.{shown_all, StopIs}
 use Rattle.std.proofs.Math.Bool.{and-false}
 
 -- the lane that a byte lies in
 pub lane_below : (size : UnitSize) (a : ℕ) → a % bytes_of size < 8
-lane_below One a = omega arith
-lane_below Two a = omega arith
-lane_below Four a = omega arith
-lane_below Eight a = omega arith
+lane_below x0 a = grind arith
 
 -- no load is open at a unit that no operation has touched
 pub untouched_set : (o : Option KeptUnit) (image : List ℕ) (rest : Rest) (unit : UnitPlace) (number k : ℕ) → o ≡ None
     → IsSet (λ b. may_get number k b (kept_or o (first_ways image rest unit))) no_bytes
-untouched_set None image rest unit number k h = λ b l. has-no_bytes b
-untouched_set (Some u) image rest unit number k h = cc
+untouched_set x0 image rest unit number k h = grind (arith, has-no_bytes)
 
--- each byte may be got at a unit that was forgotten
-pub forgotten_set : (number k : ℕ) (ss : List Stretch) (ps : List FollowedPair) (loads : List WatchedLoad) (moment : ℕ) → length ps ≡ 0
-    → IsSet (λ b. may_get number k b (record { loads = loads; moment = moment; pairs = shown_all ss ps })) all_bytes
-forgotten_set number k ss [] loads moment h = λ b l. has-all_bytes b ∙ lt-ltb b 256 l
-forgotten_set number k ss (p ∷ ps) loads moment h = absurd (omega arith)
+module _ (number k : ℕ) (ss : List Stretch) where
+  -- each byte may be got at a unit that was forgotten
+  pub forgotten_set : (ps : List FollowedPair) (loads : List WatchedLoad) (moment : ℕ) → length ps ≡ 0
+      → IsSet (λ b. may_get number k b (record { loads = loads; moment = moment; pairs = shown_all ss ps })) all_bytes
+  forgotten_set [] loads moment h = λ b l. has-all_bytes b ∙ lt-ltb b 256 l
+  forgotten_set (p ∷ ps) loads moment h = absurd (omega arith)
 
--- none where no load is open under the number
-pub unknown_set : (number k : ℕ) (ss : List Stretch) (ps : List FollowedPair) (loads : List WatchedLoad) (moment : ℕ)
-    → (length ps ≡ 0 → ⊥) → find (is_under number) loads ≡ None
-    → IsSet (λ b. may_get number k b (record { loads = loads; moment = moment; pairs = shown_all ss ps })) no_bytes
-unknown_set number k ss [] loads moment h f = absurd (h refl)
-unknown_set number k ss (p ∷ ps) loads moment h f = grind (arith, has-no_bytes)
+  -- none where no load is open under the number
+  pub unknown_set : (ps : List FollowedPair) (loads : List WatchedLoad) (moment : ℕ)
+      → (length ps ≡ 0 → ⊥) → find (is_under number) loads ≡ None
+      → IsSet (λ b. may_get number k b (record { loads = loads; moment = moment; pairs = shown_all ss ps })) no_bytes
+  unknown_set [] loads moment h f = absurd (h refl)
+  unknown_set (p ∷ ps) loads moment h f = grind (arith, has-no_bytes)
 
--- those of a load that is
-pub known_set : (number k : ℕ) (ss : List Stretch) (ps : List FollowedPair) (loads : List WatchedLoad) (moment : ℕ) (load : WatchedLoad)
-    (set : ByteSet) → (length ps ≡ 0 → ⊥) → find (is_under number) loads ≡ Some load
-    → IsSet (λ b. is_shown (Some load) k b (reached (record { loads = loads; moment = moment; pairs = shown_all ss ps }))) set
-    → IsSet (λ b. may_get number k b (record { loads = loads; moment = moment; pairs = shown_all ss ps })) set
-known_set number k ss [] loads moment load set h f s = absurd (h refl)
-known_set number k ss (p ∷ ps) loads moment load set h f s = grind arith
+  -- those of a load that is
+  pub known_set : (ps : List FollowedPair) (loads : List WatchedLoad) (moment : ℕ) (load : WatchedLoad)
+      (set : ByteSet) → (length ps ≡ 0 → ⊥) → find (is_under number) loads ≡ Some load
+      → IsSet (λ b. is_shown (Some load) k b (reached (record { loads = loads; moment = moment; pairs = shown_all ss ps }))) set
+      → IsSet (λ b. may_get number k b (record { loads = loads; moment = moment; pairs = shown_all ss ps })) set
+  known_set [] loads moment load set h f s = absurd (h refl)
+  known_set (p ∷ ps) loads moment load set h f s = grind arith
 
 -- Few enough pairs where there are sets. ----
 
 pub untouched_narrow : (o : Option KeptUnit) (image : List ℕ) (rest : Rest) (unit : UnitPlace) (limit number : ℕ) → o ≡ None
     → is_wide_for limit number (kept_or o (first_ways image rest unit)) ≡ false
-untouched_narrow None image rest unit limit number h = refl
-untouched_narrow (Some u) image rest unit limit number h = cc
+untouched_narrow x0 image rest unit limit number h = grind arith
 
 pub forgotten_narrow : (limit number : ℕ) (ss : List Stretch) (ps : List FollowedPair) (loads : List WatchedLoad) (moment : ℕ)
     → length ps ≡ 0 → is_wide_for limit number (record { loads = loads; moment = moment; pairs = shown_all ss ps }) ≡ false
@@ -86,11 +79,10 @@ narrow_more limit h number a n f g = λ i l. grind arith
 sets_pushed : (h : Held) (number a from n : ℕ) (sets : List ByteSet) (set : ByteSet) → AreSetsFrom h number a from n sets
     → IsSet (may_get_at h number (address_of a (from + n))) set → AreSetsFrom h number a from (suc n) (sets ++ set ∷ [])
 sets_pushed h number a from zero [] set r s = grind arith
-sets_pushed h number a from zero (x ∷ xs) set r s = absurd r
-sets_pushed h number a from (suc n) [] set r s = absurd r
 sets_pushed h number a from (suc n) (x ∷ xs) set r s =
     let next : from + suc n ≡ from + 1 + n = omega arith in
     (r.0, sets_pushed h number a (from + 1) n xs set r.1 (rw next at s))
+sets_pushed h number a from _ _ set r s = absurd r
 
 pub one_set_more : (h : Held) (number a i : ℕ) (sets : List ByteSet) (set : ByteSet) → AreSetsFrom h number a 0 i sets
     → IsSet (may_get_at h number (address_of a i)) set → AreSetsFrom h number a 0 (i + 1) (sets ++ set ∷ [])
@@ -102,11 +94,8 @@ one_set_more h number a i sets set r s = grind (arith, sets_pushed)
 pub stopped_set : (limit : ℕ) (h : Held) (a : ℕ) (stop : Stop)
     → StopIs (is_reach_wide limit (h.units (a / h.size))) stop
     → IsNoVerdict (IsWideByte limit h a) (fault_of stop (a - a % h.size))
-stopped_set limit h a TooManyWays w = grind arith
-stopped_set limit h a NoMemory w = tt
+stopped_set limit h a x3 w = grind arith
 
 pub no_set : (fault : AtomicFault) (limit : ℕ) (h : Held) (a n i : ℕ) → i < n
     → IsNoVerdict (IsWideByte limit h (address_of a i)) fault → IsNoVerdict (IsWideLoad limit h a n) fault
-no_set (Refused cause) limit h a n i l f = f
-no_set (Undecided address) limit h a n i l f = (i, l, f)
-no_set OutOfMemory limit h a n i l f = tt
+no_set x0 limit h a n i l f = grind arith

@@ -1,13 +1,12 @@
 -- Where stretches went.
-use Rattle.std.proofs.Common.{◌≡◌, ℕ, ◌+◌, ◌<◌, ◌≤◌, Bool, true, List, [], ◌∷◌, ◌++◌, length, get_or}
-use Rattle.std.proofs.Common.{take, drop, length-append, refl, subst, sym, ap, ◌∙◌, add-one, take-suc, arith, inl, inr}
+use Rattle.std.proofs.Common.{◌≡◌, ℕ, ◌+◌, ◌<◌, ◌≤◌, Bool, true, List, [], ◌∷◌, ◌++◌, length, get_or, take, drop, length-append, subst, sym}
+use Rattle.std.proofs.Common.{add-one, take-suc, arith, inl, inr}
 use Rattle.std.proofs.lemmas.List.{get_or_append_left, get_or_past}
-use Rattle.std.proofs.lemmas.Bool.{cases_order, cases_lt}
+use Rattle.std.proofs.lemmas.Bool.{cases_order}
 use Rattle.std.proofs.Math.Seq.{take-length, take-append_seam}
 use Rattle.atomic_histories.specs.declared.stretches.Before.{Before}
 use Rattle.atomic_histories.specs.declared.stretches.Before.TheVariants.{Nothing, Behind}
 use Rattle.atomic_histories.specs.declared.stretches.Stretch.{Stretch}
-use Rattle.atomic_histories.specs.declared.stretches.Stretch.TheVariants.{Overwritten, Either}
 use Rattle.atomic_histories.specs.declared.pairs.FollowedPair.{FollowedPair}
 use Rattle.atomic_histories.specs.declared.moves.Moved.{Moved}
 use Rattle.atomic_histories.specs.Pasts.{Past, begins, cut}
@@ -27,32 +26,19 @@ same_more : (used : Before → Bool) (to : Past → Past) (place : ℕ) (ps : Li
     → ((b : Before) → IsIn m.stretches.items (moved_to m b)) → Grows m.stretches.items ts
     → (used (Behind place) ≡ true → past_at (pasts ts) r ≡ to past)
     → (b : Before) → used b ≡ true → past_at (pasts ts) (moved_in (m.places.items ++ r ∷ []) b) ≡ to (past_at (ps ++ past ∷ []) b)
-same_more used to place ps past m ts r bare long placed same is_in g here Nothing u = sym bare
-same_more used to place ps past m ts r bare long placed same is_in g here (Behind k) u = elim (cases_order k place) [
-  | inl e ↦ rw (at_push _ r Nothing k (e ∙ sym placed), at_push ps past begins k (e ∙ sym long))
-      (here (rw e at u))
-  | inr o ↦ elim o [
-    | inl b ↦ rw (
-      get_or_append_left m.places.items _ Nothing k (omega (arith, b, placed)),
-      get_or_append_left ps _ begins k
-          (omega (arith, b, long)),
-    )
-        (past_grown _ ts g _ (is_in (Behind k)) ∙ same _ u)
-    | inr a ↦ rw (past_push m.places.items r Nothing k (omega (arith, a, placed)), past_push ps past begins k (omega (arith, a, long)))
-        (sym bare)
-  ]
-]
+same_more used to place ps past m ts r bare long placed same is_in g here x15 u =
+    grind (arith, at_push, get_or_append_left, past_grown, past_push)
 
 in_more : (place : ℕ) (m : Moved) (ts : List Stretch) (r : Before) → length m.places.items ≡ place
     → ((b : Before) → IsIn m.stretches.items (moved_to m b)) → Grows m.stretches.items ts → IsIn ts r
     → (b : Before) → IsIn ts (moved_in (m.places.items ++ r ∷ []) b)
 in_more place m ts r placed is_in g i Nothing = tt
 in_more place m ts r placed is_in g i (Behind k) = elim (cases_order k place) [
-  | inl e ↦ rw (at_push _ r Nothing k (e ∙ sym placed)) i
+  | inl e ↦ grind (arith, at_push)
   | inr o ↦ elim o [
     | inl b ↦ rw (get_or_append_left m.places.items _ Nothing k (omega (arith, b, placed)))
         (in_grown m.stretches.items ts g (moved_to m (Behind k)) (is_in (Behind k)))
-    | inr a ↦ rw (past_push m.places.items r Nothing k (omega (arith, a, placed))) tt
+    | inr a ↦ grind (arith, past_push)
   ]
 ]
 
@@ -73,7 +59,7 @@ moved_more used to place ss s m n r p e bare h g new i here =
     record {
       same = grind arith;
       is_in = λ b. rw new (in_all b);
-      places = ap length new ∙ length-append _ _ ∙ ap (λ k. k + 1) h.places;
+      places = grind (arith, length-append);
     }
 
 -- all of them
@@ -86,43 +72,27 @@ moved_all used to place ss m p h b u = grind (arith, h.same, take-length)
 
 pub cut_law : (since place : ℕ) (ss : List Stretch) (s : Stretch) (m : Moved) → AreMoved (λ b. true) (cut since) place ss m
     → cut_of since (λ b. past_at (pasts m.stretches.items) (moved_to m b)) s ≡ cut since (past_of (pasts (take place ss)) s)
-cut_law since place ss (Overwritten word moment b) m h = grind arith
-cut_law since place ss (Either one other) m h = grind arith
+cut_law since place ss x3 m h = grind arith
 
 -- Stretches that are used are kept. ----
 
 same_below : (used : List Bool) (place : ℕ) (ss : List Stretch) (m : Moved) → place ≤ length ss
     → AreMoved (is_used used) (λ p. p) place ss m → (b : Before) → IsUsedBelow used place b
     → past_at (pasts m.stretches.items) (moved_to m b) ≡ past_at (pasts (take place ss)) b
-same_below used place ss m p h Nothing u = refl
-same_below used place ss m p h (Behind k) u = elim (cases_lt k place) [
-  | inl b ↦ h.same (Behind k) (u b)
-  | inr a ↦
-      rw (
-        get_or_past m.places.items k Nothing (omega (arith, h.places, a)),
-        get_or_past (pasts (take place ss)) k begins
-            (omega (arith, pasts_length ss place p, a)),
-      ) refl
-]
+same_below used place ss m p h x6 u = grind (arith, get_or_past, pasts_length)
 
 pub kept_law : (used : List Bool) (place : ℕ) (ss : List Stretch) (s : Stretch) (m : Moved) → place ≤ length ss
     → AreMoved (is_used used) (λ p. p) place ss m → RefersToUsed used place s
     → past_of (pasts m.stretches.items) (moved_stretch m s) ≡ past_of (pasts (take place ss)) s
-kept_law used place ss (Overwritten word moment b) m p h u = grind (arith, same_below)
-kept_law used place ss (Either one other) m p h u = grind (arith, same_below)
+kept_law used place ss x3 m p h u = grind (arith, same_below)
 
 -- Which are used. ----
 
 pub below_used : (used : List Bool) (end : ℕ) (b : Before) → length used ≡ end → IsUsedBelow used end b → is_used used b ≡ true
-below_used used end Nothing l u = refl
-below_used used end (Behind k) l u = elim (cases_lt k end) [
-  | inl b ↦ u b
-  | inr a ↦ get_or_past used k true (omega (arith, l, a))
-]
+below_used used end x2 l u = grind (arith, get_or_past)
 
 pub stays_used : (old new : List Bool) (b : Before) → StayUsed old new → is_used old b ≡ true → is_used new b ≡ true
-stays_used old new Nothing s u = refl
-stays_used old new (Behind k) s u = s k u
+stays_used old new x2 s u = grind arith
 
 pub pairs_stay : (old new : List Bool) (ps : List FollowedPair) → StayUsed old new → Each (λ p. is_used old p.past ≡ true) ps
     → Each (λ p. is_used new p.past ≡ true) ps
@@ -132,7 +102,7 @@ pairs_stay old new ps stay h = grind (arith, each_weaker, stays_used)
 pub used_written : (new old : List Bool) (end : ℕ) (ps : List FollowedPair) → length new ≡ end → Each (λ p. is_used new p.past ≡ true) ps
     → Each (λ p. is_used (take end (new ++ drop (length new) old)) p.past ≡ true) ps
 used_written new old end ps l h =
-    let whole : take end _ ≡ new = rw (← l) (take-append_seam new (drop (length new) old)) in
+    let whole : take end _ ≡ new = grind (arith, take-append_seam) in
     subst (λ used. Each (λ p. is_used used p.past ≡ true) ps) (sym whole) h
 
 -- one pair more

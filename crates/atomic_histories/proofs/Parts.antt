@@ -1,7 +1,6 @@
 -- The pairs on whose ways a load may have got its answer, and the others: what is gathered of them one by one.
-use Rattle.std.proofs.Common.{◌≡◌, ℕ, ◌+◌, ◌<◌, Result, Ok, Err, IfErr, IsErrAnd, true, false, List, [], ◌∷◌, ◌++◌}
-use Rattle.std.proofs.Common.{filter, length, drop, get_or, Option, refl, sym, ap, ◌∙◌, subst, append_assoc, add-one, drop-cons}
-use Rattle.std.proofs.Common.{arith}
+use Rattle.std.proofs.Common.{◌≡◌, ℕ, ◌+◌, ◌<◌, Result, IfErr, IsErrAnd, true, false, List, [], ◌∷◌, ◌++◌, filter, length, drop, get_or}
+use Rattle.std.proofs.Common.{Option, append_assoc, add-one, drop-cons, arith}
 use Rattle.atomic_histories.specs.declared.unit.UnitPlace.{UnitPlace}
 use Rattle.atomic_histories.specs.declared.unit.WatchedLoad.{WatchedLoad}
 use Rattle.atomic_histories.specs.declared.stretches.Before.{Before}
@@ -11,8 +10,7 @@ use Rattle.atomic_histories.specs.declared.splits.Split.{Split}
 use Rattle.atomic_histories.specs.Words.{is_word_of}
 use Rattle.atomic_histories.specs.Pasts.{got, missed}
 use Rattle.atomic_histories.specs.Branches.{may_come}
-use Rattle.atomic_histories.specs.Followed.{Pair, Aim, word_aim, is_answer, cons_any, pair_on, pair_missed, gathered}
-use Rattle.atomic_histories.specs.Followed.{with_hope}
+use Rattle.atomic_histories.specs.Followed.{Pair, Aim, word_aim, is_answer, cons_any, pair_on, pair_missed, gathered, with_hope}
 use Rattle.atomic_histories.specs.Shares.{got_of, missed_of, past_any, IsShare}
 use Rattle.atomic_histories.specs.Parts.{IsPart, AreParts}
 use Rattle.atomic_histories.specs.Shown.{past_at, pasts, shown, shown_all, IsIn, AreIn, Grows}
@@ -24,15 +22,7 @@ pub part_more : (gather : List Pair → List Pair) (part : Pair → List Pair)
     → (ss : List Stretch) (ps : List FollowedPair) (i : ℕ) (p : FollowedPair) (es added more whole : List Pair) → i < length ps
     → p ≡ get_or ps i p → more ≡ es ++ added → added ≡ part (shown ss p) → es ++ gather (shown_all ss (drop i ps)) ≡ whole
     → more ++ gather (shown_all ss (drop (i + 1) ps)) ≡ whole
-part_more gather part step ss ps i p es added more whole h is e a inv =
-    let rest = gather _ in
-    let left =
-    ap (λ qs. gather (shown_all ss qs)) (parts_left) ∙ step _ _ in
-    ap (λ xs. xs ++ rest) e ∙ (append_assoc es added rest
-    ∙ (cc (a, (ap (λ xs. es ++ xs) (sym left) ∙ inv))))
-  where
-    parts_left : drop i ps ≡ p ∷ drop (i + 1) ps
-    parts_left = rw (add-one, drop-cons ps i p h, ← is) refl
+part_more gather part step ss ps i p es added more whole h is e a inv = grind (arith, append_assoc, add-one, drop-cons)
 
 pub got_step : (f : Pair → Option Pair) (e : Pair) (es : List Pair) → gathered f (e ∷ es) ≡ cons_any (f e) [] ++ gathered f es
 got_step f e es = grind arith
@@ -43,38 +33,29 @@ missed_step aim f e es = grind arith
 
 -- One pair. ----
 
-pub missed_part : (unit : UnitPlace) (bytes : List ℕ) (l : WatchedLoad) (ss : List Stretch) (s : Split) (p : FollowedPair)
-    (r : Option Before)
-    → IsPart unit bytes l ss s p → r ≡ missed_of s p.past → is_word_of unit.first p.word l.address bytes ≡ false
-    → may_come unit l.address bytes p.word p.stores.items ≡ true
-    → cons_any (pair_on (shown ss p) (past_any (pasts ss) r)) []
-    ≡ filter (word_aim unit l.address bytes).hope (cons_any (pair_missed unit bytes l (shown ss p)) [])
-missed_part unit bytes l ss s p r is e n t = grind arith
+module _ (unit : UnitPlace) (bytes : List ℕ) (l : WatchedLoad) (ss : List Stretch) where
+  pub missed_part : (s : Split) (p : FollowedPair)
+      (r : Option Before)
+      → IsPart unit bytes l ss s p → r ≡ missed_of s p.past → is_word_of unit.first p.word l.address bytes ≡ false
+      → may_come unit l.address bytes p.word p.stores.items ≡ true
+      → cons_any (pair_on (shown ss p) (past_any (pasts ss) r)) []
+      ≡ filter (word_aim unit l.address bytes).hope (cons_any (pair_missed unit bytes l (shown ss p)) [])
+  missed_part s p r is e n t = grind arith
 
-pub lost_part : (unit : UnitPlace) (bytes : List ℕ) (l : WatchedLoad) (ss : List Stretch) (p : FollowedPair)
-    → is_word_of unit.first p.word l.address bytes ≡ false → may_come unit l.address bytes p.word p.stores.items ≡ false
-    → [] ≡ filter (word_aim unit l.address bytes).hope (cons_any (pair_missed unit bytes l (shown ss p)) [])
-lost_part unit bytes l ss p n t = grind arith
+  pub lost_part : (p : FollowedPair)
+      → is_word_of unit.first p.word l.address bytes ≡ false → may_come unit l.address bytes p.word p.stores.items ≡ false
+      → [] ≡ filter (word_aim unit l.address bytes).hope (cons_any (pair_missed unit bytes l (shown ss p)) [])
+  lost_part p n t = grind arith
 
--- All pairs. ----
+  -- All pairs. ----
 
--- what a split says of them
-pub are_parts : (unit : UnitPlace) (bytes : List ℕ) (l : WatchedLoad) (ss ts : List Stretch) (s : Split) → Grows ss ts
-    → ((b : Before) → IsIn ss b → IsShare ts (got_of s b) (got (is_answer unit l.address l.since bytes) (past_at (pasts ss) b)))
-    → ((b : Before) → IsIn ss b → IsShare ts (missed_of s b) (missed (is_answer unit l.address l.since bytes) (past_at (pasts ss) b)))
-    → (ps : List FollowedPair) → AreIn ss ps → AreParts unit bytes l ts s ps
-are_parts unit bytes l ss ts s g a b [] h = tt
-are_parts unit bytes l ss ts s g a b (p ∷ ps) h = (here, are_parts unit bytes l ss ts s g a b ps h.1)
-  where
-    same : past_at (pasts ss) p.past ≡ past_at (pasts ts) p.past
-    same = sym (past_grown ss ts g p.past h.0)
-
-    here : IsPart unit bytes l ts s p
-    here = record {
-      is_in = in_grown ss ts g p.past h.0;
-      got = subst (λ x. IsShare ts (got_of s p.past) (got (is_answer unit l.address l.since bytes) x)) same (a p.past h.0);
-      missed = subst (λ x. IsShare ts (missed_of s p.past) (missed (is_answer unit l.address l.since bytes) x)) same (b p.past h.0);
-    }
+  -- what a split says of them
+  pub are_parts : (ts : List Stretch) (s : Split) → Grows ss ts
+      → ((b : Before) → IsIn ss b → IsShare ts (got_of s b) (got (is_answer unit l.address l.since bytes) (past_at (pasts ss) b)))
+      → ((b : Before) → IsIn ss b → IsShare ts (missed_of s b) (missed (is_answer unit l.address l.since bytes) (past_at (pasts ss) b)))
+      → (ps : List FollowedPair) → AreIn ss ps → AreParts unit bytes l ts s ps
+  are_parts ts s g a b [] h = tt
+  are_parts ts s g a b (p ∷ ps) h = grind (arith, are_parts ts s g a b ps h.1, past_grown, in_grown)
 
 -- what is said of loads and pairs is said of the same
 pub said_of : {L A B : Type 0} (P : L → A → B → Type 0) (ks ls : L) (as_ bs : A) (cs ds : B)
@@ -83,5 +64,4 @@ said_of P ks ls as_ bs cs ds e f g h = grind arith
 
 -- what is said of an error that is passed on
 pub pass_on : {A E : Type 0} (r : Result A E) (e : E) (P : E → Type 0) → IsErrAnd r (λ f. f ≡ e) → P e → IfErr r P
-pass_on (Ok x) e P h p = tt
-pass_on (Err f) e P h p = subst P (sym h) p
+pass_on x0 e x2 h p = grind arith

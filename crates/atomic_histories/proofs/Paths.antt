@@ -1,14 +1,15 @@
 -- What stood there on the ways of a past.
-use Rattle.std.proofs.Common.{◌≡◌, ℕ, ◌+◌, ◌<◌, ◌≤◌, ◌⊎◌, Bool, true, false, not, nat_lt, nat_le, List, [], ◌∷◌, map, filter}
-use Rattle.std.proofs.Common.{fold, Option, Some, None, inl, inr, refl, sym, ap, ◌∙◌, subst, arith}
+use Rattle.std.proofs.Common.{◌≡◌, ℕ, ◌+◌, ◌≤◌, ◌⊎◌, Bool, true, false, not, nat_lt, List, [], ◌∷◌, map, filter, fold, Option, Some, None}
+use Rattle.std.proofs.Common.{inl, inr, refl, sym, ap, ◌∙◌, subst, arith}
 use Rattle.std.specs.List.{list_any}
-use Rattle.std.proofs.lemmas.Bool.{cases_Bool, cases_lt, lt-ltb, le-ltb, lt-leb}
+use Rattle.std.proofs.lemmas.Bool.{cases_Bool, lt-ltb, le-ltb, lt-leb}
 use Rattle.atomic_histories.specs.declared.unit.WatchedLoad.{WatchedLoad}
 use Rattle.atomic_histories.specs.Pasts.{Past, begins, after, either, Stood, stood, Has, IsBy, merged, merged_any, after_any, got, missed}
 use Rattle.atomic_histories.specs.Pasts.{cut, earlier, oldest, overwritten, seen_since}
 use Rattle.atomic_histories.specs.Branches.{with_word}
 use Rattle.atomic_histories.specs.Followed.{watched}
 use Rattle.atomic_histories.specs.Stands.{Each, IsAsked}
+use Rattle.atomic_histories.proofs.Lists.{each_weaker, each_filter}
 
 abbrev Word : Type 0
 Word = List (Option ℕ)
@@ -22,19 +23,10 @@ some_path (either p q) = let r = some_path p in (r.0, inl r.1)
 -- The ways of two. ----
 
 pub merged_has : (p q : Past) (path : List Stood) → Has p path ⊎ Has q path → Has (merged p q) path
-merged_has begins begins path (inl e) = e
-merged_has begins begins path (inr e) = e
-merged_has begins (after w t q) path h = h
-merged_has begins (either a b) path h = h
-merged_has (after w t p) q path h = h
-merged_has (either a b) q path h = h
+merged_has x0 x1 path h = grind arith
 
 pub has_merged : (p q : Past) (path : List Stood) → Has (merged p q) path → Has p path ⊎ Has q path
-has_merged begins begins path h = inl h
-has_merged begins (after w t q) path h = h
-has_merged begins (either a b) path h = h
-has_merged (after w t p) q path h = h
-has_merged (either a b) q path h = h
+has_merged x0 x1 path h = grind arith
 
 -- The ways that may be none. ----
 
@@ -43,79 +35,68 @@ HasAny None path = ⊥
 HasAny (Some p) path = Has p path
 
 any_merged : (p q : Option Past) (path : List Stood) → HasAny p path ⊎ HasAny q path → HasAny (merged_any p q) path
-any_merged None q path (inl h) = absurd h
-any_merged None q path (inr h) = h
-any_merged (Some p) None path (inl h) = h
-any_merged (Some p) None path (inr h) = absurd h
-any_merged (Some p) (Some q) path h = merged_has p q path h
+any_merged x0 q path x3 = grind arith
 
 merged_of_any : (p q : Option Past) (path : List Stood) → HasAny (merged_any p q) path → HasAny p path ⊎ HasAny q path
-merged_of_any None q path h = inr h
-merged_of_any (Some p) None path h = inl h
-merged_of_any (Some p) (Some q) path h = has_merged p q path h
+merged_of_any x0 q path h = grind arith
 
 any_after : (w : Word) (t : ℕ) (p : Option Past) (path rest : List Stood) → path ≡ stood w t ∷ rest → HasAny p rest
     → HasAny (after_any w t p) path
-any_after w t None path rest e h = absurd h
-any_after w t (Some p) path rest e h = (rest, e, h)
+any_after w t x2 path rest e h = grind arith
 
 after_of_any : (w : Word) (t : ℕ) (p : Option Past) (path : List Stood) → HasAny (after_any w t p) path
     → (rest : List Stood) × (path ≡ stood w t ∷ rest) × HasAny p rest
-after_of_any w t None path h = absurd h
-after_of_any w t (Some p) path h = h
+after_of_any w t x2 path h = grind arith
 
 -- Those on which something stood there, and those on which it never did. ----
 
-pub got_has : (is : Stood → Bool) (p : Past) (path : List Stood) → Has p path → list_any is path ≡ true → HasAny (got is p) path
-got_has is begins path h t = let x = ap (list_any is) (sym h) ∙ t in cc
-got_has is (after w s p) path h t = elim (cases_Bool (is (stood w s))) [
-  | inl y ↦ rw y h
-  | inr n ↦
-      let r = ap (list_any is) (sym h.1) ∙ t in
-      rw n (any_after w s (got is p) path h.0 h.1 (got_has is p h.0 h.2 (rw n at r)))
-]
-got_has is (either p q) path (inl h) t = any_merged _ _ path (inl (got_has is p path h t))
-got_has is (either p q) path (inr h) t = any_merged _ _ path (inr (got_has is q path h t))
+abbrev pub part : Bool → (Stood → Bool) → Past → Option Past
+part true is p = got is p
+part false is p = missed is p
 
-pub has_got : (is : Stood → Bool) (p : Past) (path : List Stood) → HasAny (got is p) path → Has p path × (list_any is path ≡ true)
-has_got is begins path h = absurd h
-has_got is (after w s p) path h = elim (cases_Bool (is (stood w s))) [
-  | inl y ↦
-      let r = rw y at h in
-      (r, ap (list_any is) r.1 ∙ rw y refl)
-  | inr n ↦
-      let r = after_of_any w s _ path (rw n at h) in
-      let b = has_got is p r.0 r.2 in
-      ((r.0, r.1, b.0), ap (list_any is) r.1 ∙ rw n b.1)
-]
-has_got is (either p q) path h = elim (merged_of_any _ _ path h) [
-  | inl a ↦ let r = has_got is p path a in (inl r.0, r.1)
-  | inr a ↦ let r = has_got is q path a in (inr r.0, r.1)
-]
+part_after : (t : Bool) (is : Stood → Bool) (w : Word) (n : ℕ) (p : Past) → is (stood w n) ≡ false
+    → part t is (after w n p) ≡ after_any w n (part t is p)
+part_after x0 is w n p f = grind arith
 
-pub missed_has : (is : Stood → Bool) (p : Past) (path : List Stood) → Has p path → list_any is path ≡ false → HasAny (missed is p) path
-missed_has is begins path h t = h
-missed_has is (after w s p) path h t =
-    let r = ap (list_any is) (sym h.1) ∙ t in
-    elim (cases_Bool (is (stood w s))) [
-      | inl y ↦ let x = rw y at r in cc
-      | inr n ↦ rw n (any_after w s (missed is p) path h.0 h.1 (missed_has is p h.0 h.2 (rw n at r)))
+part_either : (t : Bool) (is : Stood → Bool) (p q : Past) → part t is (either p q) ≡ merged_any (part t is p) (part t is q)
+part_either x0 is p q = grind arith
+
+pub part_has : (t : Bool) (is : Stood → Bool) (p : Past) (path : List Stood) → Has p path → list_any is path ≡ t
+    → HasAny (part t is p) path
+part_has true is begins path h e = let x = ap (list_any is) (sym h) ∙ e in cc
+part_has false is begins path h e = h
+part_has t is (after w n p) path h e =
+    let r = ap (list_any is) (sym h.1) ∙ e in
+    elim (cases_Bool _) [
+      | inl y ↦ whole t (rw y at r) y
+      | inr f ↦ rw (part_after t is w n p f) (any_after w n _ path h.0 h.1 (part_has t is p h.0 h.2 (rw f at r)))
     ]
-missed_has is (either p q) path (inl h) t = any_merged _ _ path (inl (missed_has is p path h t))
-missed_has is (either p q) path (inr h) t = any_merged _ _ path (inr (missed_has is q path h t))
+  where
+    whole : (t : Bool) → true ≡ t → is (stood w n) ≡ true → HasAny (part t is (after w n p)) path
+    whole true x y = rw y h
+    whole false x y = cc
+part_has t is (either p q) path h e =
+    rw (part_either t is p q)
+    (any_merged _ _ path (elim h [ inl a ↦ inl (part_has t is p path a e) | inr a ↦ inr (part_has t is q path a e) ]))
 
-pub has_missed : (is : Stood → Bool) (p : Past) (path : List Stood) → HasAny (missed is p) path → Has p path × (list_any is path ≡ false)
-has_missed is begins path h = (h, ap (list_any is) h)
-has_missed is (after w s p) path h = elim (cases_Bool (is (stood w s))) [
-  | inl y ↦ absurd (rw y at h)
-  | inr n ↦
-      let r = after_of_any w s _ path (rw n at h) in
-      let b = has_missed is p r.0 r.2 in
-      ((r.0, r.1, b.0), ap (list_any is) r.1 ∙ rw n b.1)
+pub has_part : (t : Bool) (is : Stood → Bool) (p : Past) (path : List Stood) → HasAny (part t is p) path
+    → Has p path × (list_any is path ≡ t)
+has_part true is begins path h = absurd h
+has_part false is begins path h = (h, ap (list_any is) h)
+has_part t is (after w n p) path h = elim (cases_Bool _) [
+  | inl y ↦ whole t y h
+  | inr f ↦
+      let r = after_of_any w n _ path (rw (part_after t is w n p f) at h) in
+      let b = has_part t is p r.0 r.2 in
+      ((r.0, r.1, b.0), ap (list_any is) r.1 ∙ rw f b.1)
 ]
-has_missed is (either p q) path h = elim (merged_of_any _ _ path h) [
-  | inl a ↦ let r = has_missed is p path a in (inl r.0, r.1)
-  | inr a ↦ let r = has_missed is q path a in (inr r.0, r.1)
+  where
+    whole : (t : Bool) → is (stood w n) ≡ true → HasAny (part t is (after w n p)) path → Has (after w n p) path × (list_any is path ≡ t)
+    whole true y h = let r = rw y at h in (r, ap (list_any is) r.1 ∙ rw y refl)
+    whole false y h = absurd (rw y at h)
+has_part t is (either p q) path h = elim (merged_of_any _ _ path (rw (part_either t is p q) at h)) [
+  | inl a ↦ let r = has_part t is p path a in (inl r.0, r.1)
+  | inr a ↦ let r = has_part t is q path a in (inr r.0, r.1)
 ]
 
 -- What is left since a moment. ----
@@ -159,73 +140,34 @@ has_cut since (either p q) path h = elim (has_merged _ _ path h) [
 
 -- Moments. ----
 
-pub by_weaker : (n m : ℕ) → n ≤ m → (p : Past) → IsBy n p → IsBy m p
-by_weaker n m l begins h = tt
-by_weaker n m l (after w t p) h = (let a = h.0 in omega arith, by_weaker n m l p h.1)
-by_weaker n m l (either p q) h = (by_weaker n m l p h.0, by_weaker n m l q h.1)
-
-pub by_merged : (n : ℕ) (p q : Past) → IsBy n p → IsBy n q → IsBy n (merged p q)
-by_merged n begins begins a b = tt
-by_merged n begins (after w t q) a b = (a, b)
-by_merged n begins (either x y) a b = (a, b)
-by_merged n (after w t p) q a b = (a, b)
-by_merged n (either x y) q a b = (a, b)
-
-abbrev pub IsAnyBy : ℕ → Option Past → Type 0
-IsAnyBy n None = Unit {0}
-IsAnyBy n (Some p) = IsBy n p
-
-by_merged_any : (n : ℕ) (p q : Option Past) → IsAnyBy n p → IsAnyBy n q → IsAnyBy n (merged_any p q)
-by_merged_any n None q a b = b
-by_merged_any n (Some p) None a b = a
-by_merged_any n (Some p) (Some q) a b = by_merged n p q a b
-
-by_after_any : (n : ℕ) (w : Word) (t : ℕ) (p : Option Past) → t ≤ n → IsAnyBy n p → IsAnyBy n (after_any w t p)
-by_after_any n w t None l h = tt
-by_after_any n w t (Some p) l h = (l, h)
-
-pub by_got : (n : ℕ) (is : Stood → Bool) (p : Past) → IsBy n p → IsAnyBy n (got is p)
-by_got n is begins h = tt
-by_got n is (after w t p) h = elim (cases_Bool (is (stood w t))) [
-  | inl y ↦ rw y h
-  | inr f ↦ rw f (by_after_any n w t (got is p) h.0 (by_got n is p h.1))
-]
-by_got n is (either p q) h = by_merged_any n _ _ (by_got n is p h.0) (by_got n is q h.1)
-
-pub by_missed : (n : ℕ) (is : Stood → Bool) (p : Past) → IsBy n p → IsAnyBy n (missed is p)
-by_missed n is begins h = tt
-by_missed n is (after w t p) h = elim (cases_Bool (is (stood w t))) [
-  | inl y ↦ rw y tt
-  | inr f ↦ rw f (by_after_any n w t (missed is p) h.0 (by_missed n is p h.1))
-]
-by_missed n is (either p q) h = by_merged_any n _ _ (by_missed n is p h.0) (by_missed n is q h.1)
-
-pub by_cut : (n since : ℕ) (p : Past) → IsBy n p → IsBy n (cut since p)
-by_cut n since begins h = tt
-by_cut n since (after w t p) h = elim (cases_Bool (nat_lt t since)) [
-  | inl y ↦ rw y (by_cut n since p h.1)
-  | inr f ↦ rw f (h.0, by_cut n since p h.1)
-]
-by_cut n since (either p q) h = by_merged n _ _ (by_cut n since p h.0) (by_cut n since q h.1)
-
-pub by_overwritten : (loads : List WatchedLoad) (n : ℕ) (w : Word) (p : Past) → IsBy n p → IsBy n (overwritten loads n w p)
-by_overwritten [] n w p h = tt
-by_overwritten (l ∷ ls) n w p h = grind arith
-
 pub path_by : (n : ℕ) (p : Past) (path : List Stood) → IsBy n p → Has p path → Each (λ s. s.moment ≤ n) path
 path_by n begins path b h = subst (Each (λ s. s.moment ≤ n)) (sym h) tt
-path_by n (after w t p) path b h = subst (Each (λ s. s.moment ≤ n)) (sym h.1) (b.0, path_by n p h.0 b.1 h.2)
+path_by n (after w t p) path b h = grind (arith, path_by n p h.0 b.1 h.2)
 path_by n (either p q) path b (inl h) = path_by n p path b.0 h
 path_by n (either p q) path b (inr h) = path_by n q path b.1 h
+
+pub by_paths : (n : ℕ) (p : Past) → ((path : List Stood) → Has p path → Each (λ s. s.moment ≤ n) path) → IsBy n p
+by_paths n begins f = tt
+by_paths n (after w t p) f =
+    let r = some_path p in
+    ((f _ (r.0, refl, r.1)).0, by_paths n p (λ path h. (f _ (path, refl, h)).1))
+by_paths n (either p q) f = (by_paths n p (λ path h. f path (inl h)), by_paths n q (λ path h. f path (inr h)))
+
+pub by_weaker : (n m : ℕ) → n ≤ m → (p : Past) → IsBy n p → IsBy m p
+by_weaker n m l p h = grind (arith, by_paths, each_weaker, path_by)
+
+pub by_cut : (n since : ℕ) (p : Past) → IsBy n p → IsBy n (cut since p)
+by_cut n since p h = grind (arith, by_paths, has_cut, each_filter, path_by)
+
+pub by_overwritten : (loads : List WatchedLoad) (n : ℕ) (w : Word) (p : Past) → IsBy n p → IsBy n (overwritten loads n w p)
+by_overwritten x0 n w p h = grind arith
 
 -- What a load may have got. ----
 
 -- nothing was overwritten before it was requested
 pub seen_none : (n : ℕ) (path : List Stood) → Each (λ s. s.moment ≤ n) path → seen_since (n + 1) path ≡ []
 seen_none n [] a = refl
-seen_none n (s ∷ path) a =
-    let before : s.moment < n + 1 = let l = a.0 in omega arith in
-    rw (lt-leb _ s.moment before) (seen_none n path a.1)
+seen_none n (s ∷ path) a = grind (arith, seen_none n path a.1, lt-leb)
 
 -- the word of now is overwritten
 watched_one : (t : ℕ) (w : Word) (path : List Stood) (l : WatchedLoad) → l.since ≤ t
@@ -240,15 +182,7 @@ watched_more t w path (l ∷ ls) a = λ i. watched_one t w path l a.0 i ∷ watc
 -- what is older than all loads may go
 seen_cut : (since from : ℕ) → from ≤ since → (path : List Stood) → seen_since since (cut_path from path) ≡ seen_since since path
 seen_cut since from l [] = refl
-seen_cut since from l (s ∷ path) = elim (cases_lt s.moment from) [
-  | inl y ↦
-      let out : s.moment < since = omega arith in
-      rw (lt-ltb s.moment from y, lt-leb since s.moment out) (seen_cut since from l path)
-  | inr n ↦ elim (cases_Bool (nat_le since s.moment)) [
-    | inl t ↦ rw (le-ltb s.moment from n, t) (ap (λ ws. s.word ∷ ws) (seen_cut since from l path))
-    | inr f ↦ rw (le-ltb s.moment from n, f) (seen_cut since from l path)
-  ]
-]
+seen_cut since from l (s ∷ path) = grind (arith, seen_cut since from l path, lt-ltb, lt-leb, le-ltb)
 
 pub watched_cut : (from : ℕ) (path : List Stood) (ls : List WatchedLoad) → Each (λ l. from ≤ l.since) ls
     → map (watched (cut_path from path)) ls ≡ map (watched path) ls
@@ -272,7 +206,7 @@ earlier_stays (l ∷ ls) since =
 
 pub oldest_none : (ls : List WatchedLoad) → oldest ls ≡ None → ls ≡ []
 oldest_none [] h = refl
-oldest_none (l ∷ ls) h = let r = earlier_stays ls l.since in let x = sym h ∙ r.1 in cc
+oldest_none (l ∷ ls) h = let r = earlier_stays ls l.since in cc (r.1)
 
 pub oldest_first : (ls : List WatchedLoad) (from : ℕ) → oldest ls ≡ Some from → Each (λ l. from ≤ l.since) ls
 oldest_first [] from h = cc

@@ -1,29 +1,23 @@
 -- The units that bytes lie in, and steps of the loops over units.
-use Rattle.std.proofs.Common.{◌≡◌, ℕ, zero, suc, ◌+◌, ◌-◌, ◌*◌, ◌/◌, ◌<◌, ◌≤◌, true, false, ◌&&◌, ◌||◌, ◌==◌, if◌then◌else◌}
-use Rattle.std.proofs.Common.{nat_lt, nat_le, List, [], ◌∷◌, ◌++◌, map, length, Option, None, Some, inl, inr, refl, sym, ap, ◌∙◌}
-use Rattle.std.proofs.Common.{ne_eqb, eq-eqb, append_assoc, arith, ◌⊎◌, Result, IfErr, OnOk}
-use Rattle.std.proofs.lemmas.Bool.{cases_Bool, cases_eq, cases_lt, and_from, or_left, or_right}
-use Rattle.std.proofs.lemmas.Bool.{lt-ltb, le-ltb, lt-leb, le-leb}
+use Rattle.std.proofs.Common.{◌≡◌, ℕ, zero, suc, ◌+◌, ◌-◌, ◌*◌, ◌/◌, ◌<◌, ◌≤◌, true, false, ◌&&◌, ◌||◌, ◌==◌, if◌then◌else◌, nat_lt, nat_le}
+use Rattle.std.proofs.Common.{List, [], ◌∷◌, ◌++◌, map, length, Option, None, Some, inl, inr, refl, ap, ◌∙◌, ne_eqb, append_assoc, arith}
+use Rattle.std.proofs.Common.{◌⊎◌, Result, IfErr, OnOk}
+use Rattle.std.proofs.lemmas.Bool.{cases_Bool, cases_eq, or_left, or_right}
 use Rattle.std.proofs.lemmas.List.{map-append}
 use Rattle.memory_histories.specs.declared.events.HistoryEvent.{HistoryEvent}
-use Rattle.memory_histories.specs.declared.events.HistoryEvent.TheVariants.{LoadRequest, LoadResponse, StoreRequest, StoreResponse}
 use Rattle.memory_histories.specs.declared.events.Rest.{Rest}
 use Rattle.atomic_histories.specs.declared.kept.KeptUnit.{KeptUnit}
 use Rattle.atomic_histories.specs.declared.memory.UnitSize.{UnitSize}
-use Rattle.atomic_histories.specs.declared.memory.UnitSize.TheVariants.{One, Two, Four, Eight}
 use Rattle.atomic_histories.specs.declared.memory.AtomicFault.{AtomicFault}
-use Rattle.atomic_histories.specs.declared.memory.AtomicFault.TheVariants.{Refused, Undecided, OutOfMemory}
 use Rattle.atomic_histories.specs.declared.search.TheConstants.{MOST_WORDS}
 use Rattle.std.specs.Result.{result_err}
 use Rattle.atomic_histories.specs.Operations.{form_fault}
 use Rattle.atomic_histories.specs.Law.{unit_at}
 use Rattle.atomic_histories.specs.Followed.{Ways, no_ways, first_ways, needs_too_many, is_too_wide}
-use Rattle.atomic_histories.specs.Held.{Held, covered, unit_after, units_of, changed, ways_from, is_stuck}
-use Rattle.atomic_histories.specs.Held.{is_over_at, halt_from}
+use Rattle.atomic_histories.specs.Held.{Held, covered, unit_after, units_of, changed, ways_from, is_stuck, is_over_at, halt_from}
 use Rattle.atomic_histories.specs.declared.unit.UnitPlace.{UnitPlace}
 use Rattle.atomic_histories.specs.Shown.{shown_unit, words_in, StopIs}
 use Rattle.atomic_histories.specs.declared.search.Stop.{Stop}
-use Rattle.atomic_histories.specs.declared.search.Stop.TheVariants.{TooManyWays, NoMemory}
 use Rattle.atomic_histories.specs.declared.unit.Operation.{Operation}
 use Rattle.atomic_histories.specs.Judge.{bytes_of, fault_of, ChangedFaultIs, kept_or, kept_at, words_of, put_from, UnitFaultIs}
 use Rattle.atomic_histories.specs.Few.{AreFew}
@@ -32,16 +26,10 @@ use Rattle.atomic_histories.proofs.Few.{few_more}
 
 pub units_fit : (size : UnitSize) (a n : ℕ) → a < 18446744073709551616
     → (a / bytes_of size + units_of (bytes_of size) a n) * bytes_of size ≤ 18446744073709551616
-units_fit One a n h = omega arith
-units_fit Two a n h = omega arith
-units_fit Four a n h = omega arith
-units_fit Eight a n h = omega arith
+units_fit x0 a n h = grind arith
 
 pub sized : (size : UnitSize) → 1 ≤ bytes_of size
-sized One = omega arith
-sized Two = omega arith
-sized Four = omega arith
-sized Eight = omega arith
+sized x0 = grind arith
 
 pub unit_below : (from count size j : ℕ) → (from + count) * size ≤ 18446744073709551616 → j < count → 1 ≤ size
     → (from + j) * size < 18446744073709551616
@@ -62,10 +50,7 @@ pub ways_more : (h : Held) (event : HistoryEvent) (us : List KeptUnit) (u : Kept
     → shown_unit u ≡ changed h event (from + j)
     → map shown_unit (us ++ u ∷ []) ++ ways_from h event (from + (j + 1)) (count - (j + 1)) ≡ map shown_unit us ++ ways_from h event
     (from + j) (count - j)
-ways_more h event us u from count j l e =
-    let tail = ways_from h event _ _ in
-    ap (λ t. t ++ tail) (map-append shown_unit us (u ∷ [])) ∙ (append_assoc _ _ tail
-    ∙ (ap (λ x. map shown_unit us ++ x ∷ tail) e ∙ ap (λ t. map shown_unit us ++ t) (sym (ways_step h event from count j l))))
+ways_more h event us u from count j l e = grind (arith, map-append, append_assoc, ways_step)
 
 -- The first unit at which an event halts. ----
 
@@ -79,41 +64,18 @@ halt_step limit h event from count j l f g =
 
 halt_here : (limit : ℕ) (h : Held) (event : HistoryEvent) (k n : ℕ) → 0 < n → (is_stuck h event k || is_over_at limit h event k) ≡ true
     → halt_from limit h event k n ≡ Some k
-halt_here limit h event k zero l t = absurd (omega arith)
-halt_here limit h event k (suc n) l t = rw t refl
+halt_here limit h event k x4 l t = grind arith
 
 -- too many ways are too many words or too many pairs
 pub wide_cases : (limit : ℕ) (unit : UnitPlace) (words : ℕ) (u : Ways) (event : HistoryEvent) → is_too_wide limit unit words u event ≡ true
     → (MOST_WORDS < words) ⊎ (needs_too_many limit unit u event ≡ true)
-wide_cases limit unit words u (LoadRequest number address n) t = cc
-wide_cases limit unit words u (LoadResponse number bytes) t = grind arith
-wide_cases limit unit words u (StoreRequest number address bytes enables) t = cc
-wide_cases limit unit words u (StoreResponse number) t = grind arith
+wide_cases limit unit words u x4 t = grind arith
 
 pub halt_at : (fault : AtomicFault) (limit : ℕ) (h : Held) (event : HistoryEvent) (from count j : ℕ) → j < count
     → halt_from limit h event (from + j) (count - j) ≡ halt_from limit h event from count → AreFew h event from (from + j)
     → UnitFaultIs limit h event (from + j) fault
     → HaltIs limit h event from count fault
-halt_at (Refused cause) limit h event from count j l same few f = (
-  from + j,
-  sym same ∙ halt_here limit h event _ _ (omega arith) (or_left _ _ f.0),
-  f.2,
-  f.1,
-  few_more h event from _ _ refl few f.3,
-)
-halt_at (Undecided address) limit h event from count j l same few f = (
-  from + j,
-  omega arith,
-  omega arith,
-  f.0,
-  f.1,
-  elim (wide_cases limit (unit_at h.size (from + j)) _ _ event f.1) [
-    | inl many ↦ inr many
-    | inr over ↦ inl (sym same ∙ halt_here limit h event _ _ (omega arith) (or_right _ _ over), over)
-  ],
-  few,
-)
-halt_at OutOfMemory limit h event from count j l same few f = tt
+halt_at x0 limit h event from count j l same few f = grind (arith, halt_here, or_left, few_more, wide_cases, or_right)
 
 -- what is told of the units that an event touches
 pub told_from : {A : Type 0} (r : Result A AtomicFault) (limit : ℕ) (h : Held) (event : HistoryEvent) (from count address length : ℕ)
@@ -139,32 +101,19 @@ put_last f g (x ∷ xs) u from k e =
 pub put_shown : (h : Held) (event : HistoryEvent) (f : ℕ → Option KeptUnit) (d : Ways) (n from : ℕ) (us : List KeptUnit)
     → map shown_unit us ≡ ways_from h event from n → (k : ℕ)
     → kept_or (put_from f from us k) d ≡ (if nat_le from k && nat_lt k (from + n) then changed h event k else kept_or (f k) d)
-put_shown h event f d zero from [] e k = elim (cases_lt k from) [
-  | inl below ↦ rw (lt-leb from k below) refl
-  | inr above ↦ rw (le-leb from k above, le-ltb k (from + 0) (omega arith)) refl
-]
-put_shown h event f d zero from (u ∷ us) e k = cc
-put_shown h event f d (suc n) from [] e k = cc
+put_shown h event f d zero from [] e k = grind arith
 put_shown h event f d (suc n) from (u ∷ us) e k =
     let first : shown_unit u ≡ changed h event from = cc in
     let others : map shown_unit us ≡ ways_from h event _ n = cc in
     elim (cases_eq from k) [
-      | inl same ↦
-          let in_ =
-          and_from _ _ (le-leb from k (omega arith)) (lt-ltb k (from + suc n) (omega arith)) in
-          rw (eq-eqb from k same, in_) (first ∙ ap (changed h event) same)
+      | inl same ↦ grind arith
       | inr other ↦
           let none = ne_eqb from k other in
           let r = put_shown h event f d n (from + 1) us others k in
-          let more : (nat_le (from + 1) k && nat_lt k (from + 1 + n)) ≡ (nat_le from k && nat_lt k (from + suc n)) =
-          elim (cases_lt k from) [
-            | inl below ↦ rw (lt-leb from k below, lt-leb (from + 1) k (omega arith)) refl
-            | inr above ↦
-                let end : from + 1 + n ≡ from + suc n = omega arith in
-                rw (le-leb from k above, le-leb (from + 1) k (omega arith), end) refl
-          ] in
+          let more : (nat_le (from + 1) k && nat_lt k (from + 1 + n)) ≡ (nat_le from k && nat_lt k (from + suc n)) = grind arith in
           rw none (cc (r, more))
     ]
+put_shown h event f d _ from _ e k = cc
 
 -- there are numbers for so many units
 pub numbers_fit : (from count size : ℕ) → (from + count) * size ≤ 18446744073709551616 → 1 ≤ size → from + count ≤ 18446744073709551616
@@ -203,8 +152,7 @@ same_words f g e = grind arith
 -- at the unit that an event touches
 pub stopped_unit : (limit : ℕ) (place : UnitPlace) (words : ℕ) (u : Ways) (event : HistoryEvent) (loads : List Operation) (stop : Stop)
     → StopIs (is_too_wide limit place words u event) stop → ChangedFaultIs limit place words u event loads (fault_of stop place.first)
-stopped_unit limit place words u event loads TooManyWays w = (refl, w)
-stopped_unit limit place words u event loads NoMemory w = tt
+stopped_unit limit place words u event loads x6 w = grind arith
 
 -- a unit that no operation has touched is what is kept where nothing is
 pub kept_none : (image : List ℕ) (rest : Rest) (size : ℕ) (f : ℕ → Option KeptUnit) (k : ℕ) (place : UnitPlace) (u : KeptUnit)

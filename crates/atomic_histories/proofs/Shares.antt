@@ -1,8 +1,8 @@
 -- What is left of stretches.
 use Rattle.std.proofs.Common.{◌≡◌, ℕ, ◌+◌, ◌<◌, ◌≤◌, Bool, true, false, List, [], ◌∷◌, ◌++◌, length, get_or, take, drop, length-append}
-use Rattle.std.proofs.Common.{Option, Result, Ok, Err, OnOk, Some, None, refl, subst, sym, ap, ap₂, ◌∙◌, add-one, take-suc, arith, inl, inr}
+use Rattle.std.proofs.Common.{Option, Result, OnOk, Some, None, refl, subst, sym, ap, ap₂, ◌∙◌, add-one, take-suc, arith, inl, inr}
 use Rattle.std.proofs.lemmas.List.{get_or_append_left, get_or_past, length-take-le, take-append-le, take-append-drop}
-use Rattle.std.proofs.lemmas.Bool.{cases_order, cases_lt}
+use Rattle.std.proofs.lemmas.Bool.{cases_order}
 use Rattle.std.proofs.Math.Seq.{get_or-append_seam}
 use Rattle.atomic_histories.specs.declared.stretches.Before.{Before}
 use Rattle.atomic_histories.specs.declared.stretches.Before.TheVariants.{Nothing, Behind}
@@ -17,20 +17,15 @@ use Rattle.atomic_histories.proofs.Frames.{pasts_push, length_pasts, past_grown,
 -- A share stays one while stretches are pushed. ----
 
 in_any_grown : (ss ts : List Stretch) → Grows ss ts → (share : Option Before) → IsInAny ss share → IsInAny ts share
-in_any_grown ss ts g None h = tt
-in_any_grown ss ts g (Some b) h = in_grown ss ts g b h
+in_any_grown ss ts g x3 h = grind (arith, in_grown)
 
 pub past_any_grown : (ss ts : List Stretch) → Grows ss ts → (share : Option Before) → IsInAny ss share
     → past_any (pasts ts) share ≡ past_any (pasts ss) share
-past_any_grown ss ts g None h = refl
-past_any_grown ss ts g (Some b) h = ap Some (past_grown ss ts g b h)
+past_any_grown ss ts g x3 h = grind (arith, past_grown)
 
 pub share_grown : (ss ts : List Stretch) (share : Option Before) (past : Option Past) → Grows ss ts → IsShare ss share past
     → IsShare ts share past
-share_grown ss ts share past g h = record {
-  shows = past_any_grown ss ts g share h.is_in ∙ h.shows;
-  is_in = in_any_grown ss ts g share h.is_in;
-}
+share_grown ss ts share past g h = grind (arith, past_any_grown, in_any_grown)
 
 -- The shares of the stretches before a place. ----
 
@@ -57,8 +52,7 @@ pushed left bare ps p ss shares share l h here (Behind k) = elim (cases_order k 
 pub pasts_take : (ss : List Stretch) (place : ℕ) (s : Stretch) → place < length ss → s ≡ get_or ss place s
     → pasts (take (place + 1) ss) ≡ pasts (take place ss) ++ past_of (pasts (take place ss)) s ∷ []
 pasts_take ss place s p e =
-    let more : take _ ss ≡ take place ss ++ s ∷ [] =
-    rw add-one (cc (take-suc ss place s p, e)) in
+    let more : take _ ss ≡ take place ss ++ s ∷ [] = grind (arith, add-one, take-suc) in
     ap pasts more ∙ pasts_push (take place ss) s
 
 pub pasts_length : (ss : List Stretch) (place : ℕ) → place ≤ length ss → length (pasts (take place ss)) ≡ place
@@ -88,7 +82,7 @@ pub stands : (ss : List Stretch) (place : ℕ) (s : Stretch) → place < length 
     → past_at (pasts ss) (Behind place) ≡ past_of (pasts (take place ss)) s
 stands ss place s p e =
     let ps = pasts (take place ss) in
-    let within : place < length _ = omega (arith, length-take-le (place + 1) ss (omega (arith, p))) in
+    let within : place < length _ = grind (arith, length-take-le) in
     past_grown _ ss (grows_take ss (place + 1)) (Behind place) within
     ∙ ap (λ xs. get_or xs place begins) (pasts_take ss place s p e)
     ∙ at_push ps _ begins place (sym (pasts_length ss place (omega (arith, p))))
@@ -97,11 +91,7 @@ stands ss place s p e =
 pub stays : (bare : Option Before) (place : ℕ) (ss : List Stretch) (shares : List (Option Before)) (b : Before)
     → ((k : ℕ) → bare ≡ Some (Behind k) → ⊥) → place ≤ length ss → length shares ≡ place → share_in bare shares b ≡ Some b
     → past_at (pasts (take place ss)) b ≡ past_at (pasts ss) b
-stays bare place ss shares Nothing n p l e = refl
-stays bare place ss shares (Behind k) n p l e = elim (cases_lt k place) [
-  | inl b ↦ sym (past_grown _ ss (grows_take ss place) (Behind k) (omega (arith, length-take-le place ss p, b)))
-  | inr a ↦ absurd (n k (sym (get_or_past shares k bare (omega (arith, a, l))) ∙ e))
-]
+stays bare place ss shares x4 n p l e = grind (arith, past_grown, grows_take, length-take-le, get_or_past)
 
 pub none_got : (k : ℕ) → None ≡ Some (Behind k) → ⊥
 none_got k e = cc
@@ -111,10 +101,7 @@ none_missed k e = cc
 
 stands_grown : (ss ts : List Stretch) (place : ℕ) (s : Stretch) → place < length ss → s ≡ get_or ss place s → Grows ss ts
     → (place < length ts) × (s ≡ get_or ts place s)
-stands_grown ss ts place s p e g = (
-  omega (arith, grows_longer ss ts g, p),
-  e ∙ sym (cc (g.1, get_or_append_left ss g.0 s place p)),
-)
+stands_grown ss ts place s p e g = grind (arith, grows_longer, get_or_append_left)
 
 -- a word's stretch is what is left of it if all is left that stood there before
 pub word_same : (bare : Option Before) (place : ℕ) (ss ts : List Stretch) (s : Stretch) (word : List (Option ℕ)) (moment : ℕ) (b : Before)
@@ -141,34 +128,35 @@ two_same bare place ss ts s one other shares share more n p e g is l i j whole m
 
 -- What is left of it. ----
 
--- a share shows what is left of the past before a place
-shown_share : (left : Past → Option Past) (bare : Option Before) (place : ℕ) (ss ts : List Stretch) (b : Before)
-    (shares : List (Option Before))
-    (share : Option Before) → AreShares left bare place ss shares → Grows ss ts → share ≡ share_in bare shares b
-    → past_any (pasts ts) share ≡ left (past_at (pasts (take place ss)) b)
-shown_share left bare place ss ts b shares share h g i = grind (arith, past_any_grown)
+module _ (left : Past → Option Past) (bare : Option Before) (place : ℕ) (ss ts : List Stretch) where
+  -- a share shows what is left of the past before a place
+  shown_share : (b : Before)
+      (shares : List (Option Before))
+      (share : Option Before) → AreShares left bare place ss shares → Grows ss ts → share ≡ share_in bare shares b
+      → past_any (pasts ts) share ≡ left (past_at (pasts (take place ss)) b)
+  shown_share b shares share h g i = grind (arith, past_any_grown)
 
-pub word_left : (left : Past → Option Past) (bare : Option Before) (place : ℕ) (ss ts us : List Stretch) (word : List (Option ℕ))
-    (moment : ℕ)
-    (b : Before) (shares : List (Option Before)) (share r : Option Before)
-    → left (after word moment (past_at (pasts (take place ss)) b)) ≡ after_any word moment (left (past_at (pasts (take place ss)) b))
-    → AreShares left bare place ss shares → Grows ss ts → share ≡ share_in bare shares b
-    → IsShare us r (after_any word moment (past_any (pasts ts) share))
-    → IsShare us r (left (after word moment (past_at (pasts (take place ss)) b)))
-word_left left bare place ss ts us word moment b shares share r law h g i here =
-    subst (IsShare us r) (ap (after_any word moment) (shown_share left bare place ss ts b shares share h g i) ∙ sym law) here
+  pub word_left : (us : List Stretch) (word : List (Option ℕ))
+      (moment : ℕ)
+      (b : Before) (shares : List (Option Before)) (share r : Option Before)
+      → left (after word moment (past_at (pasts (take place ss)) b)) ≡ after_any word moment (left (past_at (pasts (take place ss)) b))
+      → AreShares left bare place ss shares → Grows ss ts → share ≡ share_in bare shares b
+      → IsShare us r (after_any word moment (past_any (pasts ts) share))
+      → IsShare us r (left (after word moment (past_at (pasts (take place ss)) b)))
+  word_left us word moment b shares share r law h g i here =
+      subst (IsShare us r) (ap (after_any word moment) (shown_share b shares share h g i) ∙ sym law) here
 
-pub two_left : (left : Past → Option Past) (bare : Option Before) (place : ℕ) (ss ts us : List Stretch) (one other : Before)
-    (shares : List (Option Before)) (share more r : Option Before)
-    → left (either (past_at (pasts (take place ss)) one) (past_at (pasts (take place ss)) other))
-    ≡ merged_any (left (past_at (pasts (take place ss)) one)) (left (past_at (pasts (take place ss)) other))
-    → AreShares left bare place ss shares → Grows ss ts → share ≡ share_in bare shares one → more ≡ share_in bare shares other
-    → IsShare us r (merged_any (past_any (pasts ts) share) (past_any (pasts ts) more))
-    → IsShare us r (left (either (past_at (pasts (take place ss)) one) (past_at (pasts (take place ss)) other)))
-two_left left bare place ss ts us one other shares share more r law h g i j here =
-    subst (IsShare us r)
-    (ap₂ merged_any (shown_share left bare place ss ts one shares share h g i) (shown_share left bare place ss ts other shares more h g j)
-    ∙ sym law) here
+  pub two_left : (us : List Stretch) (one other : Before)
+      (shares : List (Option Before)) (share more r : Option Before)
+      → left (either (past_at (pasts (take place ss)) one) (past_at (pasts (take place ss)) other))
+      ≡ merged_any (left (past_at (pasts (take place ss)) one)) (left (past_at (pasts (take place ss)) other))
+      → AreShares left bare place ss shares → Grows ss ts → share ≡ share_in bare shares one → more ≡ share_in bare shares other
+      → IsShare us r (merged_any (past_any (pasts ts) share) (past_any (pasts ts) more))
+      → IsShare us r (left (either (past_at (pasts (take place ss)) one) (past_at (pasts (take place ss)) other)))
+  two_left us one other shares share more r law h g i j here =
+      subst (IsShare us r)
+      (ap₂ merged_any (shown_share one shares share h g i) (shown_share other shares more h g j)
+      ∙ sym law) here
 
 -- the shares of one stretch more, of which each is among the last stretches
 pub split_more : (is : Stood → Bool) (place : ℕ) (ss us : List Stretch) (s : Stretch) (split new : Split) (past : Past)
@@ -181,8 +169,8 @@ split_more is place ss us s split new past g m p e shows grows h got_is missed_i
   got = λ b. rw new_got (shares_more (got is) None place ss us s split.got.items g p e h.got_places grows h.got (rw shows got_is) b);
   missed = λ b. rw new_missed
       (shares_more (missed is) (Some Nothing) place ss us s split.missed.items m p e h.missed_places grows h.missed (rw shows missed_is) b);
-  got_places = ap length new_got ∙ length-append split.got.items _ ∙ ap (λ k. k + 1) h.got_places;
-  missed_places = ap length new_missed ∙ length-append split.missed.items _ ∙ ap (λ k. k + 1) h.missed_places;
+  got_places = grind (arith, length-append);
+  missed_places = grind (arith, length-append);
 }
 
 -- the whole of a stretch is got
@@ -199,14 +187,14 @@ pub whole_missed : (is : Stood → Bool) (ss : List Stretch) (word : List (Optio
     → IsShare ss None (missed is (after word moment past))
 whole_missed is ss word moment past t = grind arith
 
-pub got_word : (is : Stood → Bool) (word : List (Option ℕ)) (moment : ℕ) (past : Past) → is (stood word moment) ≡ false
-    → got is (after word moment past) ≡ after_any word moment (got is past)
-got_word is word moment past f = rw f refl
+module _ (is : Stood → Bool) (word : List (Option ℕ)) (moment : ℕ) (past : Past) where
+  pub got_word : is (stood word moment) ≡ false
+      → got is (after word moment past) ≡ after_any word moment (got is past)
+  got_word f = rw f refl
 
-pub missed_word : (is : Stood → Bool) (word : List (Option ℕ)) (moment : ℕ) (past : Past) → is (stood word moment) ≡ false
-    → missed is (after word moment past) ≡ after_any word moment (missed is past)
-missed_word is word moment past f = rw f refl
+  pub missed_word : is (stood word moment) ≡ false
+      → missed is (after word moment past) ≡ after_any word moment (missed is past)
+  missed_word f = rw f refl
 
 pub on_ok_both : {T E A B C : Type 0} (r : Result T E) → (A → B → C) → OnOk r A → OnOk r B → OnOk r C
-on_ok_both (Ok x) f a b = f a b
-on_ok_both (Err e) f a b = tt
+on_ok_both x0 f a b = grind arith

@@ -1,16 +1,13 @@
 -- The sets of what stood there are of what a load may have got.
-use Rattle.std.proofs.Common.{◌≡◌, ℕ, zero, suc, ◌<◌, Bool, true, false, ◌||◌, nat_le, List, [], ◌∷◌, ◌++◌, fold, get_or, Option, Some}
-use Rattle.std.proofs.Common.{None, inl, inr, refl, sym, ap, ◌∙◌}
+use Rattle.std.proofs.Common.{◌≡◌, ℕ, zero, suc, ◌<◌, Bool, ◌||◌, List, [], ◌∷◌, ◌++◌, fold, get_or, Option, arith, sym, ap, ◌∙◌}
 use Rattle.std.specs.List.{list_any}
-use Rattle.std.proofs.lemmas.Bool.{cases_Bool, lt-ltb}
+use Rattle.std.proofs.lemmas.Bool.{lt-ltb}
 use Rattle.std.proofs.Math.Bool.{or-false, or_comm, or-true}
 use Rattle.memory_histories.specs.declared.sets.ByteSet.{ByteSet}
 use Rattle.memory_histories.specs.Sets.{has, no_bytes}
 use Rattle.memory_histories.proofs.ByteSets.{has-with_byte, has-union, has-no_bytes, has-all_bytes}
 use Rattle.atomic_histories.specs.declared.stretches.Before.{Before}
-use Rattle.atomic_histories.specs.declared.stretches.Before.TheVariants.{Nothing, Behind}
 use Rattle.atomic_histories.specs.declared.stretches.Stretch.{Stretch}
-use Rattle.atomic_histories.specs.declared.stretches.Stretch.TheVariants.{Overwritten, Either}
 use Rattle.atomic_histories.specs.declared.pairs.FollowedPair.{FollowedPair}
 use Rattle.atomic_histories.specs.Pasts.{Past, begins, shows}
 use Rattle.atomic_histories.specs.May.{lane_of, may_show, shows_byte, IsSet}
@@ -18,12 +15,10 @@ use Rattle.atomic_histories.specs.MaySets.{with_lane, set_of, stretch_set, stret
 use Rattle.atomic_histories.specs.Shown.{past_at, past_of, pasts, shown, shown_all}
 
 or_assoc : (a b c : Bool) → ((a || b) || c) ≡ (a || (b || c))
-or_assoc true b c = refl
-or_assoc false b c = refl
+or_assoc x0 b c = grind arith
 
 has_lane : (set : ByteSet) (x : Option ℕ) (b : ℕ) → b < 256 → has (with_lane set x) b ≡ (has set b || may_show x b)
-has_lane set (Some c) b l = has-with_byte set c b
-has_lane set None b l = has-all_bytes b ∙ (lt-ltb b 256 l ∙ sym (or-true (has set b)))
+has_lane set x1 b l = grind (arith, has-with_byte, has-all_bytes, lt-ltb, or-true)
 
 module _ (since k b : ℕ) (l : b < 256) where
   abbrev is : List (Option ℕ) → Bool
@@ -32,39 +27,28 @@ module _ (since k b : ℕ) (l : b < 256) where
   -- the sets of so many stretches are of their pasts
   abbrev Agree : List ByteSet → List Past → Type 0
   Agree [] [] = Unit {0}
-  Agree [] (p ∷ ps) = ⊥
-  Agree (s ∷ ss) [] = ⊥
   Agree (s ∷ ss) (p ∷ ps) = (has s b ≡ shows is since p) × Agree ss ps
+  Agree _ _ = ⊥
 
   agree_at : (sets : List ByteSet) (ps : List Past) → Agree sets ps → (i : ℕ)
       → has (get_or sets i no_bytes) b ≡ shows is since (get_or ps i begins)
   agree_at [] [] a i = has-no_bytes b
-  agree_at [] (p ∷ ps) a i = absurd a
-  agree_at (s ∷ ss) [] a i = absurd a
   agree_at (s ∷ ss) (p ∷ ps) a zero = a.0
   agree_at (s ∷ ss) (p ∷ ps) a (suc i) = agree_at ss ps a.1 i
+  agree_at _ _ a i = absurd a
 
   agree_of : (sets : List ByteSet) (ps : List Past) → Agree sets ps → (r : Before) → has (set_of sets r) b ≡ shows is since (past_at ps r)
-  agree_of sets ps a Nothing = has-no_bytes b
-  agree_of sets ps a (Behind i) = agree_at sets ps a i
+  agree_of sets ps a x3 = grind (arith, has-no_bytes, agree_at)
 
   agree_more : (sets : List ByteSet) (ps : List Past) (s : ByteSet) (p : Past) → Agree sets ps → has s b ≡ shows is since p
       → Agree (sets ++ s ∷ []) (ps ++ p ∷ [])
   agree_more [] [] s p a e = (e, tt)
-  agree_more [] (q ∷ qs) s p a e = absurd a
-  agree_more (x ∷ xs) [] s p a e = absurd a
   agree_more (x ∷ xs) (q ∷ qs) s p a e = (a.0, agree_more xs qs s p a.1 e)
+  agree_more _ _ s p a e = absurd a
 
   one_agrees : (sets : List ByteSet) (ps : List Past) → Agree sets ps → (s : Stretch)
       → has (stretch_set since k sets s) b ≡ shows is since (past_of ps s)
-  one_agrees sets ps a (Overwritten word moment before) = elim (cases_Bool (nat_le since moment)) [
-    | inl t ↦ rw t (has_lane _ _ b l
-        ∙ (cc (agree_of sets ps a before, or_comm _ _)))
-    | inr f ↦ rw f (agree_of sets ps a before)
-  ]
-  one_agrees sets ps a (Either one other) =
-      has-union _ _ b
-      ∙ (cc (agree_of sets ps a one, agree_of sets ps a other))
+  one_agrees sets ps a x3 = grind (arith, has_lane, agree_of, or_comm, has-union)
 
   all_agree : (sets : List ByteSet) (ps : List Past) → Agree sets ps → (ss : List Stretch)
       → Agree (fold (λ xs s. xs ++ stretch_set since k xs s ∷ []) sets ss) (fold (λ qs s. qs ++ past_of qs s ∷ []) ps ss)

@@ -1,20 +1,18 @@
 -- Where a search would follow more pairs than the limit, the unit may be in as many states that differ.
-use Rattle.std.proofs.Common.{◌≡◌, ℕ, zero, suc, ltb-true, ◌/◌, ◌<◌, ◌⊎◌, true, false, nat_lt, List, [], ◌∷◌, map, length}
-use Rattle.std.proofs.Common.{Option, Some, None, inl, inr, refl, sym, ◌∙◌, subst, arith}
+use Rattle.std.proofs.Common.{◌≡◌, ℕ, zero, suc, ltb-true, ◌/◌, ◌<◌, ◌⊎◌, true, false, nat_lt, List, [], ◌∷◌, map, length, Option, Some}
+use Rattle.std.proofs.Common.{None, inl, inr, arith}
 use Rattle.std.specs.List.{find}
 use Rattle.std.proofs.Math.Nat.{mul-div_cancel}
 use Rattle.std.proofs.lemmas.List.{length-map}
 use Rattle.std.proofs.lemmas.Bool.{or_cases}
 use Rattle.memory_histories.specs.declared.events.HistoryEvent.{HistoryEvent}
-use Rattle.memory_histories.specs.declared.events.HistoryEvent.TheVariants.{LoadRequest, LoadResponse, StoreRequest, StoreResponse}
 use Rattle.memory_histories.specs.declared.events.Rest.{Rest}
 use Rattle.atomic_histories.specs.declared.unit.UnitPlace.{UnitPlace}
 use Rattle.atomic_histories.specs.declared.unit.WatchedLoad.{WatchedLoad}
 use Rattle.atomic_histories.specs.declared.search.TheConstants.{MOST_WORDS}
 use Rattle.atomic_histories.specs.Law.{UnitMemory, HiddenStep, MayBe, steps, untouched, unit_at}
-use Rattle.atomic_histories.specs.Followed.{Pair, Ways, Aim, never, way_on, next_after, rounds, is_under, is_over, are_too_many}
-use Rattle.atomic_histories.specs.Followed.{needs_more, effect_aim, word_aim, pair_got, gathered, with_hope, load_needs_more}
-use Rattle.atomic_histories.specs.Followed.{has_way, needs_too_many, is_too_wide}
+use Rattle.atomic_histories.specs.Followed.{Pair, Ways, Aim, never, way_on, next_after, rounds, is_under, is_over, are_too_many, out_after}
+use Rattle.atomic_histories.specs.Followed.{needs_more, effect_aim, word_aim, load_needs_more, has_way, needs_too_many, is_too_wide}
 use Rattle.atomic_histories.specs.Stands.{Each, IsAsked, AreApart, StandsFor}
 use Rattle.atomic_histories.specs.Held.{Held, IsWide, is_over_at, is_lost, StandsBut}
 use Rattle.atomic_histories.specs.May.{address_of, is_reach_over, is_reach_wide}
@@ -22,11 +20,10 @@ use Rattle.atomic_histories.specs.Wide.{AllDiffer, MayBeMany, UndecidedIsMuch, N
 use Rattle.atomic_histories.proofs.Lists.{each_weaker, each_map, each_filter, each_both}
 use Rattle.atomic_histories.proofs.Paths.{some_path}
 use Rattle.atomic_histories.proofs.Found.{IsSound, sound_joint, sound_kept, out_sound, next_sound}
-use Rattle.atomic_histories.proofs.Answered.{missed_sound, part_sound}
-use Rattle.atomic_histories.proofs.Apart.{apart_out, apart_next, gathered_apart, got_keeps}
+use Rattle.atomic_histories.proofs.Answered.{part_sound}
+use Rattle.atomic_histories.proofs.Apart.{apart_out, apart_next, gathered_apart, part_keeps}
 use Rattle.atomic_histories.proofs.Exact.{SoundOn, state_on}
 use Rattle.atomic_histories.proofs.Ranges.{wide_cases}
-use Rattle.atomic_histories.proofs.Whole.{no_pair}
 
 -- Pairs and states. ----
 
@@ -39,6 +36,13 @@ module _ (loads : List WatchedLoad) (moment : ℕ) (asked : Each (IsAsked moment
   abbrev S : Pair → Type 0
   S = IsSound loads moment asked P
 
+  next_all : (aim : Aim) (es : List Pair) → Each S es → Each S (next_after loads moment aim es)
+  next_all aim es a =
+      next_sound loads moment asked S (sound_joint loads moment asked P) (sound_kept loads moment asked P closed) aim [] es tt a
+
+  out_all : (aim : Aim) (out es : List Pair) → Each S out → Each S es → Each S (out_after aim.goal out es)
+  out_all aim out es a b = out_sound loads moment asked S S (sound_joint loads moment asked P) aim.goal (λ e r y. r) out es a b
+
   over_many : (limit n : ℕ) (aim : Aim) (out es : List Pair) → AreApart out → AreApart es → Each S out → Each S es
       → is_over limit loads moment n aim out es ≡ true → AreMany limit S
   over_many limit zero aim out es a b s t h = cc
@@ -50,25 +54,20 @@ module _ (loads : List WatchedLoad) (moment : ℕ) (asked : Each (IsAsked moment
         ]
         | inr later ↦ over_many limit n aim _ _ (apart_out aim.goal out es a)
             (apart_next loads moment aim [] es tt)
-            (out_sound loads moment asked S S (sound_joint loads moment asked P) aim.goal (λ e r y. r) out es s t)
-            (next_sound loads moment asked S (sound_joint loads moment asked P) (sound_kept loads moment asked P closed) aim [] es tt t)
+            (out_all aim out es s t)
+            (next_all aim es t)
             later
       ]
 
   pub more_many : (limit : ℕ) (aim : Aim) (out es : List Pair) → AreApart out → Each S out → Each S es
       → needs_more limit loads moment aim out es ≡ true → AreMany limit S
-  more_many limit aim out es a s t h =
-      over_many limit _ aim _ _ (apart_out aim.goal out es a)
-      (apart_next loads moment aim [] es tt)
-      (out_sound loads moment asked S S (sound_joint loads moment asked P) aim.goal (λ e r y. r) out es s t)
-      (next_sound loads moment asked S (sound_joint loads moment asked P) (sound_kept loads moment asked P closed) aim [] es tt t) h
+  more_many limit aim out es a s t h = grind (arith, over_many, apart_out, apart_next, out_all, next_all)
 
   pub reach_many : (limit n : ℕ) (es : List Pair) → Each S es → is_reach_over limit loads moment n es ≡ true → AreMany limit S
   reach_many limit zero es s h = cc
   reach_many limit (suc n) es s h =
       let next = next_after loads moment never es in
-      let t =
-      next_sound loads moment asked S (sound_joint loads moment asked P) (sound_kept loads moment asked P closed) never [] es tt s in
+      let t = next_all never es s in
       elim (or_cases _ _ h) [
         | inl y ↦ (next, y, apart_next loads moment never [] es tt, t)
         | inr y ↦ reach_many limit n next t y
@@ -122,20 +121,16 @@ module _ (image : List ℕ) (rest : Rest) (unit : UnitPlace) (history : List His
   load_much limit number bytes None open_ h = cc
   load_much limit number bytes (Some l) open_ h =
       let aim = word_aim unit l.address bytes in
-      let out = gathered _ u.pairs in
-      let missed = gathered _ u.pairs in
       many_states u.loads u.moment s.asked Here here_closed limit
-      (more_many u.loads u.moment s.asked Here here_closed limit aim out (with_hope aim missed)
-      (gathered_apart (pair_got unit bytes l) (got_keeps unit bytes l) u.pairs s.apart)
-      (part_sound u.loads u.moment s.asked unit number bytes l open_ (SoundOn Here) u.pairs all_sound)
-      (each_filter Follows aim.hope missed
-      (missed_sound u.loads u.moment s.asked unit number bytes l open_ (SoundOn Here) u.pairs all_sound)) h)
+      (more_many u.loads u.moment s.asked Here here_closed limit aim _ _
+      (gathered_apart _ (part_keeps true unit bytes l) u.pairs s.apart)
+      (part_sound u.loads u.moment s.asked unit number bytes l open_ true (SoundOn Here) (SoundOn Here) (λ e path y k. k) u.pairs all_sound)
+      (each_filter Follows aim.hope _
+      (part_sound u.loads u.moment s.asked unit number bytes l open_ false (SoundOn Here) (SoundOn Here) (λ e path y k. k) u.pairs
+      all_sound)) h)
 
   pub much_at : (limit : ℕ) (event : HistoryEvent) → needs_too_many limit unit u event ≡ true → MayBeMany limit image rest unit history
-  much_at limit (LoadRequest number address n) t = cc
-  much_at limit (LoadResponse number bytes) t = load_much limit number bytes.now _ refl t
-  much_at limit (StoreRequest number address bytes enables) t = cc
-  much_at limit (StoreResponse number) t = store_much limit number t
+  much_at limit x1 t = grind (arith, load_much, store_much)
 
   pub reach_much : (limit : ℕ) → is_reach_over limit u.loads u.moment (rounds u.pairs) u.pairs ≡ true
       → MayBeMany limit image rest unit history
@@ -149,27 +144,16 @@ few limit = grind arith
 no_load : (limit : ℕ) (unit : UnitPlace) (bytes : List ℕ) (load : Option WatchedLoad) (loads : List WatchedLoad) (moment : ℕ)
     (es : List Pair)
     → es ≡ [] → load_needs_more limit unit bytes load (record { loads = loads; moment = moment; pairs = es }) ≡ false
-no_load limit unit bytes None loads moment es h = refl
-no_load limit unit bytes (Some l) loads moment es h = grind arith
+no_load limit unit bytes x3 loads moment es h = grind arith
 
 no_store : (limit number : ℕ) (loads : List WatchedLoad) (moment : ℕ) (es : List Pair) → es ≡ []
     → needs_more limit loads moment (effect_aim number) [] es ≡ false
 no_store limit number loads moment es h = grind arith
 
 -- a forgotten unit has no way, so it needs too much for no event
-no_way_over : (limit : ℕ) (unit : UnitPlace) (u : Ways) (event : HistoryEvent) → has_way u ≡ false
-    → needs_too_many limit unit u event ≡ false
-no_way_over limit unit u (LoadRequest number address n) h = refl
-no_way_over limit unit u (LoadResponse number bytes) h = grind arith
-no_way_over limit unit u (StoreRequest number address bytes enables) h = refl
-no_way_over limit unit u (StoreResponse number) h = grind arith
-
 no_way_wide : (limit : ℕ) (unit : UnitPlace) (words : ℕ) (u : Ways) (event : HistoryEvent) → has_way u ≡ false
     → is_too_wide limit unit words u event ≡ false
-no_way_wide limit unit words u (LoadRequest number address n) h = refl
-no_way_wide limit unit words u (LoadResponse number bytes) h = grind arith
-no_way_wide limit unit words u (StoreRequest number address bytes enables) h = refl
-no_way_wide limit unit words u (StoreResponse number) h = grind arith
+no_way_wide limit unit words u x4 h = grind arith
 
 -- All units. ----
 
@@ -179,38 +163,31 @@ module _ (limit : ℕ) (h : Held) (lost : List ℕ) (history : List HistoryEvent
 
   by_event : (k : ℕ) (event : HistoryEvent) → is_over_at limit h event k ≡ true → MayBeMany limit h.image h.rest (unit_at h.size k) history
   by_event k event t = elim (s.units k) [
-    | inl a ↦ let none = no_way_over limit (unit_at h.size k) _ event a.1 in let x = sym t ∙ none in cc
+    | inl a ↦ grind arith
     | inr a ↦ much_at h.image h.rest _ history _ a.1.0 limit event t
   ]
 
   by_reach : (k : ℕ) → is_reach_wide limit (h.units k) ≡ true → MayBeMany limit h.image h.rest (unit_at h.size k) history
   by_reach k t = elim (s.units k) [
-    | inl a ↦
-        let none =
-        subst (λ xs. is_reach_over limit (h.units k).loads (h.units k).moment (rounds xs) xs ≡ false)
-        (sym (no_pair (h.units k).pairs a.1)) refl in
-        let x = sym t ∙ none in
-        cc
+    | inl a ↦ grind arith
     | inr a ↦ reach_much h.image h.rest _ history _ a.1.0 limit t
   ]
 
   wide_much : (k : ℕ) (event : HistoryEvent) → is_too_wide limit (unit_at h.size k) (h.words k) (h.units k) event ≡ true → Much k
-  wide_much k event t = elim (wide_cases limit (unit_at h.size k) _ _ event t) [
-    | inl y ↦ inl y
-    | inr y ↦ inr (by_event k event y)
-  ]
+  wide_much k event t = grind (arith, wide_cases, by_event)
 
--- the unit for whose sake an event is undecided was not forgotten
-pub wide_kept : (limit : ℕ) (h : Held) (lost : List ℕ) (history : List HistoryEvent) (event : HistoryEvent) (address : ℕ)
-    → StandsBut h lost history → IsWide limit h event address → is_lost (address / h.size) lost ≡ false
-wide_kept limit h lost history event address s w = grind (arith, h.size, mul-div_cancel, s.sized, s.units, no_way_wide, h.words, h.units)
+module _ (limit : ℕ) (h : Held) (lost : List ℕ) (history : List HistoryEvent) where
+  -- the unit for whose sake an event is undecided was not forgotten
+  pub wide_kept : (event : HistoryEvent) (address : ℕ)
+      → StandsBut h lost history → IsWide limit h event address → is_lost (address / h.size) lost ≡ false
+  wide_kept event address s w = grind (arith, h.size, mul-div_cancel, s.sized, s.units, no_way_wide, h.words, h.units)
 
-pub undecided_much : (limit : ℕ) (h : Held) (lost : List ℕ) (history : List HistoryEvent) (event : HistoryEvent) (address : ℕ)
-    → UndecidedIsMuch limit h lost history event address
-undecided_much limit h lost history event address s formed w =
-    (w.0, w.3, wide_much limit h lost history s w.0 event w.4)
+  pub undecided_much : (event : HistoryEvent) (address : ℕ)
+      → UndecidedIsMuch limit h lost history event address
+  undecided_much event address s formed w =
+      (w.0, w.3, wide_much limit h lost history s w.0 event w.4)
 
-pub no_sets_much : (limit : ℕ) (h : Held) (lost : List ℕ) (history : List HistoryEvent) (a n address : ℕ)
-    → NoSetsAreMuch limit h lost history a n address
-no_sets_much limit h lost history a n address s w =
-    (address_of a w.0 / h.size, w.2.0, by_reach limit h lost history s _ w.2.1)
+  pub no_sets_much : (a n address : ℕ)
+      → NoSetsAreMuch limit h lost history a n address
+  no_sets_much a n address s w =
+      (address_of a w.0 / h.size, w.2.0, by_reach limit h lost history s _ w.2.1)

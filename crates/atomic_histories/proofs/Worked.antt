@@ -1,4 +1,5 @@
 -- Worked histories of the atomic law, each decided by computing the ways that a unit may have gone.
+use Rattle.atomic_histories.proofs.Links.{IsAlone}
 use Rattle.std.proofs.Common.{ℕ, ◌≡◌, Bool, true, false, ◌&&◌, ◌||◌, not, List, [], ◌∷◌, ◌++◌, fold, refl, ap}
 use Rattle.std.specs.List.{list_any}
 use Rattle.std.proofs.lemmas.Bool.{and_parts}
@@ -12,7 +13,6 @@ use Rattle.atomic_histories.specs.Words.{written, is_word_of}
 use Rattle.atomic_histories.specs.Law.{IsAtomicAt, untouched}
 use Rattle.atomic_histories.specs.Followed.{Ways, first_ways, has_way, is_same_pair, is_under, ways_after}
 use Rattle.atomic_histories.specs.Stands.{StandsFor}
-use Rattle.atomic_histories.proofs.Alone.{IsAlone}
 use Rattle.atomic_histories.proofs.Exact.{IsAloneFor, AlwaysAlone, stands_by}
 use Rattle.atomic_histories.proofs.Whole.{state_from, none_from}
 
@@ -30,9 +30,8 @@ is_alone p [] = true
 is_alone p (x ∷ xs) = (not (p x) || not (list_any p xs)) && is_alone p xs
 
 alone_one : (a b : Bool) → (not a || not b) ≡ true → a ≡ true → b ≡ false
-alone_one true true h t = cc
 alone_one true false h t = refl
-alone_one false b h t = cc
+alone_one _ _ h t = cc
 
 alone_from : {X : Type 0} (p : X → Bool) (xs : List X) → is_alone p xs ≡ true → IsAlone p xs
 alone_from p [] h = tt
@@ -49,10 +48,8 @@ are_alone u [] = true
 are_alone u (event ∷ events) = is_alone_for u event && are_alone (ways_after pair u event) events
 
 event_alone : (u : Ways) (event : HistoryEvent) → is_alone_for u event ≡ true → IsAloneFor u event
-event_alone u (LoadRequest number address n) h = tt
 event_alone u (LoadResponse number bytes) h = alone_from _ u.loads h
-event_alone u (StoreRequest number address bytes enables) h = tt
-event_alone u (StoreResponse number) h = tt
+event_alone u _ h = tt
 
 always : (u : Ways) (history : List HistoryEvent) → are_alone u history ≡ true → AlwaysAlone pair u history
 always u [] h = tt
@@ -75,15 +72,16 @@ passes_by : (rest : Rest) (history : List HistoryEvent) → decided rest history
 passes_by rest history h =
     state_from _ pair history _ (alone_in rest history true h) (ap (λ p. p.1) h)
 
-passes : (history : List HistoryEvent) → decided Zeros history ≡ (true, true) → IsAtomicAt [] Zeros pair history
-passes history h = passes_by Zeros history h
+module _ (history : List HistoryEvent) where
+  passes : decided Zeros history ≡ (true, true) → IsAtomicAt [] Zeros pair history
+  passes h = passes_by Zeros history h
 
-stops : (history : List HistoryEvent) → decided Zeros history ≡ (true, false) → ¬ (IsAtomicAt [] Zeros pair history)
-stops history h =
-    none_from _ pair history _ (alone_in Zeros history false h) (ap (λ p. p.1) h)
+  stops : decided Zeros history ≡ (true, false) → ¬ (IsAtomicAt [] Zeros pair history)
+  stops h =
+      none_from _ pair history _ (alone_in Zeros history false h) (ap (λ p. p.1) h)
 
-unknown_passes : (history : List HistoryEvent) → decided Unknown history ≡ (true, true) → IsAtomicAt [] Unknown pair history
-unknown_passes history h = passes_by Unknown history h
+  unknown_passes : decided Unknown history ≡ (true, true) → IsAtomicAt [] Unknown pair history
+  unknown_passes h = passes_by Unknown history h
 
 abbrev bytes : List ℕ → Bor (List ℕ)
 bytes xs = record { ref_ptr = (0, 0); now = xs }

@@ -1,5 +1,5 @@
 use Rattle.std.proofs.Common.{arith}
-use Rattle.atomic_histories.proofs.KeptUnits.{changed_more}
+use Rattle.atomic_histories.proofs.Loops.{changed_more}
 use Rattle.atomic_histories.proofs.kept.end_stores.Goals as goal
 
 pub loop-pair-preserved : goal.loop-pair-preserved

@@ -1,6 +1,6 @@
 use Rattle.std.proofs.Common.{◌<◌, length, ap, ◌∙◌, arith}
 use Rattle.atomic_histories.specs.Shown.{shown}
-use Rattle.atomic_histories.proofs.KeptUnits.{moved_pair, copied_pair, made_more, are_in_more}
+use Rattle.atomic_histories.proofs.Loops.{moved_pair, copied_pair, made_more, are_in_more}
 use Rattle.atomic_histories.proofs.kept.moved_pairs.Goals as goal
 
 pub loop-pair-preserved : goal.loop-pair-preserved

@@ -2,7 +2,7 @@ use Rattle.std.proofs.Common.{◌<◌, length, get_or, ap, ◌∙◌, arith}
 use Rattle.std.specs.Prelude.{vec_len, vec_capacity}
 use Rattle.atomic_histories.specs.declared.pairs.FollowedPair.{FollowedPair}
 use Rattle.atomic_histories.specs.Shown.{past_at}
-use Rattle.atomic_histories.proofs.KeptUnits.{changed_more, all_behind}
+use Rattle.atomic_histories.proofs.Loops.{changed_more, all_behind}
 use Rattle.atomic_histories.proofs.kept.open_store.Goals as goal
 
 pub loop-pair-preserved : goal.loop-pair-preserved

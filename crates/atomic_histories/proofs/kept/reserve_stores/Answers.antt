@@ -3,7 +3,7 @@ use Rattle.std.specs.Prelude.{vec_len, vec_capacity}
 use Rattle.std.proofs.lemmas.List.{take_all}
 use Rattle.atomic_histories.specs.declared.pairs.FollowedPair.{FollowedPair}
 use Rattle.atomic_histories.specs.Shown.{past_at}
-use Rattle.atomic_histories.proofs.KeptUnits.{set_shown, all_before}
+use Rattle.atomic_histories.proofs.Loops.{set_shown, all_before}
 use Rattle.atomic_histories.proofs.kept.reserve_stores.Goals as goal
 
 pub returns-in_err-reserve-clause-same : goal.returns-in_err-reserve-clause-same

@@ -1,4 +1,4 @@
-use Rattle.atomic_histories.proofs.Told.{told_alike}
+use Rattle.atomic_histories.proofs.Verdict.{told_alike}
 use Rattle.atomic_histories.proofs.laws.events_are_told_alike.Goals as goal
 
 pub returns : goal.returns

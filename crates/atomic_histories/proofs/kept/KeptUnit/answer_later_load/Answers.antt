@@ -4,7 +4,7 @@ use Rattle.atomic_histories.specs.Law.{done_store}
 use Rattle.atomic_histories.specs.Pasts.{begins, oldest, cut_for, overwritten}
 use Rattle.atomic_histories.specs.Followed.{Pair, Ways, loads_without, moment_with, has_way}
 use Rattle.atomic_histories.specs.Shown.{past_at, pasts, shown, shown_all, shown_unit}
-use Rattle.atomic_histories.proofs.KeptUnits.{same_pair, same_ways}
+use Rattle.atomic_histories.proofs.Loops.{same_pair, same_ways}
 use Rattle.atomic_histories.proofs.AtOnce.{one_pair, later_taken, few_load}
 use Rattle.atomic_histories.proofs.kept.KeptUnit.answer_later_load.Goals.{After-drop_load}
 use Rattle.atomic_histories.proofs.kept.KeptUnit.answer_later_load.Goals as goal

@@ -1,7 +1,7 @@
 use Rattle.std.proofs.Common.{ap, ◌∙◌, rules, arith}
 use Rattle.std.proofs.lemmas.List.{with_items_is}
 use Rattle.atomic_histories.specs.Shown.{shown_all}
-use Rattle.atomic_histories.proofs.KeptUnits.{cut_shown, cut_late}
+use Rattle.atomic_histories.proofs.Loops.{cut_shown, cut_late}
 use Rattle.atomic_histories.proofs.kept.KeptUnit.cut_past.Goals as goal
 
 pub returns-then-are_late-clause-ok : goal.returns-then-are_late-clause-ok

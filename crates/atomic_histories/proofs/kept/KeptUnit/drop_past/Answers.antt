@@ -1,6 +1,6 @@
 use Rattle.std.proofs.Common.{arith}
 use Rattle.std.proofs.lemmas.List.{with_items_is}
-use Rattle.atomic_histories.proofs.KeptUnits.{dropped}
+use Rattle.atomic_histories.proofs.Loops.{dropped}
 use Rattle.atomic_histories.proofs.kept.KeptUnit.drop_past.Goals as goal
 
 pub returns : goal.returns

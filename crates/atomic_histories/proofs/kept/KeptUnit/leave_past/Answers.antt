@@ -2,7 +2,7 @@ use Rattle.std.proofs.Common.{map, sym, ap, ap₂, ◌∙◌}
 use Rattle.atomic_histories.specs.Pasts.{oldest}
 use Rattle.atomic_histories.specs.Followed.{Ways, loads_without, pair_cut}
 use Rattle.atomic_histories.specs.Shown.{shown_unit}
-use Rattle.atomic_histories.proofs.KeptUnits.{moment_none}
+use Rattle.atomic_histories.proofs.Loops.{moment_none}
 use Rattle.atomic_histories.proofs.kept.KeptUnit.leave_past.Goals as goal
 
 pub returns-in-None-clause-ok : goal.returns-in-None-clause-ok

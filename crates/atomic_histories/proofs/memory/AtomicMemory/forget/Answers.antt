@@ -1,7 +1,7 @@
 use Rattle.std.proofs.Common.{◌/◌, OnOk, subst}
 use Rattle.atomic_histories.specs.Judge.{held, IsForgotten}
 use Rattle.atomic_histories.proofs.Whole.{forgotten_law}
-use Rattle.atomic_histories.proofs.Verdict.{same_forgotten}
+use Rattle.atomic_histories.proofs.Verdict.{same_kept}
 use Rattle.atomic_histories.proofs.memory.AtomicMemory.forget.Goals as goal
 
 pub returns-clause-ok : goal.returns-clause-ok
@@ -13,5 +13,4 @@ returns-clause-ok c =
 
 pub returns-clause-memory : goal.returns-clause-memory
 returns-clause-memory c =
-    same_forgotten _ _ _
-    _ c.kept_forget.ensures.ok c.kept_forget.ensures.unchanged
+    same_kept _ _ _ c.kept_forget.ensures.ok c.kept_forget.ensures.unchanged (λ t. (t.image, t.rest, t.size))
