@@ -20,6 +20,7 @@ pub mod Moving
 pub mod Parts
 pub mod Paths
 pub mod Ranges
+pub mod Returns
 pub mod Shares
 pub mod ShownBytes
 pub mod Verdict

@@ -3,7 +3,6 @@ pub mod Found
 pub mod Reasons
 pub mod ThereLemmas
 pub mod GiverLemmas
-pub mod UnitLemmas
 pub mod LoadLemmas
 pub mod OpenLemmas
 pub mod Logs

@@ -1,6 +1,6 @@
-use Rattle.history_reasons.proofs.Reasons.{allowed_law}
+use Rattle.std.proofs.lemmas.Bool.Decides.{same_from_decides}
+use Rattle.memory_histories.proofs.Law.{may_return_decides}
 use Rattle.history_reasons.proofs.is_allowed.Goals as goal
 
 pub returns : goal.returns
-returns c = allowed_law c.args.image.now c.args.rest c.args.stores.now c.args.load.now c.args.byte c.may_return.result
-    c.may_return.ensures.law
+returns c = same_from_decides _ _ c.may_return.ensures.law (may_return_decides _ _ _ c.args.load.now _)

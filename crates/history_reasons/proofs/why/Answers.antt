@@ -1,9 +1,7 @@
 use Rattle.history_reasons.proofs.Reasons.{reason_law}
 use Rattle.history_reasons.proofs.why.Goals as goal
 
-pub returns-clause-allowed : goal.returns-clause-allowed
-returns-clause-allowed c = rw c.last_reason.ensures (reason_law c.args.image.now c.args.rest c.args.stores.now c.args.load.now
-    c.args.byte).0
-
-pub returns-clause-reason : goal.returns-clause-reason
-returns-clause-reason c = rw c.last_reason.ensures (reason_law c.args.image.now c.args.rest c.args.stores.now c.args.load.now c.args.byte).1
+pub returns : goal.returns
+returns c =
+    let law = rw (← c.last_reason.ensures) at (reason_law c.args.image.now c.args.rest c.args.stores.now c.args.load.now c.args.byte) in
+    record { told = c.last_reason.ensures; allowed = law.0; reason = law.1 }

@@ -1,4 +1,4 @@
-use Rattle.atomic_histories.proofs.MayLaws.{byte_law}
+use Rattle.atomic_histories.proofs.Returns.{byte_law}
 use Rattle.atomic_histories.proofs.memory.AtomicMemory.byte_may_return.Goals as goal
 
 pub returns-clause-ok : goal.returns-clause-ok

@@ -1,4 +1,4 @@
-use Rattle.atomic_histories.proofs.MayLaws.{may_law}
+use Rattle.atomic_histories.proofs.Returns.{may_law}
 use Rattle.atomic_histories.proofs.memory.AtomicMemory.may_return.Goals as goal
 
 pub returns-clause-ok : goal.returns-clause-ok
