@@ -81,7 +81,14 @@ whole_after s event h =
 pub steady_after : (event : Event) (s : MachineState) (p : Schedule) → IsSteady s p → ((b : ℕ) → leaves_commands b event)
     → IsSteady (after_event s event) p
 unfolding after_event
-steady_after event s p steady leaves = grind (arith, whole_after, steady.busy, commands_stay, s.sizes, s.machine)
+steady_after event s p steady leaves = record {
+  whole = whole_after s event steady.whole;
+  places = steady.places;
+  busy = λ b. let all = steady.busy b in record {
+    early = all.early;
+    fits = commands_stay s.sizes s.machine b _ all.fits event (leaves b);
+  };
+}
 
 -- ---- from one course to the next
 
