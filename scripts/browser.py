@@ -5,10 +5,11 @@ import json
 import os
 import select
 import shutil
-import signal
 import subprocess
 import tempfile
 import time
+
+import ending
 
 NAMES = ("chromium", "chromium-browser", "google-chrome")
 SECONDS = 60
@@ -28,6 +29,11 @@ KEYS = {
     " ": ("Space", 32, " "),
 }
 
+# A fixed sum, and how many milliseconds a browser takes for it on a processor of 2.5 GHz that it has for itself.
+SUM = ("(() => { const begin = performance.now(); let x = 0; for (let i = 0; i < 1e7; i++) x = (x * 31 + i) | 0;"
+       " return performance.now() - begin + 0 * x; })()")
+SUM_TAKES = 72
+
 
 class BrowserFault(Exception):
     """The browser ended, kept silent, or a script failed in it."""
@@ -42,18 +48,35 @@ class Browser:
     """A browser with one page."""
 
     def __init__(self, width=1280, height=720, dark=False):
+        self.process, self.profile, self.ends = None, None, []
+        try:
+            # (what ends the script comes behind it, and finds all that has to go)
+            with ending.beginning():
+                self.begin()
+            self.attach()
+            self.resize(width, height)
+            self.scheme("dark" if dark else "light")
+        except BaseException:
+            self.close()
+            raise
+
+    def begin(self):
         self.profile = tempfile.mkdtemp()
         to_read, self.to = os.pipe()
         self.back, from_write = os.pipe()
+        self.ends = [self.to, self.back]
         # (the pipes' ends have to be 3 and 4 in the browser)
         command = 'exec "$0" "$@" 3<&%d 4>&%d' % (to_read, from_write)
         self.process = subprocess.Popen(
             ["sh", "-c", command, find(), "--headless", "--no-sandbox", "--disable-gpu", "--disable-dev-shm-usage",
              "--remote-debugging-pipe", f"--user-data-dir={self.profile}", "--no-first-run", "--hide-scrollbars",
              "--disable-background-networking", "--disable-component-update", "--disable-sync", "about:blank"],
-            pass_fds=(to_read, from_write), stdout=subprocess.DEVNULL, stderr=subprocess.DEVNULL, start_new_session=True)
+            pass_fds=(to_read, from_write), stdout=subprocess.DEVNULL, stderr=subprocess.DEVNULL,
+            env={**os.environ, "TMPDIR": self.profile}, start_new_session=True)
         os.close(to_read)
         os.close(from_write)
+
+    def attach(self):
         self.pending = b""
         self.last = 0
         self.session = None
@@ -63,8 +86,6 @@ class Browser:
         self.session = self.call("Target.attachToTarget", targetId=target, flatten=True)["sessionId"]
         for domain in ("Page", "Runtime"):
             self.call(f"{domain}.enable")
-        self.resize(width, height)
-        self.scheme("dark" if dark else "light")
 
     def __enter__(self):
         return self
@@ -73,12 +94,13 @@ class Browser:
         self.close()
 
     def close(self):
-        if self.process.poll() is None:
-            os.killpg(self.process.pid, signal.SIGKILL)
-        self.process.wait()
-        for end in (self.to, self.back):
-            os.close(end)
-        shutil.rmtree(self.profile, ignore_errors=True)
+        if self.process and self.process.poll() is None:
+            ending.kill(self.process)
+            self.process.wait()
+        while self.ends:
+            os.close(self.ends.pop())
+        if self.profile:
+            shutil.rmtree(self.profile, ignore_errors=True)
 
     def read_message(self, until):
         """The next message, or None if there is none by this time."""
@@ -147,6 +169,10 @@ class Browser:
             told = said["exceptionDetails"]
             raise BrowserFault(told.get("exception", {}).get("description", told["text"]))
         return said["result"].get("value")
+
+    def slowness(self):
+        """How many times as long as there this machine takes for the sum now, and 1 at least."""
+        return max(1, self.run(SUM) / SUM_TAKES)
 
     def press(self, key, modifiers=0):
         code, number, text = KEYS.get(key, (f"Key{key.upper()}", ord(key.upper()[0]), key))

@@ -5,12 +5,12 @@ import json
 import os
 import pathlib
 import shutil
-import signal
 import socket
 import subprocess
 import tempfile
 import time
 
+import ending
 from browser import BrowserFault
 
 NAMES = ("firefox-esr", "firefox")
@@ -36,15 +36,13 @@ class Firefox:
     """A browser with one page."""
 
     def __init__(self):
-        self.profile = pathlib.Path(tempfile.mkdtemp())
-        (self.profile / "user.js").write_text(PREFERENCES)
-        self.process = subprocess.Popen(
-            [find(), "--headless", "--marionette", "--no-remote", "--profile", str(self.profile)], stdout=subprocess.DEVNULL,
-            stderr=subprocess.DEVNULL, env={**os.environ, "HOME": str(self.profile), "MOZ_HEADLESS": "1"}, start_new_session=True)
+        self.process = self.profile = self.to = None
         self.last = 0
         self.pending = b""
-        self.to = None
         try:
+            # (what ends the script comes behind it, and finds all that has to go)
+            with ending.beginning():
+                self.begin()
             self.to = self.connect()
             self.read()
             self.call("WebDriver:NewSession", capabilities={})
@@ -52,6 +50,13 @@ class Firefox:
         except BaseException:
             self.close()
             raise
+
+    def begin(self):
+        self.profile = pathlib.Path(tempfile.mkdtemp())
+        (self.profile / "user.js").write_text(PREFERENCES)
+        self.process = subprocess.Popen(
+            [find(), "--headless", "--marionette", "--no-remote", "--profile", str(self.profile)], stdout=subprocess.DEVNULL,
+            stderr=subprocess.DEVNULL, env={**os.environ, "HOME": str(self.profile), "MOZ_HEADLESS": "1"}, start_new_session=True)
 
     def __enter__(self):
         return self
@@ -62,10 +67,11 @@ class Firefox:
     def close(self):
         if self.to:
             self.to.close()
-        if self.process.poll() is None:
-            os.killpg(self.process.pid, signal.SIGKILL)
-        self.process.wait()
-        shutil.rmtree(self.profile, ignore_errors=True)
+        if self.process and self.process.poll() is None:
+            ending.kill(self.process)
+            self.process.wait()
+        if self.profile:
+            shutil.rmtree(self.profile, ignore_errors=True)
 
     def connect(self):
         """The port is told in a file of the profile."""

@@ -229,18 +229,43 @@ def is_running(number):
         return False
 
 
+def busy(served, pool):
+    """The processes of an answer that takes long, once they run, and the answer."""
+    given = "".join(f"load {k % 60000} {k % 64}\n" for k in range(60000))
+    asked = pool.submit(served.answer, job="drive", given=given, latency=1000)
+    until = time.monotonic() + 20
+    while not (running := served.children()) and not asked.done() and time.monotonic() < until:
+        time.sleep(0.01)
+    if not running:
+        served.end()
+        raise Different("no answer was under way, so that nothing had to be ended")
+    return running, asked
+
+
+# What comes behind an interrupt, and so many seconds behind it.
+BEHIND = [(signal.SIGINT, pause / 1000) for pause in (0, 1, 2, 3, 5, 8, 12, 20)] + [(signal.SIGTERM, 0.002), (signal.SIGHUP, 0.002)]
+
+
+def interrupted_twice(folder):
+    """A second interrupt doesn't cut short what the first one ends."""
+    for at, (number, pause) in enumerate(BEHIND):
+        room = folder / f"twice{at}"
+        room.mkdir()
+        with Served(room) as served, concurrent.futures.ThreadPoolExecutor(2) as pool:
+            _, asked = busy(served, pool)
+            served.process.send_signal(signal.SIGINT)
+            time.sleep(pause)
+            same("the status", served.end(number), 0)
+            asked.exception()
+        same("files that are left", list(room.iterdir()), [])
+
+
 def clean_ends(folder):
     for number in (signal.SIGINT, signal.SIGTERM, signal.SIGHUP):
         room = folder / f"end{number}"
         room.mkdir()
-        served = Served(room)
-        with concurrent.futures.ThreadPoolExecutor(2) as pool:
-            given = "".join(f"load {k % 60000} {k % 64}\n" for k in range(60000))
-            asked = pool.submit(served.answer, job="drive", given=given, latency=1000)
-            until = time.monotonic() + 5
-            while not served.children() and time.monotonic() < until:
-                time.sleep(0.01)
-            running = served.children()
+        with Served(room) as served, concurrent.futures.ThreadPoolExecutor(2) as pool:
+            running, asked = busy(served, pool)
             same("the status", served.end(number), 0)
             asked.exception()
         until = time.monotonic() + 5

@@ -388,7 +388,17 @@ def find_program():
     return found.stdout.strip()
 
 
+ENDS = (signal.SIGINT, signal.SIGTERM, signal.SIGHUP)
+
+
+def ignore_ends():
+    for it in ENDS:
+        signal.signal(it, signal.SIG_IGN)
+
+
 def interrupted(*_):
+    # (what comes behind it mustn't cut the page's end short)
+    ignore_ends()
     raise KeyboardInterrupt
 
 
@@ -398,13 +408,13 @@ def main():
     words = parser.parse_args()
     if sys.stdout is None:
         sys.exit("kroft-page: standard output is closed, so that the page's address can't be told")
-    # (a terminal that is closed ends the page too, but under `nohup`)
-    for number in (signal.SIGTERM, signal.SIGHUP):
-        if signal.getsignal(number) != signal.SIG_IGN:
-            signal.signal(number, interrupted)
-    folder = tempfile.mkdtemp(prefix="kroft-page-")
-    program = None
+    program = folder = None
     try:
+        # (a terminal that is closed ends the page too, but under `nohup`)
+        for number in ENDS:
+            if signal.getsignal(number) != signal.SIG_IGN:
+                signal.signal(number, interrupted)
+        folder = tempfile.mkdtemp(prefix="kroft-page-")
         program = Program(find_program(), folder)
         server = Server(words.port, program)
         print(server.address, flush=True)
@@ -414,9 +424,11 @@ def main():
     except (OSError, OverflowError) as fault:
         sys.exit(f"kroft-page: {fault}")
     finally:
+        ignore_ends()
         if program:
             program.close()
-        shutil.rmtree(folder, ignore_errors=True)
+        if folder:
+            shutil.rmtree(folder, ignore_errors=True)
 
 
 main()

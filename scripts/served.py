@@ -9,6 +9,7 @@ import socket
 import subprocess
 import time
 
+import ending
 from counting import Different, same
 
 TOP = pathlib.Path(__file__).resolve().parent.parent
@@ -25,15 +26,35 @@ class Served:
 
     def __init__(self, folder):
         environment = {**os.environ, "TMPDIR": str(folder)}
-        self.folder = folder
+        self.folder, self.process = folder, None
+        try:
+            with ending.beginning():
+                self.begin(environment)
+            self.find()
+        except BaseException:
+            self.__exit__()
+            raise
+
+    def begin(self, environment):
         # A shell without job control starts what it runs beside it with SIGINT ignored, and that is inherited.
         self.process = subprocess.Popen([TOP / "kroft-page"], stdout=subprocess.PIPE, stderr=subprocess.PIPE, text=True, env=environment,
                                         preexec_fn=as_from_a_terminal)
+
+    def find(self):
         self.address = self.process.stdout.readline().strip()
         found = re.fullmatch(r"http://127\.0\.0\.1:(\d+)/([\w-]{20,})/", self.address)
         if not found:
             raise Different(f"the page's address is {self.address!r}: {self.process.stderr.read()}")
         self.port, self.token = int(found[1]), found[2]
+
+    def __enter__(self):
+        return self
+
+    def __exit__(self, *_):
+        """Ends it, where nothing else has."""
+        if self.process and self.process.poll() is None:
+            self.process.terminate()
+            self.process.wait(timeout=20)
 
     def end(self, number=signal.SIGTERM):
         self.process.send_signal(number)
