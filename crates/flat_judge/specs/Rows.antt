@@ -1,6 +1,7 @@
 -- What rows of plain numbers say of events and answers.
-use Rattle.std.specs.Prelude.{ℕ, Bool, ◌&&◌, if◌then◌else◌, ◌==◌, Option, Some, None}
+use Rattle.std.specs.Prelude.{ℕ, Bool, ◌&&◌, if◌then◌else◌, ◌==◌, Option, Some, None, bit_and}
 use Rattle.std.specs.Option.{option_map}
+use Rattle.flat_model.specs.declared.Lanes.{Lanes}
 use Rattle.flat_model.specs.declared.Event.{Event}
 use Rattle.flat_model.specs.declared.Event.TheVariants.{Load, Store, Prefetch, Evict, Drain, Serve, Arrive, Process, Take}
 use Rattle.flat_model.specs.declared.Answer.{Answer}
@@ -10,11 +11,15 @@ use Rattle.flat_model.specs.Words.{zero_word}
 use Rattle.flat_model.specs.Flat.{number, cause_of}
 use Rattle.flat_judge.specs.declared.rows.AnswerRow.{AnswerRow}
 
+-- the lanes that a byte names: bits 4 to 7 are dropped
+abbrev pub lanes_of : ℕ → Lanes
+lanes_of byte = record { 0 = bit_and byte 15 }
+
 -- the event that a row says: none, where its kind is past the last
 abbrev pub event_of : EventRow → Option Event
 event_of r =
     if r.kind == 0 then Some (Load r.tag r.at) else
-    if r.kind == 1 then Some (Store r.at r.word (record { 0 = r.lanes })) else
+    if r.kind == 1 then Some (Store r.at r.word (lanes_of r.lanes)) else
     if r.kind == 2 then Some (Prefetch r.at) else
     if r.kind == 3 then Some (Evict r.at) else
     if r.kind == 4 then Some Drain else

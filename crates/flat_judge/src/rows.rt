@@ -1,6 +1,6 @@
 //! Events and answers as rows of plain numbers.
 ghost use Rattle.std.specs.Prelude.{◌≡◌};
-ghost use Rattle.flat_judge.specs.Rows.{event_of, answer_of, event_row, answer_row, plain_event};
+ghost use Rattle.flat_judge.specs.Rows.{event_of, lanes_of, answer_of, event_row, answer_row, plain_event};
 
 use flat_model::{Answer, Cause, Event, Lanes, Word};
 
@@ -21,7 +21,7 @@ pub struct EventRow {
     pub kind: u32,
     /// The tag of a load.
     pub tag: u16,
-    /// The lanes of a store: bit `k` is byte `k`, and bits past the fourth name no lane.
+    /// The lanes of a store: bit `k` is byte `k`. Bits 4 to 7 name no lane, and are dropped.
     pub lanes: u8,
     /// The word of a load, a store or a prefetch; the block of an eviction; the bank that serves or
     /// whose answer arrives.
@@ -48,7 +48,8 @@ pub struct AnswerRow {
 }
 
 impl EventRow {
-    /// The event that the row says; `None` for a kind past the last.
+    /// The event that the row says; `None` for a kind past the last. A store's lanes are the four
+    /// lowest bits of the row's alone.
     pub fn event(&self) -> Option<Event>
         ensures { result ≡ event_of self.now }
     {
@@ -60,7 +61,7 @@ impl EventRow {
             1 => Some(Event::Store {
                 at: self.at,
                 word: self.word,
-                lanes: Lanes(self.lanes),
+                lanes: lanes_of(self.lanes),
             }),
             2 => Some(Event::Prefetch { at: self.at }),
             3 => Some(Event::Evict { block: self.at }),
@@ -75,6 +76,13 @@ impl EventRow {
             _ => None,
         }
     }
+}
+
+// The lanes that a byte names: its four lowest bits.
+fn lanes_of(byte: u8) -> Lanes
+    ensures { result ≡ lanes_of byte }
+{
+    Lanes(byte & 15)
 }
 
 impl AnswerRow {

@@ -458,7 +458,7 @@ fn is_too_busy(timing: Timing) -> bool
     timing.busy > timing.latency
 }
 
-const TOO_BUSY: &str = "invalid value for '--busy <B>': it is more than the latency";
+const TOO_BUSY: &str = "invalid value for '--busy <B>': it is more than the least latency";
 
 // Why the rows that are asked for can't be swept, if they can't.
 fn sweep_conflict(timings: &Timings, registers: &Registers) -> Option<&'static str>

@@ -7,12 +7,14 @@ use Rattle.flat_model.specs.declared.Cause.TheVariants.{TagInUse, RepliesFull, T
 use Rattle.result_figures.specs.declared.bars.Loss.{Loss}
 use Rattle.result_figures.specs.declared.layout.TheConstants.{BAR_GAP, BAR_HEIGHT, BAR_LINE, BAR_TICKS, BARS_BOTTOM, BARS_FIGURE, BARS_LEFT}
 use Rattle.result_figures.specs.declared.layout.TheConstants.{BARS_NAME, BARS_RIGHT, BARS_TOP, BARS_UPPER, BARS_WIDTH, CAUSES_RIGHT}
-use Rattle.result_figures.specs.declared.layout.TheConstants.{COUNTS_LEFT, COUNTS_RIGHT, STYLE, TEXT_SINK}
+use Rattle.result_figures.specs.declared.layout.TheConstants.{BAR_TICK_ROOM, COUNTS_LEFT, COUNTS_RIGHT}
+use Rattle.result_figures.specs.declared.layout.TheConstants.{NUMBER_ROOM, STYLE, TEXT_SINK, TEXT_SIZE}
 use Rattle.round_driver.specs.declared.table.LostRounds.{LostRounds}
 use Rattle.round_driver.specs.declared.table.Table.{Table}
 use Rattle.result_figures.specs.declared.scale.TheConstants.{STEPS}
 use Rattle.result_figures.specs.Elements.{point_text, text_at, middle_at, end_at, frame_text, opening_text, closing_text}
-use Rattle.result_figures.specs.Scales.{along, step_for}
+use Rattle.result_figures.specs.Scales.{along, step_for, steps_beside}
+use Rattle.result_figures.specs.Sizes.{number_size}
 
 -- the causes that a machine of this repository refuses with, each on a line of its own, and the rounds lost to them
 abbrev pub losses_of : LostRounds → List Loss
@@ -38,7 +40,7 @@ bar_width most rounds = along rounds most BARS_WIDTH
 -- the number and the name of a cause, beside its bar
 unfoldable pub name_text : Loss → List ℕ
 name_text loss =
-    end_at CAUSES_RIGHT (line_of loss.place + TEXT_SINK) ++ decimal (number loss.cause) ++ codes " " ++ cause_name loss.cause
+    end_at CAUSES_RIGHT (line_of loss.place + TEXT_SINK) TEXT_SIZE ++ decimal (number loss.cause) ++ codes " " ++ cause_name loss.cause
     ++ codes "</text>\n"
 
 unfoldable pub bar_text : (place width : ℕ) → List ℕ
@@ -49,7 +51,8 @@ bar_text place width =
 -- a cause: its name, its bar, which is so long, and behind it its rounds
 unfoldable pub loss_text : Loss → (width behind : ℕ) → List ℕ
 loss_text loss width behind =
-    name_text loss ++ bar_text loss.place width ++ text_at behind (line_of loss.place + TEXT_SINK) ++ decimal loss.rounds
+    name_text loss ++ bar_text loss.place width
+    ++ text_at behind (line_of loss.place + TEXT_SINK) (number_size loss.rounds NUMBER_ROOM) ++ decimal loss.rounds
     ++ codes "</text>\n"
 
 abbrev pub losses_text : (most : ℕ) → List Loss → List ℕ
@@ -58,35 +61,38 @@ losses_text most losses =
 
 -- ---- what stands behind the bars
 
--- a line of the grid at this place, and the beginning of its number
-unfoldable pub grid_text : (x : ℕ) → List ℕ
-grid_text x =
+-- a line of the grid at this place, and the beginning of its number, which is so large
+unfoldable pub grid_text : (x size : ℕ) → List ℕ
+grid_text x size =
     codes "<path class='grid' d='M" ++ point_text x BARS_BOTTOM ++ codes "V" ++ decimal BARS_UPPER ++ codes "'/>"
-    ++ middle_at x BAR_TICKS
+    ++ middle_at x BAR_TICKS size
 
--- a tick, unless it is beyond the largest value
+-- a tick, unless it is beyond the largest value; all are as large as that one would be
 unfoldable pub tick_text : (most value : ℕ) → List ℕ
 tick_text most value =
-    if nat_le value most then grid_text (BARS_LEFT + along value most BARS_WIDTH) ++ decimal value ++ codes "</text>\n" else []
+    if nat_le value most
+    then grid_text (BARS_LEFT + along value most BARS_WIDTH) (number_size most BAR_TICK_ROOM) ++ decimal value ++ codes "</text>\n"
+    else []
 
 abbrev pub ticks_among : (most step : ℕ) → List ℕ → List ℕ
 ticks_among most step steps = flat_map (λ count. tick_text most (step * count)) steps
 
 unfoldable pub ticks_text : (most : ℕ) → List ℕ
-ticks_text most = ticks_among most (step_for most) STEPS
+ticks_text most = ticks_among most (step_for most (steps_beside most BARS_WIDTH)) STEPS
 
 -- the axis and its name
 abbrev pub axis_text : List ℕ
 axis_text =
-    frame_text BARS_LEFT BARS_UPPER BARS_BOTTOM BARS_RIGHT ++ text_at BARS_LEFT BARS_NAME ++ codes "rounds that were lost</text>\n"
+    frame_text BARS_LEFT BARS_UPPER BARS_BOTTOM BARS_RIGHT ++ text_at BARS_LEFT BARS_NAME TEXT_SIZE
+    ++ codes "rounds that were lost</text>\n"
 
 -- ---- beside the bars
 
 -- a count with its name
 unfoldable pub count_text : (place : ℕ) (name : List ℕ) (count : ℕ) → List ℕ
 count_text place name count =
-    text_at COUNTS_LEFT (line_of place + TEXT_SINK) ++ name ++ codes "</text>"
-    ++ end_at COUNTS_RIGHT (line_of place + TEXT_SINK) ++ decimal count ++ codes "</text>\n"
+    text_at COUNTS_LEFT (line_of place + TEXT_SINK) TEXT_SIZE ++ name ++ codes "</text>"
+    ++ end_at COUNTS_RIGHT (line_of place + TEXT_SINK) (number_size count NUMBER_ROOM) ++ decimal count ++ codes "</text>\n"
 
 -- what became of the requests
 unfoldable pub counts_text : Table → List ℕ

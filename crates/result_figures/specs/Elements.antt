@@ -1,20 +1,26 @@
 -- Parts of the elements of an SVG text.
-use Rattle.std.specs.Prelude.{ℕ, List, ◌++◌, codes, decimal}
-use Rattle.result_figures.specs.declared.layout.TheConstants.{WIDTH}
+use Rattle.std.specs.Prelude.{ℕ, ◌==◌, if◌then◌else◌, List, [], ◌++◌, codes, decimal}
+use Rattle.result_figures.specs.declared.layout.TheConstants.{TEXT_SIZE, WIDTH}
 
 -- a point of a path
 unfoldable pub point_text : (x y : ℕ) → List ℕ
 point_text x y = decimal x ++ codes " " ++ decimal y
 
--- the beginning of a text that begins, has its middle or ends at a place
-unfoldable pub text_at : (x y : ℕ) → List ℕ
-text_at x y = codes "<text x='" ++ decimal x ++ codes "' y='" ++ decimal y ++ codes "'>"
+-- the size of a text, unless it is the usual one
+unfoldable pub size_text : (size : ℕ) → List ℕ
+size_text size = if size == TEXT_SIZE then [] else codes " style='font-size:" ++ decimal size ++ codes "px'"
 
-unfoldable pub middle_at : (x y : ℕ) → List ℕ
-middle_at x y = codes "<text class='middle' x='" ++ decimal x ++ codes "' y='" ++ decimal y ++ codes "'>"
+-- the beginning of a text of this size that begins, has its middle or ends at a place
+unfoldable pub text_at : (x y size : ℕ) → List ℕ
+text_at x y size = codes "<text x='" ++ decimal x ++ codes "' y='" ++ decimal y ++ codes "'" ++ size_text size ++ codes ">"
 
-unfoldable pub end_at : (x y : ℕ) → List ℕ
-end_at x y = codes "<text class='end' x='" ++ decimal x ++ codes "' y='" ++ decimal y ++ codes "'>"
+unfoldable pub middle_at : (x y size : ℕ) → List ℕ
+middle_at x y size =
+    codes "<text class='middle' x='" ++ decimal x ++ codes "' y='" ++ decimal y ++ codes "'" ++ size_text size ++ codes ">"
+
+unfoldable pub end_at : (x y size : ℕ) → List ℕ
+end_at x y size =
+    codes "<text class='end' x='" ++ decimal x ++ codes "' y='" ++ decimal y ++ codes "'" ++ size_text size ++ codes ">"
 
 -- axes from a point down to a level, and from there to the right
 unfoldable pub frame_text : (x y low right : ℕ) → List ℕ

@@ -1,3 +1,4 @@
+pub mod Sizes
 pub mod Scales
 pub mod Elements
 pub mod Looks

@@ -6,11 +6,12 @@ ghost use Rattle.result_figures.specs.Bars as bars;
 
 use crate::elements::{EndAt, Frame, MiddleAt, Opening, Point, TextAt};
 use crate::layout::{
-    BAR_GAP, BAR_HEIGHT, BAR_LINE, BAR_TICKS, BARS_BOTTOM, BARS_FIGURE, BARS_LEFT, BARS_NAME,
-    BARS_RIGHT, BARS_TOP, BARS_UPPER, BARS_WIDTH, CAUSES_RIGHT, COUNTS_LEFT, COUNTS_RIGHT, STYLE,
-    TEXT_SINK,
+    BAR_GAP, BAR_HEIGHT, BAR_LINE, BAR_TICK_ROOM, BAR_TICKS, BARS_BOTTOM, BARS_FIGURE, BARS_LEFT,
+    BARS_NAME, BARS_RIGHT, BARS_TOP, BARS_UPPER, BARS_WIDTH, CAUSES_RIGHT, COUNTS_LEFT,
+    COUNTS_RIGHT, NUMBER_ROOM, STYLE, TEXT_SINK, TEXT_SIZE,
 };
-use crate::scale::{STEPS, along, step_for};
+use crate::scale::{STEPS, along, step_for, steps_beside};
+use crate::sizes::number_size;
 use flat_model::Cause;
 use round_driver::{LostRounds, Table};
 use std::fmt;
@@ -95,7 +96,7 @@ impl fmt::Display for CauseName {
     #[tactic(auto, unfolding(crate::specs::Bars::name_text))]
     fn fmt<W: fmt::Write>(&self, f: &mut fmt::Formatter<W>) -> fmt::Result {
         let cause = self.0.cause;
-        let place = EndAt(CAUSES_RIGHT, line_of(self.0.place) + TEXT_SINK);
+        let place = EndAt(CAUSES_RIGHT, line_of(self.0.place) + TEXT_SINK, TEXT_SIZE);
         let number = cause.number();
         let name = cause.name();
         write!(f, "{place}{number} {name}</text>\n")
@@ -142,7 +143,8 @@ impl fmt::Display for LossLine {
             place,
             width: self.width,
         };
-        let number = TextAt(self.behind, line_of(place) + TEXT_SINK);
+        let size = number_size(self.loss.rounds, NUMBER_ROOM);
+        let number = TextAt(self.behind, line_of(place) + TEXT_SINK, size);
         write!(f, "{name}{bar}{number}{}</text>\n", self.loss.rounds)
     }
 }
@@ -196,7 +198,8 @@ impl fmt::Display for BarTick {
     #[tactic(auto, unfolding(crate::specs::Bars::tick_text))]
     fn fmt<W: fmt::Write>(&self, f: &mut fmt::Formatter<W>) -> fmt::Result {
         if self.value <= u128::from(self.most) {
-            let grid = BarGrid(BARS_LEFT + along(self.value, self.most, BARS_WIDTH));
+            let x = BARS_LEFT + along(self.value, self.most, BARS_WIDTH);
+            let grid = BarGrid(x, number_size(self.most, BAR_TICK_ROOM));
             write!(f, "{grid}{}</text>\n", self.value)
         } else {
             Ok(())
@@ -204,17 +207,17 @@ impl fmt::Display for BarTick {
     }
 }
 
-// A line of the grid at this place, and the beginning of its number.
+// A line of the grid at this place, and the beginning of its number, which is so large.
 #[derive(Clone, Copy)]
-struct BarGrid(u128);
+struct BarGrid(u128, u128);
 
 impl fmt::Display for BarGrid {
-    ghost output = { λ it. Some (bars.grid_text it.0) };
+    ghost output = { λ it. Some (bars.grid_text it.0 it.1) };
 
     #[tactic(auto, unfolding(crate::specs::Bars::grid_text))]
     fn fmt<W: fmt::Write>(&self, f: &mut fmt::Formatter<W>) -> fmt::Result {
         let begin = Point(self.0, BARS_BOTTOM);
-        let number = MiddleAt(self.0, BAR_TICKS);
+        let number = MiddleAt(self.0, BAR_TICKS, self.1);
         write!(f, "<path class='grid' d='M{begin}V{BARS_UPPER}'/>{number}")
     }
 }
@@ -245,7 +248,8 @@ impl fmt::Display for BarTicks {
 
     #[tactic(auto, unfolding(crate::specs::Bars::ticks_text))]
     fn fmt<W: fmt::Write>(&self, f: &mut fmt::Formatter<W>) -> fmt::Result {
-        write_ticks(f, self.0, step_for(self.0), &STEPS)
+        let step = step_for(self.0, steps_beside(self.0, BARS_WIDTH));
+        write_ticks(f, self.0, step, &STEPS)
     }
 }
 
@@ -263,7 +267,7 @@ impl fmt::Display for BarAxis {
             low: BARS_BOTTOM,
             right: BARS_RIGHT,
         };
-        let name = TextAt(BARS_LEFT, BARS_NAME);
+        let name = TextAt(BARS_LEFT, BARS_NAME, TEXT_SIZE);
         write!(f, "{frame}{name}rounds that were lost</text>\n")
     }
 }
@@ -281,8 +285,9 @@ impl fmt::Display for Count {
 
     #[tactic(auto, unfolding(crate::specs::Bars::count_text))]
     fn fmt<W: fmt::Write>(&self, f: &mut fmt::Formatter<W>) -> fmt::Result {
-        let begin = TextAt(COUNTS_LEFT, line_of(self.place) + TEXT_SINK);
-        let end = EndAt(COUNTS_RIGHT, line_of(self.place) + TEXT_SINK);
+        let begin = TextAt(COUNTS_LEFT, line_of(self.place) + TEXT_SINK, TEXT_SIZE);
+        let size = number_size(self.count, NUMBER_ROOM);
+        let end = EndAt(COUNTS_RIGHT, line_of(self.place) + TEXT_SINK, size);
         let name = self.name;
         let count = self.count;
         write!(f, "{begin}{name}</text>{end}{count}</text>\n")

@@ -3,7 +3,7 @@
 ghost use Rattle.std.specs.Prelude.{Some};
 ghost use Rattle.result_figures.specs.Elements as elements;
 
-use crate::layout::WIDTH;
+use crate::layout::{TEXT_SIZE, WIDTH};
 use std::fmt;
 
 /// A point of a path: `X Y`.
@@ -19,42 +19,66 @@ impl fmt::Display for Point {
     }
 }
 
-/// The beginning of a text that begins at a place.
+// The size of a text, unless it is the usual one.
 #[derive(Clone, Copy)]
-pub(crate) struct TextAt(pub(crate) u128, pub(crate) u128);
+struct Size(u128);
+
+impl fmt::Display for Size {
+    ghost output = { λ it. Some (elements.size_text it.0) };
+
+    #[tactic(auto, unfolding(crate::specs::Elements::size_text))]
+    fn fmt<W: fmt::Write>(&self, f: &mut fmt::Formatter<W>) -> fmt::Result {
+        if self.0 == TEXT_SIZE {
+            Ok(())
+        } else {
+            write!(f, " style='font-size:{}px'", self.0)
+        }
+    }
+}
+
+/// The beginning of a text that begins at a place, and is so large.
+#[derive(Clone, Copy)]
+pub(crate) struct TextAt(pub(crate) u128, pub(crate) u128, pub(crate) u128);
 
 impl fmt::Display for TextAt {
-    ghost output = { λ it. Some (elements.text_at it.0 it.1) };
+    ghost output = { λ it. Some (elements.text_at it.0 it.1 it.2) };
 
     #[tactic(auto, unfolding(crate::specs::Elements::text_at))]
     fn fmt<W: fmt::Write>(&self, f: &mut fmt::Formatter<W>) -> fmt::Result {
-        write!(f, "<text x='{}' y='{}'>", self.0, self.1)
+        let size = Size(self.2);
+        write!(f, "<text x='{}' y='{}'{size}>", self.0, self.1)
     }
 }
 
-/// The beginning of a text whose middle is at a place.
+/// The beginning of a text whose middle is at a place, and that is so large.
 #[derive(Clone, Copy)]
-pub(crate) struct MiddleAt(pub(crate) u128, pub(crate) u128);
+pub(crate) struct MiddleAt(pub(crate) u128, pub(crate) u128, pub(crate) u128);
 
 impl fmt::Display for MiddleAt {
-    ghost output = { λ it. Some (elements.middle_at it.0 it.1) };
+    ghost output = { λ it. Some (elements.middle_at it.0 it.1 it.2) };
 
     #[tactic(auto, unfolding(crate::specs::Elements::middle_at))]
     fn fmt<W: fmt::Write>(&self, f: &mut fmt::Formatter<W>) -> fmt::Result {
-        write!(f, "<text class='middle' x='{}' y='{}'>", self.0, self.1)
+        let size = Size(self.2);
+        write!(
+            f,
+            "<text class='middle' x='{}' y='{}'{size}>",
+            self.0, self.1
+        )
     }
 }
 
-/// The beginning of a text that ends at a place.
+/// The beginning of a text that ends at a place, and is so large.
 #[derive(Clone, Copy)]
-pub(crate) struct EndAt(pub(crate) u128, pub(crate) u128);
+pub(crate) struct EndAt(pub(crate) u128, pub(crate) u128, pub(crate) u128);
 
 impl fmt::Display for EndAt {
-    ghost output = { λ it. Some (elements.end_at it.0 it.1) };
+    ghost output = { λ it. Some (elements.end_at it.0 it.1 it.2) };
 
     #[tactic(auto, unfolding(crate::specs::Elements::end_at))]
     fn fmt<W: fmt::Write>(&self, f: &mut fmt::Formatter<W>) -> fmt::Result {
-        write!(f, "<text class='end' x='{}' y='{}'>", self.0, self.1)
+        let size = Size(self.2);
+        write!(f, "<text class='end' x='{}' y='{}'{size}>", self.0, self.1)
     }
 }
 

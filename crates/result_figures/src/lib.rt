@@ -8,6 +8,7 @@ mod layout;
 mod looks;
 mod plot;
 mod scale;
+mod sizes;
 mod sweep;
 
 pub use bars::LossFigure;

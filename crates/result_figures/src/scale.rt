@@ -1,50 +1,45 @@
 //! How a scale is divided, and how far along it a value lies.
 
-ghost use Rattle.std.specs.Prelude.{◌≡◌, ◌<◌, ◌^◌, IfSome};
+ghost use Rattle.std.specs.Prelude.{◌≡◌, ◌≤◌, ◌<◌, ◌^◌, IfSome};
+ghost use Rattle.result_figures.specs.declared.scale.TheConstants.{MOST_STEPS};
 ghost use Rattle.result_figures.specs.Scales as scales;
+
+use crate::layout::CHARACTER;
+use crate::sizes::{TENS, digits};
 
 /// How many steps of a scale reach its largest value at most.
 pub const MOST_STEPS: u128 = 6;
 
+/// The fewest that this is where a scale's numbers stand side by side, however many digits they have.
+pub const FEWEST_STEPS: u128 = 3;
+
 /// The multiples of a step of which a scale has those that aren't beyond its largest value.
 pub const STEPS: [u8; 7] = [0, 1, 2, 3, 4, 5, 6];
 
-/// The powers of ten among numbers of 64 bits.
-pub const TENS: [u64; 20] = [
-    1,
-    10,
-    100,
-    1_000,
-    10_000,
-    100_000,
-    1_000_000,
-    10_000_000,
-    100_000_000,
-    1_000_000_000,
-    10_000_000_000,
-    100_000_000_000,
-    1_000_000_000_000,
-    10_000_000_000_000,
-    100_000_000_000_000,
-    1_000_000_000_000_000,
-    10_000_000_000_000_000,
-    100_000_000_000_000_000,
-    1_000_000_000_000_000_000,
-    10_000_000_000_000_000_000,
-];
+/// How many steps reach the largest value at most, on a scale of this length whose numbers stand side by side: so many that a number has
+/// room for its digits and one more, but no more than six; and no fewer than three, with smaller numbers.
+#[tactic(auto, unfolding(crate::specs::Scales::steps_beside))]
+pub fn steps_beside(most: u64, length: u128) -> u128
+    ensures steps { result ≡ scales.steps_beside most length }
+    ensures few { result ≤ MOST_STEPS }
+{
+    let room = CHARACTER * (u128::from(digits(most)) + 1);
+    (length / room).min(MOST_STEPS).max(FEWEST_STEPS)
+}
 
-// 1, 2 or 5 times this power of ten, the least of which six steps reach the largest value.
-fn step_of(ten: u64, most: u64) -> Option<u128>
-    ensures step { result ≡ scales.step_of ten most }
+// 1, 2 or 5 times this power of ten, the least of which so many steps reach the largest value.
+fn step_of(ten: u64, most: u64, steps: u128) -> Option<u128>
+    requires { steps ≤ MOST_STEPS }
+    ensures step { result ≡ scales.step_of ten most steps }
     ensures small { IfSome result (λ step. step < 2 ^ 68) }
 {
     let one = u128::from(ten);
     let most = u128::from(most);
-    if most <= MOST_STEPS * one {
+    if most <= steps * one {
         Some(one)
-    } else if most <= MOST_STEPS * (2 * one) {
+    } else if most <= steps * (2 * one) {
         Some(2 * one)
-    } else if most <= MOST_STEPS * (5 * one) {
+    } else if most <= steps * (5 * one) {
         Some(5 * one)
     } else {
         None
@@ -52,25 +47,27 @@ fn step_of(ten: u64, most: u64) -> Option<u128>
 }
 
 // The first of such steps.
-fn step_among(tens: &[u64], most: u64) -> u128
-    ensures step { result ≡ scales.step_among tens.now most }
+fn step_among(tens: &[u64], most: u64, steps: u128) -> u128
+    requires { steps ≤ MOST_STEPS }
+    ensures step { result ≡ scales.step_among tens.now most steps }
     ensures small { result < 2 ^ 68 }
 {
     for ten in tens {
-        if let Some(step) = step_of(*ten, most) {
+        if let Some(step) = step_of(*ten, most, steps) {
             return step;
         }
     }
     u128::from(most)
 }
 
-/// The step of a scale with this largest value: the least of 1, 2, 5, 10, 20, 50 .. of which six reach it.
+/// The step of a scale with this largest value: the least of 1, 2, 5, 10, 20, 50 .. of which so many reach it.
 #[tactic(auto, unfolding(crate::specs::Scales::step_for))]
-pub fn step_for(most: u64) -> u128
-    ensures step { result ≡ scales.step_for most }
+pub fn step_for(most: u64, steps: u128) -> u128
+    requires { steps ≤ MOST_STEPS }
+    ensures step { result ≡ scales.step_for most steps }
     ensures small { result < 2 ^ 68 }
 {
-    step_among(&TENS, most)
+    step_among(&TENS, most, steps)
 }
 
 /// How far along a scale of this length, whose end is the largest value, a value lies: rounded down.

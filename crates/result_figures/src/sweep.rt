@@ -7,13 +7,14 @@ ghost use Rattle.result_figures.specs.Sweeps.{told};
 
 use crate::elements::{EndAt, Frame, MiddleAt, Opening, Point, TextAt};
 use crate::layout::{
-    NAMES_APART, NAMES_LEFT, PLOT_BOTTOM, PLOT_LEFT, PLOT_RIGHT, PLOT_TOP, ROUNDS_NAME, STYLE,
-    TABLE_FOOT, TABLE_HEAD, TABLE_LINE, TABLE_MARKS, TABLE_NAMES, TEXT_SINK, TICKS_RIGHT, TIE_LEFT,
-    TIE_RIGHT,
+    NAME_ROOM, NAMES_APART, NAMES_LEFT, NUMBER_ROOM, PLOT_BOTTOM, PLOT_LEFT, PLOT_RIGHT, PLOT_TOP,
+    ROUNDS_NAME, STYLE, TABLE_FOOT, TABLE_HEAD, TABLE_LINE, TABLE_MARKS, TABLE_NAMES, TEXT_SINK,
+    TEXT_SIZE, TICK_ROOM, TICKS_RIGHT, TIE_LEFT, TIE_RIGHT,
 };
 use crate::looks::{colour_of, mark_of};
 use crate::plot::{column_of, end_of, height_of, level_of, most_of, name_height, row_level};
-use crate::scale::{STEPS, step_for};
+use crate::scale::{MOST_STEPS, STEPS, step_for};
+use crate::sizes::{digits, number_size, size_for};
 use register_sweeps::RoundsRow;
 use std::fmt;
 
@@ -67,16 +68,18 @@ impl<'a> fmt::Display for Marks<'a> {
 // The rounds of rows, each in its column, on a line of the table.
 #[derive(Clone, Copy)]
 struct Rounds<'a> {
+    most: u64,
     level: u128,
     rows: &'a [RoundsRow],
 }
 
 impl<'a> fmt::Display for Rounds<'a> {
-    ghost output = { λ it. Some (sweeps.rounds_text it.level it.rows.now) };
+    ghost output = { λ it. Some (sweeps.rounds_text it.most it.level it.rows.now) };
 
     fn fmt<W: fmt::Write>(&self, f: &mut fmt::Formatter<W>) -> fmt::Result {
         for row in self.rows {
-            let place = MiddleAt(column_of(row.regs), self.level);
+            let size = number_size(self.most, NUMBER_ROOM);
+            let place = MiddleAt(column_of(row.regs), self.level, size);
             write!(f, "{place}{}</text>\n", row.table.rounds)?;
         }
         Ok(())
@@ -161,7 +164,14 @@ impl<'a> fmt::Display for LineMarks<'a> {
     }
 }
 
-// The names of a latency: behind its line's end, and in the table.
+// How large the name of a latency is, which is `latency ` and the latency.
+fn name_size(latency: u64) -> u128
+    ensures { result ≡ sweeps.name_size latency }
+{
+    size_for(8 + u128::from(digits(latency)), NAME_ROOM)
+}
+
+// The name of a latency: behind its line's end, and in the table.
 #[derive(Clone, Copy)]
 struct LineNames {
     latency: u64,
@@ -175,11 +185,12 @@ impl fmt::Display for LineNames {
     #[tactic(auto, unfolding(crate::specs::Sweeps::line_names_text))]
     fn fmt<W: fmt::Write>(&self, f: &mut fmt::Formatter<W>) -> fmt::Result {
         let latency = self.latency;
-        let name = TextAt(NAMES_LEFT, level_of(self.name) + TEXT_SINK);
-        let line = TextAt(TABLE_NAMES, self.level);
+        let size = name_size(self.latency);
+        let name = TextAt(NAMES_LEFT, level_of(self.name) + TEXT_SINK, size);
+        let line = TextAt(TABLE_NAMES, self.level, size);
         write!(
             f,
-            "{name}latency {latency} rounds</text>\n{line}latency {latency}</text>\n"
+            "{name}latency {latency}</text>\n{line}latency {latency}</text>\n"
         )
     }
 }
@@ -221,6 +232,7 @@ impl<'a> fmt::Display for Latency<'a> {
             level: self.level,
         };
         let rounds = Rounds {
+            most: self.most,
             level: self.level,
             rows,
         };
@@ -241,7 +253,8 @@ impl fmt::Display for Tick {
     #[tactic(auto, unfolding(crate::specs::Sweeps::tick_text))]
     fn fmt<W: fmt::Write>(&self, f: &mut fmt::Formatter<W>) -> fmt::Result {
         if self.value <= u128::from(self.most) {
-            let grid = Grid(height_of(self.value, self.most));
+            let size = number_size(self.most, TICK_ROOM);
+            let grid = Grid(height_of(self.value, self.most), size);
             write!(f, "{grid}{}</text>\n", self.value)
         } else {
             Ok(())
@@ -249,17 +262,17 @@ impl fmt::Display for Tick {
     }
 }
 
-// A line of the grid that is so high, and the beginning of its number.
+// A line of the grid that is so high, and the beginning of its number, which is so large.
 #[derive(Clone, Copy)]
-struct Grid(u128);
+struct Grid(u128, u128);
 
 impl fmt::Display for Grid {
-    ghost output = { λ it. Some (sweeps.grid_text it.0) };
+    ghost output = { λ it. Some (sweeps.grid_text it.0 it.1) };
 
     #[tactic(auto, unfolding(crate::specs::Sweeps::grid_text))]
     fn fmt<W: fmt::Write>(&self, f: &mut fmt::Formatter<W>) -> fmt::Result {
         let begin = Point(PLOT_LEFT, level_of(self.0));
-        let number = EndAt(TICKS_RIGHT, level_of(self.0) + TEXT_SINK);
+        let number = EndAt(TICKS_RIGHT, level_of(self.0) + TEXT_SINK, self.1);
         write!(f, "<path class='grid' d='M{begin}H{PLOT_RIGHT}'/>{number}")
     }
 }
@@ -290,7 +303,7 @@ impl fmt::Display for Ticks {
 
     #[tactic(auto, unfolding(crate::specs::Sweeps::ticks_text))]
     fn fmt<W: fmt::Write>(&self, f: &mut fmt::Formatter<W>) -> fmt::Result {
-        write_ticks(f, self.0, step_for(self.0), &STEPS)
+        write_ticks(f, self.0, step_for(self.0, MOST_STEPS), &STEPS)
     }
 }
 
@@ -303,8 +316,8 @@ impl fmt::Display for Axes {
 
     fn fmt<W: fmt::Write>(&self, f: &mut fmt::Formatter<W>) -> fmt::Result {
         let begin = Point(PLOT_LEFT, PLOT_TOP);
-        let rounds = MiddleAt(PLOT_LEFT, ROUNDS_NAME);
-        let registers = TextAt(TABLE_NAMES, TABLE_HEAD);
+        let rounds = MiddleAt(PLOT_LEFT, ROUNDS_NAME, TEXT_SIZE);
+        let registers = TextAt(TABLE_NAMES, TABLE_HEAD, TEXT_SIZE);
         let frame = Frame {
             begin,
             low: PLOT_BOTTOM,
@@ -326,7 +339,8 @@ impl<'a> fmt::Display for Registers<'a> {
 
     fn fmt<W: fmt::Write>(&self, f: &mut fmt::Formatter<W>) -> fmt::Result {
         for row in self.0 {
-            let place = MiddleAt(column_of(row.regs), TABLE_HEAD);
+            let size = number_size(u64::from(row.regs), NUMBER_ROOM);
+            let place = MiddleAt(column_of(row.regs), TABLE_HEAD, size);
             write!(f, "{place}{}</text>\n", row.regs)?;
         }
         Ok(())
@@ -446,8 +460,8 @@ impl<'a> fmt::Display for Drawn<'a> {
 /// plot a table of the rounds. Eight lines differ in colour and marks; from the ninth on these come again. The names of lines don't
 /// cross if no latency has fewer rounds at its end than the one before it.
 ///
-/// The rows of each latency are those of 1, 2, 4 and 8 registers, in this order. Numbers of up to 12 digits stand
-/// side by side.
+/// The rows of each latency are those of 1, 2, 4 and 8 registers, in this order. A number or a name that would take more room than
+/// it has is set smaller.
 #[derive(Clone, Copy)]
 pub struct SweepFigure<'a>(pub &'a [SweepLine<'a>]);
 

@@ -6,4 +6,4 @@ use Rattle.result_figures.proofs.sweep.RoundsDisplay.fmt.Given as goal
 abbrev pub invariant-loop-row : goal.invariant-loop-row
 invariant-loop-row g l =
     IsPlainFormatter l.initial.f
-    → HasWritten g.W.Write.write_str_gives l.initial.f (rounds_text l.self.level (take l.row-index l.self.rows.now)) l.f
+    → HasWritten g.W.Write.write_str_gives l.initial.f (rounds_text l.self.most l.self.level (take l.row-index l.self.rows.now)) l.f
