@@ -15,6 +15,7 @@ use Rattle.cache_directory.specs.Frames.{chosen, is_all_pending, are_pending}
 use Rattle.cache_directory.proofs.Misses.{MayInstall}
 use Rattle.cache_directory.proofs.Choices.{look_in_set, chosen-all_pending}
 use Rattle.cache_directory.proofs.Whole.{held_there, slot_in, order_short, order_there, whole-kept, whole-installed, whole-released}
+use Rattle.cache_directory.proofs.Whole.{still_whole}
 
 pub whole_inside : (ways words : ℕ) (d v : Frames) → d ≡ v → IsWhole ways words v → IsWhole ways words d
 whole_inside ways words d v e h = rw e h
@@ -26,7 +27,7 @@ frame_read d f x held e = e ∙ get_or_default _ f x empty_frame (held_there d f
 -- the order that an index gives
 order_read : (ways words : ℕ) (d : Frames) (f : ℕ) (o : List ℕ) → IsWhole ways words d → f < length d.frames
     → o ≡ get_or d.orders (f / ways) o → o ≡ order_of d (f / ways)
-order_read ways words d f o h there e = e ∙ get_or_default _ _ o [] (slot_in f ways _ _ h.frames_there h.some_way there)
+order_read ways words d f o h there e = e ∙ get_or_default _ _ o [] (slot_in f ways _ _ h.sound.frames_there there).1
 
 -- a frame that keeps its block
 pub change_whole : (ways words : ℕ) (d v : Frames) (f : ℕ) (x y : Frame) → IsWhole ways words v → d ≡ v → is_held v f ≡ true
@@ -34,7 +35,9 @@ pub change_whole : (ways words : ℕ) (d v : Frames) (f : ℕ) (x y : Frame) →
 change_whole ways words d v f x y h e held read same =
     let held' : is_held d f ≡ true = rw e held in
     let is = frame_read d f x held' read in
-    whole-kept ways words d f y (rw e h) held' (same.0 ∙ ap (λ (k : Frame). k.block) is) (same.1 ∙ ap (λ (k : Frame). length k.cells) is)
+    let h' : IsWhole ways words d = rw e h in
+    still_whole ways words d _ h' refl (whole-kept ways words d f y h'.sound held' (same.0 ∙ ap (λ (k : Frame). k.block) is)
+    (same.1 ∙ ap (λ (k : Frame). length k.cells) is))
 
 pub filled_keeps : (x : Frame) (i : ℕ) (w : Word) (keep : Lanes) (y : Frame) → y ≡ filled x i w keep
     → (y.block ≡ x.block) × (length y.cells ≡ length x.cells)
@@ -60,8 +63,8 @@ pub install_room : (ways words : ℕ) (d : Frames) (f block : ℕ) (o : List ℕ
 unfolding installed
 install_room ways words d f block o h m read =
     let t = f / ways in
-    let within = slot_in f ways _ _ h.frames_there h.some_way m.there in
-    let after = whole-installed ways words d f block h m.there m.free m.of_set m.absent in
+    let within = (slot_in f ways _ _ h.sound.frames_there m.there).1 in
+    let after = whole-installed ways words d f block h.sound m.there m.free m.of_set m.absent in
     let short = order_short ways words _ t after in
     let at = ap (λ l. length l) (get_or-set_same _ t (order_of d t ++ f ∷ []) [] within) in
     let same = ap (λ l. length l) (order_read ways words d f o h m.there read) in
@@ -72,7 +75,8 @@ pub install_whole : (ways words : ℕ) (d : Frames) (f block : ℕ) (x : Frame) 
     → IsWhole ways words (record { frames = set d.frames f x; orders = set d.orders (f / ways) p })
 unfolding installed
 install_whole ways words d f block x o p h m fresh read push =
-    rw (fresh, push, order_read ways words d f o h m.there read) (whole-installed ways words d f block h m.there m.free m.of_set m.absent)
+    rw (fresh, push, order_read ways words d f o h m.there read) (still_whole ways words d _ h (length-set _ _ _)
+    (whole-installed ways words d f block h.sound m.there m.free m.of_set m.absent))
 
 pub release_whole : (ways words : ℕ) (d v : Frames) (f : ℕ) (x : Frame) (o p : List ℕ) → IsWhole ways words d → d ≡ v → is_held v f ≡ true
     → x ≡ empty_frame → o ≡ get_or d.orders (f / ways) o → p ≡ without o f
@@ -80,7 +84,8 @@ pub release_whole : (ways words : ℕ) (d v : Frames) (f : ℕ) (x : Frame) (o p
 unfolding released
 release_whole ways words d v f x o p h e held empty read taken =
     let held' : is_held d f ≡ true = rw e held in
-    rw (empty, taken, order_read ways words d f o h (held_there d f held') read) (whole-released ways words d f h held')
+    rw (empty, taken, order_read ways words d f o h (held_there d f held') read) (still_whole ways words d _ h
+    (length-set _ _ _) (whole-released ways words d f h.sound held'))
 
 -- ---- a look, and a choice: `n` is the number of sets, and `fs` the frames, as the code reads them
 
@@ -88,20 +93,20 @@ pub look_finds : (ways words : ℕ) (d v : Frames) (block n : ℕ) (fs : List Fr
     → n ≡ length d.orders → fs ≡ d.frames → r ≡ find (λ f. is_number (frame_at fs f).block block) (range_with_len (block % n * ways) ways)
     → r ≡ frame_of v.frames block
 look_finds ways words d v block n fs r h e sets frames found =
-    let there = found ∙ rw (frames, sets) (look_in_set ways words d block h) in
+    let there = found ∙ rw (frames, sets) (look_in_set ways words d block h.sound) in
     there ∙ ap (λ w. frame_of w.frames block) e
 
 pub order_within : (ways words : ℕ) (d : Frames) (block n : ℕ) (fs : List Frame) (o xs : List ℕ) → IsWhole ways words d
     → n ≡ length d.orders → fs ≡ d.frames → o ≡ get_or d.orders (block % n) o → xs ≡ o → All (λ f. f < length fs) xs
 order_within ways words d block n fs o xs h sets frames read same =
     let within : block % n < length _ = omega arith in
-    rw (same, frames, read, get_or_default _ _ o [] within) (order_there ways words d _ h)
+    rw (same, frames, read, get_or_default _ _ o [] within) (order_there ways words d _ h.sound)
 
 -- a choice that is the specified one says whether all ways of the set are pending
 choice_pends : (ways words : ℕ) (d v : Frames) (block : ℕ) (c : Choice) → IsWhole ways words d → d ≡ v → c ≡ chosen ways d (set_of d block)
     → is_all_pending c ≡ are_pending ways v (set_of v block)
 choice_pends ways words d v block c h e made =
-    let here = ap is_all_pending made ∙ chosen-all_pending ways words d (set_of d block) h in
+    let here = ap is_all_pending made ∙ chosen-all_pending ways words d (set_of d block) h.sound in
     cc (here, e)
 
 pub free_pends : (ways words : ℕ) (d v : Frames) (block n f : ℕ) (fs : List Frame) (r : Option ℕ) → IsWhole ways words d → d ≡ v

@@ -6,10 +6,10 @@ use Rattle.std.proofs.lemmas.Bool.{both_ways, false_from_ne_true, not-true, not-
 use Rattle.flat_model.specs.Places.{is_number}
 use Rattle.flat_model.proofs.Places.{place_of-first, place_of-none, place_of-nowhere}
 use Rattle.cache_directory.specs.declared.directory.Choice.TheVariants.{Free, Victim}
-use Rattle.cache_directory.specs.Frames.{Frames, IsWhole, empty_frame, frame_at, is_held, frame_of, order_of, ways_of, set_of, choice_from}
+use Rattle.cache_directory.specs.Frames.{Frames, IsSound, empty_frame, frame_at, is_held, frame_of, order_of, ways_of, set_of, choice_from}
 use Rattle.cache_directory.specs.Frames.{free_way, oldest, chosen, is_all_pending, are_pending}
 use Rattle.cache_directory.proofs.Finds.{find-passes, find-all, find-nowhere, range_within, All-range, list_all-passes, range_not_all}
-use Rattle.cache_directory.proofs.Whole.{times-all, held_there, in_row, of_row, held_in_order, order_held}
+use Rattle.cache_directory.proofs.Whole.{times-all, held_there, slot_in, in_row, of_row, held_in_order, order_held}
 
 -- a block that is this number
 is_number-true : (o : Option ℕ) (b : ℕ) → is_number o b ≡ true → o ≡ Some b
@@ -29,7 +29,7 @@ found_nowhere d block f e held =
     both_ways _ no (is_number-same (frame_at _ f).block block held)
 
 -- the one frame that holds it
-pub found_held : (ways words : ℕ) (d : Frames) (block f : ℕ) → IsWhole ways words d → (frame_at d.frames f).block ≡ Some block
+pub found_held : (ways words : ℕ) (d : Frames) (block f : ℕ) → IsSound ways words d → (frame_at d.frames f).block ≡ Some block
     → frame_of d.frames block ≡ Some f
 unfolding frame_of
 found_held ways words d block f h held = place_of-first (λ y. is_number y.block block) _ f empty_frame (held_there d f (cc))
@@ -43,7 +43,7 @@ found_none d block nowhere = place_of-none (λ y. is_number y.block block) _ emp
     (λ j l. false_from_ne_true _ (λ y. nowhere j (is_number-true (frame_at _ j).block block y)))
 
 -- a look over the ways of the block's set finds it
-pub look_in_set : (ways words : ℕ) (d : Frames) (block : ℕ) → IsWhole ways words d
+pub look_in_set : (ways words : ℕ) (d : Frames) (block : ℕ) → IsSound ways words d
     → find (λ f. is_number (frame_at d.frames f).block block) (ways_of ways (set_of d block)) ≡ frame_of d.frames block
 look_in_set ways words d block h = go _ refl
   where
@@ -58,7 +58,8 @@ look_in_set ways words d block h = go _ refl
 
     go : (o : Option ℕ) → find p row ≡ o → find p row ≡ frame_of d.frames block
     go (Some f) e = e ∙ sym (found_held ways words d block f h (is_number-true (frame_at _ f).block block (find-passes p row f e)))
-    go None e = e ∙ sym (found_none d block (λ f held. (let at = in_row f ways set h.some_way (h.in_set f block held) in
+    go None e = e ∙ sym (found_none d block (λ f held. (let some = (slot_in f ways _ _ h.frames_there (held_there d f (cc))).0 in
+        let at = in_row f ways set some (h.in_set f block held) in
         both_ways (p f) (All-range (λ x. p x ≡ false) _ ways f (find-nowhere p row e) at.0 at.1)
         (is_number-same (frame_at _ f).block block held))))
 
@@ -85,7 +86,7 @@ not_none : (o : Option ℕ) → is_none o ≡ false → is_some o ≡ true
 not_none (Some x) e = refl
 not_none None e = absurd (cc)
 
-pub free_way_is : (ways words : ℕ) (d : Frames) (set f : ℕ) → IsWhole ways words d → set < length d.orders → free_way ways d set ≡ Some f
+pub free_way_is : (ways words : ℕ) (d : Frames) (set f : ℕ) → IsSound ways words d → set < length d.orders → free_way ways d set ≡ Some f
     → IsFreeWay ways d set f
 unfolding free_way
 free_way_is ways words d set f h s e =
@@ -97,7 +98,7 @@ free_way_is ways words d set f h s e =
       free = not_some (frame_at _ f).block (find-passes (λ f. is_none (frame_at d.frames f).block) _ f e);
     }
 
-pub oldest_is : (ways words : ℕ) (d : Frames) (set f : ℕ) → IsWhole ways words d → oldest d set ≡ Some f → IsResidentWay ways d set f
+pub oldest_is : (ways words : ℕ) (d : Frames) (set f : ℕ) → IsSound ways words d → oldest d set ≡ Some f → IsResidentWay ways d set f
 unfolding oldest
 oldest_is ways words d set f h e =
     let at = find-all (λ f. not (frame_at _ f).pending) (λ x. (is_held d x ≡ true) × (x / ways ≡ set)) _ f e
@@ -109,7 +110,7 @@ oldest_is ways words d set f h e =
       settled = not-true (frame_at _ f).pending (find-passes (λ f. not (frame_at d.frames f).pending) _ f e);
     }
 
-pub chosen-free : (ways words : ℕ) (d : Frames) (set f : ℕ) → IsWhole ways words d → set < length d.orders → chosen ways d set ≡ Free f
+pub chosen-free : (ways words : ℕ) (d : Frames) (set f : ℕ) → IsSound ways words d → set < length d.orders → chosen ways d set ≡ Free f
     → IsFreeWay ways d set f
 unfolding chosen
 chosen-free ways words d set f h s e = go _ refl _ e
@@ -121,7 +122,7 @@ chosen-free ways words d set f h s e = go _ refl _ e
     go None q (Some g) e = absurd (cc)
     go None q None e = absurd (cc)
 
-pub chosen-victim : (ways words : ℕ) (d : Frames) (set f : ℕ) → IsWhole ways words d → chosen ways d set ≡ Victim f
+pub chosen-victim : (ways words : ℕ) (d : Frames) (set f : ℕ) → IsSound ways words d → chosen ways d set ≡ Victim f
     → IsResidentWay ways d set f
 unfolding chosen
 chosen-victim ways words d set f h e = go _ _ refl e
@@ -134,7 +135,7 @@ chosen-victim ways words d set f h e = go _ _ refl e
     go None None q e = absurd (cc)
 
 -- where there is no frame to take, all ways of the set are pending, and only there
-pub chosen-all_pending : (ways words : ℕ) (d : Frames) (set : ℕ) → IsWhole ways words d
+pub chosen-all_pending : (ways words : ℕ) (d : Frames) (set : ℕ) → IsSound ways words d
     → is_all_pending (chosen ways d set) ≡ are_pending ways d set
 unfolding chosen free_way oldest
 chosen-all_pending ways words d set h = go _ refl _ refl
@@ -167,6 +168,7 @@ chosen-all_pending ways words d set h = go _ refl _ refl
         sym (range_not_all pending _ ways f at.0 at.1 (cc))
     go None e (Some f) q =
         let held = find-all settled (λ x. (is_held d x ≡ true) × (x / ways ≡ set)) _ f q (order_held ways words d set h) in
-        let at = in_row f ways set h.some_way held.1 in
+        let some = (slot_in f ways _ _ h.frames_there (held_there d f held.0)).0 in
+        let at = in_row f ways set some held.1 in
         sym (range_not_all pending _ ways f at.0 at.1 (not-true _ (find-passes settled _ f q)))
     go None e None q = sym (list_all-passes pending row (range_within (λ x. pending x ≡ true) _ ways (λ x l m. waits x e q l m)))

@@ -5,8 +5,8 @@ use Rattle.std.proofs.Common.{length-set, get_or-set_same, get_or-set_other}
 use Rattle.std.specs.List.{All}
 use Rattle.std.proofs.lemmas.Bool.{cases_eq, cases_lt, false≢true, both_ways}
 use Rattle.std.proofs.lemmas.List.Elements.{All-nil, All-cons, All-head, All-tail}
-use Rattle.cache_directory.specs.Frames.{times_in, without, Frame, Frames, IsWhole, empty_frame, zero_cell, frame_at, is_held, frame_of}
-use Rattle.cache_directory.specs.Frames.{order_of, set_of, with_frame, fresh_frame, installed, released}
+use Rattle.cache_directory.specs.Frames.{times_in, without, Frame, Frames, IsSound, IsWhole, empty_frame, zero_cell, frame_at, is_held}
+use Rattle.cache_directory.specs.Frames.{frame_of, order_of, set_of, with_frame, fresh_frame, installed, released}
 use Rattle.std.proofs.lemmas.List.{get_or_past, length-replicate}
 use Rattle.flat_model.specs.Places.{is_number}
 use Rattle.flat_model.proofs.Places.{place_of-nowhere}
@@ -89,29 +89,27 @@ pub held_there : (d : Frames) (f : ℕ) → is_held d f ≡ true → f < length 
 held_there d f h = grind (arith, cases_lt, get_or_past, false≢true)
 
 -- a frame that has a word holds a block
-pub cells_held : (ways words : ℕ) (d : Frames) (f i : ℕ) → IsWhole ways words d
+pub cells_held : (ways words : ℕ) (d : Frames) (f i : ℕ) → IsSound ways words d
     → i < length (frame_at d.frames f).cells → is_held d f ≡ true
 cells_held ways words d f i h l = grind arith
 
 -- a frame is there where its set is
-pub slot_in : (f ways sets n : ℕ) → n ≡ sets * ways → 0 < ways → f < n → f / ways < sets
-slot_in f ways sets n e w h = grind arith
+pub slot_in : (f ways sets n : ℕ) → n ≡ sets * ways → f < n → (0 < ways) × (f / ways < sets)
+slot_in f ways sets n e h = (some ways h e, grind (arith, some ways h e))
+  where
+    some : (w : ℕ) → f < n → n ≡ sets * w → 0 < w
+    some zero l q = grind arith
+    some (suc w) l q = omega arith
 
 -- one frame changes, and the orders with it
-pub whole-changed : (ways words : ℕ) (d : Frames) (f : ℕ) (x : Frame) (os : List (List ℕ)) → IsWhole ways words d → f < length d.frames
+pub whole-changed : (ways words : ℕ) (d : Frames) (f : ℕ) (x : Frame) (os : List (List ℕ)) → IsSound ways words d → f < length d.frames
     → length os ≡ length d.orders → ((b : ℕ) → x.block ≡ Some b → length x.cells ≡ words) → (x.block ≡ None → x ≡ empty_frame)
     → ((b : ℕ) → x.block ≡ Some b → f / ways ≡ b % length d.orders)
     → ((g b : ℕ) → x.block ≡ Some b → (frame_at d.frames g).block ≡ Some b → g ≡ f)
     → ((s : ℕ) → times_in (get_or os s []) f ≡ cond (is_some x.block && (f / ways == s)) 1 0)
     → ((s g : ℕ) → (g ≡ f → ⊥) → times_in (get_or os s []) g ≡ times_in (order_of d s) g)
-    → IsWhole ways words (record { frames = set d.frames f x; orders = os })
+    → IsSound ways words (record { frames = set d.frames f x; orders = os })
 whole-changed ways words d f x os h there sets cells empty in_set alone own others = record {
-  some_way = h.some_way;
-  few_ways = h.few_ways;
-  some_word = h.some_word;
-  few_words = h.few_words;
-  some_set = omega arith;
-  few_sets = omega arith;
   frames_there = length-set _ f x ∙ (cc (h.frames_there, sets));
   cells = λ g b e. grind (arith, here, other, cases_eq, cells, h.cells);
   empty = λ g e. grind (arith, here, other, cases_eq, empty, h.empty);
@@ -132,8 +130,8 @@ whole-changed ways words d f x os h there sets cells empty in_set alone own othe
     ordered s g (inr n) = cc (other g n, h.ordered s g, others s g n)
 
 -- a frame keeps its block
-pub whole-kept : (ways words : ℕ) (d : Frames) (f : ℕ) (x : Frame) → IsWhole ways words d → is_held d f ≡ true
-    → x.block ≡ (frame_at d.frames f).block → length x.cells ≡ length (frame_at d.frames f).cells → IsWhole ways words (with_frame d f x)
+pub whole-kept : (ways words : ℕ) (d : Frames) (f : ℕ) (x : Frame) → IsSound ways words d → is_held d f ≡ true
+    → x.block ≡ (frame_at d.frames f).block → length x.cells ≡ length (frame_at d.frames f).cells → IsSound ways words (with_frame d f x)
 whole-kept ways words d f x h held same long =
     whole-changed ways words d f x _ h there refl (λ b e. long ∙ h.cells f b (sym same ∙ e)) (λ e. absurd (cc))
     (λ b e. h.in_set f b (sym same ∙ e)) (λ g b e e'. h.alone g f b e' (sym same ∙ e))
@@ -152,24 +150,25 @@ pub of_row : (f ways s : ℕ) → s * ways ≤ f → f < s * ways + ways → f /
 of_row f ways s l h = grind arith
 
 -- what stands in an order is held, and of the order's set
-pub in_order : (ways words : ℕ) (d : Frames) (s f : ℕ) → IsWhole ways words d → 0 < times_in (order_of d s) f → (is_held d f ≡ true) ×
+pub in_order : (ways words : ℕ) (d : Frames) (s f : ℕ) → IsSound ways words d → 0 < times_in (order_of d s) f → (is_held d f ≡ true) ×
     (f / ways ≡ s)
 in_order ways words d s f h p = grind arith
 
-pub held_in_order : (ways words : ℕ) (d : Frames) (s f : ℕ) → IsWhole ways words d → is_held d f ≡ true → f / ways ≡ s
+pub held_in_order : (ways words : ℕ) (d : Frames) (s f : ℕ) → IsSound ways words d → is_held d f ≡ true → f / ways ≡ s
     → times_in (order_of d s) f ≡ 1
 held_in_order ways words d s f h held e = grind arith
 
-pub order_held : (ways words : ℕ) (d : Frames) (s : ℕ) → IsWhole ways words d
+pub order_held : (ways words : ℕ) (d : Frames) (s : ℕ) → IsSound ways words d
     → All (λ f. (is_held d f ≡ true) × (f / ways ≡ s)) (order_of d s)
 order_held ways words d s h = All-times (λ f. (is_held d f ≡ true) × (f / ways ≡ s)) _ (λ f p. in_order ways words d s f h p)
 
-pub order_there : (ways words : ℕ) (d : Frames) (s : ℕ) → IsWhole ways words d → All (λ f. f < length d.frames) (order_of d s)
+pub order_there : (ways words : ℕ) (d : Frames) (s : ℕ) → IsSound ways words d → All (λ f. f < length d.frames) (order_of d s)
 order_there ways words d s h = All-times (λ f. f < length _) _ (λ f p. held_there d f (in_order ways words d s f h p).0)
 
-pub order_short : (ways words : ℕ) (d : Frames) (s : ℕ) → IsWhole ways words d → length (order_of d s) ≤ ways
+pub order_short : (ways words : ℕ) (d : Frames) (s : ℕ) → IsSound ways words d → length (order_of d s) ≤ ways
 order_short ways words d s h =
-    length-within ways _ _ (λ f. grind (arith, h.ordered)) (λ f p. in_row f ways s h.some_way (in_order ways words d s f h p).1)
+    length-within ways _ _ (λ f. grind (arith, h.ordered)) (λ f p. let q = in_order ways words d s f h p in
+    in_row f ways s (slot_in f ways _ _ h.frames_there (held_there d f q.0)).0 q.1)
 
 -- ---- a block is installed, and a frame released
 
@@ -177,9 +176,9 @@ order_kept : (orders : List (List ℕ)) (t s g : ℕ) (o : List ℕ) → (s ≡ 
     ≡ times_in (get_or orders s []) g
 order_kept orders t s g o n = ap (λ l. times_in l g) (get_or-set_other orders t s o [] n)
 
-pub whole-installed : (ways words : ℕ) (d : Frames) (f b : ℕ) → IsWhole ways words d → f < length d.frames
+pub whole-installed : (ways words : ℕ) (d : Frames) (f b : ℕ) → IsSound ways words d → f < length d.frames
     → (frame_at d.frames f).block ≡ None → f / ways ≡ set_of d b → frame_of d.frames b ≡ None
-    → IsWhole ways words (installed ways words d f b)
+    → IsSound ways words (installed ways words d f b)
 unfolding installed fresh_frame frame_of
 whole-installed ways words d f b h there free of_set absent =
     whole-changed ways words d f (fresh_frame words b) (set d.orders (f / ways) (order_of d (f / ways) ++ f ∷ [])) h there
@@ -189,7 +188,7 @@ whole-installed ways words d f b h there free of_set absent =
     (λ s g n. grind (arith, cases_eq, get_or-set_same, in_orders, times-append, order_kept, times-none))
   where
     in_orders : f / ways < length d.orders
-    in_orders = slot_in f ways _ _ h.frames_there h.some_way there
+    in_orders = (slot_in f ways _ _ h.frames_there there).1
 
     lost : (g c : ℕ) → Some b ≡ Some c → (frame_at d.frames g).block ≡ Some c → ⊥
     lost g c e e' =
@@ -199,8 +198,8 @@ whole-installed ways words d f b h there free of_set absent =
     before : (s : ℕ) → times_in (order_of d s) f ≡ 0
     before s = grind arith
 
-pub whole-released : (ways words : ℕ) (d : Frames) (f : ℕ) → IsWhole ways words d → is_held d f ≡ true
-    → IsWhole ways words (released ways d f)
+pub whole-released : (ways words : ℕ) (d : Frames) (f : ℕ) → IsSound ways words d → is_held d f ≡ true
+    → IsSound ways words (released ways d f)
 unfolding released
 whole-released ways words d f h held =
     whole-changed ways words d f empty_frame (set d.orders (f / ways) (without (order_of d (f / ways)) f)) h there
@@ -213,4 +212,18 @@ whole-released ways words d f h held =
     there = held_there d f held
 
     in_orders : f / ways < length d.orders
-    in_orders = slot_in f ways _ _ h.frames_there h.some_way there
+    in_orders = (slot_in f ways _ _ h.frames_there there).1
+
+-- ---- numbers in their ranges
+
+pub still_whole : (ways words : ℕ) (d d' : Frames) → IsWhole ways words d → length d'.orders ≡ length d.orders → IsSound ways words d'
+    → IsWhole ways words d'
+still_whole ways words d d' h e sound = record {
+  some_way = h.some_way;
+  few_ways = h.few_ways;
+  some_word = h.some_word;
+  few_words = h.few_words;
+  some_set = rw (sym e) at h.some_set;
+  few_sets = rw (sym e) at h.few_sets;
+  sound = sound;
+}

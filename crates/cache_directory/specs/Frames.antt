@@ -64,9 +64,17 @@ times_in (g ∷ rest) f = (if g == f then 1 else 0) + times_in rest f
 
 -- ---- what is always so
 
--- the sizes are in their ranges; a frame that holds a block has the block's words, and one that
--- holds none is empty; a block lies in one frame at most, which is one of its set; and the order
--- of a set has exactly the frames of that set that hold a block, each once
+-- a frame that holds a block has the block's words, and one that holds none is empty; a block lies in one frame at most, which is one
+-- of its set; and the order of a set has exactly the frames of that set that hold a block, each once
+pub record IsSound (ways words : ℕ) (d : Frames) : Type 0 where
+  pub frames_there : length d.frames ≡ length d.orders * ways
+  pub cells : (f block : ℕ) → (frame_at d.frames f).block ≡ Some block → length (frame_at d.frames f).cells ≡ words
+  pub empty : (f : ℕ) → (frame_at d.frames f).block ≡ None → frame_at d.frames f ≡ empty_frame
+  pub in_set : (f block : ℕ) → (frame_at d.frames f).block ≡ Some block → f / ways ≡ set_of d block
+  pub alone : (f g block : ℕ) → (frame_at d.frames f).block ≡ Some block → (frame_at d.frames g).block ≡ Some block → f ≡ g
+  pub ordered : (set f : ℕ) → times_in (order_of d set) f ≡ (if is_held d f && (f / ways == set) then 1 else 0)
+
+-- the same, and its numbers are in their ranges
 pub record IsWhole (ways words : ℕ) (d : Frames) : Type 0 where
   pub some_way : 0 < ways
   pub few_ways : ways ≤ MAX_WAYS
@@ -74,12 +82,7 @@ pub record IsWhole (ways words : ℕ) (d : Frames) : Type 0 where
   pub few_words : words ≤ MAX_BLOCK_WORDS
   pub some_set : 0 < length d.orders
   pub few_sets : length d.orders ≤ MAX_SETS
-  pub frames_there : length d.frames ≡ length d.orders * ways
-  pub cells : (f block : ℕ) → (frame_at d.frames f).block ≡ Some block → length (frame_at d.frames f).cells ≡ words
-  pub empty : (f : ℕ) → (frame_at d.frames f).block ≡ None → frame_at d.frames f ≡ empty_frame
-  pub in_set : (f block : ℕ) → (frame_at d.frames f).block ≡ Some block → f / ways ≡ set_of d block
-  pub alone : (f g block : ℕ) → (frame_at d.frames f).block ≡ Some block → (frame_at d.frames g).block ≡ Some block → f ≡ g
-  pub ordered : (set f : ℕ) → times_in (order_of d set) f ≡ (if is_held d f && (f / ways == set) then 1 else 0)
+  pub sound : IsSound ways words d
 
 -- the same, however many words a block has: what a call needs that counts ways alone
 pub record IsWholeFor (ways : ℕ) (d : Frames) : Type 0 where

@@ -8,13 +8,13 @@ use Rattle.flat_model.specs.declared.Lanes.{Lanes}
 use Rattle.write_queue.specs.declared.Queued.{Queued}
 use Rattle.write_queue.specs.Queue.{Queue, queue as queue_of, overlaid, queued_lanes}
 use Rattle.cache_directory.specs.declared.Cell.{Cell}
-use Rattle.cache_directory.specs.Frames.{Frames, IsWhole, zero_cell, frame_at, is_held, Frame, empty_frame, cell_at, fresh_frame}
+use Rattle.cache_directory.specs.Frames.{Frames, IsSound, zero_cell, frame_at, is_held, Frame, empty_frame, cell_at, fresh_frame}
 use Rattle.cache_directory.specs.Frames.{with_frame, filled}
-use Rattle.cache_unit.specs.Causes.{dirty_from}
+use Rattle.cache_law.specs.Causes.{dirty_from}
 use Rattle.std.specs.List.{range_with_len}
 use Rattle.flat_model.proofs.Lanewise.{merged-none, joined-none}
 use Rattle.miss_registers.specs.Registers.{Register, free_register, clear_field, register_at, field_of, fresh, noted}
-use Rattle.cache_unit.specs.Begun.{begun_cell, begun_field, begun_frame, begun_register}
+use Rattle.cache_law.specs.Begun.{begun_cell, begun_field, begun_frame, begun_register}
 
 -- ---- The words with dirty lanes, one cell at a time.
 
@@ -46,7 +46,7 @@ dirty_within block at [] (suc i) = omega arith
 dirty_within block at (x ∷ cells) (suc i) = grind (arith, dirty_within block (at + 1) cells i)
 
 -- a frame that holds a block has the block's words
-pub held-cells : (ways words : ℕ) (d : Frames) (f : ℕ) → IsWhole ways words d → is_held d f ≡ true
+pub held-cells : (ways words : ℕ) (d : Frames) (f : ℕ) → IsSound ways words d → is_held d f ≡ true
     → length (frame_at d.frames f).cells ≡ words
 held-cells ways words d f whole held = grind arith
 

@@ -1,4 +1,4 @@
--- The ranges of a machine's numbers, in the order of the checks.
+-- The ranges of a unit's numbers, in the order of the checks.
 use Rattle.std.specs.Prelude.{ℕ, ◌+◌, ◌-◌, ◌/◌, ◌%◌, ◌&&◌, not, if◌then◌else◌, ◌==◌, Option, Some, None}
 use Rattle.flat_model.specs.declared.limits.TheConstants.{MAX_BLOCK_WORDS, MAX_WAYS, MAX_CONST_WAYS, MAX_REGS, MAX_CONST_REGS, MAX_DEPTH}
 use Rattle.flat_model.specs.declared.limits.TheConstants.{MAX_CONST_DEPTH, MAX_WORDS, MAX_MEMORY, MAX_SETS, MAX_BANKS, MAX_BANK_QUEUE}
@@ -7,13 +7,13 @@ use Rattle.flat_model.specs.declared.ShapeField.{ShapeField}
 use Rattle.flat_model.specs.declared.ShapeField.TheVariants.{BlockWords, Ways, Regs, Depth, Words, Sets, Banks, BankQueue, WriteQueue}
 use Rattle.flat_model.specs.declared.ShapeField.TheVariants.{Replies}
 use Rattle.flat_model.specs.Ranges.{is_between}
-use Rattle.cache_unit.specs.declared.Sizes.{Sizes}
+use Rattle.cache_law.specs.declared.Sizes.{Sizes}
 
 -- the words of a block that one bank has, where they are spread as evenly as may be: the quotient, rounded up
 abbrev pub words_per_bank : Sizes → ℕ
 words_per_bank z = (z.block_words + z.banks - 1) / z.banks
 
--- the first number of a part's shape that is out of its range, where memory has so many words at most
+-- the first number of a unit that is out of its range, where memory has so many words at most
 abbrev pub bad_number_within : ℕ → Sizes → Option ShapeField
 bad_number_within most z =
     if not (is_between z.words 1 most && (z.words % z.block_words == 0)) then Some Words

@@ -3,13 +3,13 @@ use Rattle.std.specs.Prelude.{◌≡◌, ℕ, List}
 use Rattle.flat_model.specs.declared.Answer.{Answer}
 use Rattle.memory_banks.specs.declared.Command.{Command}
 use Rattle.memory_banks.specs.Banks.{HasSent}
-use Rattle.cache_unit.specs.State.{UnitState}
-use Rattle.cache_unit.specs.Steps.{Stepped}
-use Rattle.cache_unit.specs.SoundCache.{IsSoundCache}
+use Rattle.cache_law.specs.State.{UnitState}
+use Rattle.cache_law.specs.Steps.{Stepped}
+use Rattle.cache_law.specs.Sound.{IsSound}
 
 -- a call of a sound unit answers and leaves what this step says
 pub record Makes (step : Stepped) (old : UnitState) (told : Answer) (new : UnitState) : Type 0 where
-  pub sound : IsSoundCache old.sizes old.cache
+  pub sound : IsSound old.sizes old.cache
   pub answer : told ≡ step.answer
   pub unit : new ≡ record old { cache = step.cache }
 

@@ -3,7 +3,7 @@ ghost use Rattle.std.specs.Prelude.{◌≡◌, ℕ, ◌+◌, ◌*◌, ◌^◌, �
 ghost use Rattle.cache_directory.specs.Frames.{IsWhole, frame_at, fresh_frame, with_frame};
 ghost use Rattle.miss_registers.specs.Registers.{register_at, fresh};
 ghost use Rattle.miss_registers.specs.Whole as file;
-ghost use Rattle.cache_unit.specs.Begun.{begun_frame, begun_register};
+ghost use Rattle.cache_law.specs.Begun.{begun_frame, begun_register};
 
 use crate::Sizes;
 use cache_directory::FrameTable;

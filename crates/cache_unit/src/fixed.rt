@@ -1,14 +1,14 @@
 //! A unit whose ways, words of a block, registers and places of the stack stand in its type.
 ghost use Rattle.std.specs.Prelude.{◌≡◌, ◌≤◌, length, slice_get, IfOk, IfErr, OnOk, None};
 ghost use Rattle.memory_banks.specs.Memory.{fault_of};
-ghost use Rattle.cache_unit.specs.State.{opening_cache, tags};
-ghost use Rattle.cache_unit.specs.Shown.{sizes_of};
+ghost use Rattle.cache_law.specs.State.{opening_cache, tags};
+ghost use Rattle.cache_law.specs.Shown.{sizes_of};
 ghost use Rattle.cache_unit.specs.Limits as limits;
-ghost use Rattle.cache_unit.specs.Lookups.{lookup};
-ghost use Rattle.cache_unit.specs.SoundCache.{IsSoundCache};
-ghost use Rattle.cache_unit.specs.Steps as steps;
-ghost use Rattle.cache_unit.specs.Steps.{request_step};
-ghost use Rattle.cache_unit.specs.Views as views;
+ghost use Rattle.cache_law.specs.Lookups.{lookup};
+ghost use Rattle.cache_law.specs.Sound.{IsSound};
+ghost use Rattle.cache_law.specs.Steps as steps;
+ghost use Rattle.cache_law.specs.Steps.{request_step};
+ghost use Rattle.cache_law.specs.Views as views;
 ghost use Rattle.cache_unit.specs.Makes.{Makes, MakesOver};
 
 use crate::{Lookup, Request, ShapedUnit, bad_field, sizes_of};
@@ -31,7 +31,7 @@ pub struct CacheUnit<const WAYS: usize, const WORDS: usize, const REGS: usize, c
 
 impl<const WAYS: usize, const WORDS: usize, const REGS: usize, const DEPTH: usize> Model
     for CacheUnit<WAYS, WORDS, REGS, DEPTH> {
-    ghost use Rattle.cache_unit.specs.State.{UnitState};
+    ghost use Rattle.cache_law.specs.State.{UnitState};
 
     ghost Value = { UnitState };
 
@@ -132,7 +132,7 @@ impl<const WAYS: usize, const WORDS: usize, const REGS: usize, const DEPTH: usiz
     pub fn owed(&self) -> u32
         ensures value { result ≡ length (tags self.now.cache) }
         ensures few { result ≤ self.now.sizes.replies }
-        ensures sound { IsSoundCache self.now.sizes self.now.cache }
+        ensures sound { IsSound self.now.sizes self.now.cache }
     {
         self.unit.owed()
     }

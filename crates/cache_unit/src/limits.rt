@@ -1,7 +1,7 @@
 //! The ranges of a unit's numbers.
 ghost use Rattle.std.specs.Prelude.{◌≡◌, ◌<◌, ◌≤◌};
 ghost use Rattle.flat_model.specs.declared.limits.TheConstants.{MAX_BLOCK_WORDS, MAX_WAYS, MAX_REGS, MAX_DEPTH};
-ghost use Rattle.cache_unit.specs.Shown.{sizes_of, shape_of};
+ghost use Rattle.cache_law.specs.Shown.{sizes_of};
 ghost use Rattle.cache_unit.specs.Limits as limits;
 
 use crate::Sizes;
@@ -71,22 +71,6 @@ pub fn sizes_of<const WAYS: usize, const WORDS: usize, const REGS: usize, const 
         bank_queue: shape.bank_queue,
         write_queue: shape.write_queue,
         replies: shape.replies,
-    }
-}
-
-impl Sizes {
-    /// Those of the numbers that a [`Shape`] has.
-    pub fn shape(&self) -> Shape
-        ensures { result ≡ shape_of self.now }
-    {
-        Shape {
-            words: self.words,
-            sets: self.sets,
-            banks: self.banks,
-            bank_queue: self.bank_queue,
-            write_queue: self.write_queue,
-            replies: self.replies,
-        }
     }
 }
 

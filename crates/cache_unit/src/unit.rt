@@ -3,12 +3,12 @@ ghost use Rattle.std.specs.Prelude.{◌≡◌, ℕ, ◌+◌, ◌≤◌, ◌++◌
 ghost use Rattle.flat_model.specs.declared.limits.TheConstants.{MAX_REGS};
 ghost use Rattle.cache_unit.specs.declared.unit.TheConstants.{REPLY_PLACES};
 ghost use Rattle.cache_directory.specs.Frames as dir;
-ghost use Rattle.cache_unit.specs.Steps as steps;
-ghost use Rattle.cache_unit.specs.Views as views;
+ghost use Rattle.cache_law.specs.Steps as steps;
+ghost use Rattle.cache_law.specs.Views as views;
 ghost use Rattle.cache_unit.specs.Makes.{Makes, MakesOver};
-ghost use Rattle.cache_unit.specs.State.{frame_of};
-ghost use Rattle.cache_unit.specs.Causes.{lacks_places};
-ghost use Rattle.cache_unit.specs.Steps.{filled_live, CanFill};
+ghost use Rattle.cache_law.specs.State.{frame_of};
+ghost use Rattle.cache_law.specs.Causes.{lacks_places};
+ghost use Rattle.cache_law.specs.Steps.{filled_live, CanFill};
 ghost use Rattle.miss_registers.specs.Registers as regs;
 ghost use Rattle.miss_registers.specs.Whole.{IsWhole};
 
@@ -54,7 +54,7 @@ pub struct ShapedUnit {
 }
 
 impl Model for ShapedUnit {
-    ghost use Rattle.cache_unit.specs.State.{UnitState};
+    ghost use Rattle.cache_law.specs.State.{UnitState};
 
     ghost Value = { UnitState };
 
@@ -68,7 +68,7 @@ impl Model for ShapedUnit {
 impl ShapedUnit {
     /// Sends the front of the write queue to its bank. `Nothing` says that the queue is empty, and
     /// a refusal (10) that the bank has no room; both leave everything unchanged.
-    #[tactic(auto, unfolding(crate::specs::Steps::drain_step))]
+    #[tactic(auto, unfolding(cache_law::specs::Steps::drain_step))]
     pub fn drain<L: Lines>(&mut self, lines: &mut L) -> Answer
         ensures { MakesOver L.sent_to L.room_of L.same
             (steps.drain_step self.old.sizes (L.room_of lines.old) self.old.cache)
@@ -131,7 +131,7 @@ impl ShapedUnit {
 
     /// Takes the ready reply at `place`: its value. `Nothing` says that there is none, and changes
     /// nothing.
-    #[tactic(auto, unfolding(crate::specs::Steps::take_step))]
+    #[tactic(auto, unfolding(cache_law::specs::Steps::take_step))]
     #[inline(never)]
     pub fn take(&mut self, place: u32) -> Answer
         ensures { Makes (steps.take_step self.old.cache place) self.old result self.new }
@@ -169,7 +169,7 @@ impl ShapedUnit {
     /// Takes the word at `place` out of the stack. The loads that wait for it are answered in their
     /// order, and where its register is live, the buffer's lanes outside the word's code take its
     /// bytes. `Nothing` says that there is no such place, and changes nothing.
-    #[tactic(auto, unfolding(crate::specs::Steps::process_step))]
+    #[tactic(auto, unfolding(cache_law::specs::Steps::process_step))]
     #[inline(never)]
     pub fn process(&mut self, place: u32) -> Answer
         ensures { Makes (steps.process_step self.old.cache place) self.old result self.new }
@@ -197,7 +197,7 @@ fn retire(registers: &mut RegisterTable, block: u32)
 }
 
 // A live register's word goes into its frame.
-#[tactic(auto, unfolding(crate::specs::Steps::filled_live))]
+#[tactic(auto, unfolding(cache_law::specs::Steps::filled_live))]
 fn fill_live(directory: &mut FrameTable, e: &Entry, live: Option<u32>, keep: Lanes, last: bool)
     requires there { CanFill directory.old live e.now.i }
     ensures filled { directory.new ≡ filled_live directory.old live e.now.i e.now.word keep last }

@@ -3,8 +3,8 @@ ghost use Rattle.std.specs.Prelude.{◌≡◌, ℕ, ◌+◌, ◌-◌, ◌*◌, �
 ghost use Rattle.flat_model.specs.declared.limits.TheConstants.{MAX_BLOCK_WORDS};
 ghost use Rattle.cache_directory.specs.Frames.{IsWhole, frame_at, is_held};
 ghost use Rattle.write_queue.specs.Queue.{queue as queue_of};
-ghost use Rattle.cache_unit.specs.Causes.{dirty_from, owed_words};
-ghost use Rattle.cache_unit.specs.Steps.{given_up};
+ghost use Rattle.cache_law.specs.Causes.{dirty_from, owed_words};
+ghost use Rattle.cache_law.specs.Steps.{given_up};
 
 use crate::Sizes;
 use cache_directory::FrameTable;

@@ -316,9 +316,9 @@ pub enum ShapeField {
     WriteQueue,
     /// Loads that are awaited and ready together at most: 1 to 64.
     Replies,
-    /// Ports of a machine that runs on threads: 1 to 16. No part here names it.
+    /// Ports of a station, a machine that runs on threads: 1 to 16.
     Ports,
-    /// Entries of a journal: 1 to 1,048,576. No part here names it.
+    /// Entries of a station's journal: 1 to 1,048,576.
     Journal,
     /// Words of the image that memory begins with: as many as memory has.
     Image,

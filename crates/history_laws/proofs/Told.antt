@@ -35,7 +35,7 @@ use Rattle.flat_model.specs.Words.{Lane, Lane0, Lane1, Lane2, Lane3, byte, zero_
 use Rattle.flat_model.specs.Flat.{word_at, with_due, same_word, is_owed, may_answer}
 use Rattle.flat_model.specs.Flat as model
 use Rattle.flat_model.proofs.Lanewise.{byte-merged}
-use Rattle.cache_unit.specs.declared.Sizes.{Sizes}
+use Rattle.cache_law.specs.declared.Sizes.{Sizes}
 use Rattle.machine_core.specs.Machine as machine
 use Rattle.machine_core.proofs.Walking.{walk_is_flat}
 use Rattle.history_laws.specs.Laws.{IsFlat, ReturnsBytes}

@@ -10,7 +10,7 @@ use Rattle.flat_model.specs.declared.Event.TheVariants.{Load, Store, Take}
 use Rattle.flat_model.specs.declared.Answer.{Answer}
 use Rattle.flat_model.specs.declared.Answer.TheVariants.{Accepted, Value}
 use Rattle.flat_model.specs.Flat.{opening, flat_run}
-use Rattle.cache_unit.specs.declared.Sizes.{Sizes}
+use Rattle.cache_law.specs.declared.Sizes.{Sizes}
 use Rattle.machine_core.specs.Machine as machine
 use Rattle.machine_core.specs.Law.{IsLawful}
 use Rattle.atomic_histories.specs.Law.{IsAtomic}

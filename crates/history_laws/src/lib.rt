@@ -9,7 +9,7 @@ ghost use Rattle.memory_histories.specs.declared.events.Rest.{Rest};
 ghost use Rattle.flat_model.specs.declared.Word.{Word};
 ghost use Rattle.flat_model.specs.declared.Event.{Event};
 ghost use Rattle.flat_model.specs.declared.Answer.{Answer};
-ghost use Rattle.cache_unit.specs.declared.Sizes.{Sizes};
+ghost use Rattle.cache_law.specs.declared.Sizes.{Sizes};
 ghost use Rattle.history_laws.specs.Laws.{AtomicIsRegular, FlatIsAtomic, FlatIsRegular};
 ghost use Rattle.history_laws.specs.Told.{RunIsLawful, MachineIsLawful};
 ghost use Rattle.history_laws.specs.Late.{LateIsAtomic};

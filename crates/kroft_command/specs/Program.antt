@@ -6,7 +6,7 @@ use Rattle.std.specs.List.{flat_map}
 use Rattle.std.specs.String.{string_bytes}
 use Rattle.std.specs.Global.{Global, Vec}
 use Rattle.std.specs.declared.string.String.{String}
-use Rattle.cache_unit.specs.declared.Sizes.{Sizes}
+use Rattle.cache_law.specs.declared.Sizes.{Sizes}
 use Rattle.machine_core.specs.Machine.{MachineState}
 use Rattle.toml.specs.Parse.{parse_document}
 use Rattle.flat_model.specs.Flat.{Flat}

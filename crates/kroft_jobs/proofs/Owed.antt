@@ -4,7 +4,7 @@ use Rattle.std.specs.Prelude.{is_some}
 use Rattle.std.specs.List.{filter, range_with_len}
 use Rattle.std.proofs.lemmas.List.Elements.{filter-append}
 use Rattle.flat_model.specs.Flat.{Flat}
-use Rattle.cache_unit.proofs.Fetching.{range_more}
+use Rattle.cache_unit.proofs.BlockReads.{range_more}
 use Rattle.kroft_jobs.specs.Answering.{owed_below}
 
 -- below 0 there are none

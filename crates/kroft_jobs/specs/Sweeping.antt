@@ -2,7 +2,7 @@
 use Rattle.std.specs.Prelude.{⊤, ◌≡◌, ℕ, List, [], ◌∷◌, map, Option, Some}
 use Rattle.std.specs.List.{All}
 use Rattle.shape_files.specs.MachineFile.{bad_machine}
-use Rattle.cache_unit.specs.declared.Sizes.{Sizes}
+use Rattle.cache_law.specs.declared.Sizes.{Sizes}
 use Rattle.flat_model.specs.declared.Event.{Event}
 use Rattle.machine_core.specs.Machine.{MachineState}
 use Rattle.trace_text.specs.Reading.{ReadWhole, ReadStops}

@@ -3,3 +3,4 @@ pub mod Requests
 pub mod Walking
 pub mod Weighing
 pub mod Whole
+pub mod Driving

@@ -4,46 +4,47 @@ use Rattle.std.proofs.Common.{[], ◌∷◌, ◌++◌, map, length, set, Some, f
 use Rattle.std.proofs.Common.{ne_eqb, not, Option, None, sym, ◌⊎◌, le-leb, ltb-true, zero-add, is_some, option_map, is_none, lt-ltb}
 use Rattle.std.proofs.Common.{add-zero, ◌-◌, get_or, replicate, div-add-mod', flat_map, ext_get_or}
 use Rattle.std.specs.List.{range_with_len, list_any, list_all}
-use Rattle.std.proofs.lemmas.Bool.{cases_eq, not-false, leb-false, and_parts, not-true}
+use Rattle.std.proofs.lemmas.Bool.{cases_eq, not-false, and_parts, not-true}
 use Rattle.std.proofs.lemmas.Nat.{mod-mul-add}
 use Rattle.flat_model.specs.declared.Word.{Word}
 use Rattle.flat_model.specs.Flat.{word_at, with_due, flat_after, flat_step, load_refusals}
 use Rattle.memory_banks.specs.declared.Command.TheVariants.{Read}
 use Rattle.memory_banks.specs.declared.BankAnswer.{BankAnswer}
 use Rattle.memory_banks.specs.Banks.{Bank, bank_at, no_bank, pending, all_pending, words_after, with_command, all_sent, room_in, share_of}
-use Rattle.cache_unit.specs.declared.Sizes.{Sizes}
-use Rattle.cache_unit.specs.Counts.{tally, bit}
-use Rattle.cache_unit.proofs.Lists.{Adds, Adds-tally, Adds-find_other, Adds-find_same, Adds-push, Adds-left, Adds-right, Adds-same}
-use Rattle.cache_unit.proofs.Lists.{find_none, flat_map_part, read_set, map-same, none_in_frames, none_live, holds-not, Adds-length}
-use Rattle.cache_unit.proofs.Lists.{frame_of-none}
+use Rattle.cache_law.specs.declared.Sizes.{Sizes}
+use Rattle.cache_law.specs.Counts.{tally, bit}
+use Rattle.cache_law.proofs.Lists.{Adds, Adds-tally, Adds-find_other, Adds-find_same, Adds-push, Adds-left, Adds-right, Adds-same}
+use Rattle.cache_law.proofs.Lists.{find_none, flat_map_part, read_set, map-same, none_in_frames, holds-not}
+use Rattle.cache_law.proofs.Lists.{frame_of-none}
 use Rattle.machine_core.specs.Sound.{is_for, is_entry_for, word_in, IsSound, wanted}
 use Rattle.std.proofs.lemmas.List.FromFn.{length-map-range_with_len}
 use Rattle.flat_model.specs.Words.{merged, zero_word, has_any}
 use Rattle.flat_model.proofs.Lanewise.{merged-none, merged_over, merged_no_lane, has-none}
 use Rattle.write_queue.specs.declared.Queued.{Queued}
 use Rattle.write_queue.specs.Queue.{overlaid, queued_lanes}
-use Rattle.cache_unit.specs.Begun.{begun_field}
-use Rattle.cache_unit.specs.State.{Frame, frame_at, frame_of, is_present, register_at, field_at, is_live, cell_of, tags, block_of, place_in}
-use Rattle.cache_unit.specs.State.{first_of, Register, empty_frame, free_register, cell_in, gathered, targets_of, targets}
-use Rattle.cache_unit.specs.Causes.{addresses, dirty_words, first_cause, found, targets_full, is_in_use, miss_causes, lacks_places}
-use Rattle.cache_unit.specs.Causes.{load_cause, store_cause, prefetch_cause, evict_cause}
-use Rattle.cache_unit.specs.Steps.{released, installed, fetched, fetches, load_step, store_step, prefetch_step, evict_step, Stepped, unless}
-use Rattle.cache_unit.specs.Steps.{loaded, written, evicted_from, evicted}
-use Rattle.cache_unit.specs.Forms.{Asked, Form, filled_by}
-use Rattle.cache_unit.specs.FormLaws.{form_at, words_without, asked_form}
-use Rattle.cache_unit.proofs.FormsWords.{range_at, address_is, Hit, stored-by, loaded-by}
-use Rattle.cache_unit.proofs.FormsEvents.{owed-same, Due, dues, due_in, owed-due, dues-tally, tags-dues}
-use Rattle.cache_unit.proofs.Requesting.{Able, Misses, misses, fetched-by, none-counted}
+use Rattle.cache_law.specs.Begun.{begun_field}
+use Rattle.cache_law.specs.State.{Frame, frame_at, frame_of, is_present, register_at, field_at, is_live, cell_of, tags, block_of, place_in}
+use Rattle.cache_law.specs.State.{first_of, Register, empty_frame, free_register, cell_in, gathered, targets_of, targets}
+use Rattle.cache_law.specs.Causes.{addresses, dirty_words, first_cause, found, targets_full, is_in_use, miss_causes}
+use Rattle.cache_law.specs.Causes.{load_cause, store_cause, prefetch_cause, evict_cause}
+use Rattle.cache_law.specs.Steps.{released, fetched, fetches, load_step, store_step, prefetch_step, evict_step, Stepped, unless}
+use Rattle.cache_law.specs.Steps.{loaded, written, evicted_from, evicted}
+use Rattle.cache_law.specs.Forms.{Asked, Form, filled_by}
+use Rattle.cache_law.specs.FormLaws.{form_at, words_without, asked_form}
+use Rattle.cache_law.proofs.FormsWords.{range_at, address_is, Hit, stored-by, loaded-by}
+use Rattle.cache_law.proofs.FormsEvents.{owed-same, Due, dues, due_in, owed-due, dues-tally, tags-dues}
+use Rattle.cache_law.proofs.Requesting.{Able, Misses, misses, fetched-by, none-counted}
 use Rattle.machine_core.specs.Law.{IsLawful}
 use Rattle.machine_core.specs.Machine.{Machine, backing, flat_word, joined_with, flat_due, flat_of, opening, settled, bank_word}
 use Rattle.machine_core.specs.Machine.{flat_word_in}
 use Rattle.memory_banks.proofs.Sending.{all_sent-length, all_sent-at}
-use Rattle.machine_core.proofs.FromForms.{commands, fetched_machine, after-append, answers_to-append, MayMiss, may_able, bounded_fetch}
+use Rattle.machine_core.proofs.FromForms.{commands, fetched_machine, after-append, answers_to-append, MayMiss, may_able, fetched_at}
 use Rattle.machine_core.proofs.FromForms.{like_loaded, like_written, filled-asked, filled-over, filled-other}
-use Rattle.machine_core.proofs.FromForms.{word_asks, due_other, word_from, flat_word-form, Same, bit-le, kept_word, kept_same, InOrder}
-use Rattle.machine_core.proofs.FromForms.{overlaid-split, InOrder-released, InOrder-installed, dirty_within, dirty_elsewhere, dirty_in}
-use Rattle.machine_core.proofs.FromForms.{backing_dirty, word_same, form_present, flat_of-same, Kept, KeptBy, cell_frames, sound_beside}
-use Rattle.machine_core.proofs.FromForms.{gone_same, gone_sound, ordered, entry_waits, entry_apart, pending_part, InLimits}
+use Rattle.machine_core.proofs.FromForms.{word_asks, due_other, word_from, flat_word-form, Same, bit-le, kept_word, kept_same, AtBanks}
+use Rattle.machine_core.proofs.FromForms.{overlaid-split, dirty_within, dirty_elsewhere}
+use Rattle.machine_core.proofs.FromForms.{backing_dirty, word_same, form_present, flat_of-same, Kept, KeptBy, cell_frames, counted_beside}
+use Rattle.machine_core.proofs.FromForms.{sound_unit}
+use Rattle.machine_core.proofs.FromForms.{gone_same, gone_sound, pending_part}
 use Rattle.flat_model.specs.declared.Lanes.{Lanes}
 use Rattle.flat_model.specs.declared.Cause.{Cause}
 use Rattle.flat_model.specs.declared.Cause.TheVariants.{OutOfRange, TagInUse, RepliesFull, TargetsFull, NoRegister, SetPending, QueueFull}
@@ -54,9 +55,12 @@ use Rattle.flat_model.specs.declared.Answer.TheVariants.{Accepted, Refused}
 use Rattle.flat_model.specs.Causes.{is_of_a_load}
 use Rattle.cache_directory.specs.declared.Cell.{Cell}
 use Rattle.miss_registers.proofs.Tags.{list_any-map}
-use Rattle.std.proofs.lemmas.List.{length-replicate}
-use Rattle.cache_unit.specs.Views.{is_empty}
-use Rattle.cache_unit.proofs.Made.{all_same}
+use Rattle.cache_law.specs.Views.{is_empty}
+use Rattle.cache_law.proofs.Opening.{all_same, IsSound-opening}
+use Rattle.cache_law.proofs.EachStep.{each_step_keeps, fetch-kept}
+use Rattle.cache_law.specs.Requests.{absence_cause}
+use Rattle.cache_law.specs.Sound as parts
+use Rattle.cache_law.specs.declared.Request.TheVariants as request
 
 -- ---- The reads of a block go to their banks.
 
@@ -191,14 +195,6 @@ module _ (z : Sizes) (lawful : IsLawful z) (m : Machine) (h : IsSound z m) (bloc
   no_frame : (k : ℕ) → (frame_at m.cache k).block ≡ Some block → ⊥
   no_frame = none_in_frames m.cache block absent
 
-  apart_after : (a b n : ℕ) → (frame_at with_block.cache a).block ≡ Some n → (frame_at with_block.cache b).block ≡ Some n → a ≡ b
-  apart_after a b n p q = grind (arith, no_frame, holds)
-
-  -- the block of a live register is in another frame
-  live_elsewhere : (t k : ℕ) → is_live (register_at m.cache t) ≡ true → (frame_at m.cache k).block ≡ Some (register_at m.cache t).block
-      → k ≡ f → ⊥
-  live_elsewhere t k l e q = grind (arith, miss.may_go, none_live)
-
   -- ---- registers
 
   valid_other : (t : ℕ) → (register_at m.cache t).valid ≡ true → (t ≡ slot → ⊥)
@@ -206,22 +202,6 @@ module _ (z : Sizes) (lawful : IsLawful z) (m : Machine) (h : IsSound z m) (bloc
 
   live_other : (t : ℕ) → is_live (register_at m.cache t) ≡ true → (t ≡ slot → ⊥)
   live_other t l = grind arith
-
-  -- no register was live for the block
-  none_before : (t : ℕ) → is_live (register_at m.cache t) ≡ true → (register_at m.cache t).block ≡ block → ⊥
-  none_before t l e = grind (arith, no_frame)
-
-  lives : (t : ℕ) → is_live (register_at with_block.cache t) ≡ true
-      → (t ≡ slot) ⊎ ((t ≡ slot → ⊥) × (is_live (register_at m.cache t) ≡ true)
-      × ((register_at with_block.cache t).block ≡ (register_at m.cache t).block))
-  lives t l = grind arith
-
-  own_block : (t : ℕ) → t ≡ slot → (register_at with_block.cache t).block ≡ block
-  own_block t q = grind arith
-
-  live_apart_after : (a b : ℕ) → is_live (register_at with_block.cache a) ≡ true → is_live (register_at with_block.cache b) ≡ true
-      → (register_at with_block.cache a).block ≡ (register_at with_block.cache b).block → a ≡ b
-  live_apart_after a b la lb e = grind (arith, none_before, own_block, lives)
 
   -- ---- answers
 
@@ -344,54 +324,19 @@ module _ (z : Sizes) (lawful : IsLawful z) (m : Machine) (h : IsSound z m) (bloc
 
   -- ---- all of it
 
-  installed_order : f / z.ways ≡ block % z.sets → (let c = installed z (released z m.cache f) block f slot in InOrder z c.directory)
-  unfolding installed released
-  installed_order own =
-      let c = released z m.cache f in
-      InOrder-installed z _ f _ _ refl (rw (sym own) at (mod-lt block lawful.some_sets))
-      (InOrder-released z _ f (ordered z m h))
-
-  order : InOrder z with_block.cache.directory
-  order = grind (arith, installed_order)
-
   same_tags : tags with_block.cache ≡ tags m.cache
   same_tags = grind arith
 
-  with_block_sound : InLimits z with_block → IsSound z with_block
-  with_block_sound limits =
-      let u = h.unit in
-      record {
-        unit = record {
-          some_words = u.some_words;
-          some_sets = u.some_sets;
-          frames_are = grind arith;
-          orders_are = order.sized;
-          registers_are = grind arith;
-          frames_apart = apart_after;
-          live_apart = live_apart_after;
-          live_present = λ t l. ⊎_elim (λ q. (f, grind (arith, miss.by.own_frame, own_block)))
-              (λ x. let p = u.live_present t x.1 in (p.0, grind (arith, miss.by.other_frame, live_elsewhere))) (lives t l);
-          cells = λ k b e. ⊎_elim (λ x. grind (arith, miss.by.own_frame, length-map-range_with_len))
-              (λ x. grind (arith, u.cells k b x.1, miss.by.other_frame)) (holds k b e);
-          fields = whole_after;
-          in_memory = λ k b e. ⊎_elim (λ x. rw (sym x.1) at in_memory) (λ x. u.in_memory k b x.1) (holds k b e);
-          queue_in = rw (sym miss.by.queue) at (dirty_in z m h f);
-          placed = order.placed;
-          in_set = order.in_set;
-          entries = entry_waits z with_block counted;
-          entries_apart = entry_apart z with_block counted;
-          unfinished = limits.unfinished;
-          once = grind arith;
-          few_tags = limits.few_tags;
-          few_queued = limits.few_queued;
-        };
-        counted = counted;
-        kept = kept;
-        at_its_bank = limits.at_its_bank;
-        few_commands = limits.few_commands;
-        banks_are = all_sent-length m.banks (commands z slot (addresses z block)) ∙ h.banks_are;
-        banks_hold = λ at l. grind (arith, mod-lt, all_sent-at, h.banks_hold, h.banks_are);
-      }
+  with_block_sound : parts.IsSound z with_block.cache → AtBanks z with_block → IsSound z with_block
+  with_block_sound unit at = record {
+    unit = unit;
+    counted = counted;
+    kept = kept;
+    at_its_bank = at.at_its_bank;
+    few_commands = at.few_commands;
+    banks_are = all_sent-length m.banks (commands z slot (addresses z block)) ∙ h.banks_are;
+    banks_hold = λ at l. grind (arith, mod-lt, all_sent-at, h.banks_hold, h.banks_are);
+  }
     where
       own_field : (j : ℕ) → j < z.block_words → field_at with_block.cache slot j ≡ begun_field with_block.cache.queue (first_of z block + j)
       own_field j l = grind (arith, range_at)
@@ -405,8 +350,10 @@ module _ (z : Sizes) (lawful : IsLawful z) (m : Machine) (h : IsSound z m) (bloc
           ≡ wanted z (register_at with_block.cache t) j
       counted t j = cc (miss.by.same_stack, counted_after t j)
 
-      whole_after : (t : ℕ) → (register_at with_block.cache t).valid ≡ true → length (register_at with_block.cache t).fields ≡ z.block_words
-      whole_after t v = grind (arith, length-map-range_with_len, cases_eq)
+-- nor against a block that is present
+may_be_present : (z : Sizes) (m : Machine) (block : ℕ) → MayMiss z m block
+    → absence_cause z (room_in z.bank_queue m.banks) m.cache block ≡ None
+may_be_present z m block may = grind arith
 
 -- a block is fetched where nothing stands against it
 pub fetch_ok : (z : Sizes) (lawful : IsLawful z) (m : Machine) → IsSound z m → (block : ℕ)
@@ -420,12 +367,12 @@ fetch_ok z lawful m h block in_memory may = go _ refl
     go None e =
         let miss = misses z _ h.unit block e (may_able z m block may (ap is_some e)) in
         let is = ap (all_sent m.banks) miss.sent in
-        let tags_same = same_tags z lawful m h block e in_memory miss in
-        let limits = bounded_fetch z m h block may (rw (sym tags_same) at h.unit.few_tags) in
+        let unit = fetch-kept z (room_in z.bank_queue m.banks) m.cache block h.unit in_memory (may_be_present z m block may) in
+        let at = fetched_at z m h block may in
         record {
-          sound = rw (sym is) at (with_block_sound z lawful m h block e in_memory miss (rw is at limits));
+          sound = rw (sym is) at (with_block_sound z lawful m h block e in_memory miss unit (rw is at at));
           same = rw (sym is) at (with_block_same z lawful m h block e in_memory miss);
-          same_tags = tags_same;
+          same_tags = same_tags z lawful m h block e in_memory miss;
         }
 
 -- the block is present then, with all its words
@@ -462,10 +409,12 @@ range_set f g a (suc n) (suc k) others l =
 
 -- a step that is refused changes nothing
 unless_kept : (z : Sizes) (m : Machine) (event : Event) (step : Stepped) (cause : Option Cause) → IsSound z m
+    → parts.IsSound z (unless cause m.cache step).cache
     → ((c : Cause) → cause ≡ Some c → flat_step (flat_of z m) event (Refused c) ≡ Some (flat_of z m))
-    → (cause ≡ None → KeptBy z m event (joined_with m.banks step)) → KeptBy z m event (joined_with m.banks (unless cause m.cache step))
-unless_kept z m event step None h refused go_on = go_on refl
-unless_kept z m event step (Some c) h refused go_on = record { sound = h; run = refused c refl }
+    → (cause ≡ None → parts.IsSound z step.cache → KeptBy z m event (joined_with m.banks step))
+    → KeptBy z m event (joined_with m.banks (unless cause m.cache step))
+unless_kept z m event step None h unit refused go_on = go_on refl unit
+unless_kept z m event step (Some c) h unit refused go_on = record { sound = h; run = refused c refl }
 
 -- ---- tags
 
@@ -483,12 +432,6 @@ flat_in_use m tag = ap (λ o. not (is_none (option_map (filled_by (all_pending m
     any-find p [] = refl
     any-find p (x ∷ xs) = grind (arith, any-find p xs)
 
--- no tag is owed twice, where a new one is added
-once_more : (tag : ℕ) (xs ys : List ℕ) → Adds tag xs ys → tally (λ t. t == tag) xs ≡ 0 → ((t : ℕ) → tally (λ x. x == t) xs ≤ 1) → (t : ℕ)
-    → tally (λ x. x == t) ys ≤ 1
-once_more tag xs ys more none once t =
-    grind (arith, Adds-tally (λ x. x == t) tag xs ys more, once t, none, bit-le (tag == t), cases_eq tag t, ne_eqb)
-
 -- ---- the causes of a miss
 
 -- a block is in memory where one of its words is
@@ -500,8 +443,9 @@ lies_in z lawful at l = grind arith
 module _ (z : Sizes) (lawful : IsLawful z) (m : Machine) (h : IsSound z m) where
   -- ---- loads
 
-  accept_load : (tag at : ℕ) → at < z.words → is_in_use m.cache tag ≡ false → length (tags m.cache) < z.replies → (m2 : Machine)
-      → FetchedBy z m (block_of z at) m2 → Hit z m2.cache (block_of z at) → KeptBy z m (Load tag at) (record {
+  accept_load : (tag at : ℕ) → at < z.words → is_in_use m.cache tag ≡ false → (m2 : Machine) → FetchedBy z m (block_of z at) m2
+      → Hit z m2.cache (block_of z at) → parts.IsSound z (loaded m2.cache tag (place_in z at) (cell_of m2.cache (block_of z at)
+      (place_in z at)).word (found m2.cache (block_of z at) (place_in z at))) → KeptBy z m (Load tag at) (record {
         answer = Accepted;
         machine = record {
           cache = loaded m2.cache tag (place_in z at) (cell_of m2.cache (block_of z at) (place_in z at)).word
@@ -509,7 +453,7 @@ module _ (z : Sizes) (lawful : IsLawful z) (m : Machine) (h : IsSound z m) where
           banks = m2.banks;
         };
       })
-  accept_load tag at l unused room m2 f hit =
+  accept_load tag at l unused m2 f hit unit =
       let c = m2.cache in
       let ps = all_pending m2.banks in
       let none = ap (tally (λ t. t == tag)) f.same_tags ∙ none-counted (λ t. t == tag) _ unused in
@@ -526,10 +470,8 @@ module _ (z : Sizes) (lawful : IsLawful z) (m : Machine) (h : IsSound z m) where
       λ t. grind (arith, by.owing t, form, flat_word-form z m2 at, f.same.words at, mem_at z m at l, f.same.owing t) in
       let after : flat_after _ (Load tag at) Accepted ≡ flat_of z m3 =
       λ i. record { mem = map (λ a. sym (words a ∙ f.same.words a) i) (range_with_len 0 z.words); due = λ t. sym (gained t) i } in
-      let once = once_more tag _ _ by.more none f.sound.unit.once in
       record {
-        sound = sound_beside z m2 _ f.sound by.beside (like_loaded c tag _ _ _) once
-            (omega (arith, Adds-length tag _ _ by.more, ap length f.same_tags, room))
+        sound = sound_unit z m2 _ f.sound unit (like_loaded c tag _ _ _) (counted_beside z m2 _ f.sound by.beside)
             (λ a. kept_same z m2 m3 f.sound a (words a) (cell_frames c m3.cache by.frames _ _) (back a));
         run = ap (λ b. cond b (Some (flat_after (flat_of z m) (Load tag at) Accepted)) None) (ap₂ (λ x y. nat_lt at x && y) (mem_length z m)
             (not-false _ (flat_in_use m tag ∙ unused)) ∙ ap (λ b. b && true) (lt-ltb at z.words l)) ∙ ap Some after;
@@ -551,22 +493,24 @@ module _ (z : Sizes) (lawful : IsLawful z) (m : Machine) (h : IsSound z m) where
 
   pub load_ok : (tag at : ℕ) → Kept z m (Load tag at)
   unfolding load_step load_cause
-  load_ok tag at = unless_kept z m _ _ (load_cause z (room_in z.bank_queue m.banks) m.cache tag at) h (λ c e.
+  load_ok tag at = unless_kept z m _ _ (load_cause z (room_in z.bank_queue m.banks) m.cache tag at) h
+      ((each_step_keeps z _ h.unit).request (room_in z.bank_queue m.banks) (request.Load tag at)) (λ c e.
       let refused = load_refused (nat_lt at z.words) _ _ (later at) c e
       (λ q. later_refused (is_present m.cache (block_of z at)) _ _ _ _ _ c q) in
-      cc (mem_length z m, flat_in_use m tag, refused)) (λ e.
+      cc (mem_length z m, flat_in_use m tag, refused)) (λ e unit.
       let may : MayMiss z m (block_of z at) = λ absent. grind arith in
-      accept_load tag at (grind (arith, ltb-true)) (grind arith) (grind (arith, leb-false)) _
-      (fetch_ok z lawful m h _ (lies_in z lawful at (grind (arith, ltb-true))) may) (fetched_hit z m h _ (may_able z m _ may)))
+      accept_load tag at (grind (arith, ltb-true)) (grind arith) _
+      (fetch_ok z lawful m h _ (lies_in z lawful at (grind (arith, ltb-true))) may) (fetched_hit z m h _ (may_able z m _ may)) unit)
 
   -- ---- stores
 
   accept_store : (at : ℕ) (word : Word) (lanes : Lanes) → at < z.words → has_any lanes ≡ true → (m2 : Machine)
-      → FetchedBy z m (block_of z at) m2 → Hit z m2.cache (block_of z at) → KeptBy z m (Store at word lanes) (record {
+      → FetchedBy z m (block_of z at) m2 → Hit z m2.cache (block_of z at)
+      → parts.IsSound z (written m2.cache (block_of z at) (place_in z at) word lanes) → KeptBy z m (Store at word lanes) (record {
         answer = Accepted;
         machine = record { cache = written m2.cache (block_of z at) (place_in z at) word lanes; banks = m2.banks };
       })
-  accept_store at word lanes l any m2 f hit =
+  accept_store at word lanes l any m2 f hit unit =
       let c = m2.cache in
       let ps = all_pending m2.banks in
       let by = stored-by z lawful.some_words c at hit word lanes in
@@ -591,25 +535,26 @@ module _ (z : Sizes) (lawful : IsLawful z) (m : Machine) (h : IsSound z m) where
       let after : flat_after _ (Store at word lanes) Accepted ≡ flat_of z m3 =
       λ i. record { mem = sym mem i; due = λ t. sym (owing t) i } in
       record {
-        sound = sound_beside z m2 _ f.sound by.beside (like_written c _ _ word lanes)
-            (λ tag. rw (sym by.same_tags) at (f.sound.unit.once tag)) (rw (sym by.same_tags) at f.sound.unit.few_tags) kept;
+        sound = sound_unit z m2 _ f.sound unit (like_written c _ _ word lanes) (counted_beside z m2 _ f.sound by.beside) kept;
         run = grind (arith, after, mem_length z m, any, lt-ltb);
       }
 
   pub store_ok : (at : ℕ) (word : Word) (lanes : Lanes) → Kept z m (Store at word lanes)
   unfolding store_step store_cause
   store_ok at word lanes = unless_kept z m _ _ (store_cause z (room_in z.bank_queue m.banks) m.cache at lanes) h
-      (λ c e. grind (arith, mem_length)) (λ e.
+      ((each_step_keeps z _ h.unit).request (room_in z.bank_queue m.banks) (request.Store at word lanes))
+      (λ c e. grind (arith, mem_length)) (λ e unit.
       let may : MayMiss z m (block_of z at) = λ absent. grind arith in
       accept_store at word lanes (grind (arith, ltb-true)) (grind arith) _
-      (fetch_ok z lawful m h _ (lies_in z lawful at (grind (arith, ltb-true))) may) (fetched_hit z m h _ (may_able z m _ may)))
+      (fetch_ok z lawful m h _ (lies_in z lawful at (grind (arith, ltb-true))) may) (fetched_hit z m h _ (may_able z m _ may)) unit)
 
   -- ---- prefetches
 
   pub prefetch_ok : (at : ℕ) → Kept z m (Prefetch at)
   unfolding prefetch_step prefetch_cause
   prefetch_ok at = unless_kept z m _ _ (prefetch_cause z (room_in z.bank_queue m.banks) m.cache at) h
-      (λ c e. grind (arith, mem_length)) (λ e.
+      ((each_step_keeps z _ h.unit).request (room_in z.bank_queue m.banks) (request.Prefetch at))
+      (λ c e. grind (arith, mem_length)) (λ e unit.
       let may : MayMiss z m (block_of z at) = λ absent. grind arith in
       let l : at < z.words = grind (arith, ltb-true) in
       let f = fetch_ok z lawful m h _ (lies_in z lawful at l) may in
@@ -619,17 +564,18 @@ module _ (z : Sizes) (lawful : IsLawful z) (m : Machine) (h : IsSound z m) where
 
   pub evict_ok : (block : ℕ) → Kept z m (Evict block)
   unfolding evict_step evict_cause evicted released
-  evict_ok block = unless_kept z m _ _ (evict_cause z m.cache block) h (λ c e. grind arith) (λ e. accept _ refl (grind arith) (grind arith))
+  evict_ok block = unless_kept z m _ _ (evict_cause z m.cache block) h ((each_step_keeps z _ h.unit).evict block) (λ c e. grind arith)
+      (λ e unit. accept _ refl (grind arith) unit)
     where
-      accept : (o : Option ℕ) → frame_of m.cache block ≡ o → is_some o ≡ true → lacks_places z m.cache o ≡ false
+      accept : (o : Option ℕ) → frame_of m.cache block ≡ o → is_some o ≡ true → parts.IsSound z (evicted_from z m.cache block o)
           → KeptBy z m (Evict block) (record {
             answer = Accepted;
             machine = record { cache = evicted_from z m.cache block o; banks = m.banks };
           })
-      accept None e some room = cc
-      accept (Some f) e some room =
+      accept None e some unit = cc
+      accept (Some f) e some unit =
           record {
-            sound = gone_sound z m h block f e room;
+            sound = gone_sound z m h block f e unit;
             run = flat_of-same z m _ (gone_same z m h block f e);
           }
 
@@ -687,34 +633,9 @@ module _ (z : Sizes) (lawful : IsLawful z) (image : List Word) (fits : length im
   pub opening_idle : all_pending m0.banks ≡ []
   opening_idle = no_pending bank_of (range_with_len 0 z.banks) (λ k. refl)
 
-  pub nothing_owed : tags m0.cache ≡ []
-  unfolding targets
-  nothing_owed = ap (map _) (no_targets z.regs 0)
-
   pub sound_opening : IsSound z m0
   sound_opening = record {
-    unit = record {
-      some_words = lawful.some_words;
-      some_sets = lawful.some_sets;
-      frames_are = length-replicate _ empty_frame;
-      orders_are = length-replicate _ [];
-      registers_are = length-replicate _ free_register;
-      frames_apart = λ f g b p q. absurd (no_block f b p);
-      live_apart = λ s t p q e. grind (arith, free_registers);
-      live_present = λ s p. grind (arith, free_registers);
-      cells = λ f b p. absurd (no_block f b p);
-      fields = λ s v. grind (arith, free_registers);
-      in_memory = λ f b p. absurd (no_block f b p);
-      queue_in = tt;
-      placed = λ f b p. absurd (no_block f b p);
-      in_set = λ s f p. grind (arith, all_same);
-      entries = λ k e p. cc;
-      entries_apart = λ j k d e p. cc;
-      unfinished = λ s v. grind (arith, free_registers);
-      once = λ tag. rw nothing_owed (omega arith);
-      few_tags = rw nothing_owed (omega arith);
-      few_queued = omega arith;
-    };
+    unit = IsSound-opening z lawful.some_words lawful.whole_blocks lawful.some_sets;
     counted = λ s i. (cc (opening_idle, free_registers s));
     kept = λ at. (cc (opening_word at, merged-none (backing z m0 at) zero_word, absent (block_of z at)));
     at_its_bank = λ b s i l. absurd (omega (arith, pending_part (is_for s i) m0.banks b, ap (tally (is_for s i)) opening_idle));

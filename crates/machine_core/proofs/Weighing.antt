@@ -16,25 +16,26 @@ use Rattle.flat_model.specs.declared.Event.TheVariants.{Take, Process, Arrive, S
 use Rattle.flat_model.specs.declared.Word.{Word}
 use Rattle.memory_banks.specs.declared.BankAnswer.{BankAnswer}
 use Rattle.memory_banks.specs.Banks.{Bank, bank_at, no_bank, pending, all_pending, answers_to, served, with_command, room_in}
-use Rattle.cache_unit.specs.declared.Reply.{Reply}
+use Rattle.cache_law.specs.declared.Reply.{Reply}
 use Rattle.input_stack.specs.declared.Entry.{Entry}
 use Rattle.write_queue.specs.declared.Queued.{Queued}
 use Rattle.miss_registers.specs.declared.Owed.{Owed}
-use Rattle.cache_unit.specs.declared.Sizes.{Sizes}
-use Rattle.cache_unit.specs.State.{Target, Field, Register, Cache, clear_field, free_register, register_at, field_at, gathered, targets_of}
-use Rattle.cache_unit.specs.State.{targets_of_field, targets, tags}
-use Rattle.cache_unit.specs.Causes.{arrive_cause}
+use Rattle.cache_law.specs.declared.Sizes.{Sizes}
+use Rattle.cache_law.specs.State.{Target, Field, Register, Cache, clear_field, free_register, register_at, field_at, gathered, targets_of}
+use Rattle.cache_law.specs.State.{targets_of_field, targets, tags}
+use Rattle.cache_law.specs.Causes.{arrive_cause}
 use Rattle.miss_registers.specs.Registers.{finished, marked}
-use Rattle.cache_unit.specs.Steps.{answered, processed, arrived, take_step, process_step, drain_step, drain_first, process_entry}
-use Rattle.cache_unit.specs.Counts.{tally, bit}
-use Rattle.cache_unit.proofs.FormsProcessing.{all_processed, done}
-use Rattle.cache_unit.proofs.Lists.{with_fields, in_range, tally-append, tally-map}
+use Rattle.cache_law.specs.Steps.{answered, processed, arrived, take_step, process_step, drain_step, drain_first, process_entry}
+use Rattle.cache_law.specs.Counts.{tally, bit}
+use Rattle.cache_law.proofs.FormsProcessing.{all_processed, done}
+use Rattle.cache_law.proofs.Lists.{with_fields, in_range, tally-append, tally-map}
 use Rattle.cache_directory.proofs.Finds.{All-range, find-nowhere}
 use Rattle.machine_core.specs.Machine.{Machine, apply, joined_with}
 use Rattle.machine_core.specs.Law.{IsLawful, HasRoom, WalkIsDriven, most_weight}
 use Rattle.machine_core.specs.Sound.{IsSound, wanted}
 use Rattle.machine_core.proofs.Walking.{slot_there, field_there, not_stray, walk_sound}
 use Rattle.machine_core.proofs.FromForms.{bit-pos, bit-le}
+use Rattle.cache_law.proofs.Tags.{has_word, few_tags}
 use Rattle.machine_core.proofs.Requests.{sound_opening}
 use Rattle.std.proofs.Math.Nat.{mul_assoc}
 use Rattle.flat_model.specs.Flat.{stored}
@@ -131,7 +132,7 @@ module _ (z : Sizes) (lawful : IsLawful z) (roomy : HasRoom z) (m : Machine) (h 
       let found = ap (λ l. slice_get l 0) e in
       let r = register_at c x.slot in
       let f = field_at c x.slot x.i in
-      let w = h.unit.entries 0 x found in
+      let w = has_word z _ h.unit 0 x found in
       rw found (omega (
         arith,
         total_set field_weight clear_field r.fields x.i done (field_there z m 0 x h found),
@@ -235,7 +236,7 @@ module _ (z : Sizes) (lawful : IsLawful z) (roomy : HasRoom z) (m : Machine) (h 
           quiet s l = elim (register_at m.cache s).valid as (λ b. (register_at m.cache s).valid ≡ b
               → cond b (total field_weight (register_at m.cache s).fields) 0 ≡ 0) [
                 | true ↦ (λ v. total_none field_weight clear_field (register_at m.cache s).fields
-                    (λ j k. grind (arith, all_idle m.banks idle, h.counted s j, lt-ltb, h.unit.fields)))
+                    (λ j k. grind (arith, all_idle m.banks idle, h.counted s j, lt-ltb, h.unit.registers.each)))
                 | false ↦ (λ v. refl)
               ] refl
 
@@ -378,7 +379,7 @@ wanted_in : (z : Sizes) (m : Machine) → IsSound z m → (s i : ℕ) → 1 ≤ 
 wanted_in z m sound s i l =
     let p = and_parts (register_at m.cache s).valid _ (bit-pos _ l) in
     let there = in_range (λ (r : Register). r.valid) free_register _ s refl p.0 in
-    (omega (arith, there, sound.unit.registers_are), ltb-true i _ (and_parts _ _ p.1).0)
+    (omega (arith, there, sound.unit.registers.registers_there), ltb-true i _ (and_parts _ _ p.1).0)
 
 -- at most one for each word of each register
 pub on_their_way : (z : Sizes) (m : Machine) → IsSound z m → length (all_pending m.banks) + length m.cache.stack ≤ z.regs * z.block_words
@@ -452,8 +453,8 @@ weight_bound z m sound =
       banks_weigh _ _ sound.few_commands,
       all_weigh register_weight targets_of register_weighs 0 m.cache.registers,
       tags_count m.cache,
-      sound.unit.few_tags,
-      sound.unit.few_queued,
+      few_tags z _ sound.unit,
+      sound.unit.queue_sound.within,
       ap (λ k. k * z.bank_queue) sound.banks_are,
       mul_assoc 4 z.regs z.block_words,
     )

@@ -12,13 +12,13 @@ use Rattle.memory_banks.specs.declared.BankAnswer.{BankAnswer}
 use Rattle.memory_banks.specs.Banks.{bank_at, room_in, answers_to, no_bank, all_pending, Bank, pending, opening_banks}
 use Rattle.memory_banks.specs.Memory.{Memory, with_banks, SameButQueues, without_answer}
 use Rattle.memory_banks.proofs.Sending.{banks_sent}
-use Rattle.cache_unit.specs.declared.Sizes.{Sizes}
-use Rattle.cache_unit.specs.State.{Cache, UnitState, Field, Register, clear_field, free_register, register_at, live_for, is_pending}
-use Rattle.cache_unit.specs.State.{gathered, targets_of, targets, tags, first_of, opening_cache}
+use Rattle.cache_law.specs.declared.Sizes.{Sizes}
+use Rattle.cache_law.specs.State.{Cache, UnitState, Field, Register, clear_field, free_register, register_at, live_for, is_pending}
+use Rattle.cache_law.specs.State.{gathered, targets_of, targets, tags, first_of, opening_cache}
 use Rattle.cache_unit.specs.Makes.{MakesOver}
-use Rattle.cache_unit.specs.Causes.{first_cause, dirty_from, dirty_words, addresses, lacks_places, lacks_room, miss_causes, load_cause}
-use Rattle.cache_unit.specs.Causes.{store_cause, prefetch_cause, evict_cause}
-use Rattle.cache_unit.specs.Steps.{Stepped, unless, arrive_step, evict_step, process_step, take_step, load_step, store_step, prefetch_step}
+use Rattle.cache_law.specs.Causes.{first_cause, dirty_from, dirty_words, addresses, lacks_places, lacks_room, miss_causes, load_cause}
+use Rattle.cache_law.specs.Causes.{store_cause, prefetch_cause, evict_cause}
+use Rattle.cache_law.specs.Steps.{Stepped, unless, arrive_step, evict_step, process_step, take_step, load_step, store_step, prefetch_step}
 use Rattle.machine_core.specs.Machine.{Machine, joined_with, apply, walked, told, arrive_from, flat_of, MachineState}
 use Rattle.machine_core.specs.Whole.{machine_of, Makes, IsWhole, Serves, or_image}
 use Rattle.std.specs.List.{list_all, list_any, filter, range_with_len}
@@ -28,9 +28,9 @@ use Rattle.std.proofs.lemmas.List.{nil_from_length, get_or_past}
 use Rattle.flat_model.specs.declared.Word.{Word}
 use Rattle.flat_model.specs.declared.Event.TheVariants.{Load, Store, Prefetch, Evict, Arrive}
 use Rattle.cache_directory.specs.declared.Cell.{Cell}
-use Rattle.cache_unit.specs.Counts.{tally}
-use Rattle.cache_unit.proofs.Lists.{live_for-none, tally-append}
-use Rattle.cache_unit.proofs.Made.{in_size}
+use Rattle.cache_law.specs.Counts.{tally}
+use Rattle.cache_law.proofs.Lists.{live_for-none, tally-append}
+use Rattle.cache_unit.proofs.Numbers.{in_size}
 use Rattle.machine_core.specs.Law.{IsLawful, HasRoom, ServesRequests, IsServed, RequestsAreServed, IsKept, WalkIsKept, IsDriven}
 use Rattle.machine_core.specs.Pump.{total, bank_weight, weight, pumped, after_event, after_pumps}
 use Rattle.machine_core.specs.Sound.{is_for, IsSound, own_bank}
@@ -39,6 +39,8 @@ use Rattle.machine_core.proofs.Walking.{tally_all, event_ok, flat_apply, flat_wa
 use Rattle.machine_core.proofs.Weighing.{commands_weigh_all, all_idle, pumped_lowers, pumped_rests, weight_bound, on_their_way}
 use Rattle.machine_core.proofs.Weighing.{pumped_at_rest}
 use Rattle.machine_core.proofs.FromForms.{pending_part}
+use Rattle.cache_law.proofs.Tags.{few_tags, owed_once}
+use Rattle.machine_core.proofs.Driving.{ends}
 use Rattle.flat_model.specs.declared.Cause.TheVariants.{StrayWord}
 use Rattle.flat_model.specs.Flat.{flat_step, Flat, flat_run}
 use Rattle.std.specs.Option.{IsNone}
@@ -46,8 +48,8 @@ use Rattle.memory_banks.specs.declared.bank.TheConstants.{MAX_ANSWERS}
 use Rattle.flat_model.specs.declared.limits.TheConstants.{MAX_REGS, MAX_BLOCK_WORDS}
 use Rattle.flat_model.specs.declared.Shape.{Shape}
 use Rattle.flat_model.specs.declared.ShapeField.{ShapeField}
-use Rattle.cache_unit.specs.Shown.{shape_of}
-use Rattle.cache_unit.specs.Sound.{InRange}
+use Rattle.cache_law.specs.Shown.{shape_of}
+use Rattle.cache_law.specs.Sound.{InRange}
 use Rattle.cache_unit.specs.Limits.{bad_size}
 use Rattle.cache_unit.specs.Makes as cache
 
@@ -288,16 +290,29 @@ module _ (z : Sizes) (lawful : IsLawful z) (roomy : HasRoom z) (m : Machine) (so
 
 -- ---- the driver brings a machine there
 
+pub pump_lighter : (z : Sizes) → IsLawful z → HasRoom z → (m : Machine) → IsSound z m → (o : Option Event) → pumped z m ≡ o
+    → weight (after_event z m o) ≤ weight m - 1
+pump_lighter z lawful roomy m h None e = omega (arith, pumped_rests z lawful roomy m h e)
+pump_lighter z lawful roomy m h (Some event) e = omega (arith, pumped_lowers z lawful roomy m h event e)
+
+pub pump_sound : (z : Sizes) → IsLawful z → (m : Machine) → IsSound z m → (o : Option Event) → IsSound z (after_event z m o)
+pump_sound z lawful m h None = h
+pump_sound z lawful m h (Some event) = sound_apply z lawful m h event
+
 -- after enough pumps the weight is 0
 driven : (z : Sizes) → IsLawful z → HasRoom z → (n : ℕ) (m : Machine) → IsSound z m → weight m ≤ n
     → IsSound z (after_pumps z n m) × (weight (after_pumps z n m) ≡ 0)
-driven z lawful roomy zero m h l = (h, omega arith)
-driven z lawful roomy (suc n) m h l = elim (pumped z m) as (λ o. pumped z m ≡ o
-    → IsSound z (after_pumps z n (after_event z m o)) × (weight (after_pumps z n (after_event z m o)) ≡ 0)) [
-      | None ↦ (λ e. driven z lawful roomy n m h (omega (arith, pumped_rests z lawful roomy m h e)))
-      | (Some event) ↦ (λ e. driven z lawful roomy n _ (sound_apply z lawful m h event)
-          (omega (arith, pumped_lowers z lawful roomy m h event e)))
-    ] refl
+driven z lawful roomy n m h l =
+    let over : Machine → Bool = λ m. is_none (pumped z m) in
+    let step : Machine → Machine = λ m. after_event z m (pumped z m) in
+    let end = ends over step (λ n m. IsSound z m × (weight m ≤ n))
+    (λ m k. ap is_none (pumped_at_rest z lawful roomy m k.0 (omega (arith, k.1))))
+    (λ n m e k. (pump_sound z lawful m k.0 (pumped z m), omega (arith, pump_lighter z lawful roomy m k.0 (pumped z m) refl, k.1)))
+    n m (h, l)
+    in (end.still.0, pumped_rests z lawful roomy _ end.still.0 (none_from _ end.is_over))
+  where
+    none_from : (o : Option Event) → is_none o ≡ true → o ≡ None
+    none_from o e = grind arith
 
 pub served_after_pumps : (z : Sizes) → IsLawful z → HasRoom z → (m : Machine) → IsSound z m → IsServed z m
 served_after_pumps z lawful roomy m sound =
@@ -321,9 +336,9 @@ all_at_one p (x ∷ banks) (suc k) h =
 
 pub kept_whole : (z : Sizes) → IsLawful z → (m : Machine) → IsSound z m → IsKept z m
 kept_whole z lawful m sound = record {
-  one_live = sound.unit.live_apart;
-  tags_differ = sound.unit.once;
-  tags_fit = sound.unit.few_tags;
+  one_live = sound.unit.registers.one_live;
+  tags_differ = owed_once z m.cache sound.unit;
+  tags_fit = few_tags z m.cache sound.unit;
   tags_owed = λ tag. some _ ∙ flat_in_use m tag;
   on_its_way = λ s i. omega (arith, all_at_one (is_for s i) m.banks _ (λ b d. elsewhere b s i d), sound.counted s i);
   nowhere_else = elsewhere;

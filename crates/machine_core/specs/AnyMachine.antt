@@ -8,7 +8,7 @@ use Rattle.flat_model.specs.Flat.{Flat}
 use Rattle.miss_registers.specs.declared.Owed.{Owed}
 use Rattle.miss_registers.specs.declared.RegisterView.{RegisterView}
 use Rattle.miss_registers.specs.declared.FieldView.{FieldView}
-use Rattle.cache_unit.specs.Views.{register_view, field_view, target_view}
+use Rattle.cache_law.specs.Views.{register_view, field_view, target_view}
 use Rattle.machine_core.specs.Machine.{MachineState, apply, settled, flat_of}
 use Rattle.machine_core.specs.Pump.{pumped, weight}
 use Rattle.machine_core.specs.Whole.{bank_word_view}

@@ -15,13 +15,13 @@ use Rattle.input_stack.specs.Stack.{stack_word}
 use Rattle.memory_banks.specs.Banks.{with_command, served}
 use Rattle.miss_registers.specs.declared.TheConstants.{MAX_WAITING}
 use Rattle.miss_registers.specs.Registers as regs
-use Rattle.cache_unit.specs.declared.Sizes.{Sizes}
+use Rattle.cache_law.specs.declared.Sizes.{Sizes}
 use Rattle.cache_directory.specs.Frames as dir
 use Rattle.miss_registers.specs.Registers.{made_obsolete, marked, finished}
-use Rattle.cache_unit.specs.State.{frame_of, live_for, targets}
-use Rattle.cache_unit.specs.Causes.{choose, load_cause, store_cause, prefetch_cause, evict_cause, arrive_cause}
-use Rattle.cache_unit.specs.Steps.{released, evicted, installed, fetched, fetches, load_step, store_step, prefetch_step, evict_step}
-use Rattle.cache_unit.specs.Steps.{filled_live, drain_step, arrived, processed, process_step, take_step}
+use Rattle.cache_law.specs.State.{targets}
+use Rattle.cache_law.specs.Causes.{choose, load_cause, store_cause, prefetch_cause, evict_cause, arrive_cause}
+use Rattle.cache_law.specs.Steps.{released, evicted, installed, fetched, fetches, load_step, store_step, prefetch_step, evict_step}
+use Rattle.cache_law.specs.Steps.{filled_live, drain_step, arrived, processed, process_step, take_step}
 use Rattle.machine_core.specs.Machine.{Machine, opening, walked, told, bank_word, settled}
 use Rattle.machine_core.specs.Pump.{weight, weights}
 

@@ -13,13 +13,13 @@ use Rattle.memory_banks.specs.declared.Command.{Command}
 use Rattle.memory_banks.specs.declared.BankAnswer.{BankAnswer}
 use Rattle.memory_banks.specs.Memory.{without_answer}
 use Rattle.memory_banks.specs.Banks.{Bank, bank_at, words_after, all_pending, served, room_in, all_sent, opening_banks}
-use Rattle.cache_unit.specs.declared.Sizes.{Sizes}
-use Rattle.cache_unit.specs.State.{Cache, opening_cache, frame_of, block_of, place_in}
+use Rattle.cache_law.specs.declared.Sizes.{Sizes}
+use Rattle.cache_law.specs.State.{Cache, opening_cache, frame_of, block_of, place_in}
 use Rattle.write_queue.specs.Queue.{overlaid}
-use Rattle.cache_unit.specs.Views.{is_empty, is_clean}
-use Rattle.cache_unit.specs.Causes.{arrive_cause}
-use Rattle.cache_unit.specs.Steps.{Stepped, load_step, store_step, prefetch_step, evict_step, drain_step, arrived, process_step, take_step}
-use Rattle.cache_unit.specs.Forms.{form, owed, filled_by}
+use Rattle.cache_law.specs.Views.{is_empty, is_clean}
+use Rattle.cache_law.specs.Causes.{arrive_cause}
+use Rattle.cache_law.specs.Steps.{Stepped, load_step, store_step, prefetch_step, evict_step, drain_step, arrived, process_step, take_step}
+use Rattle.cache_law.specs.Forms.{form, owed, filled_by}
 
 -- a cache unit, and the banks of its memory
 pub record Machine : Type 0 where

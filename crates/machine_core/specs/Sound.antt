@@ -6,10 +6,10 @@ use Rattle.flat_model.specs.Words.{merged, zero_word}
 use Rattle.memory_banks.specs.declared.BankAnswer.{BankAnswer}
 use Rattle.memory_banks.specs.Banks.{bank_at, pending, all_pending}
 use Rattle.input_stack.specs.declared.Entry.{Entry}
-use Rattle.cache_unit.specs.declared.Sizes.{Sizes}
-use Rattle.cache_unit.specs.State.{Register, clear_field, register_at, cell_of, block_of, place_in, address}
-use Rattle.cache_unit.specs.Counts.{bit, tally}
-use Rattle.cache_unit.specs.SoundCache.{IsSoundCache}
+use Rattle.cache_law.specs.declared.Sizes.{Sizes}
+use Rattle.cache_law.specs.State.{Register, clear_field, register_at, cell_of, block_of, place_in, address}
+use Rattle.cache_law.specs.Counts.{bit, tally}
+use Rattle.cache_law.specs.Sound as parts
 use Rattle.machine_core.specs.Machine.{Machine, backing, flat_word}
 
 -- ---- words on their way
@@ -40,7 +40,7 @@ word_in (Some a) = a.word
 -- what keeps the flat memory that a machine stands for, and what is on its way within the limits: what holds of its unit, and of the
 -- words on their way between that and the banks
 pub record IsSound (z : Sizes) (m : Machine) : Type 0 where
-  pub unit : IsSoundCache z m.cache
+  pub unit : parts.IsSound z m.cache
   -- each word that a register waits for is once on its way, and nothing else is
   pub counted : (s i : ℕ) → tally (is_for s i) (all_pending m.banks) + tally (is_entry_for s i) m.cache.stack
       ≡ wanted z (register_at m.cache s) i

@@ -10,10 +10,10 @@ use Rattle.flat_model.specs.declared.Answer.{Answer}
 use Rattle.flat_model.specs.declared.Answer.TheVariants.{Accepted}
 use Rattle.flat_model.specs.Words.{has_any}
 use Rattle.memory_banks.specs.Memory.{Memory, with_banks}
-use Rattle.cache_unit.specs.declared.Sizes.{Sizes}
-use Rattle.cache_unit.specs.State.{UnitState}
-use Rattle.cache_unit.specs.Shown.{sizes_of, shape_of}
-use Rattle.cache_unit.specs.Sound.{InRange}
+use Rattle.cache_law.specs.declared.Sizes.{Sizes}
+use Rattle.cache_law.specs.State.{UnitState}
+use Rattle.cache_law.specs.Shown.{sizes_of, shape_of}
+use Rattle.cache_law.specs.Sound.{InRange}
 use Rattle.cache_unit.specs.Limits as limits
 use Rattle.machine_core.specs.Machine.{Machine, MachineState, Outcome, apply, bank_word}
 use Rattle.machine_core.specs.Law.{serves_eviction}

@@ -1,8 +1,8 @@
-//! What the driver looks for at the banks.
+//! Which event the driver chooses: what it looks for at the banks.
 ghost use Rattle.std.specs.Prelude.{◌≡◌, ℕ, length, Option};
 ghost use Rattle.std.specs.List.{find, list_all, range_with_len};
 ghost use Rattle.memory_banks.specs.Banks.{bank_at};
-ghost use Rattle.cache_unit.specs.Views.{is_empty};
+ghost use Rattle.cache_law.specs.Views.{is_empty};
 ghost use Rattle.machine_core.specs.Whole.{machine_of};
 ghost use Rattle.machine_core.specs.Pump.{has_items, pumped};
 

@@ -3,9 +3,9 @@ ghost use Rattle.std.specs.Prelude.{◌≡◌, ℕ, ◌≤◌, [], length, slice
 ghost use Rattle.memory_banks.specs.declared.bank.TheConstants.{MAX_ANSWERS};
 ghost use Rattle.memory_banks.specs.Banks.{bank_at, room_in};
 ghost use Rattle.memory_banks.specs.Memory.{with_banks};
-ghost use Rattle.cache_unit.specs.Steps as steps;
+ghost use Rattle.cache_law.specs.Steps as steps;
 ghost use Rattle.machine_core.specs.Machine as machine;
-ghost use Rattle.cache_unit.specs.State.{UnitState};
+ghost use Rattle.cache_law.specs.State.{UnitState};
 ghost use Rattle.machine_core.specs.Whole.{machine_of, Makes};
 
 use cache_unit::{Request, ShapedUnit};

@@ -2,7 +2,7 @@
 ghost use Rattle.std.specs.Prelude.{◌≡◌, ℕ, ◌<◌, ◌≤◌, ◌^◌, true, length};
 ghost use Rattle.flat_model.specs.declared.limits.TheConstants.{MAX_BANKS, MAX_REGS, MAX_BLOCK_WORDS};
 ghost use Rattle.memory_banks.specs.Banks.{bank_at};
-ghost use Rattle.cache_unit.specs.State.{register_at, field_at};
+ghost use Rattle.cache_law.specs.State.{register_at, field_at};
 ghost use Rattle.machine_core.specs.Pump.{total, bank_weight, field_weight, register_weight};
 
 use cache_unit::ShapedUnit;

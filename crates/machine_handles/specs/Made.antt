@@ -5,7 +5,7 @@ use Rattle.flat_model.specs.declared.ShapeField.{ShapeField}
 use Rattle.flat_model.specs.declared.ShapeField.TheVariants.{BlockWords, Ways, Regs, Depth}
 use Rattle.flat_model.specs.declared.MakeFault as make
 use Rattle.flat_model.specs.declared.MakeFault.TheVariants as make_fault
-use Rattle.cache_unit.specs.declared.Sizes.{Sizes}
+use Rattle.cache_law.specs.declared.Sizes.{Sizes}
 use Rattle.machine_core.specs.Machine.{MachineState, opening}
 use Rattle.machine_core.specs.Whole.{bad_size}
 use Rattle.machine_handles.specs.declared.made.OpenFault.{OpenFault}

@@ -10,10 +10,10 @@ use Rattle.memory_banks.specs.declared.Command.{Command}
 use Rattle.memory_banks.specs.declared.Command.TheVariants.{Read, Write}
 use Rattle.memory_banks.specs.declared.BankAnswer.{BankAnswer}
 use Rattle.memory_banks.specs.Banks.{bank_at}
-use Rattle.cache_unit.specs.declared.Lookup.{Lookup}
-use Rattle.cache_unit.specs.declared.Lookup.TheVariants.{Hit, Join, Miss}
-use Rattle.cache_unit.specs.Lookups.{lookup}
-use Rattle.cache_unit.specs.Views.{frame_view, word_view, dirty_view, reply_view}
+use Rattle.cache_law.specs.declared.Lookup.{Lookup}
+use Rattle.cache_law.specs.declared.Lookup.TheVariants.{Hit, Join, Miss}
+use Rattle.cache_law.specs.Lookups.{lookup}
+use Rattle.cache_law.specs.Views.{frame_view, word_view, dirty_view, reply_view}
 use Rattle.machine_core.specs.Machine.{MachineState}
 use Rattle.flat_judge.specs.declared.rows.AnswerRow.{AnswerRow}
 use Rattle.flat_judge.specs.Rows.{answer_row}

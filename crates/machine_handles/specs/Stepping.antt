@@ -5,7 +5,7 @@ use Rattle.flat_model.specs.declared.Event.{Event}
 use Rattle.flat_model.specs.declared.Answer.{Answer}
 use Rattle.flat_model.specs.declared.Answer.TheVariants.{Accepted, Moved, Value, Nothing, Refused}
 use Rattle.flat_model.specs.Causes.{ends_request}
-use Rattle.cache_unit.specs.declared.Lookup.{Lookup}
+use Rattle.cache_law.specs.declared.Lookup.{Lookup}
 use Rattle.machine_core.specs.Machine.{MachineState}
 use Rattle.round_driver.specs.declared.driving.TheConstants.{MOST_LATENCY}
 use Rattle.round_driver.specs.declared.note.Note.{Note}

@@ -138,11 +138,17 @@ pub same_loads-changes : (r : Register) (i : ℕ) (f : Field) → i < length r.f
 same_loads-changes r i f h e = Changes-set tags_of_field r.fields i f clear_field [] [] h
     (λ p. ap (λ ws. count_by p (map (λ x. x.tag) ws) + count_by p []) e)
 
--- a register that was free stands for a block
+-- a register that was free is another, for which no load waits
+pub none-changes : (old new : Register) → old ≡ free_register → tags_of new ≡ [] → Changes (tags_of old) (tags_of new) [] []
+none-changes old new free none p = grind arith
+
+pub fresh-tags : (words block frame : ℕ) → tags_of (fresh words block frame) ≡ []
+unfolding fresh
+fresh-tags words block frame = no_tags tags_of_field clear_field words refl
+
 pub fresh-changes : (r : Register) (words block frame : ℕ) → r ≡ free_register
     → Changes (tags_of r) (tags_of (fresh words block frame)) [] []
-unfolding fresh
-fresh-changes r words block frame free p = grind (arith, no_tags tags_of_field clear_field words refl)
+fresh-changes r words block frame free = none-changes r (fresh words block frame) free (fresh-tags words block frame)
 
 pub obsolete-changes : (r : Register) → Changes (tags_of r) (tags_of (made_obsolete r)) [] []
 unfolding made_obsolete
@@ -228,9 +234,9 @@ pub few_wait : (words regs : ℕ) (rs : List Register) → IsWhole words regs rs
     → length (waiting_tags rs) ≤ MAX_REGS * (MAX_BLOCK_WORDS * MAX_WAITING)
 unfolding waiting_tags
 few_wait words regs rs h =
-    let each = λ (k : ℕ). few_tags words _ h.few_words (h.each k) in
+    let each = λ (k : ℕ). few_tags words _ h.few_words (h.sound.each k) in
     let n = length-flat_map-le tags_of rs free_register _ each in
-    let there = h.registers_there in
+    let there = h.sound.registers_there in
     let few = h.few_registers in
     omega arith
 

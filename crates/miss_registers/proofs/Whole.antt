@@ -1,4 +1,4 @@
--- Each step keeps the registers whole.
+-- Each step keeps the registers sound and whole.
 use Rattle.std.proofs.Common.{◌≡◌, ℕ, ◌+◌, ◌<◌, ◌≤◌, ◌==◌, true, false, cond, List, [], ◌∷◌, length, set, replicate, None, refl, ap, sym}
 use Rattle.std.proofs.Common.{◌∙◌, inl, inr, arith, length-set, length-append}
 use Rattle.std.specs.List.{count_by}
@@ -15,9 +15,9 @@ use Rattle.miss_registers.specs.declared.TheConstants.{MAX_WAITING}
 use Rattle.miss_registers.specs.Registers.{Field, Register, free_register, clear_field, register_at, field_of, with_field, is_live, is_done}
 use Rattle.miss_registers.specs.Registers.{live_for, awaited, noted, marked, finished, finished_field, made_obsolete, without_code, fresh}
 use Rattle.miss_registers.specs.Registers.{expects, tags_of, tags_of_field, waiting_tags, tag_waits}
-use Rattle.miss_registers.specs.Whole.{IsWholeRegister, IsWhole}
+use Rattle.miss_registers.specs.Whole.{IsWholeRegister, IsSound, IsWhole}
 use Rattle.miss_registers.proofs.Tags.{set-each, replicate-each, in_stack_there, expects-parts, none_counted, Changes, same_loads-changes}
-use Rattle.miss_registers.proofs.Tags.{fresh-changes, obsolete-changes, awaited-changes, finished-changes, file-changes, waiting_tags-new}
+use Rattle.miss_registers.proofs.Tags.{none-changes, obsolete-changes, awaited-changes, finished-changes, file-changes, waiting_tags-new}
 use Rattle.miss_registers.proofs.Places.{live_for-missing}
 
 -- ---- a register
@@ -25,7 +25,7 @@ use Rattle.miss_registers.proofs.Places.{live_for-missing}
 free-whole : (words : ℕ) → IsWholeRegister words free_register
 free-whole words = grind arith
 
-fresh-whole : (words block frame : ℕ) → 1 ≤ words → IsWholeRegister words (fresh words block frame)
+pub fresh-whole : (words block frame : ℕ) → 1 ≤ words → IsWholeRegister words (fresh words block frame)
 unfolding fresh
 fresh-whole words block frame h = grind (arith, length-replicate, false≢true, replicate-each)
 
@@ -90,42 +90,38 @@ StaysLive old new = is_live new ≡ true → (is_live old ≡ true) × (new.bloc
 abbrev IsAlone : List Register → ℕ → Register → Type 0
 IsAlone rs slot r = (k : ℕ) → (k ≡ slot → ⊥) → is_live r ≡ true → is_live (register_at rs k) ≡ true → r.block ≡ (register_at rs k).block → ⊥
 
-stays_alone : (words regs : ℕ) (rs : List Register) (slot : ℕ) (r : Register) → IsWhole words regs rs → StaysLive (register_at rs slot) r
+stays_alone : (words regs : ℕ) (rs : List Register) (slot : ℕ) (r : Register) → IsSound words regs rs → StaysLive (register_at rs slot) r
     → IsAlone rs slot r
 stays_alone words regs rs slot r h stays k n a b s = grind arith
 
 -- a register is another, which lost these tags and got those
-set-kept : (words regs : ℕ) (rs : List Register) (slot : ℕ) (r : Register) (gone come : List ℕ) → IsWhole words regs rs → slot < length rs
+set-kept : (words regs : ℕ) (rs : List Register) (slot : ℕ) (r : Register) (gone come : List ℕ) → IsSound words regs rs → slot < length rs
     → IsWholeRegister words r → IsAlone rs slot r → Changes (tags_of (register_at rs slot)) (tags_of r) gone come
-    → ((tag : ℕ) → count_by (λ t. t == tag) (waiting_tags rs) + count_by (λ t. t == tag) come ≤ 1) → IsWhole words regs (set rs slot r)
+    → ((tag : ℕ) → count_by (λ t. t == tag) (waiting_tags rs) + count_by (λ t. t == tag) come ≤ 1) → IsSound words regs (set rs slot r)
 set-kept words regs rs slot r gone come h p w alone changes once =
     let all = file-changes rs slot r gone come p changes in
     let here : register_at _ slot ≡ r = get_or-set_same rs slot r free_register p in
     let there : (k : ℕ) → (k ≡ slot → ⊥) → register_at _ k ≡ register_at rs k = λ k n. get_or-set_other rs slot k r free_register n in
     record {
       registers_there = length-set rs slot r ∙ h.registers_there;
-      some_register = h.some_register;
-      few_registers = h.few_registers;
-      some_word = h.some_word;
-      few_words = h.few_words;
       each = grind arith;
       one_live = grind arith;
       once = λ tag. (let z = all (λ t. t == tag) in let o = once tag in omega arith);
     }
 
 -- and it got none
-lost-kept : (words regs : ℕ) (rs : List Register) (slot : ℕ) (r : Register) (gone : List ℕ) → IsWhole words regs rs → slot < length rs
+lost-kept : (words regs : ℕ) (rs : List Register) (slot : ℕ) (r : Register) (gone : List ℕ) → IsSound words regs rs → slot < length rs
     → IsWholeRegister words r → StaysLive (register_at rs slot) r → Changes (tags_of (register_at rs slot)) (tags_of r) gone []
-    → IsWhole words regs (set rs slot r)
+    → IsSound words regs (set rs slot r)
 lost-kept words regs rs slot r gone h p w stays changes =
     let alone = stays_alone words regs rs slot r h stays in
     set-kept words regs rs slot r gone [] h p w alone changes (λ tag. omega (arith, h.once tag))
 
 -- an unprocessed word's field is another, for which the same loads wait
-same_loads-kept : (words regs : ℕ) (rs : List Register) (slot i : ℕ) (f : Field) → IsWhole words regs rs → slot < length rs
+same_loads-kept : (words regs : ℕ) (rs : List Register) (slot i : ℕ) (f : Field) → IsSound words regs rs → slot < length rs
     → (register_at rs slot).valid ≡ true → i < length (register_at rs slot).fields → f.processed ≡ false
     → ((register_at rs slot).obsolete ≡ true → f.code ≡ no_lanes) → f.waiting ≡ (field_of (register_at rs slot) i).waiting
-    → IsWhole words regs (set rs slot (with_field (register_at rs slot) i f))
+    → IsSound words regs (set rs slot (with_field (register_at rs slot) i f))
 same_loads-kept words regs rs slot i f whole p v t u c e =
     let r = register_at rs slot in
     let h = whole.each slot in
@@ -134,8 +130,8 @@ same_loads-kept words regs rs slot i f whole p v t u c e =
 
 -- ---- each step
 
-pub marked-kept : (words regs : ℕ) (rs : List Register) (slot i : ℕ) → IsWhole words regs rs → slot < length rs
-    → expects (register_at rs slot) i ≡ true → IsWhole words regs (set rs slot (marked (register_at rs slot) i))
+pub marked-kept : (words regs : ℕ) (rs : List Register) (slot i : ℕ) → IsSound words regs rs → slot < length rs
+    → expects (register_at rs slot) i ≡ true → IsSound words regs (set rs slot (marked (register_at rs slot) i))
 unfolding marked
 marked-kept words regs rs slot i whole p x =
     let r = register_at rs slot in
@@ -143,9 +139,9 @@ marked-kept words regs rs slot i whole p x =
     let f = record (field_of r i) { in_stack = true } in
     same_loads-kept words regs rs slot i f whole p e.valid e.there e.unprocessed (λ o. (whole.each slot).codes o i) refl
 
-pub noted-kept : (words regs : ℕ) (rs : List Register) (slot i : ℕ) (lanes : Lanes) → IsWhole words regs rs → slot < length rs
+pub noted-kept : (words regs : ℕ) (rs : List Register) (slot i : ℕ) (lanes : Lanes) → IsSound words regs rs → slot < length rs
     → is_live (register_at rs slot) ≡ true → i < length (register_at rs slot).fields → (field_of (register_at rs slot) i).processed ≡ false
-    → IsWhole words regs (set rs slot (noted (register_at rs slot) i lanes))
+    → IsSound words regs (set rs slot (noted (register_at rs slot) i lanes))
 unfolding noted
 noted-kept words regs rs slot i lanes whole p l t u =
     let r = register_at rs slot in
@@ -153,18 +149,18 @@ noted-kept words regs rs slot i lanes whole p l t u =
     let f = record (field_of r i) { code = joined (field_of r i).code lanes } in
     same_loads-kept words regs rs slot i f whole p q.0 t u (λ o. absurd (both_ways r.obsolete q.1 o)) refl
 
-pub obsolete-kept : (words regs : ℕ) (rs : List Register) (slot : ℕ) → IsWhole words regs rs → slot < length rs
-    → is_live (register_at rs slot) ≡ true → IsWhole words regs (set rs slot (made_obsolete (register_at rs slot)))
+pub obsolete-kept : (words regs : ℕ) (rs : List Register) (slot : ℕ) → IsSound words regs rs → slot < length rs
+    → is_live (register_at rs slot) ≡ true → IsSound words regs (set rs slot (made_obsolete (register_at rs slot)))
 unfolding made_obsolete
 obsolete-kept words regs rs slot h p l =
     let r = register_at rs slot in
     let w = obsolete-whole words r (h.each slot) (live-parts r l).0 in
     lost-kept words regs rs slot _ [] h p w (λ v. grind arith) (obsolete-changes r)
 
-pub awaited-kept : (words regs : ℕ) (rs : List Register) (slot i : ℕ) (owed : Owed) → IsWhole words regs rs → slot < length rs
+pub awaited-kept : (words regs : ℕ) (rs : List Register) (slot i : ℕ) (owed : Owed) → IsSound words regs rs → slot < length rs
     → is_live (register_at rs slot) ≡ true → expects (register_at rs slot) i ≡ true
     → length (field_of (register_at rs slot) i).waiting < MAX_WAITING
-    → tag_waits rs owed.tag ≡ false → IsWhole words regs (set rs slot (awaited (register_at rs slot) i owed))
+    → tag_waits rs owed.tag ≡ false → IsSound words regs (set rs slot (awaited (register_at rs slot) i owed))
 unfolding awaited
 awaited-kept words regs rs slot i owed h p l x room new =
     let r = register_at rs slot in
@@ -184,8 +180,8 @@ awaited-kept words regs rs slot i owed h p l x room new =
           omega (arith, h.once tag))
     ]
 
-pub finished-kept : (words regs : ℕ) (rs : List Register) (slot i : ℕ) → IsWhole words regs rs → slot < length rs
-    → (field_of (register_at rs slot) i).in_stack ≡ true → IsWhole words regs (set rs slot (finished (register_at rs slot) i))
+pub finished-kept : (words regs : ℕ) (rs : List Register) (slot i : ℕ) → IsSound words regs rs → slot < length rs
+    → (field_of (register_at rs slot) i).in_stack ≡ true → IsSound words regs (set rs slot (finished (register_at rs slot) i))
 unfolding finished
 finished-kept words regs rs slot i h p s =
     let r = register_at rs slot in
@@ -194,17 +190,33 @@ finished-kept words regs rs slot i h p s =
     let w = finished-whole words r i each (grind arith) there in
     lost-kept words regs rs slot _ (tags_of_field (field_of r i)) h p w (λ v. grind arith) (finished-changes r i each.done there)
 
-pub allocated-kept : (words regs : ℕ) (rs : List Register) (slot block frame : ℕ) → IsWhole words regs rs → slot < length rs
-    → register_at rs slot ≡ free_register → live_for rs block ≡ None → IsWhole words regs (set rs slot (fresh words block frame))
-unfolding fresh
-allocated-kept words regs rs slot block frame h p free absent =
-    let changes = fresh-changes _ words block frame free in
-    let w = fresh-whole words block frame h.some_word in
-    set-kept words regs rs slot _ [] [] h p w (λ k m a b t. live_for-missing rs block k absent b (sym t)) changes
-    (λ tag. omega (arith, h.once tag))
+-- a free register is another, for which no load waits
+pub allocated-kept : (words regs : ℕ) (rs : List Register) (slot : ℕ) (r : Register) → IsSound words regs rs → slot < length rs
+    → register_at rs slot ≡ free_register → live_for rs r.block ≡ None → IsWholeRegister words r → tags_of r ≡ []
+    → IsSound words regs (set rs slot r)
+allocated-kept words regs rs slot r h p free absent w none =
+    let alone : IsAlone rs slot r = λ k m a b t. live_for-missing rs r.block k absent b (sym t) in
+    set-kept words regs rs slot r [] [] h p w alone (none-changes _ r free none) (λ tag. omega (arith, h.once tag))
 
 -- ---- a new file
 
-pub new-kept : (words regs : ℕ) → 1 ≤ words → words ≤ MAX_BLOCK_WORDS → 1 ≤ regs → regs ≤ MAX_REGS
+pub new-kept : (words regs : ℕ) → IsSound words regs (replicate regs free_register)
+new-kept words regs = grind (arith, length-replicate, replicate-each, free-whole, false≢true, waiting_tags-new)
+
+-- ---- and the ranges
+
+pub new-whole : (words regs : ℕ) → 1 ≤ words → words ≤ MAX_BLOCK_WORDS → 1 ≤ regs → regs ≤ MAX_REGS
     → IsWhole words regs (replicate regs free_register)
-new-kept words regs a b c d = grind (arith, length-replicate, replicate-each, free-whole, false≢true, waiting_tags-new)
+new-whole words regs a b c d =
+    record { some_register = c; few_registers = d; some_word = a; few_words = b; sound = new-kept words regs }
+
+-- a step that keeps the registers sound keeps them whole
+pub still_whole : (words regs : ℕ) (rs next : List Register) → IsWhole words regs rs → (IsSound words regs rs → IsSound words regs next)
+    → IsWhole words regs next
+still_whole words regs rs next h step = record {
+  some_register = h.some_register;
+  few_registers = h.few_registers;
+  some_word = h.some_word;
+  few_words = h.few_words;
+  sound = step h.sound;
+}

@@ -19,15 +19,19 @@ pub record IsWholeRegister (words : ℕ) (r : Register) : Type 0 where
   pub few_loads : (i : ℕ) → length (field_of r i).waiting ≤ MAX_WAITING
 
 -- what holds of a file of registers for blocks of so many words
-pub record IsWhole (words regs : ℕ) (rs : List Register) : Type 0 where
+pub record IsSound (words regs : ℕ) (rs : List Register) : Type 0 where
   pub registers_there : length rs ≡ regs
-  pub some_register : 1 ≤ regs
-  pub few_registers : regs ≤ MAX_REGS
-  pub some_word : 1 ≤ words
-  pub few_words : words ≤ MAX_BLOCK_WORDS
   pub each : (slot : ℕ) → IsWholeRegister words (register_at rs slot)
   -- two live registers of one block are one
   pub one_live : (j k : ℕ) → is_live (register_at rs j) ≡ true → is_live (register_at rs k) ≡ true
       → (register_at rs j).block ≡ (register_at rs k).block → j ≡ k
   -- no tag waits twice
   pub once : (tag : ℕ) → count_by (λ t. t == tag) (waiting_tags rs) ≤ 1
+
+-- the same, and its numbers are in their ranges
+pub record IsWhole (words regs : ℕ) (rs : List Register) : Type 0 where
+  pub some_register : 1 ≤ regs
+  pub few_registers : regs ≤ MAX_REGS
+  pub some_word : 1 ≤ words
+  pub few_words : words ≤ MAX_BLOCK_WORDS
+  pub sound : IsSound words regs rs

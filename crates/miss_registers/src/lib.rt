@@ -1,21 +1,19 @@
 //! The registers that keep what is known of missing blocks.
 #![tactic(auto)]
 
-ghost use Rattle.std.specs.Prelude.{◌≡◌, ◌<◌, ◌≤◌, ◌++◌, [], ◌∷◌, ◌==◌, length, slice_get};
-ghost use Rattle.std.specs.List.{list_any};
+ghost use Rattle.std.specs.Prelude.{◌≡◌, ◌<◌, ◌≤◌, ◌++◌, [], ◌∷◌, length, slice_get};
 ghost use Rattle.miss_registers.specs.declared.TheConstants.{MAX_WAITING};
-ghost use Rattle.miss_registers.specs.Views.{load_at_front};
 
-mod field;
 mod file;
+mod marks;
 mod slot;
 mod table;
+mod targets;
 
 use arrayvec::ArrayVec;
 pub use file::RegisterFile;
 use flat_model::{Lanes, Word};
 use std::marker::Model;
-use std::mem;
 pub use table::RegisterTable;
 
 /// A load that waits for a word, and the bytes that it has already.
@@ -98,27 +96,6 @@ impl OwedList {
         ensures { self.new ≡ self.old ++ owed ∷ [] }
     {
         self.items.push(owed);
-    }
-
-    // Hands on its loads, and keeps none.
-    fn take(&mut self) -> Self
-        ensures taken { result ≡ self.old }
-        ensures left { self.new ≡ [] }
-    {
-        mem::replace(self, OwedList::new())
-    }
-
-    fn has_tag(&self, tag: u16) -> bool
-        ensures { result ≡ list_any (λ w. w.tag == tag) self.now }
-    {
-        self.items.as_slice().iter().any(|owed| owed.tag == tag)
-    }
-
-    // The load that is answered first: one of tag 0 with nothing held where there is none.
-    fn first(&self) -> Owed
-        ensures { result ≡ load_at_front self.now }
-    {
-        self.get(0).unwrap_or_default()
     }
 
     /// How many loads there are: four at most.

@@ -1,35 +1,48 @@
 //! One register.
-ghost use Rattle.std.specs.Prelude.{◌≡◌, ◌<◌, ◌≤◌, ◌&&◌, ◌==◌, length, slice_get, slice_set, not, if◌then◌else◌, map, replicate, None};
-ghost use Rattle.std.specs.Prelude.{Some};
-ghost use Rattle.std.specs.List.{list_any, count_by};
+ghost use Rattle.std.specs.Prelude.{◌≡◌, ◌<◌, ◌≤◌, ◌&&◌, ◌==◌, length, slice_get, slice_set, slice_index_or, not, if◌then◌else◌, nat_lt};
+ghost use Rattle.std.specs.Prelude.{map, replicate, None, Some};
+ghost use Rattle.std.specs.List.{list_all, count_by};
 ghost use Rattle.miss_registers.specs.declared.TheConstants.{MAX_WAITING};
 ghost use Rattle.flat_model.specs.declared.limits.TheConstants.{MAX_BLOCK_WORDS};
 ghost use Rattle.miss_registers.specs.Registers as spec;
+ghost use Rattle.miss_registers.specs.Targets as kept;
 ghost use Rattle.miss_registers.specs.Views as shows;
 
-use crate::field::Field;
-use crate::{FieldView, Owed, RegisterView, WordEnd};
+use crate::marks::Marks;
+use crate::targets::Targets;
+use crate::{FieldView, Owed, OwedList, RegisterView, WordEnd};
 use arrayvec::ArrayVec;
 use flat_model::{Lanes, MAX_BLOCK_WORDS};
 use std::marker::Model;
 
-/// A register: the block that it stands for, and what is kept of each word. A free register keeps
-/// nothing.
+/// A register: the block that it stands for, what is marked for each word, and the loads that wait
+/// for the words, in one list. A free register keeps nothing.
 #[derive(Drop)]
 pub struct Slot {
     valid: bool,
     obsolete: bool,
     block: u32,
     frame: u32,
-    fields: ArrayVec<Field, MAX_BLOCK_WORDS>,
+    // What is marked for each word of the block.
+    marks: ArrayVec<Marks, MAX_BLOCK_WORDS>,
+    targets: Targets,
 }
 
 impl Model for Slot {
     ghost use Rattle.miss_registers.specs.Registers.{Register};
+    ghost use Rattle.miss_registers.specs.Targets.{fields_of, AreKept};
 
     ghost Value = { Register };
 
-    ghost view = { λ s. record { valid = s.valid; obsolete = s.obsolete; block = s.block; frame = s.frame; fields = s.fields.items } };
+    ghost view = { λ s. record {
+      valid = s.valid;
+      obsolete = s.obsolete;
+      block = s.block;
+      frame = s.frame;
+      fields = fields_of s.marks.items s.targets;
+    } };
+
+    ghost invariant = { λ s. AreKept s.marks.items s.targets };
 }
 
 impl Slot {
@@ -42,7 +55,8 @@ impl Slot {
             obsolete: false,
             block: 0,
             frame: 0,
-            fields: ArrayVec::new(),
+            marks: ArrayVec::new(),
+            targets: Targets::new(),
         }
     }
 
@@ -61,7 +75,6 @@ impl Slot {
     }
 
     /// Takes the register for a block of so many words, all of them still to come.
-    #[tactic(auto, unfolding(crate::specs::Registers::fresh))]
     pub fn allocate(&mut self, words: u32, block: u32, frame: u32)
         requires { words ≤ MAX_BLOCK_WORDS }
         ensures { self.new ≡ spec.fresh words block frame }
@@ -70,32 +83,30 @@ impl Slot {
         self.obsolete = false;
         self.block = block;
         self.frame = frame;
-        put_clear_fields(&mut self.fields, words);
+        put_clear_marks(&mut self.marks, words);
+        self.targets.clear();
     }
 
     /// One more load waits for word `i`, last in the word's list.
-    #[tactic(auto, unfolding(crate::specs::Registers::awaited))]
     pub fn await_word(&mut self, i: u32, owed: Owed)
         requires there { i < length self.old.fields }
         requires room { length (spec.field_of self.old i).waiting < MAX_WAITING }
         ensures { self.new ≡ spec.awaited self.old i owed }
     {
-        let field = &mut self.fields.as_mut_slice()[i as usize];
-        field.add_load(owed);
+        self.targets.push(i, owed);
     }
 
     /// The lanes join the code of word `i`.
-    #[tactic(auto, unfolding(crate::specs::Registers::noted))]
     pub fn note_store(&mut self, i: u32, lanes: Lanes)
         requires { i < length self.old.fields }
         ensures { self.new ≡ spec.noted self.old i lanes }
     {
-        let field = &mut self.fields.as_mut_slice()[i as usize];
-        field.note_store(lanes);
+        let mut word = marks_at(self.marks.as_slice(), i);
+        word.note_store(lanes);
+        set_word(&mut self.marks, i, word);
     }
 
     /// Answers the loads that wait for word `i`, and frees the register where it was the last word.
-    #[tactic(auto, unfolding(crate::specs::Registers::finished))]
     pub fn finish_word(&mut self, i: u32) -> WordEnd
         requires there { i < length self.old.fields }
         ensures register { self.new ≡ spec.finished self.old i }
@@ -109,9 +120,12 @@ impl Slot {
         } else {
             Some(self.frame)
         };
-        let field = &mut self.fields.as_mut_slice()[i as usize];
-        let (send, keep) = field.finish();
-        let last = are_processed(self.fields.as_slice());
+        let mut word = marks_at(self.marks.as_slice(), i);
+        let keep = word.code;
+        word.finish();
+        set_word(&mut self.marks, i, word);
+        let send = self.targets.take(i);
+        let last = are_processed(self.marks.as_slice());
         if last {
             self.free();
         }
@@ -131,43 +145,40 @@ impl Slot {
         self.obsolete = false;
         self.block = 0;
         self.frame = 0;
-        self.fields.clear();
+        self.marks.clear();
+        self.targets.clear();
     }
 
     /// Whether word `i` is still to come: unprocessed, and not in the stack.
     pub fn expects(&self, i: u32) -> bool
         ensures { result ≡ spec.expects self.now i }
     {
-        match self.fields.as_slice().get(i as usize) {
-            Some(field) => self.valid && field.is_expected(),
-            None => false,
-        }
+        self.valid && is_expected(self.marks.as_slice(), i)
     }
 
     /// Word `i` stands in the input stack.
-    #[tactic(auto, unfolding(crate::specs::Registers::marked))]
     pub fn mark_in_stack(&mut self, i: u32)
         requires { i < length self.old.fields }
         ensures { self.new ≡ spec.marked self.old i }
     {
-        let field = &mut self.fields.as_mut_slice()[i as usize];
-        field.mark_in_stack();
+        let mut word = marks_at(self.marks.as_slice(), i);
+        word.mark_in_stack();
+        set_word(&mut self.marks, i, word);
     }
 
     /// The register no longer changes the buffer, and its codes are cleared.
-    #[tactic(auto, unfolding(crate::specs::Registers::made_obsolete))]
     pub fn make_obsolete(&mut self)
         ensures { self.new ≡ spec.made_obsolete self.old }
     {
         self.obsolete = true;
-        clear_codes(self.fields.as_mut_slice());
+        clear_codes(self.marks.as_mut_slice());
     }
 
     /// Whether a load with this tag waits for one of the words.
     pub fn tag_waits(&self, tag: u16) -> bool
         ensures { result ≡ spec.has_tag (spec.tags_of self.now) tag }
     {
-        one_has_tag(self.fields.as_slice(), tag)
+        self.targets.has_tag(tag)
     }
 
     /// What the register shows of itself.
@@ -179,7 +190,7 @@ impl Slot {
             obsolete: self.obsolete,
             block: self.block,
             frame: frame_shown(self.valid, self.obsolete, self.frame),
-            processed: processed_count(self.fields.as_slice()),
+            processed: processed_count(self.marks.as_slice()),
         }
     }
 
@@ -187,71 +198,97 @@ impl Slot {
     pub fn field(&self, i: u32) -> FieldView
         ensures { result ≡ shows.shown_field (spec.field_of self.now i) }
     {
-        match self.fields.as_slice().get(i as usize) {
-            Some(field) => field.view(),
-            None => FieldView::default(),
-        }
+        let word = marks_at(self.marks.as_slice(), i);
+        shown_word(word, &self.targets.of_word(i))
     }
 
     /// The code of word `i`, where it isn't processed.
     pub fn missing_code(&self, i: u32) -> Option<Lanes>
         ensures { result ≡ spec.code_of_missing (spec.field_of self.now i) }
     {
-        match self.fields.as_slice().get(i as usize) {
-            Some(field) => field.missing_code(),
-            None => Some(Lanes::none()),
-        }
+        let word = marks_at(self.marks.as_slice(), i);
+        word.missing_code()
     }
 
     /// How many loads wait for word `i`.
     pub fn waiting(&self, i: u32) -> u32
         ensures { result ≡ length (spec.field_of self.now i).waiting }
     {
-        match self.fields.as_slice().get(i as usize) {
-            Some(field) => field.load_count(),
-            None => 0,
-        }
+        self.targets.of_word(i).len()
     }
 
     /// The load at a place among those that wait for word `i`.
     pub fn target(&self, i: u32, place: u32) -> Option<Owed>
         ensures { result ≡ slice_get (spec.field_of self.now i).waiting place }
     {
-        match self.fields.as_slice().get(i as usize) {
-            Some(field) => field.load(place),
-            None => None,
-        }
+        self.targets.of_word(i).get(place)
     }
 }
 
-fn one_has_tag(fields: &[Field], tag: u16) -> bool
-    ensures { result ≡ list_any (λ f. spec.has_tag (spec.tags_of_field f) tag) fields.now }
+// What is marked for a word: nothing for one that isn't there.
+fn marks_at(marks: &[Marks], i: u32) -> Marks
+    ensures { result ≡ slice_index_or marks.now i kept.clear_marks }
 {
-    fields.iter().any(|field| field.tag_waits(tag))
+    marks.get(i as usize).copied().unwrap_or_default()
 }
 
-fn are_processed(fields: &[Field]) -> bool
-    ensures { result ≡ spec.is_done fields.now }
+// Whether there is such a word, and it is still to come.
+fn is_expected(marks: &[Marks], i: u32) -> bool
+    ensures { result ≡ (nat_lt i (length marks.now) && (not (slice_index_or marks.now i kept.clear_marks).processed
+        && not (slice_index_or marks.now i kept.clear_marks).in_stack)) }
 {
-    fields.iter().all(|field| field.is_processed())
-}
-
-fn clear_codes(fields: &mut [Field])
-    ensures { fields.new ≡ map spec.without_code fields.old }
-{
-    for field in fields {
-        field.clear_code();
+    match marks.get(i as usize) {
+        Some(word) => word.is_expected(),
+        None => false,
     }
 }
 
-// In place, since moving all fields costs more than writing those that there are.
-fn put_clear_fields(fields: &mut ArrayVec<Field, MAX_BLOCK_WORDS>, words: u32)
+fn set_word(marks: &mut ArrayVec<Marks, MAX_BLOCK_WORDS>, i: u32, word: Marks)
+    requires { i < length marks.old.items }
+    ensures { marks.new.items ≡ slice_set marks.old.items i word }
+{
+    marks.as_mut_slice()[i as usize] = word;
+}
+
+// What is shown of a word that has these marks, and for which these loads wait.
+fn shown_word(word: Marks, waiting: &OwedList) -> FieldView
+    ensures { result ≡ shows.shown_field (kept.field_with word waiting.now) }
+{
+    let first = waiting.get(0).unwrap_or_default();
+    FieldView {
+        send: waiting.len() > 0,
+        in_stack: word.in_stack,
+        processed: word.processed,
+        code: word.code,
+        tag: first.tag,
+        held_lanes: first.lanes,
+        held: first.held,
+        targets: waiting.len(),
+    }
+}
+
+fn are_processed(marks: &[Marks]) -> bool
+    ensures { result ≡ list_all (λ m. m.processed) marks.now }
+{
+    marks.iter().all(|word| word.processed)
+}
+
+fn clear_codes(marks: &mut [Marks])
+    ensures { marks.new ≡ map kept.marks_without_code marks.old }
+{
+    for word in marks {
+        word.clear_code();
+    }
+}
+
+// In place, since moving all marks costs more than writing those that there are.
+fn put_clear_marks(marks: &mut ArrayVec<Marks, MAX_BLOCK_WORDS>, words: u32)
     requires { words ≤ MAX_BLOCK_WORDS }
-    ensures { fields.new.items ≡ replicate words spec.clear_field }
+    ensures { marks.new.items ≡ replicate words kept.clear_marks }
 {
-    fields.clear();
+    marks.clear();
     for _ in 0..words {
-        fields.push(Field::default());
+        marks.push(Marks::default());
     }
 }
 
@@ -263,9 +300,9 @@ fn frame_shown(valid: bool, obsolete: bool, frame: u32) -> u32
 }
 
 // How many words are processed.
-fn processed_count(fields: &[Field]) -> u32
-    requires { length fields.now ≤ MAX_BLOCK_WORDS }
-    ensures { result ≡ count_by (λ f. f.processed) fields.now }
+fn processed_count(marks: &[Marks]) -> u32
+    requires { length marks.now ≤ MAX_BLOCK_WORDS }
+    ensures { result ≡ count_by (λ m. m.processed) marks.now }
 {
-    fields.iter().filter(|field| field.is_processed()).count() as u32
+    marks.iter().filter(|word| word.processed).count() as u32
 }

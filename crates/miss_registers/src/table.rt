@@ -218,7 +218,8 @@ impl RegisterTable {
         }
     }
 
-    /// The code of word `i` of the register `slot`; `None` says that the word is processed.
+    /// The code of word `i` of the register `slot`, of which there is one; `None` says that the word is
+    /// processed. A word that its block doesn't have has an empty code.
     pub fn missing_code(&self, slot: u32, i: u32) -> Option<Lanes>
         requires { slot < length self.now }
         ensures { result ≡ spec.code_of_missing (spec.field_at self.now slot i) }
@@ -227,7 +228,8 @@ impl RegisterTable {
         register.missing_code(i)
     }
 
-    /// How many loads wait for word `i` of the register `slot`.
+    /// How many loads wait for word `i` of the register `slot`, of which there is one: none for a word
+    /// that its block doesn't have.
     pub fn waiting(&self, slot: u32, i: u32) -> u32
         requires { slot < length self.now }
         ensures { result ≡ length (spec.field_at self.now slot i).waiting }

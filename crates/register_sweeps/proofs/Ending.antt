@@ -8,17 +8,19 @@ use Rattle.flat_model.specs.declared.Answer.{Answer}
 use Rattle.flat_model.specs.declared.Answer.TheVariants.{Accepted, Value, Refused}
 use Rattle.flat_model.specs.Memory.{is_load}
 use Rattle.flat_model.specs.Flat.{Flat, may_answer, flat_after, flat_step, word_at}
-use Rattle.cache_unit.specs.declared.Sizes.{Sizes}
-use Rattle.machine_core.specs.Law.{IsLawful}
+use Rattle.cache_law.specs.declared.Sizes.{Sizes}
 use Rattle.machine_core.specs.Machine.{Machine, MachineState, flat_of, flat_due}
 use Rattle.std.specs.Option.{option_map}
 use Rattle.std.specs.List.{list_all}
 use Rattle.std.proofs.lemmas.Bool.{and_parts, true≢false as no}
 use Rattle.machine_core.specs.AnyMachine.{answered, after_event, after_some, pump_tells, pump_leaves, weight_of}
-use Rattle.machine_core.specs.Pump.{pumped, weight}
+use Rattle.machine_core.specs.Pump.{pumped, weight, until}
 use Rattle.machine_core.specs.Whole.{IsWholeState}
 use Rattle.machine_core.proofs.Walking.{flat_apply}
-use Rattle.machine_core.proofs.Weighing.{pumped_lowers, pumped_rests, pumped_at_rest}
+use Rattle.machine_core.proofs.Weighing.{pumped_rests, pumped_at_rest}
+use Rattle.machine_core.proofs.Whole as lighter
+use Rattle.machine_core.proofs.Driving as driving
+use Rattle.machine_core.specs.Pump as machine_pump
 use Rattle.machine_core.proofs.Whole.{lawful, roomy}
 use Rattle.round_driver.specs.Rounds.{is_end}
 use Rattle.round_driver.specs.Walks.{is_request}
@@ -29,7 +31,7 @@ use Rattle.register_sweeps.specs.declared.row.Row.{Row}
 use Rattle.register_sweeps.specs.Sweep.{Course, course, with_pump, with_pumped, pump_once, with_end, ask, ends, stall, pump_and_wait}
 use Rattle.register_sweeps.specs.Sweep.{ask_again, serve, serve_all, pump_times, run_dry, loads_between, accepted_loads, empty_row}
 use Rattle.register_sweeps.specs.Sweep.{row_from}
-use Rattle.register_sweeps.proofs.Turns.{ask_again_step}
+use Rattle.register_sweeps.proofs.Turns.{ask_again_step, pump_keeps}
 use Rattle.register_sweeps.proofs.Owing.{Owing, owe, pay, all_paid}
 use Rattle.register_sweeps.proofs.Steps.{listed, changed}
 
@@ -46,15 +48,13 @@ may_of s event g = listed _ _ event (answered s event) (step_of s event g)
 
 pub pump_lighter : (s : MachineState) → IsWholeState s → weight (pump_leaves s).machine ≤ weight s.machine - 1
 unfolding pump_leaves after_event
-pump_lighter s g = go (pumped s.sizes s.machine) refl
+pump_lighter s g = go (pumped s.sizes s.machine) (lighter.pump_lighter s.sizes (lawful s.sizes g.in_range) (roomy s.sizes g.in_range)
+    s.machine g.sound _ refl)
   where
-    law : IsLawful s.sizes
-    law = lawful s.sizes g.in_range
-
-    go : (o : Option Event) → pumped s.sizes s.machine ≡ o → weight (after_some s o).machine ≤ weight s.machine - 1
-    go None e = let rests = pumped_rests s.sizes law (roomy s.sizes g.in_range) s.machine g.sound e in omega (arith, rests)
-    go (Some event) e =
-        let lower = pumped_lowers s.sizes law (roomy s.sizes g.in_range) s.machine g.sound event e in omega (arith, lower)
+    go : (o : Option Event) → weight (machine_pump.after_event s.sizes s.machine o) ≤ weight s.machine - 1
+        → weight (after_some s o).machine ≤ weight s.machine - 1
+    go None l = l
+    go (Some event) l = l
 
 -- ---- at weight 0 a request ends
 
@@ -198,33 +198,70 @@ waits event c r h = λ i. record { state = request_stays c.state event r h i; ro
 abbrev Served : Event → Course → Course → ℕ → ℕ → Type 0
 Served event c d ended loads = Counted d (ended + 1) (loads + loads_between event c.row d.row)
 
-asked_again : (n : ℕ) (event : Event) (c : Course) (ended loads : ℕ) → is_request event ≡ true → Counted c ended loads
-    → weight c.state.machine ≤ n → 0 < weight c.state.machine → Served event c (ask_again n event c) ended loads
-asked_again zero event c ended loads r k few some = absurd (omega arith)
-asked_again (suc n) event c ended loads r k few some = go (ends event p) refl (asked_again n event p ended loads r pumped)
+-- a request that is asked again and again waits while the driver pumps, and is asked where it ends
+pub turns_are : (n : ℕ) (event : Event) (c : Course) → is_request event ≡ true → ends event c ≡ false
+    → ask_again n event c ≡ ask event (until (ends event) pump_and_wait n c)
+unfolding ask_again
+turns_are zero event c r h = sym (waits event c r h)
+turns_are (suc n) event c r h = go (ends event p) refl (turns_are n event p r)
   where
     p : Course
     p = pump_and_wait c
 
-    pumped : Counted p ended loads
-    pumped = counted_pump c ended loads k
+    first : until (ends event) pump_and_wait (suc n) c ≡ until (ends event) pump_and_wait n p
+    first = driving.goes (ends event) pump_and_wait n c h
 
-    start : p.row.accepted ≡ c.row.accepted
-    start = pumped_accepts c.row (pump_tells c.state)
+    go : (b : Bool) → ends event p ≡ b
+        → (ends event p ≡ false → ask_again n event p ≡ ask event (until (ends event) pump_and_wait n p))
+        → ask_again (suc n) event c ≡ ask event (until (ends event) pump_and_wait (suc n) c)
+    go true e later = ask_again_step n event c true e
+        ∙ ap (ask event) (sym (first ∙ driving.stays (ends event) pump_and_wait n p e))
+    go false e later = ask_again_step n event c false e ∙ ap (ask_again n event) (waits event p r e) ∙ later e ∙ ap (ask event) (sym first)
 
-    same_loads : (d : Course) → loads + loads_between event p.row d.row ≡ loads + loads_between event c.row d.row
-    same_loads d = ap (λ n. loads + cond (is_load event) (d.row.accepted - n) 0) start
+-- so many turns are enough for it, and this is so behind each
+pub record TurnsLeft (Keeps : Course → Type 0) (n : ℕ) (c : Course) : Type 0 where
+  pub kept : Keeps c
+  pub whole : IsWholeState c.state
+  pub few : weight c.state.machine ≤ n
 
-    go : (b : Bool) → ends event p ≡ b → (weight p.state.machine ≤ n → 0 < weight p.state.machine
-        → Served event p (ask_again n event p) ended loads) → Served event c (ask_again (suc n) event c) ended loads
-    go true e rest =
-        let asked = with_counts (counted_end event p ended loads r pumped e) refl (same_loads (ask event p)) in
-        subst (λ d. Served event c d ended loads) (sym (ask_again_step n event c true e)) asked
-    go false e rest =
-        let again = ask_again_step n event c false e ∙ ap (ask_again n event) (waits event p r e) in
-        let light = pump_lighter c.state k.good in
-        let later = rest (omega (arith, light, few)) (some_weight p.state event pumped.good r e) in
-        subst (λ d. Served event c d ended loads) (sym again) (with_counts later refl (same_loads (ask_again n event p)))
+pub turns_end : (Keeps : Course → Type 0) → ((c : Course) → Keeps c → Keeps (pump_and_wait c)) → (event : Event) → is_request event ≡ true
+    → (n : ℕ) (c : Course) → TurnsLeft Keeps n c
+    → driving.Ended (ends event) pump_and_wait (TurnsLeft Keeps) (until (ends event) pump_and_wait n c)
+turns_end Keeps keeps event r = driving.ends (ends event) pump_and_wait (TurnsLeft Keeps) rests less
+  where
+    rests : (c : Course) → TurnsLeft Keeps 0 c → ends event c ≡ true
+    rests c l = go (ends event c) refl
+      where
+        go : (b : Bool) → ends event c ≡ b → b ≡ true
+        go true e = refl
+        go false e = absurd (omega (arith, some_weight c.state event l.whole r e, l.few))
+
+    less : (n : ℕ) (c : Course) → ends event c ≡ false → TurnsLeft Keeps (suc n) c → TurnsLeft Keeps n (pump_and_wait c)
+    less n c e l = record {
+      kept = keeps c l.kept;
+      whole = pump_keeps IsWholeState whole_after c.state l.whole;
+      few = omega (arith, pump_lighter c.state l.whole, l.few);
+    }
+
+asked_again : (n : ℕ) (event : Event) (c : Course) (ended loads : ℕ) → is_request event ≡ true → ends event c ≡ false
+    → Counted c ended loads → weight c.state.machine ≤ n → Served event c (ask_again n event c) ended loads
+asked_again n event c ended loads r h k few =
+    subst (λ d. Served event c d ended loads) (sym (turns_are n event c r h))
+    (with_counts (counted_end event last ended loads r end.still.kept.0 end.is_over) refl same_loads)
+  where
+    -- no request has ended yet
+    Keeps : Course → Type 0
+    Keeps d = Counted d ended loads × (d.row.accepted ≡ c.row.accepted)
+
+    last : Course
+    last = until (ends event) pump_and_wait n c
+
+    end : driving.Ended (ends event) pump_and_wait (TurnsLeft Keeps) last
+    end = turns_end Keeps (λ d p. (counted_pump d ended loads p.0, pumped_accepts d.row (pump_tells d.state) ∙ p.1)) event r n c
+        (record { kept = (k, refl); whole = k.good; few = few })
+
+    same_loads : loads + loads_between event last.row (ask event last).row ≡ loads + loads_between event c.row (ask event last).row
+    same_loads = ap (λ n. loads + cond (is_load event) ((ask event last).row.accepted - n) 0) end.still.kept.1
 
 served : (event : Event) (c : Course) (ended loads : ℕ) → is_request event ≡ true → Counted c ended loads
     → Served event c (serve event c) ended loads
@@ -235,8 +272,7 @@ served event c ended loads r k = go (ends event c) refl
         (stall (ask event c)))) ended loads
     go true e = counted_end event c ended loads r k e
     go false e =
-        let some = some_weight c.state event k.good r e in
-        let asked = asked_again (weight c.state.machine) event (stall c) ended loads r k (omega arith) some in
+        let asked = asked_again (weight c.state.machine) event (stall c) ended loads r e k (omega arith) in
         subst (λ d. Served event c (ask_again (weight d.state.machine) event (stall d)) ended loads) (sym (waits event c r e)) asked
 
 counted_all : (events : List Event) (c : Course) (ended loads : ℕ) → list_all is_request events ≡ true → Counted c ended loads
@@ -249,13 +285,43 @@ counted_all (event ∷ events) c ended loads r k =
 
 -- ---- the last pumps
 
+-- so much is left to do at most
+record PumpsLeft (ended loads n : ℕ) (c : Course) : Type 0 where
+  counted : Counted c ended loads
+  few : weight c.state.machine ≤ n
+
 dry : (n : ℕ) (c : Course) (ended loads : ℕ) → Counted c ended loads → weight c.state.machine ≤ n → Counted (pump_times n c) ended loads ×
     (weight (pump_times n c).state.machine ≡ 0)
-unfolding pump_times
-dry zero c ended loads k h = (k, omega (arith, h))
-dry (suc n) c ended loads k h =
-    let light = pump_lighter c.state k.good in
-    dry n (pump_once c) ended loads (counted_pump c ended loads k) (omega (arith, light, h))
+unfolding pump_times pump_tells
+dry n c ended loads k h =
+    let end = driving.ends (λ c. is_none (pump_tells c.state)) pump_once (PumpsLeft ended loads) rests goes n c
+    (record { counted = k; few = h }) in
+    (end.still.counted, at_rest (pump_times n c) end.still.counted end.is_over)
+  where
+    tell : MachineState → Event → Event × Answer
+    tell s event = (event, answered s event)
+
+    rests : (c : Course) → PumpsLeft ended loads 0 c → is_none (pump_tells c.state) ≡ true
+    rests c l =
+        let z = c.state.sizes in
+        let good = l.counted.good in
+        let none = pumped_at_rest z (lawful z good.in_range) (roomy z good.in_range) c.state.machine good.sound (omega (arith, l.few)) in
+        ap (λ o. is_none (option_map (tell c.state) o)) none
+
+    goes : (n : ℕ) (c : Course) → is_none (pump_tells c.state) ≡ false → PumpsLeft ended loads (suc n) c
+        → PumpsLeft ended loads n (pump_once c)
+    goes n c e l =
+        let light = pump_lighter c.state l.counted.good in
+        record { counted = counted_pump c ended loads l.counted; few = omega (arith, light, l.few) }
+
+    none_of : {X Y : Type 0} (f : X → Y) (o : Option X) → is_none (option_map f o) ≡ true → o ≡ None
+    none_of f None e = refl
+    none_of f (Some x) e = cc
+
+    at_rest : (c : Course) → Counted c ended loads → is_none (pump_tells c.state) ≡ true → weight c.state.machine ≡ 0
+    at_rest c k e =
+        let z = c.state.sizes in
+        pumped_rests z (lawful z k.good.in_range) (roomy z k.good.in_range) c.state.machine k.good.sound (none_of _ _ e)
 
 -- a machine at rest owes nothing
 owes_nothing : (s : MachineState) → IsWholeState s → weight s.machine ≡ 0 → (tag : ℕ) → is_some (due_of s tag) ≡ false

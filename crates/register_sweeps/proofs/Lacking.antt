@@ -10,15 +10,15 @@ use Rattle.flat_model.specs.declared.Event.{Event}
 use Rattle.flat_model.specs.declared.Event.TheVariants.{Load, Store, Prefetch, Serve, Arrive, Take}
 use Rattle.flat_model.specs.declared.Answer.{Answer}
 use Rattle.flat_model.specs.declared.Answer.TheVariants.{Refused}
-use Rattle.cache_unit.specs.declared.Reply.{Reply}
-use Rattle.cache_unit.specs.declared.Sizes.{Sizes}
-use Rattle.cache_unit.specs.State.{Cache, Register, free_register, register_at, frame_at, live_for, is_present, is_pending_block}
-use Rattle.cache_unit.specs.State.{is_pending, block_of, order_of}
+use Rattle.cache_law.specs.declared.Reply.{Reply}
+use Rattle.cache_law.specs.declared.Sizes.{Sizes}
+use Rattle.cache_law.specs.State.{Cache, Register, free_register, register_at, frame_at, live_for, is_present, is_pending_block}
+use Rattle.cache_law.specs.State.{is_pending, block_of, order_of}
 use Rattle.miss_registers.specs.Registers.{marked}
-use Rattle.cache_unit.proofs.FormsEvents.{live-marked}
-use Rattle.cache_unit.specs.Causes.{first_cause, choose, is_resident_block, ways_of, lacks_places}
-use Rattle.cache_unit.specs.Causes.{load_cause, store_cause, prefetch_cause}
-use Rattle.cache_unit.specs.Steps.{load_step, store_step, prefetch_step, take_step, arrived}
+use Rattle.cache_law.proofs.FormsEvents.{live-marked}
+use Rattle.cache_law.specs.Causes.{first_cause, choose, is_resident_block, ways_of, lacks_places}
+use Rattle.cache_law.specs.Causes.{load_cause, store_cause, prefetch_cause}
+use Rattle.cache_law.specs.Steps.{load_step, store_step, prefetch_step, take_step, arrived}
 use Rattle.machine_core.specs.Machine.{Machine, MachineState, apply}
 use Rattle.machine_core.specs.AnyMachine.{answered, after_event, after_some, pump_tells, pump_leaves}
 use Rattle.machine_core.specs.Pump.{pumped}

@@ -7,9 +7,9 @@ use Rattle.flat_model.specs.declared.Event.{Event}
 use Rattle.flat_model.specs.Words.{zero_word}
 use Rattle.shape_files.specs.MachineFile.{bad_machine}
 use Rattle.shape_files.proofs.Fits.{at_run_time}
-use Rattle.cache_unit.specs.Sound.{InRange}
-use Rattle.cache_unit.specs.declared.Sizes.{Sizes}
-use Rattle.cache_unit.proofs.Made as numbers
+use Rattle.cache_law.specs.Sound.{InRange}
+use Rattle.cache_law.specs.declared.Sizes.{Sizes}
+use Rattle.cache_unit.proofs.Numbers as numbers
 use Rattle.machine_core.specs.Whole.{IsWholeState}
 use Rattle.machine_core.proofs.Requests.{sound_opening, flat_opening}
 use Rattle.machine_core.proofs.Whole.{lawful}

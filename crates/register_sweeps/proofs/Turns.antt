@@ -1,15 +1,18 @@
 -- The turns of a sweep's loops, one at a time, and that none changes a machine's sizes.
-use Rattle.std.proofs.Common.{◌≡◌, ℕ, zero, suc, ◌+◌, ◌-◌, ◌<◌, ◌≤◌, Bool, true, false, cond, refl, sym, ap, ◌∙◌, arith}
+use Rattle.std.proofs.Common.{◌≡◌, ℕ, zero, suc, ◌+◌, ◌-◌, ◌<◌, ◌≤◌, Bool, true, false, cond, Option, Some, None, is_none, refl, sym, ap}
+use Rattle.std.proofs.Common.{◌∙◌, arith}
 use Rattle.flat_model.specs.declared.Event.{Event}
 use Rattle.machine_core.specs.Machine.{MachineState}
-use Rattle.machine_core.specs.AnyMachine.{answered, after_event, pump_tells, pump_leaves}
+use Rattle.machine_core.specs.AnyMachine.{answered, after_event, after_some, pump_tells, pump_leaves}
 use Rattle.machine_core.specs.Pump as driver
-use Rattle.machine_core.specs.Pump.{pumped}
+use Rattle.machine_core.specs.Pump.{pumped, until}
+use Rattle.machine_core.proofs.Driving.{stays, goes}
+use Rattle.flat_model.specs.declared.Answer.{Answer}
 use Rattle.machine_core.specs.Whole.{with_answer}
 use Rattle.std.specs.Option.{option_map}
 use Rattle.register_sweeps.specs.declared.row.Row.{Row}
 use Rattle.round_driver.proofs.Turns.{left}
-use Rattle.register_sweeps.specs.Sweep.{Course, course, pump_once, pump_and_wait, ask, ends, ask_again, pump_times}
+use Rattle.register_sweeps.specs.Sweep.{Course, course, with_pumped, pump_once, pump_and_wait, ask, ends, ask_again, pump_times}
 
 pub waited : (s t : MachineState) (row told : Row) → course t told ≡ pump_once (course s row)
     → course t (record told { waited = told.waited + 1 }) ≡ pump_and_wait (course s row)
@@ -38,9 +41,34 @@ pub no_turn_left : (n i : ℕ) (event : Event) (c : Course) → n ≤ i → ask_
 unfolding ask_again
 no_turn_left n i event c h = grind arith
 
-pub pump_turn : (n i : ℕ) (c d : Course) → d ≡ pump_once c → i < n → pump_times (n - i) c ≡ pump_times (n - (i + 1)) d
+-- with nothing to do a pump changes nothing
+no_pump : (c : Course) → is_none (pump_tells c.state) ≡ true → pump_once c ≡ c
+unfolding pump_tells pump_leaves
+no_pump c e = go (pumped c.state.sizes c.state.machine) e
+  where
+    tell : Event → Event × Answer
+    tell event = (event, answered c.state event)
+
+    go : (o : Option Event) → is_none (option_map tell o) ≡ true
+        → course (after_some c.state o) (with_pumped c.row (option_map tell o)) ≡ c
+    go None e = refl
+    go (Some event) e = cc
+
+one_pump : (n : ℕ) (c : Course) → pump_times (suc n) c ≡ pump_times n (pump_once c)
 unfolding pump_times
-pump_turn n i c d h turn = grind arith
+one_pump n c = go (is_none (pump_tells c.state)) refl
+  where
+    over : Course → Bool
+    over c = is_none (pump_tells c.state)
+
+    go : (b : Bool) → over c ≡ b → until over pump_once (suc n) c ≡ until over pump_once n (pump_once c)
+    go true e = stays over pump_once (suc n) c e ∙ sym (ap (until over pump_once n) (no_pump c e) ∙ stays over pump_once n c e)
+    go false e = goes over pump_once n c e
+
+pub pump_turn : (n i : ℕ) (c d : Course) → d ≡ pump_once c → i < n → pump_times (n - i) c ≡ pump_times (n - (i + 1)) d
+pump_turn n i c d h turn =
+    let k : n - i ≡ suc (n - (i + 1)) = omega arith in
+    ap (λ k. pump_times k c) k ∙ one_pump _ c ∙ ap (pump_times _) (sym h)
 
 pub no_pump_left : (n i : ℕ) (c : Course) → n ≤ i → pump_times (n - i) c ≡ c
 unfolding pump_times

@@ -7,9 +7,9 @@ use Rattle.flat_model.specs.declared.Event.TheVariants.{Load, Store, Prefetch, S
 use Rattle.flat_model.specs.declared.Answer.{Answer}
 use Rattle.flat_model.specs.declared.Answer.TheVariants.{Refused}
 use Rattle.flat_model.specs.Words.{has_any}
-use Rattle.cache_unit.specs.declared.Sizes.{Sizes}
-use Rattle.cache_unit.specs.State.{Cache, is_present, block_of}
-use Rattle.cache_unit.specs.Causes.{first_cause, miss_causes}
+use Rattle.cache_law.specs.declared.Sizes.{Sizes}
+use Rattle.cache_law.specs.State.{Cache, is_present, block_of}
+use Rattle.cache_law.specs.Causes.{first_cause, miss_causes}
 use Rattle.machine_core.specs.Machine.{MachineState}
 use Rattle.register_sweeps.specs.declared.row.Asked.{Asked}
 use Rattle.register_sweeps.specs.declared.row.Asked.TheVariants.{Ended, LacksRoom}

@@ -1,7 +1,7 @@
 -- The rows of a sweep in rounds.
 use Rattle.std.specs.Prelude.{ℕ, List, ◌++◌, codes, decimal}
 use Rattle.std.specs.List.{All}
-use Rattle.cache_unit.specs.declared.Sizes.{Sizes}
+use Rattle.cache_law.specs.declared.Sizes.{Sizes}
 use Rattle.flat_model.specs.declared.Event.{Event}
 use Rattle.round_driver.specs.Tables.{table_of}
 use Rattle.round_driver.specs.Texts.{table_text}

@@ -1,10 +1,10 @@
 -- What a sweep counts, over the walk of the machine.
 use Rattle.std.specs.Prelude.{⊤, ℕ, zero, suc, ◌≡◌, ◌<◌, ◌+◌, ◌-◌, Bool, if◌then◌else◌, List, [], ◌∷◌, ◌++◌, length, slice_index_or, codes}
-use Rattle.std.specs.Prelude.{decimal, Option, Some, None}
+use Rattle.std.specs.Prelude.{decimal, Option, Some, None, is_none}
 use Rattle.std.specs.List.{All}
 use Rattle.std.specs.Option.{option_map, option_or}
 use Rattle.shape_files.specs.MachineFile.{bad_machine}
-use Rattle.cache_unit.specs.declared.Sizes.{Sizes}
+use Rattle.cache_law.specs.declared.Sizes.{Sizes}
 use Rattle.flat_model.specs.Causes.{ends_request}
 use Rattle.flat_model.specs.declared.Event.{Event}
 use Rattle.flat_model.specs.declared.Answer.{Answer}
@@ -17,6 +17,7 @@ use Rattle.memory_images.specs.Images.{memory_from}
 use Rattle.memory_images.specs.declared.image.Image.{Image}
 use Rattle.memory_images.specs.declared.image.Image.TheVariants.{Zeros}
 use Rattle.machine_core.specs.Machine.{MachineState, opening}
+use Rattle.machine_core.specs.Pump.{until}
 use Rattle.machine_core.specs.AnyMachine.{answered, after_event, pump_tells, pump_leaves, weight_of}
 use Rattle.round_driver.specs.Rounds.{is_end}
 use Rattle.register_sweeps.specs.declared.row.Row.{Row}
@@ -79,8 +80,7 @@ serve_all [] c = c
 serve_all (event ∷ events) c = serve_all events (serve event c)
 
 unfoldable pub pump_times : ℕ → Course → Course
-pump_times zero c = c
-pump_times (suc n) c = pump_times n (pump_once c)
+pump_times n c = until (λ c. is_none (pump_tells c.state)) pump_once n c
 
 -- the last pumps, until there is none
 abbrev pub run_dry : Course → Course

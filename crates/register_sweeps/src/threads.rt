@@ -6,7 +6,7 @@ ghost use Rattle.register_sweeps.specs.declared.sweeps.SweepFault.TheVariants.{T
 ghost use Rattle.register_sweeps.specs.declared.threads.Stop.{Stop};
 ghost use Rattle.register_sweeps.specs.declared.threads.Stop.TheVariants as stops;
 ghost use Rattle.shape_files.specs.MachineFile.{bad_machine};
-ghost use Rattle.cache_unit.specs.declared.Sizes.{Sizes as SizesValue};
+ghost use Rattle.cache_law.specs.declared.Sizes.{Sizes as SizesValue};
 ghost use Rattle.flat_model.specs.declared.ShapeField.{ShapeField as Field};
 ghost use Rattle.shape_files.specs.ShapeFile.{bad_field as bad_shape};
 ghost use Rattle.register_sweeps.specs.Sweep.{AreGood, FaultSays, IsStop, bad_from};

@@ -3,7 +3,7 @@ ghost use Rattle.std.specs.Prelude.{◌≡◌, ◌≢◌, ◌<◌, ◌≤◌, tr
 ghost use Rattle.std.specs.List.{All};
 ghost use Rattle.station_parts.specs.declared.make.TheConstants.{MAX_PORTS};
 ghost use Rattle.flat_model.specs.declared.limits.TheConstants.{MAX_BANKS};
-ghost use Rattle.cache_unit.specs.Views.{is_clean};
+ghost use Rattle.cache_law.specs.Views.{is_clean};
 ghost use Rattle.station_journal.specs.Journal.{IsBankTrue};
 ghost use Rattle.station_parts.specs.declared.parts.Audit.TheVariants.{Clean, Faulted};
 ghost use Rattle.station_parts.specs.Audited.{IsSeen, audit_of};

@@ -1,6 +1,6 @@
 //! A run of a station that hands its journal out behind it.
 ghost use Rattle.std.specs.Prelude.{◌≡◌, ◌<◌, true, length, map, vec_len, IsTrue, IfOk, IfErr, OnErr, OnOk, IsErr};
-ghost use Rattle.cache_unit.specs.Views.{is_clean};
+ghost use Rattle.cache_law.specs.Views.{is_clean};
 ghost use Rattle.station_parts.specs.declared.parts.Audit.TheVariants.{Clean};
 ghost use Rattle.station_parts.specs.Audited.{IsSeen, LeavesBanks, audit_of};
 ghost use Rattle.station_parts.specs.Ids.{port_id, bank_id, cache_id};

@@ -8,7 +8,7 @@ use Rattle.memory_banks.specs.declared.Command.{Command}
 use Rattle.memory_banks.specs.declared.BankAnswer.{BankAnswer}
 use Rattle.memory_banks.specs.Banks.{Bank, bank_at, with_command, served, all_sent}
 use Rattle.memory_banks.proofs.Places.{bank_at-set}
-use Rattle.cache_unit.specs.declared.Sizes.{Sizes}
+use Rattle.cache_law.specs.declared.Sizes.{Sizes}
 use Rattle.machine_core.specs.Machine.{Machine, apply, serve_from, arrive_from, take_in}
 use Rattle.machine_core.proofs.Weighing.{leaves_commands}
 

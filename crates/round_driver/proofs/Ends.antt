@@ -10,6 +10,8 @@ use Rattle.machine_core.specs.Pump.{weight}
 use Rattle.machine_core.specs.Law.{ServesRequests}
 use Rattle.machine_core.specs.Whole.{IsWholeState}
 use Rattle.machine_core.specs.AnyMachine.{after_event, weight_of}
+use Rattle.machine_core.proofs.Driving.{Ended}
+use Rattle.machine_core.proofs.Driving as driving
 use Rattle.machine_core.proofs.Whole.{bound_at_rest, lawful, roomy}
 use Rattle.machine_core.proofs.Weighing.{weight_bound, rests_or_waits, HasCommand, leaves_commands}
 use Rattle.round_driver.specs.Rounds.{Course, course, Run, ends, first_begun, next_round, moves, ask, asked, after_round}
@@ -17,7 +19,7 @@ use Rattle.round_driver.specs.Rounds.{is_over, rounds_until_over, start_of, most
 use Rattle.round_driver.specs.Walks.{is_request, RequestsEnd}
 use Rattle.round_driver.specs.declared.timing.Timing.{Timing}
 use Rattle.round_driver.proofs.Requests.{request_stays, request_ends}
-use Rattle.round_driver.proofs.Runs.{stays, goes, round_over}
+use Rattle.round_driver.proofs.Runs.{round_over}
 use Rattle.round_driver.proofs.Moves.{AreBy, IsSteady, first_waits, Move, Stands}
 use Rattle.round_driver.proofs.Moves.{steady_after, round_moves}
 
@@ -206,35 +208,49 @@ round_goes d r sound quiet going = go r.left refl sound.requests
 
 -- ---- whole runs
 
--- after n rounds the run is over, and took no more than these
-record IsOverWithin (n : ℕ) (r : Run) : Type 0 where
-  over : is_over (rounds_until_over n r) ≡ true
-  in_time : (rounds_until_over n r).schedule.round ≤ r.schedule.round + n
+-- so many rounds are enough, the last of which is this one at most
+record RoundsLeft (last n : ℕ) (r : Run) : Type 0 where
+  sound : IsSound r
+  quiet : ℕ
+  is_quiet : IsQuietFor quiet r
+  few : cost r + quiet ≤ n
+  early : r.schedule.round + n ≤ last
 
-over_now : (n : ℕ) (r : Run) → is_over r ≡ true → IsOverWithin n r
-over_now n r e = grind (arith, stays)
+rests : (last : ℕ) (r : Run) → RoundsLeft last 0 r → is_over r ≡ true
+rests last r l = go (is_over r) refl
+  where
+    go : (b : Bool) → is_over r ≡ b → b ≡ true
+    go true e = refl
+    go false e = let more = (round_goes l.quiet r l.sound l.is_quiet e).cheaper in absurd (omega (arith, more, l.few))
 
-over_within : (n d : ℕ) (r : Run) → IsSound r → IsQuietFor d r → cost r + d ≤ n → IsOverWithin n r
-over_within zero d r sound quiet few = go (is_over r) refl
-  where
-    go : (b : Bool) → is_over r ≡ b → IsOverWithin 0 r
-    go true e = over_now 0 r e
-    go false e = let more = (round_goes d r sound quiet e).cheaper in absurd (omega (arith, more, few))
-over_within (suc n) d r sound quiet few = go (λ q. over_within n q (after_round r)) _ refl
-  where
-    go : ((q : ℕ) → IsSound (after_round r) → IsQuietFor q (after_round r) → cost (after_round r) + q ≤ n → IsOverWithin n (after_round r))
-        → (b : Bool) → is_over r ≡ b → IsOverWithin (suc n) r
-    go later true e = over_now _ r e
-    go later false e =
-        let more = round_goes d r sound quiet e in
-        let rest = later more.quiet more.sound more.is_quiet (omega (arith, more.cheaper, few)) in
-        grind (arith, goes, rest, more.round)
+goes_by : (last n : ℕ) (r : Run) → is_over r ≡ false → RoundsLeft last (suc n) r → RoundsLeft last n (after_round r)
+goes_by last n r e l =
+    let more = round_goes l.quiet r l.sound l.is_quiet e in
+    record {
+      sound = more.sound;
+      quiet = more.quiet;
+      is_quiet = more.is_quiet;
+      few = omega (arith, more.cheaper, l.few);
+      early = omega (arith, more.round, l.early);
+    }
+
+rounds_end : (last n : ℕ) (r : Run) → RoundsLeft last n r → Ended is_over after_round (RoundsLeft last) (rounds_until_over n r)
+unfolding rounds_until_over
+rounds_end last = driving.ends is_over after_round (RoundsLeft last) (rests last) (goes_by last)
 
 pub requests_end : (timing : Timing) (s : MachineState) (requests : List Event) → IsWholeState s → RequestsEnd timing s requests
 requests_end timing s requests whole all =
-    let rest = over_within most timing.latency start sound (inl (omega arith)) room.1 in
-    let same : whole_run timing s requests ≡ rounds_until_over most start = round_over most _ start (omega (arith, room)) rest.over in
-    record { over = grind arith; in_time = grind arith }
+    let last = start.schedule.round + most in
+    let left : RoundsLeft last most start = record {
+      sound = sound;
+      quiet = timing.latency;
+      is_quiet = inl (omega arith);
+      few = room.1;
+      early = omega arith;
+    } in
+    let rest = rounds_end last most start left in
+    let same : whole_run timing s requests ≡ rounds_until_over most start = round_over most _ start (omega (arith, room)) rest.is_over in
+    record { over = rw same rest.is_over; in_time = rw same (omega (arith, rest.still.early, room)) }
   where
     start : Run
     start = start_of timing s requests

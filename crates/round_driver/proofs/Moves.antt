@@ -9,7 +9,7 @@ use Rattle.flat_model.specs.declared.Event.{Event}
 use Rattle.flat_model.specs.declared.Event.TheVariants.{Drain, Serve, Arrive, Process, Take}
 use Rattle.memory_banks.specs.declared.BankAnswer.{BankAnswer}
 use Rattle.memory_banks.specs.Banks.{bank_at}
-use Rattle.cache_unit.specs.declared.Sizes.{Sizes}
+use Rattle.cache_law.specs.declared.Sizes.{Sizes}
 use Rattle.machine_core.specs.Machine.{Machine, MachineState, apply}
 use Rattle.machine_core.specs.Pump.{weight, has_items}
 use Rattle.machine_core.specs.Law.{IsLawful, HasRoom}

@@ -8,9 +8,9 @@ use Rattle.flat_model.specs.declared.Event.TheVariants.{Load, Store, Prefetch, E
 use Rattle.flat_model.specs.declared.Answer.{Answer}
 use Rattle.flat_model.specs.declared.Answer.TheVariants.{Accepted}
 use Rattle.memory_banks.specs.Banks.{Bank}
-use Rattle.cache_unit.specs.State.{Cache}
-use Rattle.cache_unit.specs.Causes.{load_cause, store_cause, prefetch_cause}
-use Rattle.cache_unit.specs.Steps.{Stepped, unless, load_step, store_step, prefetch_step, evict_step}
+use Rattle.cache_law.specs.State.{Cache}
+use Rattle.cache_law.specs.Causes.{load_cause, store_cause, prefetch_cause}
+use Rattle.cache_law.specs.Steps.{Stepped, unless, load_step, store_step, prefetch_step, evict_step}
 use Rattle.machine_core.specs.Machine.{MachineState, apply, joined_with}
 use Rattle.machine_core.specs.Law.{serves_eviction, ServesRequests}
 use Rattle.machine_core.specs.AnyMachine.{answered, after_event}

@@ -1,5 +1,5 @@
 -- Rounds, one after another.
-use Rattle.std.proofs.Common.{◌≡◌, ℕ, zero, suc, ◌+◌, ◌≤◌, Bool, true, false, cond, List, [], ◌∷◌, ◌++◌, append_assoc, append-nil, take}
+use Rattle.std.proofs.Common.{◌≡◌, ℕ, suc, ◌+◌, ◌≤◌, Bool, true, false, List, [], ◌∷◌, ◌++◌, append_assoc, append-nil, take}
 use Rattle.std.proofs.Common.{length, length-append, get_or, ◌<◌, Result, Ok, Err, IfErr, IsErrAnd, refl, sym, ap, ◌∙◌, arith}
 use Rattle.std.proofs.lemmas.List.{take_more}
 use Rattle.flat_model.specs.declared.Event.{Event}
@@ -8,6 +8,7 @@ use Rattle.trace_text.specs.Streams.{Moves, Stopped}
 use Rattle.trace_text.proofs.Serving.{moved_then}
 use Rattle.trace_text.specs.declared.fault.TraceFault.{TraceFault}
 use Rattle.trace_text.specs.declared.fault.TraceFault.TheVariants.{Write, OutOfMemory}
+use Rattle.machine_core.proofs.Driving as driving
 use Rattle.round_driver.specs.declared.note.Note.{Note}
 use Rattle.round_driver.specs.declared.schedule.Schedule.{Schedule}
 use Rattle.round_driver.specs.declared.timing.Timing.{Timing}
@@ -16,41 +17,30 @@ use Rattle.round_driver.specs.Rounds.{most_rounds, whole_run, EndsInTime}
 use Rattle.round_driver.specs.Tables.{Counting, counted, counted_all}
 use Rattle.round_driver.specs.Written.{note_line, run_text, BreaksOff}
 
-once : (n : ℕ) (r : Run) → rounds_until_over (suc n) r ≡ cond (is_over r) r (rounds_until_over n (after_round r))
-unfolding rounds_until_over
-once n r = refl
+-- ---- as any steps until it is over
 
 pub none : (r : Run) → rounds_until_over 0 r ≡ r
 unfolding rounds_until_over
 none r = refl
 
 pub stays : (n : ℕ) (r : Run) → is_over r ≡ true → rounds_until_over n r ≡ r
-stays zero r h = none r
-stays (suc n) r h = grind (arith, once)
+unfolding rounds_until_over
+stays = driving.stays is_over after_round
 
 pub goes : (n : ℕ) (r : Run) → is_over r ≡ false → rounds_until_over (suc n) r ≡ rounds_until_over n (after_round r)
-goes n r h = grind (arith, once)
+unfolding rounds_until_over
+goes = driving.goes is_over after_round
 
 -- one round more
 pub round_more : (n : ℕ) (r : Run) → is_over (rounds_until_over n r) ≡ false
     → rounds_until_over (n + 1) r ≡ after_round (rounds_until_over n r)
-round_more zero r h = grind (arith, none, goes)
-round_more (suc n) r h = go (λ going. round_more n _ going) _ refl
-  where
-    next : suc n + 1 ≡ suc (n + 1)
-    next = omega arith
-
-    go : (is_over (rounds_until_over n (after_round r)) ≡ false
-        → rounds_until_over (n + 1) (after_round r) ≡ after_round (rounds_until_over n (after_round r))) → (b : Bool) → is_over r ≡ b
-        → rounds_until_over (suc n + 1) r ≡ after_round (rounds_until_over (suc n) r)
-    go later true e = grind (arith, stays)
-    go later false e = grind (arith, next, goes)
+unfolding rounds_until_over
+round_more = driving.one_more is_over after_round
 
 -- behind the end there are no rounds
 pub round_over : (n m : ℕ) (r : Run) → n ≤ m → is_over (rounds_until_over n r) ≡ true → rounds_until_over m r ≡ rounds_until_over n r
-round_over zero m r le h = grind (arith, stays, none)
-round_over (suc n) zero r le h = grind arith
-round_over (suc n) (suc m) r le h = grind (arith, once, round_over n m (after_round r))
+unfolding rounds_until_over
+round_over = driving.no_more is_over after_round
 
 -- ---- text
 

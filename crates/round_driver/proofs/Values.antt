@@ -6,8 +6,8 @@ use Rattle.std.proofs.lemmas.List.Elements.{filter-append}
 use Rattle.std.proofs.lemmas.Bool.{and_parts}
 use Rattle.flat_model.specs.declared.Event.{Event}
 use Rattle.flat_model.specs.declared.Event.TheVariants.{Drain, Serve, Arrive, Process, Take}
-use Rattle.cache_unit.specs.Steps.{load_step, store_step, prefetch_step, evict_step, drain_step}
-use Rattle.cache_unit.specs.Steps.{process_step}
+use Rattle.cache_law.specs.Steps.{load_step, store_step, prefetch_step, evict_step, drain_step}
+use Rattle.cache_law.specs.Steps.{process_step}
 use Rattle.machine_core.specs.Machine.{MachineState}
 use Rattle.machine_core.specs.AnyMachine.{answered}
 use Rattle.round_driver.specs.declared.note.Note.{Note}

@@ -1,19 +1,20 @@
 -- What is told of a run is the machine's walk, and each request ends once.
-use Rattle.std.proofs.Common.{◌≡◌, ℕ, zero, suc, Bool, true, false, cond, List, [], ◌∷◌, ◌++◌}
+use Rattle.std.proofs.Common.{◌≡◌, ℕ, Bool, true, false, cond, List, [], ◌∷◌, ◌++◌}
 use Rattle.std.proofs.Common.{append_assoc, append-nil, refl, sym, ap, subst, arith}
 use Rattle.std.specs.List.{list_all}
 use Rattle.std.proofs.lemmas.List.{map-append}
 use Rattle.std.proofs.lemmas.Bool.{and_parts}
 use Rattle.flat_model.specs.declared.Event.{Event}
 use Rattle.flat_model.specs.declared.Event.TheVariants.{Drain}
-use Rattle.cache_unit.specs.declared.Sizes.{Sizes}
-use Rattle.cache_unit.specs.Steps.{drain_step, process_step, take_step}
+use Rattle.cache_law.specs.declared.Sizes.{Sizes}
+use Rattle.cache_law.specs.Steps.{drain_step, process_step, take_step}
 use Rattle.machine_core.specs.Machine.{Machine, MachineState, apply, walked, told}
 use Rattle.machine_core.specs.AnyMachine.{answered, after_event}
+use Rattle.machine_core.proofs.Driving.{keeps}
 use Rattle.round_driver.specs.declared.note.Note.{Note}
 use Rattle.round_driver.specs.declared.timing.Timing.{Timing}
 use Rattle.round_driver.specs.Rounds.{Course, course, Run, is_done, note_of, request_note, attempt, ask}
-use Rattle.round_driver.specs.Rounds.{moves, asked, after_round, rounds_until_over, start_of}
+use Rattle.round_driver.specs.Rounds.{moves, asked, after_round, is_over, rounds_until_over, start_of}
 use Rattle.round_driver.proofs.Kept.{arrives}
 use Rattle.round_driver.specs.Walks.{IsWalk, is_request, ended, RunIsTold}
 
@@ -118,8 +119,7 @@ module _ (s : MachineState) (requests : List Event) where
 
   rounds_told : (n : ℕ) (r : Run) → IsToldSoFar s requests r → IsToldSoFar s requests (rounds_until_over n r)
   unfolding rounds_until_over
-  rounds_told zero r t = t
-  rounds_told (suc n) r t = grind (arith, rounds_told n _ (round_told r t))
+  rounds_told n r t = keeps is_over after_round (IsToldSoFar s requests) (λ r e t. round_told r t) n r t
 
 pub run_is_told : (timing : Timing) (s : MachineState) (requests : List Event) (n : ℕ) → RunIsTold timing s requests n
 run_is_told timing s requests n =

@@ -9,9 +9,9 @@ use Rattle.flat_model.specs.declared.Event.TheVariants.{Load, Store, Prefetch}
 use Rattle.flat_model.specs.declared.Answer.{Answer}
 use Rattle.flat_model.specs.declared.Answer.TheVariants.{Accepted, Value, Refused}
 use Rattle.flat_model.specs.Causes.{passes}
-use Rattle.cache_unit.specs.declared.Sizes.{Sizes}
-use Rattle.cache_unit.specs.declared.Lookup.{Lookup}
-use Rattle.cache_unit.specs.declared.Lookup.TheVariants.{Hit, Join, Miss}
+use Rattle.cache_law.specs.declared.Sizes.{Sizes}
+use Rattle.cache_law.specs.declared.Lookup.{Lookup}
+use Rattle.cache_law.specs.declared.Lookup.TheVariants.{Hit, Join, Miss}
 use Rattle.machine_core.specs.Machine.{MachineState}
 use Rattle.round_driver.specs.Machines.{used_registers}
 use Rattle.round_driver.specs.Rounds.{Run, rounds_until_over, start_of, whole_run}

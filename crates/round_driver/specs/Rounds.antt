@@ -8,10 +8,11 @@ use Rattle.flat_model.specs.declared.Event.TheVariants.{Load, Store, Prefetch, D
 use Rattle.flat_model.specs.declared.Answer.{Answer}
 use Rattle.flat_model.specs.declared.Answer.TheVariants.{Accepted, Moved, Value, Nothing, Refused}
 use Rattle.flat_model.specs.Causes.{ends_request}
-use Rattle.cache_unit.specs.declared.Lookup.{Lookup}
-use Rattle.cache_unit.specs.declared.Sizes.{Sizes}
-use Rattle.cache_unit.specs.declared.Lookup.TheVariants.{Miss}
+use Rattle.cache_law.specs.declared.Lookup.{Lookup}
+use Rattle.cache_law.specs.declared.Sizes.{Sizes}
+use Rattle.cache_law.specs.declared.Lookup.TheVariants.{Miss}
 use Rattle.machine_core.specs.Law.{most_weight}
+use Rattle.machine_core.specs.Pump.{until}
 use Rattle.machine_core.specs.Machine.{MachineState}
 use Rattle.machine_core.specs.AnyMachine.{answered, after_event, weight_of}
 use Rattle.round_driver.specs.Machines.{command_count, has_answer, has_stack_room, found_at, used_registers}
@@ -223,8 +224,7 @@ is_over r = is_over_at r.state r.left
 
 -- rounds until it is over, n at most
 unfoldable pub rounds_until_over : ℕ → Run → Run
-rounds_until_over zero r = r
-rounds_until_over (suc n) r = if is_over r then r else rounds_until_over n (after_round r)
+rounds_until_over n r = until is_over after_round n r
 
 -- before the first round
 abbrev pub start_of : Timing → MachineState → List Event → Run

@@ -6,6 +6,7 @@ use Rattle.flat_model.specs.declared.limits.TheConstants.{MAX_BANKS}
 use Rattle.flat_model.specs.declared.Event.{Event}
 use Rattle.flat_model.specs.declared.Answer.{Answer}
 use Rattle.flat_model.specs.declared.Answer.TheVariants.{Accepted, Moved, Value, Nothing, Refused}
+use Rattle.machine_core.specs.Pump.{until}
 use Rattle.machine_core.specs.Machine.{MachineState}
 use Rattle.round_driver.specs.declared.note.Note.{Note}
 use Rattle.round_driver.specs.declared.round.TheConstants.{MOST_NOTES}
@@ -104,8 +105,7 @@ step c =
 
 -- rounds until the requests are used up and nothing is on its way, n at most
 unfoldable pub steps_until_over : ℕ → Stepped → Stepped
-steps_until_over zero c = c
-steps_until_over (suc n) c = if is_over_at c.state c.left then c else steps_until_over n (step c)
+steps_until_over n c = until (λ c. is_over_at c.state c.left) step n c
 
 abbrev pub start_of_steps : Timing → MachineState → List Event → Stepped
 start_of_steps timing s requests = record { state = s; rounds = first_round timing; left = requests }

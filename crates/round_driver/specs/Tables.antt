@@ -9,8 +9,8 @@ use Rattle.flat_model.specs.declared.Event.TheVariants.{Load, Drain}
 use Rattle.flat_model.specs.declared.Answer.{Answer}
 use Rattle.flat_model.specs.declared.Answer.TheVariants.{Accepted, Moved, Value, Nothing, Refused}
 use Rattle.flat_model.specs.Causes.{passes}
-use Rattle.cache_unit.specs.declared.Lookup.{Lookup}
-use Rattle.cache_unit.specs.declared.Lookup.TheVariants.{Hit, Join, Miss}
+use Rattle.cache_law.specs.declared.Lookup.{Lookup}
+use Rattle.cache_law.specs.declared.Lookup.TheVariants.{Hit, Join, Miss}
 use Rattle.machine_core.specs.Machine.{MachineState}
 use Rattle.round_driver.specs.Rounds.{whole_run}
 use Rattle.round_driver.specs.declared.note.Note.{Note}

@@ -1,7 +1,7 @@
 //! What is asked of a machine that is driven in rounds.
 ghost use Rattle.std.specs.Prelude.{◌≡◌, ◌<◌, ◌≤◌, ◌+◌};
 ghost use Rattle.flat_model.specs.declared.limits.TheConstants.{MAX_BANK_QUEUE};
-ghost use Rattle.cache_unit.specs.Sound.{InRange};
+ghost use Rattle.cache_law.specs.Sound.{InRange};
 ghost use Rattle.machine_core.specs.Law.{greatest_weight};
 ghost use Rattle.machine_core.specs.Whole.{IsWholeState};
 ghost use Rattle.round_driver.specs.Details as details;

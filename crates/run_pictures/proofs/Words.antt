@@ -17,11 +17,11 @@ use Rattle.memory_banks.specs.declared.Command.TheVariants.{Write}
 use Rattle.memory_banks.specs.Banks.{bank_at, room_in}
 use Rattle.input_stack.specs.declared.Entry.{Entry}
 use Rattle.write_queue.specs.declared.Queued.{Queued}
-use Rattle.cache_unit.specs.declared.Reply.{Reply}
-use Rattle.cache_unit.specs.declared.Sizes.{Sizes}
-use Rattle.cache_unit.specs.Causes.{load_cause, store_cause, prefetch_cause, evict_cause, arrive_cause}
-use Rattle.cache_unit.specs.Steps.{Stepped, unless, load_step, store_step, prefetch_step, evict_step, drain_step, drain_first, process_step}
-use Rattle.cache_unit.specs.Steps.{process_entry, take_step, take_reply}
+use Rattle.cache_law.specs.declared.Reply.{Reply}
+use Rattle.cache_law.specs.declared.Sizes.{Sizes}
+use Rattle.cache_law.specs.Causes.{load_cause, store_cause, prefetch_cause, evict_cause, arrive_cause}
+use Rattle.cache_law.specs.Steps.{Stepped, unless, load_step, store_step, prefetch_step, evict_step, drain_step, drain_first, process_step}
+use Rattle.cache_law.specs.Steps.{process_entry, take_step, take_reply}
 use Rattle.machine_core.specs.Machine.{Machine, MachineState, Outcome, apply, joined_with, serve_from, take_in, arrive_from}
 use Rattle.machine_core.specs.AnyMachine.{answered, after_event}
 use Rattle.run_pictures.specs.Words.{seen, refused_words, words_by, step_words}

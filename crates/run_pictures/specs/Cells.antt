@@ -20,7 +20,7 @@ use Rattle.write_queue.specs.declared.Queued.{Queued}
 use Rattle.miss_registers.specs.declared.Owed.{Owed}
 use Rattle.miss_registers.specs.declared.RegisterView.{RegisterView}
 use Rattle.miss_registers.specs.declared.FieldView.{FieldView}
-use Rattle.cache_unit.specs.Views.{frame_view, word_view, dirty_view, reply_view}
+use Rattle.cache_law.specs.Views.{frame_view, word_view, dirty_view, reply_view}
 use Rattle.machine_core.specs.Machine.{MachineState}
 use Rattle.trace_text.specs.Texts.{register_text as line_of_register}
 use Rattle.machine_core.specs.AnyMachine.{register_shown, field_shown, target_shown, bank_shown}

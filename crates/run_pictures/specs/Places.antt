@@ -3,7 +3,7 @@ use Rattle.std.specs.Prelude.{ℕ, ◌*◌, if◌then◌else◌, nat_lt, List, [
 use Rattle.std.specs.List.{flat_map, range_with_len}
 use Rattle.miss_registers.specs.declared.TheConstants.{MAX_WAITING}
 use Rattle.run_pictures.specs.Layouts.{fitted}
-use Rattle.cache_unit.specs.declared.Sizes.{Sizes}
+use Rattle.cache_law.specs.declared.Sizes.{Sizes}
 use Rattle.run_pictures.specs.declared.place.Place.{Place}
 use Rattle.run_pictures.specs.declared.place.TheConstants.{MOST_MEMORY}
 use Rattle.run_pictures.specs.declared.place.Place.TheVariants.{Register, Line, Field, Load, Frame, Cell, Stack, Queue, Command, Answer}

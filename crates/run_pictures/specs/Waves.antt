@@ -17,7 +17,7 @@ use Rattle.miss_registers.specs.declared.RegisterView.{RegisterView}
 use Rattle.machine_core.specs.Machine.{MachineState}
 use Rattle.machine_core.specs.AnyMachine.{register_shown}
 use Rattle.run_pictures.specs.Pictures.{Texts, is_changed}
-use Rattle.cache_unit.specs.declared.Sizes.{Sizes}
+use Rattle.cache_law.specs.declared.Sizes.{Sizes}
 use Rattle.run_pictures.specs.declared.step.Made.{Made}
 use Rattle.run_pictures.specs.declared.waveform.Waveform.{Waveform}
 use Rattle.run_pictures.specs.declared.level.Level.{Level}

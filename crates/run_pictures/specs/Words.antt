@@ -18,15 +18,15 @@ use Rattle.memory_banks.specs.Banks.{bank_at}
 use Rattle.memory_banks.specs.declared.BankAnswer.{BankAnswer}
 use Rattle.input_stack.specs.declared.Entry.{Entry}
 use Rattle.write_queue.specs.declared.Queued.{Queued}
-use Rattle.cache_unit.specs.declared.Lookup.{Lookup}
-use Rattle.cache_unit.specs.declared.Lookup.TheVariants.{Hit, Join, Miss}
-use Rattle.cache_unit.specs.Lookups.{lookup}
-use Rattle.cache_unit.specs.Views.{frame_view, dirty_view, reply_view}
+use Rattle.cache_law.specs.declared.Lookup.{Lookup}
+use Rattle.cache_law.specs.declared.Lookup.TheVariants.{Hit, Join, Miss}
+use Rattle.cache_law.specs.Lookups.{lookup}
+use Rattle.cache_law.specs.Views.{frame_view, dirty_view, reply_view}
 use Rattle.machine_core.specs.Machine.{MachineState}
 use Rattle.machine_core.specs.AnyMachine.{answered}
 use Rattle.run_pictures.specs.declared.before.Before.{Before}
-use Rattle.cache_unit.specs.declared.Sizes.{Sizes}
-use Rattle.cache_unit.specs.State.{block_of}
+use Rattle.cache_law.specs.declared.Sizes.{Sizes}
+use Rattle.cache_law.specs.State.{block_of}
 use Rattle.run_pictures.specs.Layouts.{frames_in, set_in, set_of_frame, bank_in}
 use Rattle.run_pictures.specs.Cells.{is_pending}
 

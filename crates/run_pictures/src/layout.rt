@@ -1,6 +1,6 @@
 //! Where things lie in a machine that is drawn.
 ghost use Rattle.std.specs.Prelude.{◌≡◌, ◌*◌};
-ghost use Rattle.cache_unit.specs.State.{block_of};
+ghost use Rattle.cache_law.specs.State.{block_of};
 ghost use Rattle.run_pictures.specs.Layouts as layouts;
 ghost use Rattle.run_pictures.specs.Layouts.{fitted};
 

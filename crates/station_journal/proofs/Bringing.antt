@@ -10,11 +10,11 @@ use Rattle.flat_model.specs.declared.Answer.TheVariants.{Moved}
 use Rattle.memory_banks.specs.declared.Command.{Command}
 use Rattle.memory_banks.specs.declared.BankAnswer.{BankAnswer}
 use Rattle.memory_banks.specs.Memory.{is_read}
-use Rattle.cache_unit.specs.declared.Sizes.{Sizes}
-use Rattle.cache_unit.specs.State.{Cache, UnitState}
-use Rattle.cache_unit.specs.Causes.{arrive_cause}
-use Rattle.cache_unit.specs.Steps.{arrive_step, fetches, load_step, store_step, prefetch_step, drain_step}
-use Rattle.cache_unit.specs.Sound.{InRange}
+use Rattle.cache_law.specs.declared.Sizes.{Sizes}
+use Rattle.cache_law.specs.State.{Cache, UnitState}
+use Rattle.cache_law.specs.Causes.{arrive_cause}
+use Rattle.cache_law.specs.Steps.{arrive_step, fetches, load_step, store_step, prefetch_step, drain_step}
+use Rattle.cache_law.specs.Sound.{InRange}
 use Rattle.flat_model.specs.declared.Event.TheVariants.{Arrive, Serve}
 use Rattle.station_journal.specs.declared.journal.Source.TheVariants.{Word}
 use Rattle.station_journal.specs.declared.journal.Entry.{Entry}

@@ -8,15 +8,15 @@ use Rattle.flat_model.specs.declared.Answer.{Answer}
 use Rattle.flat_model.specs.declared.Answer.TheVariants.{Refused}
 use Rattle.memory_banks.specs.declared.BankAnswer.{BankAnswer}
 use Rattle.memory_banks.specs.Banks.{commands_for}
-use Rattle.cache_unit.specs.declared.Request.{Request}
-use Rattle.cache_unit.specs.declared.Request.TheVariants as requests
-use Rattle.cache_unit.specs.declared.Sizes.{Sizes}
-use Rattle.cache_unit.specs.State.{Cache}
-use Rattle.cache_unit.specs.Causes.{load_cause}
-use Rattle.cache_unit.specs.Causes.{store_cause, prefetch_cause, evict_cause}
-use Rattle.cache_unit.specs.Steps.{Stepped, request_step}
-use Rattle.cache_unit.specs.Steps.{load_step, store_step, prefetch_step, evict_step, drain_step, arrive_step, process_step}
-use Rattle.cache_unit.specs.Steps.{take_step}
+use Rattle.cache_law.specs.declared.Request.{Request}
+use Rattle.cache_law.specs.declared.Request.TheVariants as requests
+use Rattle.cache_law.specs.declared.Sizes.{Sizes}
+use Rattle.cache_law.specs.State.{Cache}
+use Rattle.cache_law.specs.Causes.{load_cause}
+use Rattle.cache_law.specs.Causes.{store_cause, prefetch_cause, evict_cause}
+use Rattle.cache_law.specs.Steps.{Stepped, request_step}
+use Rattle.cache_law.specs.Steps.{load_step, store_step, prefetch_step, evict_step, drain_step, arrive_step, process_step}
+use Rattle.cache_law.specs.Steps.{take_step}
 use Rattle.station_journal.specs.Journal.{Stand, Brings, step, may_be_full, may_stand, is_full, event_of}
 use Rattle.station_journal.specs.Journal.{arrived_after, Fits, after_entry}
 use Rattle.station_journal.proofs.Rooms.{ample-suffices}

@@ -5,9 +5,9 @@ use Rattle.std.specs.List.{filter}
 use Rattle.std.proofs.lemmas.List.Sums.{length-filter, count_by-le-length}
 use Rattle.std.proofs.lemmas.List.FromFn.{length-range_with_len}
 use Rattle.memory_banks.specs.Banks.{Bank, bank_at, room_in}
-use Rattle.cache_unit.specs.declared.Sizes.{Sizes}
-use Rattle.cache_unit.specs.State.{first_of}
-use Rattle.cache_unit.specs.Causes.{addresses, lacks_room}
+use Rattle.cache_law.specs.declared.Sizes.{Sizes}
+use Rattle.cache_law.specs.State.{first_of}
+use Rattle.cache_law.specs.Causes.{addresses, lacks_room}
 use Rattle.machine_core.proofs.Whole.{spread_evenly, any_false}
 use Rattle.station_journal.specs.Journal.{ample}
 

@@ -14,9 +14,9 @@ use Rattle.memory_banks.specs.Banks.{Bank, all_sent, no_bank, bank_at, after, an
 use Rattle.memory_banks.specs.Banks.{served}
 use Rattle.memory_banks.proofs.Sending.{extended, all_sent-length, all_sent-at}
 pub use Rattle.machine_core.proofs.FromForms.{after-append, answers_to-append}
-use Rattle.cache_unit.specs.declared.Sizes.{Sizes}
-use Rattle.cache_unit.specs.State.{Cache}
-use Rattle.cache_unit.specs.Steps.{Stepped}
+use Rattle.cache_law.specs.declared.Sizes.{Sizes}
+use Rattle.cache_law.specs.State.{Cache}
+use Rattle.cache_law.specs.Steps.{Stepped}
 use Rattle.memory_banks.specs.Memory.{without_answer}
 use Rattle.machine_core.specs.Machine.{Machine, opening, flat_of, joined_with}
 use Rattle.station_journal.specs.Journal.{Stand, opening_stand, zeros, zeros_in}

@@ -11,10 +11,10 @@ use Rattle.flat_model.specs.declared.Answer.TheVariants.{Nothing, Refused}
 use Rattle.flat_model.specs.Flat.{flat_step}
 use Rattle.memory_banks.specs.declared.BankAnswer.{BankAnswer}
 use Rattle.memory_banks.specs.Banks.{bank_at, answers_to, room_in}
-use Rattle.cache_unit.specs.declared.Sizes.{Sizes}
-use Rattle.cache_unit.specs.Causes.{arrive_cause, load_cause, store_cause, prefetch_cause}
-use Rattle.cache_unit.specs.Steps.{Stepped, unless, moved as unit_moved, arrived, arrive_step, load_step, store_step, prefetch_step}
-use Rattle.cache_unit.specs.Steps.{drain_step}
+use Rattle.cache_law.specs.declared.Sizes.{Sizes}
+use Rattle.cache_law.specs.Causes.{arrive_cause, load_cause, store_cause, prefetch_cause}
+use Rattle.cache_law.specs.Steps.{Stepped, unless, moved as unit_moved, arrived, arrive_step, load_step, store_step, prefetch_step}
+use Rattle.cache_law.specs.Steps.{drain_step}
 use Rattle.machine_core.specs.Law.{IsLawful}
 use Rattle.machine_core.specs.Machine.{Machine, apply, joined_with, take_in, flat_of}
 use Rattle.station_journal.specs.Journal.{Stand, ample, brought, true_word, zeros_in, step, moved_on}

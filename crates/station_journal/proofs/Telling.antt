@@ -12,9 +12,9 @@ use Rattle.memory_banks.specs.declared.Command.{Command}
 use Rattle.memory_banks.specs.declared.BankAnswer.{BankAnswer}
 use Rattle.memory_banks.specs.Banks.{after, answers_to, commands_for}
 use Rattle.memory_banks.specs.Memory.{is_read}
-use Rattle.cache_unit.specs.declared.Sizes.{Sizes}
-use Rattle.cache_unit.specs.State.{Cache}
-use Rattle.cache_unit.specs.Steps.{Stepped, arrive_step}
+use Rattle.cache_law.specs.declared.Sizes.{Sizes}
+use Rattle.cache_law.specs.State.{Cache}
+use Rattle.cache_law.specs.Steps.{Stepped, arrive_step}
 use Rattle.machine_core.specs.Law.{IsLawful}
 use Rattle.station_journal.specs.declared.journal.Source.{Source}
 use Rattle.station_journal.specs.declared.journal.Entry.{Entry}

@@ -15,11 +15,11 @@ use Rattle.flat_model.specs.declared.Answer.TheVariants.{Refused}
 use Rattle.flat_model.specs.Words.{zero_word}
 use Rattle.flat_model.specs.Flat.{word_at, flat_run, opening as flat_opening, Flat, flat_step}
 use Rattle.memory_banks.specs.Banks.{Bank, no_bank, all_pending}
-use Rattle.cache_unit.specs.declared.Sizes.{Sizes}
-use Rattle.cache_unit.specs.Causes.{arrive_cause}
-use Rattle.cache_unit.specs.Steps.{arrive_step, load_step, store_step, prefetch_step}
-use Rattle.cache_unit.specs.Views.{is_clean, is_empty}
-use Rattle.cache_unit.specs.Forms.{owed, filled_by, Form}
+use Rattle.cache_law.specs.declared.Sizes.{Sizes}
+use Rattle.cache_law.specs.Causes.{arrive_cause}
+use Rattle.cache_law.specs.Steps.{arrive_step, load_step, store_step, prefetch_step}
+use Rattle.cache_law.specs.Views.{is_clean, is_empty}
+use Rattle.cache_law.specs.Forms.{owed, filled_by, Form}
 use Rattle.machine_core.specs.Law.{IsLawful}
 use Rattle.machine_core.specs.Machine.{Machine, opening, flat_of}
 use Rattle.station_journal.specs.declared.journal.Entry.{Entry}
@@ -32,7 +32,7 @@ use Rattle.station_journal.proofs.Standing.{Stands, Next, opening_stands}
 use Rattle.station_journal.proofs.Stepping.{event_ok}
 use Rattle.station_journal.proofs.Paying.{loads_are_taken}
 use Rattle.flat_model.specs.declared.Word.{Word}
-use Rattle.cache_unit.specs.State.{Cache, tags}
+use Rattle.cache_law.specs.State.{Cache, tags}
 use Rattle.machine_core.proofs.Requests.{flat_in_use}
 
 -- ---- what a unit owes, and its tags

@@ -13,14 +13,14 @@ use Rattle.memory_banks.specs.declared.Command.{Command}
 use Rattle.memory_banks.specs.declared.BankAnswer.{BankAnswer}
 use Rattle.memory_banks.specs.Banks.{answers_to, share_of, commands_for}
 use Rattle.memory_banks.specs.Memory.{is_read}
-use Rattle.cache_unit.specs.declared.Request.{Request}
-use Rattle.cache_unit.specs.declared.Request.TheVariants as requests
-use Rattle.cache_unit.specs.declared.Sizes.{Sizes}
-use Rattle.cache_unit.specs.State.{Cache, opening_cache, is_present, block_of}
-use Rattle.cache_unit.specs.Views.{is_empty}
-use Rattle.cache_unit.specs.Causes.{load_cause, store_cause, prefetch_cause}
-use Rattle.cache_unit.specs.Steps.{Stepped, load_step, store_step, prefetch_step, evict_step, drain_step, arrive_step, process_step}
-use Rattle.cache_unit.specs.Steps.{take_step}
+use Rattle.cache_law.specs.declared.Request.{Request}
+use Rattle.cache_law.specs.declared.Request.TheVariants as requests
+use Rattle.cache_law.specs.declared.Sizes.{Sizes}
+use Rattle.cache_law.specs.State.{Cache, opening_cache, is_present, block_of}
+use Rattle.cache_law.specs.Views.{is_empty}
+use Rattle.cache_law.specs.Causes.{load_cause, store_cause, prefetch_cause}
+use Rattle.cache_law.specs.Steps.{Stepped, load_step, store_step, prefetch_step, evict_step, drain_step, arrive_step, process_step}
+use Rattle.cache_law.specs.Steps.{take_step}
 use Rattle.station_journal.specs.declared.journal.Entry.{Entry}
 use Rattle.station_journal.specs.declared.journal.Entry.TheVariants.{Step, Ended}
 

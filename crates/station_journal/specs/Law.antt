@@ -6,11 +6,11 @@ use Rattle.flat_model.specs.declared.Cause.TheVariants.{StrayWord}
 use Rattle.memory_banks.specs.declared.Command.{Command}
 use Rattle.memory_banks.specs.declared.BankAnswer.{BankAnswer}
 use Rattle.memory_banks.specs.Banks.{after}
-use Rattle.cache_unit.specs.declared.Sizes.{Sizes}
-use Rattle.cache_unit.specs.State.{Cache, tags}
-use Rattle.cache_unit.specs.Views.{is_clean}
-use Rattle.cache_unit.specs.Forms.{owed}
-use Rattle.cache_unit.specs.Causes.{arrive_cause}
+use Rattle.cache_law.specs.declared.Sizes.{Sizes}
+use Rattle.cache_law.specs.State.{Cache, tags}
+use Rattle.cache_law.specs.Views.{is_clean}
+use Rattle.cache_law.specs.Forms.{owed}
+use Rattle.cache_law.specs.Causes.{arrive_cause}
 use Rattle.machine_core.specs.Law.{IsLawful}
 use Rattle.station_journal.specs.declared.journal.Entry.{Entry}
 use Rattle.station_journal.specs.declared.journal.SideFault.{SideFault}

@@ -1,7 +1,7 @@
 //! Laws over the definitions alone: what a journal says of flat memory.
 
 ghost use Rattle.std.specs.Prelude.{List};
-ghost use Rattle.cache_unit.specs.declared.Sizes.{Sizes};
+ghost use Rattle.cache_law.specs.declared.Sizes.{Sizes};
 ghost use Rattle.station_journal.specs.declared.journal.Entry.{Entry};
 ghost use Rattle.station_journal.specs.Law.{JournalIsFlat, SideIsTrue, RunIsTaken, AsksAreJudged, RunIsAnswered};
 

@@ -4,10 +4,10 @@ use Rattle.flat_model.specs.declared.Event.{Event}
 use Rattle.flat_model.specs.declared.Answer.{Answer}
 use Rattle.memory_banks.specs.declared.Command.{Command}
 use Rattle.memory_banks.specs.declared.BankAnswer.{BankAnswer}
-use Rattle.cache_unit.specs.declared.Request.TheVariants as requests
-use Rattle.cache_unit.specs.declared.Sizes.{Sizes}
-use Rattle.cache_unit.specs.State.{Cache, UnitState}
-use Rattle.cache_unit.specs.Steps.{load_step, store_step, prefetch_step, evict_step}
+use Rattle.cache_law.specs.declared.Request.TheVariants as requests
+use Rattle.cache_law.specs.declared.Sizes.{Sizes}
+use Rattle.cache_law.specs.State.{Cache, UnitState}
+use Rattle.cache_law.specs.Steps.{load_step, store_step, prefetch_step, evict_step}
 use Rattle.station_journal.specs.declared.journal.Source.TheVariants as sources
 use Rattle.station_journal.specs.declared.journal.Entry.{Entry}
 use Rattle.station_journal.specs.declared.journal.Entry.TheVariants.{Step, Ended}

@@ -16,9 +16,9 @@ use Rattle.rtrb.specs.Ring.{received, known_items}
 use Rattle.flat_model.specs.Words.{zero_word}
 use Rattle.flat_model.specs.Flat.{word_at}
 use Rattle.memory_banks.specs.Banks.{after}
-use Rattle.cache_unit.specs.declared.Sizes.{Sizes}
-use Rattle.cache_unit.specs.State.{tags}
-use Rattle.cache_unit.specs.Views.{is_clean}
+use Rattle.cache_law.specs.declared.Sizes.{Sizes}
+use Rattle.cache_law.specs.State.{tags}
+use Rattle.cache_law.specs.Views.{is_clean}
 use Rattle.machine_core.specs.Law.{IsLawful}
 use Rattle.station_journal.specs.declared.asks.Ask.{Ask}
 use Rattle.station_journal.specs.declared.asks.Told.{Told}

@@ -12,11 +12,11 @@ use Rattle.flat_model.specs.declared.Shape.{Shape}
 use Rattle.flat_model.specs.declared.Word.{Word}
 use Rattle.memory_banks.specs.Banks.{share_of}
 use Rattle.memory_banks.specs.declared.BankAnswer.{BankAnswer}
-use Rattle.cache_unit.specs.declared.Sizes.{Sizes}
-use Rattle.cache_unit.specs.State.{UnitState, opening_cache}
-use Rattle.cache_unit.specs.Sound.{InRange}
+use Rattle.cache_law.specs.declared.Sizes.{Sizes}
+use Rattle.cache_law.specs.State.{UnitState, opening_cache}
+use Rattle.cache_law.specs.Sound.{InRange}
 use Rattle.cache_unit.specs.Limits as limits
-use Rattle.cache_unit.proofs.Made.{in_range}
+use Rattle.cache_unit.proofs.Numbers.{in_range}
 use Rattle.station_journal.specs.Journal.{opening_stand}
 use Rattle.station_journal.specs.Side.{SideTells}
 use Rattle.station_journal.specs.declared.asks.Ask.{Ask}

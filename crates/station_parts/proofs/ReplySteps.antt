@@ -4,9 +4,9 @@ use Rattle.flat_model.specs.declared.Word.{Word}
 use Rattle.flat_model.specs.declared.Event.TheVariants.{Take}
 use Rattle.flat_model.specs.declared.Answer.{Answer}
 use Rattle.flat_model.specs.declared.Answer.TheVariants as answers
-use Rattle.cache_unit.specs.State.{Cache}
-use Rattle.cache_unit.specs.Steps.{take_step}
-use Rattle.cache_unit.specs.Views.{reply_view}
+use Rattle.cache_law.specs.State.{Cache}
+use Rattle.cache_law.specs.Steps.{take_step}
+use Rattle.cache_law.specs.Views.{reply_view}
 use Rattle.station_journal.specs.declared.journal.Source.TheVariants as sources
 use Rattle.station_journal.specs.declared.journal.Entry.TheVariants.{Step}
 use Rattle.station_journal.specs.declared.asks.Told.{Told}

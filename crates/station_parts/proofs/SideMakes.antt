@@ -3,12 +3,12 @@ use Rattle.std.proofs.Common.{◌≡◌, ◌≢◌, ℕ, ◌+◌, ◌<◌, not, 
 use mathlib.Core.List.{IsPrefix}
 use Rattle.flat_model.specs.declared.Event.{Event}
 use Rattle.memory_banks.specs.declared.BankAnswer.{BankAnswer}
-use Rattle.cache_unit.specs.declared.Sizes.{Sizes}
-use Rattle.cache_unit.specs.State.{Cache}
-use Rattle.cache_unit.specs.Views.{is_empty}
-use Rattle.cache_unit.specs.Steps as unit
-use Rattle.cache_unit.specs.SoundCache.{IsSoundCache}
-use Rattle.cache_unit.proofs.Requesting.{each_step}
+use Rattle.cache_law.specs.declared.Sizes.{Sizes}
+use Rattle.cache_law.specs.State.{Cache}
+use Rattle.cache_law.specs.Views.{is_empty}
+use Rattle.cache_law.specs.Steps as unit
+use Rattle.cache_law.specs.Sound.{IsSound}
+use Rattle.cache_law.proofs.Requesting.{each_step}
 use Rattle.station_journal.specs.declared.asks.Ask.{Ask}
 use Rattle.station_journal.specs.declared.asks.Ask.TheVariants.{Load, Store, Prefetch, Evict, Done}
 use Rattle.station_journal.specs.declared.asks.Told.{Told}
@@ -72,7 +72,7 @@ module _ {W B R D : ℕ} (s : CacheSide W B R D) (place : ℕ) where
       grind (arith, append-nil, known_more s.answers.items news place pops)
 
 -- and makes of the forms what its event does
-pub asked_forms : (z : Sizes) (c : Cache) → IsSoundCache z c → (room : ℕ → ℕ) (port : ℕ) (ask : Ask) → ask ≢ Done
+pub asked_forms : (z : Sizes) (c : Cache) → IsSound z c → (room : ℕ → ℕ) (port : ℕ) (ask : Ask) → ask ≢ Done
     → EventForms z c (event_for port ask) [] (asked_step z room port c ask).answer (asked_step z room port c ask).cache
 asked_forms z c h room port (Load tag at) n = (each_step z c h).request room _
 asked_forms z c h room port (Store at word lanes) n = (each_step z c h).request room _

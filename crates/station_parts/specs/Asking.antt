@@ -5,9 +5,9 @@ use Rattle.flat_model.specs.declared.Event.TheVariants as events
 use Rattle.flat_model.specs.declared.Answer.{Answer}
 use Rattle.flat_model.specs.declared.Answer.TheVariants.{Nothing}
 use Rattle.memory_banks.specs.Banks.{commands_for}
-use Rattle.cache_unit.specs.declared.Sizes.{Sizes}
-use Rattle.cache_unit.specs.State.{Cache, UnitState}
-use Rattle.cache_unit.specs.Steps.{Stepped, load_step, store_step, prefetch_step, evict_step}
+use Rattle.cache_law.specs.declared.Sizes.{Sizes}
+use Rattle.cache_law.specs.State.{Cache, UnitState}
+use Rattle.cache_law.specs.Steps.{Stepped, load_step, store_step, prefetch_step, evict_step}
 use Rattle.cache_unit.specs.Makes.{Makes}
 use Rattle.station_journal.specs.declared.asks.Ask.{Ask}
 use Rattle.station_journal.specs.declared.asks.Ask.TheVariants.{Load, Store, Prefetch, Evict, Done}

@@ -1,7 +1,7 @@
 -- What an audit finds, and what it leaves as it was.
 use Rattle.std.specs.Prelude.{◌≡◌, ◌≤◌, ℕ, zero, suc, Bool, nat_lt, List, length, map, position, slice_index_or, Option, Some, None}
 use Rattle.rtrb.specs.Ring.{sent, known_items, known_free}
-use Rattle.cache_unit.specs.State.{tags}
+use Rattle.cache_law.specs.State.{tags}
 use Rattle.station_journal.specs.declared.journal.SideFault.{SideFault}
 use Rattle.station_parts.specs.declared.port.Port.{Port}
 use Rattle.station_parts.specs.declared.row.Line.{Line}

@@ -1,6 +1,6 @@
 -- What a part keeps whatever it does: the rings that its ends belong to, and its sizes.
 use Rattle.std.specs.Prelude.{ℕ, List, map, length}
-use Rattle.cache_unit.specs.declared.Sizes.{Sizes}
+use Rattle.cache_law.specs.declared.Sizes.{Sizes}
 use Rattle.station_parts.specs.declared.port.Port.{Port}
 use Rattle.station_parts.specs.declared.row.Line.{Line}
 use Rattle.station_parts.specs.declared.bank.BankSide.{BankSide}

@@ -14,8 +14,8 @@ use Rattle.flat_model.specs.declared.ShapeField.TheVariants.{Ports, Journal}
 use Rattle.flat_model.specs.Ranges.{is_between}
 use Rattle.memory_banks.specs.declared.BankAnswer.{BankAnswer}
 use Rattle.memory_banks.specs.Banks.{share_of}
-use Rattle.cache_unit.specs.declared.Sizes.{Sizes}
-use Rattle.cache_unit.specs.State.{opening_cache}
+use Rattle.cache_law.specs.declared.Sizes.{Sizes}
+use Rattle.cache_law.specs.State.{opening_cache}
 use Rattle.cache_unit.specs.Limits as limits
 use Rattle.station_journal.specs.declared.asks.Ask.{Ask}
 use Rattle.station_journal.specs.declared.asks.Told.{Told}

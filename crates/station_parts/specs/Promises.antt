@@ -3,7 +3,7 @@ use Rattle.std.specs.Prelude.{◌≡◌, ℕ, ◌<◌, ◌/◌, ◌%◌, List, [
 use mathlib.Core.List.{IsPrefix}
 use Rattle.flat_model.specs.declared.Word.{Word}
 use Rattle.flat_model.specs.Flat.{Flat, opening, word_at, flat_run}
-use Rattle.cache_unit.specs.declared.Sizes.{Sizes}
+use Rattle.cache_law.specs.declared.Sizes.{Sizes}
 use Rattle.station_journal.specs.declared.asks.Ask.{Ask}
 use Rattle.station_journal.specs.declared.asks.Told.{Told}
 use Rattle.station_journal.specs.declared.journal.Entry.{Entry}

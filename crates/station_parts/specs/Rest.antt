@@ -1,7 +1,7 @@
 -- When nothing is under way in the unit.
 use Rattle.std.specs.Prelude.{Bool, ◌&&◌, ◌==◌, not, length}
 use Rattle.std.specs.List.{list_all}
-use Rattle.cache_unit.specs.State.{Cache, tags}
+use Rattle.cache_law.specs.State.{Cache, tags}
 
 -- no load is owed its value, the write queue is empty, and no register is valid
 abbrev pub is_at_rest : Cache → Bool

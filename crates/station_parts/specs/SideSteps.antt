@@ -12,14 +12,14 @@ use Rattle.memory_banks.specs.declared.BankAnswer.{BankAnswer}
 use Rattle.memory_banks.specs.Banks.{commands_for}
 use Rattle.memory_banks.specs.Memory.{is_read}
 use Rattle.write_queue.specs.declared.Queued.{Queued}
-use Rattle.cache_unit.specs.declared.Reply.{Reply}
-use Rattle.cache_unit.specs.declared.Request.TheVariants as requests
-use Rattle.cache_unit.specs.declared.Sizes.{Sizes}
-use Rattle.cache_unit.specs.State.{Cache}
-use Rattle.cache_unit.specs.Views.{is_empty}
-use Rattle.cache_unit.specs.Causes.{arrive_cause}
-use Rattle.cache_unit.specs.Steps as unit
-use Rattle.cache_unit.specs.FormLaws.{RequestForms, EvictForms, DrainForms, ArriveForms, ProcessForms, TakenForms}
+use Rattle.cache_law.specs.declared.Reply.{Reply}
+use Rattle.cache_law.specs.declared.Request.TheVariants as requests
+use Rattle.cache_law.specs.declared.Sizes.{Sizes}
+use Rattle.cache_law.specs.State.{Cache}
+use Rattle.cache_law.specs.Views.{is_empty}
+use Rattle.cache_law.specs.Causes.{arrive_cause}
+use Rattle.cache_law.specs.Steps as unit
+use Rattle.cache_law.specs.FormLaws.{RequestForms, EvictForms, DrainForms, ArriveForms, ProcessForms, TakenForms}
 use Rattle.station_journal.specs.declared.asks.Ask.{Ask}
 use Rattle.station_journal.specs.declared.asks.Ask.TheVariants.{Done}
 use Rattle.station_journal.specs.declared.journal.Source.{Source}

@@ -5,7 +5,7 @@ ghost use Rattle.std.specs.Global.{Vec};
 ghost use Rattle.station_parts.specs.declared.make.TheConstants.{MAX_PORTS};
 ghost use Rattle.flat_model.specs.declared.limits.TheConstants.{MAX_BANKS};
 ghost use Rattle.rtrb.specs.Ring.{received, sent, known_items, known_free};
-ghost use Rattle.cache_unit.specs.Views.{is_clean};
+ghost use Rattle.cache_law.specs.Views.{is_clean};
 ghost use Rattle.station_journal.specs.Journal.{IsBankTrue};
 ghost use Rattle.station_journal.specs.Parts.{IsOfPorts};
 ghost use Rattle.station_journal.specs.declared.asks.Ask.{Ask};

@@ -1,6 +1,7 @@
-//! What the cache side may look at: what a step at a source would find, and room for.
+//! What the cache side may look at: what a step at a source would find, and room for. At a port or a
+//! bank that isn't there nothing is known, and no place is free.
 ghost use Rattle.std.specs.Prelude.{◌≡◌, length, slice_get};
-ghost use Rattle.cache_unit.specs.State.{UnitState};
+ghost use Rattle.cache_law.specs.State.{UnitState};
 ghost use Rattle.station_parts.specs.Ids.{cache_id};
 ghost use Rattle.station_parts.specs.SideState.{state_of, OnlyLooks};
 ghost use Rattle.station_parts.specs.SideSteps.{has_item};
@@ -18,8 +19,7 @@ impl<const WAYS: usize, const WORDS: usize, const REGS: usize, const DEPTH: usiz
     REGS,
     DEPTH,
 > {
-    /// How many asks of a port are known, after a look, and not taken. There are none of a port that
-    /// isn't there.
+    /// How many asks of a port are known, after a look, and not taken.
     pub fn known_asks(&mut self, port: u32) -> usize
         ensures looks { OnlyLooks (state_of self.old) (state_of self.new) }
         ensures same { cache_id self.new ≡ cache_id self.old }

@@ -4,8 +4,8 @@ ghost use Rattle.flat_model.specs.declared.limits.TheConstants.{MAX_BANKS, MAX_B
 ghost use Rattle.memory_banks.specs.Memory.{fault_of};
 ghost use Rattle.flat_model.specs.declared.MakeFault.TheVariants.{OutOfMemory};
 ghost use Rattle.cache_unit.specs.Limits as limits;
-ghost use Rattle.cache_unit.specs.Shown.{sizes_of};
-ghost use Rattle.cache_unit.specs.State.{opening_cache};
+ghost use Rattle.cache_law.specs.Shown.{sizes_of};
+ghost use Rattle.cache_law.specs.State.{opening_cache};
 ghost use Rattle.station_parts.specs.New.{bad_field, IsNewStation, AreNewPorts, AreNewBanks};
 
 use crate::bank::BankSide;

@@ -1,8 +1,8 @@
 //! The parts of a station.
 ghost use Rattle.std.specs.Prelude.{◌≡◌, ◌+◌, ◌≤◌, ◌++◌, ℕ, length, vec_capacity, None};
 ghost use Rattle.station_parts.specs.declared.make.TheConstants.{MAX_ENTRIES, MAX_NOTED, MAX_PORTS};
-ghost use Rattle.cache_unit.specs.Shown.{sizes_of};
-ghost use Rattle.cache_unit.specs.Sound.{InRange};
+ghost use Rattle.cache_law.specs.Shown.{sizes_of};
+ghost use Rattle.cache_law.specs.Sound.{InRange};
 ghost use Rattle.station_parts.specs.Rows.{sent_at, popped_at, taken_at};
 ghost use Rattle.station_journal.specs.Side.{SideTells};
 ghost use Rattle.station_parts.specs.Ports.{PortsTell};

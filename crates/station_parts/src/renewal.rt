@@ -1,7 +1,7 @@
 //! How a station goes on with a new journal.
 ghost use Rattle.std.specs.Prelude.{◌≡◌, ◌≢◌, ◌≤◌, ◌<◌, ◌+◌, [], nat_lt, false, length, map, vec_capacity, IsTrue, IfOk, IfErr, OnOk};
 ghost use Rattle.std.specs.List.{All};
-ghost use Rattle.cache_unit.specs.Views.{is_clean};
+ghost use Rattle.cache_law.specs.Views.{is_clean};
 ghost use Rattle.station_journal.specs.Journal.{IsBankTrue};
 ghost use Rattle.station_parts.specs.declared.make.TheConstants.{MAX_NOTED};
 ghost use Rattle.station_parts.specs.declared.parts.Audit.TheVariants.{Clean};

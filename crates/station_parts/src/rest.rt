@@ -2,7 +2,7 @@
 ghost use Rattle.std.specs.Prelude.{◌≡◌, ◌≤◌, length, not};
 ghost use Rattle.std.specs.List.{list_all};
 ghost use Rattle.flat_model.specs.declared.limits.TheConstants.{MAX_REGS};
-ghost use Rattle.cache_unit.specs.State.{register_at};
+ghost use Rattle.cache_law.specs.State.{register_at};
 ghost use Rattle.station_parts.specs.Rest.{is_at_rest};
 ghost use Rattle.station_parts.specs.Words.{cache_in};
 

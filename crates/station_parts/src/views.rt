@@ -1,6 +1,6 @@
 //! What the cache side shows.
 ghost use Rattle.std.specs.Prelude.{◌≡◌, length, slice_get};
-ghost use Rattle.cache_unit.specs.Views.{is_clean};
+ghost use Rattle.cache_law.specs.Views.{is_clean};
 ghost use Rattle.station_parts.specs.Words.{held_of, fault_in, cache_in};
 
 use crate::parts::CacheSide;

@@ -2,7 +2,7 @@
 use Rattle.std.specs.Prelude.{ℕ, ◌+◌, Option, Some, None, List, [], ◌∷◌, ◌++◌, codes, decimal}
 use Rattle.flat_model.specs.declared.Answer.{Answer}
 use Rattle.flat_model.specs.declared.Answer.TheVariants.{Accepted}
-use Rattle.cache_unit.specs.declared.Lookup.{Lookup}
+use Rattle.cache_law.specs.declared.Lookup.{Lookup}
 use Rattle.named_fields.specs.Formats.{Named, absent, counted, worded, written, in_format, head_in_format}
 use Rattle.named_fields.specs.declared.format.Format.{Format}
 use Rattle.trace_text.specs.Codes.{line_feed}

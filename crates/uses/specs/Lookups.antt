@@ -1,7 +1,7 @@
 -- What requests found, counted.
 use Rattle.std.specs.Prelude.{ℕ, ◌+◌, Option, Some, None}
-use Rattle.cache_unit.specs.declared.Lookup.{Lookup}
-use Rattle.cache_unit.specs.declared.Lookup.TheVariants.{Hit, Join, Miss}
+use Rattle.cache_law.specs.declared.Lookup.{Lookup}
+use Rattle.cache_law.specs.declared.Lookup.TheVariants.{Hit, Join, Miss}
 use Rattle.uses.specs.declared.own_order.Lookups.{Lookups}
 
 -- all that was counted

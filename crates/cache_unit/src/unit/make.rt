@@ -1,7 +1,7 @@
 //! A new unit.
 ghost use Rattle.std.specs.Prelude.{◌≡◌, IfOk, IfErr, OnOk, None};
 ghost use Rattle.memory_banks.specs.Memory.{fault_of};
-ghost use Rattle.cache_unit.specs.State.{opening_cache};
+ghost use Rattle.cache_law.specs.State.{opening_cache};
 ghost use Rattle.cache_unit.specs.Limits as limits;
 
 use crate::{ShapedUnit, Sizes, bad_size};

@@ -1,10 +1,10 @@
 //! A request for a block that no frame holds.
 ghost use Rattle.std.specs.Prelude.{◌≡◌, ℕ, ◌+◌, ◌*◌, ◌≤◌, Bool, false, IfOk, IfErr, Some, None};
 ghost use Rattle.memory_banks.specs.Banks.{HasSent};
-ghost use Rattle.cache_unit.specs.State.{is_present};
-ghost use Rattle.cache_unit.specs.Causes.{first_cause, miss_causes};
-ghost use Rattle.cache_unit.specs.Steps.{fetched, fetches};
-ghost use Rattle.cache_unit.specs.Miss.{MayTake};
+ghost use Rattle.cache_law.specs.State.{is_present};
+ghost use Rattle.cache_law.specs.Causes.{first_cause, miss_causes};
+ghost use Rattle.cache_law.specs.Steps.{fetched, fetches};
+ghost use Rattle.cache_law.specs.Miss.{MayTake};
 
 use crate::fetch::{bring_in, choose_frame, words_owed};
 use crate::reads::lacks_room;
@@ -22,7 +22,7 @@ impl ShapedUnit {
             (miss_causes self.now.sizes (L.room_of lines.now) self.now.cache block)
             ≡ Some cause) }
         ensures found { IfOk result
-            (λ places. MayTake self.now.sizes (L.room_of lines.now) self.now.cache block places) }
+            (λ places. MayTake self.now.sizes (L.room_of lines.now) self.now.cache block places.frame places.slot) }
     {
         let Some(slot) = self.registers.free_slot() else {
             return Err(Cause::NoRegister);
@@ -47,7 +47,7 @@ impl ShapedUnit {
         requires absent { is_present self.old.cache block ≡ false }
         requires in_memory { block * self.old.sizes.block_words + self.old.sizes.block_words ≤ self.old.sizes.words }
         requires may_take { MayTake self.old.sizes
-            (L.room_of lines.old) self.old.cache block places }
+            (L.room_of lines.old) self.old.cache block places.frame places.slot }
         ensures unit { self.new
             ≡ record self.old { cache = fetched self.old.sizes self.old.cache block } }
         ensures lines { HasSent L.sent_to L.room_of L.same lines.old lines.new

@@ -3,12 +3,12 @@ ghost use Rattle.std.specs.Prelude.{◌≡◌, ◌+◌, ◌<◌, ◌≤◌, ◌=
 ghost use Rattle.std.specs.List.{list_any};
 ghost use Rattle.miss_registers.specs.Registers as regs;
 ghost use Rattle.miss_registers.specs.Whole.{IsWhole};
-ghost use Rattle.cache_unit.specs.SoundCache.{IsSoundCache};
-ghost use Rattle.cache_unit.specs.State.{frame_of, tags};
-ghost use Rattle.cache_unit.specs.Causes.{found, is_in_use, targets_full};
-ghost use Rattle.cache_unit.specs.Requests.{load_answer, load_present};
-ghost use Rattle.cache_unit.specs.Lookups.{finding_of};
-ghost use Rattle.cache_unit.specs.Steps.{noted_for, written};
+ghost use Rattle.cache_law.specs.Sound.{IsSound};
+ghost use Rattle.cache_law.specs.State.{frame_of, tags};
+ghost use Rattle.cache_law.specs.Causes.{found, is_in_use, targets_full};
+ghost use Rattle.cache_law.specs.Requests.{load_answer, load_present};
+ghost use Rattle.cache_unit.specs.Findings.{finding_of};
+ghost use Rattle.cache_law.specs.Steps.{noted_for, written};
 
 use crate::{Reply, ShapedUnit, Sizes};
 use flat_model::{Answer, Cause, Lanes, Word, merge};
@@ -36,7 +36,7 @@ impl ShapedUnit {
     pub fn owed(&self) -> u32
         ensures value { result ≡ length (tags self.now.cache) }
         ensures few { result ≤ self.now.sizes.replies }
-        ensures sound { IsSoundCache self.now.sizes self.now.cache }
+        ensures sound { IsSound self.now.sizes self.now.cache }
     {
         self.registers.awaited() + self.ready.len() as u32
     }

@@ -1,13 +1,13 @@
 //! Requests of the processor.
 ghost use Rattle.std.specs.Prelude.{◌≡◌, ℕ, ◌+◌, ◌*◌, ◌≤◌, ◌<◌, nat_lt, nat_le, not, length, IfOk, IfErr, OnErr, OnOk, None, Some};
 ghost use Rattle.memory_banks.specs.Banks.{HasSent};
-ghost use Rattle.cache_unit.specs.State.{frame_of, block_of, place_in, tags};
-ghost use Rattle.cache_unit.specs.Causes.{found, targets_full};
-ghost use Rattle.cache_unit.specs.SoundCache.{IsSoundCache};
+ghost use Rattle.cache_law.specs.State.{frame_of, block_of, place_in, tags};
+ghost use Rattle.cache_law.specs.Causes.{found, targets_full};
+ghost use Rattle.cache_law.specs.Sound.{IsSound};
 ghost use Rattle.cache_unit.specs.Makes.{MakesOver};
-ghost use Rattle.cache_unit.specs.Lookups.{lookup, lookup_of};
-ghost use Rattle.cache_unit.specs.Requests.{absence_cause, is_full_for};
-ghost use Rattle.cache_unit.specs.Steps.{fetched, fetches, load_step, store_step, prefetch_step, request_step};
+ghost use Rattle.cache_law.specs.Lookups.{lookup, lookup_of};
+ghost use Rattle.cache_law.specs.Requests.{absence_cause, is_full_for};
+ghost use Rattle.cache_law.specs.Steps.{fetched, fetches, load_step, store_step, prefetch_step, request_step};
 
 use crate::unit::present::Finding;
 use crate::{Lookup, Request, ShapedUnit};
@@ -132,7 +132,7 @@ impl ShapedUnit {
     // Whether memory has no such word.
     fn is_outside(&self, at: u32) -> bool
         ensures outside { result ≡ not (nat_lt at self.now.sizes.words) }
-        ensures sound { IsSoundCache self.now.sizes self.now.cache }
+        ensures sound { IsSound self.now.sizes self.now.cache }
     {
         at >= self.sizes.words
     }

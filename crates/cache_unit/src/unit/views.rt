@@ -5,7 +5,7 @@ ghost use Rattle.flat_model.specs.Words.{has_any};
 ghost use Rattle.cache_directory.specs.Frames as dir;
 ghost use Rattle.miss_registers.specs.Registers as regs;
 ghost use Rattle.miss_registers.specs.Whole.{IsWhole};
-ghost use Rattle.cache_unit.specs.Views as views;
+ghost use Rattle.cache_law.specs.Views as views;
 
 use crate::victim::dirty_words;
 use crate::{Reply, ShapedUnit, Sizes};

@@ -186,6 +186,9 @@ fn swept<R: Abort + AllocGlobal + Threads + Sync>(
     text_of(alloc, sweep(rt, alloc, &REQUESTS, shapes, turns, gate))
 }
 
+/// More turns than a thread takes while another one has no processor.
+const LONG: u64 = 1_000_000_000;
+
 // A thread has as many turns as it is given: no fewer and no more.
 #[test]
 fn sweeps_on_threads(rt: HostRuntime) -> Result<(), Fail> {
@@ -201,10 +204,10 @@ fn sweeps_on_threads(rt: HostRuntime) -> Result<(), Fail> {
     let none: [ToolShape; 0] = [];
     let (ways, limit) = ("shape 1: Ways is out of range", "turn limit");
     let sweeps: [(bool, Opens, &[ToolShape], u64, u64, &str); 13] = [
-        (false, Opens::SecondFirst, &both, 5_000_000, 0, ROWS),
-        (false, Opens::BothThere, &both, 5_000_000, 2, ROWS),
-        (true, Opens::SecondFirst, &both, 5_000_000, 0, ROUNDS),
-        (true, Opens::BothThere, &both, 5_000_000, 2, ROUNDS),
+        (false, Opens::SecondFirst, &both, LONG, 0, ROWS),
+        (false, Opens::BothThere, &both, LONG, 2, ROWS),
+        (true, Opens::SecondFirst, &both, LONG, 0, ROUNDS),
+        (true, Opens::BothThere, &both, LONG, 2, ROUNDS),
         (false, Opens::AtAsk(1), &second, 1, 1, SECOND_ROW),
         (false, Opens::AtAsk(10), &second, 10, 10, SECOND_ROW),
         (false, Opens::AtAsk(10), &second, 9, 9, limit),

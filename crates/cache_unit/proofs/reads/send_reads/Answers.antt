@@ -1,4 +1,4 @@
-use Rattle.cache_unit.proofs.Fetching.{HasSent-none, HasSent-more, room_for_next, block_reads_more}
+use Rattle.cache_unit.proofs.BlockReads.{HasSent-none, HasSent-more, room_for_next, block_reads_more}
 use Rattle.cache_unit.proofs.reads.send_reads.Goals as goal
 
 pub loop-k-init : goal.loop-k-init

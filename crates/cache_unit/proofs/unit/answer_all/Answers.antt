@@ -2,7 +2,7 @@ use Rattle.std.proofs.Common.{arith, sym, ◌∙◌, ap, refl}
 use Rattle.std.proofs.lemmas.List.{append_assoc}
 use Rattle.std.proofs.lemmas.Option.{slice_get-get_or}
 use Rattle.flat_model.specs.Words.{zero_word, no_lanes}
-use Rattle.cache_unit.proofs.Keeps.{answered_more}
+use Rattle.cache_law.proofs.Keeps.{answered_more}
 use Rattle.cache_unit.proofs.unit.answer_all.Goals.{in-Some, in_default}
 use Rattle.cache_unit.proofs.unit.answer_all.Goals as goal
 

@@ -1,6 +1,6 @@
 use Rattle.std.proofs.Common.{ap, ◌∙◌}
 use Rattle.cache_directory.specs.Frames as dir
-use Rattle.cache_unit.proofs.Keeps.{held-filled}
+use Rattle.cache_law.proofs.Keeps.{held-filled}
 use Rattle.cache_unit.proofs.unit.fill_live.Goals as goal
 
 pub settle_frame-requires : goal.settle_frame-requires

@@ -1,5 +1,5 @@
 use Rattle.std.proofs.Common.{sym}
-use Rattle.cache_unit.proofs.Present.{live_for-some}
+use Rattle.cache_law.proofs.Present.{live_for-some}
 use Rattle.cache_unit.proofs.unit.retire.Goals as goal
 
 pub make_obsolete-requires : goal.make_obsolete-requires

@@ -1,7 +1,7 @@
 use Rattle.std.proofs.Common.{◌+◌, ◌<◌, true, false, [], ◌∷◌, length, take, get_or, sym, ap, ◌∙◌, arith, length-append, append-nil}
 use Rattle.flat_model.specs.Words.{has_any}
 use Rattle.cache_directory.specs.Frames.{frame_at, zero_cell}
-use Rattle.cache_unit.specs.Causes.{dirty_from}
+use Rattle.cache_law.specs.Causes.{dirty_from}
 use Rattle.std.proofs.lemmas.List.{take_all}
 use Rattle.cache_unit.proofs.Begins.{queued_cell, held-cells, dirty_more, dirty-length}
 use Rattle.cache_unit.proofs.victim.dirty_words.Goals.{then-has_any, else-has_any}
@@ -13,7 +13,7 @@ dirty-requires c = grind arith
 pub loop-i-preserved : goal.loop-i-preserved
 loop-i-preserved c =
     let cells = (frame_at _ c.args.frame).cells in
-    let n = held-cells c.args.sizes.now.ways c.args.sizes.now.block_words c.args.directory.now c.args.frame c.requires.whole
+    let n = held-cells c.args.sizes.now.ways c.args.sizes.now.block_words c.args.directory.now c.args.frame c.requires.whole.sound
     c.requires.held in
     let there : c.loop-i.i < length cells = omega arith in
     let test = sym (ap has_any c.dirty.ensures.dirty) ∙ sym c.has_any.ensures in

@@ -2,7 +2,7 @@ use Rattle.std.proofs.Common.{◌≡◌, ◌+◌, ◌*◌, ◌<◌, ◌++◌, tr
 use Rattle.flat_model.specs.Words.{has_any, zero_word}
 use Rattle.cache_directory.specs.Frames.{frame_at}
 use Rattle.write_queue.specs.Queue.{queue as queue_of}
-use Rattle.cache_unit.specs.Causes.{dirty_from}
+use Rattle.cache_law.specs.Causes.{dirty_from}
 use Rattle.std.proofs.lemmas.List.{take_all}
 use Rattle.cache_unit.proofs.Begins.{queue_one_more, held-cells, dirty_more, dirty_within}
 use Rattle.cache_unit.proofs.victim.queue_dirty_words.Goals.{then-has_any, else-has_any}
@@ -18,7 +18,7 @@ pub push-requires : goal.push-requires
 push-requires c =
     let cells = (frame_at _ c.args.frame).cells in
     let first = c.args.block * c.args.sizes.now.block_words in
-    let n = held-cells c.args.sizes.now.ways c.args.sizes.now.block_words _ _ c.requires.whole c.requires.held in
+    let n = held-cells c.args.sizes.now.ways c.args.sizes.now.block_words _ _ c.requires.whole.sound c.requires.held in
     let there : c.loop-i.i < length cells = omega arith in
     let front = dirty_from c.args.block first _ in
     let more = ap length (dirty_more c.args.block first cells c.loop-i.i true there
@@ -33,7 +33,7 @@ loop-i-preserved c =
     let cells = (frame_at _ c.args.frame).cells in
     let first = c.args.block * c.args.sizes.now.block_words in
     let old = c.args.queue.now in
-    let n = held-cells c.args.sizes.now.ways _ _ _ c.requires.whole c.requires.held in
+    let n = held-cells c.args.sizes.now.ways _ _ _ c.requires.whole.sound c.requires.held in
     let there : c.loop-i.i < length cells = omega arith in
     let test = sym (ap has_any c.dirty-lanes.ensures.dirty) ∙ sym c.has_any.ensures in
     elim c.if-has_any.branch [

@@ -1,7 +1,7 @@
 use Rattle.std.proofs.Common.{◌≡◌, ◌*◌, ◌++◌, take}
 use Rattle.cache_directory.specs.Frames.{frame_at}
 use Rattle.write_queue.specs.Queue.{queue as queue_of}
-use Rattle.cache_unit.specs.Causes.{dirty_from}
+use Rattle.cache_law.specs.Causes.{dirty_from}
 use Rattle.cache_unit.proofs.victim.queue_dirty_words.Given as goal
 
 abbrev pub invariant-loop-i : goal.invariant-loop-i

@@ -1,6 +1,6 @@
 use Rattle.std.proofs.Common.{◌≡◌, true, take}
 use Rattle.std.specs.List.{list_all}
-use Rattle.cache_unit.specs.Views.{is_empty}
+use Rattle.cache_law.specs.Views.{is_empty}
 use Rattle.machine_core.proofs.drive.all_served.Given as goal
 
 abbrev pub invariant-loop-bank : goal.invariant-loop-bank

@@ -1,4 +1,4 @@
-use Rattle.cache_unit.specs.Steps.{drain_step}
+use Rattle.cache_law.specs.Steps.{drain_step}
 use Rattle.machine_core.proofs.Whole.{joins}
 use Rattle.machine_core.proofs.step.drain.Goals as goal
 

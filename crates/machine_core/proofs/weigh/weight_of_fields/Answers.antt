@@ -1,6 +1,6 @@
 use Rattle.std.proofs.Common.{ap, arith}
-use Rattle.cache_unit.specs.declared.Sizes.{Sizes}
-use Rattle.cache_unit.specs.State.{register_at, clear_field}
+use Rattle.cache_law.specs.declared.Sizes.{Sizes}
+use Rattle.cache_law.specs.State.{register_at, clear_field}
 use Rattle.machine_core.specs.Pump.{field_weight}
 use Rattle.machine_core.proofs.Weighing.{total_more}
 use Rattle.machine_core.proofs.weigh.weight_of_fields.Goals as goal

@@ -1,5 +1,5 @@
 use Rattle.std.proofs.Common.{◌≡◌, ◌≤◌, ◌*◌, ◌^◌, take}
-use Rattle.cache_unit.specs.State.{register_at}
+use Rattle.cache_law.specs.State.{register_at}
 use Rattle.machine_core.specs.Pump.{total, field_weight}
 use Rattle.machine_core.proofs.weigh.weight_of_fields.Given as goal
 

@@ -1,6 +1,6 @@
 use Rattle.std.proofs.Common.{ap, sym, arith}
-use Rattle.cache_unit.specs.declared.Sizes.{Sizes}
-use Rattle.cache_unit.specs.State.{free_register}
+use Rattle.cache_law.specs.declared.Sizes.{Sizes}
+use Rattle.cache_law.specs.State.{free_register}
 use Rattle.machine_core.specs.Pump.{register_weight}
 use Rattle.machine_core.proofs.Weighing.{total_more, none_behind}
 use Rattle.machine_core.proofs.weigh.weight_of_registers.Goals as goal

@@ -1,7 +1,7 @@
 use Rattle.std.proofs.Common.{◌≡◌, ◌++◌, map, take, drop}
-use Rattle.miss_registers.specs.Registers.{without_code}
+use Rattle.miss_registers.specs.Targets.{marks_without_code}
 use Rattle.miss_registers.proofs.slot.clear_codes.Given as goal
 
-abbrev pub invariant-loop-field : goal.invariant-loop-field
-invariant-loop-field l =
-    l.field-items ≡ map without_code (take l.field-index l.initial.field-items) ++ drop l.field-index l.initial.field-items
+abbrev pub invariant-loop-word : goal.invariant-loop-word
+invariant-loop-word l =
+    l.word-items ≡ map marks_without_code (take l.word-index l.initial.word-items) ++ drop l.word-index l.initial.word-items

@@ -1,8 +1,8 @@
 use Rattle.std.proofs.Common.{◌≡◌, length, refl, sym, ◌∙◌, ap, subst, arith}
 use Rattle.std.proofs.lemmas.Grind.{merely}
-use Rattle.cache_unit.specs.State.{UnitState}
-use Rattle.cache_unit.specs.Sound.{InRange}
-use Rattle.cache_unit.specs.Shown.{sizes_of}
+use Rattle.cache_law.specs.State.{UnitState}
+use Rattle.cache_law.specs.Sound.{InRange}
+use Rattle.cache_law.specs.Shown.{sizes_of}
 use Rattle.station_parts.specs.Segments.{whole_of}
 use Rattle.station_parts.proofs.Making.{are_in_range, asks_number, lines_number, answers_number, new_counted, new_tells, new_ports}
 use Rattle.station_parts.proofs.Making.{new_station}

@@ -1,8 +1,9 @@
 use Rattle.std.proofs.Common.{sym, ◌∙◌, refl, ◌≡◌, nat_le, length, true, false, arith}
 use Rattle.std.proofs.lemmas.Bool.{false≢true, lt-leb}
 use Rattle.input_stack.specs.declared.Entry.{Entry}
-use Rattle.cache_unit.proofs.Present.{Expected-from, stray-shown, arrive_by, arrived-shown, IsSound-arrived}
-use Rattle.cache_unit.proofs.Fetching.{makes}
+use Rattle.cache_law.proofs.Present.{stray-shown, arrived-shown, IsSound-arrived}
+use Rattle.cache_unit.proofs.Calls.{arrive_by}
+use Rattle.cache_unit.proofs.Calls.{makes}
 use Rattle.cache_unit.proofs.unit.ShapedUnit.arrive.Goals as goal
 
 pub invariant_of-self : goal.invariant_of-self
@@ -10,10 +11,9 @@ invariant_of-self c =
     let s = c.self.inside in
     let e : Entry = record { slot = c.args.slot; i = c.args.i; word = c.args.word } in
     record {
+      ranges = c.self.invariant.ranges;
       sound = rw (c.mark_in_stack.ensures.registers, c.in-Ok.ensures.ok)
-          (IsSound-arrived s.sizes _ e c.self.invariant.sound (Expected-from _ _ (sym c.expects.ensures.answer ∙ c.if-not-expects.false))
-          (rw c.mark_in_stack.ensures.registers at (c.mark_in_stack.ensures.whole s.sizes.block_words s.sizes.regs
-          c.self.invariant.sound.registers)));
+          (IsSound-arrived s.sizes _ e c.self.invariant.sound (sym c.expects.ensures.answer ∙ c.if-not-expects.false));
       limit = c.self.invariant.limit;
     }
 

@@ -1,6 +1,6 @@
 use Rattle.std.proofs.Common.{◌∙◌, ◌==◌, ap, sym, refl, true, false}
 use Rattle.cache_unit.specs.View.{cache_of}
-use Rattle.cache_unit.proofs.Choosing.{clean_by}
+use Rattle.cache_unit.proofs.Views.{clean_by}
 use Rattle.cache_unit.proofs.unit.ShapedUnit.clean.Goals.{then-are_free, else-are_free}
 use Rattle.cache_unit.proofs.unit.ShapedUnit.clean.Goals as goal
 

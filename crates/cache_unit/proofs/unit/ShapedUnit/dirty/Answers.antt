@@ -1,9 +1,8 @@
 use Rattle.std.proofs.Common.{◌∙◌, ap, sym, Some}
 use Rattle.std.specs.Option.{option_map}
 use borrow.Author.Tests.{ltb-true}
-use Rattle.cache_unit.proofs.Choosing.{some-within, cell-there}
+use Rattle.cache_unit.proofs.Views.{some-within, cell-there}
 use Rattle.cache_directory.specs.Frames as dir
-use Rattle.cache_unit.specs.Views as views
 use Rattle.cache_unit.proofs.unit.ShapedUnit.dirty.Goals as goal
 
 pub dirty-requires : goal.dirty-requires

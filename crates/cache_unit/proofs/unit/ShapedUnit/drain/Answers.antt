@@ -1,33 +1,16 @@
-use Rattle.std.proofs.Common.{suc, List, [], ◌∷◌, drop, arith, rules}
-use Rattle.write_queue.specs.declared.Queued.{Queued}
-use Rattle.cache_unit.specs.Sound.{QueueSound}
-use Rattle.cache_unit.specs.declared.Sizes.{Sizes}
-use Rattle.cache_unit.specs.Steps.{drain_step}
-use Rattle.cache_unit.proofs.Fetching.{sound_of}
+use Rattle.std.proofs.Common.{arith, rules}
+use Rattle.cache_unit.specs.View.{cache_of}
+use Rattle.cache_law.specs.Steps.{drain_step}
+use Rattle.cache_unit.proofs.Calls.{sound_of}
+use Rattle.cache_law.proofs.Fetching.{IsSound-drained}
 use Rattle.cache_unit.proofs.unit.ShapedUnit.drain.Goals as goal
-
--- the write queue without its front
-queue_less : (z : Sizes) (entries : List Queued) → QueueSound z entries → QueueSound z (drop 1 entries)
-queue_less z [] h = h
-queue_less z (q ∷ rest) h =
-    record { within = omega arith; addresses = λ k d m. h.addresses (suc k) d (omega arith) }
 
 pub invariant_of-self : goal.invariant_of-self
 invariant_of-self g c =
     let s = c.self.inside in
-    let h = c.self.invariant.sound in
     record {
-      sound = record {
-        ranges = h.ranges;
-        directory = h.directory;
-        sets = h.sets;
-        in_memory = h.in_memory;
-        registers = h.registers;
-        stack_sound = h.stack_sound;
-        tied = h.tied;
-        queue_sound = rw c.pop.ensures.rest (queue_less s.sizes s.queue.entries h.queue_sound);
-        owes = h.owes;
-      };
+      ranges = c.self.invariant.ranges;
+      sound = rw c.pop.ensures.rest (IsSound-drained s.sizes (cache_of s) c.self.invariant.sound);
       limit = grind arith;
     }
 

@@ -1,10 +1,9 @@
-use Rattle.cache_unit.proofs.Tags.{sound_cache}
 use Rattle.std.proofs.Common.{◌≡◌, ℕ, ◌*◌, ◌<◌, ◌≤◌, arith, ap, refl, sym, ◌∙◌, subst, Some, None, true, false, le-ltb, lt-ltb}
 use Rattle.cache_unit.specs.View.{cache_of}
-use Rattle.cache_unit.proofs.Lists.{frame_of-some}
-use Rattle.cache_unit.proofs.Choosing.{lacks-true, lacks-false}
-use Rattle.cache_unit.proofs.Requesting.{evict_by}
-use Rattle.cache_unit.proofs.Fetching.{makes, made}
+use Rattle.cache_law.proofs.Lists.{frame_of-some}
+use Rattle.cache_unit.proofs.Taking.{lacks-true, lacks-false}
+use Rattle.cache_law.proofs.Requesting.{evict_by}
+use Rattle.cache_unit.proofs.Calls.{makes, made}
 use Rattle.cache_unit.proofs.unit.ShapedUnit.evict.Goals as goal
 
 pub overflow_mul-first : goal.overflow_mul-first
@@ -54,7 +53,7 @@ returns c =
     holds c.dirty_words-dirty.result _ (c.dirty_words-dirty.ensures.count _ _) (rw (← c.self.invariant.limit) c.room.ensures.value)
     c.if-room-dirty.false) in
     rw (← c.self.view_is) (record {
-      sound = sound_cache _ _ c.self.invariant.sound;
+      sound = c.self.invariant.sound;
       answer = sym (ap (λ x. x.answer) is);
       unit = (rw (← c.self.view_is) at c.give_up.ensures) ∙ ap (made z) (sym (ap (λ x. x.cache) is));
     })

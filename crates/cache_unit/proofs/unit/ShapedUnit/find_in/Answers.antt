@@ -1,12 +1,12 @@
 use Rattle.std.proofs.Common.{◌≡◌, ℕ, if◌then◌else◌, ap, sym, ◌∙◌, is_some, refl}
-use Rattle.cache_unit.specs.declared.Lookup.{Lookup}
-use Rattle.cache_unit.specs.declared.Lookup.TheVariants.{Hit, Join, Miss}
+use Rattle.cache_law.specs.declared.Lookup.{Lookup}
+use Rattle.cache_law.specs.declared.Lookup.TheVariants.{Hit, Join, Miss}
 use Rattle.cache_unit.specs.declared.unit.present.Finding.{Finding}
 use Rattle.cache_unit.specs.declared.unit.present.Finding.TheVariants as finding
-use Rattle.cache_unit.specs.State.{Cache, is_present, frame_of}
-use Rattle.cache_unit.specs.Causes.{Found, Here, Coming, found}
-use Rattle.cache_unit.specs.Lookups.{lookup_in}
-use Rattle.cache_unit.specs.Lookups.{finding_of}
+use Rattle.cache_law.specs.State.{Cache, is_present, frame_of}
+use Rattle.cache_law.specs.Causes.{Found, Here, Coming, found}
+use Rattle.cache_law.specs.Lookups.{lookup_in}
+use Rattle.cache_unit.specs.Findings.{finding_of}
 use Rattle.cache_unit.proofs.unit.ShapedUnit.find_in.Goals as goal
 
 -- what is said of a word of a present block

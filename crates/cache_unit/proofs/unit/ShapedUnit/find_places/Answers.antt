@@ -1,6 +1,8 @@
 use Rattle.std.proofs.Common.{arith, sym, ◌∙◌, mod-lt, Some, None, lt-ltb, le-ltb, refl}
 use Rattle.cache_unit.specs.View.{cache_of}
-use Rattle.cache_unit.proofs.Choosing.{chosen_can, causes_are, find_places}
+use Rattle.cache_unit.proofs.Parts.{directory_whole}
+use Rattle.cache_law.proofs.Choosing.{chosen_can, causes_are}
+use Rattle.cache_unit.proofs.Taking.{find_places}
 use Rattle.cache_unit.proofs.unit.ShapedUnit.find_places.Goals as goal
 
 pub returns-in_default-clause-refused : goal.returns-in_default-clause-refused
@@ -21,9 +23,9 @@ words_owed-requires g c =
     let s = c.self.inside in
     let h = c.self.invariant.sound in
     record {
-      whole = h.directory;
+      whole = directory_whole _ c.self.invariant;
       frame = (chosen_can s.sizes.ways s.sizes.block_words s.directory _ c.in-Some-choose_frame.frame
-          h.directory (mod-lt _ h.directory.some_set) (sym c.in-Some-choose_frame.ensures)).there;
+          h.directory (mod-lt _ (directory_whole _ c.self.invariant).some_set) (sym c.in-Some-choose_frame.ensures)).there;
     }
 
 pub returns-then-room-words_owed-clause-refused : goal.returns-then-room-words_owed-clause-refused

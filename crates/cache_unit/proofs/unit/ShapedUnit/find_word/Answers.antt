@@ -1,12 +1,13 @@
 use Rattle.std.proofs.Common.{is_some, ap, ap₂, sym, ◌∙◌}
 use Rattle.flat_model.specs.Words.{zero_word, merged}
 use Rattle.cache_unit.specs.View.{cache_of}
-use Rattle.cache_unit.proofs.Present.{live_for-some, cell_found, finding-processed, finding-written, finding-stacked, finding-coming}
-use Rattle.cache_unit.proofs.Present.{finding-resident, zero_from}
+use Rattle.cache_law.proofs.Present.{live_for-some}
+use Rattle.cache_unit.proofs.Findings.{cell_found, finding-processed, finding-written, finding-stacked, finding-coming}
+use Rattle.cache_unit.proofs.Findings.{finding-resident, zero_from}
 use Rattle.cache_unit.proofs.Begins.{held-cells}
 use Rattle.cache_unit.specs.declared.unit.present.Finding.TheVariants.{Here, Coming}
 use Rattle.cache_unit.proofs.unit.ShapedUnit.find_word.Goals as goal
-use Rattle.cache_unit.proofs.Lists.{frame_of-some}
+use Rattle.cache_law.proofs.Lists.{frame_of-some}
 
 pub word-buffer-requires : goal.word-buffer-requires
 word-buffer-requires c =

@@ -1,7 +1,9 @@
-use Rattle.std.proofs.Common.{◌+◌, ap, sym, ◌∙◌, ◌++◌}
+use Rattle.std.proofs.Common.{ap, sym, ◌∙◌, ◌++◌}
 use Rattle.write_queue.specs.Queue.{queue as queue_of}
-use Rattle.cache_unit.proofs.Fetching.{made}
-use Rattle.cache_unit.proofs.Choosing.{owes_block, is_released, can_give_up, IsSound-given_up, given_up-shown}
+use Rattle.cache_unit.proofs.Calls.{made}
+use Rattle.cache_unit.proofs.Parts.{directory_whole}
+use Rattle.cache_unit.proofs.Taking.{owes_block, is_released, can_give_up}
+use Rattle.cache_law.proofs.Choosing.{IsSound-given_up, given_up-shown}
 use Rattle.cache_unit.proofs.unit.ShapedUnit.give_up.Goals as goal
 
 pub vacate-requires : goal.vacate-requires
@@ -9,9 +11,9 @@ vacate-requires c =
     let z = c.self.inside.sizes in
     let holds = rw (← c.self.view_is) at c.requires.holds in
     let room = rw (← c.self.view_is) at c.requires.room in
-    let r = can_give_up z _ c.self.invariant.sound _ _ holds room in
+    let r = can_give_up z _ c.self.invariant.sound _ _ holds c.self.invariant.ranges.little_memory room in
     record {
-      whole = c.self.invariant.sound.directory;
+      whole = directory_whole _ c.self.invariant;
       frame = r.0;
       fits = r.1;
       room = rw (
@@ -23,8 +25,7 @@ vacate-requires c =
 
 pub retire-requires : goal.retire-requires
 retire-requires c =
-    let r = c.self.invariant.sound.registers in
-    rw (sym r.registers_there) at r.few_registers
+    rw (sym c.self.invariant.sound.registers.registers_there) at c.self.invariant.ranges.few_regs
 
 pub invariant_of-self : goal.invariant_of-self
 invariant_of-self c =
@@ -35,9 +36,9 @@ invariant_of-self c =
     let queued = c.vacate.ensures.queue ∙ ap (λ ws. queue_of (s.queue.entries ++ ws) s.queue.limit) (owes_block z _ c.self.invariant.sound
     _ _ holds) in
     record {
+      ranges = c.self.invariant.ranges;
       sound = rw (left, c.retire.ensures.retired, queued) (IsSound-given_up z _ c.self.invariant.sound _ _ holds (can_give_up z _
-          c.self.invariant.sound _ _ holds (rw (← c.self.view_is) at c.requires.room)).2 (rw left at c.vacate.ensures.whole) (rw
-          c.retire.ensures.retired at (c.retire.ensures.whole s.sizes.block_words s.sizes.regs c.self.invariant.sound.registers)));
+          c.self.invariant.sound _ _ holds c.self.invariant.ranges.little_memory (rw (← c.self.view_is) at c.requires.room)).2);
       limit = ap (λ q. q.limit) queued ∙ c.self.invariant.limit;
     }
 

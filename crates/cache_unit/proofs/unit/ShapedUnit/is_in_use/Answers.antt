@@ -1,7 +1,7 @@
 use Rattle.std.proofs.Common.{◌||◌, ◌==◌, ap, sym, ◌∙◌}
 use Rattle.std.specs.List.{list_any}
 use Rattle.cache_unit.specs.View.{cache_of}
-use Rattle.cache_unit.proofs.Tags.{in_use-shown}
+use Rattle.cache_law.proofs.Tags.{in_use-shown}
 use Rattle.miss_registers.specs.Registers as regs
 use Rattle.cache_unit.proofs.unit.ShapedUnit.is_in_use.Goals as goal
 

@@ -1,9 +1,9 @@
 use Rattle.std.proofs.Common.{◌≡◌, ◌<◌, ◌==◌, ℕ, length, refl, ap, ap₂, sym, ◌∙◌, subst, Bool, leb-false}
 use Rattle.std.specs.List.{list_any}
-use Rattle.cache_unit.specs.State.{UnitState, Cache, block_of, place_in, tags}
-use Rattle.cache_unit.specs.Requests.{is_full_for, load_answer, load_present}
-use Rattle.cache_unit.proofs.Fetching.{steps, refuses}
-use Rattle.cache_unit.proofs.Requesting.{load_by, load_absent, load_decided}
+use Rattle.cache_law.specs.State.{UnitState, Cache, block_of, place_in, tags}
+use Rattle.cache_law.specs.Requests.{is_full_for, load_answer, load_present}
+use Rattle.cache_unit.proofs.Calls.{steps, refuses}
+use Rattle.cache_law.proofs.Requesting.{load_by, load_absent, load_decided}
 use Rattle.cache_unit.proofs.unit.ShapedUnit.load.Goals as goal
 
 pub returns-then-is_outside : goal.returns-then-is_outside

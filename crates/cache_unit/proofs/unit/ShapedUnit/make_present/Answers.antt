@@ -1,11 +1,12 @@
 use Rattle.std.proofs.Common.{◌&&◌, Some, None, ap, sym, ◌∙◌, subst, is_some, ◌≡◌, Result, Ok, Err, IfErr, IsErrAnd}
 use Rattle.memory_banks.specs.Banks.{HasSent}
-use Rattle.cache_unit.specs.State.{UnitState, is_present, frame_of, tags}
-use Rattle.cache_unit.specs.Causes.{found, targets_full}
-use Rattle.cache_unit.specs.Requests.{absence_cause}
-use Rattle.cache_unit.proofs.Fetching.{sound_of, HasSent-none}
-use Rattle.cache_unit.proofs.Requesting.{fetched_frame, present_cause, absent_cause, present_fetched, present_fetches, tags_kept}
-use Rattle.cache_unit.proofs.Requesting.{targets_kept}
+use Rattle.cache_law.specs.State.{UnitState, is_present, frame_of, tags}
+use Rattle.cache_law.specs.Causes.{found, targets_full}
+use Rattle.cache_law.specs.Requests.{absence_cause}
+use Rattle.cache_unit.proofs.Calls.{sound_of}
+use Rattle.cache_unit.proofs.BlockReads.{HasSent-none}
+use Rattle.cache_law.proofs.Requesting.{fetched_frame, present_cause, absent_cause, present_fetched, present_fetches, tags_kept}
+use Rattle.cache_law.proofs.Requesting.{targets_kept}
 use Rattle.cache_unit.proofs.unit.ShapedUnit.make_present.Goals as goal
 
 pub returns-in-Some-clause-no_cause : goal.returns-in-Some-clause-no_cause
@@ -59,9 +60,10 @@ pub returns-clause-tags_kept : goal.returns-clause-tags_kept
 returns-clause-tags_kept g c =
     let u = c.args.self.now in
     let room = g.L.Lines.room_of _ in
-    ap (λ v. tags v.cache) c.fetch.ensures.unit ∙ tags_kept u.sizes room u.cache _ (sound_of c.self.inside c.self.invariant u
-    c.self.view_is) (absent_cause u.sizes room u.cache _ None (ap (λ v. is_present v.cache c.args.block) (sym c.self.view_is) ∙ ap
-    is_some (sym c.look.ensures.found ∙ c.in_default.is)) c.in_ok-places.ensures.found.no_cause)
+    let holds = sound_of c.self.inside c.self.invariant u c.self.view_is in
+    let here = ap (λ v. is_present v.cache c.args.block) (sym c.self.view_is) ∙ ap is_some (sym c.look.ensures.found ∙ c.in_default.is) in
+    ap (λ v. tags v.cache) c.fetch.ensures.unit ∙ tags_kept u.sizes room u.cache _ holds
+    (absent_cause u.sizes room u.cache _ None here c.in_ok-places.ensures.found.no_cause)
 
 pub returns-clause-targets : goal.returns-clause-targets
 returns-clause-targets g c i =
@@ -69,10 +71,10 @@ returns-clause-targets g c i =
     let room = g.L.Lines.room_of _ in
     let here = ap (λ v. is_present v.cache c.args.block) (sym c.self.view_is) ∙ ap is_some (sym c.look.ensures.found ∙ c.in_default.is) in
     let full = ap (λ b. b && targets_full u.cache i (found u.cache c.args.block i)) here in
-    ap (λ v. targets_full v.cache i (found v.cache c.args.block i)) c.fetch.ensures.unit ∙ targets_kept u.sizes room u.cache _ (sound_of
-    c.self.inside c.self.invariant u c.self.view_is) (absent_cause u.sizes room u.cache _ None here
-    c.in_ok-places.ensures.found.no_cause) i full
-    ∙ sym full
+    let holds = sound_of c.self.inside c.self.invariant u c.self.view_is in
+    let none = absent_cause u.sizes room u.cache _ None here c.in_ok-places.ensures.found.no_cause in
+    ap (λ v. targets_full v.cache i (found v.cache c.args.block i)) c.fetch.ensures.unit
+    ∙ targets_kept u.sizes room u.cache _ holds none i full ∙ sym full
 
 pub returns-in-Some-clause-held : goal.returns-in-Some-clause-held
 returns-in-Some-clause-held g c =
@@ -82,6 +84,6 @@ pub returns-clause-held : goal.returns-clause-held
 returns-clause-held g c =
     let u = c.args.self.now in
     let may = c.in_ok-places.ensures.found in
-    ap (λ v. frame_of v.cache c.args.block) c.fetch.ensures.unit ∙ fetched_frame u.sizes u.cache (sound_of c.self.inside c.self.invariant u
-    c.self.view_is) _ _ _ (ap (λ v. frame_of v.cache c.args.block) (sym c.self.view_is) ∙ (sym c.look.ensures.found ∙ c.in_default.is))
-    may.frame may.slot
+    let holds = sound_of c.self.inside c.self.invariant u c.self.view_is in
+    let absent = ap (λ v. frame_of v.cache c.args.block) (sym c.self.view_is) ∙ (sym c.look.ensures.found ∙ c.in_default.is) in
+    ap (λ v. frame_of v.cache c.args.block) c.fetch.ensures.unit ∙ fetched_frame u.sizes u.cache holds _ _ _ absent may.chosen may.free

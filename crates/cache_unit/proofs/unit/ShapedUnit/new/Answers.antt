@@ -1,5 +1,6 @@
 use Rattle.std.proofs.Common.{◌∙◌, refl, sym, ap}
-use Rattle.cache_unit.proofs.Made.{in_size, IsSound-opening}
+use Rattle.cache_unit.proofs.Numbers.{in_size}
+use Rattle.cache_law.proofs.Opening.{IsSound-opening}
 use Rattle.cache_unit.proofs.unit.ShapedUnit.new.Goals as goal
 
 pub invariant_of-result : goal.invariant_of-result
@@ -9,9 +10,9 @@ invariant_of-result c =
     let made = c.in_ok-directory.ensures.made in
     let file = c.in_ok-registers.ensures.ok in
     record {
-      sound = rw (made, file, c.new-4.ensures, c.in_ok-queue.ensures.ok, c.new-5.ensures) (IsSound-opening z ranges (rw made at
-          (c.in_ok-directory.ensures.whole _ ranges.some_words ranges.few_words)) (rw file at (c.in_ok-registers.ensures.whole _
-          ranges.some_words ranges.few_words ranges.some_regs ranges.few_regs)));
+      ranges = ranges;
+      sound = rw (made, file, c.new-4.ensures, c.in_ok-queue.ensures.ok, c.new-5.ensures) (IsSound-opening z ranges.some_words
+          ranges.whole_blocks ranges.some_sets);
       limit = ap (λ q. q.limit) c.in_ok-queue.ensures.ok;
     }
 

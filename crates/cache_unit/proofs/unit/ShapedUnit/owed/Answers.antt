@@ -1,4 +1,4 @@
-use Rattle.cache_unit.proofs.Tags.{sound_cache, owing-all, length-tags}
+use Rattle.cache_law.proofs.Tags.{owing-all, length-tags}
 use Rattle.std.proofs.Common.{arith}
 use Rattle.cache_unit.specs.View.{cache_of}
 use Rattle.cache_unit.proofs.unit.ShapedUnit.owed.Goals as goal
@@ -25,4 +25,4 @@ returns-clause-few c =
     rw (← c.self.view_is) (omega arith)
 
 pub returns-clause-sound : goal.returns-clause-sound
-returns-clause-sound c = rw (← c.self.view_is) (sound_cache _ _ c.self.invariant.sound)
+returns-clause-sound c = rw (← c.self.view_is) c.self.invariant.sound

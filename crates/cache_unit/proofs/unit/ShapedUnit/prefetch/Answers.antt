@@ -1,6 +1,6 @@
 use Rattle.std.proofs.Common.{refl, sym, ◌∙◌}
-use Rattle.cache_unit.proofs.Fetching.{steps, refuses}
-use Rattle.cache_unit.proofs.Requesting.{prefetch_by}
+use Rattle.cache_unit.proofs.Calls.{steps, refuses}
+use Rattle.cache_law.proofs.Requesting.{prefetch_by}
 use Rattle.cache_unit.proofs.unit.ShapedUnit.prefetch.Goals as goal
 
 pub returns-then-is_outside : goal.returns-then-is_outside

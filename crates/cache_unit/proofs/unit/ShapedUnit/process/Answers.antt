@@ -1,10 +1,7 @@
-use Rattle.cache_unit.proofs.Tags.{sound_cache}
-use Rattle.std.proofs.Common.{rules, sym, ◌∙◌, refl, subst}
-use Rattle.cache_unit.specs.Steps.{process_step}
-use Rattle.cache_unit.proofs.Keeps.{Taken-from, can_finish, can_fill, can_answer, IsSound-processed, shown_after, processes}
-use Rattle.cache_unit.proofs.Fetching.{makes}
-use Rattle.cache_directory.specs.Frames as dir
-use Rattle.miss_registers.specs.Registers as regs
+use Rattle.std.proofs.Common.{rules, sym, ◌∙◌}
+use Rattle.cache_law.specs.Steps.{process_step}
+use Rattle.cache_law.proofs.Keeps.{Taken-from, can_finish, can_fill, can_answer, IsSound-processed, shown_after, processes}
+use Rattle.cache_unit.proofs.Calls.{makes}
 use Rattle.cache_unit.proofs.unit.ShapedUnit.process.Goals as goal
 
 pub finish_word-end-requires : goal.finish_word-end-requires
@@ -25,7 +22,7 @@ pub answer_all-requires : goal.answer_all-requires
 answer_all-requires c =
     let s = c.self.inside in
     rw c.finish_word-end.ensures.send (can_answer s.sizes _ c.self.invariant.sound _ c.in-Some.e (Taken-from s.stack _ c.in-Some.e (sym
-    c.remove.ensures.value ∙ c.in-Some.is)))
+    c.remove.ensures.value ∙ c.in-Some.is)) c.self.invariant.ranges.few_replies)
 
 pub invariant_of-self-2 : goal.invariant_of-self-2
 invariant_of-self-2 c =
@@ -33,11 +30,9 @@ invariant_of-self-2 c =
     let e = c.in-Some.e in
     let f = c.finish_word-end.ensures in
     record {
+      ranges = c.self.invariant.ranges;
       sound = rw (c.fill_live.ensures.filled, f.registers, c.in-Some.ensures.taken, f.live, f.keep, f.last, c.answer_all.ensures, f.send)
-          (IsSound-processed s.sizes _ c.self.invariant.sound _ e (Taken-from s.stack _ e (sym c.remove.ensures.value ∙ c.in-Some.is)) _
-          (subst (λ x. dir.IsWhole s.sizes.ways s.sizes.block_words x) (c.fill_live.ensures.filled ∙ rw (f.live, f.keep, f.last) refl)
-          (c.fill_live.ensures.whole s.sizes.ways s.sizes.block_words c.self.invariant.sound.directory))
-          (rw f.registers at (f.whole s.sizes.block_words s.sizes.regs c.self.invariant.sound.registers)));
+          (IsSound-processed s.sizes _ c.self.invariant.sound _ e (Taken-from s.stack _ e (sym c.remove.ensures.value ∙ c.in-Some.is)) _);
       limit = c.self.invariant.limit;
     }
 
@@ -63,7 +58,7 @@ returns c =
 pub returns-in_default : goal.returns-in_default
 unfolding process_step
 returns-in_default c = record {
-  sound = rw (← c.self.view_is) (sound_cache _ _ c.self.invariant.sound);
+  sound = rw (← c.self.view_is) c.self.invariant.sound;
   answer = search rules;
   unit = search rules;
 }

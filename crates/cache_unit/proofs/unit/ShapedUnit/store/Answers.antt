@@ -1,9 +1,9 @@
 use Rattle.std.proofs.Common.{◌≡◌, refl, sym, ◌∙◌, subst, ap, not}
 use Rattle.memory_banks.specs.Banks.{HasSent}
-use Rattle.cache_unit.specs.State.{block_of, place_in}
-use Rattle.cache_unit.specs.Steps.{fetches, written}
-use Rattle.cache_unit.proofs.Fetching.{steps, refuses}
-use Rattle.cache_unit.proofs.Requesting.{store_by}
+use Rattle.cache_law.specs.State.{block_of, place_in}
+use Rattle.cache_law.specs.Steps.{fetches, written}
+use Rattle.cache_unit.proofs.Calls.{steps, refuses}
+use Rattle.cache_law.proofs.Requesting.{store_by}
 use Rattle.cache_unit.proofs.unit.ShapedUnit.store.Goals as goal
 
 pub returns-then-is_outside : goal.returns-then-is_outside

@@ -1,11 +1,11 @@
-use Rattle.std.proofs.Common.{Some, is_some, ap, ◌∙◌, sym}
+use Rattle.std.proofs.Common.{is_some, ap, sym}
 use Rattle.cache_unit.specs.View.{cache_of}
-use Rattle.cache_unit.specs.Steps.{written_for, noted_for}
+use Rattle.cache_law.specs.Steps.{written_for, noted_for}
 use Rattle.cache_unit.proofs.Begins.{held-cells}
-use Rattle.cache_unit.proofs.Fetching.{made}
-use Rattle.cache_unit.proofs.Present.{IsSound-stored}
+use Rattle.cache_unit.proofs.Calls.{made}
+use Rattle.cache_law.proofs.Present.{IsSound-stored}
 use Rattle.cache_unit.proofs.unit.ShapedUnit.store_present.Goals as goal
-use Rattle.cache_unit.proofs.Lists.{frame_of-some}
+use Rattle.cache_law.proofs.Lists.{frame_of-some}
 
 pub write-requires : goal.write-requires
 write-requires c =
@@ -17,9 +17,10 @@ pub invariant_of-self : goal.invariant_of-self
 invariant_of-self c =
     let s = c.self.inside in
     record {
-      sound = rw (c.write.ensures.written, c.note_code.ensures.noted) (IsSound-stored s.sizes _ _ _ _ _ (Some _) (rw (sym c.self.view_is)
-          at c.requires.word) (rw c.write.ensures.written at (c.write.ensures.whole s.sizes.ways s.sizes.block_words
-          c.self.invariant.sound.directory)) (rw c.note_code.ensures.noted at c.note_code.ensures.whole) c.self.invariant.sound);
+      ranges = c.self.invariant.ranges;
+      sound = rw (c.write.ensures.written, c.note_code.ensures.noted) (rw (rw (← c.self.view_is) at c.requires.held) at (IsSound-stored
+          s.sizes (cache_of s) c.args.block c.args.i c.args.word c.args.lanes (rw (sym c.self.view_is) at c.requires.word)
+          c.self.invariant.sound));
       limit = c.self.invariant.limit;
     }
 

@@ -1,6 +1,7 @@
 use Rattle.std.proofs.Common.{◌<◌, length, sym, arith}
 use Rattle.std.proofs.lemmas.Bool.{and_parts}
-use Rattle.cache_unit.proofs.Present.{live_for-some, missing_parts}
+use Rattle.cache_law.proofs.Present.{live_for-some}
+use Rattle.cache_unit.proofs.Findings.{missing_parts}
 use Rattle.miss_registers.specs.Registers as regs
 use Rattle.cache_unit.proofs.unit.present.note_code.Goals as goal
 
@@ -12,7 +13,7 @@ pub note_store-requires : goal.note_store-requires
 note_store-requires c =
     let rs = c.args.registers.now in
     let p = live_for-some rs _ c.in-Some.slot (sym c.in-Some.ensures.answer) in
-    let n = (c.requires.whole.each c.in-Some.slot).fields_there (and_parts _ _ p.1).0 in
+    let n = (c.requires.whole.sound.each c.in-Some.slot).fields_there (and_parts _ _ p.1).0 in
     let there : c.args.i < length (regs.register_at rs c.in-Some.slot).fields = omega (arith, c.requires.there) in
     record {
       slot = p.0;

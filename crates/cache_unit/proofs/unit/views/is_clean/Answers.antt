@@ -1,5 +1,5 @@
 use Rattle.cache_directory.specs.Frames.{frame_at}
-use Rattle.cache_unit.proofs.Choosing.{none_dirty}
+use Rattle.cache_unit.proofs.Views.{none_dirty}
 use Rattle.cache_unit.proofs.unit.views.is_clean.Goals as goal
 
 pub returns-in-Some : goal.returns-in-Some

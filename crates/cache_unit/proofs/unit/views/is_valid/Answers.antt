@@ -1,5 +1,5 @@
 use Rattle.std.proofs.Common.{ap, sym}
-use Rattle.cache_unit.proofs.Choosing.{not_shown}
+use Rattle.cache_unit.proofs.Views.{not_shown}
 use Rattle.cache_unit.proofs.unit.views.is_valid.Goals as goal
 
 pub returns-in-None : goal.returns-in-None

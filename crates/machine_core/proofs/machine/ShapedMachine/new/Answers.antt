@@ -1,6 +1,6 @@
 use Rattle.std.proofs.Common.{sym, ◌∙◌, ap, rules}
 use Rattle.memory_banks.specs.Memory.{fault_of}
-use Rattle.cache_unit.proofs.Made.{in_size}
+use Rattle.cache_unit.proofs.Numbers.{in_size}
 use Rattle.machine_core.proofs.Whole.{fits_image, whole_opening, flat_new, is_kept, some_queue}
 use Rattle.machine_core.proofs.machine.ShapedMachine.new.Goals as goal
 

@@ -2,7 +2,7 @@ use Rattle.std.proofs.Common.{arith}
 use Rattle.miss_registers.specs.declared.Owed.{Owed}
 use Rattle.miss_registers.specs.Registers.{free_register, register_at, awaited}
 use Rattle.miss_registers.proofs.Tags.{set_is, expects-parts, awaited-count}
-use Rattle.miss_registers.proofs.Whole.{awaited-kept}
+use Rattle.miss_registers.proofs.Whole.{awaited-kept, still_whole}
 use Rattle.miss_registers.proofs.table.RegisterTable.await_word.Goals as goal
 
 pub overflow_add-self : goal.overflow_add-self
@@ -29,4 +29,5 @@ returns-clause-whole c =
     let q = c.requires in
     let owed : Owed = record { tag = a.tag; held = a.held; lanes = a.lanes } in
     rw (set_is (λ r. awaited r a.i owed) _ _ _ _ _ free_register c.self.view_is q.slot c.index_mut-register.ensures.value
-    c.await_word.ensures) (λ words regs h. awaited-kept words regs _ a.slot a.i _ h q.slot q.live q.expected q.room q.new_tag)
+    c.await_word.ensures) (λ words regs h. still_whole words regs _ _ h
+    (λ s. awaited-kept words regs _ a.slot a.i _ s q.slot q.live q.expected q.room q.new_tag))

@@ -1,7 +1,7 @@
 use Rattle.std.proofs.Common.{◌≡◌, ◌∙◌, length, ap, refl, arith}
 use Rattle.miss_registers.specs.Registers.{free_register, field_at, finished}
 use Rattle.miss_registers.proofs.Tags.{element_is, set_is, in_stack_there, finished-count}
-use Rattle.miss_registers.proofs.Whole.{finished-kept}
+use Rattle.miss_registers.proofs.Whole.{finished-kept, still_whole}
 use Rattle.miss_registers.proofs.table.RegisterTable.finish_word.Goals as goal
 
 pub finish_word-end-requires : goal.finish_word-end-requires
@@ -41,4 +41,5 @@ pub returns-clause-whole : goal.returns-clause-whole
 returns-clause-whole c =
     let q = c.requires in
     rw (set_is (λ r. finished r c.args.i) _ _ _ _ _ free_register c.self.view_is q.slot c.index_mut-register.ensures.value
-    c.finish_word-end.ensures.register) (λ words regs h. finished-kept words regs _ _ _ h q.slot q.in_stack)
+    c.finish_word-end.ensures.register) (λ words regs h. still_whole words regs _ _ h
+    (λ s. finished-kept words regs _ _ _ s q.slot q.in_stack))

@@ -1,7 +1,7 @@
 use Rattle.std.proofs.Common.{◌∙◌}
 use Rattle.miss_registers.specs.Registers.{free_register, register_at, marked}
 use Rattle.miss_registers.proofs.Tags.{set_is, expects-parts, marked-count}
-use Rattle.miss_registers.proofs.Whole.{marked-kept}
+use Rattle.miss_registers.proofs.Whole.{marked-kept, still_whole}
 use Rattle.miss_registers.proofs.table.RegisterTable.mark_in_stack.Goals as goal
 
 pub invariant_of-self : goal.invariant_of-self
@@ -17,4 +17,4 @@ pub returns-clause-whole : goal.returns-clause-whole
 returns-clause-whole c =
     let q = c.requires in
     rw (set_is (λ r. marked r c.args.i) _ _ _ _ _ free_register c.self.view_is q.slot c.index_mut-register.ensures.value
-    c.mark_in_stack.ensures) (λ words regs h. marked-kept words regs _ _ _ h q.slot q.expected)
+    c.mark_in_stack.ensures) (λ words regs h. still_whole words regs _ _ h (λ s. marked-kept words regs _ _ _ s q.slot q.expected))

@@ -3,8 +3,8 @@ use Rattle.std.proofs.Math.Bool.{and-false}
 use Rattle.std.proofs.Math.Logic.{∥∥₁_map}
 use Rattle.std.proofs.lemmas.Bool.{ltb-true}
 use Rattle.flat_model.specs.declared.Answer.TheVariants.{Moved}
-use Rattle.cache_unit.specs.State.{UnitState}
-use Rattle.cache_unit.proofs.Requesting.{each_step}
+use Rattle.cache_law.specs.State.{UnitState}
+use Rattle.cache_law.proofs.Requesting.{each_step}
 use Rattle.station_journal.specs.declared.journal.Source.TheVariants as sources
 use Rattle.station_journal.proofs.Bringing.{none_popped, side_stray, side_word, counts}
 use Rattle.station_journal.proofs.Sourcing.{word_is_of}

@@ -1,8 +1,8 @@
 use Rattle.std.proofs.Common.{append-nil, ◌∙◌, refl, ap, arith}
 use Rattle.std.proofs.Math.Logic.{∥∥₁_map}
 use Rattle.flat_model.specs.declared.Event.TheVariants as events
-use Rattle.cache_unit.specs.declared.Sizes.{Sizes}
-use Rattle.cache_unit.proofs.Requesting.{each_step}
+use Rattle.cache_law.specs.declared.Sizes.{Sizes}
+use Rattle.cache_law.proofs.Requesting.{each_step}
 use Rattle.station_journal.specs.declared.journal.Source.TheVariants as sources
 use Rattle.station_journal.proofs.Sides.{side_drain, side_looked}
 use Rattle.station_parts.specs.Rows.{free_at}

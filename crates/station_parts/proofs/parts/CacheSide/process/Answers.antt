@@ -1,7 +1,7 @@
 use Rattle.std.proofs.Common.{refl, arith, append-nil, eq-eqb}
 use Rattle.std.proofs.lemmas.Bool.{lt-ltb, le-ltb}
 use Rattle.std.proofs.Math.Logic.{∥∥₁_map}
-use Rattle.cache_unit.proofs.Requesting.{each_step}
+use Rattle.cache_law.proofs.Requesting.{each_step}
 use Rattle.machine_core.proofs.Whole.{process_silent}
 use Rattle.station_journal.proofs.Sides.{side_process}
 use Rattle.station_parts.specs.SideState.{state_of}

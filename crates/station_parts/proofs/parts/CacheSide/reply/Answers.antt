@@ -1,7 +1,7 @@
 use Rattle.std.proofs.Common.{◌∙◌, Some, refl, sym, ap, arith, append-nil}
 use Rattle.std.proofs.Math.Logic.{∥∥₁_map}
-use Rattle.cache_unit.specs.Steps.{take_step}
-use Rattle.cache_unit.proofs.Requesting.{each_step}
+use Rattle.cache_law.specs.Steps.{take_step}
+use Rattle.cache_law.proofs.Requesting.{each_step}
 use Rattle.machine_core.proofs.Whole.{take_silent}
 use Rattle.station_journal.specs.declared.journal.Source.TheVariants as sources
 use Rattle.station_parts.specs.Rows.{room_at}

@@ -1,0 +1,14 @@
+pub mod State
+pub mod Causes
+pub mod Steps
+pub mod Forms
+pub mod Views
+pub mod Shown
+pub mod Sound
+pub mod FormLaws
+pub mod Begun
+pub mod Miss
+pub mod Requests
+pub mod Counts
+pub mod Lookups
+pub mod UnitForms

@@ -1,5 +1,0 @@
-use Rattle.cache_unit.proofs.Requesting.{each_step}
-use Rattle.cache_unit.proofs.laws.each_step_makes_forms.Goals as goal
-
-pub returns : goal.returns
-returns c = each_step

@@ -1,0 +1,14 @@
+use Rattle.std.proofs.Common.{refl}
+use Rattle.miss_registers.proofs.Fields.{word-is}
+use Rattle.miss_registers.proofs.slot.Slot.missing_code.Goals as goal
+
+pub returns : goal.returns
+returns c =
+    let s = c.self.inside in
+    rw (
+      c.missing_code.ensures,
+      c.marks_at-word.ensures,
+      c.as_slice.ensures.value,
+      ← c.self.view_is,
+      word-is s.marks.items s.targets c.args.i c.self.invariant,
+    ) refl
