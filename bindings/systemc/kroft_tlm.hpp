@@ -14,7 +14,10 @@
 //
 //     kroft::Watch watch(kroft::History(kroft::Law::Atomic), {0x8000'0000, 0x8fff'ffff});
 //
-// What isn't explained is an error of the report handler under the id "kroft".
+// What isn't explained is an error of the report handler under the id "kroft". Its first one ends the run, since SystemC
+// throws it out of the transport call, unless the bench says what else is to be done:
+//
+//     sc_core::sc_report_handler::set_actions("kroft", sc_core::SC_ERROR, sc_core::SC_DISPLAY | sc_core::SC_LOG);
 #pragma once
 
 #include "kroft.hpp"
@@ -174,7 +177,7 @@ private:
             for (unsigned byte = 0; may && byte < 256; byte++)
                 if (may->test(byte)) bytes[i] = static_cast<uint8_t>(byte);
         }
-        if (answers) history.load_response(id, bytes.data(), access.size);
+        if (answers) (void)history.load_response(id, bytes.data(), access.size);
         ended(id);
     }
 
@@ -264,8 +267,9 @@ private:
 ///
 /// A transaction may have any length, byte enables and streaming width. A read that fails is owed nothing; a
 /// write that fails inside of the memory's range is an error, and so is an answer without a request, and a
-/// success outside of the range. Where the atomic law has no verdict, a unit is forgotten, which is a warning. There is no direct memory access through it, so that nothing passes it by. A
-/// debug write counts as a store; a debug read isn't judged, for it may look below the caches.
+/// success outside of the range. Where the atomic law has no verdict, a unit is forgotten, which is a warning. There is no
+/// direct memory access through it, so that nothing passes it by. A debug write counts as a store, and one outside of the
+/// range is an error; a debug read isn't judged, for it may look below the caches.
 template <unsigned BUSWIDTH = 32> class Monitor : public sc_core::sc_module {
 public:
     tlm_utils::simple_target_socket<Monitor, BUSWIDTH> in{"in"};
@@ -327,6 +331,10 @@ private:
         unsigned bytes = out->transport_dbg(payload);
         for (unsigned i = 0; payload.is_write() && i < bytes; i += MAX_SIZE) {
             unsigned size = std::min(MAX_SIZE, bytes - i);
+            if (!watch.range.has(address + i, size)) {
+                fail("a debug write outside of memory", address + i);
+                continue;
+            }
             uint64_t id = watch.next_id++;
             auto fault = watch.judge->store(id, address + i, size, payload.get_data_ptr() + i, ALL_BYTES);
             tell(fault);

@@ -26,10 +26,17 @@ typedef struct {
     int begin;     /* the access's byte in lane 0: below 0 if the access begins in a later lane */
 } part;
 
+/* An access that waits for its answer. */
+typedef struct held {
+    access asked;
+    struct held *older, *newer; /* in the order of the requests */
+} held;
+
 typedef struct {
     char text[TEXT_BYTES]; /* as a history's, it stands first */
     uint64_t first, last;
     map pages, loads, stores;
+    held *oldest, *newest;
     kroft_due **tables; /* what the tags are owed: the low 16 bits of a tag are the library's, the others the table */
     uint32_t table_count, new_tag;
     uint32_t *free_tags;
@@ -90,10 +97,28 @@ static int parts_of(judge_state *j, const access *a, part *parts) {
 
 /* ---- requests ------------------------------------------------------------------------------------ */
 
-static void wait_for_answer(map *waiting, const access *a) {
-    access *kept = (access *)must(malloc(sizeof *kept));
-    *kept = *a;
+static void wait_for_answer(judge_state *j, map *waiting, const access *a) {
+    held *kept = (held *)must(malloc(sizeof *kept));
+    kept->asked = *a;
+    kept->older = j->newest;
+    kept->newer = NULL;
+    if (j->newest) j->newest->newer = kept;
+    else j->oldest = kept;
+    j->newest = kept;
     map_put(waiting, a->id, kept);
+}
+
+/* Takes the access that waits under an id out of those that do; 0 if there is none. */
+static int take_access(judge_state *j, map *waiting, uint64_t id, access *a) {
+    held *taken = (held *)map_take(waiting, id);
+    if (!taken) return 0;
+    if (taken->older) taken->older->newer = taken->newer;
+    else j->oldest = taken->newer;
+    if (taken->newer) taken->newer->older = taken->older;
+    else j->newest = taken->older;
+    *a = taken->asked;
+    free(taken);
+    return 1;
 }
 
 int kroft_sv_load(void *judge, unsigned long long id, unsigned long long address, int size, unsigned long long enables) {
@@ -115,7 +140,7 @@ int kroft_sv_load(void *judge, unsigned long long id, unsigned long long address
         answer.kind = KROFT_ACCEPTED;
         if (!step(j, parts[i].in, a.tags[i], &event, &answer)) reason = KROFT_SV_BROKEN_LIBRARY;
     }
-    wait_for_answer(&j->loads, &a);
+    wait_for_answer(j, &j->loads, &a);
     return say(j->text, &a, reason);
 }
 
@@ -144,7 +169,7 @@ static int store(judge_state *j, const access *a, const kroft_four_states *data,
     int reason = fault_of(a, j->first, j->last, waiting);
     if (reason != KROFT_SV_RIGHT) return say(j->text, a, reason);
     reason = write_bytes(j, a, data);
-    if (waiting) wait_for_answer(waiting, a);
+    if (waiting) wait_for_answer(j, waiting, a);
     if (reason == KROFT_SV_RIGHT && has_unknown(data, a)) reason = KROFT_SV_UNKNOWN_DATA;
     return say(j->text, a, reason);
 }
@@ -193,33 +218,30 @@ static int take_word(judge_state *j, uint32_t tag, const part *p, const kroft_fo
 
 /* Ends a load, with data or without. */
 static int end_load(judge_state *j, uint64_t id, const kroft_four_states *data) {
-    access *a = (access *)map_take(&j->loads, id);
+    access a;
     part parts[MAX_WORDS];
     uint8_t owed[MAX_SIZE], got[MAX_SIZE];
     int reason = KROFT_SV_RIGHT, count, i, unknown;
-    if (!a) return say_stray(j->text, 0, id);
-    count = parts_of(j, a, parts);
-    unknown = data && has_unknown(data, a);
+    if (!take_access(j, &j->loads, id, &a)) return say_stray(j->text, 0, id);
+    count = parts_of(j, &a, parts);
+    unknown = data && has_unknown(data, &a);
     for (i = 0; i < count; i++) {
-        int now = take_word(j, a->tags[i], &parts[i], unknown ? NULL : data, owed, got);
+        int now = take_word(j, a.tags[i], &parts[i], unknown ? NULL : data, owed, got);
         if (now > reason) reason = now;
     }
     if (unknown && reason == KROFT_SV_RIGHT) reason = KROFT_SV_UNKNOWN_DATA;
-    say(j->text, a, reason);
+    say(j->text, &a, reason);
     if (reason == KROFT_SV_WRONG_DATA) {
-        say_bytes(j->text, a, ": owed ", owed);
-        say_bytes(j->text, a, ", got ", got);
+        say_bytes(j->text, &a, ": owed ", owed);
+        say_bytes(j->text, &a, ", got ", got);
     }
-    free(a);
     return reason;
 }
 
 static int end_store(judge_state *j, uint64_t id, int reason) {
-    access *a = (access *)map_take(&j->stores, id);
-    if (!a) return say_stray(j->text, 1, id);
-    say(j->text, a, reason);
-    free(a);
-    return reason;
+    access a;
+    if (!take_access(j, &j->stores, id, &a)) return say_stray(j->text, 1, id);
+    return say(j->text, &a, reason);
 }
 
 int kroft_sv_value(void *judge, unsigned long long id, const kroft_four_states *data) {
@@ -260,6 +282,16 @@ void kroft_sv_close(void *judge) {
 int kroft_sv_unanswered(void *judge) {
     const judge_state *j = (const judge_state *)judge;
     return (int)(j->loads.count + j->stores.count);
+}
+
+int kroft_sv_unanswered_access(void *judge, int n, int *is_store, unsigned long long *id, unsigned long long *address, int *size) {
+    const held *at = n < 0 ? NULL : ((const judge_state *)judge)->oldest;
+    for (; at && n > 0; n--) at = at->newer;
+    *is_store = at ? at->asked.is_store : 0;
+    *id = at ? at->asked.id : 0;
+    *address = at ? at->asked.address : 0;
+    *size = at ? at->asked.size : 0;
+    return at != NULL;
 }
 
 const char *kroft_sv_text(void *judge) { return (const char *)judge; }

@@ -52,8 +52,10 @@ int kroft_sv_stored(void *judge, unsigned long long id);
 int kroft_sv_failed_load(void *judge, unsigned long long id);
 int kroft_sv_failed_store(void *judge, unsigned long long id);
 
-/* How many accesses wait for their answers. */
+/* How many accesses wait for their answers, and the one at a place in the order of their requests: 0 is the first. Returns 1; or
+   0, and all are 0: there are no more. */
 int kroft_sv_unanswered(void *judge);
+int kroft_sv_unanswered_access(void *judge, int n, int *is_store, unsigned long long *id, unsigned long long *address, int *size);
 
 /* What the last request or answer of a judge, or of a history, that wasn't right is said to be, as one line. It stands until
    the next such. */
@@ -66,7 +68,7 @@ void *kroft_sv_history_open(unsigned law, unsigned unit, unsigned rest);
 void kroft_sv_history_close(void *history);
 
 /* Puts at most 64 bytes behind the image that memory has from address 0 on. Returns 1; or 0, and nothing is put there:
-   there are more, or a request was told, or by the atomic law a unit was forgotten. */
+   there are more, or X or Z in one of them, or a request was told, or by the atomic law a unit was forgotten. */
 int kroft_sv_image(void *history, const kroft_four_states *data, int size);
 
 /* A load, or a store of the bytes that are enabled, is requested. `now` is the moment, as the caller counts it: it is

@@ -75,7 +75,8 @@ static void spread_out(const kroft_four_states *data, int size, uint8_t *bytes) 
 
 int kroft_sv_image(void *history, const kroft_four_states *data, int size) {
     history_state *h = (history_state *)history;
-    if (h->history.open || size < 0 || size > MAX_SIZE) return 0;
+    access all = request(1, 0, 0, size, ~UINT64_C(0));
+    if (h->history.open || size < 0 || size > MAX_SIZE || has_unknown(data, &all)) return 0;
     if (h->image_bytes + MAX_SIZE > h->image_places) {
         h->image_places = 2 * h->image_places + MAX_SIZE;
         h->image = (uint8_t *)must(realloc(h->image, h->image_places));

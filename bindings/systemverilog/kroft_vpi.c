@@ -7,8 +7,8 @@
  * iverilog-vpi, and vvp then loads no such module.)
  *
  * A judge or a history is a number that isn't 0. kroft_pkg.sv gives the system functions the names of the imported ones;
- * those that have outputs ($kroft_traffic, $kroft_may_return, $kroft_why, $kroft_undecided and $kroft_open_operation,
- * and $kroft_seen for its 64 bits) are called as they are.
+ * those that have outputs ($kroft_traffic, $kroft_unanswered_access, $kroft_may_return, $kroft_why, $kroft_undecided and
+ * $kroft_open_operation, and $kroft_seen for its 64 bits) are called as they are.
  */
 #include "kroft_dpi.h"
 
@@ -212,6 +212,20 @@ static PLI_INT32 unanswered(PLI_BYTE8 *unused) {
     return give(&a, judge ? kroft_sv_unanswered(judge) : 0);
 }
 
+static PLI_INT32 unanswered_access(PLI_BYTE8 *unused) {
+    arguments a = begin();
+    void *judge = next_judge(&a);
+    int n = (int)next_number(&a), is_store = 0, size = 0, is_found;
+    unsigned long long id = 0, address = 0;
+    (void)unused;
+    is_found = judge ? kroft_sv_unanswered_access(judge, n, &is_store, &id, &address, &size) : 0;
+    put_number(&a, (unsigned long long)is_store);
+    put_number(&a, id);
+    put_number(&a, address);
+    put_number(&a, (unsigned long long)size);
+    return give(&a, is_found);
+}
+
 static PLI_INT32 print(PLI_BYTE8 *unused) {
     arguments a = begin();
     unsigned long long number = next_number(&a);
@@ -400,6 +414,7 @@ static void add_all(void) {
     add(vpiSysFunc, "$kroft_failed_load", failed_load, NULL);
     add(vpiSysFunc, "$kroft_failed_store", failed_store, NULL);
     add(vpiSysFunc, "$kroft_unanswered", unanswered, NULL);
+    add(vpiSysFunc, "$kroft_unanswered_access", unanswered_access, NULL);
     add(vpiSysTask, "$kroft_print", print, NULL);
     add(vpiSysFunc, "$kroft_history_open", open_history, NULL);
     add(vpiSysTask, "$kroft_history_close", close_judge, NULL);

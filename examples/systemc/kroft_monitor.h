@@ -1,9 +1,10 @@
 // A TLM-2.0 pass-through that judges each word that goes by, loosely timed (b_transport).
 //
 // Bind `in` to an initiator and `out` to the memory side. Addresses are bytes, from `base` on; a
-// transaction may have any length and byte enables. A read of n bytes is a load of each of its words,
+// transaction may have any length, byte enables and streaming width. A read of n bytes is a load of each of its words,
 // accepted as the transaction passes on, and a take of each value as it comes back; a write is a store of
-// each of its words in the lanes that it enables. What flat memory can't explain is an error of the report
+// each of its words in the lanes that it enables. With a streaming width each pass over the same addresses is
+// loads or stores of its own. What flat memory can't explain is an error of the report
 // handler under the id "kroft", with the word, what it was owed, what came, and when. It offers no direct
 // memory access and no debug transport, so that nothing passes it by.
 #pragma once
@@ -45,33 +46,49 @@ private:
     std::vector<kroft_due> due;
     uint16_t next_tag = 0;
 
-    // The bytes of one transaction, as words and lanes.
+    // The bytes of one pass of a transaction over its addresses, as words and lanes.
     struct Span {
         const tlm::tlm_generic_payload &payload;
-        uint64_t begin; // the first byte, from the base on
+        uint64_t begin;  // the first byte, from the base on
+        unsigned offset; // the same byte in the data
+        unsigned length;
         uint64_t first() const { return begin / WORD; }
-        uint64_t last() const { return (begin + payload.get_data_length() - 1) / WORD; }
+        uint64_t last() const { return (begin + length - 1) / WORD; }
 
         // Which byte of the data is byte `lane` of a word: none outside the transaction, and where it isn't enabled.
         bool has(uint64_t word, unsigned lane, uint64_t &byte) const {
             uint64_t at = word * WORD + lane;
-            byte = at - begin;
-            if (at < begin || byte >= payload.get_data_length()) return false;
+            byte = offset + (at - begin);
+            if (at < begin || at - begin >= length) return false;
             const uint8_t *enable = payload.get_byte_enable_ptr();
             return !enable || enable[byte % payload.get_byte_enable_length()] == TLM_BYTE_ENABLED;
         }
     };
 
     void pass(tlm::tlm_generic_payload &payload, sc_core::sc_time &delay) {
-        Span span{payload, payload.get_address() - base};
-        bool any = payload.get_data_length() > 0 && (payload.is_read() || payload.is_write());
-        bool inside = any && payload.get_address() >= base && span.last() < words.size();
-        uint16_t first_tag = next_tag;
-        if (inside && payload.is_read()) loads(span);
+        std::vector<Span> spans = spans_of(payload);
+        bool any = !spans.empty() && (payload.is_read() || payload.is_write());
+        bool inside = any && payload.get_address() >= base && spans[0].last() < words.size();
+        uint16_t tag = next_tag;
+        for (const Span &span : spans)
+            if (inside && payload.is_read()) loads(span);
         out->b_transport(payload, delay);
-        if (inside && payload.is_read()) values(span, first_tag, payload.is_response_ok());
-        if (inside && payload.is_write() && payload.is_response_ok()) stores(span);
+        bool ok = payload.is_response_ok();
+        for (const Span &span : spans) {
+            if (inside && payload.is_read()) values(span, tag, ok);
+            if (inside && payload.is_write() && ok) stores(span);
+        }
         if (any && !inside && payload.is_response_ok()) fail("an answer from outside memory");
+    }
+
+    // The first pass is the widest.
+    std::vector<Span> spans_of(const tlm::tlm_generic_payload &payload) const {
+        std::vector<Span> spans;
+        unsigned length = payload.get_data_length(), width = payload.get_streaming_width();
+        if (width == 0 || width > length) width = length;
+        for (unsigned offset = 0; offset < length; offset += width)
+            spans.push_back({payload, payload.get_address() - base, offset, width < length - offset ? width : length - offset});
+        return spans;
     }
 
     void loads(const Span &span) {
@@ -85,7 +102,7 @@ private:
     }
 
     // Bytes that the read leaves out are as owed; so is all of a read that failed.
-    void values(const Span &span, uint16_t tag, bool ok) {
+    void values(const Span &span, uint16_t &tag, bool ok) {
         for (uint64_t word = span.first(); word <= span.last(); word++, tag++) {
             kroft_event event{};
             event.kind = KROFT_TAKE;

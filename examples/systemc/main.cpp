@@ -28,10 +28,11 @@ struct memory : sc_core::sc_module {
             return;
         }
         bool keeps = p.is_write() && ++writes != lost;
+        unsigned width = p.get_streaming_width();
         for (unsigned i = 0; i < p.get_data_length(); i++) {
             if (enable && enable[i % p.get_byte_enable_length()] != TLM_BYTE_ENABLED) continue;
-            if (p.is_read()) p.get_data_ptr()[i] = bytes[at + i];
-            else if (keeps) bytes[at + i] = p.get_data_ptr()[i];
+            if (p.is_read()) p.get_data_ptr()[i] = bytes[at + i % width];
+            else if (keeps) bytes[at + i % width] = p.get_data_ptr()[i];
         }
         delay += sc_core::sc_time(10, sc_core::SC_NS);
         p.set_response_status(tlm::TLM_OK_RESPONSE);
@@ -64,7 +65,7 @@ struct processor : sc_core::sc_module {
             p.set_command(random_bits() % 2 ? tlm::TLM_READ_COMMAND : tlm::TLM_WRITE_COMMAND);
             p.set_data_ptr(data);
             p.set_data_length(1 + random_bits() % sizeof data);
-            p.set_streaming_width(p.get_data_length());
+            p.set_streaming_width(random_bits() % 4 ? p.get_data_length() : 1 + random_bits() % p.get_data_length());
             p.set_address(BASE + random_bits() % (BYTES - sizeof data));
             if (random_bits() % 2) {
                 p.set_byte_enable_ptr(enable);

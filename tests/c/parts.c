@@ -107,6 +107,38 @@ static void in_their_order(void) {
     CHECK(kroft_free(&handle) == KROFT_DONE);
 }
 
+/* Of a store's lanes bits 4 to 7 are dropped: no view shows them, whatever the byte. Word 5 is the second word of block 1, and
+   lies in bank 1, behind the read of its block there. */
+static void four_lanes(void) {
+    unsigned lanes;
+    for (lanes = 0; lanes < 256; lanes++) {
+        const uint8_t four = (uint8_t)(lanes & 15);
+        const uint32_t waits = four != 15;
+        kroft_handle handle = opened();
+        kroft_register_view r;
+        kroft_field_view f;
+        kroft_target_view t;
+        kroft_frame_word_view w;
+        kroft_queued_view queued;
+        kroft_command_view command;
+        CHECK(store(&handle, 5, (uint8_t)lanes, word(1, 2, 3, 4)) == (four ? KROFT_ACCEPTED : KROFT_REFUSED));
+        if (four) {
+            CHECK(load(&handle, 7, 5) == KROFT_ACCEPTED);
+            CHECK(kroft_register(&handle, 0, &r) == KROFT_FOUND && r.valid == 1 && r.block == 1);
+            CHECK(kroft_frame_word(&handle, r.frame, 1, &w) == KROFT_FOUND && w.dirty == four);
+            CHECK(kroft_field(&handle, 0, 1, &f) == KROFT_FOUND && f.code == four && f.targets == waits);
+            CHECK(!waits || f.held_lanes == four);
+            CHECK(kroft_target(&handle, 0, 1, 0, &t) == (waits ? KROFT_FOUND : KROFT_NONE) && (!waits || t.lanes == four));
+            CHECK(told(&handle, event(KROFT_EVICT, 1, 0)) == KROFT_ACCEPTED);
+            CHECK(kroft_queue_entry(&handle, 0, &queued) == KROFT_FOUND && queued.at == 5 && queued.lanes == four);
+            CHECK(told(&handle, event(KROFT_DRAIN, 0, 0)) == KROFT_MOVED);
+            CHECK(kroft_bank_command(&handle, 1, 1, &command) == KROFT_FOUND);
+            CHECK(command.kind == KROFT_WRITE && command.lanes == four);
+        }
+        CHECK(kroft_free(&handle) == KROFT_DONE);
+    }
+}
+
 static uint32_t used_registers(kroft_handle *handle) {
     kroft_register_view r;
     uint32_t slot, used = 0;
@@ -178,6 +210,7 @@ static void a_closed_handle(void) {
 int main(void) {
     nothing_yet();
     in_their_order();
+    four_lanes();
     found_before_asked();
     a_closed_handle();
     return checks_end("parts");

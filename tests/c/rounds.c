@@ -228,6 +228,64 @@ static void a_scene(void) {
     CHECK(kroft_free(&handle) == KROFT_DONE);
 }
 
+/* Of a store's lanes bits 4 to 7 are dropped in rounds too, made from a list or one at a time: no view shows them. */
+static void four_lanes(void) {
+    unsigned lanes;
+    for (lanes = 0; lanes < 512; lanes++) {
+        const uint8_t four = (uint8_t)(lanes & 15);
+        kroft_handle handle = opened(4);
+        kroft_event store = request(KROFT_STORE, 0, 5), evict = request(KROFT_EVICT, 0, 1);
+        kroft_register_view r;
+        kroft_field_view f;
+        kroft_frame_view frame;
+        kroft_frame_word_view w;
+        kroft_queued_view queued;
+        kroft_answer a;
+        kroft_counts c;
+        store.lanes = (uint8_t)(lanes & 255);
+        store.word = word(1, 2, 3, 4);
+        if (lanes < 256) {
+            CHECK(kroft_drive(&handle, 1, 1, &store, 1, &c) == KROFT_DONE && c.accepted == (four ? 1u : 0u));
+        } else {
+            CHECK(kroft_rounds_begin(&handle, 1, 1) == KROFT_DONE);
+            tells(a_round(&handle, &store), 1, four ? KROFT_ROUND_ACCEPTED : KROFT_ROUND_DENIED, four ? 0 : KROFT_NO_LANES, KROFT_MISS);
+            CHECK(kroft_register(&handle, 0, &r) == KROFT_FOUND && r.valid == (four ? 1u : 0u));
+            CHECK(kroft_field(&handle, 0, 1, &f) == KROFT_FOUND && f.code == four);
+            CHECK(kroft_rounds_end(&handle) == KROFT_DONE);
+        }
+        if (four) { /* block 1 lies in set 1, whose first frame is frame 2 */
+            CHECK(kroft_frame(&handle, 2, &frame) == KROFT_FOUND && frame.valid == 1 && frame.block == 1);
+            CHECK(kroft_frame_word(&handle, 2, 1, &w) == KROFT_FOUND && w.dirty == four);
+            CHECK(kroft_apply(&handle, &evict, &a) == KROFT_DONE && a.kind == KROFT_ACCEPTED);
+            CHECK(kroft_queue_entry(&handle, 0, &queued) == KROFT_FOUND && queued.at == 5 && queued.lanes == four);
+        }
+        CHECK(kroft_free(&handle) == KROFT_DONE);
+    }
+}
+
+/* The loop that kroft.h and docs/C.md print (scripts/check_library compares the line): it gets by a request that is denied. */
+static void the_loop(void) {
+    kroft_handle handle = opened(4);
+    kroft_event requests[4];
+    size_t next = 0;
+    uint32_t has_request = 0, answered = 0, rounds = 0;
+    requests[0] = request(KROFT_LOAD, 1, 0);
+    requests[1] = request(KROFT_LOAD, 1, 0); /* lost until the first one is answered */
+    requests[2] = request(KROFT_LOAD, 2, WORDS);
+    requests[3] = request(KROFT_LOAD, 3, 0);
+    CHECK(kroft_rounds_begin(&handle, 10, 2) == KROFT_DONE);
+    while (answered < 3 && rounds++ < 100) {
+        kroft_event request;
+        kroft_round_row told;
+        if (!has_request && next < 4) next++, has_request = 1;
+        request = requests[next - 1];
+        CHECK(kroft_round(&handle, &request, has_request, &told) == KROFT_DONE);
+        if (told.outcome != KROFT_ROUND_LOST) has_request = 0;
+        if (told.answered) answered++;
+    }
+    CHECK(answered == 3 && next == 4 && kroft_free(&handle) == KROFT_DONE);
+}
+
 /* One bank, which begins a command each round (or each second one) and serves it five rounds later: the words of the block come
    in rounds 7, 8, 9 and 10 (or 7, 9, 11 and 13), and a load of the last one is answered then. */
 static void pipelines(void) {
@@ -446,6 +504,8 @@ int main(void) {
     lost_rounds();
     refusals();
     a_scene();
+    four_lanes();
+    the_loop();
     pipelines();
     same_runs();
     beginnings();

@@ -1,5 +1,15 @@
 /* kroft::History: what the laws say of small histories, and memories with hidden moments that are judged over many
    accesses. */
+#include "kroft.h"
+
+namespace {
+int nulls = 0; /* the bytes that the library is given and that are none */
+}
+#define LOOKED_AT(bytes, call) (nulls += (bytes) == nullptr, call)
+#define kroft_load_response(history, number, bytes, n) LOOKED_AT(bytes, kroft_load_response(history, number, bytes, n))
+#define kroft_store_request(history, number, at, bytes, n, on) LOOKED_AT(bytes, kroft_store_request(history, number, at, bytes, n, on))
+#define kroft_wrong_place(history, number, bytes, n, place) LOOKED_AT(bytes, kroft_wrong_place(history, number, bytes, n, place))
+#define kroft_why(history, number, bytes, n, reason) LOOKED_AT(bytes, kroft_why(history, number, bytes, n, reason))
 #include "../kroft.hpp"
 
 #include <cstdio>
@@ -38,13 +48,31 @@ void a_load_beside_a_store() {
         for (kroft::History *empty : {&history, &moved}) {
             bool threw = false;
             try {
-                empty->load_request(1, 0, 1);
+                (void)empty->load_request(1, 0, 1);
             } catch (const std::logic_error &) {
                 threw = true;
             }
             check(threw, "moved from");
+            threw = false;
+            try {
+                empty->law();
+            } catch (const std::logic_error &) {
+                threw = true;
+            }
+            check(threw, "the law of one that was moved from");
         }
     }
+}
+
+/* No bytes are none of any load or store, wherever they are. */
+void no_bytes() {
+    const std::vector<uint8_t> empty;
+    kroft::History history;
+    check(bool(history.load_request(1, 0x1000, 1)), "a load");
+    check(history.load_response(1, empty.data(), 0).fault() == KROFT_WRONG_LENGTH, "an answer without a byte");
+    check(history.store_request(1, 0x1000, nullptr, 0).fault() == KROFT_BAD_RANGE, "a store without a byte");
+    check(!history.wrong_place(1, nullptr, 0) && !history.why(1, nullptr, 0), "no wrong byte");
+    check(nulls == 0, "no null comes to the library");
 }
 
 /* New then old, and a unit that is torn: the atomic law refuses them. */
@@ -93,6 +121,10 @@ void undecided() {
     history.forget(*history.undecided());
     check(bool(history.store_response(13)) && !history.undecided(), "forgotten");
     const uint8_t wrong[1] = {1};
+    kroft::History many(kroft::Law::Atomic);
+    check(bool(many.load_request(7, 0x43, 1)), "a load beside many stores");
+    for (uint8_t number = 1; number <= 80; number++) check(bool(many.store_request(number, 0x43, &number, 1)), "a store");
+    check(many.load_response(7, wrong, 1).is_undecided() && !many.wrong_place(7, wrong, 1) && !many.why(7, wrong, 1), "no byte is known to be wrong");
     check(history.load_request(1, 0x48, 1) && !history.load_response(1, wrong, 1), "another unit");
     for (bool forgets : {false, true}) {
         bool threw = false;
@@ -122,8 +154,8 @@ long copies_until_blame(long most, kroft::Law law, bool apart, unsigned seed) {
         bool is_store = random() % 2 == 0;
         Waiting it{is_store, static_cast<unsigned>(random() % 2), is_store && apart ? 2u : 1u, static_cast<uint8_t>(random())};
         if (waiting.size() < 4) {
-            if (it.is_store) history.store_request(number, 0x1000, &it.byte, 1);
-            else history.load_request(number, 0x1000, 1);
+            if (it.is_store) (void)history.store_request(number, 0x1000, &it.byte, 1);
+            else (void)history.load_request(number, 0x1000, 1);
             waiting.emplace(number, it);
         }
         for (auto at = waiting.begin(); at != waiting.end();) {
@@ -160,8 +192,8 @@ long accesses_until_blame(long most, bool loses, unsigned seed) {
     kroft::History history;
     for (long number = 0; number < most; number++) {
         Waiting it{random() % 2 == 0, random() % 16, static_cast<uint8_t>(random()), false};
-        if (it.is_store) history.store_request(number, it.address, &it.byte, 1);
-        else history.load_request(number, it.address, 1);
+        if (it.is_store) (void)history.store_request(number, it.address, &it.byte, 1);
+        else (void)history.load_request(number, it.address, 1);
         waiting.emplace(number, it);
         for (auto at = waiting.begin(); at != waiting.end();) {
             Waiting &moved = at->second;
@@ -185,6 +217,7 @@ long accesses_until_blame(long most, bool loses, unsigned seed) {
 
 int main() {
     a_load_beside_a_store();
+    no_bytes();
     new_then_old();
     reasons();
     undecided();

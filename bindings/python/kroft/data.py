@@ -1,8 +1,14 @@
 """The bytes that a caller gives."""
 
-from typing import Union
+from array import array
+from typing import TYPE_CHECKING, Union
 
-Buffer = Union[bytes, bytearray, memoryview]
+if TYPE_CHECKING:
+    from _typeshed import ReadableBuffer
+
+    Buffer = ReadableBuffer
+else:
+    Buffer = Union[bytes, bytearray, memoryview, array]
 
 
 def bytes_of(data: Buffer) -> bytes:

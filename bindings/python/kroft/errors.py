@@ -1,11 +1,19 @@
 """What goes wrong, as exceptions. Each has its cause as a number with a name."""
 
 import enum
-from typing import NamedTuple, Optional
+from typing import List, NamedTuple, Optional, Tuple, Type
 
 
 class KroftError(Exception):
-    """Any of the exceptions of this package."""
+    """Any of the exceptions of this package. It can be copied and pickled, as another process gives it back."""
+
+    def __reduce__(self) -> Tuple[object, ...]:
+        return _again, (type(self), self.args), self.__dict__
+
+
+def _again(kind: Type[KroftError], args: Tuple[object, ...]) -> KroftError:
+    """An exception with this text; what else it holds is put into it afterwards."""
+    return kind.__new__(kind, *args)
 
 
 class LibraryMissing(KroftError, OSError):
@@ -40,7 +48,7 @@ class Refused(KroftError):
 
 
 class ShapeFault(enum.IntEnum):
-    """The first number of a shape that opens no machine, or what else keeps it from that."""
+    """The first number of a shape that opens no machine, or what else keeps it from that. (Too little memory is a MemoryError.)"""
 
     WORDS = 5
     SETS = 6
@@ -50,7 +58,6 @@ class ShapeFault(enum.IntEnum):
     REPLIES = 10
     IMAGE = 13  #: the image hasn't as many words as memory
     NOT_LISTED = 100  #: one of ways, block_words, regs and depth is out of its range
-    OUT_OF_MEMORY = 101
     OPEN_ALREADY = 102
 
 
@@ -97,7 +104,7 @@ class Access(NamedTuple):
     id: object
     address: int
     size: int
-    enables: int  #: bit i stands for byte i
+    enables: int  #: bit i stands for byte i; 0 if the access has no byte, or one outside of memory
     call: int  #: the call of the judge that told it: 1 is the first
 
 
@@ -125,7 +132,7 @@ class NotFlat(KroftError):
 class Unanswered(KroftError):
     """A judge was left while accesses wait for their answers."""
 
-    def __init__(self, accesses: "list[Access]") -> None:
+    def __init__(self, accesses: List[Access]) -> None:
         first = accesses[0]
         super().__init__(f"{len(accesses)} without an answer, the first: {first.kind} {first.id} at {first.address:#x}")
         self.accesses = accesses

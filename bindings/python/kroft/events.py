@@ -19,7 +19,7 @@ class Load:
 
 @dataclass(frozen=True)
 class Store:
-    """The bytes of `word` in these lanes are written: bit k of `lanes` is byte k."""
+    """The bytes of `word` in these lanes are written: bit k of `lanes` is byte k; bits 4 to 7 are dropped."""
 
     at: int
     word: bytes
@@ -131,13 +131,13 @@ _ANSWERS: _Members = {
     Moved: lambda it: (1, 0, 0, b""),
     Value: lambda it: (2, 0, it.tag, _word(it.word)),
     Nothing: lambda it: (3, 0, 0, b""),
-    Refusal: lambda it: (4, int(it.cause), 0, b""),
+    Refusal: lambda it: (4, index(it.cause), 0, b""),
 }
 
 
 def event_row(event: Event) -> bytes:
-    """The row of kroft.h of an event, or of one of a class below an event's. ValueError if a number or a word isn't one;
-    TypeError if it is no event."""
+    """The row of kroft.h of an event, or of one of a class below an event's. ValueError if a number or a word has no room in
+    it; TypeError if it is no event, or a number is no whole one."""
     return _row(_EVENT, _EVENTS, event, "event")
 
 
@@ -192,13 +192,13 @@ def _row(form: struct.Struct, members: _Members, of: object, kind: str) -> bytes
 
 
 def _misfit(known: Type[Any], of: object) -> str:
-    """Which member of an event or an answer has no room in its row; a word has."""
+    """Which member of an event or an answer has no room in its row; a word has. TypeError if it is no whole number."""
     for name in (it.name for it in fields(known) if it.name != "word"):
         member, most = getattr(of, name), _MOST.get(name, 2**32 - 1)
         try:
-            fits = 0 <= index(member) <= most
+            number = index(member)
         except TypeError:
-            fits = False
-        if not fits:
+            raise TypeError(f"{name} is a whole number, not {member!r}") from None
+        if not 0 <= number <= most:
             return f"{name} is 0 to {most}, not {member!r}"
     return ""

@@ -4,7 +4,7 @@ import ctypes as c
 import enum
 from operator import index
 from types import TracebackType
-from typing import FrozenSet, List, NamedTuple, NoReturn, Optional, Type
+from typing import FrozenSet, List, NamedTuple, NoReturn, Optional, SupportsIndex, Type
 
 from .data import Buffer, bytes_of
 from .errors import Access, Closed, KroftError, Unanswered
@@ -99,7 +99,7 @@ class History:
     [0, 90]
     """
 
-    def __init__(self, law: Law = Law.REGULAR, image: Buffer = b"", *, unit: Optional[int] = None, unknown: bool = False) -> None:
+    def __init__(self, law: Law = Law.REGULAR, image: Buffer = b"", *, unit: Optional[SupportsIndex] = None, unknown: bool = False) -> None:
         self.law = Law(law)
         self.unit = index(unit) if unit is not None else 8 if self.law == Law.ATOMIC else 1
         if self.unit not in ((1, 2, 4, 8) if self.law == Law.ATOMIC else (1,)):
@@ -111,12 +111,12 @@ class History:
             raise MemoryError("no history was opened")
         assert status == _LAWFUL, status
 
-    def load_request(self, number: int, address: int, length: int) -> None:
+    def load_request(self, number: SupportsIndex, address: SupportsIndex, length: SupportsIndex) -> None:
         """A load of `length` bytes from `address` on is requested."""
         number, address, length = _word(number), _word(address), _word(length)
         self._tell(f"load {number} of {length} bytes at {address:#x}", "kroft_load_request", number, address, length)
 
-    def load_response(self, number: int, data: Buffer) -> None:
+    def load_response(self, number: SupportsIndex, data: Buffer) -> None:
         """The load that is open under the number is answered with these bytes."""
         number, got = _word(number), bytes_of(data)
         event = f"load {number} returns {got.hex()}"
@@ -128,19 +128,21 @@ class History:
                     raise
                 raise self._with_place(number, got, event) from None
 
-    def store_request(self, number: int, address: int, data: Buffer, enables: Optional[int] = None) -> None:
+    def store_request(
+        self, number: SupportsIndex, address: SupportsIndex, data: Buffer, enables: Optional[SupportsIndex] = None
+    ) -> None:
         """A store of the bytes whose enable is set is requested: bit `k` of `enables` is that of byte `k`; none: all are."""
         number, address, stored = _word(number), _word(address), bytes_of(data)
         mask = 2**64 - 1 if enables is None else _word(enables)
         event = f"store {number} of {len(stored)} bytes at {address:#x}"
         self._tell(event, "kroft_store_request", number, address, c.c_char_p(stored), len(stored), mask)
 
-    def store_response(self, number: int) -> None:
+    def store_response(self, number: SupportsIndex) -> None:
         """The store that is open under the number is answered."""
         number = _word(number)
         self._tell(f"store {number} is answered", "kroft_store_response", number)
 
-    def may_return(self, number: int, address: int) -> Optional[FrozenSet[int]]:
+    def may_return(self, number: SupportsIndex, address: SupportsIndex) -> Optional[FrozenSet[int]]:
         """What the load that is open under a number may return for the byte at an address, if it is answered now; None if no
         such load asks for that byte. By the atomic law it is said of this byte alone, and may be `Undecided`."""
         number, address = _word(number), _word(address)
@@ -155,7 +157,7 @@ class History:
         bits = int.from_bytes(row.raw, "little")
         return frozenset(byte for byte in range(256) if bits >> byte & 1)
 
-    def forget(self, address: int) -> None:
+    def forget(self, address: SupportsIndex) -> None:
         """Forgets the unit in which the byte at an address lies, of a history by the atomic law. From there on its bytes are
         unknown: whatever a load returns there is allowed. The other units are judged on."""
         address = _word(address)
@@ -239,7 +241,7 @@ def _access(kind: str, operation: Operation) -> Access:
     return Access(kind, operation.number, operation.address, operation.length, 2**operation.length - 1, 0)
 
 
-def _word(number: int) -> int:
+def _word(number: SupportsIndex) -> int:
     """A number of 64 bits, of whatever class: ctypes would cut another one off. TypeError if it is no whole number."""
     whole = index(number)
     if not 0 <= whole < 2**64:

@@ -8,7 +8,7 @@ import ctypes as c
 import struct
 from operator import index
 from types import TracebackType
-from typing import Callable, Container, Dict, Iterator, List, NamedTuple, Optional, Tuple, Type
+from typing import Callable, Container, Dict, Iterator, List, NamedTuple, Optional, SupportsIndex, Tuple, Type
 
 from .data import Buffer, bytes_of
 from .errors import Access, NotFlat, Reason, Unanswered
@@ -34,6 +34,7 @@ _EVENT = struct.Struct("=IHBxII4s").pack  # kind, tag, lanes, at, place, word
 _ANSWER = struct.Struct("=IIH4s2x").pack  # kind, cause, tag, word
 _TAKEN, _ACCEPTED = _EVENT(8, 0, 0, 0, 0, b""), _ANSWER(0, 0, 0, b"")
 _PAGE_WORDS, _TABLE_SIZE = c.c_size_t(PAGE_BYTES // 4), c.c_size_t(TAGS)
+_MASKS = {f"{mask:x}": mask for mask in range(16)}
 _LANES = [[lane for lane in range(_WORD) if mask >> lane & 1] for mask in range(16)]  # the bytes of a mask
 
 
@@ -61,7 +62,7 @@ class StepJudge:
         if self._library.kroft_flat_step(self._words, self._count, self._due, TAGS, *rows) != _FLAT:
             raise self._fault(event, answer)
 
-    def owed(self, tag: int) -> Optional[bytes]:
+    def owed(self, tag: SupportsIndex) -> Optional[bytes]:
         """The word that a tag is owed. None if it is owed nothing."""
         number = index(tag)
         if not 0 <= number < TAGS:
@@ -133,23 +134,24 @@ class FlatJudge:
     page: PAGE_BYTES bytes.
     """
 
-    def __init__(self, first: int = 0, last: int = 2**64 - 1, image: Optional[Callable[[int], bytes]] = None) -> None:
+    def __init__(self, first: SupportsIndex = 0, last: SupportsIndex = 2**64 - 1, image: Optional[Callable[[int], Buffer]] = None) -> None:
         self._step = fast_step()
         self._owed = library().kroft_flat_owed
-        self._first, self._last, self._image = first, last, image
+        self._first, self._last, self._image = index(first), index(last), image
         self._pages: Dict[int, _Page] = {}
         self._tables = [_new_table()]
+        self._spare = self._tables[:]  # those with a tag that is owed nothing
         self._loads: Dict[object, _Owed] = {}
         self._stores: Dict[object, Access] = {}
         self._owed_row = (c.c_char * _WORD)()
         self.calls = 0  #: how often the judge was told something
 
-    def load(self, id: object, address: int, size: int, enables: Optional[int] = None) -> None:
+    def load(self, id: object, address: SupportsIndex, size: SupportsIndex, enables: Optional[SupportsIndex] = None) -> None:
         """A load was accepted: it is owed what its bytes hold now. Else, with nothing changed, a NotFlat: BAD_SIZE,
         OUT_OF_RANGE or ID_IN_USE."""
         access = self._request("load", id, address, size, enables)
         self._check(access, self._loads)
-        self._loads[id] = _Owed(access, [self._load_word(part) for part in self._parts(access)])
+        self._loads[id] = _Owed(access, self._load_words(self._parts(access)))
 
     def value(self, id: object, data: Buffer) -> None:
         """A load's value came, as many bytes as it asked for. NotFlat: WRONG_DATA, and the load has its answer and its
@@ -157,8 +159,7 @@ class FlatJudge:
         got = bytes_of(data)
         load = self._end_load(id, len(got))
         owed = bytearray(got)
-        for part, table, tag in load.parts:
-            self._take_word(part, table, tag, got, owed)
+        self._take_words(load, got, owed)
         if owed != got:
             raise NotFlat(Reason.WRONG_DATA, load.access, bytes(owed), got)
 
@@ -168,7 +169,7 @@ class FlatJudge:
         for part, table, tag in load.parts:
             self._pay_word(part, table, tag)
 
-    def store(self, id: object, address: int, data: Buffer, enables: Optional[int] = None) -> None:
+    def store(self, id: object, address: SupportsIndex, data: Buffer, enables: Optional[SupportsIndex] = None) -> None:
         """A store was accepted: its bytes are as `data` from now on, and it waits for its answer. Else, with nothing
         changed, a NotFlat: BAD_SIZE, OUT_OF_RANGE, NO_LANES or ID_IN_USE."""
         stored = bytes_of(data)
@@ -177,7 +178,7 @@ class FlatJudge:
         self._write(access, stored)
         self._stores[id] = access
 
-    def post(self, id: object, address: int, data: Buffer, enables: Optional[int] = None) -> None:
+    def post(self, id: object, address: SupportsIndex, data: Buffer, enables: Optional[SupportsIndex] = None) -> None:
         """A store was accepted that no answer follows. Else as `store`, but for ID_IN_USE."""
         stored = bytes_of(data)
         access = self._request("store", id, address, len(stored), enables)
@@ -197,7 +198,7 @@ class FlatJudge:
         waiting = [load.access for load in self._loads.values()] + list(self._stores.values())
         return sorted(waiting, key=lambda access: access.call)
 
-    def memory(self, address: int, size: int) -> bytes:
+    def memory(self, address: SupportsIndex, size: SupportsIndex) -> bytes:
         """The bytes that memory holds now. IndexError if some of them are outside of memory."""
         places = range(index(address), index(address) + index(size))
         if places and (places[0] < self._first or places[-1] > self._last):
@@ -212,22 +213,21 @@ class FlatJudge:
         if kind is None and waiting:
             raise Unanswered(waiting)
 
-    def _request(self, kind: str, id: object, address: int, size: int, enables: Optional[int]) -> Access:
-        # (a number of a class with few bits would lose some of them below)
-        address, size = index(address), index(size)
-        every = (1 << max(size, 0)) - 1
-        mask = every if enables is None else index(enables) & every
+    # (a number of a class with few bits would lose some of them below; and a size is judged before any mask is made of it)
+    def _request(self, kind: str, id: object, begin: SupportsIndex, length: SupportsIndex, enables: Optional[SupportsIndex]) -> Access:
+        address, size = index(begin), index(length)
+        given = -1 if enables is None else index(enables)
         self.calls += 1
-        return Access(kind, id, address, size, mask, self.calls)
+        if size < 1:
+            raise NotFlat(Reason.BAD_SIZE, Access(kind, id, address, size, 0, self.calls))
+        if address < self._first or address + size - 1 > self._last:
+            raise NotFlat(Reason.OUT_OF_RANGE, Access(kind, id, address, size, 0, self.calls))
+        return Access(kind, id, address, size, given & (1 << size) - 1, self.calls)
 
     def _stray(self, kind: str, id: object) -> Access:
         return Access(kind, id, 0, 0, 0, self.calls)
 
     def _check(self, access: Access, waiting: Container[object]) -> None:
-        if access.size < 1:
-            raise NotFlat(Reason.BAD_SIZE, access)
-        if access.address < self._first or access.address + access.size - 1 > self._last:
-            raise NotFlat(Reason.OUT_OF_RANGE, access)
         if access.kind == "store" and access.enables == 0:
             raise NotFlat(Reason.NO_LANES, access)
         if access.id in waiting:
@@ -237,16 +237,14 @@ class FlatJudge:
     def _parts(self, access: Access) -> List[_Part]:
         parts = []
         begin = -(access.address % _WORD)
-        bits = access.enables << -begin
         number, place = divmod(access.address + begin, PAGE_BYTES)
         page, at = self._page(number), place // _WORD
-        while bits:
+        for digit in reversed("%x" % (access.enables << -begin)):  # that of a word has its lanes (shifts would be quadratic)
             if at == PAGE_BYTES // _WORD:
                 number, at = number + 1, 0
                 page = self._page(number)
-            if bits & 0b1111:
-                parts.append((page, at, bits & 0b1111, begin))
-            bits >>= _WORD
+            if digit != "0":
+                parts.append((page, at, _MASKS[digit], begin))
             begin += _WORD
             at += 1
         return parts
@@ -260,34 +258,39 @@ class FlatJudge:
             page = self._pages[number] = _Page(data, (c.c_char * PAGE_BYTES).from_buffer(data))
         return page
 
-    # A table with a tag that is owed nothing.
-    def _table(self) -> _Table:
-        for table in self._tables:
-            if table.free:
-                return table
-        self._tables.append(_new_table())
-        return self._tables[-1]
+    # Loads words. A page is memory enough for a step of one of its words, here and below.
+    def _load_words(self, parts: List[_Part]) -> List[Tuple[_Part, _Table, int]]:
+        owed, spare, step = [], self._spare, self._step
+        for part in parts:
+            if not spare:
+                self._tables.append(_new_table())
+                spare.append(self._tables[-1])
+            table = spare[-1]
+            due, free = table
+            tag = free.pop()
+            if not free:
+                spare.pop()
+            if step(part[0].words, _PAGE_WORDS, due, _TABLE_SIZE, _EVENT(_LOAD, tag, 0, part[1], 0, b""), _ACCEPTED) != _FLAT:
+                raise NotFlat(Reason.BROKEN_LIBRARY)
+            owed.append((part, table, tag))
+        return owed
 
-    # Loads the word. A page is memory enough for a step of one of its words, here and below.
-    def _load_word(self, part: _Part) -> Tuple[_Part, _Table, int]:
-        table = self._table()
-        tag = table.free.pop()
-        event = _EVENT(_LOAD, tag, 0, part[1], 0, b"")
-        if self._step(part[0].words, _PAGE_WORDS, table.due, _TABLE_SIZE, event, _ACCEPTED) != _FLAT:
-            raise NotFlat(Reason.BROKEN_LIBRARY)
-        return part, table, tag
-
-    # Takes a word of a load; where it is wrong, `owed` gets what it should be. The tag is free after it.
-    def _take_word(self, part: _Part, table: _Table, tag: int, data: bytes, owed: bytearray) -> None:
-        page, _, lanes, begin = part
-        word = data[begin : begin + _WORD] if lanes == 0b1111 else self._filled_up(part, table, tag, data)
-        answer = _ANSWER(_VALUE, 0, tag, word)
-        if self._step(page.words, _PAGE_WORDS, table.due, _TABLE_SIZE, _TAKEN, answer) == _FLAT:
-            table.free.append(tag)
-            return
-        right = self._pay_word(part, table, tag)
-        for lane in _LANES[lanes]:
-            owed[begin + lane] = right[lane]
+    # Takes the words of a load; where one is wrong, `owed` gets what it should be. The tags are free after it.
+    def _take_words(self, load: _Owed, data: bytes, owed: bytearray) -> None:
+        step = self._step
+        for part, table, tag in load.parts:
+            page, _, lanes, begin = part
+            due, free = table
+            word = data[begin : begin + _WORD] if lanes == 0b1111 else self._filled_up(part, table, tag, data)
+            answer = _ANSWER(_VALUE, 0, tag, word)
+            if step(page.words, _PAGE_WORDS, due, _TABLE_SIZE, _TAKEN, answer) == _FLAT:
+                if not free:
+                    self._spare.append(table)
+                free.append(tag)
+                continue
+            right = self._pay_word(part, table, tag)
+            for lane in _LANES[lanes]:
+                owed[begin + lane] = right[lane]
 
     # The enabled bytes of a word of a load, and the others as they are owed.
     def _filled_up(self, part: _Part, table: _Table, tag: int, data: bytes) -> bytes:
@@ -302,6 +305,8 @@ class FlatJudge:
         answer = _ANSWER(_VALUE, 0, tag, right)
         if self._step(part[0].words, _PAGE_WORDS, table.due, _TABLE_SIZE, _TAKEN, answer) != _FLAT:
             raise NotFlat(Reason.BROKEN_LIBRARY)
+        if not table.free:
+            self._spare.append(table)
         table.free.append(tag)
         return right
 

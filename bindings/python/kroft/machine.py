@@ -4,7 +4,7 @@ import ctypes as c
 import enum
 from operator import index
 from types import TracebackType
-from typing import Dict, Iterable, Iterator, List, NamedTuple, NoReturn, Optional, Tuple, Type, TypeVar, Union
+from typing import Dict, Iterable, Iterator, List, NamedTuple, NoReturn, Optional, SupportsIndex, Tuple, Type, TypeVar, Union
 
 from .data import Buffer, bytes_of
 from .errors import BadShape, Cause, Closed, InRounds, KroftError, NoRounds, Refused, ShapeFault
@@ -227,6 +227,8 @@ class Machine:
         status = self._open(row, data)
         if status == ShapeFault.IMAGE and image is None:
             status = self._open(row, bytes(4 * self.shape.words))
+        if status == _OUT_OF_MEMORY:
+            raise MemoryError("no machine was opened")
         if status != _DONE:
             raise BadShape(ShapeFault(status))
 
@@ -236,21 +238,21 @@ class Machine:
         self._call("kroft_apply", event_row(event), answer)
         return answer_of(answer.raw)
 
-    def load(self, tag: int, at: int) -> None:
+    def load(self, tag: SupportsIndex, at: SupportsIndex) -> None:
         """Asks for the word at `at`. Or Refused."""
-        self._accept(Load(tag, at))
+        self._accept(Load(index(tag), index(at)))
 
-    def store(self, at: int, word: bytes, lanes: int = 0b1111) -> None:
+    def store(self, at: SupportsIndex, word: Buffer, lanes: SupportsIndex = 0b1111) -> None:
         """Writes the bytes of `word` in these lanes. Or Refused."""
-        self._accept(Store(at, word, lanes))
+        self._accept(Store(index(at), bytes_of(word), index(lanes)))
 
-    def prefetch(self, at: int) -> None:
+    def prefetch(self, at: SupportsIndex) -> None:
         """Wants the block of the word at `at` in the cache. Or Refused."""
-        self._accept(Prefetch(at))
+        self._accept(Prefetch(index(at)))
 
-    def evict(self, block: int) -> None:
+    def evict(self, block: SupportsIndex) -> None:
         """Gives a block up. Or Refused."""
-        self._accept(Evict(block))
+        self._accept(Evict(index(block)))
 
     def pump(self) -> Iterator[Tuple[Event, Answer]]:
         """The driver's events with the machine's answers, until nothing is on its way: the first of these that is
@@ -266,7 +268,7 @@ class Machine:
             if isinstance(answer, Value):
                 yield answer
 
-    def drive(self, requests: Iterable[Request], latency: int = 10, busy: Optional[int] = None) -> Counts:
+    def drive(self, requests: Iterable[Request], latency: SupportsIndex = 10, busy: Optional[SupportsIndex] = None) -> Counts:
         """Drives requests through the machine in rounds, as the command `drive` does, until nothing is on its way.
 
         In a round each bank begins a command if it isn't busy, and serves one that it began `latency` rounds before; one
@@ -284,7 +286,7 @@ class Machine:
             raise ValueError(_NOT_DRIVEN[status])
         return _counts(row)
 
-    def begin_rounds(self, latency: int = 10, busy: Optional[int] = None) -> None:
+    def begin_rounds(self, latency: SupportsIndex = 10, busy: Optional[SupportsIndex] = None) -> None:
         """Begins rounds, which are those of `drive` and are made one at a time by `round`: nothing is counted yet.
 
         Rounds that were begun before end. Until `end_rounds` they alone make the machine's events: all else that makes one
@@ -329,7 +331,7 @@ class Machine:
         """Whether memory has everything: nothing waits, and no word is dirty."""
         return self._call("kroft_settled") == _FOUND
 
-    def bank_word(self, at: int) -> bytes:
+    def bank_word(self, at: SupportsIndex) -> bytes:
         """The word of memory at `at`, as it stands in its bank. IndexError if there is none."""
         word = Word()
         self._find("kroft_bank_word", c.byref(word), at)
@@ -340,7 +342,7 @@ class Machine:
         with self._handle.lock:
             return b"".join(self.bank_word(at) for at in range(self.shape.words))
 
-    def register(self, slot: int) -> Register:
+    def register(self, slot: SupportsIndex) -> Register:
         """A miss register. IndexError if there is none."""
         row = RegisterRow()
         self._find("kroft_register", c.byref(row), slot)
@@ -351,14 +353,14 @@ class Machine:
         with self._handle.lock:
             return [self.register(slot) for slot in range(self.shape.regs)]
 
-    def field(self, slot: int, i: int) -> Field:
+    def field(self, slot: SupportsIndex, i: SupportsIndex) -> Field:
         """Word `i` of the block of a register. IndexError if there is none."""
         row = FieldRow()
         self._find("kroft_field", c.byref(row), slot, i)
         marks = bool(row.send), bool(row.in_stack), bool(row.processed)
         return Field(*marks, row.targets, row.tag, row.code, row.held_lanes, bytes(row.held))
 
-    def targets(self, slot: int, i: int) -> List[Target]:
+    def targets(self, slot: SupportsIndex, i: SupportsIndex) -> List[Target]:
         """The loads that wait for word `i` of the block of a register, in the order in which they were accepted.
         IndexError if there is no such word."""
         row, targets = TargetRow(), []
@@ -368,13 +370,13 @@ class Machine:
                 targets.append(Target(row.tag, row.lanes, bytes(row.held)))
         return targets
 
-    def find(self, at: int) -> Lookup:
+    def find(self, at: SupportsIndex) -> Lookup:
         """What a request for the word at `at` would find now. Nothing is asked. IndexError if there is no such word."""
         lookup = c.c_uint32()
         self._find("kroft_find", c.byref(lookup), at)
         return Lookup(lookup.value)
 
-    def frame(self, frame: int) -> Optional[int]:
+    def frame(self, frame: SupportsIndex) -> Optional[int]:
         """The block that a frame holds, None if it is free. Set `s` has the frames from `s * ways` on. IndexError if there
         is no such frame."""
         row = FrameRow()
@@ -386,7 +388,7 @@ class Machine:
         with self._handle.lock:
             return [self.frame(frame) for frame in range(self.shape.sets * self.shape.ways)]
 
-    def frame_word(self, frame: int, i: int) -> FrameWord:
+    def frame_word(self, frame: SupportsIndex, i: SupportsIndex) -> FrameWord:
         """Word `i` of the block that a frame holds. IndexError if there is no such frame or word, or the frame is free."""
         row = FrameWordRow()
         self._find("kroft_frame_word", c.byref(row), frame, i)
@@ -401,11 +403,11 @@ class Machine:
         rows = self._places(QueuedRow, "kroft_queue_entry")
         return [Queued(row.block, row.at, bytes(row.word), row.lanes) for row in rows]
 
-    def bank_commands(self, bank: int) -> List[Command]:
+    def bank_commands(self, bank: SupportsIndex) -> List[Command]:
         """The commands that wait at a bank, the one that is served next at 0. IndexError if there is no such bank."""
         return [_command(row) for row in self._places(CommandRow, "kroft_bank_command", self._bank(bank))]
 
-    def bank_answers(self, bank: int) -> List[Arrival]:
+    def bank_answers(self, bank: SupportsIndex) -> List[Arrival]:
         """The answers that stand in a bank, the oldest one at 0. IndexError if there is no such bank."""
         return [_arrival(row) for row in self._places(ArrivalRow, "kroft_bank_answer", self._bank(bank))]
 
@@ -447,7 +449,7 @@ class Machine:
         if not isinstance(answer, Accepted):
             raise KroftError(f"{event} was answered by {answer}")
 
-    def _bank(self, bank: int) -> int:
+    def _bank(self, bank: SupportsIndex) -> int:
         number = index(bank)
         if not 0 <= number < self.shape.banks:
             raise IndexError("there is none")
@@ -473,14 +475,14 @@ class Machine:
             raise NoRounds("no rounds were begun")
         return status
 
-    def _find(self, name: str, row: object, *places: int) -> None:
+    def _find(self, name: str, row: object, *places: SupportsIndex) -> None:
         """What a view shows at these places goes into the row. (ctypes would cut a number of more bits off.)"""
         numbers = [index(place) for place in places]
         if any(not 0 <= number < 2**32 for number in numbers) or self._call(name, *numbers, row) == _NONE:
             raise IndexError("there is none")
 
 
-def _rounds(latency: int, busy: Optional[int]) -> Tuple[int, int]:
+def _rounds(latency: SupportsIndex, busy: Optional[SupportsIndex]) -> Tuple[int, int]:
     """The numbers of rounds, for the library."""
     numbers = index(latency), index(latency if busy is None else busy)
     if any(not 0 <= number < 2**32 for number in numbers):

@@ -2,7 +2,7 @@
 
 import ctypes as c
 from operator import index
-from typing import Iterator, NamedTuple
+from typing import Iterator, NamedTuple, SupportsIndex
 
 from .library import AccessRow, PlanRow, library
 
@@ -38,19 +38,19 @@ class Traffic:
 
     def __init__(
         self,
-        seed: int,
+        seed: SupportsIndex,
         *,
-        base: int = 0,
-        blocks: int,
-        block_bytes: int,
-        widest: int = 8,
-        sets: int = 1,
-        conflicts: int = 0,
-        burst: int = 1,
-        requesters: int = 1,
+        base: SupportsIndex = 0,
+        blocks: SupportsIndex,
+        block_bytes: SupportsIndex,
+        widest: SupportsIndex = 8,
+        sets: SupportsIndex = 1,
+        conflicts: SupportsIndex = 0,
+        burst: SupportsIndex = 1,
+        requesters: SupportsIndex = 1,
         apart: bool = False,
-        stores: int = 128,
-        partial: int = 64,
+        stores: SupportsIndex = 128,
+        partial: SupportsIndex = 64,
     ) -> None:
         given = (base, blocks, block_bytes, widest, sets, conflicts, burst, requesters, int(apart), stores, partial)
         seed, numbers = index(seed), [index(number) for number in given]
@@ -63,7 +63,7 @@ class Traffic:
         self._seed = seed
         self[0]
 
-    def __getitem__(self, number: int) -> TrafficAccess:
+    def __getitem__(self, number: SupportsIndex) -> TrafficAccess:
         number = index(number)
         if not 0 <= number < 2**64:
             raise IndexError(number)

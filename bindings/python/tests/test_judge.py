@@ -147,6 +147,9 @@ class Accesses(Causes):
         self.assertIsNone(StepJudge(b"").owed(whole(5)))
         with self.assertRaises(TypeError):
             StepJudge(b"").owed(5.0)  # type: ignore[arg-type]
+        with self.assertRaises(TypeError):
+            FlatJudge(last=15.0)  # type: ignore[arg-type]
+        FlatJudge(whole(0), whole(15)).load(1, 15, 1)
 
     def test_memory_has_no_other_bytes(self) -> None:
         judge = FlatJudge(first=0x100, last=0x1FF)
@@ -218,6 +221,41 @@ class Accesses(Causes):
                 judge.load(id, 64, 64)
             for id in reversed(range(5000)):
                 judge.value(id, id.to_bytes(64, "little"))
+            tables = len(judge._tables)
+            for id in range(5000):
+                judge.load(id, 64, 64)
+            self.assertEqual(len(judge._tables), tables)
+            for id in range(5000):
+                judge.failed_load(id)
+
+    def test_sizes_beyond_memory_are_told_before_anything_is_made_of_them(self) -> None:
+        judge = FlatJudge(last=0xFFF)
+        for call, size in enumerate((2**36, 2**70), 1):
+            with self.fails(Reason.OUT_OF_RANGE) as found:
+                judge.load(1, 0, size)
+            self.assertEqual(found.exception.access, kroft.Access("load", 1, 0, size, 0, call))
+            self.assertEqual(str(found.exception), f"load 1 of {size} bytes at 0x0: bytes outside of memory")
+        with self.fails(Reason.BAD_SIZE):
+            judge.load(1, 0, -(2**70), -1)
+        for store in (judge.store, judge.post):
+            with self.fails(Reason.OUT_OF_RANGE):
+                store(1, 2**70, b"a", 1)
+        self.assertEqual((judge.calls, judge.unanswered()), (5, []))
+
+    def test_a_large_access_costs_as_many_small_ones(self) -> None:
+        def seconds(count: int) -> float:
+            data, judge = bytes(range(256)) * (count // 256), FlatJudge()
+            begun = time.process_time()
+            judge.store(1, 2, data)
+            judge.load(1, 2, count)
+            judge.value(1, data)
+            ended = time.process_time()
+            self.assertEqual(judge.memory(2, count), data)
+            return ended - begun
+
+        few, many = seconds(128 << 10), seconds(1 << 20)
+        print(f"a store and a load of a MiB in {many:.1f} s of processor time")
+        self.assertLess(many, 16 * few)
 
     def test_tags_are_used_again(self) -> None:
         with FlatJudge() as judge:
@@ -259,9 +297,18 @@ def run(cache: Cache, requests: List[Request]) -> Tuple[int, Wrong]:
     return at, None
 
 
+def slowness() -> float:
+    """By how much this machine is slower just now than one that adds a million numbers in a twentieth of a second: 1 if it isn't."""
+    begun, total = time.process_time(), 0
+    for number in range(1000000):
+        total += number
+    return max(1.0, (time.process_time() - begun) / 0.05)
+
+
 class Designs(unittest.TestCase):
     def test_right_cache_at_a_million_accesses_a_minute(self) -> None:
-        count, begun = 25000, time.process_time()
+        count, slower = 25000, slowness()
+        begun = time.process_time()
         for seed in (1, 2):
             cache = Cache()
             self.assertEqual(run(cache, traffic(seed, count)), (count, None))
@@ -269,7 +316,7 @@ class Designs(unittest.TestCase):
             self.assertGreater(cache.refilled, count // 1000)
         seconds = time.process_time() - begun
         print(f"{2 * count} accesses of a right cache in {seconds:.1f} s of processor time")
-        self.assertLess(seconds, 2 * count * 60 / 1e6)
+        self.assertLess(seconds, 2 * count * 60 / 1e6 * max(slower, slowness()))
 
     def test_bugs_are_found(self) -> None:
         requests = {seed: traffic(seed, 15000) for seed in (1, 2, 3)}

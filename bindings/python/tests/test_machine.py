@@ -9,7 +9,7 @@ import resource
 import sys
 import threading
 import unittest
-from typing import Any, Callable, List, Tuple
+from typing import Any, Callable, List, Tuple, Type
 from unittest import mock
 
 import kroft
@@ -125,7 +125,8 @@ class Machines(unittest.TestCase):
         """As `./kroft drive --summary` counts them (examples/README.md, tests/runs/drive)."""
         usual = Shape(2, 4, 4, 4, 64, 4, 4, 8, 8, 8)
         with Machine(usual) as machine:
-            counts = machine.drive([Load(1, 0), Load(2, 4), Load(3, 8)])
+            first: List[kroft.Request] = [Load(1, 0), Load(2, 4), Load(3, 8)]
+            counts = machine.drive(first)
             self.assertEqual((counts.rounds, counts.accepted, counts.misses, counts.registers), (38, 3, 3, 3))
             self.assertEqual((counts.values, counts.waited, counts.longest), (3, 63, 31))
             self.assertEqual(sum(counts.lost.values()), 0)
@@ -220,6 +221,20 @@ class Machines(unittest.TestCase):
         finally:
             resource.setrlimit(resource.RLIMIT_AS, before)
 
+    def test_too_little_memory_is_a_memory_error(self) -> None:
+        """Where there is none for the zeros, and where there is none for the machine."""
+        before = resource.getrlimit(resource.RLIMIT_AS)
+        with open("/proc/self/statm", encoding="ascii") as statm:
+            taken = int(statm.read().split()[0]) * resource.getpagesize()
+        resource.setrlimit(resource.RLIMIT_AS, (taken + (200 << 20), before[1]))
+        try:
+            for words in (2**25, 2**28):
+                with self.subTest(words=words), self.assertRaises(MemoryError):
+                    Machine(Shape(words=words))
+        finally:
+            resource.setrlimit(resource.RLIMIT_AS, before)
+        self.assertFalse(hasattr(kroft.ShapeFault, "OUT_OF_MEMORY"))
+
     def test_classes_below_those_of_events(self) -> None:
         class Traced(Load):
             word = b"name"  # (of the same name as a member of a store)
@@ -239,6 +254,19 @@ class Machines(unittest.TestCase):
             with self.assertRaises(TypeError):
                 machine.store(1, 4)  # type: ignore[arg-type]
 
+    def are_refused(
+        self, wrong: List[Tuple[kroft.Event, str]], error: Type[Exception], machine: Machine, judge: StepJudge
+    ) -> None:
+        """That each of these events is an error with its text, in every call that takes one."""
+        for event, said in wrong:
+            with self.subTest(event=event):
+                with self.assertRaisesRegex(error, f"^{said}$"):
+                    machine.apply(event)
+                with self.assertRaisesRegex(error, f"^{said}$"):
+                    machine.drive([Load(1, 1), event])  # type: ignore[list-item]
+                with self.assertRaisesRegex(error, f"^{said}$"):
+                    judge.step(event, Accepted())
+
     def test_a_member_that_is_out_of_its_range_is_named(self) -> None:
         most = 2**32 - 1
         wrong: List[Tuple[kroft.Event, str]] = [
@@ -253,24 +281,42 @@ class Machines(unittest.TestCase):
             (Serve(-1), f"bank is 0 to {most}, not -1"),
             (Arrive(0, 2**64), f"place is 0 to {most}, not {2**64}"),
             (Process(-1), f"place is 0 to {most}, not -1"),
-            (Load("7", 0), "tag is 0 to 65535, not '7'"),  # type: ignore[arg-type]
         ]
         judge = StepJudge(bytes(256))
         with Machine(SMALL) as machine:
-            for event, said in wrong:
-                with self.subTest(event=event):
-                    with self.assertRaisesRegex(ValueError, f"^{said}$"):
-                        machine.apply(event)
-                    with self.assertRaisesRegex(ValueError, f"^{said}$"):
-                        machine.drive([Load(1, 1), event])  # type: ignore[list-item]
-                    with self.assertRaisesRegex(ValueError, f"^{said}$"):
-                        judge.step(event, Accepted())
+            self.are_refused(wrong, ValueError, machine, judge)
             with self.assertRaisesRegex(ValueError, "^tag is 0 to 65535, not 65536$"):
                 judge.step(kroft.Take(0), Value(65536, b"abcd"))
             self.assertEqual(machine.apply(Load(65535, 0)), Accepted())
 
+    def test_a_member_that_is_no_whole_number_is_named(self) -> None:
+        wrong: List[Tuple[kroft.Event, str]] = [
+            (Load(1.5, 0), "tag is a whole number, not 1.5"),  # type: ignore[arg-type]
+            (Load("1", 0), "tag is a whole number, not '1'"),  # type: ignore[arg-type]
+            (Store(0, b"1234", 1.0), "lanes is a whole number, not 1.0"),  # type: ignore[arg-type]
+            (Serve(0.0), "bank is a whole number, not 0.0"),  # type: ignore[arg-type]
+            (Process(None), "place is a whole number, not None"),  # type: ignore[arg-type]
+        ]
+        judge = StepJudge(bytes(256))
+        with Machine(SMALL) as machine:
+            self.are_refused(wrong, TypeError, machine, judge)
+            calls: List[Callable[[Any], object]] = [
+                lambda it: machine.load(it, 0),
+                lambda it: machine.load(0, it),
+                lambda it: machine.store(it, b"1234"),
+                lambda it: machine.store(0, b"1234", it),
+                machine.prefetch,
+                machine.evict,
+                lambda it: judge.step(kroft.Take(), kroft.Refusal(it)),
+            ]
+            for call in calls:
+                for given in ("1", 1.0, None):
+                    with self.assertRaises(TypeError):
+                        call(given)
+            self.assertEqual(machine.weight, 0)
+
     def test_whole_numbers_of_any_class(self) -> None:
-        with Machine(kroft.Shape(words=whole(64))) as machine:
+        with Machine(kroft.Shape(words=whole(64))) as machine:  # type: ignore[arg-type]
             self.assertEqual(machine.shape.words, 64)
             machine.load(whole(1), whole(4))
             self.assertEqual(machine.find(whole(4)), kroft.Lookup.JOIN)
@@ -299,7 +345,7 @@ class Machines(unittest.TestCase):
             self.assertEqual(machine.memory(), b"\x11" * 256)
             machine.store(1, memoryview(array.array("H", [0x2222] * 2)))
             with self.assertRaises(ValueError):
-                machine.store(1, array.array("I", [1, 2, 3, 4]))  # type: ignore[arg-type]
+                machine.store(1, array.array("I", [1, 2, 3, 4]))
             list(machine.pump())
             self.assertEqual(machine.frame_word(0, 1).word, b"\x22" * 4)
 

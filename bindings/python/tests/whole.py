@@ -1,8 +1,5 @@
 """Numbers of another class than int."""
 
-from typing import Any
-
-
 class Whole:
     """A whole number that is no int, as an item of an array may be."""
 
@@ -16,6 +13,6 @@ class Whole:
         return format(self.number, form)
 
 
-def whole(number: int) -> Any:
-    """One, where the types ask for an int."""
+def whole(number: int) -> Whole:
+    """One, as the types let it pass."""
     return Whole(number)

@@ -33,6 +33,7 @@ struct Memory : sc_core::sc_module {
 
     void use(tlm_generic_payload &payload) {
         unsigned width = std::min(payload.get_streaming_width(), payload.get_data_length());
+        if (payload.get_address() + width > bytes.size()) return; // (a debug write beyond its end says that it wrote)
         for (unsigned i = 0; i < payload.get_data_length(); i++) {
             uint8_t &byte = bytes[payload.get_address() + i % width];
             if (payload.is_write()) byte = payload.get_data_ptr()[i];
@@ -147,6 +148,27 @@ struct Bench : sc_core::sc_module {
         check(__LINE__, socket->transport_dbg(payload) == 100);
         expect(__LINE__, 0, false, 0x300, 100, 100);
         check(__LINE__, !socket->get_direct_mem_ptr(payload, dmi));
+        uint64_t before = watch.errors(), told = watch.accesses();
+        shape(payload, true, 4032, 130, 130); // of three parts the first is in memory
+        socket->transport_dbg(payload);
+        check(__LINE__, watch.errors() == before + 2 && watch.accesses() == told + 1);
+    }
+
+    // With the actions that the README tells an error goes on, and as SystemC has it else it is thrown.
+    void actions() {
+        uint64_t before = watch.errors();
+        memory.lies_outside = true;
+        sc_core::sc_report_handler::set_actions("kroft", sc_core::SC_ERROR, sc_core::SC_LOG);
+        expect(__LINE__, 1, false, 4096, 4, 4);
+        sc_core::sc_report_handler::set_actions("kroft", sc_core::SC_ERROR, sc_core::SC_DEFAULT_ERROR_ACTIONS & ~sc_core::SC_LOG);
+        bool threw = false;
+        try {
+            expect(__LINE__, 1, false, 4096, 4, 4);
+        } catch (const sc_core::sc_report &report) {
+            threw = std::strcmp(report.get_msg_type(), "kroft") == 0;
+        }
+        check(__LINE__, threw && watch.errors() == before + 2);
+        sc_core::sc_report_handler::set_actions("kroft", sc_core::SC_ERROR, sc_core::SC_DO_NOTHING);
     }
 
     void begin(tlm_generic_payload &payload) {
@@ -232,6 +254,7 @@ int sc_main(int, char **) {
         bench->enables();
         bench->debug();
         bench->non_blocking();
+        bench->actions();
     }
     atomic.undecided();
     int warnings = sc_core::sc_report_handler::get_count(sc_core::SC_WARNING), wrong = 0;

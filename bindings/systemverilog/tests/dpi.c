@@ -118,6 +118,38 @@ static int count_open(void) {
     return count;
 }
 
+/* Those that wait are told in the order of their requests, and behind the last one nothing is. */
+static void in_order(void) {
+    const unsigned long long ids[4] = {9, 2, 9, 5}; /* a load, a store, a store and a load */
+    const int is_store[4] = {0, 1, 1, 0};
+    void *judge = kroft_sv_open(0, ~0ULL);
+    kroft_four_states data[16];
+    unsigned long long id, address;
+    int i, kind, size, ended;
+    memset(data, 0, sizeof data);
+    for (i = 0; i < 4; i++) {
+        if (is_store[i]) expect(__LINE__, judge, kroft_sv_store(judge, ids[i], 64 + (unsigned)i, i + 1, data, ~0ULL), KROFT_SV_RIGHT);
+        else expect(__LINE__, judge, kroft_sv_load(judge, ids[i], 64 + (unsigned)i, i + 1, ~0ULL), KROFT_SV_RIGHT);
+    }
+    for (ended = 0; ended <= 4; ended++) {
+        const int order[4] = {1, 3, 0, 2}; /* from the midst, from the end, from the beginning, and the last one */
+        int left[4] = {1, 1, 1, 1}, place = 0;
+        for (i = 0; i < ended; i++) left[order[i]] = 0;
+        for (i = 0; i < 4; i++) {
+            if (!left[i]) continue;
+            expect(__LINE__, judge, kroft_sv_unanswered_access(judge, place++, &kind, &id, &address, &size), 1);
+            expect(__LINE__, judge, kind == is_store[i] && id == ids[i] && address == 64 + (unsigned)i && size == i + 1, 1);
+        }
+        expect(__LINE__, judge, kroft_sv_unanswered_access(judge, place, &kind, &id, &address, &size), 0);
+        expect(__LINE__, judge, kind == 0 && id == 0 && address == 0 && size == 0 && kroft_sv_unanswered(judge) == place, 1);
+        expect(__LINE__, judge, kroft_sv_unanswered_access(judge, -1, &kind, &id, &address, &size), 0);
+        if (ended == 4) break;
+        i = order[ended];
+        expect(__LINE__, judge, is_store[i] ? kroft_sv_stored(judge, ids[i]) : kroft_sv_value(judge, ids[i], data), KROFT_SV_RIGHT);
+    }
+    kroft_sv_close(judge);
+}
+
 /* More words are owed at once than one table of the library has tags. */
 static void many_owed(void) {
     void *judge = kroft_sv_open(0, ~0ULL);
@@ -188,6 +220,7 @@ int main(void) {
     }
     kroft_sv_close(judge);
     many_owed();
+    in_order();
     printf(wrong ? "%d wrong\n" : "all right\n", wrong);
     return wrong != 0;
 }

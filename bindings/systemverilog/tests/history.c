@@ -137,10 +137,15 @@ static void unknown_and_failed(void) {
 
 static void images(void) {
     const uint8_t first[3] = {1, 2, 3}, most[64] = {4}, zero[1] = {0};
+    kroft_four_states unknown[16];
     uint32_t set[8];
     int i;
     begin(KROFT_REGULAR_LAW, 0);
     EXPECT(kroft_sv_forget(history, 0) == 0); /* it has no units, and is as it was */
+    memcpy(unknown, data_of(most, 64), sizeof unknown);
+    unknown[0].unknown = 0x020000; /* of byte 2 */
+    EXPECT(kroft_sv_image(history, unknown, 3) == 0 && kroft_sv_image(history, unknown, 64) == 0 && kroft_sv_image(history, unknown, -1) == 0);
+    EXPECT(kroft_sv_image(history, unknown, 0) == 1);
     EXPECT(kroft_sv_image(history, data_of(first, 3), 3) == 1 && kroft_sv_image(history, data_of(most, 64), 64) == 1);
     EXPECT(kroft_sv_image(history, data_of(most, 64), 65) == 0 && kroft_sv_load_request(history, 1, 0, 64, 0) == KROFT_SV_RIGHT);
     EXPECT(kroft_sv_image(history, data_of(first, 3), 3) == 0);

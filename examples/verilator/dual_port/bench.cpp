@@ -1,6 +1,6 @@
 // Random loads and stores at both ports of memory.v, with each request and each response told to a history in its cycle, by
 // the regular law or, in units of a word, the atomic law. The first that isn't lawful ends the run, and so does a request
-// without an answer at its end: status 1.
+// without an answer at its end: status 1. Once all tags of a port wait for answers, nothing more is requested.
 //
 //     bench [CYCLES [BUG [regular|atomic [SEED]]]]
 #include "Vmemory.h"
@@ -34,6 +34,7 @@ public:
     bool goes_well() {
         reset();
         while (is_well && cycle < cycles + 1000) {
+            if (cycle < cycles && !has_tags()) cycles = cycle;
             bool asks = cycle < cycles; // behind the last request all are answered
             unsigned accepted = request(asks);
             memory.eval();
@@ -79,11 +80,17 @@ private:
         memory.reset = 0;
     }
 
+    // Finds the next free tag of each port. A port without one has lost answers: the memory holds no more than four requests.
+    bool has_tags() {
+        for (unsigned p = 0; p < ports; p++) {
+            for (unsigned k = 0; k < tags && table[p][next_tag[p]].is_open; k++) next_tag[p] = (next_tag[p] + 1) % tags;
+            if (table[p][next_tag[p]].is_open) return false;
+        }
+        return true;
+    }
+
     // What the ports ask for in this cycle: which of them do.
     unsigned request(bool asks) {
-        for (unsigned p = 0; p < ports; p++) {
-            while (table[p][next_tag[p]].is_open) next_tag[p] = (next_tag[p] + 1) % tags;
-        }
         memory.request_valid = asks ? random() % 4 : 0;
         memory.request_write = random() % 4;
         memory.request_tag = static_cast<uint16_t>(next_tag[0] | next_tag[1] << 8);
