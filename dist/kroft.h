@@ -22,7 +22,8 @@
 /* A buffer of so many bytes takes each version. */
 #define KROFT_VERSION_TEXT 16
 
-/* Where a closed handle points. (C++ takes a plain 0 for no pointer, but its compilers can warn of that.) */
+/* Where a handle points before it is opened. (One that was given up is closed too, but its `at` isn't set back.) C++ takes a
+   plain 0 for no pointer, but its compilers can warn of that. */
 #ifdef __cplusplus
 #define KROFT_NOWHERE nullptr
 extern "C" {
@@ -54,7 +55,7 @@ enum {
 typedef struct {
     uint32_t kind;
     uint16_t tag;
-    uint8_t lanes; /* bit k is byte k; bits 4 to 7 name no lane */
+    uint8_t lanes; /* bit k is byte k; bits 4 to 7 are dropped */
     uint32_t at;
     uint32_t place;
     kroft_word word;
@@ -245,7 +246,8 @@ enum {
     KROFT_BAD_WRITE_QUEUE = 9,
     KROFT_BAD_REPLIES = 10,
     KROFT_BAD_IMAGE = 13,      /* the image hasn't as many words as memory                            */
-    KROFT_NOT_LISTED = 100,    /* one of the first four numbers is out of its range                   */
+    KROFT_NOT_LISTED = 100,    /* ways, block_words, regs or depth is out of its range. (There is no
+                                  list: whatever is in the ranges may be opened)                      */
     KROFT_OUT_OF_MEMORY = 101, /* an allocation was refused                                           */
     KROFT_OPEN_ALREADY = 102   /* a machine is behind the handle already                              */
 };
@@ -427,7 +429,8 @@ uint32_t kroft_find(kroft_handle *handle, uint32_t at, uint32_t *lookup);
  * stack has room; the stack's first word is processed, the first reply taken and the write queue's front drained, each
  * if possible; and the request at hand is asked once. If it was accepted, or refused with KROFT_OUT_OF_RANGE,
  * KROFT_NO_LANES or KROFT_NOT_PRESENT, the next one follows; otherwise it is asked again in the next round. The run ends
- * once the requests are used up and nothing is on its way. `./kroft drive` makes the same rounds.
+ * once the requests are used up and nothing is on its way. `./kroft drive` makes the same rounds, of each latency and busy
+ * that it takes.
  *
  * Rounds are a schedule, and tell nothing of any hardware's time.
  */
@@ -480,7 +483,7 @@ uint32_t kroft_drive(kroft_handle *handle, uint32_t latency, uint32_t busy, cons
  *     kroft_rounds_begin(&handle, 10, 2);
  *     for (;;) {                                                      (once in each cycle, say)
  *         kroft_round(&handle, &request, has_request, &told);
- *         if (told.outcome == KROFT_ROUND_ACCEPTED) has_request = 0;  (KROFT_ROUND_LOST: offer it again)
+ *         if (told.outcome != KROFT_ROUND_LOST) has_request = 0;      (a lost request is offered again)
  *         if (told.answered) deliver(told.tag, told.word);
  *     }
  *
@@ -771,7 +774,7 @@ uint32_t kroft_unanswered_store(kroft_history *handle, uint64_t n, kroft_operati
 typedef struct {
     uint64_t base;         /* the address of memory's first byte: a multiple of `block_bytes`                       */
     uint32_t blocks;       /* how many blocks memory has: 1 or more, and none lies past the last 64-bit address     */
-    uint32_t block_bytes;  /* the bytes of a block: a multiple of `widest`                                          */
+    uint32_t block_bytes;  /* the bytes of a block: a multiple of `widest`, which is in it once or more             */
     uint32_t widest;       /* the bytes of the widest access: 1, 2, 4, .. 64. Others are an eighth of it at least   */
     uint32_t sets;         /* the sets of the cache: 1 or more. Blocks a multiple of it apart conflict              */
     uint32_t conflicts;    /* the share of bursts that go to a block of set 0, where they conflict                  */
