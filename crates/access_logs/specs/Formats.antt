@@ -1,8 +1,8 @@
 -- What a line of a log says, in each format: an access, or nothing that is asked of a data cache.
 use Rattle.std.specs.Prelude.{ℕ, ◌+◌, ◌*◌, ◌/◌, ◌^◌, ◌==◌, Bool, true, false, ◌&&◌, ◌||◌, if◌then◌else◌, Option, None, Some, Result, Ok}
-use Rattle.std.specs.Prelude.{Err, List, [], ◌∷◌, length, position, nat_le, nat_lt}
+use Rattle.std.specs.Prelude.{Err, List, [], ◌∷◌, position, nat_le, nat_lt}
 use Rattle.std.specs.Option.{option_map, option_and_then}
-use Rattle.trace_text.specs.Fields.{nibble_of, number_of}
+use Rattle.trace_text.specs.Fields.{hex_of, number_of}
 use Rattle.trace_text.specs.Lines.{cut_at, cut_of}
 use Rattle.trace_text.specs.declared.lines.LineFault.{LineFault}
 use Rattle.trace_text.specs.declared.lines.LineFault.TheVariants.{Unknown, Field}
@@ -12,25 +12,9 @@ use Rattle.access_logs.specs.declared.access.AccessKind.TheVariants.{Load, Store
 use Rattle.access_logs.specs.declared.format.Reference.{Reference}
 use Rattle.access_logs.specs.declared.format.Reference.TheVariants.{Fetch, Data}
 
--- ---- addresses
-
--- one hexadecimal digit more, if the number stays below 2^64
-abbrev pub with_digit : ℕ → Option ℕ → Option ℕ
-with_digit n None = None
-with_digit n (Some d) = if nat_lt n (2 ^ 60) then Some (n * 16 + d) else None
-
--- the number that these digits make behind n
-abbrev pub hex_after : ℕ → List ℕ → Option ℕ
-hex_after n [] = Some n
-hex_after n (b ∷ bs) = option_and_then (λ k. hex_after k bs) (with_digit n (nibble_of b))
-
--- the address of these hexadecimal digits, at least one
-abbrev pub address_of : List ℕ → Option ℕ
-address_of bs = if length bs == 0 then None else hex_after 0 bs
-
 -- ---- what is touched
 
--- an address and a size, 1 to 512, no byte of which lies behind the last address
+-- a hexadecimal address and a size, 1 to 512, no byte of which lies behind the last address
 abbrev pub extent_with : Option ℕ → Option ℕ → Option (ℕ × ℕ)
 extent_with (Some address) (Some size) =
     if nat_lt 0 size && nat_le (address + size) (2 ^ 64) then Some (address, size) else None
@@ -38,7 +22,7 @@ extent_with address size = None
 
 abbrev pub extent_from : List ℕ × Option (List ℕ) → Option (ℕ × ℕ)
 extent_from (address, None) = None
-extent_from (address, Some size) = extent_with (address_of address) (number_of MAX_SIZE size)
+extent_from (address, Some size) = extent_with (hex_of address) (number_of MAX_SIZE size)
 
 -- `ADDRESS,SIZE`
 abbrev pub extent_of : List ℕ → Option (ℕ × ℕ)
@@ -50,7 +34,7 @@ word_extent address = (address / WORD_BYTES * WORD_BYTES, WORD_BYTES)
 
 abbrev pub word_extent_of : Option (List ℕ) → Option (ℕ × ℕ)
 word_extent_of None = None
-word_extent_of (Some field) = option_map word_extent (address_of field)
+word_extent_of (Some field) = option_map word_extent (hex_of field)
 
 -- ---- lines
 

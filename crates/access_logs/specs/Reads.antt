@@ -1,5 +1,5 @@
 -- A log that is read whole: its requests, in groups by their accesses.
-use Rattle.std.specs.Prelude.{⊤, ◌≡◌, ◌⊎◌, ℕ, ◌+◌, ◌<◌, ◌≤◌, Option, Some, None, Result, Ok, List, [], ◌∷◌, ◌++◌, length}
+use Rattle.std.specs.Prelude.{⊤, ◌≡◌, ◌⊎◌, ℕ, ◌+◌, ◌<◌, ◌≤◌, Option, Some, None, Result, Ok, List, ◌++◌, length}
 use Rattle.flat_model.specs.declared.Event.{Event}
 use Rattle.trace_text.specs.Codes.{most_lines}
 use Rattle.trace_text.specs.Reading.{FirstLine, ReadIntoWithin, ReadWholeWithin, ReadStopsWithin}

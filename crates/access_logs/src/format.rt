@@ -1,21 +1,17 @@
 //! The formats of logs: what a line says.
 ghost use Rattle.std.specs.Prelude.{◌≡◌, ◌+◌, ◌<◌, ◌≤◌, ◌^◌, ℕ, List, Option, Result, ◌==◌, length, position, IfSome, IfOk, IfErr};
 ghost use Rattle.std.specs.Option.{option_map, option_and_then};
-ghost use Rattle.trace_text.specs.Fields.{nibble_of};
 ghost use Rattle.trace_text.specs.Lines.{IsSaid};
 ghost use Rattle.trace_text.specs.declared.lines.LineFault.{LineFault};
 ghost use Rattle.access_logs.specs.declared.access.Access.{Access};
 ghost use Rattle.access_logs.specs.Accesses.{IsWithin};
-ghost use Rattle.access_logs.specs.Formats.{with_digit as digit_more, address_of, extent_of as extent_in, word_extent_of};
+ghost use Rattle.access_logs.specs.Formats.{extent_of as extent_in, word_extent_of};
 ghost use Rattle.access_logs.specs.Formats.{access_by as access_made, said_as as said, is_remark as is_remark_text, kind_of};
 ghost use Rattle.access_logs.specs.Formats.{is_name_end as ends_name, behind_space as space_then, data_from as data_said};
 ghost use Rattle.access_logs.specs.Formats.{fetch_from as fetch_said, lackey_from as lackey_said, lackey_access, label_of, din_access};
 
 use crate::access::{Access, AccessKind, MAX_SIZE, WORD_BYTES};
-use trace_text::{LineFault, cut, nibble, number};
-
-/// The largest number that one hexadecimal digit more keeps below 2^64.
-const MOST_BEFORE_DIGIT: u64 = 1_152_921_504_606_846_975;
+use trace_text::{LineFault, cut, hexadecimal, number};
 
 /// A format of logs.
 pub trait LogFormat {
@@ -52,31 +48,6 @@ enum Reference {
     Data(AccessKind),
 }
 
-// One hexadecimal digit more.
-fn with_digit(value: u64, byte: u8) -> Option<u64>
-    ensures { result ≡ digit_more value (nibble_of byte) }
-{
-    let digit = nibble(byte)?;
-    if value > MOST_BEFORE_DIGIT {
-        return None;
-    }
-    Some(value * 16 + u64::from(digit))
-}
-
-// The address of these hexadecimal digits.
-fn address(text: &[u8]) -> Option<u64>
-    ensures { result ≡ address_of text.now }
-{
-    if text.is_empty() {
-        return None;
-    }
-    let mut value = 0u64;
-    for byte in text {
-        value = with_digit(value, *byte)?;
-    }
-    Some(value)
-}
-
 fn comma(text: &[u8]) -> Option<usize>
     ensures value { result ≡ position (λ b. b == 44) text.now }
     ensures bound { IfSome result (λ at. at < length text.now) }
@@ -92,7 +63,7 @@ fn extent(text: &[u8]) -> Option<(u64, u32)>
     ensures last { IfSome result (λ extent. extent.0 + extent.1 ≤ 2 ^ 64) }
 {
     let at = comma(text)?;
-    let address = address(&text[..at]);
+    let address = hexadecimal(&text[..at]);
     let size = number(&text[at + 1..], MAX_SIZE);
     let address = address?;
     let size = size?;
@@ -109,7 +80,7 @@ fn word_extent(field: Option<&[u8]>) -> Option<(u64, u32)>
     ensures few { IfSome result (λ extent. extent.1 ≤ MAX_SIZE) }
     ensures last { IfSome result (λ extent. extent.0 + extent.1 ≤ 2 ^ 64) }
 {
-    let address = address(field?)?;
+    let address = hexadecimal(field?)?;
     Some((address / WORD_BYTES * WORD_BYTES, WORD_BYTES as u32))
 }
 

@@ -1,10 +1,10 @@
 //! The requests of an access are written.
-ghost use Rattle.std.specs.Prelude.{◌≡◌, ◌≤◌, ◌<◌, ◌^◌, length, OnOk, OnErr};
+ghost use Rattle.std.specs.Prelude.{◌≡◌, ◌≤◌, ◌<◌, OnOk, OnErr};
 ghost use Rattle.trace_text.specs.Streams.{Moves, Stopped};
 ghost use Rattle.flat_model.specs.declared.Event.TheVariants as event;
 ghost use Rattle.access_logs.specs.declared.access.TheConstants.{MAX_TOUCHED};
 ghost use Rattle.access_logs.specs.Accesses.{IsWithin};
-ghost use Rattle.access_logs.specs.Requests.{tag_behind, loads_of, stores_of, load_of, store_of, requests_of, request_text, requests_text};
+ghost use Rattle.access_logs.specs.Requests.{tag_behind, loads_of, stores_of, requests_of, request_text, requests_text};
 ghost use Rattle.access_logs.specs.Requests.{tag_after as next_tag};
 
 use crate::access::{Access, AccessKind};

@@ -1,5 +1,5 @@
 //! A log is read line by line, and its requests are written.
-ghost use Rattle.std.specs.Prelude.{◌≡◌, ℕ, [], ◌+◌, ◌/◌, ◌≤◌, ◌<◌, length, Some, None, OnOk, OnErr, IfErr, Ok};
+ghost use Rattle.std.specs.Prelude.{◌≡◌, [], ◌+◌, ◌/◌, ◌≤◌, ◌<◌, length, Some, None, OnOk, OnErr, IfErr, Ok};
 ghost use Rattle.trace_text.specs.declared.fault.TheConstants.{BUFFER_LEN, MAX_PAIR};
 ghost use Rattle.access_logs.specs.declared.pages.TheConstants.{MAX_PAGES, PAGE_WORDS};
 ghost use Rattle.access_logs.specs.declared.writing.TheConstants.{MOST_LOG_LINES};

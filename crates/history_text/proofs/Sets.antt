@@ -1,20 +1,15 @@
 -- The bytes of a set, one by one.
 use Rattle.std.proofs.Common.{◌≡◌, ℕ, ◌+◌, true, false, cond, List, [], ◌∷◌, ◌++◌, append-nil, sym, ◌∙◌, ap, arith}
 use Rattle.std.specs.List.{filter, range_with_len}
-use Rattle.std.proofs.lemmas.List.{map-id}
-use Rattle.std.proofs.lemmas.List.FromFn.{map-range_with_len_more}
 use Rattle.std.proofs.lemmas.List.Elements.{filter-append}
+use Rattle.flat_model.proofs.Numbers.{range_next}
 use Rattle.memory_histories.specs.declared.sets.ByteSet.{ByteSet}
 use Rattle.memory_histories.specs.Sets.{has}
 use Rattle.history_text.specs.Answers.{bytes_in_set}
 
-counted : (n : ℕ) → range_with_len 0 (n + 1) ≡ range_with_len 0 n ++ n ∷ []
-counted n = sym (map-id (range_with_len 0 (n + 1))) ∙ map-range_with_len_more (λ x. x) 0 n n (omega arith)
-    ∙ ap (λ l. l ++ n ∷ []) (map-id (range_with_len 0 n))
-
 filtered : (set : ByteSet) (n : ℕ)
     → filter (has set) (range_with_len 0 (n + 1)) ≡ filter (has set) (range_with_len 0 n) ++ filter (has set) (n ∷ [])
-filtered set n = ap (filter (has set)) (counted n) ∙ filter-append _ (range_with_len 0 n) (n ∷ [])
+filtered set n = ap (filter (has set)) (range_next n) ∙ filter-append _ (range_with_len 0 n) (n ∷ [])
 
 -- a byte of the set comes behind the smaller ones
 pub with_byte : (set : ByteSet) (bytes more : List ℕ) (n : ℕ) → bytes ≡ filter (has set) (range_with_len 0 n) → has set n ≡ true

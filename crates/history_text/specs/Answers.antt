@@ -4,7 +4,7 @@ use Rattle.std.specs.List.{filter, flat_map, range_with_len}
 use Rattle.std.specs.Fmt.{digits}
 use Rattle.memory_histories.specs.declared.sets.ByteSet.{ByteSet}
 use Rattle.memory_histories.specs.Sets.{has}
-use Rattle.trace_text.specs.Fields.{byte_text}
+use Rattle.flat_model.specs.Texts.{byte_text}
 use Rattle.history_text.specs.declared.answers.LawName.{LawName}
 use Rattle.history_text.specs.declared.answers.LawName.TheVariants.{Flat, Atomic, Regular}
 use Rattle.history_text.specs.declared.answers.OperationKind.{OperationKind}

@@ -1,27 +1,12 @@
 -- The fields of a line of a history: numbers, bytes and enables.
-use Rattle.std.specs.Prelude.{ℕ, ◌+◌, ◌*◌, ◌^◌, ◌==◌, ◌&&◌, if◌then◌else◌, Option, Some, None, List, [], ◌∷◌, length, nat_le, nat_lt}
-use Rattle.std.specs.Option.{option_and_then}
-use Rattle.trace_text.specs.Fields.{number_of, nibble_of, bit_of, byte_of}
+use Rattle.std.specs.Prelude.{ℕ, ◌+◌, ◌*◌, ◌==◌, ◌&&◌, if◌then◌else◌, Option, Some, None, List, [], ◌∷◌, length, nat_le}
+use Rattle.trace_text.specs.Fields.{number_of, hex_of, bit_of, byte_of}
 
 -- ---- numbers
 
 -- the largest number of 64 bits
 abbrev pub most_number : ℕ
 most_number = 18446744073709551615
-
--- one hexadecimal digit more, if the number stays below 2^64
-abbrev pub with_digit : ℕ → Option ℕ → Option ℕ
-with_digit n None = None
-with_digit n (Some d) = if nat_lt n (2 ^ 60) then Some (n * 16 + d) else None
-
--- the number that these hexadecimal digits make behind n
-abbrev pub hex_after : ℕ → List ℕ → Option ℕ
-hex_after n [] = Some n
-hex_after n (b ∷ bs) = option_and_then (λ k. hex_after k bs) (with_digit n (nibble_of b))
-
--- the number of hexadecimal digits, at least one
-abbrev pub hex_of : List ℕ → Option ℕ
-hex_of bs = if length bs == 0 then None else hex_after 0 bs
 
 -- a number of 64 bits: hexadecimal behind `0x`, and else decimal
 abbrev pub value_of : List ℕ → Option ℕ

@@ -2,7 +2,7 @@
 ghost use Rattle.std.specs.Prelude.{◌≡◌, ◌<◌, ◌++◌, Some, codes};
 ghost use Rattle.std.specs.Fmt.{WritesOnOk};
 ghost use Rattle.std.specs.List.{flat_map};
-ghost use Rattle.trace_text.specs.Fields.{byte_text};
+ghost use Rattle.flat_model.specs.Texts.{byte_text};
 ghost use Rattle.history_text.specs.Answers.{bytes_in_set as set_bytes, joined_bytes, source_text, allowed_text, alternatives_text};
 ghost use Rattle.history_text.specs.Answers.{overwritten_text, overwritten_there_text, address_text, law_text, kind_text, cause_text};
 ghost use Rattle.history_text.specs.Answers.{refusal_text, open_text as text_of_open, verdict_text, verdict_status};

@@ -1,26 +1,13 @@
 //! The fields of a line: numbers, bytes and enables.
 ghost use Rattle.std.specs.Prelude.{◌≡◌, ◌+◌, ◌^◌, ◌<◌, ◌≤◌, ◌∷◌, length, IfSome, IfNone};
 ghost use Rattle.std.specs.Option.{option_map};
-ghost use Rattle.trace_text.specs.Fields.{begins_badly as starts_badly, number_of, nibble_of, bit_of, byte_of};
-ghost use Rattle.history_text.specs.Fields.{most_number, with_digit as digit_more, hex_of, value_of, bytes_in, bytes_of, enables_in};
+ghost use Rattle.trace_text.specs.Fields.{number_of, bit_of};
+ghost use Rattle.history_text.specs.Fields.{most_number, value_of, bytes_in, bytes_of, enables_in};
 ghost use Rattle.history_text.specs.Fields.{enables_of};
 
 use crate::events::OperationBytes;
 use arrayvec::ArrayVec;
-use trace_text::nibble;
-
-/// The largest number that one hexadecimal digit more keeps below 2^64.
-const MOST_BEFORE_DIGIT: u64 = 1_152_921_504_606_846_975;
-
-fn begins_badly(text: &[u8]) -> bool
-    ensures { result ≡ starts_badly text.now }
-{
-    match text {
-        [] => true,
-        [_] => false,
-        [first, ..] => *first == b'0',
-    }
-}
+use trace_text::{begins_badly, byte, hexadecimal};
 
 // The number of these decimal digits.
 fn decimal(text: &[u8]) -> Option<u64>
@@ -42,31 +29,6 @@ fn decimal(text: &[u8]) -> Option<u64>
     Some(value as u64)
 }
 
-// One hexadecimal digit more.
-fn with_digit(value: u64, byte: u8) -> Option<u64>
-    ensures { result ≡ digit_more value (nibble_of byte) }
-{
-    let digit = nibble(byte)?;
-    if value > MOST_BEFORE_DIGIT {
-        return None;
-    }
-    Some(value * 16 + u64::from(digit))
-}
-
-// The number of these hexadecimal digits.
-fn hexadecimal(text: &[u8]) -> Option<u64>
-    ensures { result ≡ hex_of text.now }
-{
-    if text.is_empty() {
-        return None;
-    }
-    let mut value = 0u64;
-    for byte in text {
-        value = with_digit(value, *byte)?;
-    }
-    Some(value)
-}
-
 // A number of 64 bits: hexadecimal behind `0x`, and else decimal.
 pub(crate) fn value(text: &[u8]) -> Option<u64>
     ensures { result ≡ value_of text.now }
@@ -75,13 +37,6 @@ pub(crate) fn value(text: &[u8]) -> Option<u64>
         [b'0', b'x', digits @ ..] => hexadecimal(digits),
         _ => decimal(text),
     }
-}
-
-// The byte of two digits.
-fn byte(high: u8, low: u8) -> Option<u8>
-    ensures { result ≡ byte_of high low }
-{
-    Some(nibble(high)? * 16 + nibble(low)?)
 }
 
 // The first two digits, and those behind them.

@@ -10,7 +10,7 @@ use Rattle.flat_model.specs.declared.Cause.TheVariants.{OutOfRange}
 use Rattle.flat_model.specs.declared.Answer.{Answer}
 use Rattle.flat_model.specs.declared.Answer.TheVariants.{Accepted, Moved, Value, Nothing, Refused}
 use Rattle.flat_model.specs.Flat.{number, cause_of}
-use Rattle.trace_text.specs.Fields.{word_text}
+use Rattle.flat_model.specs.Texts.{word_text}
 use Rattle.trace_text.specs.Lines.{cut_of, same}
 use Rattle.trace_text.specs.declared.fields.TheConstants.{MAX_NUMBER}
 use Rattle.trace_text.specs.Texts.{answer_text}

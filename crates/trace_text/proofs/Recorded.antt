@@ -1,14 +1,11 @@
 -- What is written of a line and of a recorded pair, and what is read back of it.
 use Rattle.std.proofs.Common.{◌≡◌, decimal, ◌++◌, append_assoc, Option, Some, None, Ok, refl, ◌∙◌, ap, arith}
 use Rattle.std.specs.Prelude.{codes}
-use Rattle.flat_model.specs.declared.Word.{Word}
-use Rattle.flat_model.specs.declared.Lanes.{Lanes}
 use Rattle.flat_model.specs.declared.Event.{Event}
 use Rattle.flat_model.specs.declared.Event.TheVariants.{Load, Store, Arrive}
 use Rattle.flat_model.specs.declared.Answer.{Answer}
 use Rattle.flat_model.specs.declared.Answer.TheVariants.{Value}
 use Rattle.flat_model.specs.Texts as shown
-use Rattle.trace_text.specs.Fields.{lanes_text, word_text}
 use Rattle.trace_text.specs.Texts.{answer_text}
 use Rattle.trace_text.specs.Pairs.{answered_pair, pair_with, pair_of}
 use Rattle.trace_text.specs.Written.{line_text}
@@ -22,23 +19,15 @@ use Rattle.trace_text.proofs.Arrows.{read_behind}
 
 -- ---- the texts of words, masks, events and answers are those that they are shown by
 
-word_shown : (w : Word) → shown.word_text w ≡ word_text w
-unfolding shown.word_text
-word_shown w = refl
-
-lanes_shown : (m : Lanes) → shown.lanes_text m ≡ lanes_text m
-unfolding shown.lanes_text
-lanes_shown m = refl
-
 pub event_shown : (e : Event) → shown.event_text e ≡ line_text (line.Event e)
 event_shown (Load tag at) = append_assoc (codes "load " ++ decimal tag) (codes " ") (decimal at)
-event_shown (Store at word lanes) = grind (arith, append_assoc, word_shown, lanes_shown)
+event_shown (Store at word lanes) = grind (arith, append_assoc)
 event_shown (Arrive bank place) = append_assoc (codes "arrive " ++ decimal bank) (codes " ") (decimal place)
 event_shown e = refl
 
 pub answer_shown : (a : Answer) → shown.answer_text a ≡ answer_text a
 unfolding answer_text
-answer_shown (Value tag word) = grind (arith, append_assoc, word_shown)
+answer_shown (Value tag word) = grind (arith, append_assoc)
 answer_shown a = refl
 
 -- ---- a pair is read back

@@ -9,8 +9,9 @@ use Rattle.flat_model.specs.declared.Word.{Word}
 use Rattle.flat_model.specs.declared.Lanes.{Lanes}
 use Rattle.flat_model.specs.declared.Event.TheVariants.{Load, Store, Prefetch, Evict, Drain, Serve, Arrive, Process, Take}
 use Rattle.flat_model.specs.Words.{has}
-use Rattle.trace_text.specs.Fields.{number_of, bit_of, lanes_from, lanes_of, lanes_text, nibble_of, hex_digit}
-use Rattle.trace_text.specs.Fields.{byte_from, byte_of, byte_text, word_from, word_of, word_text}
+use Rattle.flat_model.specs.Texts.{lanes_text, hex_digit, byte_text, word_text}
+use Rattle.trace_text.specs.Fields.{number_of, bit_of, lanes_from, lanes_of, nibble_of}
+use Rattle.trace_text.specs.Fields.{byte_from, byte_of, word_from, word_of}
 use Rattle.trace_text.specs.Lines.{cut_of, same, name_of, command_named, number_in, load_line, load_from}
 use Rattle.trace_text.specs.Lines.{store_line, store_behind, store_from, arrive_line, arrive_from, line_from, or_field}
 use Rattle.trace_text.specs.Lines.{said_by, line_of}
@@ -33,12 +34,13 @@ byte_read : (b : ℕ) → b < 256 → byte_of (hex_digit (b / 16)) (hex_digit (b
 byte_read b lt = grind (arith, nibble_read)
 
 pub word_read : (w : Word) → w.b0 < 256 → w.b1 < 256 → w.b2 < 256 → w.b3 < 256 → word_of (word_text w) ≡ Some w
+unfolding word_text
 word_read w l0 l1 l2 l3 = grind (arith, byte_read)
 
 -- a mask's digits
 pub lanes_digits : (n : ℕ) → lanes_text (record { 0 = n })
     ≡ (48 + n % 2) ∷ (48 + n / 2 % 2) ∷ (48 + n / 4 % 2) ∷ (48 + n / 8 % 2) ∷ []
-unfolding has
+unfolding has lanes_text
 lanes_digits n = grind (arith, and_pow n 0, and_pow n 1, and_pow n 2, and_pow n 3)
 
 pub mask_read : (m : Lanes) → m.0 < 16 → lanes_of (lanes_text m) ≡ Some m
@@ -66,6 +68,7 @@ word_join : (a b c d e f g h : ℕ) (w : Word) (o p q r : Option ℕ) → Tells 
     → Tells byte_text (λ n. n < 256) (c ∷ d ∷ []) p → Tells byte_text (λ n. n < 256) (e ∷ f ∷ []) q
     → Tells byte_text (λ n. n < 256) (g ∷ h ∷ []) r → word_from o p q r ≡ Some w
     → (a ∷ b ∷ c ∷ d ∷ e ∷ f ∷ g ∷ h ∷ [] ≡ word_text w) × IsWord w
+unfolding word_text
 word_join a b c d e f g h w (Some o) (Some p) (Some q) (Some r) first second third fourth all =
     grind (arith, first o refl, second p refl, third q refl, fourth r refl)
 word_join a b c d e f g h w o p q r first second third fourth all = cc
@@ -206,15 +209,18 @@ pub number_high : (n : ℕ) → n ≤ MAX_NUMBER → High (decimal n)
 number_high n le = grind (arith, digits_high, decimal_digits)
 
 pub word_high : (w : Word) → High (word_text w)
+unfolding word_text
 word_high w = grind arith
 
 pub mask_high : (m : Lanes) → High (lanes_text m)
+unfolding lanes_text
 mask_high m = grind arith
 
 pub number_spaceless : (n : ℕ) → n ≤ MAX_NUMBER → NoSpace (decimal n)
 number_spaceless n le = high_spaceless (decimal n) (number_high n le)
 
 mask_spaceless : (m : Lanes) → NoSpace (lanes_text m)
+unfolding lanes_text
 mask_spaceless m = grind arith
 
 -- ---- what is written is read

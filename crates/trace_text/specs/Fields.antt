@@ -1,9 +1,9 @@
 -- The fields of a line: numbers, masks and words.
-use Rattle.std.specs.Prelude.{ℕ, ◌+◌, ◌-◌, ◌*◌, ◌/◌, ◌%◌, ◌==◌, Bool, true, false, ◌&&◌, if◌then◌else◌, Option, Some, None, List, [], ◌∷◌}
+use Rattle.std.specs.Prelude.{ℕ, ◌+◌, ◌-◌, ◌*◌, ◌^◌, ◌==◌, Bool, true, false, ◌&&◌, if◌then◌else◌, Option, Some, None, List, [], ◌∷◌}
 use Rattle.std.specs.Prelude.{◌++◌, length, nat_le, nat_lt, decimal, replicate}
+use Rattle.std.specs.Option.{option_and_then}
 use Rattle.flat_model.specs.declared.Word.{Word}
 use Rattle.flat_model.specs.declared.Lanes.{Lanes}
-use Rattle.flat_model.specs.Words.{has, Lane0, Lane1, Lane2, Lane3}
 
 -- ---- what digits say
 
@@ -29,6 +29,20 @@ number_of most bs = if begins_badly bs then None else number_after most 0 bs
 -- a digit `0` to `9` or `a` to `f` as a number
 abbrev pub nibble_of : ℕ → Option ℕ
 nibble_of b = if is_digit b then Some (b - 48) else if nat_le 97 b && nat_lt b 103 then Some (b - 87) else None
+
+-- one hexadecimal digit more, if the number stays below 2^64
+abbrev pub with_digit : ℕ → Option ℕ → Option ℕ
+with_digit n None = None
+with_digit n (Some d) = if nat_lt n (2 ^ 60) then Some (n * 16 + d) else None
+
+-- the number that these hexadecimal digits make behind n
+abbrev pub hex_after : ℕ → List ℕ → Option ℕ
+hex_after n [] = Some n
+hex_after n (b ∷ bs) = option_and_then (λ k. hex_after k bs) (with_digit n (nibble_of b))
+
+-- the number of hexadecimal digits, at least one
+abbrev pub hex_of : List ℕ → Option ℕ
+hex_of bs = if length bs == 0 then None else hex_after 0 bs
 
 -- a lane's digit as the lane's bit
 abbrev pub bit_of : ℕ → Option ℕ
@@ -65,23 +79,3 @@ word_of bs = None
 -- the digits of n, with zeros before them up to a width
 abbrev pub padded : ℕ → ℕ → List ℕ
 padded width n = replicate (width - length (decimal n)) 48 ++ decimal n
-
--- a number below 16 as a digit
-abbrev pub hex_digit : ℕ → ℕ
-hex_digit n = if nat_lt n 10 then 48 + n else 87 + n
-
--- a byte in two digits
-abbrev pub byte_text : ℕ → List ℕ
-byte_text b = hex_digit (b / 16) ∷ hex_digit (b % 16) ∷ []
-
--- a word in eight digits, byte 0 first
-abbrev pub word_text : Word → List ℕ
-word_text w = byte_text w.b0 ++ byte_text w.b1 ++ byte_text w.b2 ++ byte_text w.b3
-
--- a lane's digit
-abbrev pub bit_text : Bool → ℕ
-bit_text b = if b then 49 else 48
-
--- a mask in four digits, lane 0 first
-abbrev pub lanes_text : Lanes → List ℕ
-lanes_text m = bit_text (has m Lane0) ∷ bit_text (has m Lane1) ∷ bit_text (has m Lane2) ∷ bit_text (has m Lane3) ∷ []

@@ -11,7 +11,8 @@ use Rattle.miss_registers.specs.declared.FieldView.{FieldView}
 use Rattle.machine_core.specs.Machine.{MachineState}
 use Rattle.machine_core.specs.AnyMachine.{answered, after_event, register_shown, field_shown, bank_shown, is_settled}
 use Rattle.trace_text.specs.Codes.{space, hyphen, closing_bracket, letter_I, letter_O, letter_P, letter_V}
-use Rattle.trace_text.specs.Fields.{padded, lanes_text, word_text}
+use Rattle.flat_model.specs.Texts.{lanes_text, word_text}
+use Rattle.trace_text.specs.Fields.{padded}
 use Rattle.trace_text.specs.declared.lines.Line.{Line}
 use Rattle.trace_text.specs.declared.lines.Line.TheVariants as line
 

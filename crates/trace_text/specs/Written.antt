@@ -6,7 +6,7 @@ use Rattle.flat_model.specs.declared.Answer.{Answer}
 use Rattle.flat_model.specs.declared.Answer.TheVariants.{Accepted, Moved, Value, Nothing, Refused}
 use Rattle.trace_text.specs.Codes.{space}
 use Rattle.trace_text.specs.declared.fields.TheConstants.{MAX_NUMBER, MAX_TAG}
-use Rattle.trace_text.specs.Fields.{lanes_text, word_text}
+use Rattle.flat_model.specs.Texts.{lanes_text, word_text}
 use Rattle.trace_text.specs.declared.lines.Line.{Line}
 use Rattle.trace_text.specs.declared.lines.Line.TheVariants as line
 

@@ -2,7 +2,8 @@
 ghost use Rattle.std.specs.Prelude.{◌≡◌, ◌+◌, ◌-◌, ◌<◌, ◌≤◌, ◌++◌, length, decimal, replicate, max};
 ghost use Rattle.trace_text.specs.declared.fault.TheConstants.{MAX_PAIR};
 ghost use Rattle.flat_model.specs.Words.{has, Lane0, Lane1, Lane2, Lane3};
-ghost use Rattle.trace_text.specs.Fields.{padded, word_text, bit_text, lanes_text, hex_digit as digit_of};
+ghost use Rattle.flat_model.specs.Texts.{word_text, bit_text, lanes_text, hex_digit as digit_of};
+ghost use Rattle.trace_text.specs.Fields.{padded};
 
 use crate::text::LineText;
 use bitflags::Flags;
@@ -63,6 +64,7 @@ impl LineText {
     }
 
     /// A word's eight digits, byte 0 first, at the end.
+    #[tactic(auto, unfolding(flat_model::specs::Texts::word_text))]
     pub fn push_word(&mut self, word: Word)
         requires { length self.old + 8 ≤ MAX_PAIR }
         ensures text { self.new ≡ self.old ++ word_text word }
@@ -81,6 +83,7 @@ impl LineText {
     }
 
     /// A mask's four digits, lane 0 first, at the end.
+    #[tactic(auto, unfolding(flat_model::specs::Texts::lanes_text))]
     pub fn push_lanes(&mut self, lanes: Lanes)
         requires { length self.old + 4 ≤ MAX_PAIR }
         ensures text { self.new ≡ self.old ++ lanes_text lanes }

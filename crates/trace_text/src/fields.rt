@@ -1,9 +1,12 @@
 //! The fields of a line are read.
 ghost use Rattle.std.specs.Prelude.{◌≡◌, ◌≤◌, ◌∷◌, [], IfSome};
-ghost use Rattle.trace_text.specs.Fields.{begins_badly as starts_badly, number_after, number_of, nibble_of, bit_of, lanes_of, byte_from};
-ghost use Rattle.trace_text.specs.Fields.{word_of};
+ghost use Rattle.trace_text.specs.Fields.{begins_badly as starts_badly, number_after, number_of, nibble_of, bit_of, lanes_of, byte_of};
+ghost use Rattle.trace_text.specs.Fields.{with_digit as digit_more, hex_of, word_of};
 
 use flat_model::{Lanes, Word};
+
+/// The largest number that one hexadecimal digit more keeps below 2^64.
+const MOST_BEFORE_DIGIT: u64 = 1_152_921_504_606_846_975;
 
 /// The largest tag.
 pub(crate) const MAX_TAG: u32 = u16::MAX as u32;
@@ -57,7 +60,8 @@ fn lone_digit(digit: u8, most: u32) -> Option<u32>
     Some(u32::from(digit - b'0'))
 }
 
-fn begins_badly(text: &[u8]) -> bool
+/// Whether no decimal number begins so: there is no digit, or a zero in front of others.
+pub fn begins_badly(text: &[u8]) -> bool
     ensures { result ≡ starts_badly text.now }
 {
     match text {
@@ -76,6 +80,32 @@ pub fn nibble(byte: u8) -> Option<u8>
         b'a'..=b'f' => Some(byte - b'a' + 10),
         _ => None,
     }
+}
+
+// One hexadecimal digit more.
+fn with_digit(value: u64, byte: u8) -> Option<u64>
+    ensures { result ≡ digit_more value (nibble_of byte) }
+{
+    let digit = nibble(byte)?;
+    if value > MOST_BEFORE_DIGIT {
+        return None;
+    }
+    Some(value * 16 + u64::from(digit))
+}
+
+/// The number of these hexadecimal digits, zeros in front of them or not. `None` if there are none or one of them is none of
+/// [`nibble`]'s, or if the number isn't below 2^64.
+pub fn hexadecimal(text: &[u8]) -> Option<u64>
+    ensures { result ≡ hex_of text.now }
+{
+    if text.is_empty() {
+        return None;
+    }
+    let mut value = 0u64;
+    for byte in text {
+        value = with_digit(value, *byte)?;
+    }
+    Some(value)
 }
 
 fn bit(byte: u8) -> Option<u8>
@@ -98,8 +128,9 @@ pub(crate) fn lanes(text: &[u8]) -> Option<Lanes>
     }
 }
 
-fn byte(high: u8, low: u8) -> Option<u8>
-    ensures { result ≡ byte_from (nibble_of high) (nibble_of low) }
+/// The byte of two hexadecimal digits, the high one first.
+pub fn byte(high: u8, low: u8) -> Option<u8>
+    ensures { result ≡ byte_of high low }
 {
     Some(nibble(high)? * 16 + nibble(low)?)
 }

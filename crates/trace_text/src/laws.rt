@@ -1,12 +1,13 @@
 //! What holds of traces alone. These functions do nothing: their contracts are laws.
-ghost use Rattle.std.specs.Prelude.{◌≡◌, ℕ, Option, ◌^◌, ◌<◌, ◌≤◌, List, ◌∷◌, ◌++◌, Some, Ok, decimal, codes};
+ghost use Rattle.std.specs.Prelude.{◌≡◌, ℕ, Option, ◌^◌, ◌<◌, ◌≤◌, List, ◌++◌, Some, Ok, decimal, codes};
 ghost use Rattle.std.specs.List.{AllByRecursion};
 ghost use Rattle.flat_model.specs.declared.Word.{Word};
 ghost use Rattle.flat_model.specs.declared.Lanes.{Lanes};
 ghost use Rattle.trace_text.specs.declared.lines.Line.{Line};
 ghost use Rattle.trace_text.specs.declared.lines.LineFault.{LineFault};
 ghost use Rattle.machine_core.specs.Machine.{MachineState};
-ghost use Rattle.trace_text.specs.Fields.{number_of, word_of, word_text, lanes_of, lanes_text};
+ghost use Rattle.flat_model.specs.Texts.{word_text, lanes_text};
+ghost use Rattle.trace_text.specs.Fields.{number_of, word_of, lanes_of};
 ghost use Rattle.trace_text.specs.Lines.{line_of};
 ghost use Rattle.trace_text.specs.Written.{line_text, IsFit, IsFitAnswer, IsFitReply};
 ghost use Rattle.trace_text.specs.Texts.{answer_text, reply_text};

@@ -1,5 +1,5 @@
 //! A trace is served: each line is applied, and its answer written, before the next.
-ghost use Rattle.std.specs.Prelude.{◌≡◌, ℕ, [], ◌+◌, ◌<◌, ◌≤◌, ◌++◌, length, Ok, OnOk, OnErr, Some};
+ghost use Rattle.std.specs.Prelude.{◌≡◌, [], ◌+◌, ◌<◌, ◌≤◌, ◌++◌, length, Ok, OnOk, OnErr, Some};
 ghost use Rattle.trace_text.specs.declared.fault.TheConstants.{BUFFER_LEN, MAX_LINE, MAX_LINES, MAX_PAIR};
 ghost use Rattle.trace_text.specs.declared.text.TheConstants.{MAX_REGISTER_TEXT};
 ghost use Rattle.std.specs.Option.{option_to_list};

@@ -1,5 +1,5 @@
 use Rattle.std.specs.Prelude.{decimal}
-use Rattle.trace_text.specs.Fields.{lanes_text, word_text}
+use Rattle.flat_model.specs.Texts.{lanes_text, word_text}
 use Rattle.access_logs.proofs.Asked.{store_built}
 use Rattle.access_logs.proofs.requests.put_store.Goals as goal
 

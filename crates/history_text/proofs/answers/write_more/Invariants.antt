@@ -1,7 +1,7 @@
 use Rattle.std.proofs.Common.{take, ◌++◌}
 use Rattle.std.specs.List.{flat_map}
 use Rattle.std.specs.Fmt.{HasWritten, IsPlainFormatter}
-use Rattle.trace_text.specs.Fields.{byte_text}
+use Rattle.flat_model.specs.Texts.{byte_text}
 use Rattle.history_text.proofs.answers.write_more.Given as goal
 
 abbrev pub invariant-loop-byte : goal.invariant-loop-byte

@@ -1,7 +1,7 @@
 use Rattle.std.proofs.Common.{ℕ, List, ◌++◌, ◌∙◌, ap, sym, subst}
 use Rattle.std.specs.Prelude.{codes}
 use Rattle.std.specs.Fmt.{HasWritten}
-use Rattle.trace_text.specs.Fields.{byte_text}
+use Rattle.flat_model.specs.Texts.{byte_text}
 use Rattle.history_text.specs.declared.answers.AllowedByte.{AllowedByte}
 use Rattle.history_text.specs.Answers.{address_text, alternatives_text, overwritten_text, cause_text}
 use Rattle.history_text.proofs.answers.RefusalCauseDisplay.fmt.Goals as goal

@@ -1,6 +1,6 @@
 use Rattle.std.proofs.Common.{◌≡◌, ◌<◌, ◌^◌, drop, length}
-use Rattle.history_text.specs.Fields.{hex_after}
-use Rattle.history_text.proofs.fields.hexadecimal.Given as goal
+use Rattle.trace_text.specs.Fields.{hex_after}
+use Rattle.trace_text.proofs.fields.hexadecimal.Given as goal
 
 -- the number that the rest of the digits make of the value so far is that of them all
 abbrev pub invariant-loop-byte : goal.invariant-loop-byte
