@@ -19,7 +19,7 @@ use Rattle.std.specs.Option.{option_map}
 use Rattle.atomic_histories.proofs.Links.{IsAlone, found_each, pass}
 use Rattle.std.proofs.lemmas.Option.{same_Some}
 use Rattle.atomic_histories.specs.declared.unit.WatchedLoad.{WatchedLoad}
-use Rattle.atomic_histories.specs.Pasts.{Past, Stood, Has, IsBy, got, oldest, cut_for, seen_since}
+use Rattle.atomic_histories.specs.Pasts.{Past, Stood, Has, IsBy, oldest, cut_for, seen_since}
 use Rattle.atomic_histories.specs.Followed.{Pair, Aim, watched, way_on, word_aim, is_under, is_answer, pair_on, pair_got, pair_missed}
 use Rattle.atomic_histories.specs.Followed.{gathered, with_hope, pair_cut, moment_with, loads_without}
 use Rattle.atomic_histories.proofs.Paths.{HasAny, part, part_has, has_part, cut_path, cut_has, has_cut, path_by, by_paths, by_cut}

@@ -1,7 +1,7 @@
 -- What is open at a unit is what is open in the history and has a byte there.
 use Rattle.std.proofs.lemmas.List.Sums.{fold_push}
 use Rattle.memory_histories.proofs.Lists.{filter-map, list_any-map, list_any-filter}
-use Rattle.std.proofs.Common.{◌≡◌, ℕ, ◌+◌, ◌-◌, ◌/◌, ◌<◌, ◌≤◌, Bool, true, false, ◌||◌, not, ◌==◌, if◌then◌else◌, ◌&&◌, List, [], ◌∷◌, ◌++◌}
+use Rattle.std.proofs.Common.{◌≡◌, ℕ, ◌+◌, ◌/◌, ◌<◌, ◌≤◌, Bool, true, false, ◌||◌, not, ◌==◌, if◌then◌else◌, ◌&&◌, List, [], ◌∷◌, ◌++◌}
 use Rattle.std.proofs.Common.{map, fold, length, filter, Option, Some, None, is_none, is_some, inl, inr, refl, sym, ap, ◌∙◌, subst}
 use Rattle.std.proofs.Common.{append-nil, eqb-true, eq-eqb, arith, ◌⊎◌}
 use Rattle.std.specs.List.{list_any, find, range_with_len, list_all}

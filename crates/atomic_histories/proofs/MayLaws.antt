@@ -2,7 +2,7 @@
 use Rattle.atomic_histories.proofs.Links.{fit_by, IsAlone, AreDistinct, is_of}
 use Rattle.atomic_histories.proofs.Links.{linked, then_some, each_none, alone, has_address, is_there, HaveGot, shown_word, the_load}
 use Rattle.atomic_histories.proofs.Links.{got_between}
-use Rattle.std.proofs.Common.{[], ◌≡◌, ℕ, ◌+◌, ◌/◌, ◌<◌, ◌≤◌, ◌⊎◌, ◌↔◌, Bool, true, false, ◌&&◌, ◌||◌, ◌==◌, List}
+use Rattle.std.proofs.Common.{[], ◌≡◌, ℕ, ◌+◌, ◌/◌, ◌<◌, ◌≤◌, ◌↔◌, Bool, true, false, ◌||◌, ◌==◌, List}
 use Rattle.std.proofs.Common.{◌∷◌, ◌++◌, map, length, Option, Some, None, slice_get, inl, inr}
 use Rattle.std.proofs.Common.{refl, sym, ap, ◌∙◌, subst, arith, ◌-◌, ◌*◌, ◌%◌, not, if◌then◌else◌, eqb-true, eq-eqb}
 use Rattle.std.specs.List.{list_any, find, All, range_with_len}
@@ -14,9 +14,8 @@ use Rattle.atomic_histories.specs.declared.unit.UnitPlace.{UnitPlace}
 use Rattle.atomic_histories.specs.Operations.{opened_by, has_number, none_opened, answer_fault}
 use Rattle.atomic_histories.specs.Law.{OpenLoad, UnitMemory, MayBe, steps, untouched, unit_at, is_load, sees, done_load, is_got}
 use Rattle.atomic_histories.specs.Law.{may_answer_load, without_load, seen, is_formed, IsAtomicAt}
-use Rattle.atomic_histories.specs.Pasts.{shows, got}
+use Rattle.atomic_histories.specs.Pasts.{got}
 use Rattle.atomic_histories.specs.Stands.{Each}
-use Rattle.atomic_histories.specs.Stands.{now}
 use Rattle.atomic_histories.specs.Held.{is_lost}
 use Rattle.atomic_histories.specs.May.{lane_of, may_show, got_byte, MayGet, MayReturn, asks}
 use Rattle.atomic_histories.proofs.Lists.{one_elim, each_both, one_any, one_each}

@@ -4,7 +4,7 @@ ghost use Rattle.std.specs.Prelude.{ℕ, ◌≡◌, ◌++◌, [], true, false, L
 ghost use Rattle.std.specs.List.{filter, find};
 ghost use Rattle.atomic_histories.specs.declared.stretches.Stretch.{Stretch};
 ghost use Rattle.atomic_histories.specs.declared.unit.UnitPlace.{UnitPlace};
-ghost use Rattle.atomic_histories.specs.Followed.{Ways, is_under, cons_any, pair_on, gathered, pair_got, pair_missed, with_hope, word_aim};
+ghost use Rattle.atomic_histories.specs.Followed.{is_under, cons_any, pair_on, gathered, pair_got, pair_missed, with_hope, word_aim};
 ghost use Rattle.atomic_histories.specs.Followed.{answered_load, answered_store, load_needs_more, needs_more, needs_too_many, effect_aim};
 ghost use Rattle.atomic_histories.specs.Followed.{ways_without_load, ways_without_store, ways_after, has_many_words, is_too_wide};
 ghost use Rattle.atomic_histories.specs.Few.{KeepsFew, IsFewFor};

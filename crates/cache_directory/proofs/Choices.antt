@@ -4,20 +4,13 @@ use Rattle.std.proofs.Common.{refl, sym, ◌∙◌, arith}
 use Rattle.std.specs.List.{find}
 use Rattle.std.proofs.lemmas.Bool.{both_ways, false_from_ne_true, not-true, not-false}
 use Rattle.flat_model.specs.Places.{is_number}
+use Rattle.flat_model.proofs.Numbers.{number_from, number_is}
 use Rattle.flat_model.proofs.Places.{place_of-first, place_of-none, place_of-nowhere}
 use Rattle.cache_directory.specs.declared.directory.Choice.TheVariants.{Free, Victim}
 use Rattle.cache_directory.specs.Frames.{Frames, IsSound, empty_frame, frame_at, is_held, frame_of, order_of, ways_of, set_of, choice_from}
 use Rattle.cache_directory.specs.Frames.{free_way, oldest, chosen, is_all_pending, are_pending}
 use Rattle.cache_directory.proofs.Finds.{find-passes, find-all, find-nowhere, range_within, All-range, list_all-passes, range_not_all}
 use Rattle.cache_directory.proofs.Whole.{times-all, held_there, slot_in, in_row, of_row, held_in_order, order_held}
-
--- a block that is this number
-is_number-true : (o : Option ℕ) (b : ℕ) → is_number o b ≡ true → o ≡ Some b
-is_number-true (Some c) b e = grind arith
-is_number-true None b e = absurd (cc)
-
-is_number-same : (o : Option ℕ) (b : ℕ) → o ≡ Some b → is_number o b ≡ true
-is_number-same o b e = grind arith
 
 -- ---- the frame that holds a block
 
@@ -26,21 +19,21 @@ pub found_nowhere : (d : Frames) (block f : ℕ) → frame_of d.frames block ≡
 unfolding frame_of
 found_nowhere d block f e held =
     let no = place_of-nowhere (λ y. is_number y.block block) _ f empty_frame e (held_there d f (cc)) in
-    both_ways _ no (is_number-same (frame_at _ f).block block held)
+    both_ways _ no (number_is (frame_at _ f).block block held)
 
 -- the one frame that holds it
 pub found_held : (ways words : ℕ) (d : Frames) (block f : ℕ) → IsSound ways words d → (frame_at d.frames f).block ≡ Some block
     → frame_of d.frames block ≡ Some f
 unfolding frame_of
 found_held ways words d block f h held = place_of-first (λ y. is_number y.block block) _ f empty_frame (held_there d f (cc))
-    (λ j l. false_from_ne_true _ (λ y. (let q = h.alone j f block (is_number-true (frame_at _ j).block block y) held in
-    absurd (omega arith)))) (is_number-same (frame_at _ f).block block held)
+    (λ j l. false_from_ne_true _ (λ y. (let q = h.alone j f block (number_from (frame_at _ j).block block y) held in
+    absurd (omega arith)))) (number_is (frame_at _ f).block block held)
 
 -- where none does, a look finds none
 pub found_none : (d : Frames) (block : ℕ) → ((f : ℕ) → (frame_at d.frames f).block ≡ Some block → ⊥) → frame_of d.frames block ≡ None
 unfolding frame_of
 found_none d block nowhere = place_of-none (λ y. is_number y.block block) _ empty_frame
-    (λ j l. false_from_ne_true _ (λ y. nowhere j (is_number-true (frame_at _ j).block block y)))
+    (λ j l. false_from_ne_true _ (λ y. nowhere j (number_from (frame_at _ j).block block y)))
 
 -- a look over the ways of the block's set finds it
 pub look_in_set : (ways words : ℕ) (d : Frames) (block : ℕ) → IsSound ways words d
@@ -57,11 +50,11 @@ look_in_set ways words d block h = go _ refl
     row = ways_of ways set
 
     go : (o : Option ℕ) → find p row ≡ o → find p row ≡ frame_of d.frames block
-    go (Some f) e = e ∙ sym (found_held ways words d block f h (is_number-true (frame_at _ f).block block (find-passes p row f e)))
+    go (Some f) e = e ∙ sym (found_held ways words d block f h (number_from (frame_at _ f).block block (find-passes p row f e)))
     go None e = e ∙ sym (found_none d block (λ f held. (let some = (slot_in f ways _ _ h.frames_there (held_there d f (cc))).0 in
         let at = in_row f ways set some (h.in_set f block held) in
         both_ways (p f) (All-range (λ x. p x ≡ false) _ ways f (find-nowhere p row e) at.0 at.1)
-        (is_number-same (frame_at _ f).block block held))))
+        (number_is (frame_at _ f).block block held))))
 
 -- ---- the choice
 

@@ -1,6 +1,6 @@
 -- What is always so of a directory stays so.
 use Rattle.std.proofs.Common.{◌≡◌, ℕ, suc, zero, ◌+◌, ◌<◌, ◌≤◌, List, [], ◌∷◌, ◌++◌, length, refl, arith, inl, inr, ◌⊎◌, eq-eqb, ne_eqb}
-use Rattle.std.proofs.Common.{◌-◌, ◌*◌, ◌/◌, ◌%◌, true, cond, ◌&&◌, ◌==◌, get_or, set, Some, None, is_some, ap, sym, ◌∙◌}
+use Rattle.std.proofs.Common.{◌*◌, ◌/◌, ◌%◌, true, cond, ◌&&◌, ◌==◌, get_or, set, Some, None, is_some, ap, sym, ◌∙◌}
 use Rattle.std.proofs.Common.{length-set, get_or-set_same, get_or-set_other}
 use Rattle.std.specs.List.{All}
 use Rattle.std.proofs.lemmas.Bool.{cases_eq, cases_lt, false≢true, both_ways}

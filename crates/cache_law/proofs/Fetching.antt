@@ -22,7 +22,8 @@ use Rattle.cache_directory.proofs.Whole.{whole-released, whole-installed, whole-
 use Rattle.cache_directory.proofs.Misses.{installed-here}
 use Rattle.miss_registers.proofs.Whole.{allocated-kept}
 use Rattle.miss_registers.specs.declared.TheConstants.{MAX_WAITING}
-use Rattle.cache_law.proofs.Lists.{none_in_frames, place_of-only, number_from, frame_of-some}
+use Rattle.flat_model.proofs.Numbers.{number_from}
+use Rattle.cache_law.proofs.Lists.{none_in_frames, place_of-only, frame_of-some}
 use Rattle.cache_law.proofs.Keeps.{owes-same}
 use Rattle.cache_law.specs.declared.Reply.{Reply}
 use Rattle.cache_directory.specs.Frames as dir

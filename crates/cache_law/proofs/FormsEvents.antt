@@ -15,7 +15,7 @@ use Rattle.cache_law.specs.State.{Target, Cache, field_at, frame_of, live_for, c
 use Rattle.cache_law.specs.State.{Field, Register, empty_frame, clear_field, free_register, frame_at, register_at, is_live, gathered}
 use Rattle.cache_law.specs.State.{targets_of, targets_of_field}
 use Rattle.cache_law.specs.Forms.{Form, bytes_of, missing_form, over_form, form_in, owed, coming_form, form, fill}
-use Rattle.cache_law.specs.FormLaws.{form_where, form_at, forms, words_without, EvictForms, but_at, filled_form, DrainForms, ArriveForms}
+use Rattle.cache_law.specs.FormLaws.{form_where, form_at, forms, words_without, EvictForms, but_at, filled_form, SameForms, ArriveForms}
 use Rattle.cache_law.specs.FormLaws.{TakeForms, TakenForms}
 use Rattle.cache_law.specs.Counts.{tally}
 use Rattle.cache_law.proofs.Lists.{tally-map, find-map, gathered_part, read_set, in_range, frame_of-some, live_for-some}
@@ -282,8 +282,8 @@ module _ (c : Cache) (slot i : ℕ) where
 
 -- ---- drain
 
-pub drain_forms : (z : Sizes) (room : ℕ → ℕ) (c : Cache) → DrainForms z c (drain_step z room c).answer (drain_step z room c).cache
-unfolding DrainForms drain_step form_at dir.frame_of regs.live_for
+pub drain_forms : (z : Sizes) (room : ℕ → ℕ) (c : Cache) → SameForms z c (drain_step z room c).answer (drain_step z room c).cache
+unfolding SameForms drain_step form_at dir.frame_of regs.live_for
 drain_forms z room c = grind arith
 
 -- ---- arrive

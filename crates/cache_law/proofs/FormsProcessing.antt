@@ -20,7 +20,7 @@ use Rattle.cache_law.specs.State.{block_of, place_in}
 use Rattle.miss_registers.specs.Registers.{finished, finished_field, finished_fields, is_done}
 use Rattle.cache_law.specs.Steps.{answered, frame_for, settled_if, filled_live, processed, process_step}
 use Rattle.cache_law.specs.Forms.{bytes_of, missing_form, over_form, owed}
-use Rattle.cache_law.specs.FormLaws.{form_at, forms, ProcessForms}
+use Rattle.cache_law.specs.FormLaws.{form_at, forms, SameForms}
 use Rattle.cache_law.specs.Sound.{IsSound}
 use Rattle.cache_law.proofs.Tags.{HasWord, has_word, entries_apart, owed_once}
 use Rattle.cache_law.specs.Counts.{tally}
@@ -448,6 +448,6 @@ module _ (z : Sizes) (c : Cache) (h : IsSound z c) (place : ℕ) (e : Entry) (fo
       rw is (turned_by frames_then filling_then)
 
 pub process_forms : (z : Sizes) (c : Cache) → IsSound z c → (place : ℕ)
-    → ProcessForms z c (process_step c place).answer (process_step c place).cache
-unfolding ProcessForms process_step
+    → SameForms z c (process_step c place).answer (process_step c place).cache
+unfolding SameForms process_step
 process_forms z c h place = grind (arith, processed-by z c h place)

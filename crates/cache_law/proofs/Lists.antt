@@ -5,6 +5,7 @@ use Rattle.std.proofs.Common.{append_assoc, append-nil, add-zero, zero-add, ap�
 use Rattle.std.proofs.Common.{⊎_elim, ◌&&◌, ◌==◌, eqb-true, eq-eqb, length-set, not, nat_lt}
 use Rattle.std.specs.List.{list_all}
 use Rattle.flat_model.specs.Places.{place_of, is_number}
+use Rattle.flat_model.proofs.Numbers.{number_from, number_is}
 use Rattle.flat_model.proofs.Places.{place_of-passes}
 use Rattle.std.proofs.lemmas.Bool.{and_parts, cases_lt, cases_eq, false_from_ne_true}
 use Rattle.std.specs.Option.{option_or}
@@ -353,13 +354,6 @@ module _ (registers : List Register) (s i : ℕ) (f : Field) where
       read_set (λ r. p (get_or r.fields j clear_field)) free_register registers s _ (read_set p clear_field _ i f e j) t
 
 -- ---- Which frame holds a block, and which register is live for it.
-
-pub number_from : (o : Option ℕ) (n : ℕ) → is_number o n ≡ true → o ≡ Some n
-number_from None n h = cc
-number_from (Some k) n h = ap Some (eqb-true k n h)
-
-pub number_is : (o : Option ℕ) (n : ℕ) → o ≡ Some n → is_number o n ≡ true
-number_is o n h = cc (h, eq-eqb n n refl)
 
 -- a frame holds the block for which it is found
 pub frame_of-some : (fs : List Frame) (b f : ℕ) → dir.frame_of fs b ≡ Some f → (f < length fs) × ((dir.frame_at fs f).block ≡ Some b)

@@ -1,19 +1,16 @@
 -- A unit that holds nothing is sound.
-use Rattle.std.proofs.Common.{◌≡◌, ℕ, ◌*◌, ◌%◌, Bool, arith, ◌<◌, List, [], replicate, get_or}
-use Rattle.std.proofs.lemmas.Bool.{false≢true, cases_lt}
+use Rattle.std.proofs.Common.{◌≡◌, ℕ, ◌*◌, ◌%◌, Bool, arith, ◌<◌, List, [], replicate}
+use Rattle.std.proofs.lemmas.Bool.{false≢true}
 use Rattle.cache_law.specs.declared.Sizes.{Sizes}
 use Rattle.cache_law.specs.Sound.{owing, IsSound}
-use Rattle.std.proofs.lemmas.List.{get_or-replicate, get_or_past, length-replicate}
+use Rattle.std.proofs.lemmas.List.{length-replicate}
 use Rattle.std.proofs.lemmas.List.Folds.{sum_by-replicate}
+use Rattle.miss_registers.proofs.Tags.{replicate-each}
 use Rattle.miss_registers.proofs.Whole.{new-kept}
 use Rattle.std.proofs.lemmas.Option.{none-some}
 use Rattle.cache_law.specs.State.{opening_cache}
 use Rattle.cache_directory.specs.Frames as dir
 use Rattle.miss_registers.specs.Registers as regs
-
--- each element of a list of equal ones, and what stands past its end
-pub all_same : {X : Type 0} (n k : ℕ) (x : X) → get_or (replicate n x) k x ≡ x
-all_same n k x = grind (arith, cases_lt, get_or-replicate, get_or_past, length-replicate)
 
 abbrev free_file : ℕ → List regs.Register
 free_file n = replicate n regs.free_register
@@ -24,7 +21,7 @@ no_loads p n = grind (arith, sum_by-replicate)
 -- no frame holds a block
 all_empty-sound : (ways words sets : ℕ) → dir.IsSound ways words (dir.all_empty ways sets)
 all_empty-sound ways words sets =
-    let frames = λ (f : ℕ). all_same (sets * ways) f dir.empty_frame in
+    let frames = λ (f : ℕ). replicate-each (sets * ways) f dir.empty_frame in
     let order : List ℕ = [] in
     record {
       frames_there = cc (length-replicate (sets * ways) dir.empty_frame, length-replicate sets order);
@@ -32,11 +29,11 @@ all_empty-sound ways words sets =
       empty = λ f e. frames f;
       in_set = λ f b e. absurd (none-some b (cc (frames f, e)));
       alone = λ f g b e. absurd (none-some b (cc (frames f, e)));
-      ordered = λ s f. (cc (frames f, all_same sets s order));
+      ordered = λ s f. (cc (frames f, replicate-each sets s order));
     }
 
 pub IsSound-opening : (z : Sizes) → 0 < z.block_words → z.words % z.block_words ≡ 0 → 0 < z.sets → IsSound z (opening_cache z)
 IsSound-opening z some_words whole_blocks some_sets =
     let d = all_empty-sound z.ways z.block_words z.sets in
     let w = new-kept z.block_words z.regs in
-    grind (arith, all_same, length-replicate, false≢true, no_loads, z.regs)
+    grind (arith, replicate-each, length-replicate, false≢true, no_loads, z.regs)

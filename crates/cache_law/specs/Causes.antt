@@ -17,6 +17,7 @@ use Rattle.cache_directory.specs.Frames as dir
 use Rattle.cache_law.specs.declared.Sizes.{Sizes}
 use Rattle.cache_law.specs.State.{Cache, frame_at, frame_of, is_present, register_at, field_at, live_for, is_pending, cell_of, tags}
 use Rattle.cache_law.specs.State.{block_of, place_in, first_of, order_of}
+use Rattle.cache_law.specs.Reads.{is_short}
 
 -- the first of the causes that holds
 abbrev pub first_cause : List (Bool × Cause) → Option Cause
@@ -70,7 +71,7 @@ addresses z block = range_with_len (first_of z block) z.block_words
 
 abbrev pub lacks_room : Sizes → (ℕ → ℕ) → ℕ → Bool
 lacks_room z room block =
-    list_any (λ b. nat_lt (room b) (length (filter (λ at. at % z.banks == b) (addresses z block)))) (range_with_len 0 z.banks)
+    list_any (λ b. is_short room (first_of z block) z.block_words z.banks b) (range_with_len 0 z.banks)
 
 abbrev pub lacks_places : Sizes → Cache → Option ℕ → Bool
 lacks_places z c f = nat_lt (z.write_queue - length c.queue) (length (dirty_words z c f))

@@ -105,9 +105,9 @@ EvictForms z c block Accepted d = forms z d ≡ record { words = words_without z
 EvictForms z c block (Refused cause) d = forms z d ≡ forms z c
 EvictForms z c block answer d = ⊥
 
--- a drained write changes none
-unfoldable pub DrainForms : Sizes → Cache → Answer → Cache → Type 0
-DrainForms z c answer d = forms z d ≡ forms z c
+-- a drained write changes none, and neither does a word that is processed
+unfoldable pub SameForms : Sizes → Cache → Answer → Cache → Type 0
+SameForms z c answer d = forms z d ≡ forms z c
 
 -- the form once word i of the register in this slot is known
 abbrev pub filled_form : ℕ → ℕ → Word → Form → Form
@@ -122,10 +122,6 @@ ArriveForms z c slot i w Moved d =
     }
 ArriveForms z c slot i w (Refused cause) d = forms z d ≡ forms z c
 ArriveForms z c slot i w answer d = ⊥
-
--- a word that is processed changes none
-unfoldable pub ProcessForms : Sizes → Cache → Answer → Cache → Type 0
-ProcessForms z c answer d = forms z d ≡ forms z c
 
 -- the value is what its tag was owed, and the tag is owed nothing more
 pub record TakeForms (z : Sizes) (c : Cache) (tag : ℕ) (word : Word) (d : Cache) : Type 0 where

@@ -1,4 +1,5 @@
 pub mod State
+pub mod Reads
 pub mod Causes
 pub mod Steps
 pub mod Forms

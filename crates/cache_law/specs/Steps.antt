@@ -10,7 +10,7 @@ use Rattle.flat_model.specs.declared.Answer.{Answer}
 use Rattle.flat_model.specs.declared.Answer.TheVariants.{Accepted, Moved, Value, Nothing, Refused}
 use Rattle.flat_model.specs.Words.{zero_word, merged}
 use Rattle.memory_banks.specs.declared.Command.{Command}
-use Rattle.memory_banks.specs.declared.Command.TheVariants.{Read, Write}
+use Rattle.memory_banks.specs.declared.Command.TheVariants.{Write}
 use Rattle.cache_law.specs.declared.Request.{Request}
 use Rattle.cache_law.specs.declared.Request.TheVariants.{Load, Store, Prefetch}
 use Rattle.cache_law.specs.declared.Reply.{Reply}
@@ -22,9 +22,10 @@ use Rattle.cache_directory.specs.Frames as dir
 use Rattle.miss_registers.specs.Registers.{marked, finished, finished_fields, is_done}
 use Rattle.miss_registers.specs.Registers as regs
 use Rattle.cache_law.specs.State.{Register, Cache, frame_of, is_present, register_at, field_at, is_live, live_for, free_slot}
-use Rattle.cache_law.specs.State.{cell_of, block_of, place_in, order_of}
+use Rattle.cache_law.specs.State.{cell_of, block_of, first_of, place_in, order_of}
 use Rattle.cache_law.specs.Begun.{begun_frame, begun_register}
-use Rattle.cache_law.specs.Causes.{choose, dirty_words, addresses, Found, Here, Coming, found, load_cause, store_cause, prefetch_cause}
+use Rattle.cache_law.specs.Reads.{block_reads}
+use Rattle.cache_law.specs.Causes.{choose, dirty_words, Found, Here, Coming, found, load_cause, store_cause, prefetch_cause}
 use Rattle.cache_law.specs.Causes.{evict_cause, arrive_cause}
 
 -- an answer, the unit after it, and the commands sent, each with its bank
@@ -87,8 +88,7 @@ missed z c block f slot = c
 
 abbrev pub reads : Sizes → ℕ → Option ℕ → List (ℕ × Command)
 reads z block None = []
-reads z block (Some slot) =
-    map (λ at. (at % z.banks, Read slot (at % z.block_words) (at / z.banks))) (addresses z block)
+reads z block (Some slot) = block_reads slot (first_of z block) z.block_words z.banks z.block_words
 
 -- the unit once the block is present, and the reads that this takes
 unfoldable pub fetched : Sizes → Cache → ℕ → Cache

@@ -6,7 +6,7 @@ use Rattle.cache_law.specs.declared.Request.{Request}
 use Rattle.cache_law.specs.declared.Sizes.{Sizes}
 use Rattle.cache_law.specs.State.{Cache}
 use Rattle.cache_law.specs.Steps.{Stepped, request_step, evict_step, drain_step, arrive_step, process_step, take_step}
-use Rattle.cache_law.specs.FormLaws.{RequestForms, EvictForms, DrainForms, ArriveForms, ProcessForms, TakenForms}
+use Rattle.cache_law.specs.FormLaws.{RequestForms, EvictForms, ArriveForms, SameForms, TakenForms}
 use Rattle.cache_law.specs.Sound.{IsSound}
 
 -- what is to be so of a step's answer and of the cache after it
@@ -17,9 +17,9 @@ Made step forms = forms step.answer step.cache
 pub record StepForms (z : Sizes) (c : Cache) : Type 0 where
   pub request : (room : ℕ → ℕ) (asked : Request) → Made (request_step z room c asked) (RequestForms z c asked)
   pub evict : (block : ℕ) → Made (evict_step z c block) (EvictForms z c block)
-  pub drain : (room : ℕ → ℕ) → Made (drain_step z room c) (DrainForms z c)
+  pub drain : (room : ℕ → ℕ) → Made (drain_step z room c) (SameForms z c)
   pub arrive : (slot i : ℕ) (word : Word) → Made (arrive_step z c slot i word) (ArriveForms z c slot i word)
-  pub process : (place : ℕ) → Made (process_step c place) (ProcessForms z c)
+  pub process : (place : ℕ) → Made (process_step c place) (SameForms z c)
   pub take : (place : ℕ) → Made (take_step c place) (TakenForms z c)
 
 abbrev pub EachStepMakesForms : Type 0

@@ -6,18 +6,14 @@ use Rattle.std.proofs.lemmas.Bool.{false_from_ne_true, false≢true, cases_eq, c
 use Rattle.std.proofs.lemmas.List.Elements.{filter-append}
 use Rattle.std.proofs.lemmas.List.Folds.{list_any_at, list_any_none}
 use Rattle.std.proofs.lemmas.List.FromFn.{length-range_with_len, get_or-range_with_len, map-range_with_len_more}
+use Rattle.flat_model.proofs.Numbers.{range_more}
 use Rattle.memory_banks.specs.declared.Command.{Command}
 use Rattle.memory_banks.specs.declared.Command.TheVariants.{Read}
 use Rattle.memory_banks.specs.Banks.{HasSent, commands_for}
-use Rattle.cache_unit.specs.Reads.{block_reads, is_short}
+use Rattle.cache_law.specs.Reads.{block_reads, is_short}
 use Rattle.cache_directory.proofs.Finds.{range_within}
 
 -- ---- Tests and counts over the numbers from one on.
-
--- one more number, at the end
-pub range_more : (a n : ℕ) → range_with_len a (n + 1) ≡ range_with_len a n ++ (a + n) ∷ []
-range_more a zero = grind arith
-range_more a (suc n) = grind (arith, range_more (a + 1) n)
 
 -- one more number is counted where it passes the test
 pub count_more : (p : ℕ → Bool) (a n : ℕ) (b : Bool) → p (a + n) ≡ b

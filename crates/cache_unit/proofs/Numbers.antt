@@ -15,7 +15,7 @@ enough : (words banks queue : ℕ) → 1 ≤ banks → (words + banks - 1) / ban
 enough words banks queue some l = grind arith
 
 -- a test that is passed names no field
-passed : (test : Bool) (field : ShapeField) (rest : Option ShapeField) → cond (not test) (Some field) rest ≡ None → (test ≡ true) ×
+pub passed : (test : Bool) (field : ShapeField) (rest : Option ShapeField) → cond (not test) (Some field) rest ≡ None → (test ≡ true) ×
     (rest ≡ None)
 passed true field rest e = (refl, e)
 passed false field rest e = cc

@@ -14,7 +14,7 @@ use Rattle.cache_law.specs.Sound.{IsSound}
 use Rattle.cache_law.specs.Steps.{fetches, given_up}
 use Rattle.cache_law.proofs.Choosing.{causes_are, f_holds, frame_chosen, words-shown}
 use Rattle.cache_law.proofs.Lists.{frame_of-some}
-use Rattle.cache_unit.specs.Reads.{is_short, block_reads}
+use Rattle.cache_law.specs.Reads.{is_short, block_reads}
 
 -- ---- A miss.
 

@@ -1,5 +1,5 @@
 //! How a miss begins the words of its block.
-ghost use Rattle.std.specs.Prelude.{◌≡◌, ℕ, ◌+◌, ◌*◌, ◌^◌, ◌<◌, ◌≤◌, length, slice_set};
+ghost use Rattle.std.specs.Prelude.{◌≡◌, ◌+◌, ◌*◌, ◌^◌, ◌<◌, length, slice_set};
 ghost use Rattle.cache_directory.specs.Frames.{IsWhole, frame_at, fresh_frame, with_frame};
 ghost use Rattle.miss_registers.specs.Registers.{register_at, fresh};
 ghost use Rattle.miss_registers.specs.Whole as file;

@@ -5,7 +5,7 @@ ghost use Rattle.miss_registers.specs.Registers as regs;
 ghost use Rattle.miss_registers.specs.Whole as whole;
 ghost use Rattle.write_queue.specs.Queue.{queue as queue_of};
 ghost use Rattle.memory_banks.specs.Banks.{HasSent, commands_for};
-ghost use Rattle.cache_unit.specs.Reads.{block_reads};
+ghost use Rattle.cache_law.specs.Reads.{block_reads};
 ghost use Rattle.cache_law.specs.Miss.{chosen_frame};
 ghost use Rattle.cache_law.specs.Causes.{owed_words};
 ghost use Rattle.cache_law.specs.Begun.{begun_register};

@@ -2,7 +2,7 @@
 ghost use Rattle.std.specs.Prelude.{◌≡◌, ℕ, ◌+◌, ◌*◌, ◌%◌, ◌/◌, ◌^◌, ◌<◌, ◌≤◌, ◌==◌, nat_lt, length};
 ghost use Rattle.std.specs.List.{list_any, filter, range_with_len};
 ghost use Rattle.memory_banks.specs.Banks.{HasSent, commands_for};
-ghost use Rattle.cache_unit.specs.Reads.{block_reads, is_short};
+ghost use Rattle.cache_law.specs.Reads.{block_reads, is_short};
 
 use memory_banks::{Command, Lines};
 

@@ -1,20 +1,12 @@
 -- The tags below a number that are owed a word, and those below the next.
 use Rattle.std.proofs.Common.{◌≡◌, ◌≢◌, ℕ, suc, zero, ◌+◌, ◌≤◌, Bool, true, false, cond, List, [], ◌∷◌, ◌++◌, length, get_or, refl}
-use Rattle.std.proofs.Common.{sym, ap, ◌∙◌, arith, add-zero, add-one, length-append, append-nil}
+use Rattle.std.proofs.Common.{sym, ap, ◌∙◌, arith, length-append, append-nil}
 use Rattle.std.specs.Prelude.{is_some}
 use Rattle.std.specs.List.{filter, range_with_len}
 use Rattle.std.proofs.lemmas.List.Elements.{filter-append}
+use Rattle.flat_model.proofs.Numbers.{range_next}
 use Rattle.flat_judge.specs.declared.table.Due.{Due}
 use Rattle.flat_judge.specs.Table.{due_in, owed_below, nth_tag}
-
-range_last : (a n : ℕ) → range_with_len a (suc n) ≡ range_with_len a n ++ (a + n) ∷ []
-range_last a zero = ap (λ x. x ∷ []) (sym (add-zero a))
-range_last a (suc n) =
-    let e : a + 1 + n ≡ a + suc n = omega arith in
-    ap (λ l. a ∷ l) (range_last (a + 1) n ∙ ap (λ k. range_with_len (a + 1) n ++ k ∷ []) e)
-
-range_more : (n : ℕ) → range_with_len 0 (n + 1) ≡ range_with_len 0 n ++ n ∷ []
-range_more n = ap (range_with_len 0) (add-one n) ∙ range_last 0 n ∙ ap (λ k. range_with_len 0 n ++ k ∷ []) (omega arith)
 
 -- below 0 there are none
 pub owed_first : (due : List Due) → owed_below due 0 ≡ []
@@ -27,7 +19,7 @@ pub owed_more : (due : List Due) (n : ℕ) (b : Bool) → is_some (due_in due n)
 unfolding owed_below
 owed_more due n b e =
     let owed = λ (tag : ℕ). is_some (due_in due tag) in
-    ap (filter owed) (range_more n) ∙ filter-append owed (range_with_len 0 n) (n ∷ [])
+    ap (filter owed) (range_next n) ∙ filter-append owed (range_with_len 0 n) (n ∷ [])
     ∙ ap (λ v. filter owed (range_with_len 0 n) ++ cond v (n ∷ []) []) e
 
 -- a place in a list that is one longer: the last, or one of those before, or none

@@ -1,5 +1,5 @@
 -- What rows of plain numbers say of events and answers.
-use Rattle.std.specs.Prelude.{ℕ, Bool, ◌&&◌, if◌then◌else◌, ◌==◌, Option, Some, None, bit_and}
+use Rattle.std.specs.Prelude.{ℕ, if◌then◌else◌, ◌==◌, Option, Some, None, bit_and}
 use Rattle.std.specs.Option.{option_map}
 use Rattle.flat_model.specs.declared.Lanes.{Lanes}
 use Rattle.flat_model.specs.declared.Event.{Event}

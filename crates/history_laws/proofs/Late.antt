@@ -30,6 +30,7 @@ use Rattle.flat_model.specs.declared.Answer.TheVariants.{Accepted, Moved, Value,
 use Rattle.flat_model.specs.Words.{Lane0, Lane1, Lane2, Lane3}
 use Rattle.flat_model.specs.Flat.{word_at, same_word, may_answer}
 use Rattle.flat_model.specs.Flat as model
+use Rattle.machine_core.proofs.Walking.{same_word-same}
 use Rattle.history_laws.specs.Told.{word_bytes, image_bytes, seen_bytes, told_events, told_history}
 use Rattle.history_laws.specs.Late.{is_value_of, has_no_value, HasStood, LateIsAtomic}
 use Rattle.history_laws.proofs.Pieces.{Marked, is_number}
@@ -265,15 +266,12 @@ same_form : (o : Opened) (history : List HistoryEvent) (tag : ℕ) (v w : Word)
 same_form o [] tag v w = refl
 same_form o (event ∷ events) tag v w = ap (λ t. is_none (form_fault o event) && t) (same_form (opened_after o event) events tag v w)
 
-pub same_itself : (w : Word) → same_word w w ≡ true
-same_itself w = rw (eq-eqb w.b0 w.b0 refl, eq-eqb w.b1 w.b1 refl, eq-eqb w.b2 w.b2 refl, eq-eqb w.b3 w.b3 refl) refl
-
 now_due : (s : model.Flat) (tag : ℕ) (v : Word) → model.with_due s.due tag (Some v) tag ≡ Some v
 now_due s tag v = rw (eq-eqb tag tag refl) refl
 
 its_due : (o : Option Word) (v : Word) → o ≡ Some v → model.is_owed o v ≡ true
 its_due None v h = cc
-its_due (Some u) v h = let same : u ≡ v = cc in subst (λ x. same_word x v ≡ true) (sym same) (same_itself v)
+its_due (Some u) v h = let same : u ≡ v = cc in subst (λ x. same_word x v ≡ true) (sym same) (same_word-same v)
 
 -- a history of four flat parts
 parts_run : (n : ℕ) (fits : n ≤ 4611686018427387904) (f0 f1 f2 f3 f4 : Flat) (before until behind more : List HistoryEvent) (asked :

@@ -32,7 +32,8 @@ use Rattle.history_laws.specs.Told.{image_bytes, told_history}
 use Rattle.history_laws.specs.Late.{is_value_of, has_no_value, HasStood}
 use Rattle.history_laws.specs.Since.{has_stood_since, ToldLateIsAtomic}
 use Rattle.history_laws.proofs.Told.{eqb_swap}
-use Rattle.history_laws.proofs.Late.{step_parts, nested, same_itself, late_is_atomic}
+use Rattle.machine_core.proofs.Walking.{same_word-same}
+use Rattle.history_laws.proofs.Late.{step_parts, nested, late_is_atomic}
 
 -- Runs with one step more. ----
 
@@ -244,7 +245,7 @@ module _ (image : List Word) where
         let stands = get_or-set_same o.flat.mem at w zero_word (ltb-true at (length o.flat.mem) p.0) in
         late_now (events ++ Store at word lanes ∷ []) (answers ++ Accepted ∷ []) now tag at w
         (rw here at (still_open (Store at word lanes) Accepted may tag load e refl))
-        (subst (λ v. same_word v w ≡ true) (sym stands) (same_itself w))
+        (subst (λ v. same_word v w ≡ true) (sym stands) (same_word-same w))
 
     stored : (at : ℕ) (word : Word) (lanes : Lanes) → may_answer o.flat (Store at word lanes) Accepted ≡ true
         → Next (Store at word lanes) Accepted

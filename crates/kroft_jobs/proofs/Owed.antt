@@ -1,10 +1,10 @@
 -- The tags below a number that are owed a value, and those below the next.
-use Rattle.std.proofs.Common.{◌≡◌, ℕ, ◌+◌, Bool, cond, [], ◌∷◌, ◌++◌, refl, ap, ◌∙◌, arith}
+use Rattle.std.proofs.Common.{◌≡◌, ℕ, ◌+◌, Bool, cond, [], ◌∷◌, ◌++◌, refl, ap, ◌∙◌}
 use Rattle.std.specs.Prelude.{is_some}
 use Rattle.std.specs.List.{filter, range_with_len}
 use Rattle.std.proofs.lemmas.List.Elements.{filter-append}
 use Rattle.flat_model.specs.Flat.{Flat}
-use Rattle.cache_unit.proofs.BlockReads.{range_more}
+use Rattle.flat_model.proofs.Numbers.{range_next}
 use Rattle.kroft_jobs.specs.Answering.{owed_below}
 
 -- below 0 there are none
@@ -18,7 +18,5 @@ pub owed_more : (f : Flat) (n : ℕ) (b : Bool) → is_some (f.due n) ≡ b
 unfolding owed_below
 owed_more f n b e =
     let owed = λ (tag : ℕ). is_some (f.due tag) in
-    let more : range_with_len 0 (n + 1) ≡ range_with_len 0 n ++ n ∷ [] = range_more 0 n
-    ∙ ap (λ k. range_with_len 0 n ++ k ∷ []) (omega arith) in
-    ap (filter owed) more ∙ filter-append owed (range_with_len 0 n) (n ∷ [])
+    ap (filter owed) (range_next n) ∙ filter-append owed (range_with_len 0 n) (n ∷ [])
     ∙ ap (λ v. filter owed (range_with_len 0 n) ++ cond v (n ∷ []) []) e

@@ -1,14 +1,13 @@
 //! A check of a run all of whose loads have to be answered.
 
-ghost use Rattle.std.specs.Prelude.{◌≡◌, ◌≤◌, ℕ, List, Some, IfOk, IfErr};
+ghost use Rattle.std.specs.Prelude.{◌≡◌, ℕ, List, Some, IfOk, IfErr};
 ghost use Rattle.flat_model.specs.Flat.{Flat};
 ghost use Rattle.flat_model.specs.Memory.{shown};
 ghost use Rattle.memory_images.specs.Images.{flat_from};
 ghost use Rattle.trace_text.specs.declared.fault.TheConstants.{MAX_PAIR};
 ghost use Rattle.trace_text.specs.Reading.{ReadWhole, ReadFails};
 ghost use Rattle.trace_text.specs.Checks.{pair_fault, IsJudgedFrom};
-ghost use Rattle.kroft_jobs.specs.Jobs.{verdict_text};
-ghost use Rattle.kroft_jobs.specs.Answering.{tags_owed, owed_below, open_text, tags_text, answered_text, answered_status};
+ghost use Rattle.kroft_jobs.specs.Answering.{tags_owed, open_text, tags_text, answered_text, answered_status};
 
 use crate::jobs::Verdict;
 use cache_unit::Sizes;

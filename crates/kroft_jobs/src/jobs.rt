@@ -1,6 +1,6 @@
 //! What is done with a trace, for the shape that was read.
 
-ghost use Rattle.std.specs.Prelude.{◌≡◌, ◌≤◌, ℕ, List, None, Some, IfOk, IfErr, map, ◌++◌};
+ghost use Rattle.std.specs.Prelude.{◌≡◌, ℕ, List, None, Some, IfOk, IfErr, map};
 ghost use Rattle.flat_model.specs.Flat.{Flat};
 ghost use Rattle.memory_images.specs.Images.{memory_from, flat_from};
 ghost use Rattle.machine_core.specs.Machine.{MachineState};

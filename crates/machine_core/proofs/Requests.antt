@@ -56,7 +56,8 @@ use Rattle.flat_model.specs.Causes.{is_of_a_load}
 use Rattle.cache_directory.specs.declared.Cell.{Cell}
 use Rattle.miss_registers.proofs.Tags.{list_any-map}
 use Rattle.cache_law.specs.Views.{is_empty}
-use Rattle.cache_law.proofs.Opening.{all_same, IsSound-opening}
+use Rattle.miss_registers.proofs.Tags.{replicate-each}
+use Rattle.cache_law.proofs.Opening.{IsSound-opening}
 use Rattle.cache_law.proofs.EachStep.{each_step_keeps, fetch-kept}
 use Rattle.cache_law.specs.Requests.{absence_cause}
 use Rattle.cache_law.specs.Sound as parts
@@ -603,10 +604,10 @@ module _ (z : Sizes) (lawful : IsLawful z) (image : List Word) (fits : length im
   bank_of b = record { words = share_of image z.banks b; queue = []; answers = [] }
 
   empty_frames : (k : ℕ) → frame_at m0.cache k ≡ empty_frame
-  empty_frames k = all_same _ k empty_frame
+  empty_frames k = replicate-each _ k empty_frame
 
   free_registers : (t : ℕ) → register_at m0.cache t ≡ free_register
-  free_registers t = all_same _ t free_register
+  free_registers t = replicate-each _ t free_register
 
   no_block : (k b : ℕ) → (frame_at m0.cache k).block ≡ Some b → ⊥
   no_block k b e = grind (arith, empty_frames)

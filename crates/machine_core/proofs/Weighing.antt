@@ -87,7 +87,8 @@ find_first : (p : ℕ → Bool) (a n b : ℕ) → find p (range_with_len a n) �
 find_first p a zero b e = cc
 find_first p a (suc n) b e = grind (arith, find_first p (a + 1) n b)
 
-items_none : {X : Type 0} (xs : List X) → has_items xs ≡ false → xs ≡ []
+-- a list without items
+pub items_none : {X : Type 0} (xs : List X) → has_items xs ≡ false → xs ≡ []
 items_none [] e = refl
 items_none (x ∷ xs) e = cc
 

@@ -1,5 +1,5 @@
 //! Which event the driver chooses: what it looks for at the banks.
-ghost use Rattle.std.specs.Prelude.{◌≡◌, ℕ, length, Option};
+ghost use Rattle.std.specs.Prelude.{◌≡◌, length, Option};
 ghost use Rattle.std.specs.List.{find, list_all, range_with_len};
 ghost use Rattle.memory_banks.specs.Banks.{bank_at};
 ghost use Rattle.cache_law.specs.Views.{is_empty};

@@ -1,8 +1,7 @@
 //! Requests driven through the machine behind a handle, in rounds.
-ghost use Rattle.std.specs.Prelude.{◌≡◌, ◌≢◌, ◌≤◌, Some, None, IfOk, OnOk, IfErr, OnErr, IsTrue, length};
+ghost use Rattle.std.specs.Prelude.{◌≡◌, ◌≢◌, Some, None, IfOk, OnOk, IfErr, OnErr};
 ghost use Rattle.std.specs.List.{list_all};
 ghost use Rattle.std.specs.Option.{option_map};
-ghost use Rattle.machine_core.specs.Machine.{MachineState};
 ghost use Rattle.machine_handles.specs.Behind.{standing, standing_of, behind, alone};
 ghost use Rattle.machine_handles.specs.Rounds as rounds;
 ghost use Rattle.machine_handles.specs.Rounds.{bad_rounds, rounds_fault, counted, driven, IsDriven, IsToldOfRounds, rounds_number, why_not};

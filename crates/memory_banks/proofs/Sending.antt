@@ -1,5 +1,5 @@
 -- Commands that are sent to banks.
-use Rattle.std.proofs.Common.{◌≡◌, ℕ, zero, suc, ◌+◌, ◌-◌, ◌<◌, ◌≤◌, List, [], ◌∷◌, ◌++◌, map, length, None, refl, arith, zero-add, ◌≢◌}
+use Rattle.std.proofs.Common.{◌≡◌, ℕ, zero, suc, ◌+◌, ◌<◌, ◌≤◌, List, [], ◌∷◌, ◌++◌, map, length, None, refl, arith, zero-add, ◌≢◌}
 use Rattle.std.proofs.Common.{cond, set, get_or, sym, ap, ◌∙◌, subst, append-nil, append_assoc, length-append, length-set, ext_get_or}
 use Rattle.std.proofs.Common.{eq-eqb, ⊎_elim, drop, Some, slice_get}
 use Rattle.std.specs.List.{range_with_len}

@@ -1,20 +1,12 @@
 -- The words that memory begins with, one by one, and how many they are.
-use Rattle.std.proofs.Common.{◌≡◌, ℕ, suc, zero, ◌+◌, [], ◌∷◌, ◌++◌, length, map, refl, sym, ap, ◌∙◌, arith, add-zero, add-one}
+use Rattle.std.proofs.Common.{◌≡◌, ℕ, ◌+◌, [], ◌∷◌, ◌++◌, length, map, refl, ap, ◌∙◌}
 use Rattle.std.specs.List.{range_with_len}
 use Rattle.std.proofs.lemmas.List.{length-replicate, map-append}
 use Rattle.std.proofs.lemmas.List.FromFn.{length-map-range_with_len}
+use Rattle.flat_model.proofs.Numbers.{range_next}
 use Rattle.memory_images.specs.declared.image.Image.{Image}
 use Rattle.memory_images.specs.declared.image.Image.TheVariants.{Zeros, Address, Bytes}
 use Rattle.memory_images.specs.Images.{word_in, words_below, memory_from}
-
-range_last : (a n : ℕ) → range_with_len a (suc n) ≡ range_with_len a n ++ (a + n) ∷ []
-range_last a zero = ap (λ x. x ∷ []) (sym (add-zero a))
-range_last a (suc n) =
-    let e : a + 1 + n ≡ a + suc n = omega arith in
-    ap (λ l. a ∷ l) (range_last (a + 1) n ∙ ap (λ k. range_with_len (a + 1) n ++ k ∷ []) e)
-
-range_more : (n : ℕ) → range_with_len 0 (n + 1) ≡ range_with_len 0 n ++ n ∷ []
-range_more n = ap (range_with_len 0) (add-one n) ∙ range_last 0 n ∙ ap (λ k. range_with_len 0 n ++ k ∷ []) (omega arith)
 
 -- below 0 there are none
 pub words_first : (image : Image) → words_below image 0 ≡ []
@@ -25,7 +17,7 @@ words_first image = refl
 pub words_more : (image : Image) (n : ℕ) → words_below image (n + 1) ≡ words_below image n ++ word_in image n ∷ []
 unfolding words_below
 words_more image n =
-    ap (map (word_in image)) (range_more n) ∙ map-append (word_in image) (range_with_len 0 n) (n ∷ [])
+    ap (map (word_in image)) (range_next n) ∙ map-append (word_in image) (range_with_len 0 n) (n ∷ [])
 
 pub words_length : (image : Image) (words : ℕ) → length (words_below image words) ≡ words
 unfolding words_below

@@ -4,7 +4,7 @@ ghost use Rattle.std.specs.Prelude.{◌≡◌, ◌<◌, ◌++◌, ◌∷◌, [],
 ghost use Rattle.std.specs.List.{flat_map};
 ghost use Rattle.std.specs.Fmt.{WritesOnOk};
 ghost use Rattle.flat_model.specs.Texts as texts;
-ghost use Rattle.named_fields.specs.Formats.{listed, quoted_byte};
+ghost use Rattle.named_fields.specs.Formats.{quoted_byte};
 ghost use Rattle.named_fields.specs.Texts.{separated, numbered, is_printable, escaped, escaped_byte, doubled, doubled_byte};
 
 use flat_model::TwoDigits;

@@ -1,10 +1,9 @@
 //! The thread of a port, or of several.
-ghost use Rattle.std.specs.Prelude.{◌≡◌, ◌↔◌, ◌<◌, ◌≤◌, ◌+◌, [], List, length, true, false, Ok, IfOk, OnErr, IfSome, None};
+ghost use Rattle.std.specs.Prelude.{◌≡◌, ◌↔◌, ◌<◌, ◌≤◌, ◌+◌, List, length, true, false, Ok, IfOk, OnErr, IfSome, None};
 ghost use Rattle.std.specs.List.{All};
 ghost use Rattle.station_journal.specs.declared.asks.Told.{Told};
 ghost use Rattle.station_parts.specs.declared.make.TheConstants.{MAX_PORTS};
 ghost use Rattle.station_parts.specs.declared.port.Port.{Port};
-ghost use Rattle.station_parts.specs.Words.{known_places, known_tellings, has_ended};
 ghost use Rattle.ring_station.specs.declared.talk.Phase.{Phase};
 ghost use Rattle.ring_station.specs.declared.gate.Actor.{Actor};
 ghost use Rattle.ring_station.specs.PortRuns.{IsOnItsWay, FindsNothing, moves_of, moves_in};

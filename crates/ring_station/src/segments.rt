@@ -1,5 +1,5 @@
 //! Runs of a station one behind the other, of scripts that are cut into pieces, with a renewal behind each.
-ghost use Rattle.std.specs.Prelude.{◌≡◌, ◌<◌, ◌+◌, ◌*◌, max, true, length, map, take, drop, vec_len, IsTrue, IfOk, IfErr, OnOk, IsErr};
+ghost use Rattle.std.specs.Prelude.{◌≡◌, ◌<◌, ◌+◌, ◌*◌, max, true, length, map, vec_len, IsTrue, IfOk, IfErr, OnOk, IsErr};
 ghost use Rattle.cache_law.specs.Views.{is_clean};
 ghost use Rattle.station_parts.specs.declared.parts.Audit.TheVariants.{Clean};
 ghost use Rattle.station_parts.specs.Audited.{IsSeen, audit_of};

@@ -18,7 +18,7 @@ use Rattle.machine_core.specs.Whole.{IsWholeState}
 use Rattle.machine_core.specs.AnyMachine.{after_event}
 use Rattle.machine_core.proofs.Walking.{sound_apply}
 use Rattle.machine_core.proofs.Whole.{lawful, roomy}
-use Rattle.machine_core.proofs.Weighing.{arrive_lowers}
+use Rattle.machine_core.proofs.Weighing.{arrive_lowers, items_none}
 use Rattle.machine_core.proofs.Weighing.{FallsOr, HasCommand, take_falls, process_falls, serve_falls, drain_falls, leaves_commands}
 use Rattle.round_driver.specs.declared.schedule.Schedule.{Schedule}
 use Rattle.round_driver.specs.Machines.{command_count, has_answer, has_stack_room}
@@ -307,14 +307,10 @@ NoAnswers s = (b : ℕ) → b < s.sizes.banks → (bank_at s.machine.banks b).an
 next_there : (s : MachineState) (next k : ℕ) → next_with_answer s next ≡ Some k → has_answer s k ≡ true
 next_there s next k e = grind (arith, answer_there)
 
-none_left : {X : Type 0} (xs : List X) → has_items xs ≡ false → xs ≡ []
-none_left [] e = refl
-none_left (x ∷ xs) e = cc
-
 nowhere : (s : MachineState) (next : ℕ) → next_with_answer s next ≡ None → NoAnswers s
 unfolding has_answer
 nowhere s next e b l =
-    none_left (bank_at s.machine.banks b).answers (grind (arith, no_answer s next 0 b, no_answer s (s.sizes.banks - next) next b))
+    items_none (bank_at s.machine.banks b).answers (grind (arith, no_answer s next 0 b, no_answer s (s.sizes.banks - next) next b))
 
 -- the stack is full, or there is nothing to arrive
 abbrev pub NothingArrives : MachineState → Type 0

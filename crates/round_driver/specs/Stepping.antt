@@ -1,5 +1,5 @@
 -- Rounds that are made one at a time, beside a machine.
-use Rattle.std.specs.Prelude.{◌≡◌, ◌≤◌, ℕ, zero, suc, ◌*◌, ◌^◌, Bool, true, false, if◌then◌else◌, List, [], ◌∷◌, length, drop, Option, Some}
+use Rattle.std.specs.Prelude.{◌≡◌, ◌≤◌, ℕ, ◌*◌, ◌^◌, Bool, true, false, List, [], ◌∷◌, length, drop, Option, Some}
 use Rattle.std.specs.Prelude.{None, slice_get, ◌-◌}
 use Rattle.std.specs.List.{find, filter, list_all}
 use Rattle.flat_model.specs.declared.limits.TheConstants.{MAX_BANKS}

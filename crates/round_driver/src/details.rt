@@ -1,6 +1,5 @@
 //! What a run of rounds counted beside its table.
 ghost use Rattle.std.specs.Prelude.{◌≡◌, ◌<◌, ◌≤◌, ◌+◌, ◌*◌, ◌^◌, replicate, slice_set, slice_index_or, length, IfOk};
-ghost use Rattle.std.specs.List.{sum};
 ghost use Rattle.flat_model.specs.declared.limits.TheConstants.{MAX_REGS};
 ghost use Rattle.round_driver.specs.declared.round.TheConstants.{MOST_NOTES};
 ghost use Rattle.round_driver.specs.declared.table.TheConstants.{TAGS};

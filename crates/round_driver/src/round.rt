@@ -1,9 +1,9 @@
 //! One round.
-ghost use Rattle.std.specs.Prelude.{◌≡◌, ℕ, ◌<◌, ◌≤◌, ◌+◌, ◌-◌, ◌^◌, [], drop, length, List, Some, IfSome};
+ghost use Rattle.std.specs.Prelude.{◌≡◌, ◌<◌, ◌≤◌, ◌+◌, ◌-◌, Some, IfSome};
 ghost use Rattle.flat_model.specs.declared.limits.TheConstants.{MAX_BANKS};
 ghost use Rattle.arrayvec.specs.ArrayVec.{array_vec_len};
 ghost use Rattle.round_driver.specs.declared.round.TheConstants.{MOST_NOTES};
-ghost use Rattle.round_driver.specs.Rounds.{course, Run};
+ghost use Rattle.round_driver.specs.Rounds.{course};
 ghost use Rattle.round_driver.specs.Rounds as rounds;
 ghost use Rattle.round_driver.specs.Machines as machines;
 

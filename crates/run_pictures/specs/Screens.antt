@@ -1,7 +1,6 @@
 -- Screens: the lines of each picture.
-use Rattle.std.specs.Prelude.{◌≡◌, ℕ, ◌-◌, ◌^◌, ◌==◌, Bool, true, false, ◌&&◌, ◌||◌, not, nat_eq, if◌then◌else◌, List, [], ◌++◌, codes}
+use Rattle.std.specs.Prelude.{◌≡◌, ℕ, ◌-◌, ◌^◌, ◌==◌, Bool, true, false, ◌&&◌, ◌||◌, not, if◌then◌else◌, List, [], ◌++◌, codes}
 use Rattle.std.specs.Prelude.{decimal, length, Option, Some, None, slice_get}
-use Rattle.std.specs.Cmp.Lexicographic.{pointwise}
 use Rattle.std.specs.Fmt.{padded, format_spec}
 use Rattle.std.specs.List.{flat_map, list_any, range_with_len}
 use Rattle.std.specs.Option.{option_to_list}
@@ -12,6 +11,7 @@ use Rattle.flat_model.specs.declared.Answer.{Answer}
 use Rattle.flat_model.specs.Texts.{event_text, answer_text}
 use Rattle.machine_core.specs.Machine.{MachineState}
 use Rattle.memory_images.specs.declared.image.Image.{Image}
+use Rattle.trace_text.specs.Lines.{same}
 use Rattle.run_pictures.specs.declared.place.Place.{Place}
 use Rattle.run_pictures.specs.declared.place.Place.TheVariants as spot
 use Rattle.run_pictures.specs.declared.place.Place.TheVariants.{Register, Line, Field, Load, Frame, Cell, Stack, Queue, Reply, Memory}
@@ -34,12 +34,9 @@ label_text (spot.Answer bank place) = codes "bank " ++ (decimal bank ++ (codes "
 label_text (Reply place) = codes "ready " ++ decimal place
 label_text (Memory at) = codes "memory " ++ decimal at
 
-abbrev pub is_text : List ℕ → List ℕ → Bool
-is_text = pointwise nat_eq
-
 -- nothing stands at a place of this text
 abbrev pub is_idle : List ℕ → Bool
-is_idle text = is_text text [] || is_text text (codes "free")
+is_idle text = same text [] || same text (codes "free")
 
 -- memory is shown only where it changed, and another place where something stands or stood
 abbrev pub is_shown : Place → List ℕ → Bool → Bool

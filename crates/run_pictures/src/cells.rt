@@ -1,6 +1,5 @@
 //! The text of each place of a picture.
-ghost use Rattle.std.specs.Prelude.{◌≡◌, ℕ, IfOk, Option, Some};
-ghost use Rattle.std.specs.List.{list_any, range_with_len};
+ghost use Rattle.std.specs.Prelude.{◌≡◌, IfOk, Option, Some};
 ghost use Rattle.std.specs.String.{string_bytes};
 ghost use Rattle.flat_model.specs.Memory.{shown};
 ghost use Rattle.run_pictures.specs.Cells as cells;

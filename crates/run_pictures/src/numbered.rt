@@ -1,6 +1,6 @@
 //! A text with numbers in it.
 
-ghost use Rattle.std.specs.Prelude.{◌≡◌, Some};
+ghost use Rattle.std.specs.Prelude.{Some};
 ghost use Rattle.run_pictures.specs.Numbered as numbered;
 
 use std::fmt;

@@ -1,7 +1,6 @@
 //! The signals of a waveform.
-ghost use Rattle.std.specs.Prelude.{◌≡◌, ◌++◌, length, Some, OnOk, IfOk};
+ghost use Rattle.std.specs.Prelude.{◌≡◌, ◌++◌, Some, OnOk, IfOk};
 ghost use Rattle.std.specs.List.{flat_map, range_with_len};
-ghost use Rattle.memory_banks.specs.Banks.{bank_at};
 ghost use Rattle.run_pictures.specs.Numbered.{text_of};
 ghost use Rattle.run_pictures.specs.Waves as waves;
 

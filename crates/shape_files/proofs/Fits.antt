@@ -1,24 +1,18 @@
 -- A shape whose fields are in range has the numbers of a machine.
-use Rattle.std.proofs.Common.{◌≡◌, ℕ, ◌≤◌, ◌%◌, Bool, true, false, ◌&&◌, ◌==◌, not, cond, Option, Some, None, refl, sym, ◌∙◌, arith}
+use Rattle.std.proofs.Common.{◌≡◌, ℕ, ◌≤◌, ◌%◌, Bool, true, false, ◌&&◌, ◌==◌, None, refl, sym, ◌∙◌, arith}
 use Rattle.std.proofs.lemmas.Grind.{common_steps}
 use Rattle.std.proofs.lemmas.Bool.{and_parts, true≢false as no}
-use Rattle.flat_model.specs.declared.ShapeField.{ShapeField}
 use Rattle.flat_model.specs.declared.ShapeField.TheVariants.{BlockWords, Ways, Regs, Depth, Words}
 use Rattle.flat_model.specs.declared.limits.TheConstants.{MAX_BLOCK_WORDS, MAX_WAYS, MAX_REGS, MAX_DEPTH, MAX_WORDS, MAX_MEMORY}
 use Rattle.flat_model.specs.Ranges.{is_between}
 use Rattle.flat_model.proofs.Ranges.{between, inside}
 use Rattle.cache_law.specs.declared.Sizes.{Sizes}
 use Rattle.cache_unit.specs.Limits as limits
+use Rattle.cache_unit.proofs.Numbers.{passed}
 use Rattle.shape_files.specs.declared.shape_file.TheConstants.{MOST_WAYS}
 use Rattle.shape_files.specs.declared.shape_file.ToolShape.{ToolShape}
 use Rattle.shape_files.specs.MachineFile.{bad_machine}
 use Rattle.shape_files.specs.ShapeFile.{is_register_count, sizes_of, bad_field}
-
--- a test that is passed names no field
-passed : (test : Bool) (field : ShapeField) (rest : Option ShapeField) → cond (not test) (Some field) rest ≡ None → (test ≡ true) ×
-    (rest ≡ None)
-passed true field rest e = (refl, e)
-passed false field rest e = cc
 
 some_registers : (n : ℕ) → is_register_count n ≡ true → (1 ≤ n) × (n ≤ 8)
 some_registers n h = go (1 == n) refl (2 == n) refl (4 == n) refl (8 == n) refl

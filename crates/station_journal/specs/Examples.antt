@@ -11,7 +11,7 @@ use Rattle.input_stack.specs.Stack.{stack_word}
 use Rattle.cache_directory.specs.Frames as dir
 use Rattle.miss_registers.specs.Registers as regs
 use Rattle.cache_law.specs.declared.Sizes.{Sizes}
-use Rattle.cache_law.specs.State.{frame_of, live_for, targets}
+use Rattle.cache_law.specs.State.{targets}
 use Rattle.cache_law.specs.Causes.{choose, load_cause, store_cause, prefetch_cause, evict_cause, arrive_cause}
 use Rattle.cache_law.specs.Steps.{released, evicted, installed, fetched, fetches, load_step, store_step, prefetch_step, evict_step}
 use Rattle.cache_law.specs.Steps.{filled_live, drain_step, arrive_step, arrived, processed, process_step, take_step}

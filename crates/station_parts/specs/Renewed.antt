@@ -12,7 +12,7 @@ use Rattle.station_parts.specs.declared.renewal.RenewFault.TheVariants.{WornOut,
 use Rattle.station_parts.specs.Words.{offered, offered_before, taken, has_ended, known_places, earlier_of, held_of, journal_of}
 use Rattle.station_parts.specs.Words.{journal_limit, fault_in, cache_in, asked_at, told_at, commands_at, words_at, telling_places}
 use Rattle.station_parts.specs.Words.{command_places}
-use Rattle.station_parts.specs.Audited.{AreAtMost, LeavesCache, LeavesPorts, LeavesBanks, audit_of}
+use Rattle.station_parts.specs.Audited.{AreAtMost, LeavesCache, LeavesPorts, audit_of}
 
 -- how many entries the side has noted in all once one journal more is full
 abbrev pub noted_after : {W B R D : ℕ} → CacheSide W B R D → ℕ

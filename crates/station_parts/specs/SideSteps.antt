@@ -19,7 +19,7 @@ use Rattle.cache_law.specs.State.{Cache}
 use Rattle.cache_law.specs.Views.{is_empty}
 use Rattle.cache_law.specs.Causes.{arrive_cause}
 use Rattle.cache_law.specs.Steps as unit
-use Rattle.cache_law.specs.FormLaws.{RequestForms, EvictForms, DrainForms, ArriveForms, ProcessForms, TakenForms}
+use Rattle.cache_law.specs.FormLaws.{RequestForms, EvictForms, ArriveForms, SameForms, TakenForms}
 use Rattle.station_journal.specs.declared.asks.Ask.{Ask}
 use Rattle.station_journal.specs.declared.asks.Ask.TheVariants.{Done}
 use Rattle.station_journal.specs.declared.journal.Source.{Source}
@@ -159,11 +159,11 @@ EventForms z c (events.Load tag at) words answer d = RequestForms z c (requests.
 EventForms z c (events.Store at word lanes) words answer d = RequestForms z c (requests.Store at word lanes) answer d
 EventForms z c (events.Prefetch at) words answer d = RequestForms z c (requests.Prefetch at) answer d
 EventForms z c (events.Evict block) words answer d = EvictForms z c block answer d
-EventForms z c events.Drain words answer d = DrainForms z c answer d
+EventForms z c events.Drain words answer d = SameForms z c answer d
 EventForms z c (events.Serve bank) words answer d = Unit {0}
 EventForms z c (events.Arrive bank place) [] answer d = Unit {0}
 EventForms z c (events.Arrive bank place) (a ∷ rest) answer d = ArriveForms z c a.slot a.i a.word answer d
-EventForms z c (events.Process place) words answer d = ProcessForms z c answer d
+EventForms z c (events.Process place) words answer d = SameForms z c answer d
 EventForms z c (events.Take place) words answer d = TakenForms z c answer d
 
 -- the words of the bank that a source is

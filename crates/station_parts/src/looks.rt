@@ -1,7 +1,6 @@
 //! What the cache side may look at: what a step at a source would find, and room for. At a port or a
 //! bank that isn't there nothing is known, and no place is free.
 ghost use Rattle.std.specs.Prelude.{◌≡◌, length, slice_get};
-ghost use Rattle.cache_law.specs.State.{UnitState};
 ghost use Rattle.station_parts.specs.Ids.{cache_id};
 ghost use Rattle.station_parts.specs.SideState.{state_of, OnlyLooks};
 ghost use Rattle.station_parts.specs.SideSteps.{has_item};

@@ -1,11 +1,11 @@
 //! How a station goes on with a new journal.
-ghost use Rattle.std.specs.Prelude.{◌≡◌, ◌≢◌, ◌≤◌, ◌<◌, ◌+◌, [], nat_lt, false, length, map, vec_capacity, IsTrue, IfOk, IfErr, OnOk};
+ghost use Rattle.std.specs.Prelude.{◌≡◌, ◌≤◌, ◌<◌, ◌+◌, [], nat_lt, false, map, vec_capacity, IsTrue, IfOk, IfErr, OnOk};
 ghost use Rattle.std.specs.List.{All};
 ghost use Rattle.cache_law.specs.Views.{is_clean};
 ghost use Rattle.station_journal.specs.Journal.{IsBankTrue};
 ghost use Rattle.station_parts.specs.declared.make.TheConstants.{MAX_NOTED};
 ghost use Rattle.station_parts.specs.declared.parts.Audit.TheVariants.{Clean};
-ghost use Rattle.station_parts.specs.Audited.{IsSeen, LeavesPorts, LeavesBanks, audit_of};
+ghost use Rattle.station_parts.specs.Audited.{IsSeen, LeavesBanks, audit_of};
 ghost use Rattle.station_parts.specs.Ids.{port_id, bank_id, cache_id};
 ghost use Rattle.station_parts.specs.Promises.{IsFlatRun, AreWhole, PaysLoads, HoldFlat};
 ghost use Rattle.station_parts.specs.Renewed.{noted_after, GoesOn, RenewsCache, ResumesPorts, IsRefused};

@@ -17,7 +17,7 @@ use Rattle.station_checks.specs.Stories.{findings_text, recorded_text, progress_
 use Rattle.station_tour.specs.declared.command_line.Job.{Job}
 use Rattle.station_tour.specs.declared.command_line.Job.TheVariants as job
 use Rattle.station_tour.specs.declared.command_line.Show.{Show}
-use Rattle.station_tour.specs.declared.command_line.Show.TheVariants.{Story, Journal, StoryAndFile}
+use Rattle.station_tour.specs.declared.command_line.Show.TheVariants.{Story, Journal}
 use Rattle.station_tour.specs.declared.seen.Seen.{Seen}
 use Rattle.station_tour.specs.declared.seen.Seen.TheVariants as seen
 use Rattle.station_tour.specs.Asked.{asks_in}

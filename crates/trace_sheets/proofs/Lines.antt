@@ -1,7 +1,7 @@
 -- What stands in front of an arrow, and behind it.
-use Rattle.std.proofs.Common.{◌≡◌, ℕ, ◌+◌, ◌-◌, ◌<◌, ◌≤◌, Bool, true, false, cond, Option, Some, None, Result, Ok, Err, List, []}
-use Rattle.std.proofs.Common.{◌∷◌, ◌++◌, length, take, drop, refl, sym, ◌∙◌, ap}
-use Rattle.std.specs.Prelude.{◌==◌, ◌&&◌, nat_lt, is_ok}
+use Rattle.std.proofs.Common.{◌≡◌, ℕ, ◌+◌, Bool, true, false, cond, Option, Some, None, Result, Ok, Err, List}
+use Rattle.std.proofs.Common.{length, take, drop, refl, sym, ◌∙◌, ap}
+use Rattle.std.specs.Prelude.{nat_lt, is_ok}
 use Rattle.std.specs.Option.{is_some}
 use Rattle.flat_model.specs.declared.Answer.{Answer}
 use Rattle.flat_model.specs.declared.Event.{Event}

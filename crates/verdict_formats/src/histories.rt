@@ -3,7 +3,7 @@
 ghost use Rattle.std.specs.Prelude.{◌≡◌, map, IfOk, string_bytes};
 ghost use Rattle.std.specs.Option.{option_copied};
 ghost use Rattle.named_fields.specs.Formats.{said};
-ghost use Rattle.history_text.specs.Answers.{bytes_in_set as set_bytes, law_text, kind_text};
+ghost use Rattle.history_text.specs.Answers.{law_text, kind_text};
 ghost use Rattle.verdict_formats.specs.Histories as histories;
 
 use arrayvec::ArrayVec;

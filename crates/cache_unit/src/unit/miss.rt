@@ -1,5 +1,5 @@
 //! A request for a block that no frame holds.
-ghost use Rattle.std.specs.Prelude.{◌≡◌, ℕ, ◌+◌, ◌*◌, ◌≤◌, Bool, false, IfOk, IfErr, Some, None};
+ghost use Rattle.std.specs.Prelude.{◌≡◌, ◌+◌, ◌*◌, ◌≤◌, false, IfOk, IfErr, Some};
 ghost use Rattle.memory_banks.specs.Banks.{HasSent};
 ghost use Rattle.cache_law.specs.State.{is_present};
 ghost use Rattle.cache_law.specs.Causes.{first_cause, miss_causes};

@@ -1,5 +1,5 @@
 //! What a caller knows of a run and the audit behind it, by their contracts alone.
-ghost use Rattle.std.specs.Prelude.{◌≡◌, ◌≤◌, length, IfOk};
+ghost use Rattle.std.specs.Prelude.{◌≡◌, length, IfOk};
 ghost use Rattle.station_parts.specs.declared.parts.Audit.TheVariants.{Clean};
 ghost use Rattle.station_parts.specs.Promises.{IsFlatRun, PaysLoads};
 ghost use Rattle.station_parts.specs.Runs.{AreAnswered};

@@ -1,6 +1,6 @@
 //! Stations that are stepped by hand. A story is a row: what is done with the parts, one move after
 //! another, and what comes of each.
-ghost use Rattle.std.specs.Prelude.{◌≡◌, length, vec_len, map};
+ghost use Rattle.std.specs.Prelude.{◌≡◌, vec_len, map};
 ghost use Rattle.station_parts.specs.Ids.{port_id, bank_id, cache_id};
 ghost use Rattle.station_parts.specs.Station.{AreOneStation};
 

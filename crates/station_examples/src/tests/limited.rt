@@ -1,7 +1,6 @@
 //! Runs that come to their limit, behind which a station isn't renewed. A row has so few turns that its scripts
 //! can't come to their end, or a part that is held. A port makes a move in a turn at most: one for each ask, one for
 //! each thing that it is told, and one for Done. The cache side notes an entry at most.
-ghost use Rattle.std.specs.Prelude.{◌≡◌};
 ghost use Rattle.station_parts.specs.Station.{AreOneStation};
 
 use super::ends::are_lists;

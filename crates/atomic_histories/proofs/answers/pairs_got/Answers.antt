@@ -1,7 +1,6 @@
 use Rattle.std.proofs.Common.{◌<◌, [], length, arith, ap, subst, sym}
 use Rattle.atomic_histories.specs.Followed.{cons_any, pair_got}
 use Rattle.atomic_histories.specs.Parts.{IsPart}
-use Rattle.atomic_histories.specs.Shown.{shown}
 use Rattle.atomic_histories.proofs.Lists.{each_nth}
 use Rattle.atomic_histories.proofs.Parts.{part_more, got_step}
 use Rattle.atomic_histories.proofs.answers.pairs_got.Goals as goal

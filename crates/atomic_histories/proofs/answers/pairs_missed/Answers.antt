@@ -1,7 +1,6 @@
 use Rattle.std.proofs.Common.{◌<◌, length, filter, sym, subst, arith}
 use Rattle.atomic_histories.specs.Followed.{pair_missed, with_hope, word_aim}
 use Rattle.atomic_histories.specs.Parts.{IsPart}
-use Rattle.atomic_histories.specs.Shown.{shown}
 use Rattle.atomic_histories.proofs.Lists.{each_nth}
 use Rattle.atomic_histories.proofs.Parts.{part_more, missed_step}
 use Rattle.atomic_histories.proofs.answers.pairs_missed.Goals as goal

@@ -1,6 +1,6 @@
 use Rattle.std.proofs.Common.{◌%◌, ◌==◌, nat_lt, length, sym, ap, ◌∙◌, arith}
 use Rattle.std.specs.List.{filter}
-use Rattle.cache_unit.specs.Reads.{is_short}
+use Rattle.cache_law.specs.Reads.{is_short}
 use Rattle.cache_unit.proofs.BlockReads.{any_found, none_found}
 use Rattle.cache_unit.proofs.reads.lacks_room.Goals as goal
 

@@ -1,5 +1,5 @@
 use Rattle.std.proofs.Common.{◌≡◌, ℕ, ◌<◌, false}
-use Rattle.cache_unit.specs.Reads.{is_short}
+use Rattle.cache_law.specs.Reads.{is_short}
 use Rattle.cache_unit.proofs.reads.lacks_room.Given as goal
 
 abbrev pub invariant-loop-bank : goal.invariant-loop-bank

@@ -1,5 +1,5 @@
 use Rattle.memory_banks.specs.Banks.{HasSent}
-use Rattle.cache_unit.specs.Reads.{block_reads}
+use Rattle.cache_law.specs.Reads.{block_reads}
 use Rattle.cache_unit.proofs.reads.send_reads.Given as goal
 
 abbrev pub invariant-loop-k : goal.invariant-loop-k

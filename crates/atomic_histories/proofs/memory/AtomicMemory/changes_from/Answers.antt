@@ -1,4 +1,4 @@
-use Rattle.std.proofs.Common.{◌+◌, ◌-◌, ◌++◌, map, length, ap, ◌∙◌, length-append, arith}
+use Rattle.std.proofs.Common.{◌+◌, ◌++◌, map, length, ap, ◌∙◌, length-append, arith}
 use Rattle.atomic_histories.specs.Held.{ways_from}
 use Rattle.atomic_histories.specs.Judge.{held, limit_of}
 use Rattle.atomic_histories.specs.Shown.{shown_unit}
