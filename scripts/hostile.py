@@ -246,8 +246,21 @@ def busy(served, pool):
 BEHIND = [(signal.SIGINT, pause / 1000) for pause in (0, 1, 2, 3, 5, 8, 12, 20)] + [(signal.SIGTERM, 0.002), (signal.SIGHUP, 0.002)]
 
 
+def interrupted_at_once(folder):
+    """All that ends a page comes while it stands still, so that it finds each of them there."""
+    with Served(folder) as served, concurrent.futures.ThreadPoolExecutor(2) as pool:
+        _, asked = busy(served, pool)
+        for number in (signal.SIGSTOP, signal.SIGINT, signal.SIGTERM, signal.SIGHUP, signal.SIGCONT):
+            served.process.send_signal(number)
+        same("the status", served.end(), 0)
+        asked.exception()
+    same("files that are left", list(folder.iterdir()), [])
+
+
 def interrupted_twice(folder):
     """A second interrupt doesn't cut short what the first one ends."""
+    (folder / "at_once").mkdir()
+    interrupted_at_once(folder / "at_once")
     for at, (number, pause) in enumerate(BEHIND):
         room = folder / f"twice{at}"
         room.mkdir()

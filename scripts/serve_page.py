@@ -391,15 +391,22 @@ def find_program():
 ENDS = (signal.SIGINT, signal.SIGTERM, signal.SIGHUP)
 
 
-def ignore_ends():
-    for it in ENDS:
-        signal.signal(it, signal.SIG_IGN)
+class End:
+    """Whether the page is ending."""
+
+    begun = False
 
 
 def interrupted(*_):
-    # (what comes behind it mustn't cut the page's end short)
-    ignore_ends()
-    raise KeyboardInterrupt
+    # (what comes behind it mustn't cut the page's end short. It isn't ignored yet: Python tells of a signal that came before)
+    if not End.begun:
+        End.begun = True
+        raise KeyboardInterrupt
+
+
+def ignore_ends():
+    for it in ENDS:
+        signal.signal(it, signal.SIG_IGN)
 
 
 def main():
@@ -424,11 +431,13 @@ def main():
     except (OSError, OverflowError) as fault:
         sys.exit(f"kroft-page: {fault}")
     finally:
-        ignore_ends()
+        End.begun = True
         if program:
             program.close()
         if folder:
             shutil.rmtree(folder, ignore_errors=True)
+        # (Python takes its handlers away as it ends, and what comes then would end it by a signal)
+        ignore_ends()
 
 
 main()
