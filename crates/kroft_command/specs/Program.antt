@@ -10,9 +10,9 @@ use Rattle.cache_law.specs.declared.Sizes.{Sizes}
 use Rattle.machine_core.specs.Machine.{MachineState}
 use Rattle.toml.specs.Parse.{parse_document}
 use Rattle.flat_model.specs.Flat.{Flat}
-use Rattle.memory_images.specs.Images.{memory_from, flat_from, bytes_of}
-use Rattle.memory_images.specs.declared.image.Image.{Image}
-use Rattle.memory_images.specs.declared.image.Image.TheVariants as memory
+use Rattle.flat_model.specs.Images.{memory_from, flat_from, bytes_of}
+use Rattle.flat_model.specs.declared.image.Image.{Image}
+use Rattle.flat_model.specs.declared.image.Image.TheVariants as memory
 use Rattle.trace_text.specs.Checks.{pair_fault, IsJudgedFrom}
 use Rattle.trace_text.specs.Reading.{ReadWhole, ReadFails}
 use Rattle.trace_text.specs.Requests.{requests_of}

@@ -19,7 +19,7 @@ use crate::tasks::{answer, check_by, drive, explain, grade, history, requests, r
 use cache_unit::Sizes;
 use clap::error::ErrorKind;
 use kroft_jobs::JobFault;
-use memory_images::Image;
+use flat_model::Image;
 use shape_files::{ToolShape, read_machine, read_shape};
 use std::alloc::Global;
 use std::io;

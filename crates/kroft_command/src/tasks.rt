@@ -29,7 +29,7 @@ use kroft_jobs::{
     AnsweredIn, CheckIn, LatencyRows, RequestText, Verdict, detail_requests, drive_requests,
     put_text, serve, summarize_requests, sweep_in_rounds, sweep_latencies, sweep_registers,
 };
-use memory_images::Image;
+use flat_model::Image;
 use named_fields::Format;
 use register_sweeps::{RoundsRow, Row};
 use result_figures::{LossFigure, SweepFigure, SweepLine};

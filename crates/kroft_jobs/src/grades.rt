@@ -9,7 +9,7 @@ ghost use Rattle.kroft_jobs.specs.Writing.{IsWritten};
 
 use crate::writing::put_text;
 use cache_unit::Sizes;
-use memory_images::Image;
+use flat_model::Image;
 use named_fields::Format;
 use register_sweeps::new_machine;
 use std::alloc::Global;

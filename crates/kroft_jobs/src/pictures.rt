@@ -6,7 +6,7 @@ ghost use Rattle.shape_files.specs.MachineFile.{bad_machine};
 ghost use Rattle.register_sweeps.specs.Sweep.{machine_over};
 
 use cache_unit::Sizes;
-use memory_images::Image;
+use flat_model::Image;
 use register_sweeps::new_machine;
 use run_pictures::{Form, ShowFault, show_text};
 use std::alloc::Global;

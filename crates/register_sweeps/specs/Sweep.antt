@@ -13,9 +13,9 @@ use Rattle.flat_model.specs.declared.ShapeField.{ShapeField}
 use Rattle.flat_model.specs.declared.MakeFault.TheVariants as make
 use Rattle.flat_model.specs.Faults.{make_fault_text}
 use Rattle.flat_model.specs.Memory.{is_load}
-use Rattle.memory_images.specs.Images.{memory_from}
-use Rattle.memory_images.specs.declared.image.Image.{Image}
-use Rattle.memory_images.specs.declared.image.Image.TheVariants.{Zeros}
+use Rattle.flat_model.specs.Images.{memory_from}
+use Rattle.flat_model.specs.declared.image.Image.{Image}
+use Rattle.flat_model.specs.declared.image.Image.TheVariants.{Zeros}
 use Rattle.machine_core.specs.Machine.{MachineState, opening}
 use Rattle.machine_core.specs.Pump.{until}
 use Rattle.machine_core.specs.AnyMachine.{answered, after_event, pump_tells, pump_leaves, weight_of}

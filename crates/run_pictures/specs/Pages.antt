@@ -6,7 +6,7 @@ use Rattle.std.specs.Global.{Global}
 use Rattle.std.specs.declared.string.String.{String}
 use Rattle.flat_model.specs.Texts.{event_text, answer_text}
 use Rattle.machine_core.specs.Machine.{MachineState}
-use Rattle.memory_images.specs.declared.image.Image.{Image}
+use Rattle.flat_model.specs.declared.image.Image.{Image}
 use Rattle.cache_law.specs.declared.Sizes.{Sizes}
 use Rattle.run_pictures.specs.declared.page.Page.{Page}
 use Rattle.run_pictures.specs.declared.place.Place.{Place}

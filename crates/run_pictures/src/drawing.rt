@@ -9,7 +9,7 @@ use crate::screens::Screens;
 use crate::step::Step;
 use crate::waveform::Waveform;
 use machine_core::ShapedMachine;
-use memory_images::Image;
+use flat_model::Image;
 use std::alloc::{AllocError, Global};
 
 /// As what a run is drawn.

@@ -10,7 +10,7 @@ use crate::before::Before;
 use crate::drawing::{Drawing, Form};
 use crate::step::{Made, Step};
 use machine_core::ShapedMachine;
-use memory_images::Image;
+use flat_model::Image;
 use std::alloc::{AllocError, Global};
 
 /// The most events that are drawn.

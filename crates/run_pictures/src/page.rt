@@ -11,7 +11,7 @@ use crate::place::Place;
 use crate::step::{Other, Step};
 use cache_unit::Sizes;
 use machine_core::ShapedMachine;
-use memory_images::Image;
+use flat_model::Image;
 use std::alloc::{AllocError, Global};
 
 /// A page, up to the step that was drawn last.

@@ -8,7 +8,7 @@ use crate::asked::read_asked;
 use crate::drawing::Form;
 use crate::drawn::{MOST_EVENTS, draw_run};
 use machine_core::ShapedMachine;
-use memory_images::Image;
+use flat_model::Image;
 use std::alloc::{AllocError, Global};
 use std::error::Error;
 use std::fmt;

@@ -4,9 +4,9 @@ ghost use Rattle.std.specs.Prelude.{◌≡◌, ◌*◌, length, replicate, IfOk}
 ghost use Rattle.flat_model.specs.Flat.{opening};
 ghost use Rattle.flat_model.specs.Memory.{shown};
 ghost use Rattle.flat_model.specs.Words.{zero_word};
-ghost use Rattle.memory_images.specs.Images.{byte_in, bytes_word, number_word, word_in, words_below, memory_from, bytes_of};
+ghost use Rattle.flat_model.specs.Images.{byte_in, bytes_word, number_word, word_in, words_below, memory_from, bytes_of};
 
-use flat_model::{FlatMemory, Word};
+use crate::{FlatMemory, Word};
 use std::alloc::{AllocError, Global};
 
 /// What memory begins with, whatever its size is.
@@ -76,7 +76,7 @@ impl Image {
     }
 
     // The words from the first on, one by one.
-    #[tactic(auto, using(crate::proofs::Memories::words_first, crate::proofs::Memories::words_more, crate::proofs::Memories::words_length))]
+    #[tactic(auto, using(crate::proofs::Images::words_first, crate::proofs::Images::words_more, crate::proofs::Images::words_length))]
     fn words_below(&self, alloc: Global, words: u32) -> Result<Vec<Word>, AllocError>
         ensures memory { IfOk result (λ memory. memory.items ≡ words_below self.now words) }
         ensures words { IfOk result (λ memory. length memory.items ≡ words) }

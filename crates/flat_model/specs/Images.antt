@@ -4,8 +4,8 @@ use Rattle.std.specs.List.{range_with_len}
 use Rattle.flat_model.specs.declared.Word.{Word}
 use Rattle.flat_model.specs.Flat.{Flat, opening}
 use Rattle.flat_model.specs.Words.{zero_word}
-use Rattle.memory_images.specs.declared.image.Image.{Image}
-use Rattle.memory_images.specs.declared.image.Image.TheVariants.{Zeros, Address, Bytes}
+use Rattle.flat_model.specs.declared.image.Image.{Image}
+use Rattle.flat_model.specs.declared.image.Image.TheVariants.{Zeros, Address, Bytes}
 
 -- the word with the bytes of a number below 2 ^ 32, the lowest first
 abbrev pub number_word : ℕ → Word

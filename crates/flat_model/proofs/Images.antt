@@ -4,9 +4,9 @@ use Rattle.std.specs.List.{range_with_len}
 use Rattle.std.proofs.lemmas.List.{length-replicate, map-append}
 use Rattle.std.proofs.lemmas.List.FromFn.{length-map-range_with_len}
 use Rattle.flat_model.proofs.Numbers.{range_next}
-use Rattle.memory_images.specs.declared.image.Image.{Image}
-use Rattle.memory_images.specs.declared.image.Image.TheVariants.{Zeros, Address, Bytes}
-use Rattle.memory_images.specs.Images.{word_in, words_below, memory_from}
+use Rattle.flat_model.specs.declared.image.Image.{Image}
+use Rattle.flat_model.specs.declared.image.Image.TheVariants.{Zeros, Address, Bytes}
+use Rattle.flat_model.specs.Images.{word_in, words_below, memory_from}
 
 -- below 0 there are none
 pub words_first : (image : Image) → words_below image 0 ≡ []

@@ -3,8 +3,8 @@ use Rattle.std.specs.Prelude.{◌≡◌, ℕ, List, [], ◌∷◌}
 use Rattle.std.proofs.Common.{refl}
 use Rattle.flat_model.specs.declared.Word.{Word}
 use Rattle.flat_model.specs.Words.{zero_word}
-use Rattle.memory_images.specs.declared.image.Image.TheVariants.{Address}
-use Rattle.memory_images.specs.Images.{bytes_word, word_in}
+use Rattle.flat_model.specs.declared.image.Image.TheVariants.{Address}
+use Rattle.flat_model.specs.Images.{bytes_word, word_in}
 
 abbrev word : ℕ → ℕ → ℕ → ℕ → Word
 word a b c d = record { b0 = a; b1 = b; b2 = c; b3 = d }
