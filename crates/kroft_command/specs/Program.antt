@@ -27,7 +27,7 @@ use Rattle.access_logs.specs.Logs as logs
 use Rattle.access_logs.specs.declared.access.Access.{Access}
 use Rattle.access_logs.specs.declared.fault.LogFault.{LogFault}
 use Rattle.access_logs.specs.declared.reading.AccessGroup.{AccessGroup}
-use Rattle.access_counts.specs.declared.counts.AccessCounts.{AccessCounts}
+use Rattle.result_formats.specs.declared.accesses.AccessCounts.{AccessCounts}
 use Rattle.flat_model.specs.declared.Event.{Event}
 use Rattle.access_logs.specs.declared.pages.TheConstants.{PAGE_WORDS}
 use Rattle.history_text.specs.Answers.{verdict_status as history_status}
@@ -71,8 +71,8 @@ use Rattle.kroft_jobs.specs.Writing.{IsPut, IsCut}
 use Rattle.kroft_jobs.specs.declared.asked.RequestText.{RequestText}
 use Rattle.kroft_jobs.specs.declared.fault.JobFault.{JobFault}
 use Rattle.kroft_jobs.specs.declared.fault.JobFault.TheVariants.{ShapeUnreadable, OutOfMemory}
-use Rattle.verdict_formats.specs.Explanations.{explanation_in}
-use Rattle.verdict_formats.specs.Histories.{history_in}
+use Rattle.result_formats.specs.Explanations.{explanation_in}
+use Rattle.result_formats.specs.Histories.{history_in}
 use Rattle.kroft_jobs.specs.declared.rounds.LatencyRows.{LatencyRows}
 use Rattle.clap.specs.Values.{kind_of}
 use Rattle.clap.specs.declared.error.Error.{Error}

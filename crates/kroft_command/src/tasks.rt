@@ -33,15 +33,12 @@ use flat_model::Image;
 use named_fields::Format;
 use register_sweeps::{RoundsRow, Row};
 use result_figures::{LossFigure, SweepFigure, SweepLine};
-use result_formats::{
-    DetailsIn, LatencyHead, LatencyIn, PumpsHead, PumpsIn, RoundsHead, RoundsIn, TableHead, TableIn,
-};
+use result_formats::{DetailsIn, ExplanationIn, LatencyHead, LatencyIn, PumpsHead, PumpsIn, RoundsHead, RoundsIn, TableHead, TableIn, history_in};
 use round_driver::Timing;
 use run_pictures::Form;
 use std::alloc::{AllocError, Global};
 use std::thread::Threads;
 use trace_text::{Sink, Source, TraceFault};
-use verdict_formats::{ExplanationIn, history_in};
 
 /// Puts what a job found, and gives its status.
 pub(crate) fn answer<O: Sink>(output: &mut O, text: &str, status: u8) -> Result<u8, ToolFault>

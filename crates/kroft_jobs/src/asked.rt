@@ -10,7 +10,7 @@ ghost use Rattle.round_driver.specs.Walks.{is_request};
 ghost use Rattle.kroft_jobs.specs.Asking as asking;
 ghost use Rattle.kroft_jobs.specs.Asking.{Asks, AsksNothing, room_of};
 
-use access_counts::{AccessCounts, count_accesses};
+use result_formats::{AccessCounts, count_accesses};
 use access_logs::{
     AccessGroup, Din, Lackey, LogFault, LogFormat, LogRequests, MAX_WORDS, read_log,
 };

@@ -22,7 +22,7 @@ ghost use Rattle.kroft_jobs.specs.Sweeping.{IsCounted, CountsAll, AreCounted, Ar
 use crate::asked::{RequestText, accesses_of, read_asked};
 use crate::fault::JobFault;
 use crate::jobs::{SWEEP_TURNS, swept_machines};
-use access_counts::AccessCounts;
+use result_formats::AccessCounts;
 use access_logs::LogFault;
 use cache_unit::Sizes;
 use flat_model::{Event, Image};
@@ -66,7 +66,7 @@ pub struct CountedRun {
 }
 
 /// Drives the requests of a trace or of a log as [`summarize_requests`] does, and counts more, as [`detail_with`] does;
-/// and of a log its accesses, as [`count_accesses`](access_counts::count_accesses) does.
+/// and of a log its accesses, as [`count_accesses`](result_formats::count_accesses) does.
 pub fn detail_requests<I: Source>(
     alloc: Global,
     sizes: &Sizes,

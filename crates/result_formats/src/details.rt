@@ -9,7 +9,7 @@ ghost use Rattle.result_formats.specs.Series as series;
 
 use crate::counts::table_fields;
 use crate::series::{AllSeries, By, Series};
-use access_counts::AccessCounts;
+use crate::AccessCounts;
 use named_fields::{Field, Figure, Format, Member, Members};
 use round_driver::{Details, Waits, wait_bucket};
 use std::fmt;
