@@ -1,6 +1,6 @@
 -- What a plan says.
 use Rattle.std.specs.Prelude.{◌+◌, ◌-◌, ◌*◌, ◌%◌, ◌^◌, ◌≢◌, ◌≤◌, Bool, ◌&&◌, ◌||◌, ◌==◌, nat_lt, nat_le}
-use Rattle.memory_traffic.specs.declared.plan.Plan.{Plan}
+use Rattle.flat_judge.specs.declared.plan.Plan.{Plan}
 
 -- ---- as tests
 

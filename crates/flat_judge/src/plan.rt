@@ -1,6 +1,6 @@
 //! What traffic is like.
 ghost use Rattle.std.specs.Prelude.{◌≡◌, true, is_some, IfSome};
-ghost use Rattle.memory_traffic.specs.Plan.{is_plan, has_memory, has_widths, has_requesters, Memory, Widths, Requesters};
+ghost use Rattle.flat_judge.specs.Plan.{is_plan, has_memory, has_widths, has_requesters, Memory, Widths, Requesters};
 
 /// What traffic is like. Shares are in 256ths: 0 is never, 256 and more always.
 #[repr(C)]

@@ -1,6 +1,6 @@
 //! The access of each number.
 ghost use Rattle.std.specs.Prelude.{◌≡◌, ◌≤◌, ◌<◌, ◌%◌, ◌/◌, ◌*◌, ◌+◌, ◌^◌, ◌≢◌, ℕ, length};
-ghost use Rattle.memory_traffic.specs.Traffic.{
+ghost use Rattle.flat_judge.specs.Traffic.{
   IsOf,
   access_of,
   behind,

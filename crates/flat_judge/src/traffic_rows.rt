@@ -1,6 +1,6 @@
 //! Traffic as C asks for it.
 ghost use Rattle.std.specs.Prelude.{◌≡◌, length};
-ghost use Rattle.memory_traffic.specs.Traffic.{access_of, bytes_behind, row_behind, status_of};
+ghost use Rattle.flat_judge.specs.Traffic.{access_of, bytes_behind, row_behind, status_of};
 
 use crate::{Access, Plan, fill_bytes};
 

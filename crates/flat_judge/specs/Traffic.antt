@@ -4,9 +4,9 @@ use Rattle.std.specs.Prelude.{◌++◌, drop}
 use Rattle.rand_pcg.specs.Lcg.{Lcg, started, increment_of}
 use Rattle.rand_pcg.specs.Pcg.{pcg32, multiplier_64}
 use Rattle.rand_core.specs.Steps.{fill_via_u32, u64_via_u32}
-use Rattle.memory_traffic.specs.declared.plan.Plan.{Plan}
-use Rattle.memory_traffic.specs.declared.access.Access.{Access}
-use Rattle.memory_traffic.specs.Plan.{is_plan}
+use Rattle.flat_judge.specs.declared.plan.Plan.{Plan}
+use Rattle.flat_judge.specs.declared.access.Access.{Access}
+use Rattle.flat_judge.specs.Plan.{is_plan}
 
 -- ---- what is drawn
 
