@@ -6,8 +6,8 @@ use Rattle.std.specs.List.{flat_map}
 use Rattle.std.specs.String.{string_bytes}
 use Rattle.std.specs.Global.{Global, Vec}
 use Rattle.std.specs.declared.string.String.{String}
-use Rattle.cache_law.specs.declared.Sizes.{Sizes}
-use Rattle.machine_core.specs.Machine.{MachineState}
+use Rattle.register_sweeps.specs.Words.{Sizes}
+use Rattle.register_sweeps.specs.Machine.{MachineState}
 use Rattle.toml.specs.Parse.{parse_document}
 use Rattle.flat_model.specs.Flat.{Flat}
 use Rattle.flat_model.specs.Images.{memory_from, flat_from, bytes_of}
@@ -43,8 +43,8 @@ use Rattle.round_driver.specs.declared.timing.Timing.{Timing}
 use Rattle.run_pictures.specs.Drawn.{Shows}
 use Rattle.run_pictures.specs.declared.drawing.Form.{Form}
 use Rattle.run_pictures.specs.declared.show.ShowFault.{ShowFault}
-use Rattle.run_reasons.specs.Runs.{Explains, status_of as explanation_status}
-use Rattle.run_reasons.specs.declared.explain.Explanation.{Explanation}
+use Rattle.kroft_jobs.specs.Runs.{Explains, status_of as explanation_status}
+use Rattle.kroft_jobs.specs.Explanation.{Explanation}
 use Rattle.register_sweeps.specs.Sweep.{machine_over, row_of}
 use Rattle.register_sweeps.specs.declared.rounds.RoundsRow.{RoundsRow}
 use Rattle.shape_files.specs.MachineFile.{TextSays, TextFails}
@@ -53,8 +53,8 @@ use Rattle.shape_files.specs.declared.machine_file.MachineFault.{MachineFault}
 use Rattle.shape_files.specs.declared.shape_file.ShapeFault.{ShapeFault}
 use Rattle.shape_files.specs.declared.shape_file.TheConstants.{DEFAULT_SHAPE}
 use Rattle.shape_files.specs.declared.shape_file.ToolShape.{ToolShape}
-use Rattle.trace_sheets.specs.Grades.{score_status}
-use Rattle.trace_sheets.specs.declared.score.Score.{Score}
+use Rattle.kroft_jobs.specs.Grades.{score_status}
+use Rattle.kroft_jobs.specs.Score.{Score}
 use Rattle.result_formats.specs.Details.{details_in}
 use Rattle.result_figures.specs.Bars.{loss_figure}
 use Rattle.result_figures.specs.Sweeps.{Swept, sweep_figure}

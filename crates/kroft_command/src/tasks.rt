@@ -23,17 +23,19 @@ ghost use Rattle.kroft_command.specs.Program.{FollowsHistory, JudgesHistory, Wri
 use crate::command_line::{CountForm, HistoryTask, LogName, Registers, Timings};
 use crate::fault::ToolFault;
 use access_logs::{Din, Lackey, LogFormat, write_requests};
-use cache_unit::Sizes;
+use flat_model::Image;
 use history_text::{HistoryEnd, judge_by_law, write_values_by_law};
 use kroft_jobs::{
     AnsweredIn, CheckIn, LatencyRows, RequestText, Verdict, detail_requests, drive_requests,
     put_text, serve, summarize_requests, sweep_in_rounds, sweep_latencies, sweep_registers,
 };
-use flat_model::Image;
 use named_fields::Format;
-use register_sweeps::{RoundsRow, Row};
+use register_sweeps::{RoundsRow, Row, Sizes};
 use result_figures::{LossFigure, SweepFigure, SweepLine};
-use result_formats::{DetailsIn, ExplanationIn, LatencyHead, LatencyIn, PumpsHead, PumpsIn, RoundsHead, RoundsIn, TableHead, TableIn, history_in};
+use result_formats::{
+    DetailsIn, ExplanationIn, LatencyHead, LatencyIn, PumpsHead, PumpsIn, RoundsHead, RoundsIn,
+    TableHead, TableIn, history_in,
+};
 use round_driver::Timing;
 use run_pictures::Form;
 use std::alloc::{AllocError, Global};

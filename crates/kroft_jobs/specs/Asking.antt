@@ -1,6 +1,6 @@
 -- What an input says as requests, if it is a trace or a log.
 use Rattle.std.specs.Prelude.{◌≡◌, ℕ, ◌/◌, min, Option, Some, None, List, []}
-use Rattle.cache_law.specs.declared.Sizes.{Sizes}
+use Rattle.register_sweeps.specs.Words.{Sizes}
 use Rattle.flat_model.specs.declared.Event.{Event}
 use Rattle.trace_text.specs.Reading.{ReadWhole, ReadFails}
 use Rattle.trace_text.specs.Requests.{requests_of}

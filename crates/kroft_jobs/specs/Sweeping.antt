@@ -2,9 +2,9 @@
 use Rattle.std.specs.Prelude.{⊤, ◌≡◌, ℕ, List, [], ◌∷◌, map, Option, Some}
 use Rattle.std.specs.List.{All}
 use Rattle.shape_files.specs.MachineFile.{bad_machine}
-use Rattle.cache_law.specs.declared.Sizes.{Sizes}
+use Rattle.register_sweeps.specs.Words.{Sizes}
 use Rattle.flat_model.specs.declared.Event.{Event}
-use Rattle.machine_core.specs.Machine.{MachineState}
+use Rattle.register_sweeps.specs.Machine.{MachineState}
 use Rattle.trace_text.specs.Reading.{ReadWhole, ReadStops}
 use Rattle.trace_text.specs.Serving.{trace_fault}
 use Rattle.trace_text.specs.declared.fault.TheConstants.{MAX_LINE}

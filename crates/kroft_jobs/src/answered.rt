@@ -10,8 +10,8 @@ ghost use Rattle.trace_text.specs.Checks.{pair_fault, IsJudgedFrom};
 ghost use Rattle.kroft_jobs.specs.Answering.{tags_owed, open_text, tags_text, answered_text, answered_status};
 
 use crate::jobs::Verdict;
-use cache_unit::Sizes;
 use flat_model::{FlatMemory, Image};
+use register_sweeps::Sizes;
 use std::alloc::{AllocError, Global};
 use std::fmt;
 use trace_text::{CheckEnd, Source, TraceFault, check_from};

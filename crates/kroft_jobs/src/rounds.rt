@@ -22,11 +22,12 @@ ghost use Rattle.kroft_jobs.specs.Sweeping.{IsCounted, CountsAll, AreCounted, Ar
 use crate::asked::{RequestText, accesses_of, read_asked};
 use crate::fault::JobFault;
 use crate::jobs::{SWEEP_TURNS, swept_machines};
-use result_formats::AccessCounts;
 use access_logs::LogFault;
-use cache_unit::Sizes;
 use flat_model::{Event, Image};
-use register_sweeps::{OpenGate, RoundsRow, SweepFault, new_machine, rounds_table, sweep_rounds};
+use register_sweeps::{
+    OpenGate, RoundsRow, Sizes, SweepFault, new_machine, rounds_table, sweep_rounds,
+};
+use result_formats::AccessCounts;
 use round_driver::{Details, Table, Timing, detail_with};
 use std::alloc::{AllocError, Global};
 use std::thread::Threads;

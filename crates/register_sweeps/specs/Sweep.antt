@@ -4,11 +4,8 @@ use Rattle.std.specs.Prelude.{decimal, Option, Some, None, is_none}
 use Rattle.std.specs.List.{All}
 use Rattle.std.specs.Option.{option_map, option_or}
 use Rattle.shape_files.specs.MachineFile.{bad_machine}
-use Rattle.cache_law.specs.declared.Sizes.{Sizes}
+use Rattle.machine_core.specs.Words.{Sizes, Event, Answer, Accepted, Value, Refused}
 use Rattle.flat_model.specs.Causes.{ends_request}
-use Rattle.flat_model.specs.declared.Event.{Event}
-use Rattle.flat_model.specs.declared.Answer.{Answer}
-use Rattle.flat_model.specs.declared.Answer.TheVariants.{Accepted, Value, Refused}
 use Rattle.flat_model.specs.declared.ShapeField.{ShapeField}
 use Rattle.flat_model.specs.declared.MakeFault.TheVariants as make
 use Rattle.flat_model.specs.Faults.{make_fault_text}

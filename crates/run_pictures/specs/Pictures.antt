@@ -4,8 +4,7 @@ use Rattle.std.specs.Cmp.Lexicographic.{pointwise}
 use Rattle.std.specs.String.{string_bytes, string_len}
 use Rattle.std.specs.Global.{Global}
 use Rattle.std.specs.declared.string.String.{String}
-use Rattle.flat_model.specs.declared.Event.{Event}
-use Rattle.flat_model.specs.declared.Answer.{Answer}
+use Rattle.machine_core.specs.Words.{Event, Answer}
 use Rattle.flat_model.specs.Flat.{Flat, flat_step}
 use Rattle.flat_model.specs.Memory.{shown}
 use Rattle.flat_model.specs.declared.image.Image.{Image}

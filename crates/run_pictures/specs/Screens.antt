@@ -7,7 +7,7 @@ use Rattle.std.specs.Option.{option_to_list}
 use Rattle.std.specs.String.{string_bytes}
 use Rattle.std.specs.Global.{Global}
 use Rattle.std.specs.declared.string.String.{String}
-use Rattle.flat_model.specs.declared.Answer.{Answer}
+use Rattle.machine_core.specs.Words.{Answer}
 use Rattle.flat_model.specs.Texts.{event_text, answer_text}
 use Rattle.machine_core.specs.Machine.{MachineState}
 use Rattle.flat_model.specs.declared.image.Image.{Image}
