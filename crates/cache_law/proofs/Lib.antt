@@ -10,3 +10,5 @@ pub mod FormsProcessing
 pub mod Tags
 pub mod EachStep
 pub mod Opening
+-- of the parts, for what stands above
+pub use Rattle.cache_directory.proofs.Finds

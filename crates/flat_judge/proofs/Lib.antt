@@ -2,3 +2,5 @@
 pub mod Tags
 -- a reason, and the status of the step
 pub mod Told
+-- what follows from the numbers of a bench's plan
+pub mod Standing

@@ -5,3 +5,6 @@ pub mod Table
 pub mod Judge
 pub mod Reasons
 pub mod Texts
+-- a bench's traffic: what a plan says, and the access of each number
+pub mod Plan
+pub mod Traffic

@@ -4,5 +4,7 @@ pub mod Ranges
 pub mod Causes
 pub mod Flat
 pub mod Memory
+pub mod Images
+pub mod ImageExamples
 pub mod Texts
 pub mod Faults

@@ -2,7 +2,8 @@
 //! they speak of.
 //!
 //! These are plain types that every other crate uses. What they mean as flat memory stands in
-//! `specs/Flat.antt`: which answers an event may get, and what each pair of them changes.
+//! `specs/Flat.antt`: which answers an event may get, and what each pair of them changes. An [`Image`] is
+//! what memory begins with: zeros, each word's own address, or the bytes of a file.
 #![tactic(auto)]
 
 ghost use Rattle.std.specs.Prelude.{⊤, ◌≡◌, ◌==◌, [], ◌∷◌, codes, bit_and, if◌then◌else◌};
@@ -13,6 +14,7 @@ mod answers;
 mod causes;
 mod display;
 mod faults;
+mod image;
 mod limits;
 mod memory;
 mod operators;
@@ -20,6 +22,7 @@ mod operators;
 pub use answers::may_answer;
 use bitflags::{Flag, Flags};
 pub use display::TwoDigits;
+pub use image::Image;
 pub use limits::{
     MAX_BANK_QUEUE, MAX_BANKS, MAX_BLOCK_WORDS, MAX_CONST_DEPTH, MAX_CONST_REGS, MAX_CONST_WAYS,
     MAX_DEPTH, MAX_MEMORY, MAX_REGS, MAX_REPLIES, MAX_SETS, MAX_WAYS, MAX_WORDS, MAX_WRITE_QUEUE,

@@ -22,11 +22,8 @@ use Rattle.atomic_histories.specs.Law.{OpenLoad, UnitMemory, IsAtomic, MayBe, st
 use Rattle.atomic_histories.specs.Law.{without_load, unit_at, is_formed}
 use Rattle.atomic_histories.specs.Stands.{Each, One}
 use Rattle.atomic_histories.proofs.Lists.{each_weaker, each_append, one_weaker}
-use Rattle.flat_model.specs.declared.Word.{Word}
-use Rattle.flat_model.specs.declared.Event.{Event}
-use Rattle.flat_model.specs.declared.Event.TheVariants.{Load, Store, Prefetch, Evict, Drain, Serve, Arrive, Process, Take}
-use Rattle.flat_model.specs.declared.Answer.{Answer}
-use Rattle.flat_model.specs.declared.Answer.TheVariants.{Accepted, Moved, Value, Nothing, Refused}
+use Rattle.machine_core.specs.Words.{Word, Event, Load, Store, Prefetch, Evict, Drain, Serve, Arrive, Process, Take, Answer, Accepted}
+use Rattle.machine_core.specs.Words.{Moved, Value, Nothing, Refused}
 use Rattle.flat_model.specs.Words.{Lane0, Lane1, Lane2, Lane3}
 use Rattle.flat_model.specs.Flat.{word_at, same_word, may_answer}
 use Rattle.flat_model.specs.Flat as model

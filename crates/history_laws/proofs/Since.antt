@@ -4,12 +4,8 @@ use Rattle.std.proofs.Common.{Some, None, inl, inr, refl, sym, ap, ◌∙◌, su
 use Rattle.std.specs.List.{list_any}
 use Rattle.std.proofs.lemmas.Bool.{cases_Bool, and_parts, and_from, ltb-true, both_ways}
 use Rattle.std.proofs.lemmas.List.{get_or-set_same}
-use Rattle.flat_model.specs.declared.Word.{Word}
-use Rattle.flat_model.specs.declared.Lanes.{Lanes}
-use Rattle.flat_model.specs.declared.Event.{Event}
-use Rattle.flat_model.specs.declared.Event.TheVariants.{Load, Store, Prefetch, Evict, Drain, Serve, Arrive, Process, Take}
-use Rattle.flat_model.specs.declared.Answer.{Answer}
-use Rattle.flat_model.specs.declared.Answer.TheVariants.{Accepted, Moved, Value, Nothing, Refused}
+use Rattle.machine_core.specs.Words.{Word, Lanes, Event, Load, Store, Prefetch, Evict, Drain, Serve, Arrive, Process, Take, Answer}
+use Rattle.machine_core.specs.Words.{Accepted, Moved, Value, Nothing, Refused}
 use Rattle.flat_model.specs.Words.{zero_word, has_any, merged}
 use Rattle.flat_model.specs.Flat.{Flat, opening, word_at, same_word, may_answer, flat_after, flat_run}
 use Rattle.trace_text.specs.Pairs.{pair_of}

@@ -25,17 +25,12 @@ use Rattle.memory_histories.specs.Flat.{Flat, initial, stored, owed_bytes, is_pa
 use Rattle.memory_histories.specs.Flat.{flat_run}
 use Rattle.memory_histories.specs.Flat as flat
 use Rattle.atomic_histories.specs.Words.{enabled_byte, stored_byte, written_byte}
-use Rattle.flat_model.specs.declared.Word.{Word}
-use Rattle.flat_model.specs.declared.Lanes.{Lanes}
-use Rattle.flat_model.specs.declared.Event.{Event}
-use Rattle.flat_model.specs.declared.Event.TheVariants.{Load, Store, Prefetch, Evict, Drain, Serve, Arrive, Process, Take}
-use Rattle.flat_model.specs.declared.Answer.{Answer}
-use Rattle.flat_model.specs.declared.Answer.TheVariants.{Accepted, Moved, Value, Nothing, Refused}
+use Rattle.machine_core.specs.Words.{Word, Lanes, Event, Load, Store, Prefetch, Evict, Drain, Serve, Arrive, Process, Take, Answer}
+use Rattle.machine_core.specs.Words.{Accepted, Moved, Value, Nothing, Refused, Sizes}
 use Rattle.flat_model.specs.Words.{Lane, Lane0, Lane1, Lane2, Lane3, byte, zero_word, has, has_any, merged}
 use Rattle.flat_model.specs.Flat.{word_at, with_due, same_word, is_owed, may_answer}
 use Rattle.flat_model.specs.Flat as model
 use Rattle.flat_model.proofs.Lanewise.{byte-merged}
-use Rattle.cache_law.specs.declared.Sizes.{Sizes}
 use Rattle.machine_core.specs.Machine as machine
 use Rattle.machine_core.proofs.Walking.{walk_is_flat}
 use Rattle.history_laws.specs.Laws.{IsFlat, ReturnsBytes}

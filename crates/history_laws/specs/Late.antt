@@ -2,11 +2,7 @@
 -- later moment.
 use Rattle.std.specs.Prelude.{ℕ, ◌≡◌, Bool, true, false, ◌&&◌, not, ◌==◌, List, [], ◌∷◌, ◌++◌, Some}
 use Rattle.memory_histories.specs.declared.events.Rest.TheVariants.{Zeros}
-use Rattle.flat_model.specs.declared.Word.{Word}
-use Rattle.flat_model.specs.declared.Event.{Event}
-use Rattle.flat_model.specs.declared.Event.TheVariants.{Load, Take}
-use Rattle.flat_model.specs.declared.Answer.{Answer}
-use Rattle.flat_model.specs.declared.Answer.TheVariants.{Accepted, Value}
+use Rattle.machine_core.specs.Words.{Word, Event, Load, Take, Answer, Accepted, Value}
 use Rattle.flat_model.specs.Flat.{Flat, opening, word_at, same_word, may_answer, flat_after, flat_run}
 use Rattle.atomic_histories.specs.Law.{IsAtomic}
 use Rattle.history_laws.specs.Told.{image_bytes, told_history, IsAddressable}

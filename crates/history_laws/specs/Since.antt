@@ -2,7 +2,7 @@
 use Rattle.std.specs.Prelude.{ℕ, ◌≡◌, Bool, true, false, List, [], ◌∷◌, ◌++◌}
 use Rattle.memory_histories.specs.declared.events.HistoryEvent.{HistoryEvent}
 use Rattle.memory_histories.specs.declared.events.Rest.TheVariants.{Zeros}
-use Rattle.flat_model.specs.declared.Word.{Word}
+use Rattle.machine_core.specs.Words.{Word}
 use Rattle.trace_text.specs.Checks.{events_in, answers_in}
 use Rattle.run_reasons.specs.declared.reason.Reason.{Reason}
 use Rattle.run_reasons.specs.declared.reason.Reason.TheVariants.{WrongWord}

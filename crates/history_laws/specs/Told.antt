@@ -4,13 +4,8 @@ use Rattle.std.specs.Borrow.{Bor}
 use Rattle.memory_histories.specs.declared.events.HistoryEvent.{HistoryEvent}
 use Rattle.memory_histories.specs.declared.events.HistoryEvent.TheVariants.{LoadRequest, LoadResponse, StoreRequest, StoreResponse}
 use Rattle.memory_histories.specs.declared.events.Rest.TheVariants.{Zeros}
-use Rattle.flat_model.specs.declared.Word.{Word}
-use Rattle.flat_model.specs.declared.Event.{Event}
-use Rattle.flat_model.specs.declared.Event.TheVariants.{Load, Store, Take}
-use Rattle.flat_model.specs.declared.Answer.{Answer}
-use Rattle.flat_model.specs.declared.Answer.TheVariants.{Accepted, Value}
+use Rattle.machine_core.specs.Words.{Word, Event, Load, Store, Take, Answer, Accepted, Value, Sizes}
 use Rattle.flat_model.specs.Flat.{opening, flat_run}
-use Rattle.cache_law.specs.declared.Sizes.{Sizes}
 use Rattle.machine_core.specs.Machine as machine
 use Rattle.machine_core.specs.Law.{IsLawful}
 use Rattle.atomic_histories.specs.Law.{IsAtomic}

@@ -6,10 +6,7 @@
 ghost use Rattle.std.specs.Prelude.{ℕ, List};
 ghost use Rattle.memory_histories.specs.declared.events.HistoryEvent.{HistoryEvent};
 ghost use Rattle.memory_histories.specs.declared.events.Rest.{Rest};
-ghost use Rattle.flat_model.specs.declared.Word.{Word};
-ghost use Rattle.flat_model.specs.declared.Event.{Event};
-ghost use Rattle.flat_model.specs.declared.Answer.{Answer};
-ghost use Rattle.cache_law.specs.declared.Sizes.{Sizes};
+ghost use Rattle.machine_core.specs.Words.{Word, Event, Answer, Sizes};
 ghost use Rattle.history_laws.specs.Laws.{AtomicIsRegular, FlatIsAtomic, FlatIsRegular};
 ghost use Rattle.history_laws.specs.Told.{RunIsLawful, MachineIsLawful};
 ghost use Rattle.history_laws.specs.Late.{LateIsAtomic};

@@ -1,7 +1,7 @@
 //! Kroft for C: the judge of one step of flat memory, the history behind a handle, the machine behind
 //! one, and traffic for a bench.
 //!
-//! Each export but `kroft_version` is one call of `flat_judge`, `history_handles`, `machine_handles` or `memory_traffic`, and
+//! Each export but `kroft_version` is one call of `flat_judge`, `history_handles` or `machine_handles`, and
 //! states the contract of that call again. Every export is total: each number, each row and each length that C may pass has an
 //! answer.
 #![tactic(auto)]

@@ -1,7 +1,7 @@
 //! The machine behind a handle: it is opened, makes its events, and is given up.
 ghost use Rattle.std.specs.Prelude.{◌≡◌, ◌≢◌, None, length};
 ghost use Rattle.std.specs.Option.{option_map, unwrap_or};
-ghost use Rattle.machine_core.specs.AnyMachine.{weight_of, is_settled, pump_tells};
+ghost use Rattle.machine_handles.specs.AnyMachine.{weight_of, is_settled, pump_tells};
 ghost use Rattle.flat_judge.specs.Rows.{event_of};
 ghost use Rattle.machine_handles.specs.Behind.{standing, behind, idle, alone};
 ghost use Rattle.machine_handles.specs.Made as made;

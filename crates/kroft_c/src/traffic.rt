@@ -1,8 +1,8 @@
 //! Traffic for a test bench.
 ghost use Rattle.std.specs.Prelude.{◌≡◌, length};
-ghost use Rattle.memory_traffic.specs.Traffic.{access_of, bytes_behind, row_behind, status_of};
+ghost use Rattle.flat_judge.specs.Traffic.{access_of, bytes_behind, row_behind, status_of};
 
-use memory_traffic::{Access, Plan};
+use flat_judge::{Access, Plan};
 
 /// Writes the access of a number, under a seed, and the bytes of a store.
 ///
@@ -23,5 +23,5 @@ pub extern "C" fn kroft_traffic(
     ensures bytes { bytes.new
         ≡ bytes_behind bytes.old result seed number (access_of plan.now seed number) }
 {
-    memory_traffic::traffic(plan, seed, number, access, bytes)
+    flat_judge::traffic(plan, seed, number, access, bytes)
 }

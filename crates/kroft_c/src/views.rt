@@ -1,7 +1,7 @@
 //! What the machine behind a handle shows.
 ghost use Rattle.std.specs.Prelude.{◌≡◌};
 ghost use Rattle.std.specs.Option.{option_map};
-ghost use Rattle.machine_core.specs.AnyMachine.{bank_shown, register_shown, field_shown, target_shown};
+ghost use Rattle.machine_handles.specs.AnyMachine.{bank_shown, register_shown, field_shown, target_shown};
 ghost use Rattle.machine_handles.specs.Behind.{standing, behind};
 ghost use Rattle.machine_handles.specs.Rows as rows;
 ghost use Rattle.machine_handles.specs.Calls.{found_status, found_row, same_word};

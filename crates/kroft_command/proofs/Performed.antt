@@ -1,7 +1,7 @@
 -- An image that is too long ends the task before it begins.
 use Rattle.std.proofs.Common.{◌≡◌, ℕ, List, Result, Ok, Err, IsErrAnd, refl, sym, subst, inr}
-use Rattle.cache_law.specs.declared.Sizes.{Sizes}
-use Rattle.memory_images.specs.declared.image.Image.{Image}
+use Rattle.register_sweeps.specs.Words.{Sizes}
+use Rattle.flat_model.specs.declared.image.Image.{Image}
 use Rattle.kroft_command.specs.declared.command_line.CommandLine.{CommandLine}
 use Rattle.kroft_command.specs.declared.fault.ToolFault.{ToolFault}
 use Rattle.kroft_command.specs.Program.{IsMachineOf, IsImageOf, LacksRoom, Performs}

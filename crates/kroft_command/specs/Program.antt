@@ -6,13 +6,13 @@ use Rattle.std.specs.List.{flat_map}
 use Rattle.std.specs.String.{string_bytes}
 use Rattle.std.specs.Global.{Global, Vec}
 use Rattle.std.specs.declared.string.String.{String}
-use Rattle.cache_law.specs.declared.Sizes.{Sizes}
-use Rattle.machine_core.specs.Machine.{MachineState}
+use Rattle.register_sweeps.specs.Words.{Sizes}
+use Rattle.register_sweeps.specs.Machine.{MachineState}
 use Rattle.toml.specs.Parse.{parse_document}
 use Rattle.flat_model.specs.Flat.{Flat}
-use Rattle.memory_images.specs.Images.{memory_from, flat_from, bytes_of}
-use Rattle.memory_images.specs.declared.image.Image.{Image}
-use Rattle.memory_images.specs.declared.image.Image.TheVariants as memory
+use Rattle.flat_model.specs.Images.{memory_from, flat_from, bytes_of}
+use Rattle.flat_model.specs.declared.image.Image.{Image}
+use Rattle.flat_model.specs.declared.image.Image.TheVariants as memory
 use Rattle.trace_text.specs.Checks.{pair_fault, IsJudgedFrom}
 use Rattle.trace_text.specs.Reading.{ReadWhole, ReadFails}
 use Rattle.trace_text.specs.Requests.{requests_of}
@@ -27,7 +27,7 @@ use Rattle.access_logs.specs.Logs as logs
 use Rattle.access_logs.specs.declared.access.Access.{Access}
 use Rattle.access_logs.specs.declared.fault.LogFault.{LogFault}
 use Rattle.access_logs.specs.declared.reading.AccessGroup.{AccessGroup}
-use Rattle.access_counts.specs.declared.counts.AccessCounts.{AccessCounts}
+use Rattle.result_formats.specs.declared.accesses.AccessCounts.{AccessCounts}
 use Rattle.flat_model.specs.declared.Event.{Event}
 use Rattle.access_logs.specs.declared.pages.TheConstants.{PAGE_WORDS}
 use Rattle.history_text.specs.Answers.{verdict_status as history_status}
@@ -43,8 +43,8 @@ use Rattle.round_driver.specs.declared.timing.Timing.{Timing}
 use Rattle.run_pictures.specs.Drawn.{Shows}
 use Rattle.run_pictures.specs.declared.drawing.Form.{Form}
 use Rattle.run_pictures.specs.declared.show.ShowFault.{ShowFault}
-use Rattle.run_reasons.specs.Runs.{Explains, status_of as explanation_status}
-use Rattle.run_reasons.specs.declared.explain.Explanation.{Explanation}
+use Rattle.kroft_jobs.specs.Runs.{Explains, status_of as explanation_status}
+use Rattle.kroft_jobs.specs.Explanation.{Explanation}
 use Rattle.register_sweeps.specs.Sweep.{machine_over, row_of}
 use Rattle.register_sweeps.specs.declared.rounds.RoundsRow.{RoundsRow}
 use Rattle.shape_files.specs.MachineFile.{TextSays, TextFails}
@@ -53,8 +53,8 @@ use Rattle.shape_files.specs.declared.machine_file.MachineFault.{MachineFault}
 use Rattle.shape_files.specs.declared.shape_file.ShapeFault.{ShapeFault}
 use Rattle.shape_files.specs.declared.shape_file.TheConstants.{DEFAULT_SHAPE}
 use Rattle.shape_files.specs.declared.shape_file.ToolShape.{ToolShape}
-use Rattle.trace_sheets.specs.Grades.{score_status}
-use Rattle.trace_sheets.specs.declared.score.Score.{Score}
+use Rattle.kroft_jobs.specs.Grades.{score_status}
+use Rattle.kroft_jobs.specs.Score.{Score}
 use Rattle.result_formats.specs.Details.{details_in}
 use Rattle.result_figures.specs.Bars.{loss_figure}
 use Rattle.result_figures.specs.Sweeps.{Swept, sweep_figure}
@@ -71,8 +71,8 @@ use Rattle.kroft_jobs.specs.Writing.{IsPut, IsCut}
 use Rattle.kroft_jobs.specs.declared.asked.RequestText.{RequestText}
 use Rattle.kroft_jobs.specs.declared.fault.JobFault.{JobFault}
 use Rattle.kroft_jobs.specs.declared.fault.JobFault.TheVariants.{ShapeUnreadable, OutOfMemory}
-use Rattle.verdict_formats.specs.Explanations.{explanation_in}
-use Rattle.verdict_formats.specs.Histories.{history_in}
+use Rattle.result_formats.specs.Explanations.{explanation_in}
+use Rattle.result_formats.specs.Histories.{history_in}
 use Rattle.kroft_jobs.specs.declared.rounds.LatencyRows.{LatencyRows}
 use Rattle.clap.specs.Values.{kind_of}
 use Rattle.clap.specs.declared.error.Error.{Error}

@@ -23,25 +23,24 @@ ghost use Rattle.kroft_command.specs.Program.{FollowsHistory, JudgesHistory, Wri
 use crate::command_line::{CountForm, HistoryTask, LogName, Registers, Timings};
 use crate::fault::ToolFault;
 use access_logs::{Din, Lackey, LogFormat, write_requests};
-use cache_unit::Sizes;
+use flat_model::Image;
 use history_text::{HistoryEnd, judge_by_law, write_values_by_law};
 use kroft_jobs::{
     AnsweredIn, CheckIn, LatencyRows, RequestText, Verdict, detail_requests, drive_requests,
     put_text, serve, summarize_requests, sweep_in_rounds, sweep_latencies, sweep_registers,
 };
-use memory_images::Image;
 use named_fields::Format;
-use register_sweeps::{RoundsRow, Row};
+use register_sweeps::{RoundsRow, Row, Sizes};
 use result_figures::{LossFigure, SweepFigure, SweepLine};
 use result_formats::{
-    DetailsIn, LatencyHead, LatencyIn, PumpsHead, PumpsIn, RoundsHead, RoundsIn, TableHead, TableIn,
+    DetailsIn, ExplanationIn, LatencyHead, LatencyIn, PumpsHead, PumpsIn, RoundsHead, RoundsIn,
+    TableHead, TableIn, history_in,
 };
 use round_driver::Timing;
 use run_pictures::Form;
 use std::alloc::{AllocError, Global};
 use std::thread::Threads;
 use trace_text::{Sink, Source, TraceFault};
-use verdict_formats::{ExplanationIn, history_in};
 
 /// Puts what a job found, and gives its status.
 pub(crate) fn answer<O: Sink>(output: &mut O, text: &str, status: u8) -> Result<u8, ToolFault>

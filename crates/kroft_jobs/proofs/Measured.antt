@@ -7,8 +7,8 @@ use Rattle.std.specs.Global.{Vec}
 use Rattle.std.proofs.lemmas.Bool.{ltb-true, ltb-false}
 use Rattle.std.proofs.lemmas.List.Sums.{sum_by-append}
 use Rattle.flat_model.specs.declared.Event.{Event}
-use Rattle.machine_core.specs.Machine.{MachineState}
-use Rattle.machine_core.specs.Whole.{IsWholeState}
+use Rattle.register_sweeps.specs.Machine.{MachineState}
+use Rattle.register_sweeps.specs.Whole.{IsWholeState}
 use Rattle.trace_text.specs.Codes.{most_lines}
 use Rattle.trace_text.specs.Streams.{Moves, Stopped}
 use Rattle.trace_text.specs.declared.fault.TraceFault.{TraceFault}

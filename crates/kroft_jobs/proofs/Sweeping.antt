@@ -4,9 +4,9 @@ use Rattle.std.proofs.Common.{IfErr, IsErrAnd, refl, sym, subst}
 use Rattle.std.proofs.lemmas.List.{take_more}
 use Rattle.std.specs.List.{list_all}
 use Rattle.shape_files.specs.MachineFile.{bad_machine}
-use Rattle.cache_law.specs.declared.Sizes.{Sizes}
+use Rattle.register_sweeps.specs.Words.{Sizes}
 use Rattle.flat_model.specs.declared.Event.{Event}
-use Rattle.machine_core.specs.Machine.{MachineState}
+use Rattle.register_sweeps.specs.Machine.{MachineState}
 use Rattle.trace_text.specs.Reading.{ReadWhole}
 use Rattle.trace_text.specs.Serving.{trace_fault}
 use Rattle.trace_text.specs.declared.fault.TheConstants.{MAX_LINE}

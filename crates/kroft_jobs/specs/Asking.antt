@@ -1,6 +1,6 @@
 -- What an input says as requests, if it is a trace or a log.
 use Rattle.std.specs.Prelude.{◌≡◌, ℕ, ◌/◌, min, Option, Some, None, List, []}
-use Rattle.cache_law.specs.declared.Sizes.{Sizes}
+use Rattle.register_sweeps.specs.Words.{Sizes}
 use Rattle.flat_model.specs.declared.Event.{Event}
 use Rattle.trace_text.specs.Reading.{ReadWhole, ReadFails}
 use Rattle.trace_text.specs.Requests.{requests_of}
@@ -14,8 +14,8 @@ use Rattle.access_logs.specs.declared.fault.LogFault.TheVariants as log
 use Rattle.access_logs.specs.declared.pages.TheConstants.{PAGE_WORDS}
 use Rattle.access_logs.specs.declared.reading.AccessGroup.{AccessGroup}
 use Rattle.access_logs.specs.declared.writing.TheConstants.{MAX_WORDS}
-use Rattle.access_counts.specs.Counts.{counts_of}
-use Rattle.access_counts.specs.declared.counts.AccessCounts.{AccessCounts}
+use Rattle.result_formats.specs.Accesses.{counts_of}
+use Rattle.result_formats.specs.declared.accesses.AccessCounts.{AccessCounts}
 use Rattle.round_driver.specs.declared.outcomes.Outcome.{Outcome}
 use Rattle.kroft_jobs.specs.declared.asked.RequestText.{RequestText}
 use Rattle.kroft_jobs.specs.declared.asked.RequestText.TheVariants.{Trace, Lackey, Din}

@@ -1,6 +1,6 @@
 -- What becomes of a sheet that is graded.
 use Rattle.std.specs.Prelude.{◌≡◌, ◌⊎◌, ℕ, List, Result, Ok, Err}
-use Rattle.machine_core.specs.Machine.{MachineState}
+use Rattle.register_sweeps.specs.Machine.{MachineState}
 use Rattle.trace_text.specs.Reading.{ReadWhole, ReadFails}
 use Rattle.trace_text.specs.declared.fault.TheConstants.{MAX_PAIR}
 use Rattle.trace_text.specs.declared.fault.TraceFault.{TraceFault}

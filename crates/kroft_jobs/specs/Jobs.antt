@@ -4,7 +4,7 @@ use Rattle.trace_text.specs.declared.check.CheckEnd.{CheckEnd}
 use Rattle.trace_text.specs.declared.check.CheckEnd.TheVariants.{Flat, Mismatch}
 use Rattle.trace_text.specs.declared.fault.TraceFault.{TraceFault}
 use Rattle.trace_text.specs.declared.fault.TraceFault.TheVariants as trace
-use Rattle.cache_law.specs.declared.Sizes.{Sizes}
+use Rattle.register_sweeps.specs.Words.{Sizes}
 use Rattle.shape_files.specs.declared.shape_file.ShapeFault.{ShapeFault}
 use Rattle.shape_files.specs.declared.shape_file.ShapeFault.TheVariants as shape
 use Rattle.shape_files.specs.ShapeFile.{fault_text as shape_text}

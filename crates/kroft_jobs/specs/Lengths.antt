@@ -2,7 +2,7 @@
 use Rattle.std.specs.Prelude.{◌≡◌, ◌⊎◌, ℕ, ◌+◌, ◌<◌, ◌≤◌, ◌==◌, Bool, true, nat_lt, if◌then◌else◌, List, ◌++◌, codes}
 use Rattle.std.specs.List.{count_by}
 use Rattle.flat_model.specs.declared.Event.{Event}
-use Rattle.machine_core.specs.Machine.{MachineState}
+use Rattle.register_sweeps.specs.Machine.{MachineState}
 use Rattle.trace_text.specs.Codes.{line_feed, most_lines}
 use Rattle.round_driver.specs.Rounds.{whole_run}
 use Rattle.round_driver.specs.Walks.{IsOverInTime}

@@ -7,3 +7,8 @@ pub mod Grading
 pub mod Sweeping
 pub mod Answering
 pub mod Forms
+-- what explanations and grades say, for what stands above
+pub use Rattle.run_reasons.specs.Runs
+pub use Rattle.run_reasons.specs.declared.explain.Explanation
+pub use Rattle.trace_sheets.specs.Grades
+pub use Rattle.trace_sheets.specs.declared.score.Score

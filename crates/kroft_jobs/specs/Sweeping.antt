@@ -2,9 +2,9 @@
 use Rattle.std.specs.Prelude.{⊤, ◌≡◌, ℕ, List, [], ◌∷◌, map, Option, Some}
 use Rattle.std.specs.List.{All}
 use Rattle.shape_files.specs.MachineFile.{bad_machine}
-use Rattle.cache_law.specs.declared.Sizes.{Sizes}
+use Rattle.register_sweeps.specs.Words.{Sizes}
 use Rattle.flat_model.specs.declared.Event.{Event}
-use Rattle.machine_core.specs.Machine.{MachineState}
+use Rattle.register_sweeps.specs.Machine.{MachineState}
 use Rattle.trace_text.specs.Reading.{ReadWhole, ReadStops}
 use Rattle.trace_text.specs.Serving.{trace_fault}
 use Rattle.trace_text.specs.declared.fault.TheConstants.{MAX_LINE}
@@ -18,7 +18,7 @@ use Rattle.shape_files.specs.declared.shape_file.ShapeFault.TheVariants as shape
 use Rattle.register_sweeps.specs.declared.rounds.RoundsRow.{RoundsRow}
 use Rattle.register_sweeps.specs.Rounds.{rounds_row_of}
 use Rattle.register_sweeps.specs.Sweep.{bad_from, new_machine}
-use Rattle.access_counts.specs.declared.counts.AccessCounts.{AccessCounts}
+use Rattle.result_formats.specs.declared.accesses.AccessCounts.{AccessCounts}
 use Rattle.access_logs.specs.declared.reading.AccessGroup.{AccessGroup}
 use Rattle.kroft_jobs.specs.Asking.{Asks, accesses_of}
 use Rattle.kroft_jobs.specs.declared.asked.RequestText.{RequestText}

@@ -3,16 +3,15 @@
 ghost use Rattle.std.specs.Prelude.{◌≡◌, ℕ, List, Some, IfOk, IfErr};
 ghost use Rattle.flat_model.specs.Flat.{Flat};
 ghost use Rattle.flat_model.specs.Memory.{shown};
-ghost use Rattle.memory_images.specs.Images.{flat_from};
+ghost use Rattle.flat_model.specs.Images.{flat_from};
 ghost use Rattle.trace_text.specs.declared.fault.TheConstants.{MAX_PAIR};
 ghost use Rattle.trace_text.specs.Reading.{ReadWhole, ReadFails};
 ghost use Rattle.trace_text.specs.Checks.{pair_fault, IsJudgedFrom};
 ghost use Rattle.kroft_jobs.specs.Answering.{tags_owed, open_text, tags_text, answered_text, answered_status};
 
 use crate::jobs::Verdict;
-use cache_unit::Sizes;
-use flat_model::FlatMemory;
-use memory_images::Image;
+use flat_model::{FlatMemory, Image};
+use register_sweeps::Sizes;
 use std::alloc::{AllocError, Global};
 use std::fmt;
 use trace_text::{CheckEnd, Source, TraceFault, check_from};

@@ -10,11 +10,11 @@ ghost use Rattle.round_driver.specs.Walks.{is_request};
 ghost use Rattle.kroft_jobs.specs.Asking as asking;
 ghost use Rattle.kroft_jobs.specs.Asking.{Asks, AsksNothing, room_of};
 
-use access_counts::{AccessCounts, count_accesses};
 use access_logs::{
     AccessGroup, Din, Lackey, LogFault, LogFormat, LogRequests, MAX_WORDS, read_log,
 };
-use cache_unit::Sizes;
+use register_sweeps::Sizes;
+use result_formats::{AccessCounts, count_accesses};
 use round_driver::Outcome;
 use std::alloc::Global;
 use trace_text::{Source, read_requests};

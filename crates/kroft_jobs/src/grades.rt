@@ -8,10 +8,9 @@ ghost use Rattle.kroft_jobs.specs.Grading.{GradesAll};
 ghost use Rattle.kroft_jobs.specs.Writing.{IsWritten};
 
 use crate::writing::put_text;
-use cache_unit::Sizes;
-use memory_images::Image;
+use flat_model::Image;
 use named_fields::Format;
-use register_sweeps::new_machine;
+use register_sweeps::{Sizes, new_machine};
 use std::alloc::Global;
 use trace_sheets::{Grade, GradeHead, Score, ScoreIn, grade_sheet};
 use trace_text::{Sink, Source, TraceFault};

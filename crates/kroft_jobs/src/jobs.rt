@@ -2,8 +2,8 @@
 
 ghost use Rattle.std.specs.Prelude.{◌≡◌, ℕ, List, None, Some, IfOk, IfErr, map};
 ghost use Rattle.flat_model.specs.Flat.{Flat};
-ghost use Rattle.memory_images.specs.Images.{memory_from, flat_from};
-ghost use Rattle.machine_core.specs.Machine.{MachineState};
+ghost use Rattle.flat_model.specs.Images.{memory_from, flat_from};
+ghost use Rattle.register_sweeps.specs.Machine.{MachineState};
 ghost use Rattle.trace_text.specs.declared.fault.TheConstants.{MAX_LINE, MAX_PAIR};
 ghost use Rattle.trace_text.specs.Reading.{ReadWhole, ReadFails};
 ghost use Rattle.trace_text.specs.Serving.{trace_fault, Ends};
@@ -16,9 +16,8 @@ ghost use Rattle.kroft_jobs.specs.Jobs.{swept, with_registers, verdict_status, v
 ghost use Rattle.kroft_jobs.specs.Sweeping.{SweepFails};
 
 use crate::fault::JobFault;
-use cache_unit::Sizes;
-use memory_images::Image;
-use register_sweeps::{OpenGate, Row, new_machine, sweep_machines};
+use flat_model::Image;
+use register_sweeps::{OpenGate, Row, Sizes, new_machine, sweep_machines};
 use run_reasons::{Explanation, explain_text};
 use std::alloc::{AllocError, Global};
 use std::fmt;

@@ -5,9 +5,8 @@ ghost use Rattle.run_pictures.specs.Drawn.{Shows};
 ghost use Rattle.shape_files.specs.MachineFile.{bad_machine};
 ghost use Rattle.register_sweeps.specs.Sweep.{machine_over};
 
-use cache_unit::Sizes;
-use memory_images::Image;
-use register_sweeps::new_machine;
+use flat_model::Image;
+use register_sweeps::{Sizes, new_machine};
 use run_pictures::{Form, ShowFault, show_text};
 use std::alloc::Global;
 use trace_text::Source;

@@ -22,12 +22,12 @@ ghost use Rattle.kroft_jobs.specs.Sweeping.{IsCounted, CountsAll, AreCounted, Ar
 use crate::asked::{RequestText, accesses_of, read_asked};
 use crate::fault::JobFault;
 use crate::jobs::{SWEEP_TURNS, swept_machines};
-use access_counts::AccessCounts;
 use access_logs::LogFault;
-use cache_unit::Sizes;
-use flat_model::Event;
-use memory_images::Image;
-use register_sweeps::{OpenGate, RoundsRow, SweepFault, new_machine, rounds_table, sweep_rounds};
+use flat_model::{Event, Image};
+use register_sweeps::{
+    OpenGate, RoundsRow, Sizes, SweepFault, new_machine, rounds_table, sweep_rounds,
+};
+use result_formats::AccessCounts;
 use round_driver::{Details, Table, Timing, detail_with};
 use std::alloc::{AllocError, Global};
 use std::thread::Threads;
@@ -67,7 +67,7 @@ pub struct CountedRun {
 }
 
 /// Drives the requests of a trace or of a log as [`summarize_requests`] does, and counts more, as [`detail_with`] does;
-/// and of a log its accesses, as [`count_accesses`](access_counts::count_accesses) does.
+/// and of a log its accesses, as [`count_accesses`](result_formats::count_accesses) does.
 pub fn detail_requests<I: Source>(
     alloc: Global,
     sizes: &Sizes,

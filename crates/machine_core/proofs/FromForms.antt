@@ -5,7 +5,7 @@ use Rattle.std.proofs.Common.{slice_get, refl, sym, ap, ◌∙◌, arith, eq-eqb
 use Rattle.std.proofs.Common.{◌/◌, ◌<◌, ◌++◌, set, length-set, ◌⊎◌, ⊎_elim, get_or, get_or-set_same, ◌-◌, ◌%◌, ne_eqb}
 use Rattle.std.proofs.Common.{◌*◌, nat_lt, length-append, lt-ltb}
 use Rattle.std.proofs.lemmas.Bool.{and_parts, cases_eq, cases_lt, ltb-false}
-use Rattle.flat_model.specs.declared.Word.{Word}
+use Rattle.cache_law.specs.Words.{Word, Lanes, Event, Cell}
 use Rattle.flat_model.specs.Words.{merged, Lane, byte, has, zero_word}
 use Rattle.memory_banks.specs.Banks.{Bank, bank_at, all_pending, words_after, no_bank, room_in, all_sent, commands_for, pending, answers_to}
 use Rattle.memory_banks.specs.Banks.{after}
@@ -22,8 +22,6 @@ use Rattle.machine_core.specs.Machine.{Machine, backing, flat_word, Outcome, app
 use Rattle.machine_core.specs.Sound.{is_for, is_entry_for, IsSound, word_in, own_bank}
 use Rattle.std.specs.List.{range_with_len, list_any, filter}
 use Rattle.std.specs.Option.{option_or}
-use Rattle.flat_model.specs.declared.Lanes.{Lanes}
-use Rattle.flat_model.specs.declared.Event.{Event}
 use Rattle.flat_model.specs.Flat.{flat_step, stored, word_at}
 use Rattle.flat_model.proofs.Lanewise.{byte_word_of, same_word_from, byte-merged, merged-none, merged_held, merged_over, merged_no_lane}
 use Rattle.memory_banks.specs.declared.BankAnswer.{BankAnswer}
@@ -33,10 +31,9 @@ use Rattle.cache_law.specs.Forms.{LaneForm, Byte, Asked, Form, bytes_of, missing
 use Rattle.cache_law.specs.Forms.{fill, value, filled_by, owed}
 use Rattle.cache_law.specs.FormLaws.{form_where, form_at, forms, filled_form}
 use Rattle.std.proofs.lemmas.List.{get_or_past}
-use Rattle.cache_directory.specs.Frames.{zero_cell}
+use Rattle.cache_law.specs.Frames.{zero_cell}
 use Rattle.write_queue.specs.declared.Queued.{Queued}
 use Rattle.write_queue.specs.Queue.{overlaid, queued_lanes}
-use Rattle.cache_directory.specs.declared.Cell.{Cell}
 use Rattle.cache_law.specs.Causes.{dirty_from, dirty_words, first_cause, choose, addresses, lacks_room, miss_causes}
 use Rattle.cache_law.specs.Causes.{Found, Here, Coming}
 use Rattle.cache_law.proofs.FormsWords.{address_is}
@@ -51,7 +48,7 @@ use Rattle.miss_registers.specs.Registers.{made_obsolete, finished, finished_fie
 use Rattle.cache_law.specs.Begun.{begun_register}
 use Rattle.cache_law.proofs.Requesting.{Able, free_register_at}
 use Rattle.cache_law.proofs.Choosing.{choose_none}
-use Rattle.cache_directory.specs.Frames as dir
+use Rattle.cache_law.specs.Frames as dir
 use Rattle.miss_registers.specs.Registers as regs
 
 pub bit-le : (b : Bool) → bit b ≤ 1

@@ -4,3 +4,7 @@ pub mod Walking
 pub mod Weighing
 pub mod Whole
 pub mod Driving
+-- of the cache and its parts, for what stands above
+pub use Rattle.memory_banks.proofs.Places
+pub use Rattle.cache_law.proofs.FormsEvents
+pub use Rattle.cache_unit.proofs.Numbers

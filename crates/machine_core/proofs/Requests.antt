@@ -6,7 +6,8 @@ use Rattle.std.proofs.Common.{add-zero, ◌-◌, get_or, replicate, div-add-mod'
 use Rattle.std.specs.List.{range_with_len, list_any, list_all}
 use Rattle.std.proofs.lemmas.Bool.{cases_eq, not-false, and_parts, not-true}
 use Rattle.std.proofs.lemmas.Nat.{mod-mul-add}
-use Rattle.flat_model.specs.declared.Word.{Word}
+use Rattle.cache_law.specs.Words.{Word, Lanes, Cause, OutOfRange, TagInUse, RepliesFull, TargetsFull, NoRegister, SetPending, QueueFull}
+use Rattle.cache_law.specs.Words.{BankFull, Event, Load, Store, Prefetch, Evict, Accepted, Refused, Cell}
 use Rattle.flat_model.specs.Flat.{word_at, with_due, flat_after, flat_step, load_refusals}
 use Rattle.memory_banks.specs.declared.Command.TheVariants.{Read}
 use Rattle.memory_banks.specs.declared.BankAnswer.{BankAnswer}
@@ -45,15 +46,7 @@ use Rattle.machine_core.proofs.FromForms.{overlaid-split, dirty_within, dirty_el
 use Rattle.machine_core.proofs.FromForms.{backing_dirty, word_same, form_present, flat_of-same, Kept, KeptBy, cell_frames, counted_beside}
 use Rattle.machine_core.proofs.FromForms.{sound_unit}
 use Rattle.machine_core.proofs.FromForms.{gone_same, gone_sound, pending_part}
-use Rattle.flat_model.specs.declared.Lanes.{Lanes}
-use Rattle.flat_model.specs.declared.Cause.{Cause}
-use Rattle.flat_model.specs.declared.Cause.TheVariants.{OutOfRange, TagInUse, RepliesFull, TargetsFull, NoRegister, SetPending, QueueFull}
-use Rattle.flat_model.specs.declared.Cause.TheVariants.{BankFull}
-use Rattle.flat_model.specs.declared.Event.{Event}
-use Rattle.flat_model.specs.declared.Event.TheVariants.{Load, Store, Prefetch, Evict}
-use Rattle.flat_model.specs.declared.Answer.TheVariants.{Accepted, Refused}
 use Rattle.flat_model.specs.Causes.{is_of_a_load}
-use Rattle.cache_directory.specs.declared.Cell.{Cell}
 use Rattle.miss_registers.proofs.Tags.{list_any-map}
 use Rattle.cache_law.specs.Views.{is_empty}
 use Rattle.miss_registers.proofs.Tags.{replicate-each}

@@ -11,9 +11,7 @@ use Rattle.memory_banks.specs.Memory.{is_read}
 use Rattle.machine_core.specs.Pump.{total, command_weight, bank_weight, field_weight, register_weight, weight, lowest, has_items, when}
 use Rattle.machine_core.specs.Pump.{pumped, first_event}
 use Rattle.std.proofs.lemmas.Bool.{lt-leb, cases_lt, and_parts, ltb-true}
-use Rattle.flat_model.specs.declared.Event.{Event}
-use Rattle.flat_model.specs.declared.Event.TheVariants.{Take, Process, Arrive, Serve, Drain}
-use Rattle.flat_model.specs.declared.Word.{Word}
+use Rattle.cache_law.specs.Words.{Event, Take, Process, Arrive, Serve, Drain, Word}
 use Rattle.memory_banks.specs.declared.BankAnswer.{BankAnswer}
 use Rattle.memory_banks.specs.Banks.{Bank, bank_at, no_bank, pending, all_pending, answers_to, served, with_command, room_in}
 use Rattle.cache_law.specs.declared.Reply.{Reply}
@@ -29,7 +27,7 @@ use Rattle.cache_law.specs.Steps.{answered, processed, arrived, take_step, proce
 use Rattle.cache_law.specs.Counts.{tally, bit}
 use Rattle.cache_law.proofs.FormsProcessing.{all_processed, done}
 use Rattle.cache_law.proofs.Lists.{with_fields, in_range, tally-append, tally-map}
-use Rattle.cache_directory.proofs.Finds.{All-range, find-nowhere}
+use Rattle.cache_law.proofs.Finds.{All-range, find-nowhere}
 use Rattle.machine_core.specs.Machine.{Machine, apply, joined_with}
 use Rattle.machine_core.specs.Law.{IsLawful, HasRoom, WalkIsDriven, most_weight}
 use Rattle.machine_core.specs.Sound.{IsSound, wanted}

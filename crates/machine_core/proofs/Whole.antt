@@ -3,10 +3,7 @@ use Rattle.std.proofs.Common.{◌≡◌, ℕ, List, [], ◌∷◌, ◌++◌, sli
 use Rattle.std.proofs.Common.{◌/◌, ◌%◌, ◌<◌, ◌≤◌, Bool, true, false, cond, ◌==◌, nat_lt, length, get_or, arith, ⊎_elim, lt-ltb, le-ltb}
 use Rattle.std.proofs.Common.{eq-eqb, ne_eqb, mod-lt, div-add-mod', mul-le-mul_right, ◌≢◌, not, is_none, is_some, flat_map}
 use Rattle.std.proofs.Common.{length-append}
-use Rattle.flat_model.specs.declared.Cause.{Cause}
-use Rattle.flat_model.specs.declared.Event.{Event}
-use Rattle.flat_model.specs.declared.Answer.{Answer}
-use Rattle.flat_model.specs.declared.Answer.TheVariants.{Moved, Refused}
+use Rattle.cache_law.specs.Words.{Cause, Event, Answer, Moved, Refused, Word, Load, Store, Prefetch, Evict, Arrive, Cell, StrayWord}
 use Rattle.memory_banks.specs.declared.Command.{Command}
 use Rattle.memory_banks.specs.declared.BankAnswer.{BankAnswer}
 use Rattle.memory_banks.specs.Banks.{bank_at, room_in, answers_to, no_bank, all_pending, Bank, pending, opening_banks}
@@ -25,9 +22,6 @@ use Rattle.std.specs.List.{list_all, list_any, filter, range_with_len}
 use Rattle.std.proofs.lemmas.Bool.{cases_lt, lt-leb}
 use Rattle.std.proofs.lemmas.Nat.{mod-mul-add, mul-le}
 use Rattle.std.proofs.lemmas.List.{nil_from_length, get_or_past}
-use Rattle.flat_model.specs.declared.Word.{Word}
-use Rattle.flat_model.specs.declared.Event.TheVariants.{Load, Store, Prefetch, Evict, Arrive}
-use Rattle.cache_directory.specs.declared.Cell.{Cell}
 use Rattle.cache_law.specs.Counts.{tally}
 use Rattle.cache_law.proofs.Lists.{live_for-none, tally-append}
 use Rattle.cache_unit.proofs.Numbers.{in_size}
@@ -41,7 +35,6 @@ use Rattle.machine_core.proofs.Weighing.{pumped_at_rest}
 use Rattle.machine_core.proofs.FromForms.{pending_part}
 use Rattle.cache_law.proofs.Tags.{few_tags, owed_once}
 use Rattle.machine_core.proofs.Driving.{ends}
-use Rattle.flat_model.specs.declared.Cause.TheVariants.{StrayWord}
 use Rattle.flat_model.specs.Flat.{flat_step, Flat, flat_run}
 use Rattle.std.specs.Option.{IsNone}
 use Rattle.memory_banks.specs.declared.bank.TheConstants.{MAX_ANSWERS}

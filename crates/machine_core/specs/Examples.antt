@@ -2,21 +2,16 @@
 use Rattle.std.specs.Prelude.{◌≡◌, ℕ, ◌+◌, ◌-◌, ◌*◌, zero, false, IsTrue, List, [], ◌∷◌, ◌++◌, map, slice_set}
 use Rattle.std.proofs.Common.{refl}
 use Rattle.std.specs.List.{range_with_len}
-use Rattle.flat_model.specs.declared.Word.{Word}
-use Rattle.flat_model.specs.declared.Lanes.{Lanes}
-use Rattle.flat_model.specs.declared.Cause.TheVariants.{OutOfRange, NoLanes, TagInUse, RepliesFull, TargetsFull, NoRegister, SetPending}
-use Rattle.flat_model.specs.declared.Cause.TheVariants.{QueueFull, BankFull, NotPresent, StackFull}
-use Rattle.flat_model.specs.declared.Event.{Event}
-use Rattle.flat_model.specs.declared.Event.TheVariants.{Load, Store, Prefetch, Evict, Drain, Serve, Arrive, Process, Take}
-use Rattle.flat_model.specs.declared.Answer.{Answer}
-use Rattle.flat_model.specs.declared.Answer.TheVariants.{Accepted, Moved, Value, Nothing, Refused}
+use Rattle.cache_law.specs.Words.{Word, Lanes, OutOfRange, NoLanes, TagInUse, RepliesFull, TargetsFull, NoRegister, SetPending, QueueFull}
+use Rattle.cache_law.specs.Words.{BankFull, NotPresent, StackFull, Event, Load, Store, Prefetch, Evict, Drain, Serve, Arrive, Process, Take}
+use Rattle.cache_law.specs.Words.{Answer, Accepted, Moved, Value, Nothing, Refused}
 use Rattle.flat_model.specs.Words.{has, joined, merged}
 use Rattle.input_stack.specs.Stack.{stack_word}
 use Rattle.memory_banks.specs.Banks.{with_command, served}
 use Rattle.miss_registers.specs.declared.TheConstants.{MAX_WAITING}
 use Rattle.miss_registers.specs.Registers as regs
 use Rattle.cache_law.specs.declared.Sizes.{Sizes}
-use Rattle.cache_directory.specs.Frames as dir
+use Rattle.cache_law.specs.Frames as dir
 use Rattle.miss_registers.specs.Registers.{made_obsolete, marked, finished}
 use Rattle.cache_law.specs.State.{targets}
 use Rattle.cache_law.specs.Causes.{choose, load_cause, store_cause, prefetch_cause, evict_cause, arrive_cause}

@@ -2,12 +2,8 @@
 use Rattle.std.specs.Prelude.{ℕ, ◌/◌, ◌%◌, Bool, ◌&&◌, List, [], ◌∷◌, map, Option, Some, None, slice_get, slice_set}
 use Rattle.std.specs.Option.{option_map}
 use Rattle.std.specs.List.{list_all, range_with_len}
-use Rattle.flat_model.specs.declared.Word.{Word}
-use Rattle.flat_model.specs.declared.Cause.{Cause}
-use Rattle.flat_model.specs.declared.Event.{Event}
-use Rattle.flat_model.specs.declared.Event.TheVariants.{Load, Store, Prefetch, Evict, Drain, Serve, Arrive, Process, Take}
-use Rattle.flat_model.specs.declared.Answer.{Answer}
-use Rattle.flat_model.specs.declared.Answer.TheVariants.{Moved, Nothing, Refused}
+use Rattle.cache_law.specs.Words.{Word, Cause, Event, Load, Store, Prefetch, Evict, Drain, Serve, Arrive, Process, Take, Answer, Moved}
+use Rattle.cache_law.specs.Words.{Nothing, Refused}
 use Rattle.flat_model.specs.Flat.{Flat, word_at}
 use Rattle.memory_banks.specs.declared.Command.{Command}
 use Rattle.memory_banks.specs.declared.BankAnswer.{BankAnswer}

@@ -1,13 +1,9 @@
 -- What is so of every whole machine, and what its calls answer.
 use Rattle.std.specs.Prelude.{◌≡◌, ℕ, ◌<◌, nat_lt, if◌then◌else◌, ◌==◌, IsTrue, Option, Some, None}
 use Rattle.std.specs.Option.{option_or}
-use Rattle.flat_model.specs.declared.Word.{Word}
+use Rattle.cache_law.specs.Words.{Word, Event, Load, Store, Prefetch, Evict, Answer, Accepted}
 use Rattle.flat_model.specs.declared.ShapeField.{ShapeField}
 use Rattle.flat_model.specs.declared.ShapeField.TheVariants.{Image}
-use Rattle.flat_model.specs.declared.Event.{Event}
-use Rattle.flat_model.specs.declared.Event.TheVariants.{Load, Store, Prefetch, Evict}
-use Rattle.flat_model.specs.declared.Answer.{Answer}
-use Rattle.flat_model.specs.declared.Answer.TheVariants.{Accepted}
 use Rattle.flat_model.specs.Words.{has_any}
 use Rattle.memory_banks.specs.Memory.{Memory, with_banks}
 use Rattle.cache_law.specs.declared.Sizes.{Sizes}

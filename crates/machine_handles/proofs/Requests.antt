@@ -3,7 +3,7 @@ use Rattle.std.proofs.Common.{◌≡◌, ℕ, zero, suc, List, [], ◌∷◌, re
 use Rattle.std.specs.Prelude.{true, nat_lt}
 use Rattle.std.specs.List.{list_all}
 use Rattle.std.proofs.lemmas.Bool.{and_parts, and_from}
-use Rattle.flat_model.specs.declared.Event.{Event}
+use Rattle.machine_core.specs.Words.{Event}
 use Rattle.machine_core.specs.Machine.{MachineState}
 use Rattle.flat_judge.specs.declared.rows.EventRow.{EventRow}
 use Rattle.round_driver.specs.Walks.{is_request, RequestsEnd, IsOverInTime}

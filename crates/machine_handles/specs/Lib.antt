@@ -13,3 +13,5 @@ pub mod Calls
 -- rounds
 pub mod Rounds
 pub mod Stepping
+-- what the calls are told by, for what stands above
+pub use Rattle.machine_core.specs.AnyMachine

@@ -1,11 +1,10 @@
 -- The machine that is opened.
 use Rattle.std.specs.Prelude.{ℕ, List, Option, Some, None}
-use Rattle.flat_model.specs.declared.Word.{Word}
+use Rattle.machine_core.specs.Words.{Word, Sizes}
 use Rattle.flat_model.specs.declared.ShapeField.{ShapeField}
 use Rattle.flat_model.specs.declared.ShapeField.TheVariants.{BlockWords, Ways, Regs, Depth}
 use Rattle.flat_model.specs.declared.MakeFault as make
 use Rattle.flat_model.specs.declared.MakeFault.TheVariants as make_fault
-use Rattle.cache_law.specs.declared.Sizes.{Sizes}
 use Rattle.machine_core.specs.Machine.{MachineState, opening}
 use Rattle.machine_core.specs.Whole.{bad_size}
 use Rattle.machine_handles.specs.declared.made.OpenFault.{OpenFault}

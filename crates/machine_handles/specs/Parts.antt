@@ -1,19 +1,11 @@
 -- What the parts of a machine show beside its registers, as rows of plain numbers and by its state alone.
 use Rattle.std.specs.Prelude.{ℕ, ◌*◌, nat_lt, if◌then◌else◌, Option, Some, None, slice_get}
 use Rattle.std.specs.Option.{option_map}
-use Rattle.flat_model.specs.declared.Word.{Word}
-use Rattle.flat_model.specs.declared.Lanes.{Lanes}
+use Rattle.machine_core.specs.Words.{Word, Lanes, Entry, Queued, Command, Read, Write, BankAnswer, Lookup, Hit, Join, Miss}
 use Rattle.flat_model.specs.Words.{zero_word}
-use Rattle.input_stack.specs.declared.Entry.{Entry}
-use Rattle.write_queue.specs.declared.Queued.{Queued}
-use Rattle.memory_banks.specs.declared.Command.{Command}
-use Rattle.memory_banks.specs.declared.Command.TheVariants.{Read, Write}
-use Rattle.memory_banks.specs.declared.BankAnswer.{BankAnswer}
-use Rattle.memory_banks.specs.Banks.{bank_at}
-use Rattle.cache_law.specs.declared.Lookup.{Lookup}
-use Rattle.cache_law.specs.declared.Lookup.TheVariants.{Hit, Join, Miss}
-use Rattle.cache_law.specs.Lookups.{lookup}
-use Rattle.cache_law.specs.Views.{frame_view, word_view, dirty_view, reply_view}
+use Rattle.machine_core.specs.Banks.{bank_at}
+use Rattle.machine_core.specs.Lookups.{lookup}
+use Rattle.machine_core.specs.Views.{frame_view, word_view, dirty_view, reply_view}
 use Rattle.machine_core.specs.Machine.{MachineState}
 use Rattle.flat_judge.specs.declared.rows.AnswerRow.{AnswerRow}
 use Rattle.flat_judge.specs.Rows.{answer_row}

@@ -2,8 +2,7 @@
 use Rattle.std.specs.Prelude.{◌≡◌, ◌≢◌, ℕ, ◌^◌, ◌-◌, nat_lt, Bool, if◌then◌else◌, List, map, length, Option, Some, None, min}
 use Rattle.std.specs.Option.{option_map, unwrap_or}
 use Rattle.std.specs.List.{list_all}
-use Rattle.flat_model.specs.declared.Event.{Event}
-use Rattle.flat_model.specs.declared.Event.TheVariants.{Drain}
+use Rattle.machine_core.specs.Words.{Event, Drain}
 use Rattle.machine_core.specs.Machine.{MachineState}
 use Rattle.round_driver.specs.declared.driving.TheConstants.{MOST_LATENCY}
 use Rattle.round_driver.specs.declared.table.Table.{Table}

@@ -1,9 +1,6 @@
 -- What the rows of plain numbers say that a machine is opened by and shows.
 use Rattle.std.specs.Prelude.{ℕ, Bool, if◌then◌else◌}
-use Rattle.cache_law.specs.declared.Sizes.{Sizes}
-use Rattle.miss_registers.specs.declared.Owed.{Owed}
-use Rattle.miss_registers.specs.declared.RegisterView.{RegisterView}
-use Rattle.miss_registers.specs.declared.FieldView.{FieldView}
+use Rattle.machine_core.specs.Words.{Sizes, Owed, RegisterView, FieldView}
 use Rattle.machine_handles.specs.declared.views.ShapeRow.{ShapeRow}
 use Rattle.machine_handles.specs.declared.views.RegisterRow.{RegisterRow}
 use Rattle.machine_handles.specs.declared.views.FieldRow.{FieldRow}

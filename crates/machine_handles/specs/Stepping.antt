@@ -1,11 +1,8 @@
 -- Rounds that C has made one at a time in the machine behind a handle.
 use Rattle.std.specs.Prelude.{ℕ, nat_lt, Bool, true, if◌then◌else◌, List, [], ◌∷◌, Option, Some, None, is_some, slice_get}
 use Rattle.std.specs.Option.{option_map, option_and_then}
-use Rattle.flat_model.specs.declared.Event.{Event}
-use Rattle.flat_model.specs.declared.Answer.{Answer}
-use Rattle.flat_model.specs.declared.Answer.TheVariants.{Accepted, Moved, Value, Nothing, Refused}
+use Rattle.machine_core.specs.Words.{Event, Answer, Accepted, Moved, Value, Nothing, Refused, Lookup}
 use Rattle.flat_model.specs.Causes.{ends_request}
-use Rattle.cache_law.specs.declared.Lookup.{Lookup}
 use Rattle.machine_core.specs.Machine.{MachineState}
 use Rattle.round_driver.specs.declared.driving.TheConstants.{MOST_LATENCY}
 use Rattle.round_driver.specs.declared.note.Note.{Note}

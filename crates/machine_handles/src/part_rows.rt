@@ -3,11 +3,8 @@
 ghost use Rattle.std.specs.Prelude.{◌≡◌};
 ghost use Rattle.machine_handles.specs.Parts as parts;
 
-use cache_unit::Lookup;
 use flat_model::{Lanes, Word};
-use input_stack::Entry;
-use memory_banks::{BankAnswer, Command};
-use write_queue::Queued;
+use machine_core::{BankAnswer, Command, Entry, Lookup, Queued};
 
 /// What a frame of the cache shows of itself.
 #[repr(C)]

@@ -2,9 +2,8 @@
 ghost use Rattle.std.specs.Prelude.{◌≡◌};
 ghost use Rattle.machine_handles.specs.Rows.{sizes_of, register_row, field_row, target_row};
 
-use cache_unit::Sizes;
 use flat_model::Word;
-use miss_registers::{FieldView, Owed, RegisterView};
+use machine_core::{FieldView, Owed, RegisterView, Sizes};
 
 /// The numbers of a machine: any within their ranges.
 #[repr(C)]

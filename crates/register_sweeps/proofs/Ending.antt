@@ -1,14 +1,9 @@
 -- Each request of a sweep ends, and each accepted load is paid.
 use Rattle.std.proofs.Common.{◌≡◌, ℕ, zero, suc, ◌+◌, ◌-◌, ◌<◌, ◌≤◌, Bool, true, false, cond, nat_lt, List, [], ◌∷◌, length, Option, Some}
 use Rattle.std.proofs.Common.{None, is_some, is_none, refl, sym, ap, subst, ◌∙◌, arith}
-use Rattle.flat_model.specs.declared.Word.{Word}
-use Rattle.flat_model.specs.declared.Event.{Event}
-use Rattle.flat_model.specs.declared.Event.TheVariants.{Load, Take}
-use Rattle.flat_model.specs.declared.Answer.{Answer}
-use Rattle.flat_model.specs.declared.Answer.TheVariants.{Accepted, Value, Refused}
+use Rattle.machine_core.specs.Words.{Word, Event, Load, Take, Answer, Accepted, Value, Refused, Sizes}
 use Rattle.flat_model.specs.Memory.{is_load}
 use Rattle.flat_model.specs.Flat.{Flat, may_answer, flat_after, flat_step, word_at}
-use Rattle.cache_law.specs.declared.Sizes.{Sizes}
 use Rattle.machine_core.specs.Machine.{Machine, MachineState, flat_of, flat_due}
 use Rattle.std.specs.Option.{option_map}
 use Rattle.std.specs.List.{list_all}

@@ -1,6 +1,6 @@
 -- A request that waits at a whole machine ends within the machine's weight, so that more turns do the same.
 use Rattle.std.proofs.Common.{◌≡◌, ℕ, ◌≤◌, true, false, sym, ap, ◌∙◌, arith}
-use Rattle.flat_model.specs.declared.Event.{Event}
+use Rattle.machine_core.specs.Words.{Event}
 use Rattle.machine_core.specs.Law.{most_weight}
 use Rattle.machine_core.specs.AnyMachine.{weight_of}
 use Rattle.machine_core.specs.Pump.{weight}

@@ -2,23 +2,15 @@
 use Rattle.std.proofs.Common.{◌≡◌, ℕ, zero, suc, ◌+◌, ◌%◌, ◌==◌, Bool, true, false, ◌&&◌, not, nat_lt, List, [], ◌∷◌, length, get_or}
 use Rattle.std.proofs.Common.{set, Option, Some, None, is_some, is_none, find, filter, refl, ap, ◌∙◌, arith}
 use Rattle.std.proofs.lemmas.Bool.{not-false}
-use Rattle.flat_model.specs.declared.Word.{Word}
-use Rattle.flat_model.specs.declared.Cause.{Cause}
-use Rattle.flat_model.specs.declared.Cause.TheVariants.{NoRegister, SetPending}
-use Rattle.flat_model.specs.declared.Cause.TheVariants.{QueueFull}
-use Rattle.flat_model.specs.declared.Event.{Event}
-use Rattle.flat_model.specs.declared.Event.TheVariants.{Load, Store, Prefetch, Serve, Arrive, Take}
-use Rattle.flat_model.specs.declared.Answer.{Answer}
-use Rattle.flat_model.specs.declared.Answer.TheVariants.{Refused}
-use Rattle.cache_law.specs.declared.Reply.{Reply}
-use Rattle.cache_law.specs.declared.Sizes.{Sizes}
-use Rattle.cache_law.specs.State.{Cache, Register, free_register, register_at, frame_at, live_for, is_present, is_pending_block}
-use Rattle.cache_law.specs.State.{is_pending, block_of, order_of}
-use Rattle.miss_registers.specs.Registers.{marked}
-use Rattle.cache_law.proofs.FormsEvents.{live-marked}
-use Rattle.cache_law.specs.Causes.{first_cause, choose, is_resident_block, ways_of, lacks_places}
-use Rattle.cache_law.specs.Causes.{load_cause, store_cause, prefetch_cause}
-use Rattle.cache_law.specs.Steps.{load_step, store_step, prefetch_step, take_step, arrived}
+use Rattle.machine_core.specs.Words.{Word, Cause, NoRegister, SetPending, QueueFull, Event, Load, Store, Prefetch, Serve, Arrive, Take}
+use Rattle.machine_core.specs.Words.{Answer, Refused, Reply, Sizes}
+use Rattle.machine_core.specs.State.{Cache, Register, free_register, register_at, frame_at, live_for, is_present, is_pending_block}
+use Rattle.machine_core.specs.State.{is_pending, block_of, order_of}
+use Rattle.machine_core.specs.Registers.{marked}
+use Rattle.machine_core.proofs.FormsEvents.{live-marked}
+use Rattle.machine_core.specs.Causes.{first_cause, choose, is_resident_block, ways_of, lacks_places, load_cause, store_cause}
+use Rattle.machine_core.specs.Causes.{prefetch_cause}
+use Rattle.machine_core.specs.Steps.{load_step, store_step, prefetch_step, take_step, arrived}
 use Rattle.machine_core.specs.Machine.{Machine, MachineState, apply}
 use Rattle.machine_core.specs.AnyMachine.{answered, after_event, after_some, pump_tells, pump_leaves}
 use Rattle.machine_core.specs.Pump.{pumped}

@@ -3,13 +3,11 @@ use Rattle.std.proofs.Common.{◌≡◌, true, List, map, get_or, replicate, is_
 use Rattle.std.proofs.Common.{◌∙◌}
 use Rattle.std.specs.List.{list_all}
 use Rattle.std.proofs.lemmas.List.{length-replicate, get_or-map}
-use Rattle.flat_model.specs.declared.Event.{Event}
+use Rattle.machine_core.specs.Words.{Event, InRange, Sizes}
 use Rattle.flat_model.specs.Words.{zero_word}
 use Rattle.shape_files.specs.MachineFile.{bad_machine}
 use Rattle.shape_files.proofs.Fits.{at_run_time}
-use Rattle.cache_law.specs.Sound.{InRange}
-use Rattle.cache_law.specs.declared.Sizes.{Sizes}
-use Rattle.cache_unit.proofs.Numbers as numbers
+use Rattle.machine_core.proofs.Numbers as numbers
 use Rattle.machine_core.specs.Whole.{IsWholeState}
 use Rattle.machine_core.proofs.Requests.{sound_opening, flat_opening}
 use Rattle.machine_core.proofs.Whole.{lawful}

@@ -2,7 +2,7 @@
 use Rattle.std.proofs.Common.{◌≡◌, ℕ, suc, Bool, true, false, cond, ◌||◌, ◌==◌, List, [], ◌∷◌, length, Option, Some, None, is_some, is_none}
 use Rattle.std.proofs.Common.{refl, sym, ◌∙◌, arith}
 use Rattle.std.proofs.lemmas.Grind.{common_steps}
-use Rattle.flat_model.specs.declared.Word.{Word}
+use Rattle.machine_core.specs.Words.{Word}
 use Rattle.flat_model.specs.Flat.{with_due}
 
 abbrev pub has : ℕ → List ℕ → Bool

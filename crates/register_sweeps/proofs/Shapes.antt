@@ -4,7 +4,7 @@ use Rattle.std.proofs.Common.{OnOk, Vec, Global, refl, sym, ap, ap₂, ◌∙◌
 use Rattle.std.specs.List.{All}
 use Rattle.std.proofs.lemmas.List.{get_or-map, length-map}
 use Rattle.flat_model.specs.declared.ShapeField.{ShapeField}
-use Rattle.cache_law.specs.declared.Sizes.{Sizes}
+use Rattle.machine_core.specs.Words.{Sizes}
 use Rattle.shape_files.specs.declared.shape_file.TheConstants.{DEFAULT_SHAPE}
 use Rattle.shape_files.specs.declared.shape_file.ToolShape.{ToolShape}
 use Rattle.register_sweeps.specs.declared.threads.Stop.{Stop}

@@ -1,13 +1,12 @@
 -- The turns of a sweep's loops, one at a time, and that none changes a machine's sizes.
 use Rattle.std.proofs.Common.{◌≡◌, ℕ, zero, suc, ◌+◌, ◌-◌, ◌<◌, ◌≤◌, Bool, true, false, cond, Option, Some, None, is_none, refl, sym, ap}
 use Rattle.std.proofs.Common.{◌∙◌, arith}
-use Rattle.flat_model.specs.declared.Event.{Event}
+use Rattle.machine_core.specs.Words.{Event, Answer}
 use Rattle.machine_core.specs.Machine.{MachineState}
 use Rattle.machine_core.specs.AnyMachine.{answered, after_event, after_some, pump_tells, pump_leaves}
 use Rattle.machine_core.specs.Pump as driver
 use Rattle.machine_core.specs.Pump.{pumped, until}
 use Rattle.machine_core.proofs.Driving.{stays, goes}
-use Rattle.flat_model.specs.declared.Answer.{Answer}
 use Rattle.machine_core.specs.Whole.{with_answer}
 use Rattle.std.specs.Option.{option_map}
 use Rattle.register_sweeps.specs.declared.row.Row.{Row}

@@ -1,15 +1,10 @@
 -- What a request that misses waits for, and when it needn't be asked again.
 use Rattle.std.specs.Prelude.{ℕ, Bool, true, false, ◌&&◌, not, nat_lt, take, Option, None, Some, is_some}
-use Rattle.flat_model.specs.declared.Cause.{Cause}
-use Rattle.flat_model.specs.declared.Cause.TheVariants.{NoRegister, SetPending, QueueFull}
-use Rattle.flat_model.specs.declared.Event.{Event}
-use Rattle.flat_model.specs.declared.Event.TheVariants.{Load, Store, Prefetch, Serve, Arrive, Take}
-use Rattle.flat_model.specs.declared.Answer.{Answer}
-use Rattle.flat_model.specs.declared.Answer.TheVariants.{Refused}
+use Rattle.machine_core.specs.Words.{Cause, NoRegister, SetPending, QueueFull, Event, Load, Store, Prefetch, Serve, Arrive, Take, Answer}
+use Rattle.machine_core.specs.Words.{Refused, Sizes}
 use Rattle.flat_model.specs.Words.{has_any}
-use Rattle.cache_law.specs.declared.Sizes.{Sizes}
-use Rattle.cache_law.specs.State.{Cache, is_present, block_of}
-use Rattle.cache_law.specs.Causes.{first_cause, miss_causes}
+use Rattle.machine_core.specs.State.{Cache, is_present, block_of}
+use Rattle.machine_core.specs.Causes.{first_cause, miss_causes}
 use Rattle.machine_core.specs.Machine.{MachineState}
 use Rattle.register_sweeps.specs.declared.row.Asked.{Asked}
 use Rattle.register_sweeps.specs.declared.row.Asked.TheVariants.{Ended, LacksRoom}

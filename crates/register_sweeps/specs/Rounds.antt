@@ -1,8 +1,7 @@
 -- The rows of a sweep in rounds.
 use Rattle.std.specs.Prelude.{ℕ, List, ◌++◌, codes, decimal}
 use Rattle.std.specs.List.{All}
-use Rattle.cache_law.specs.declared.Sizes.{Sizes}
-use Rattle.flat_model.specs.declared.Event.{Event}
+use Rattle.machine_core.specs.Words.{Sizes, Event}
 use Rattle.round_driver.specs.Tables.{table_of}
 use Rattle.round_driver.specs.Texts.{table_text}
 use Rattle.round_driver.specs.Walks.{RequestsEnd}

@@ -4,18 +4,15 @@ use Rattle.std.specs.Prelude.{decimal, Option, Some, None, is_none}
 use Rattle.std.specs.List.{All}
 use Rattle.std.specs.Option.{option_map, option_or}
 use Rattle.shape_files.specs.MachineFile.{bad_machine}
-use Rattle.cache_law.specs.declared.Sizes.{Sizes}
+use Rattle.machine_core.specs.Words.{Sizes, Event, Answer, Accepted, Value, Refused}
 use Rattle.flat_model.specs.Causes.{ends_request}
-use Rattle.flat_model.specs.declared.Event.{Event}
-use Rattle.flat_model.specs.declared.Answer.{Answer}
-use Rattle.flat_model.specs.declared.Answer.TheVariants.{Accepted, Value, Refused}
 use Rattle.flat_model.specs.declared.ShapeField.{ShapeField}
 use Rattle.flat_model.specs.declared.MakeFault.TheVariants as make
 use Rattle.flat_model.specs.Faults.{make_fault_text}
 use Rattle.flat_model.specs.Memory.{is_load}
-use Rattle.memory_images.specs.Images.{memory_from}
-use Rattle.memory_images.specs.declared.image.Image.{Image}
-use Rattle.memory_images.specs.declared.image.Image.TheVariants.{Zeros}
+use Rattle.flat_model.specs.Images.{memory_from}
+use Rattle.flat_model.specs.declared.image.Image.{Image}
+use Rattle.flat_model.specs.declared.image.Image.TheVariants.{Zeros}
 use Rattle.machine_core.specs.Machine.{MachineState, opening}
 use Rattle.machine_core.specs.Pump.{until}
 use Rattle.machine_core.specs.AnyMachine.{answered, after_event, pump_tells, pump_leaves, weight_of}

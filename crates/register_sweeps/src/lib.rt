@@ -14,6 +14,7 @@ mod row;
 mod sweeps;
 mod threads;
 
+pub use machine_core::Sizes;
 pub use machines::new_machine;
 pub use rounds::{RoundsRow, rounds_table, sweep_rounds};
 pub use row::Row;

@@ -6,10 +6,8 @@ ghost use Rattle.flat_model.specs.declared.limits.TheConstants.{MAX_BANKS};
 ghost use Rattle.machine_core.specs.Law.{most_weight};
 ghost use Rattle.register_sweeps.specs.Sweep.{machine_over};
 
-use cache_unit::Sizes;
-use flat_model::MakeFault;
-use machine_core::ShapedMachine;
-use memory_images::Image;
+use flat_model::{Image, MakeFault};
+use machine_core::{ShapedMachine, Sizes};
 use std::alloc::{AllocError, Global};
 
 /// A new machine of numbers that are in their ranges, over an image. Of an image that is longer than its

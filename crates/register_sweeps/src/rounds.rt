@@ -13,9 +13,8 @@ ghost use Rattle.register_sweeps.specs.Rounds.{RunEnds, EachRunEnds, rounds_row_
 use crate::machines::new_machine;
 use crate::sweeps::{SweepFault, SweepGate};
 use crate::threads::{RowMaker, all_good, rows_on_threads};
-use cache_unit::Sizes;
-use flat_model::Event;
-use memory_images::Image;
+use flat_model::{Event, Image};
+use machine_core::Sizes;
 use round_driver::{Table, Timing, summarize_with};
 use std::alloc::{AllocError, Global};
 use std::fmt;

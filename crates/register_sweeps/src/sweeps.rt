@@ -12,9 +12,8 @@ ghost use Rattle.register_sweeps.specs.Sweep.{FaultSays, CountsAll, EachCountsAl
 use crate::machines::new_machine;
 use crate::row::{Row, row_from};
 use crate::threads::{RowMaker, all_good, rows_on_threads};
-use cache_unit::Sizes;
-use flat_model::{Event, MakeFault, ShapeField};
-use memory_images::Image;
+use flat_model::{Event, Image, MakeFault, ShapeField};
+use machine_core::Sizes;
 use shape_files::{ToolShape, bad_field};
 use std::alloc::{AllocError, Global};
 use std::error::Error;

@@ -6,15 +6,15 @@ ghost use Rattle.register_sweeps.specs.declared.sweeps.SweepFault.TheVariants.{T
 ghost use Rattle.register_sweeps.specs.declared.threads.Stop.{Stop};
 ghost use Rattle.register_sweeps.specs.declared.threads.Stop.TheVariants as stops;
 ghost use Rattle.shape_files.specs.MachineFile.{bad_machine};
-ghost use Rattle.cache_law.specs.declared.Sizes.{Sizes as SizesValue};
+ghost use Rattle.machine_core.specs.Words.{Sizes as SizesValue};
 ghost use Rattle.flat_model.specs.declared.ShapeField.{ShapeField as Field};
 ghost use Rattle.shape_files.specs.ShapeFile.{bad_field as bad_shape};
 ghost use Rattle.register_sweeps.specs.Sweep.{AreGood, FaultSays, IsStop, bad_from};
 ghost use Rattle.register_sweeps.specs.Threads.{lacks_memory};
 
 use crate::sweeps::{SweepFault, SweepGate};
-use cache_unit::Sizes;
 use flat_model::ShapeField;
+use machine_core::Sizes;
 use shape_files::{ToolShape, bad_field, bad_number};
 use std::alloc::{AllocError, Global};
 use std::thread;

@@ -1,6 +1,6 @@
 -- The details of a run in a format.
 use Rattle.std.specs.Prelude.{ℕ, ◌+◌, Option, Some, None, List, [], ◌∷◌, ◌++◌, codes, take}
-use Rattle.access_counts.specs.declared.counts.AccessCounts.{AccessCounts}
+use Rattle.result_formats.specs.declared.accesses.AccessCounts.{AccessCounts}
 use Rattle.round_driver.specs.Details.{bucket_of}
 use Rattle.round_driver.specs.Texts.{mean_of, table_text}
 use Rattle.round_driver.specs.declared.details.Details.{Details}

@@ -1,14 +1,9 @@
 -- The commands of a bank: an event takes none away but a serve, which takes one.
 use Rattle.std.proofs.Common.{◌≡◌, ℕ, suc, ◌≤◌, List, [], ◌∷◌, length, Option, Some, None, refl, ap, arith}
 use Rattle.std.proofs.lemmas.List.{length-append}
-use Rattle.flat_model.specs.declared.Cause.{Cause}
-use Rattle.flat_model.specs.declared.Event.{Event}
-use Rattle.flat_model.specs.declared.Event.TheVariants.{Serve, Arrive}
-use Rattle.memory_banks.specs.declared.Command.{Command}
-use Rattle.memory_banks.specs.declared.BankAnswer.{BankAnswer}
-use Rattle.memory_banks.specs.Banks.{Bank, bank_at, with_command, served, all_sent}
-use Rattle.memory_banks.proofs.Places.{bank_at-set}
-use Rattle.cache_law.specs.declared.Sizes.{Sizes}
+use Rattle.machine_core.specs.Words.{Cause, Event, Serve, Arrive, Command, BankAnswer, Sizes}
+use Rattle.machine_core.specs.Banks.{Bank, bank_at, with_command, served, all_sent}
+use Rattle.machine_core.proofs.Places.{bank_at-set}
 use Rattle.machine_core.specs.Machine.{Machine, apply, serve_from, arrive_from, take_in}
 use Rattle.machine_core.proofs.Weighing.{leaves_commands}
 

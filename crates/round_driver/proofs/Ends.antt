@@ -3,8 +3,7 @@ use Rattle.std.proofs.Common.{◌≡◌, ℕ, zero, suc, ◌+◌, ◌-◌, ◌*�
 use Rattle.std.proofs.Common.{refl, sym, ap, ap₂, ◌∙◌, subst, arith, ◌⊎◌, inl, inr, mul-le-mul_right}
 use Rattle.std.specs.List.{list_all}
 use Rattle.std.proofs.lemmas.Bool.{and_parts}
-use Rattle.flat_model.specs.declared.Event.{Event}
-use Rattle.flat_model.specs.declared.Event.TheVariants.{Serve}
+use Rattle.machine_core.specs.Words.{Event, Serve}
 use Rattle.machine_core.specs.Machine.{MachineState}
 use Rattle.machine_core.specs.Pump.{weight}
 use Rattle.machine_core.specs.Law.{ServesRequests}

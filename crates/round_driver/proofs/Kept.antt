@@ -1,6 +1,6 @@
 -- What the turns of the banks and an arrival keep of a course.
 use Rattle.std.proofs.Common.{ℕ, zero, suc, Option, Some, None, arith}
-use Rattle.flat_model.specs.declared.Event.TheVariants.{Serve, Arrive}
+use Rattle.machine_core.specs.Words.{Serve, Arrive}
 use Rattle.round_driver.specs.declared.schedule.Schedule.{Schedule}
 use Rattle.round_driver.specs.Rounds.{Course, attempt, scheduled, begin, serve_due, bank_turns, arrive_from, arrive}
 

@@ -5,11 +5,8 @@ use Rattle.std.proofs.Common.{length-set, get_or-set_same, get_or-set_other, ltb
 use Rattle.std.proofs.lemmas.Bool.{and_parts, cases_eq, cases_lt, true≢false as never}
 use Rattle.std.proofs.lemmas.List.{get_or_past, length-append}
 use Rattle.flat_model.specs.declared.limits.TheConstants.{MAX_BANKS}
-use Rattle.flat_model.specs.declared.Event.{Event}
-use Rattle.flat_model.specs.declared.Event.TheVariants.{Drain, Serve, Arrive, Process, Take}
-use Rattle.memory_banks.specs.declared.BankAnswer.{BankAnswer}
-use Rattle.memory_banks.specs.Banks.{bank_at}
-use Rattle.cache_law.specs.declared.Sizes.{Sizes}
+use Rattle.machine_core.specs.Words.{Event, Drain, Serve, Arrive, Process, Take, BankAnswer, Sizes}
+use Rattle.machine_core.specs.Banks.{bank_at}
 use Rattle.machine_core.specs.Machine.{Machine, MachineState, apply}
 use Rattle.machine_core.specs.Pump.{weight, has_items}
 use Rattle.machine_core.specs.Law.{IsLawful, HasRoom}

@@ -2,15 +2,11 @@
 use Rattle.std.proofs.Common.{◌≡◌, true, false, List, Option, Some, None, refl, arith}
 use Rattle.std.proofs.Common.{lt-ltb, le-ltb}
 use Rattle.std.proofs.lemmas.Bool.{cases_lt}
-use Rattle.flat_model.specs.declared.Cause.{Cause}
-use Rattle.flat_model.specs.declared.Event.{Event}
-use Rattle.flat_model.specs.declared.Event.TheVariants.{Load, Store, Prefetch, Evict}
-use Rattle.flat_model.specs.declared.Answer.{Answer}
-use Rattle.flat_model.specs.declared.Answer.TheVariants.{Accepted}
-use Rattle.memory_banks.specs.Banks.{Bank}
-use Rattle.cache_law.specs.State.{Cache}
-use Rattle.cache_law.specs.Causes.{load_cause, store_cause, prefetch_cause}
-use Rattle.cache_law.specs.Steps.{Stepped, unless, load_step, store_step, prefetch_step, evict_step}
+use Rattle.machine_core.specs.Words.{Cause, Event, Load, Store, Prefetch, Evict, Answer, Accepted}
+use Rattle.machine_core.specs.Banks.{Bank}
+use Rattle.machine_core.specs.State.{Cache}
+use Rattle.machine_core.specs.Causes.{load_cause, store_cause, prefetch_cause}
+use Rattle.machine_core.specs.Steps.{Stepped, unless, load_step, store_step, prefetch_step, evict_step}
 use Rattle.machine_core.specs.Machine.{MachineState, apply, joined_with}
 use Rattle.machine_core.specs.Law.{serves_eviction, ServesRequests}
 use Rattle.machine_core.specs.AnyMachine.{answered, after_event}

@@ -2,7 +2,7 @@
 use Rattle.std.proofs.Common.{◌≡◌, ℕ, suc, ◌+◌, ◌≤◌, Bool, true, false, List, [], ◌∷◌, ◌++◌, append_assoc, append-nil, take}
 use Rattle.std.proofs.Common.{length, length-append, get_or, ◌<◌, Result, Ok, Err, IfErr, IsErrAnd, refl, sym, ap, ◌∙◌, arith}
 use Rattle.std.proofs.lemmas.List.{take_more}
-use Rattle.flat_model.specs.declared.Event.{Event}
+use Rattle.machine_core.specs.Words.{Event}
 use Rattle.machine_core.specs.Machine.{MachineState}
 use Rattle.trace_text.specs.Streams.{Moves, Stopped}
 use Rattle.trace_text.proofs.Serving.{moved_then}

@@ -1,7 +1,7 @@
 -- Requests that are offered one round at a time give the run that they give as a list.
 use Rattle.std.proofs.Common.{◌≡◌, ℕ, zero, suc, List, [], ◌∷◌, refl, arith}
 use Rattle.std.specs.Prelude.{slice_get}
-use Rattle.flat_model.specs.declared.Event.{Event}
+use Rattle.machine_core.specs.Words.{Event}
 use Rattle.machine_core.specs.Machine.{MachineState}
 use Rattle.round_driver.specs.declared.note.Note.{Note}
 use Rattle.round_driver.specs.declared.timing.Timing.{Timing}

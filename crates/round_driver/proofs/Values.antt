@@ -4,10 +4,8 @@ use Rattle.std.proofs.Common.{Option, Some, None, refl, sym, subst, arith}
 use Rattle.std.specs.List.{list_all}
 use Rattle.std.proofs.lemmas.List.Elements.{filter-append}
 use Rattle.std.proofs.lemmas.Bool.{and_parts}
-use Rattle.flat_model.specs.declared.Event.{Event}
-use Rattle.flat_model.specs.declared.Event.TheVariants.{Drain, Serve, Arrive, Process, Take}
-use Rattle.cache_law.specs.Steps.{load_step, store_step, prefetch_step, evict_step, drain_step}
-use Rattle.cache_law.specs.Steps.{process_step}
+use Rattle.machine_core.specs.Words.{Event, Drain, Serve, Arrive, Process, Take}
+use Rattle.machine_core.specs.Steps.{load_step, store_step, prefetch_step, evict_step, drain_step, process_step}
 use Rattle.machine_core.specs.Machine.{MachineState}
 use Rattle.machine_core.specs.AnyMachine.{answered}
 use Rattle.round_driver.specs.declared.note.Note.{Note}

@@ -4,10 +4,8 @@ use Rattle.std.proofs.Common.{append_assoc, append-nil, refl, sym, ap, subst, ar
 use Rattle.std.specs.List.{list_all}
 use Rattle.std.proofs.lemmas.List.{map-append}
 use Rattle.std.proofs.lemmas.Bool.{and_parts}
-use Rattle.flat_model.specs.declared.Event.{Event}
-use Rattle.flat_model.specs.declared.Event.TheVariants.{Drain}
-use Rattle.cache_law.specs.declared.Sizes.{Sizes}
-use Rattle.cache_law.specs.Steps.{drain_step, process_step, take_step}
+use Rattle.machine_core.specs.Words.{Event, Drain, Sizes}
+use Rattle.machine_core.specs.Steps.{drain_step, process_step, take_step}
 use Rattle.machine_core.specs.Machine.{Machine, MachineState, apply, walked, told}
 use Rattle.machine_core.specs.AnyMachine.{answered, after_event}
 use Rattle.machine_core.proofs.Driving.{keeps}

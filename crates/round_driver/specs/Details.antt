@@ -3,15 +3,8 @@ use Rattle.std.specs.Prelude.{ℕ, zero, suc, ◌+◌, ◌-◌, ◌/◌, ◌%◌
 use Rattle.std.specs.Prelude.{max, slice_set, slice_index_or}
 use Rattle.std.specs.List.{sum}
 use Rattle.std.specs.Int.{leading_zeros, w64}
-use Rattle.flat_model.specs.declared.Cause.{Cause}
-use Rattle.flat_model.specs.declared.Event.{Event}
-use Rattle.flat_model.specs.declared.Event.TheVariants.{Load, Store, Prefetch}
-use Rattle.flat_model.specs.declared.Answer.{Answer}
-use Rattle.flat_model.specs.declared.Answer.TheVariants.{Accepted, Value, Refused}
+use Rattle.machine_core.specs.Words.{Cause, Event, Load, Store, Prefetch, Answer, Accepted, Value, Refused, Sizes, Lookup, Hit, Join, Miss}
 use Rattle.flat_model.specs.Causes.{passes}
-use Rattle.cache_law.specs.declared.Sizes.{Sizes}
-use Rattle.cache_law.specs.declared.Lookup.{Lookup}
-use Rattle.cache_law.specs.declared.Lookup.TheVariants.{Hit, Join, Miss}
 use Rattle.machine_core.specs.Machine.{MachineState}
 use Rattle.round_driver.specs.Machines.{used_registers}
 use Rattle.round_driver.specs.Rounds.{Run, rounds_until_over, start_of, whole_run}

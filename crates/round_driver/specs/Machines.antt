@@ -1,10 +1,9 @@
 -- What a machine that is driven shows beside its weight, by its state alone.
 use Rattle.std.specs.Prelude.{ℕ, zero, suc, ◌+◌, Bool, false, if◌then◌else◌, nat_lt, length, Option, Some, None}
-use Rattle.memory_banks.specs.Banks.{bank_at}
-use Rattle.miss_registers.specs.declared.RegisterView.{RegisterView}
-use Rattle.cache_law.specs.declared.Lookup.{Lookup}
-use Rattle.cache_law.specs.Lookups.{lookup}
-use Rattle.cache_law.specs.Views.{register_view}
+use Rattle.machine_core.specs.Banks.{bank_at}
+use Rattle.machine_core.specs.Words.{RegisterView, Lookup}
+use Rattle.machine_core.specs.Lookups.{lookup}
+use Rattle.machine_core.specs.Views.{register_view}
 use Rattle.machine_core.specs.Machine.{MachineState}
 use Rattle.machine_core.specs.Pump.{has_items}
 

@@ -1,9 +1,7 @@
 -- What became of each request of a run.
 use Rattle.std.specs.Prelude.{ℕ, ◌&&◌, if◌then◌else◌, nat_lt, List, [], ◌∷◌, ◌++◌, length, Option, Some, None}
-use Rattle.flat_model.specs.declared.Answer.{Answer}
-use Rattle.flat_model.specs.declared.Answer.TheVariants.{Accepted}
-use Rattle.cache_law.specs.declared.Lookup.{Lookup}
-use Rattle.cache_law.specs.declared.Lookup.TheVariants as lookup
+use Rattle.machine_core.specs.Words.{Answer, Accepted, Lookup}
+use Rattle.machine_core.specs.Words as lookup
 use Rattle.round_driver.specs.Rounds.{is_end}
 use Rattle.round_driver.specs.Walks.{is_request}
 use Rattle.round_driver.specs.Recordings.{Recorded}

@@ -3,14 +3,9 @@ use Rattle.std.specs.Prelude.{◌≡◌, ◌<◌, ℕ, zero, suc, ◌+◌, ◌-�
 use Rattle.std.specs.Prelude.{◌∷◌, ◌++◌, length, replicate, Option, Some, None, slice_get, slice_set, slice_index_or, drop}
 use Rattle.std.specs.Option.{option_or}
 use Rattle.flat_model.specs.declared.limits.TheConstants.{MAX_BANKS}
-use Rattle.flat_model.specs.declared.Event.{Event}
-use Rattle.flat_model.specs.declared.Event.TheVariants.{Load, Store, Prefetch, Drain, Serve, Arrive, Process, Take}
-use Rattle.flat_model.specs.declared.Answer.{Answer}
-use Rattle.flat_model.specs.declared.Answer.TheVariants.{Accepted, Moved, Value, Nothing, Refused}
+use Rattle.machine_core.specs.Words.{Event, Load, Store, Prefetch, Drain, Serve, Arrive, Process, Take, Answer, Accepted, Moved, Value}
+use Rattle.machine_core.specs.Words.{Nothing, Refused, Lookup, Sizes, Miss}
 use Rattle.flat_model.specs.Causes.{ends_request}
-use Rattle.cache_law.specs.declared.Lookup.{Lookup}
-use Rattle.cache_law.specs.declared.Sizes.{Sizes}
-use Rattle.cache_law.specs.declared.Lookup.TheVariants.{Miss}
 use Rattle.machine_core.specs.Law.{most_weight}
 use Rattle.machine_core.specs.Pump.{until}
 use Rattle.machine_core.specs.Machine.{MachineState}

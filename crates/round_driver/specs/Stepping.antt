@@ -3,9 +3,7 @@ use Rattle.std.specs.Prelude.{◌≡◌, ◌≤◌, ℕ, ◌*◌, ◌^◌, Bool,
 use Rattle.std.specs.Prelude.{None, slice_get, ◌-◌}
 use Rattle.std.specs.List.{find, filter, list_all}
 use Rattle.flat_model.specs.declared.limits.TheConstants.{MAX_BANKS}
-use Rattle.flat_model.specs.declared.Event.{Event}
-use Rattle.flat_model.specs.declared.Answer.{Answer}
-use Rattle.flat_model.specs.declared.Answer.TheVariants.{Accepted, Moved, Value, Nothing, Refused}
+use Rattle.machine_core.specs.Words.{Event, Answer, Accepted, Moved, Value, Nothing, Refused}
 use Rattle.machine_core.specs.Pump.{until}
 use Rattle.machine_core.specs.Machine.{MachineState}
 use Rattle.round_driver.specs.declared.note.Note.{Note}

@@ -1,16 +1,9 @@
 -- What is counted of a run: each number is a fold over what was told.
 use Rattle.std.specs.Prelude.{ℕ, ◌+◌, ◌-◌, Bool, true, false, if◌then◌else◌, List, [], ◌∷◌, replicate, Option, Some, None, max, slice_set}
 use Rattle.std.specs.Prelude.{slice_index_or}
-use Rattle.flat_model.specs.declared.Cause.{Cause}
-use Rattle.flat_model.specs.declared.Cause.TheVariants.{TagInUse, RepliesFull, TargetsFull, BlockQueued, NoRegister, SetPending, QueueFull}
-use Rattle.flat_model.specs.declared.Cause.TheVariants.{BankFull}
-use Rattle.flat_model.specs.declared.Event.{Event}
-use Rattle.flat_model.specs.declared.Event.TheVariants.{Load, Drain}
-use Rattle.flat_model.specs.declared.Answer.{Answer}
-use Rattle.flat_model.specs.declared.Answer.TheVariants.{Accepted, Moved, Value, Nothing, Refused}
+use Rattle.machine_core.specs.Words.{Cause, TagInUse, RepliesFull, TargetsFull, BlockQueued, NoRegister, SetPending, QueueFull, BankFull}
+use Rattle.machine_core.specs.Words.{Event, Load, Drain, Answer, Accepted, Moved, Value, Nothing, Refused, Lookup, Hit, Join, Miss}
 use Rattle.flat_model.specs.Causes.{passes}
-use Rattle.cache_law.specs.declared.Lookup.{Lookup}
-use Rattle.cache_law.specs.declared.Lookup.TheVariants.{Hit, Join, Miss}
 use Rattle.machine_core.specs.Machine.{MachineState}
 use Rattle.round_driver.specs.Rounds.{whole_run}
 use Rattle.round_driver.specs.declared.note.Note.{Note}

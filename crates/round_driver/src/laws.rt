@@ -1,6 +1,6 @@
 //! What holds of every run of rounds. These functions do nothing: their contracts are laws.
 ghost use Rattle.std.specs.Prelude.{ℕ, List, Option};
-ghost use Rattle.flat_model.specs.declared.Event.{Event};
+ghost use Rattle.machine_core.specs.Words.{Event};
 ghost use Rattle.machine_core.specs.Machine.{MachineState};
 ghost use Rattle.round_driver.specs.declared.timing.Timing.{Timing};
 ghost use Rattle.round_driver.specs.Stepping.{RoundsState, IsSameRun, AnswersOneLoad};

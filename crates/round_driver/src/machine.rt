@@ -1,16 +1,15 @@
 //! What is asked of a machine that is driven in rounds.
 ghost use Rattle.std.specs.Prelude.{◌≡◌, ◌<◌, ◌≤◌, ◌+◌};
 ghost use Rattle.flat_model.specs.declared.limits.TheConstants.{MAX_BANK_QUEUE};
-ghost use Rattle.cache_law.specs.Sound.{InRange};
+ghost use Rattle.machine_core.specs.Words.{InRange};
 ghost use Rattle.machine_core.specs.Law.{greatest_weight};
 ghost use Rattle.machine_core.specs.Whole.{IsWholeState};
 ghost use Rattle.round_driver.specs.Details as details;
 ghost use Rattle.round_driver.specs.Machines as machines;
 ghost use Rattle.round_driver.specs.Rounds.{most_moves};
 
-use cache_unit::Sizes;
 use flat_model::MAX_BANK_QUEUE;
-use machine_core::ShapedMachine;
+use machine_core::{ShapedMachine, Sizes};
 
 /// The numbers of a machine that counts of its run depend on.
 #[derive(Clone, Copy, PartialEq, Eq, Debug)]

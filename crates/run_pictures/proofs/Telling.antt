@@ -1,8 +1,7 @@
 -- A step that is drawn, as the event of a machine.
 use Rattle.std.proofs.Common.{◌≡◌, ℕ, refl, ap, ◌∙◌, subst, string_bytes}
 use Rattle.std.specs.Prelude.{Result, Ok, Err, OnOk}
-use Rattle.flat_model.specs.declared.Event.{Event}
-use Rattle.flat_model.specs.declared.Answer.{Answer}
+use Rattle.machine_core.specs.Words.{Event, Answer}
 use Rattle.machine_core.specs.Machine.{MachineState}
 use Rattle.machine_core.specs.AnyMachine.{answered, after_event}
 use Rattle.run_pictures.specs.declared.asked.Asked.{Asked}

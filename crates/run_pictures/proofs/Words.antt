@@ -3,25 +3,13 @@ use Rattle.std.proofs.Common.{◌≡◌, ℕ, Bool, true, false, List, [], ◌�
 use Rattle.std.proofs.Common.{◌/◌, ◌%◌}
 use Rattle.std.proofs.lemmas.Bool.{false≢true}
 use native.Mathlib.Nat.{div-zero, mod-zero}
-use Rattle.flat_model.specs.declared.Event.{Event}
-use Rattle.flat_model.specs.declared.Event.TheVariants.{Load, Store, Prefetch, Evict, Drain, Serve, Arrive, Process, Take}
-use Rattle.flat_model.specs.declared.Word.{Word}
-use Rattle.flat_model.specs.declared.Lanes.{Lanes}
-use Rattle.flat_model.specs.declared.Cause.{Cause}
-use Rattle.flat_model.specs.declared.Cause.TheVariants.{BankFull}
-use Rattle.flat_model.specs.declared.Answer.{Answer}
-use Rattle.flat_model.specs.declared.Answer.TheVariants.{Accepted, Moved, Value, Nothing, Refused}
-use Rattle.memory_banks.specs.declared.BankAnswer.{BankAnswer}
-use Rattle.memory_banks.specs.declared.Command.{Command}
-use Rattle.memory_banks.specs.declared.Command.TheVariants.{Write}
-use Rattle.memory_banks.specs.Banks.{bank_at, room_in}
-use Rattle.input_stack.specs.declared.Entry.{Entry}
-use Rattle.write_queue.specs.declared.Queued.{Queued}
-use Rattle.cache_law.specs.declared.Reply.{Reply}
-use Rattle.cache_law.specs.declared.Sizes.{Sizes}
-use Rattle.cache_law.specs.Causes.{load_cause, store_cause, prefetch_cause, evict_cause, arrive_cause}
-use Rattle.cache_law.specs.Steps.{Stepped, unless, load_step, store_step, prefetch_step, evict_step, drain_step, drain_first, process_step}
-use Rattle.cache_law.specs.Steps.{process_entry, take_step, take_reply}
+use Rattle.machine_core.specs.Words.{Event, Load, Store, Prefetch, Evict, Drain, Serve, Arrive, Process, Take, Word, Lanes, Cause, BankFull}
+use Rattle.machine_core.specs.Words.{Answer, Accepted, Moved, Value, Nothing, Refused, BankAnswer, Command, Write, Entry, Queued, Reply}
+use Rattle.machine_core.specs.Words.{Sizes}
+use Rattle.machine_core.specs.Banks.{bank_at, room_in}
+use Rattle.machine_core.specs.Causes.{load_cause, store_cause, prefetch_cause, evict_cause, arrive_cause}
+use Rattle.machine_core.specs.Steps.{Stepped, unless, load_step, store_step, prefetch_step, evict_step, drain_step, drain_first}
+use Rattle.machine_core.specs.Steps.{process_step, process_entry, take_step, take_reply}
 use Rattle.machine_core.specs.Machine.{Machine, MachineState, Outcome, apply, joined_with, serve_from, take_in, arrive_from}
 use Rattle.machine_core.specs.AnyMachine.{answered, after_event}
 use Rattle.run_pictures.specs.Words.{seen, refused_words, words_by, step_words}

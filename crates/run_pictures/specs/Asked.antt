@@ -4,7 +4,7 @@ use Rattle.std.specs.Prelude.{Vec}
 use Rattle.std.specs.Global.{Global}
 use Rattle.std.specs.List.{flat_map}
 use Rattle.std.specs.Option.{option_to_list}
-use Rattle.flat_model.specs.declared.Answer.{Answer}
+use Rattle.machine_core.specs.Words.{Answer}
 use Rattle.trace_text.specs.declared.fault.TheConstants.{MAX_LINE}
 use Rattle.trace_text.specs.Lines.{same, line_of}
 use Rattle.trace_text.specs.Pairs.{pair_of}

@@ -4,23 +4,13 @@ use Rattle.std.specs.Prelude.{slice_get}
 use Rattle.std.specs.List.{list_any, range_with_len}
 use Rattle.std.specs.Str.{IsUtf8}
 use Rattle.flat_model.specs.declared.limits.TheConstants.{MAX_REGS}
-use Rattle.flat_model.specs.declared.Word.{Word}
-use Rattle.flat_model.specs.declared.Lanes.{Lanes}
-use Rattle.flat_model.specs.declared.Answer.{Answer}
-use Rattle.flat_model.specs.declared.Answer.TheVariants.{Value}
+use Rattle.machine_core.specs.Words.{Word, Lanes, Answer, Value, BankAnswer, Command, Read, Write, Entry, Queued, Owed, RegisterView}
+use Rattle.machine_core.specs.Words.{FieldView}
 use Rattle.flat_model.specs.Flat.{Flat}
 use Rattle.flat_model.specs.Words.{has_any}
 use Rattle.flat_model.specs.Texts.{word_text as digits, lanes_text as mask}
-use Rattle.memory_banks.specs.Banks.{bank_at}
-use Rattle.memory_banks.specs.declared.BankAnswer.{BankAnswer}
-use Rattle.memory_banks.specs.declared.Command.{Command}
-use Rattle.memory_banks.specs.declared.Command.TheVariants.{Read, Write}
-use Rattle.input_stack.specs.declared.Entry.{Entry}
-use Rattle.write_queue.specs.declared.Queued.{Queued}
-use Rattle.miss_registers.specs.declared.Owed.{Owed}
-use Rattle.miss_registers.specs.declared.RegisterView.{RegisterView}
-use Rattle.miss_registers.specs.declared.FieldView.{FieldView}
-use Rattle.cache_law.specs.Views.{frame_view, word_view, dirty_view, reply_view}
+use Rattle.machine_core.specs.Banks.{bank_at}
+use Rattle.machine_core.specs.Views.{frame_view, word_view, dirty_view, reply_view}
 use Rattle.machine_core.specs.Machine.{MachineState}
 use Rattle.trace_text.specs.Texts.{register_text as line_of_register}
 use Rattle.machine_core.specs.AnyMachine.{register_shown, field_shown, target_shown, bank_shown}

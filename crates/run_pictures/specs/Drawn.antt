@@ -4,7 +4,7 @@ use Rattle.std.specs.String.{string_bytes}
 use Rattle.std.specs.Global.{Global}
 use Rattle.std.specs.declared.string.String.{String}
 use Rattle.machine_core.specs.Machine.{MachineState}
-use Rattle.memory_images.specs.declared.image.Image.{Image}
+use Rattle.flat_model.specs.declared.image.Image.{Image}
 use Rattle.machine_core.specs.AnyMachine.{after_event}
 use Rattle.trace_text.specs.declared.fault.TheConstants.{MAX_PAIR}
 use Rattle.trace_text.specs.Reading.{ReadWhole, ReadFails}

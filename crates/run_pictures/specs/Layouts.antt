@@ -1,6 +1,6 @@
 -- Where things lie in a machine that is drawn.
 use Rattle.std.specs.Prelude.{ℕ, ◌*◌, ◌/◌, ◌%◌, if◌then◌else◌, nat_lt}
-use Rattle.cache_law.specs.declared.Sizes.{Sizes}
+use Rattle.machine_core.specs.Words.{Sizes}
 
 -- a number as 32 bits hold it, the greatest one for any beyond
 abbrev pub fitted : ℕ → ℕ

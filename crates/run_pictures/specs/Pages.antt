@@ -6,8 +6,8 @@ use Rattle.std.specs.Global.{Global}
 use Rattle.std.specs.declared.string.String.{String}
 use Rattle.flat_model.specs.Texts.{event_text, answer_text}
 use Rattle.machine_core.specs.Machine.{MachineState}
-use Rattle.memory_images.specs.declared.image.Image.{Image}
-use Rattle.cache_law.specs.declared.Sizes.{Sizes}
+use Rattle.flat_model.specs.declared.image.Image.{Image}
+use Rattle.machine_core.specs.Words.{Sizes}
 use Rattle.run_pictures.specs.declared.page.Page.{Page}
 use Rattle.run_pictures.specs.declared.place.Place.{Place}
 use Rattle.run_pictures.specs.declared.step.Made.{Made}

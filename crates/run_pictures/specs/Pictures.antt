@@ -4,12 +4,11 @@ use Rattle.std.specs.Cmp.Lexicographic.{pointwise}
 use Rattle.std.specs.String.{string_bytes, string_len}
 use Rattle.std.specs.Global.{Global}
 use Rattle.std.specs.declared.string.String.{String}
-use Rattle.flat_model.specs.declared.Event.{Event}
-use Rattle.flat_model.specs.declared.Answer.{Answer}
+use Rattle.machine_core.specs.Words.{Event, Answer}
 use Rattle.flat_model.specs.Flat.{Flat, flat_step}
 use Rattle.flat_model.specs.Memory.{shown}
-use Rattle.memory_images.specs.declared.image.Image.{Image}
-use Rattle.memory_images.specs.Images.{flat_from}
+use Rattle.flat_model.specs.declared.image.Image.{Image}
+use Rattle.flat_model.specs.Images.{flat_from}
 use Rattle.machine_core.specs.Machine.{MachineState}
 use Rattle.run_pictures.specs.declared.place.Place.{Place}
 use Rattle.run_pictures.specs.declared.film.Film.{Film}

@@ -1,9 +1,8 @@
 -- The places of a picture, and their names.
 use Rattle.std.specs.Prelude.{ℕ, ◌*◌, if◌then◌else◌, nat_lt, List, [], ◌∷◌, ◌++◌, codes, decimal}
 use Rattle.std.specs.List.{flat_map, range_with_len}
-use Rattle.miss_registers.specs.declared.TheConstants.{MAX_WAITING}
+use Rattle.machine_core.specs.Words.{MAX_WAITING, Sizes}
 use Rattle.run_pictures.specs.Layouts.{fitted}
-use Rattle.cache_law.specs.declared.Sizes.{Sizes}
 use Rattle.run_pictures.specs.declared.place.Place.{Place}
 use Rattle.run_pictures.specs.declared.place.TheConstants.{MOST_MEMORY}
 use Rattle.run_pictures.specs.declared.place.Place.TheVariants.{Register, Line, Field, Load, Frame, Cell, Stack, Queue, Command, Answer}

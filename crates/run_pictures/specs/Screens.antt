@@ -7,10 +7,10 @@ use Rattle.std.specs.Option.{option_to_list}
 use Rattle.std.specs.String.{string_bytes}
 use Rattle.std.specs.Global.{Global}
 use Rattle.std.specs.declared.string.String.{String}
-use Rattle.flat_model.specs.declared.Answer.{Answer}
+use Rattle.machine_core.specs.Words.{Answer}
 use Rattle.flat_model.specs.Texts.{event_text, answer_text}
 use Rattle.machine_core.specs.Machine.{MachineState}
-use Rattle.memory_images.specs.declared.image.Image.{Image}
+use Rattle.flat_model.specs.declared.image.Image.{Image}
 use Rattle.trace_text.specs.Lines.{same}
 use Rattle.run_pictures.specs.declared.place.Place.{Place}
 use Rattle.run_pictures.specs.declared.place.Place.TheVariants as spot

@@ -7,17 +7,13 @@ use Rattle.std.specs.Option.{is_some}
 use Rattle.std.specs.String.{string_bytes}
 use Rattle.std.specs.Global.{Global}
 use Rattle.std.specs.declared.string.String.{String}
-use Rattle.flat_model.specs.declared.Event.{Event}
-use Rattle.flat_model.specs.declared.Event.TheVariants.{Load, Store, Prefetch, Evict, Drain, Serve, Arrive, Process, Take}
-use Rattle.flat_model.specs.declared.Answer.{Answer}
-use Rattle.flat_model.specs.declared.Answer.TheVariants.{Accepted, Moved, Value, Nothing, Refused}
+use Rattle.machine_core.specs.Words.{Event, Load, Store, Prefetch, Evict, Drain, Serve, Arrive, Process, Take, Answer, Accepted, Moved}
+use Rattle.machine_core.specs.Words.{Value, Nothing, Refused, RegisterView, Sizes}
 use Rattle.flat_model.specs.Flat.{number}
-use Rattle.memory_banks.specs.Banks.{bank_at}
-use Rattle.miss_registers.specs.declared.RegisterView.{RegisterView}
+use Rattle.machine_core.specs.Banks.{bank_at}
 use Rattle.machine_core.specs.Machine.{MachineState}
 use Rattle.machine_core.specs.AnyMachine.{register_shown}
 use Rattle.run_pictures.specs.Pictures.{Texts, is_changed}
-use Rattle.cache_law.specs.declared.Sizes.{Sizes}
 use Rattle.run_pictures.specs.declared.step.Made.{Made}
 use Rattle.run_pictures.specs.declared.waveform.Waveform.{Waveform}
 use Rattle.run_pictures.specs.declared.level.Level.{Level}

@@ -2,31 +2,20 @@
 use Rattle.std.specs.Prelude.{ℕ, ◌-◌, ◌*◌, ◌+◌, ◌==◌, nat_lt, Bool, false, ◌&&◌, not, if◌then◌else◌, List, [], ◌++◌, codes, decimal, length}
 use Rattle.std.specs.Prelude.{Option, Some, None, slice_get}
 use Rattle.std.specs.List.{list_any, filter, find, range_with_len}
-use Rattle.flat_model.specs.declared.Word.{Word}
-use Rattle.flat_model.specs.declared.Lanes.{Lanes}
-use Rattle.flat_model.specs.declared.Cause.{Cause}
-use Rattle.flat_model.specs.declared.Cause.TheVariants.{OutOfRange, TagInUse, RepliesFull, NoRegister, SetPending, QueueFull, BankFull}
-use Rattle.flat_model.specs.declared.Cause.TheVariants.{NotPresent, StackFull}
-use Rattle.flat_model.specs.declared.Event.{Event}
-use Rattle.flat_model.specs.declared.Event.TheVariants.{Load, Store, Prefetch, Evict, Drain, Serve, Arrive, Process, Take}
-use Rattle.flat_model.specs.declared.Answer.{Answer}
-use Rattle.flat_model.specs.declared.Answer.TheVariants.{Accepted, Moved, Value, Nothing, Refused}
+use Rattle.machine_core.specs.Words.{Word, Lanes, Cause, OutOfRange, TagInUse, RepliesFull, NoRegister, SetPending, QueueFull, BankFull}
+use Rattle.machine_core.specs.Words.{NotPresent, StackFull, Event, Load, Store, Prefetch, Evict, Drain, Serve, Arrive, Process, Take}
+use Rattle.machine_core.specs.Words.{Answer, Accepted, Moved, Value, Nothing, Refused, BankAnswer, Entry, Queued, Lookup, Hit, Join, Miss}
+use Rattle.machine_core.specs.Words.{Sizes}
 use Rattle.flat_model.specs.Causes.{cause_words}
 use Rattle.flat_model.specs.Texts.{word_text, lanes_text}
 use Rattle.flat_model.specs.Words.{has_any}
-use Rattle.memory_banks.specs.Banks.{bank_at}
-use Rattle.memory_banks.specs.declared.BankAnswer.{BankAnswer}
-use Rattle.input_stack.specs.declared.Entry.{Entry}
-use Rattle.write_queue.specs.declared.Queued.{Queued}
-use Rattle.cache_law.specs.declared.Lookup.{Lookup}
-use Rattle.cache_law.specs.declared.Lookup.TheVariants.{Hit, Join, Miss}
-use Rattle.cache_law.specs.Lookups.{lookup}
-use Rattle.cache_law.specs.Views.{frame_view, dirty_view, reply_view}
+use Rattle.machine_core.specs.Banks.{bank_at}
+use Rattle.machine_core.specs.Lookups.{lookup}
+use Rattle.machine_core.specs.Views.{frame_view, dirty_view, reply_view}
 use Rattle.machine_core.specs.Machine.{MachineState}
 use Rattle.machine_core.specs.AnyMachine.{answered}
 use Rattle.run_pictures.specs.declared.before.Before.{Before}
-use Rattle.cache_law.specs.declared.Sizes.{Sizes}
-use Rattle.cache_law.specs.State.{block_of}
+use Rattle.machine_core.specs.State.{block_of}
 use Rattle.run_pictures.specs.Layouts.{frames_in, set_in, set_of_frame, bank_in}
 use Rattle.run_pictures.specs.Cells.{is_pending}
 

@@ -4,10 +4,7 @@ ghost use Rattle.std.specs.Prelude.{◌≡◌};
 ghost use Rattle.run_pictures.specs.Words as words;
 
 use flat_model::Event;
-use input_stack::Entry;
-use machine_core::{Lookup, ShapedMachine};
-use memory_banks::BankAnswer;
-use write_queue::Queued;
+use machine_core::{BankAnswer, Entry, Lookup, Queued, ShapedMachine};
 
 /// What the words of an event say of the machine before it that can't be seen behind it: [`words_by`](crate::words_by) takes it.
 #[derive(Clone, Copy)]

@@ -6,13 +6,11 @@ ghost use Rattle.run_pictures.specs.Cells as cells;
 
 use crate::place::Place;
 use flat_model::{Answer, FlatMemory, Lanes, MAX_REGS, Word};
-use input_stack::Entry;
-use machine_core::ShapedMachine;
-use memory_banks::{BankAnswer, Command};
-use miss_registers::{FieldView, Owed, RegisterView};
+use machine_core::{
+    BankAnswer, Command, Entry, FieldView, Owed, Queued, RegisterView, ShapedMachine,
+};
 use std::alloc::{AllocError, Global};
 use trace_text::register_text as line_of_register;
-use write_queue::Queued;
 
 fn used_text(alloc: Global, register: RegisterView) -> Result<String, AllocError>
     ensures { IfOk result (λ text. string_bytes text ≡ cells.used_text register) }

@@ -8,8 +8,8 @@ use crate::page::Page;
 use crate::screens::Screens;
 use crate::step::Step;
 use crate::waveform::Waveform;
+use flat_model::Image;
 use machine_core::ShapedMachine;
-use memory_images::Image;
 use std::alloc::{AllocError, Global};
 
 /// As what a run is drawn.

@@ -9,8 +9,8 @@ use crate::asked::{Asked, other_answer};
 use crate::before::Before;
 use crate::drawing::{Drawing, Form};
 use crate::step::{Made, Step};
+use flat_model::Image;
 use machine_core::ShapedMachine;
-use memory_images::Image;
 use std::alloc::{AllocError, Global};
 
 /// The most events that are drawn.

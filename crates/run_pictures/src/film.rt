@@ -7,9 +7,8 @@ ghost use Rattle.run_pictures.specs.Pictures as pictures;
 
 use crate::cells::text_at;
 use crate::place::{Place, places_of};
-use flat_model::{Answer, Event, FlatMemory};
+use flat_model::{Answer, Event, FlatMemory, Image};
 use machine_core::ShapedMachine;
-use memory_images::Image;
 use std::alloc::{AllocError, Global};
 
 /// The picture as it stands, and the places that it has.

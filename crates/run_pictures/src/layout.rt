@@ -1,10 +1,10 @@
 //! Where things lie in a machine that is drawn.
 ghost use Rattle.std.specs.Prelude.{◌≡◌, ◌*◌};
-ghost use Rattle.cache_law.specs.State.{block_of};
+ghost use Rattle.machine_core.specs.State.{block_of};
 ghost use Rattle.run_pictures.specs.Layouts as layouts;
 ghost use Rattle.run_pictures.specs.Layouts.{fitted};
 
-use cache_unit::Sizes;
+use machine_core::Sizes;
 
 // How many frames there are.
 pub(crate) fn frames_in(sizes: &Sizes) -> u32

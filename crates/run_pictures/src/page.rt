@@ -9,9 +9,8 @@ use crate::film::{Film, is_changed};
 use crate::page_parts::{PAGE_END, PAGE_HEAD};
 use crate::place::Place;
 use crate::step::{Other, Step};
-use cache_unit::Sizes;
-use machine_core::ShapedMachine;
-use memory_images::Image;
+use flat_model::Image;
+use machine_core::{ShapedMachine, Sizes};
 use std::alloc::{AllocError, Global};
 
 /// A page, up to the step that was drawn last.

@@ -1,14 +1,13 @@
 //! The places of a picture.
 ghost use Rattle.std.specs.Prelude.{◌≡◌, ◌*◌, ◌++◌, Some, OnOk, IfOk};
-ghost use Rattle.miss_registers.specs.declared.TheConstants.{MAX_WAITING};
+ghost use Rattle.machine_core.specs.Words.{MAX_WAITING};
 ghost use Rattle.run_pictures.specs.Layouts.{fitted};
 ghost use Rattle.run_pictures.specs.Numbered.{text_of};
 ghost use Rattle.run_pictures.specs.Places as spots;
 
 use crate::layout::{answers_in, frames_in};
 use crate::numbered::Numbered;
-use cache_unit::Sizes;
-use miss_registers::MAX_WAITING;
+use machine_core::{MAX_WAITING, Sizes};
 use std::alloc::{AllocError, Global};
 use std::fmt;
 

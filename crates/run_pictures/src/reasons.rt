@@ -9,13 +9,9 @@ use crate::before::Before;
 use crate::layout::{bank_in, block_in, set_in};
 use crate::numbered::Numbered;
 use crate::shortage::{bank_full, queue_full};
-use cache_unit::Sizes;
 use flat_model::{Answer, Cause, Event, Word};
-use input_stack::Entry;
-use machine_core::{Lookup, ShapedMachine};
-use memory_banks::BankAnswer;
+use machine_core::{BankAnswer, Entry, Lookup, Queued, ShapedMachine, Sizes};
 use std::alloc::{AllocError, Global};
-use write_queue::Queued;
 
 /// What an event did, or why it didn't, in words: the sentence that a picture of the run has for this step.
 ///

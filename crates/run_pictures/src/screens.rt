@@ -10,9 +10,8 @@ use crate::film::{Film, is_changed};
 use crate::numbered::Numbered;
 use crate::place::Place;
 use crate::step::Step;
-use flat_model::Answer;
+use flat_model::{Answer, Image};
 use machine_core::ShapedMachine;
-use memory_images::Image;
 use std::alloc::{AllocError, Global};
 use std::fmt;
 

@@ -7,11 +7,9 @@ ghost use Rattle.run_pictures.specs.Words as words;
 use crate::cells::is_pending;
 use crate::layout::{bank_in, frames_in, set_in, set_of_frame};
 use crate::reasons::block_about;
-use cache_unit::Sizes;
 use flat_model::Event;
-use machine_core::ShapedMachine;
+use machine_core::{Queued, ShapedMachine, Sizes};
 use std::alloc::{AllocError, Global};
-use write_queue::Queued;
 
 /// Why an event was refused that would have queued a frame's dirty words.
 pub(crate) fn queue_full(

@@ -7,10 +7,8 @@ ghost use Rattle.run_pictures.specs.Waves as waves;
 use crate::level::Level;
 use crate::numbered::Numbered;
 use crate::step::Made;
-use cache_unit::Sizes;
 use flat_model::{Answer, Event};
-use machine_core::ShapedMachine;
-use miss_registers::RegisterView;
+use machine_core::{RegisterView, ShapedMachine, Sizes};
 use std::alloc::{AllocError, Global};
 use std::fmt;
 

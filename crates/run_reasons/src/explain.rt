@@ -2,14 +2,14 @@
 
 ghost use Rattle.std.specs.Prelude.{◌≡◌, ◌<◌, ℕ, List, [], length, Some};
 ghost use Rattle.flat_model.specs.declared.Word.{Word};
-ghost use Rattle.memory_images.specs.Images.{memory_from};
+ghost use Rattle.flat_model.specs.Images.{memory_from};
 ghost use Rattle.run_reasons.specs.Runs.{Explains, explained_by, status_of};
 ghost use Rattle.run_reasons.specs.Lines.{HasRead, EndsWith};
 ghost use Rattle.run_reasons.specs.Texts.{explanation_text};
 
 use crate::lines::{Lines, Stop};
 use crate::reason::Mismatch;
-use memory_images::Image;
+use flat_model::Image;
 use std::alloc::Global;
 use std::fmt;
 use trace_text::{BUFFER_LEN, Source, TraceFault};

@@ -5,15 +5,14 @@ ghost use Rattle.std.specs.Prelude.{OnOk, OnErr};
 ghost use Rattle.std.specs.HashMap.{spare};
 ghost use Rattle.flat_model.specs.Flat.{Flat, word_at, may_answer, flat_step};
 ghost use Rattle.flat_model.specs.Memory as memory;
-ghost use Rattle.memory_images.specs.Images.{memory_from};
+ghost use Rattle.flat_model.specs.Images.{memory_from};
 ghost use Rattle.run_reasons.specs.Origins.{no_stores};
 
 use crate::origins::{AcceptedLoad, Stores, TagUse};
 use crate::pasts::Past;
 use crate::reason::{Mismatch, Reason, WrongWord, is_ever, is_out_of_range, never, tag_reason};
 use crate::tags::Tags;
-use flat_model::{Answer, Event, FlatMemory, Lanes, StepFault, Word, merge};
-use memory_images::Image;
+use flat_model::{Answer, Event, FlatMemory, Image, Lanes, StepFault, Word, merge};
 use std::alloc::{AllocError, Global};
 
 /// Why a line wasn't read. After each of these the explainer is as it was.

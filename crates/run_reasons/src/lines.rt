@@ -3,7 +3,7 @@
 ghost use Rattle.std.specs.Prelude.{◌≡◌, ◌≤◌, ◌<◌, ◌+◌, ◌^◌, ℕ, List, [], ◌∷◌, ◌++◌, length, Some, None, IfSome, IfNone, IfOk, IfErr, OnOk};
 ghost use Rattle.flat_model.specs.declared.Word.{Word};
 ghost use Rattle.flat_model.specs.Flat.{flat_step};
-ghost use Rattle.memory_images.specs.Images.{memory_from};
+ghost use Rattle.flat_model.specs.Images.{memory_from};
 ghost use Rattle.trace_text.specs.Checks.{step_with};
 ghost use Rattle.trace_text.specs.Recorded.{recorded};
 ghost use Rattle.run_reasons.specs.Origins.{origins_after};
@@ -13,8 +13,7 @@ ghost use Rattle.run_reasons.specs.Runs.{EndsIn};
 use crate::explainer::{Explainer, ReadFault};
 use crate::reason::Mismatch;
 use arrayvec::ArrayVec;
-use flat_model::{Answer, Event};
-use memory_images::Image;
+use flat_model::{Answer, Event, Image};
 use std::alloc::{AllocError, Global};
 use trace_text::{Line, LineFault, MAX_PAIR, Pair, TraceFault, pair_said};
 

@@ -3,7 +3,7 @@ use Rattle.std.proofs.Common.{◌≡◌, ℕ, zero, suc, ◌+◌, ◌-◌, ◌%�
 use Rattle.std.proofs.Common.{arith, add-one, get_or, Result, Ok, Err, OnOk}
 use Rattle.std.proofs.lemmas.List.{get_or_append_left, get_or_at}
 use Rattle.flat_model.specs.declared.Word.{Word}
-use Rattle.memory_images.specs.Images.{number_word}
+use Rattle.flat_model.specs.Images.{number_word}
 use Rattle.rand_pcg.specs.Lcg.{Lcg}
 use Rattle.rand_pcg.specs.Pcg.{pcg32}
 use Rattle.station_journal.specs.declared.asks.TheConstants.{PORT_TAGS}

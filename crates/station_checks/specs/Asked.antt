@@ -1,7 +1,7 @@
 -- What the ports of a plan ask, by the numbers that are drawn.
 use Rattle.std.specs.Prelude.{ℕ, zero, suc, ◌+◌, ◌*◌, ◌/◌, ◌%◌, ◌==◌, nat_lt, if◌then◌else◌, List, [], ◌∷◌}
 use Rattle.flat_model.specs.declared.Word.{Word}
-use Rattle.memory_images.specs.Images.{number_word}
+use Rattle.flat_model.specs.Images.{number_word}
 use Rattle.rand_pcg.specs.Lcg.{Lcg, started, increment_of}
 use Rattle.rand_pcg.specs.Pcg.{multiplier_64, pcg32}
 use Rattle.station_journal.specs.declared.asks.TheConstants.{PORT_TAGS}

@@ -1,6 +1,6 @@
 //! What the ports of a tour ask, made from a seed.
 ghost use Rattle.std.specs.Prelude.{◌≡◌, ◌≤◌, ◌<◌, max, min, true};
-ghost use Rattle.memory_images.specs.Images.{number_word};
+ghost use Rattle.flat_model.specs.Images.{number_word};
 ghost use Rattle.station_checks.specs.Asked.{ask_picked, ask_drawn, drawn_on, own_word};
 ghost use Rattle.station_journal.specs.Conversation.{is_request};
 ghost use Rattle.station_parts.specs.declared.make.TheConstants.{MAX_PORTS};

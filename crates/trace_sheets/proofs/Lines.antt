@@ -3,8 +3,7 @@ use Rattle.std.proofs.Common.{◌≡◌, ℕ, ◌+◌, Bool, true, false, cond, 
 use Rattle.std.proofs.Common.{length, take, drop, refl, sym, ◌∙◌, ap}
 use Rattle.std.specs.Prelude.{nat_lt, is_ok}
 use Rattle.std.specs.Option.{is_some}
-use Rattle.flat_model.specs.declared.Answer.{Answer}
-use Rattle.flat_model.specs.declared.Event.{Event}
+use Rattle.machine_core.specs.Words.{Answer, Event}
 use Rattle.trace_text.specs.Lines.{line_of}
 use Rattle.trace_text.specs.Pairs.{pair_of, pair_cut, pair_from, answered_pair, answer_of, arrow_in}
 use Rattle.trace_text.specs.declared.fault.TheConstants.{MAX_LINE}

@@ -1,8 +1,6 @@
 -- What is told of a wrong prediction and of a score, in a format.
 use Rattle.std.specs.Prelude.{ℕ, ◌+◌, Option, Some, None, List, [], ◌∷◌, ◌++◌, codes, decimal}
-use Rattle.flat_model.specs.declared.Answer.{Answer}
-use Rattle.flat_model.specs.declared.Answer.TheVariants.{Accepted}
-use Rattle.cache_law.specs.declared.Lookup.{Lookup}
+use Rattle.machine_core.specs.Words.{Answer, Accepted, Lookup}
 use Rattle.named_fields.specs.Formats.{Named, absent, counted, worded, written, in_format, head_in_format}
 use Rattle.named_fields.specs.declared.format.Format.{Format}
 use Rattle.trace_text.specs.Codes.{line_feed}

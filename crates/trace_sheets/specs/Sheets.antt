@@ -3,8 +3,7 @@ use Rattle.std.specs.Prelude.{ℕ, ◌+◌, Bool, ◌||◌, if◌then◌else◌,
 use Rattle.std.specs.Prelude.{codes}
 use Rattle.std.specs.List.{list_all}
 use Rattle.std.specs.Option.{is_some}
-use Rattle.cache_law.specs.declared.Lookup.{Lookup}
-use Rattle.cache_law.specs.declared.Lookup.TheVariants.{Hit, Join, Miss}
+use Rattle.machine_core.specs.Words.{Lookup, Hit, Join, Miss}
 use Rattle.named_fields.specs.Texts.{is_printable}
 use Rattle.trace_text.specs.declared.fault.TheConstants.{MAX_LINE}
 use Rattle.trace_text.specs.Lines.{same, line_of}

@@ -3,7 +3,7 @@
 ghost use Rattle.std.specs.Prelude.{◌≡◌, ◌+◌, ◌≤◌, ℕ, Ok, Err, Some, length, take, drop, ◌||◌, is_ok, IfOk, IfErr, IfSome};
 ghost use Rattle.std.specs.List.{list_all};
 ghost use Rattle.std.specs.Option.{is_some, option_map};
-ghost use Rattle.flat_model.specs.declared.Event.{Event as EventValue};
+ghost use Rattle.machine_core.specs.Words.{Event as EventValue};
 ghost use Rattle.trace_text.specs.Lines.{IsSaid};
 ghost use Rattle.trace_text.specs.Pairs.{answer_of, arrow_in, pair_of};
 ghost use Rattle.named_fields.specs.Texts.{is_printable};

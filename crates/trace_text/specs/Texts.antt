@@ -6,8 +6,7 @@ use Rattle.flat_model.specs.declared.Word.{Word}
 use Rattle.flat_model.specs.declared.Answer.{Answer}
 use Rattle.flat_model.specs.declared.Answer.TheVariants.{Accepted, Moved, Value, Nothing, Refused}
 use Rattle.flat_model.specs.Flat.{number}
-use Rattle.miss_registers.specs.declared.RegisterView.{RegisterView}
-use Rattle.miss_registers.specs.declared.FieldView.{FieldView}
+use Rattle.machine_core.specs.Words.{RegisterView, FieldView}
 use Rattle.machine_core.specs.Machine.{MachineState}
 use Rattle.machine_core.specs.AnyMachine.{answered, after_event, register_shown, field_shown, bank_shown, is_settled}
 use Rattle.trace_text.specs.Codes.{space, hyphen, closing_bracket, letter_I, letter_O, letter_P, letter_V}

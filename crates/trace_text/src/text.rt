@@ -9,8 +9,7 @@ ghost use Rattle.trace_text.specs.Texts.{register_text as text_of_register, bank
 
 use crate::fault::MAX_PAIR;
 use flat_model::{Answer, MAX_BLOCK_WORDS, Word};
-use machine_core::AnyMachine;
-use miss_registers::{FieldView, RegisterView};
+use machine_core::{AnyMachine, FieldView, RegisterView};
 use std::marker::Model;
 
 /// How many bytes the part of a register before its words has at most.

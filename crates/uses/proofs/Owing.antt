@@ -1,10 +1,7 @@
 -- Flat memory between a load and its value.
 use Rattle.std.proofs.Common.{◌≡◌, ℕ, ◌==◌, Bool, true, false, if◌then◌else◌, List, Some, None, refl, arith}
 use Rattle.std.proofs.lemmas.Bool.Decides.{nat_tests}
-use Rattle.flat_model.specs.declared.Word.{Word}
-use Rattle.flat_model.specs.declared.Event.{Event}
-use Rattle.flat_model.specs.declared.Event.TheVariants.{Load, Store, Prefetch, Evict, Drain, Serve, Arrive, Process, Take}
-use Rattle.flat_model.specs.declared.Answer.TheVariants.{Value}
+use Rattle.machine_core.specs.Words.{Word, Event, Load, Store, Prefetch, Evict, Drain, Serve, Arrive, Process, Take, Value}
 use Rattle.flat_model.specs.Flat.{Flat, word_at, with_due, same_word, is_owed, flat_after, flat_step}
 
 -- the memory of an image, in which tag 1 is owed the word at an address

@@ -1,7 +1,6 @@
 -- What requests found, counted.
 use Rattle.std.specs.Prelude.{ℕ, ◌+◌, Option, Some, None}
-use Rattle.cache_law.specs.declared.Lookup.{Lookup}
-use Rattle.cache_law.specs.declared.Lookup.TheVariants.{Hit, Join, Miss}
+use Rattle.machine_core.specs.Words.{Lookup, Hit, Join, Miss}
 use Rattle.uses.specs.declared.own_order.Lookups.{Lookups}
 
 -- all that was counted

@@ -2,6 +2,7 @@
 
 mod callers;
 mod fixture;
+mod histories;
 mod order;
 mod parts;
 mod reasons;

@@ -1,8 +1,7 @@
 //! Runs with one mismatch of each kind, their texts, and readers that fail.
 
 use super::fixture::{Behind, Script, ZERO, same};
-use flat_model::{Answer, Event, Lanes, Word};
-use memory_images::Image;
+use flat_model::{Answer, Event, Image, Lanes, Word};
 use run_reasons::{Explainer, Mismatch, ReadFault, Reason, explain_text};
 use std::alloc::Global;
 use std::process::Abort;

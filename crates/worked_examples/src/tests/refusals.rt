@@ -7,10 +7,9 @@ use super::fixture::{
 };
 use cache_directory::Directory;
 use cache_unit::CacheUnit;
-use flat_model::{Answer, Event, FlatMemory, Lanes, MakeFault, ReplayFault, ShapeField};
+use flat_model::{Answer, Event, FlatMemory, Image, Lanes, MakeFault, ReplayFault, ShapeField};
 use machine_core::Machine;
 use memory_banks::Banks;
-use memory_images::Image;
 use miss_registers::RegisterFile;
 use run_reasons::{Explanation, explain_text};
 use std::io::Cursor;

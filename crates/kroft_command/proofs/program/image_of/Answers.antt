@@ -1,5 +1,5 @@
 use Rattle.std.proofs.Common.{refl, sym, subst}
-use Rattle.memory_images.specs.declared.image.Image.TheVariants.{Bytes}
+use Rattle.flat_model.specs.declared.image.Image.TheVariants.{Bytes}
 use Rattle.kroft_command.specs.Program.{IsImageOf}
 use Rattle.kroft_command.proofs.program.image_of.Goals as goal
 

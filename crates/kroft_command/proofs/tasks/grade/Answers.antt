@@ -1,4 +1,4 @@
-use Rattle.trace_sheets.specs.Grades.{score_status}
+use Rattle.kroft_jobs.specs.Grades.{score_status}
 use Rattle.kroft_command.specs.Tool.{of_trace}
 use Rattle.kroft_command.specs.Program.{Grades}
 use Rattle.kroft_command.proofs.Answering.{told_err}

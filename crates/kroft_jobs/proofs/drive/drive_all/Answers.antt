@@ -1,5 +1,5 @@
 use Rattle.std.proofs.Common.{subst}
-use Rattle.machine_core.specs.Machine.{MachineState}
+use Rattle.register_sweeps.specs.Machine.{MachineState}
 use Rattle.kroft_jobs.specs.Driving.{IsDriven}
 use Rattle.kroft_jobs.proofs.Measured.{run_driven}
 use Rattle.kroft_jobs.proofs.drive.drive_all.Goals as goal

@@ -1,5 +1,5 @@
 use Rattle.std.proofs.Common.{refl, subst}
-use Rattle.machine_core.specs.Machine.{MachineState}
+use Rattle.register_sweeps.specs.Machine.{MachineState}
 use Rattle.trace_text.specs.Serving.{Ends}
 use Rattle.register_sweeps.specs.Sweep.{machine_over}
 use Rattle.kroft_jobs.proofs.jobs.serve.Goals as goal

@@ -1,7 +1,7 @@
 use Rattle.std.proofs.Common.{◌≡◌, List, map, true, IfOk, subst, ◌∙◌}
 use Rattle.std.specs.List.{list_all}
 use Rattle.round_driver.specs.Walks.{is_request}
-use Rattle.cache_law.specs.declared.Sizes.{Sizes}
+use Rattle.machine_core.specs.Words.{Sizes}
 use Rattle.register_sweeps.specs.Sweep.{EachCountsAll, row_of}
 use Rattle.register_sweeps.proofs.Lawful.{rows_count_all}
 use Rattle.register_sweeps.proofs.Shapes.{machines_good}

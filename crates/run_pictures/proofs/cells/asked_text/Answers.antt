@@ -1,5 +1,5 @@
 use Rattle.std.specs.String.{string_bytes}
-use Rattle.memory_banks.specs.declared.Command.TheVariants.{Read, Write}
+use Rattle.machine_core.specs.Words.{Read, Write}
 use Rattle.run_pictures.specs.Cells as cells
 use Rattle.run_pictures.proofs.Texts.{text_at_same}
 use Rattle.run_pictures.proofs.cells.asked_text.Goals as goal

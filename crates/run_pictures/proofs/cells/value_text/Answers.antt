@@ -1,5 +1,5 @@
 use Rattle.std.specs.String.{string_bytes}
-use Rattle.flat_model.specs.declared.Answer.TheVariants.{Value}
+use Rattle.machine_core.specs.Words.{Value}
 use Rattle.run_pictures.specs.Cells as cells
 use Rattle.run_pictures.proofs.Texts.{text_at_same}
 use Rattle.run_pictures.proofs.cells.value_text.Goals as goal

@@ -1,5 +1,5 @@
 use Rattle.std.proofs.Common.{◌≡◌, Some, subst}
-use Rattle.flat_model.specs.declared.Answer.{Answer}
+use Rattle.machine_core.specs.Words.{Answer}
 use Rattle.flat_model.specs.Flat.{Flat, flat_step}
 use Rattle.machine_core.specs.Machine.{flat_of}
 use Rattle.uses.proofs.Owing.{owing, value_is}

@@ -1,6 +1,6 @@
 use Rattle.std.proofs.Common.{ap, subst, ◌∙◌}
 use Rattle.flat_model.specs.Memory.{shown}
-use Rattle.memory_images.specs.Images.{flat_from}
+use Rattle.flat_model.specs.Images.{flat_from}
 use Rattle.run_pictures.specs.Places.{places_in}
 use Rattle.run_pictures.specs.Pictures.{IsPicture}
 use Rattle.run_pictures.proofs.film.Film.new.Goals as goal

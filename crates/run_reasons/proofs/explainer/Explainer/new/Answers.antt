@@ -2,8 +2,8 @@ use Rattle.std.proofs.Common.{◌≡◌, ℕ, List, [], length, replicate, sym, 
 use Rattle.flat_model.specs.declared.Word.{Word}
 use Rattle.flat_model.specs.Flat.{Flat, opening}
 use Rattle.flat_model.specs.Memory as memory
-use Rattle.memory_images.specs.Images.{memory_from}
-use Rattle.memory_images.proofs.Memories.{memory_length}
+use Rattle.flat_model.specs.Images.{memory_from}
+use Rattle.flat_model.proofs.Images.{memory_length}
 use Rattle.run_reasons.specs.declared.origins.Stores.{Stores}
 use Rattle.run_reasons.specs.declared.origins.TagUse.{TagUse}
 use Rattle.run_reasons.specs.declared.origins.TagUse.TheVariants.{Never}

@@ -1,4 +1,4 @@
-use Rattle.memory_images.specs.Images.{memory_from}
+use Rattle.flat_model.specs.Images.{memory_from}
 use Rattle.std.proofs.Common.{refl}
 use Rattle.run_reasons.proofs.LinesRead.{read_nothing}
 use Rattle.run_reasons.proofs.lines.Lines.new.Goals as goal

@@ -1,0 +1,45 @@
+-- What a plan says.
+use Rattle.std.specs.Prelude.{◌+◌, ◌-◌, ◌*◌, ◌%◌, ◌^◌, ◌≢◌, ◌≤◌, Bool, ◌&&◌, ◌||◌, ◌==◌, nat_lt, nat_le}
+use Rattle.flat_judge.specs.declared.plan.Plan.{Plan}
+
+-- ---- as tests
+
+-- there are blocks, and all of them lie below 2^64
+unfoldable pub has_memory : Plan → Bool
+has_memory p =
+    nat_lt 0 p.blocks && nat_lt 0 p.block_bytes && p.base % p.block_bytes == 0
+    && nat_lt (p.blocks * p.block_bytes - 1) (2 ^ 64 - p.base)
+
+-- accesses have a width: one of 1, 2, 4, .. 64 bytes, by which a block is cut evenly
+unfoldable pub has_widths : Plan → Bool
+has_widths p =
+    nat_lt 0 p.widest && nat_le p.widest 64 && 64 % p.widest == 0
+    && nat_le p.widest p.block_bytes && p.block_bytes % p.widest == 0
+
+-- somebody asks, and has bytes of its own where it wants them
+unfoldable pub has_requesters : Plan → Bool
+has_requesters p =
+    nat_lt 0 p.sets && nat_lt 0 p.burst && nat_lt 0 p.requesters
+    && (p.apart == 0 || nat_le p.requesters p.block_bytes)
+
+-- each number of a plan is in its range
+unfoldable pub is_plan : Plan → Bool
+is_plan p = has_memory p && has_widths p && has_requesters p
+
+-- ---- as bounds
+
+pub record Memory (p : Plan) : Type 0 where
+  pub blocks : 1 ≤ p.blocks
+  pub bytes : 1 ≤ p.block_bytes
+  pub ends : p.base + p.blocks * p.block_bytes ≤ 2 ^ 64
+
+pub record Widths (p : Plan) : Type 0 where
+  pub narrow : 1 ≤ p.widest
+  pub wide : p.widest ≤ 64
+  pub fits : p.widest ≤ p.block_bytes
+
+pub record Requesters (p : Plan) : Type 0 where
+  pub sets : 1 ≤ p.sets
+  pub burst : 1 ≤ p.burst
+  pub requesters : 1 ≤ p.requesters
+  pub own : p.apart ≢ 0 → p.requesters ≤ p.block_bytes

@@ -1,0 +1,39 @@
+//! Traffic as C asks for it.
+ghost use Rattle.std.specs.Prelude.{◌≡◌, length};
+ghost use Rattle.flat_judge.specs.Traffic.{access_of, bytes_behind, row_behind, status_of};
+
+use crate::{Access, Plan, fill_bytes};
+
+// The access was written.
+const DRAWN: u32 = 0;
+
+// The plan's numbers aren't as their descriptions say.
+const NO_PLAN: u32 = 1;
+
+// There is no room for the widest access.
+const NO_ROOM: u32 = 2;
+
+/// Writes the access of a number, under a seed, and the bytes of a store.
+///
+/// 0: `access` is the access, and if it is a store, `bytes` begins with its bytes. 1: a number of the
+/// plan isn't as its description says. 2: `bytes` has fewer bytes than the widest access. After 1 and 2
+/// all is as it was. A plan that says nothing is told first.
+pub fn traffic(plan: &Plan, seed: u64, number: u64, access: &mut Access, bytes: &mut [u8]) -> u32
+    ensures status { result ≡ status_of plan.now (length bytes.old) }
+    ensures access { access.new ≡ row_behind access.old result (access_of plan.now seed number) }
+    ensures bytes { bytes.new
+        ≡ bytes_behind bytes.old result seed number (access_of plan.now seed number) }
+{
+    let Some(traffic) = plan.traffic() else {
+        return NO_PLAN;
+    };
+    let drawn = traffic.access(seed, number);
+    if bytes.len() < plan.widest as usize {
+        return NO_ROOM;
+    }
+    if drawn.enables != 0 {
+        fill_bytes(seed, number, &mut bytes[..drawn.length as usize]);
+    }
+    *access = drawn;
+    DRAWN
+}

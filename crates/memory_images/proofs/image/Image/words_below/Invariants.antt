@@ -1,6 +1,0 @@
-use Rattle.std.proofs.Common.{◌≡◌}
-use Rattle.memory_images.specs.Images.{words_below}
-use Rattle.memory_images.proofs.image.Image.words_below.Given as goal
-
-abbrev pub invariant-loop-at : goal.invariant-loop-at
-invariant-loop-at l = l.memory.items ≡ words_below l.self l.at

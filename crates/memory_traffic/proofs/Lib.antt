@@ -1,2 +1,0 @@
--- what follows from a plan's numbers
-pub mod Standing
