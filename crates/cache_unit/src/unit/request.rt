@@ -21,7 +21,7 @@ impl ShapedUnit {
     ///
     /// Refused, with the unit and the lines unchanged, for the first of these that holds: the word
     /// is out of range (1); for a store, no lane is set (2); for a load, the tag is awaited or
-    /// stands ready (3), as many loads are owed as may be (4), or, where the block is present, four
+    /// stands ready (3), the limit of outstanding loads is reached (4), or, where the block is present, four
     /// loads wait for the word (5); where the block is absent, no register is free (7), every way
     /// of its set is pending (8), the write queue has too few free places for the victim's dirty
     /// words (9), or a bank has too little room for its reads (10).
