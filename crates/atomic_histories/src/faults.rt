@@ -17,11 +17,8 @@ impl fmt::Display for FaultText<'_> {
     fn fmt<W: fmt::Write>(&self, f: &mut fmt::Formatter<W>) -> fmt::Result {
         match self.0 {
             AtomicFault::Refused(fault) => {
-                write!(
-                    f,
-                    "the event is none of the law: {}",
-                    memory_histories::FaultText(fault)
-                )
+                let cause = memory_histories::FaultText(fault);
+                write!(f, "the event is none of the law: {cause}")
             }
             AtomicFault::Undecided { address } => {
                 write!(f, "undecided: too many ways in the unit with 0x{address:x}")

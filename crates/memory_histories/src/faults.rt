@@ -34,11 +34,10 @@ impl fmt::Display for FaultText<'_, StepFault> {
 
     fn fmt<W: fmt::Write>(&self, f: &mut fmt::Formatter<W>) -> fmt::Result {
         match self.0 {
-            StepFault::Refused(fault) => write!(
-                f,
-                "the event is none of the law: {}",
-                FaultText(fault)
-            ),
+            StepFault::Refused(fault) => {
+                let cause = FaultText(fault);
+                write!(f, "the event is none of the law: {cause}")
+            }
             StepFault::TooLong => f.write_str("the history is too long"),
             StepFault::OutOfMemory => f.write_str("out of memory"),
         }
