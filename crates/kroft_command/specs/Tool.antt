@@ -1,5 +1,5 @@
 -- What the program is asked for, and how it ends.
-use Rattle.std.specs.Prelude.{◌≡◌, ℕ, ◌%◌, ◌≤◌, Bool, true, false, ◌==◌, ◌&&◌, nat_lt, if◌then◌else◌, min, Option, Some, None, is_some}
+use Rattle.std.specs.Prelude.{◌≡◌, ℕ, ◌%◌, ◌≤◌, Bool, true, false, ◌==◌, ◌&&◌, nat_lt, if◌then◌else◌, min, Option, Some, None, IfSome, is_some}
 use Rattle.std.specs.Prelude.{List, [], ◌∷◌, ◌++◌, take, codes, decimal}
 use Rattle.std.specs.Borrow.{Bor}
 use Rattle.std.specs.List.{AllByRecursion, list_any}
@@ -167,15 +167,19 @@ abbrev pub long_image_text : LongImage → List ℕ
 long_image_text image =
     codes "image: longer than memory: " ++ (decimal image.bytes ++ (codes " bytes, and memory has " ++ decimal image.memory))
 
--- The line of a fault, with its LF. What `clap` says of refused words ends its own line, and no contract says it.
+-- What is told of a fault. No contract says what `clap` tells of refused words.
+abbrev pub fault_text : ToolFault → Option (List ℕ)
+fault_text (CommandLine error) = None
+fault_text (Job fault) = Some (jobs.fault_text fault)
+fault_text (Machine fault) = Some (machine_fault_text fault)
+fault_text MachineUnreadable = Some (codes "machine: file not readable")
+fault_text (NoRoom fault) = Some (no_room_text fault)
+fault_text ImageUnreadable = Some (codes "image: file not readable")
+fault_text (TooLong image) = Some (long_image_text image)
+
+-- the line of a fault, with its LF; what `clap` tells ends its own line
 abbrev pub IsLineOf : ToolFault → List ℕ → Type 0
-IsLineOf (CommandLine error) text = Unit {0}
-IsLineOf (Job fault) text = text ≡ line (jobs.fault_text fault)
-IsLineOf (Machine fault) text = text ≡ line (machine_fault_text fault)
-IsLineOf MachineUnreadable text = text ≡ line (codes "machine: file not readable")
-IsLineOf (NoRoom fault) text = text ≡ line (no_room_text fault)
-IsLineOf ImageUnreadable text = text ≡ line (codes "image: file not readable")
-IsLineOf (TooLong image) text = text ≡ line (long_image_text image)
+IsLineOf fault text = IfSome (fault_text fault) (λ told. text ≡ line told)
 
 -- ---- what is told of a fault below
 
