@@ -40,17 +40,13 @@ crates_below() {
     }' crates.txt | LC_ALL=C sort
 }
 
-# source_folders CRATE: where the sources of a crate and of those below it lie, whether or not each is there.
-source_folders() {
-  crates_below "$1" | sed 's|.*|crates/&/src crates/&/specs crates/&/proofs|'
-}
-
-# find_sources CRATE WORDS..: finds the sources of a crate and of those below it. (What an editor leaves beside them is none.)
+# find_sources CRATE WORDS..: finds the sources of a crate and of those below it. (What an editor leaves beside them is none, and
+# definitions and proofs change no byte of a program.)
 find_sources() {
   crate=$1
   shift
-  # (unquoted: names without spaces; not each crate has each folder)
-  find $(source_folders "$crate") -type f \( -name '*.rt' -o -name '*.antt' \) "$@" 2>/dev/null || :
+  # (unquoted: names without spaces)
+  find $(crates_below "$crate" | sed 's|.*|crates/&/src|') -type f -name '*.rt' "$@" 2>/dev/null || :
 }
 
 # making_files CRATE: what else the bytes of a crate's files hang on.
@@ -136,6 +132,9 @@ glibc() { getconf GNU_LIBC_VERSION 2>/dev/null | sed -n 's/^glibc //p'; }
 # refuse_elsewhere: ends with one line if the programs can't run here.
 refuse_elsewhere() {
   needs="the program is for x86-64 Linux with glibc 2.34 or later"
+  for tool in uname getconf; do
+    command -v "$tool" >/dev/null 2>&1 || refuse 126 "$needs, and the command '$tool', which tells what this is, isn't on the PATH"
+  done
   [ "$(system)" = x86_64-linux ] || refuse 126 "$needs, and this is $(uname -s) on $(uname -m)"
   version=$(glibc)
   [ -n "$version" ] || refuse 126 "$needs, and the C library here isn't glibc"

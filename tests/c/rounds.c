@@ -1,5 +1,5 @@
 /* The machine in rounds, from C99 and from C++17, a list of requests and one round at a time. What is counted of a list is what
-   `./kroft drive --summary` writes of the same requests (tests/runs/drive, examples/README.md). */
+   `./kroft drive --summary` writes of the same requests (tests/runs/drive.runs, examples/README.md). */
 #include "check.h"
 #include "kroft.h"
 #include "words.h"

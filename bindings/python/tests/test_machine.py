@@ -122,7 +122,7 @@ class Machines(unittest.TestCase):
                     machine.bank_answers(bank)
 
     def test_rounds(self) -> None:
-        """As `./kroft drive --summary` counts them (examples/README.md, tests/runs/drive)."""
+        """As `./kroft drive --summary` counts them (examples/README.md, tests/runs/drive.runs)."""
         usual = Shape(2, 4, 4, 4, 64, 4, 4, 8, 8, 8)
         with Machine(usual) as machine:
             first: List[kroft.Request] = [Load(1, 0), Load(2, 4), Load(3, 8)]

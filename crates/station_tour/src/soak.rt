@@ -23,7 +23,7 @@ use std::rt::Clock;
 use std::thread::Threads;
 
 // So many stations pass between two lines that tell how far the soak is.
-const STEP: u32 = 100;
+const STEP: u32 = 10;
 
 /// What the stations of a soak came to.
 #[derive(Clone, Copy)]

@@ -24,8 +24,8 @@ const MANY_BLOCKS: u32 = 65_536;
 // The most asks of a port.
 const ASKS: u32 = 40;
 
-// Turns that are enough.
-const MANY_TURNS: u64 = 5_000_000;
+// Turns that are enough, also for one whose neighbours are without a processor for seconds.
+const MANY_TURNS: u64 = 1_000_000_000;
 
 // The most entries of a journal that is to become full, and the turns of such a trial.
 const SMALL_JOURNAL: u32 = 1_000;

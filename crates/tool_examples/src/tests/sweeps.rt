@@ -191,7 +191,7 @@ const LONG: u64 = 1_000_000_000;
 
 // A thread has as many turns as it is given: no fewer and no more.
 #[test]
-fn sweeps_on_threads(rt: HostRuntime) -> Result<(), Fail> {
+fn sweep_on_threads(rt: HostRuntime) -> Result<(), Fail> {
     let mut three_ways = with_registers(2);
     three_ways.ways = 3;
     let (one, second) = ([with_registers(1)], [with_registers(2)]);

@@ -352,14 +352,19 @@ fn answers_to(alloc: Global, input: &[u8]) -> Result<(u64, String), Fail> {
 }
 
 #[test]
-fn cut_input(rt: HostRuntime) -> Result<(), Fail> {
+fn cut_input_and_failing_writer(rt: HostRuntime) -> Result<(), Fail> {
+    cut_input(&rt, rt.alloc())?;
+    failing_writer(&rt, rt.alloc())
+}
+
+fn cut_input<R: Abort>(rt: &R, alloc: Global) -> Result<(), Fail> {
     for cut in 0..=STORED_INPUT.len() {
         let input = STORED_INPUT.as_bytes().get(..cut).ok_or("the first bytes")?;
-        let mut output = Vec::new(rt.alloc());
-        let ended = served_until_its_end(rt.alloc(), input, &mut output)?;
-        let (lines, answers) = answers_to(rt.alloc(), input)?;
+        let mut output = Vec::new(alloc);
+        let ended = served_until_its_end(alloc, input, &mut output)?;
+        let (lines, answers) = answers_to(alloc, input)?;
         same(
-            &rt,
+            rt,
             "what was written",
             output.as_slice(),
             answers.as_str().as_bytes(),
@@ -371,7 +376,7 @@ fn cut_input(rt: HostRuntime) -> Result<(), Fail> {
                 fault: LineFault::NotEnded,
             }),
         };
-        same(&rt, "the lines", ended, wanted);
+        same(rt, "the lines", ended, wanted);
     }
     Ok(())
 }
@@ -413,17 +418,16 @@ fn serves_until<R: Abort>(
 
 // The line whose text was refused has been applied, and no line behind it: with room for 20 bytes that is the
 // load of line 1, and with room for its LF too the store of line 2.
-#[test]
-fn failing_writer(rt: HostRuntime) -> Result<(), Fail> {
+fn failing_writer<R: Abort>(rt: &R, alloc: Global) -> Result<(), Fail> {
     for room in 0..STORED_OUTPUT.len() {
-        let code = code_behind(&rt, rt.alloc(), room)?;
+        let code = code_behind(rt, alloc, room)?;
         match room {
-            20 => same(&rt, "room for 20", code, Lanes::none()),
-            21 => same(&rt, "room for 21", code, Lanes::LANE_0),
+            20 => same(rt, "room for 20", code, Lanes::none()),
+            21 => same(rt, "room for 21", code, Lanes::LANE_0),
             _ => {}
         }
     }
-    serves_until(&rt, rt.alloc(), 0, false)?;
+    serves_until(rt, alloc, 0, false)?;
     Ok(())
 }
 

@@ -1,6 +1,0 @@
-"""Nothing is present, so each eviction is denied."""
-
-with open("stdin", "w") as given:
-    given.write("evict 0\n" * 100_000)
-with open("stdout", "w") as wanted:
-    wanted.write("evict 0 -> refused 11\n" * 100_000)

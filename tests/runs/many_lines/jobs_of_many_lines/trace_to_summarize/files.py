@@ -1,4 +1,0 @@
-"""Nothing is present, so each eviction is denied, in a round of its own."""
-
-with open("stdin", "w") as given:
-    given.write("evict 0\n" * 100_000)
