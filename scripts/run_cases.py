@@ -25,7 +25,7 @@ TOP = pathlib.Path(__file__).resolve().parent.parent
 RUNS = TOP / "tests/runs"
 HEADING = re.compile(r"(=+) (\S+)(?: \$ kroft((?: \S+)*?))?(?: \[(\d+)\])?")
 LINE = re.compile(r"(<|2?>|!>|[a-z][\w.]*:)(?:\*(\d+))?(?: (.*))?")
-ESCAPED = re.compile(rb"\\(?:x([0-9a-f]{2})|(n)|\\)")
+ESCAPED = re.compile(rb"\\(x[0-9a-f]{2}|n|\\|)")
 
 
 class Case:
@@ -50,9 +50,16 @@ class Case:
         return {it[:-1]: text for it, text in self.texts.items() if it.endswith(":")}
 
 
+def escaped_byte(found):
+    escape = found[1].decode()
+    if not escape:
+        raise ValueError("no such escape")
+    return bytes.fromhex(escape[1:]) if escape[0] == "x" else {"n": b"\n", "\\": b"\\"}[escape]
+
+
 def plain(text):
     """The bytes that a text with escapes stands for."""
-    return ESCAPED.sub(lambda it: bytes.fromhex(it[1].decode()) if it[1] else b"\n" if it[2] else b"\\", text.encode())
+    return ESCAPED.sub(escaped_byte, text.encode())
 
 
 def repeated(times, form):
