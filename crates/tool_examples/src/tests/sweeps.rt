@@ -8,10 +8,15 @@ use round_driver::Timing;
 use shape_files::{ToolShape, read_shape};
 use std::alloc::Global;
 use std::fmt::Display;
+use std::hint::spin_loop;
 use std::process::Abort;
 use std::sync::atomic::{AtomicBool, AtomicU64, Ordering};
 use std::test::Fail;
 use std::thread::Threads;
+
+/// How often the processor pauses behind an ask to which the gate says no. The thread that asks has a limit of turns, and the one
+/// that it waits for may have no processor for a while.
+const PAUSES: u32 = 64;
 
 /// When a gate lets the thread of a row go on.
 #[derive(Clone, Copy)]
@@ -62,6 +67,17 @@ impl Gate {
         }
     }
 
+    /// Whether the row at place 1 has ended. If it hasn't, the thread that asks takes its time.
+    fn has_second_ended(&self) -> bool {
+        let has_ended = self.second_ended.load(Ordering::SeqCst);
+        if !has_ended {
+            for _ in 0..PAUSES {
+                spin_loop();
+            }
+        }
+        has_ended
+    }
+
     /// How many asks there were, if one of them is to open the gate; how many rows saw the other one
     /// begin before they went on, if they wait for it.
     fn seen(&self) -> u64 {
@@ -78,7 +94,7 @@ impl SweepGate for Gate {
         let before = self.asks.fetch_add(1, Ordering::SeqCst);
         match self.opens {
             Opens::AtOnce => true,
-            Opens::SecondFirst => place != 0 || self.second_ended.load(Ordering::SeqCst),
+            Opens::SecondFirst => place != 0 || self.has_second_ended(),
             Opens::BothThere => {
                 self.meet(place);
                 true
@@ -186,8 +202,8 @@ fn swept<R: Abort + AllocGlobal + Threads + Sync>(
     text_of(alloc, sweep(rt, alloc, &REQUESTS, shapes, turns, gate))
 }
 
-/// More turns than a thread takes while another one has no processor.
-const LONG: u64 = 1_000_000_000;
+/// So many turns that a row whose gate waits for the other one doesn't come to its limit, unless that one never begins.
+const LONG: u64 = 5_000_000;
 
 // A thread has as many turns as it is given: no fewer and no more.
 #[test]
