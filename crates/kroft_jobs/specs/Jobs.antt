@@ -1,18 +1,13 @@
 -- What a job does, and how it ends.
 use Rattle.std.specs.Prelude.{ℕ, List, ◌++◌, map, codes, decimal}
-use Rattle.trace_text.specs.declared.check.CheckEnd.{CheckEnd}
+use Rattle.kroft_jobs.specs.Words.{CheckEnd, TraceFault, Sizes, ShapeFault, SweepFault, ShowFault}
 use Rattle.trace_text.specs.declared.check.CheckEnd.TheVariants.{Flat, Mismatch}
-use Rattle.trace_text.specs.declared.fault.TraceFault.{TraceFault}
 use Rattle.trace_text.specs.declared.fault.TraceFault.TheVariants as trace
-use Rattle.register_sweeps.specs.Words.{Sizes}
-use Rattle.shape_files.specs.declared.shape_file.ShapeFault.{ShapeFault}
 use Rattle.shape_files.specs.declared.shape_file.ShapeFault.TheVariants as shape
 use Rattle.shape_files.specs.ShapeFile.{fault_text as shape_text}
 use Rattle.trace_text.specs.Faults.{trace_fault_text}
-use Rattle.register_sweeps.specs.declared.sweeps.SweepFault.{SweepFault}
 use Rattle.register_sweeps.specs.declared.sweeps.SweepFault.TheVariants as sweep
 use Rattle.run_pictures.specs.Faults.{show_fault_text}
-use Rattle.run_pictures.specs.declared.show.ShowFault.{ShowFault}
 use Rattle.run_pictures.specs.declared.show.ShowFault.TheVariants as show
 use Rattle.kroft_jobs.specs.declared.fault.JobFault.{JobFault}
 use Rattle.kroft_jobs.specs.declared.fault.JobFault.TheVariants.{ShapeUnreadable, Shape, Trace, TooManyEvents, TurnLimit, OutOfMemory}
