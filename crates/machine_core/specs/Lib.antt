@@ -1,3 +1,4 @@
+pub mod Words
 pub mod Machine
 pub mod Pump
 pub mod Sound
@@ -6,7 +7,6 @@ pub mod Examples
 pub mod Whole
 pub mod AnyMachine
 -- the words of the cache and its parts, for what stands above
-pub use Rattle.cache_law.specs.Words
 pub use Rattle.cache_law.specs.State
 pub use Rattle.cache_law.specs.Causes
 pub use Rattle.cache_law.specs.Lookups
