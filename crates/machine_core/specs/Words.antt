@@ -1,4 +1,4 @@
--- The types of the machine's parts and their values, in one place for what stands above.
+-- The types of the machine and its parts, and their values, in one place: for the machine and for what stands above.
 
 -- of the model
 pub use Rattle.flat_model.specs.declared.Word.{Word}
@@ -12,7 +12,7 @@ pub use Rattle.flat_model.specs.declared.Cause.TheVariants.{OutOfRange, NoLanes,
 pub use Rattle.flat_model.specs.declared.Cause.TheVariants.{NoRegister, SetPending, QueueFull, BankFull, NotPresent, StackFull, StrayWord}
 
 -- of the parts
-pub use Rattle.cache_directory.specs.declared.Cell.{Cell}
+pub use Rattle.cache_law.specs.Cell.{Cell}
 pub use Rattle.miss_registers.specs.declared.TheConstants.{MAX_WAITING}
 pub use Rattle.miss_registers.specs.declared.RegisterView.{RegisterView}
 pub use Rattle.miss_registers.specs.declared.FieldView.{FieldView}
