@@ -23,6 +23,7 @@ ghost use Rattle.atomic_histories.specs.Told.{HaltIs, GoOn, IsToldOf};
 ghost use Rattle.atomic_histories.specs.Shown.{shown_unit};
 
 use crate::at_once::take_at;
+use crate::faults::FaultText;
 use crate::forms::{close, form_fault, open_under};
 use crate::kept::KeptUnit;
 use crate::may::unit_set;
@@ -35,6 +36,7 @@ use crate::units::{
 use memory_histories::{ByteSet, HistoryEvent, HistoryFault, Rest};
 use std::alloc::{AllocError, Global};
 use std::collections::HashMap;
+use thiserror::Error;
 
 /// To how many pairs of a word and the stores in effect ways are followed at a unit, unless the caller
 /// says otherwise.
@@ -70,7 +72,8 @@ impl UnitSize {
 
 /// Why an event was not taken, or what a load may return is not told. After each of these what is kept stands
 /// for the same histories as before.
-#[derive(Clone, Copy, PartialEq, Eq, Debug)]
+#[derive(Clone, Copy, PartialEq, Eq, Debug, Error)]
+#[error("{}", FaultText(self))]
 pub enum AtomicFault {
     /// The history with this event is none of the law. Where the question is what a load may return: none is
     /// open under the number.

@@ -8,8 +8,8 @@ pub use Rattle.flat_model.specs.declared.Event.TheVariants.{Load, Store, Prefetc
 pub use Rattle.flat_model.specs.declared.Answer.{Answer}
 pub use Rattle.flat_model.specs.declared.Answer.TheVariants.{Accepted, Moved, Value, Nothing, Refused}
 pub use Rattle.flat_model.specs.declared.Cause.{Cause}
-pub use Rattle.flat_model.specs.declared.Cause.TheVariants.{OutOfRange, NoLanes, TagInUse, RepliesFull, TargetsFull, BlockQueued, NoRegister}
-pub use Rattle.flat_model.specs.declared.Cause.TheVariants.{SetPending, QueueFull, BankFull, NotPresent, StackFull, StrayWord}
+pub use Rattle.flat_model.specs.declared.Cause.TheVariants.{OutOfRange, NoLanes, TagInUse, RepliesFull, TargetsFull, BlockQueued}
+pub use Rattle.flat_model.specs.declared.Cause.TheVariants.{NoRegister, SetPending, QueueFull, BankFull, NotPresent, StackFull, StrayWord}
 
 -- of the parts
 pub use Rattle.cache_directory.specs.declared.Cell.{Cell}
