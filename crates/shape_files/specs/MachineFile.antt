@@ -13,7 +13,7 @@ use Rattle.flat_model.specs.declared.ShapeField.TheVariants.{Depth}
 use Rattle.flat_model.specs.declared.limits.TheConstants.{MAX_BLOCK_WORDS, MAX_WAYS, MAX_REGS, MAX_DEPTH, MAX_WORDS, MAX_SETS, MAX_BANKS}
 use Rattle.flat_model.specs.declared.limits.TheConstants.{MAX_BANK_QUEUE, MAX_WRITE_QUEUE, MAX_REPLIES}
 use Rattle.flat_model.specs.Ranges.{is_between}
-use Rattle.cache_unit.specs.Words.{Sizes}
+use Rattle.cache_unit.specs.Sizes.{Sizes}
 use Rattle.cache_unit.specs.Limits as limits
 use Rattle.shape_files.specs.declared.shape_file.TheConstants.{DEFAULT_SHAPE}
 use Rattle.shape_files.specs.declared.machine_file.TheConstants.{MACHINE_FIELDS, MAX_TOLD_KEY}

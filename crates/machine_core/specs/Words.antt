@@ -1,4 +1,4 @@
--- The types of the machine's parts and their values, in one place for what stands above.
+-- The types of the machine and its parts, and their values, in one place: for the machine and for what stands above.
 
 -- of the model
 pub use Rattle.flat_model.specs.declared.Word.{Word}
@@ -10,9 +10,8 @@ pub use Rattle.flat_model.specs.declared.Answer.TheVariants.{Accepted, Moved, Va
 pub use Rattle.flat_model.specs.declared.Cause.{Cause}
 pub use Rattle.flat_model.specs.declared.Cause.TheVariants.{OutOfRange, NoLanes, TagInUse, RepliesFull, TargetsFull, BlockQueued}
 pub use Rattle.flat_model.specs.declared.Cause.TheVariants.{NoRegister, SetPending, QueueFull, BankFull, NotPresent, StackFull, StrayWord}
-
 -- of the parts
-pub use Rattle.cache_directory.specs.declared.Cell.{Cell}
+pub use Rattle.cache_law.specs.Cell.{Cell}
 pub use Rattle.miss_registers.specs.declared.TheConstants.{MAX_WAITING}
 pub use Rattle.miss_registers.specs.declared.RegisterView.{RegisterView}
 pub use Rattle.miss_registers.specs.declared.FieldView.{FieldView}
@@ -22,7 +21,6 @@ pub use Rattle.write_queue.specs.declared.Queued.{Queued}
 pub use Rattle.memory_banks.specs.declared.Command.{Command}
 pub use Rattle.memory_banks.specs.declared.Command.TheVariants.{Read, Write}
 pub use Rattle.memory_banks.specs.declared.BankAnswer.{BankAnswer}
-
 -- of the cache that they make
 pub use Rattle.cache_law.specs.declared.Sizes.{Sizes}
 pub use Rattle.cache_law.specs.declared.Request.{Request}
