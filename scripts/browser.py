@@ -204,7 +204,8 @@ class Browser:
     def scheme(self, name):
         self.call("Emulation.setEmulatedMedia", features=[{"name": "prefers-color-scheme", "value": name}])
 
-    def picture(self, file):
-        """Writes what the page looks like, as a PNG."""
+    def picture(self, file, width=1280, height=720):
+        """Writes what the upper left of the page looks like, as a PNG."""
+        clip = {"x": 0, "y": 0, "width": width, "height": height, "scale": 1}
         with open(file, "wb") as out:
-            out.write(base64.b64decode(self.call("Page.captureScreenshot", format="png")["data"]))
+            out.write(base64.b64decode(self.call("Page.captureScreenshot", format="png", clip=clip)["data"]))
