@@ -19,9 +19,6 @@ use machine_core::ShapedMachine;
 use std::alloc::Global;
 
 /// Makes one event.
-///
-/// 0: it was made, and `answer` is the machine's. 3: the handle is closed. 107: rounds are under way.
-/// 2: the row is no event. They are looked for in this order, and after each of them all is as it was.
 pub fn apply(alloc: Global, handle: &mut Handle, event: &EventRow, answer: &mut AnswerRow) -> u32
     ensures status { result ≡ apply_status (standing handle.old) (event_of event.now) }
     ensures answer { answer.new
@@ -60,11 +57,8 @@ fn apply_in(kept: &mut Kept, event: &EventRow, answer: &mut AnswerRow) -> u32
     }
 }
 
-/// Makes the driver's event: takes a ready reply, processes a word, has an answer arrive, serves a
-/// command or drains a word, the first of these that is possible.
-///
-/// 1: it was made, `event` says which it was, and `answer` is the machine's. 0: nothing is on its
-/// way. 3: the handle is closed. 107: rounds are under way. After 0, 3 and 107 all is as it was.
+/// Makes the driver's event: takes a ready reply, processes a word, has an answer arrive, serves a command or drains a word, the first of
+/// these that is possible.
 pub fn pump(alloc: Global, handle: &mut Handle, event: &mut EventRow, answer: &mut AnswerRow) -> u32
     ensures status { result ≡ pump_status (standing handle.old) }
     ensures event { event.new
@@ -115,7 +109,7 @@ fn pump_in(kept: &mut Kept, event: &mut EventRow, answer: &mut AnswerRow) -> u32
     }
 }
 
-/// What is on its way, weighed. 0: `weight` is it. 3: the handle is closed, and `weight` is as it was.
+/// What is on its way, weighed.
 #[tactic(auto, unfolding(machine_core::specs::AnyMachine::weight_of))]
 pub fn weight(alloc: Global, handle: &mut Handle, weight: &mut u64) -> u32
     ensures status { result ≡ told_status (behind handle.old) }
@@ -131,7 +125,7 @@ pub fn weight(alloc: Global, handle: &mut Handle, weight: &mut u64) -> u32
     DONE
 }
 
-/// Whether nothing is on its way to memory. 1: nothing is. 0: something is. 3: the handle is closed.
+/// Whether nothing is on its way to memory.
 #[tactic(auto, unfolding(machine_core::specs::AnyMachine::is_settled))]
 pub fn settled(alloc: Global, handle: &mut Handle) -> u32
     ensures status { result ≡ test_status (option_map is_settled (behind handle.old)) }
@@ -145,8 +139,7 @@ pub fn settled(alloc: Global, handle: &mut Handle) -> u32
     u32::from(settled)
 }
 
-/// The word of memory at `at`, as it stands in its bank. 1: `word` is it. 0: there is no such word.
-/// 3: the handle is closed. After 0 and 3 `word` is as it was.
+/// The word of memory at `at`, as it stands in its bank.
 #[tactic(auto, unfolding(machine_core::specs::AnyMachine::bank_shown))]
 pub fn bank_word(alloc: Global, handle: &mut Handle, at: u32, word: &mut Word) -> u32
     ensures status { result
@@ -169,8 +162,7 @@ pub fn bank_word(alloc: Global, handle: &mut Handle, at: u32, word: &mut Word) -
     }
 }
 
-/// What the register `slot` shows. 1: `row` is it. 0: there is no such register. 3: the handle is
-/// closed. After 0 and 3 `row` is as it was.
+/// What the register `slot` shows.
 #[tactic(auto, unfolding(machine_core::specs::AnyMachine::register_shown))]
 pub fn register(alloc: Global, handle: &mut Handle, slot: u32, row: &mut RegisterRow) -> u32
     ensures status { result
@@ -194,8 +186,7 @@ pub fn register(alloc: Global, handle: &mut Handle, slot: u32, row: &mut Registe
     }
 }
 
-/// What the register `slot` shows of word `i` of its block. 1: `row` is it. 0: there is no such
-/// register or word. 3: the handle is closed. After 0 and 3 `row` is as it was.
+/// What the register `slot` shows of word `i` of its block.
 #[tactic(auto, unfolding(machine_core::specs::AnyMachine::field_shown))]
 pub fn field(alloc: Global, handle: &mut Handle, slot: u32, i: u32, row: &mut FieldRow) -> u32
     ensures status { result
@@ -219,9 +210,7 @@ pub fn field(alloc: Global, handle: &mut Handle, slot: u32, i: u32, row: &mut Fi
     }
 }
 
-/// The load at `place` among those that wait for word `i` of the block of register `slot`, in the
-/// order in which they were accepted. 1: `row` is it. 0: there is none. 3: the handle is closed.
-/// After 0 and 3 `row` is as it was.
+/// The load at `place` among those that wait for word `i` of the block of register `slot`, in the order in which they were accepted.
 #[tactic(auto, unfolding(machine_core::specs::AnyMachine::target_shown))]
 pub fn target(
     alloc: Global,

@@ -2,7 +2,8 @@
 //!
 //! A [`Handle`] is a mark and a pointer. All zeros are a closed one. Every function is total: each
 //! number, each row and each length has an answer. Events, answers and what a machine shows go as
-//! rows of plain numbers, and what a call says is a number.
+//! rows of plain numbers, and what a call says is a number: `kroft.h` has each, in the order in which they are looked for. After a
+//! refusal all is as it was.
 #![tactic(auto)]
 
 mod calls;

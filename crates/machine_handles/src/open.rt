@@ -21,12 +21,6 @@ const NO_SUCH_MACHINE: u32 = 100;
 const OPEN_ALREADY: u32 = 102;
 
 /// Opens a machine over the words of an image, behind a closed handle.
-///
-/// 0: it stands behind the handle, and nothing has happened in it. 102: a machine is behind the
-/// handle already. 100: no machine has these ways, words a block, registers and places.
-/// 5 to 10 and 13: the number of the first member of the shape that is out of its range, 13 that the
-/// image hasn't as many words as memory. 101: there was too little memory. They are looked for in
-/// this order, and after each of them the handle is as it was, and no memory is kept.
 pub fn open_machine(alloc: Global, handle: &mut Handle, shape: &ShapeRow, image: &[Word]) -> u32
     ensures status { IsTold result
         (open_fault (behind handle.old) shape.now (length image.now)) }
@@ -40,8 +34,7 @@ pub fn open_machine(alloc: Global, handle: &mut Handle, shape: &ShapeRow, image:
     }
 }
 
-/// Gives the machine up, with its rounds and all its memory. 0: it is given up, and the handle is closed. 3: the
-/// handle was closed already.
+/// Gives the machine up, with its rounds and all its memory.
 pub fn free_machine(alloc: Global, handle: &mut Handle) -> u32
     ensures status { result ≡ told_status (standing handle.old) }
     ensures closed { standing handle.new ≡ None }

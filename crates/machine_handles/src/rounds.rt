@@ -58,8 +58,7 @@ pub struct CountsRow {
     pub lost_bank_full: u64,
     /// Loads that were answered.
     pub values: u64,
-    /// Rounds from each answered load's acceptance to its answer, in all, and 2^64 - 1 if they are
-    /// more.
+    /// Rounds from each answered load's acceptance to its answer, in all, and 2^64 - 1 if they are more.
     pub waited: u64,
     /// The most of these for one load.
     pub longest: u64,
@@ -100,20 +99,6 @@ impl From<AllocError> for RoundsFault {
 }
 
 /// Drives these requests through the machine in rounds until nothing is on its way, and counts.
-///
-/// A round makes, in this order: each bank, by number, begins a command if one waits that it hasn't
-/// begun and it isn't busy, and serves its first one if it began that `latency` rounds before; one
-/// answer arrives, from the next bank with one behind the bank that was last, if the input stack has
-/// room; the stack's first word is processed, the first reply taken and the write queue's front
-/// drained, each if possible; and the request at hand is asked once. If it was accepted, or refused
-/// with 1, 2 or 11, the next one follows; otherwise it is asked again in the next round. With `busy`
-/// below `latency` a bank begins a command each `busy` rounds at most (0 counts as 1) while others are on
-/// their way through it; otherwise it has one command at a time.
-///
-/// 0: `counts` is what was counted, the requests are used up and nothing is on its way. 3: the handle
-/// is closed. 107: rounds are under way. 105: `latency` is higher than 1,000. 104: there are more than 16,777,216 requests. 2: a
-/// row is no load, store, prefetch or eviction. 101: there was too little memory. They are looked for
-/// in this order, and after each of them all is as it was.
 pub fn drive(
     alloc: Global,
     handle: &mut Handle,

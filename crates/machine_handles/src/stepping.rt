@@ -23,13 +23,11 @@ use std::alloc::{AllocError, Global};
 pub struct RoundRow {
     /// Its number, counted from 1.
     pub round: u64,
-    /// What became of the request: 0 none was offered, 1 it was accepted, 2 the round is lost to it, so
-    /// that it has to be offered again, 3 it is denied, so that no round will change its answer.
+    /// What became of the request: 0 none was offered, 1 accepted, 2 the round is lost to it, 3 denied.
     pub outcome: u32,
     /// The number of the cause, if it was refused: 3 to 10 in a lost round, 1, 2 or 11 if it is denied.
     pub cause: u32,
-    /// What a load, a store or a prefetch found: 0 a hit, 1 a join, 2 a miss. 3 if nothing was looked
-    /// for: none was offered, it was an eviction, or memory has no such word.
+    /// What a load, a store or a prefetch found: 0 a hit, 1 a join, 2 a miss, 3 nothing was looked for.
     pub found: u32,
     /// 1 if a load was answered, else 0.
     pub answered: u32,
@@ -40,13 +38,6 @@ pub struct RoundRow {
 }
 
 /// Begins rounds in the machine behind the handle: the next one is round 1, and nothing is counted.
-/// Rounds that were begun before end. What is on its way in the machine stays on its way.
-///
-/// While rounds are under way they alone make the machine's events. `latency` and `busy` say how long
-/// a bank takes for a command, as for [`drive`](crate::drive).
-///
-/// 0: they are begun. 3: the handle is closed. 105: `latency` is higher than 1,000. 101: there was too
-/// little memory. They are looked for in this order, and after each of them all is as it was.
 pub fn begin_rounds(alloc: Global, handle: &mut Handle, latency: u32, busy: u32) -> u32
     ensures status { IsToldOfRounds result (begin_fault (standing handle.old) latency) }
     ensures begun { result ≡ 0
@@ -84,13 +75,7 @@ fn begin_in(alloc: Global, kept: &mut Kept, latency: u32, busy: u32) -> Result<(
     Ok(())
 }
 
-/// Makes one round, in which the first of these requests is offered, if there is one. It moves what a
-/// round of [`drive`](crate::drive) moves, and then asks the request once. The other requests are not
-/// looked at.
-///
-/// 0: it was made, and `row` is what is told of it. 3: the handle is closed. 106: no rounds were begun.
-/// 2: the first row is no load, store, prefetch or eviction. 104: 2^48 rounds were made. They are
-/// looked for in this order, and after each of them all is as it was. It takes no memory.
+/// Makes one round, in which the first of these requests is offered, if there is one.
 pub fn round(alloc: Global, handle: &mut Handle, requests: &[EventRow], row: &mut RoundRow) -> u32
     ensures status { result
         ≡ fault_status (round_fault (standing handle.old) requests.now) }
@@ -210,8 +195,7 @@ fn found_number(asked: Option<Note>) -> u32
     }
 }
 
-/// What was counted of the rounds that were made since they were begun. 0: `counts` is it. 3: the
-/// handle is closed. 106: no rounds were begun. After 3 and 106 `counts` is as it was.
+/// What was counted of the rounds that were made since they were begun.
 pub fn round_counts(alloc: Global, handle: &mut Handle, counts: &mut CountsRow) -> u32
     ensures status { result ≡ fault_status (absent (standing handle.old)) }
     ensures counts { counts.new ≡ unwrap_or (counts_in (standing handle.old)) counts.old }
@@ -241,9 +225,7 @@ fn counts_of(kept: &Kept) -> Option<CountsRow>
     }
 }
 
-/// Ends the rounds that were begun, and gives their memory back: from then on the caller makes the
-/// machine's events. The machine stays as it is. 0: they are ended. 3: the handle is closed. 106: no
-/// rounds were begun.
+/// Ends the rounds that were begun, and gives their memory back: from then on the caller makes the machine's events.
 pub fn end_rounds(alloc: Global, handle: &mut Handle) -> u32
     ensures status { result ≡ fault_status (absent (standing handle.old)) }
     ensures ended { standing handle.new ≡ ended (standing handle.old) }
