@@ -1,4 +1,4 @@
-//! Whether the word of an answer may come to stand in a unit, once more stores take effect.
+//! Whether an answer's word may come to stand in a unit.
 
 ghost use Rattle.std.specs.Prelude.{◌≡◌, ◌+◌, ◌<◌, ◌&&◌, not, get_or, None};
 ghost use Rattle.std.specs.List.{list_all, list_any, range_with_len};
@@ -8,7 +8,6 @@ ghost use Rattle.atomic_histories.specs.Branches.{gives, may_come_in};
 use crate::unit::{OpenStore, Word};
 use crate::words::{byte_for, is_as_it_stood};
 
-// Whether a store writes an answer's byte in a lane.
 fn gives(stored: Option<u8>, answer: Option<u8>) -> bool
     ensures { result ≡ gives stored answer }
 {
@@ -37,7 +36,6 @@ fn one_may_give(stores: &[OpenStore], lane: usize, answer: Option<u8>) -> bool
     stores.iter().any(|store| may_give(store, lane, answer))
 }
 
-// Whether an answer's byte stands in a lane, or may still be written there.
 fn may_come_in(word: &Word, stores: &[OpenStore], lane: usize, answer: Option<u8>) -> bool
     requires { lane < 8 }
     ensures { result ≡ may_come_in lane word.now stores.now answer }
@@ -45,7 +43,7 @@ fn may_come_in(word: &Word, stores: &[OpenStore], lane: usize, answer: Option<u8
     is_as_it_stood(word[lane], answer) || one_may_give(stores, lane, answer)
 }
 
-// Whether a lane may come to have its byte of an answer, in the unit that begins at `first`.
+// The same of a lane of the unit that begins at `first`.
 fn may_come_at(
     word: &Word,
     stores: &[OpenStore],
@@ -61,7 +59,7 @@ fn may_come_at(
     may_come_in(word, stores, lane, byte_for(from, bytes, address))
 }
 
-// Whether the word may come to be one of which these are the bytes from an address on.
+// The same of bytes from an address on.
 pub(crate) fn may_come(
     word: &Word,
     stores: &[OpenStore],
