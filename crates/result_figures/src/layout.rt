@@ -63,6 +63,7 @@ pub const NAMES_APART: u128 = 40;
 /// The table's head: the numbers of registers.
 pub const TABLE_HEAD: u128 = PLOT_BOTTOM + 44;
 
+/// Between two lines of the table.
 pub const TABLE_LINE: u128 = 44;
 
 /// Where the marks of the table lie.
@@ -92,6 +93,7 @@ pub const BARS_UPPER: u128 = 16;
 /// The first bar's middle.
 pub const BARS_TOP: u128 = 60;
 
+/// Between the middles of two bars.
 pub const BAR_LINE: u128 = 62;
 
 /// How high a bar is.

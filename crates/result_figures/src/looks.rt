@@ -4,6 +4,7 @@
 ghost use Rattle.std.specs.Prelude.{◌≡◌};
 ghost use Rattle.result_figures.specs.Looks as looks;
 
+/// Colours, and forms of marks.
 pub const LOOKS: usize = 8;
 
 /// The colour of a line, counted from 0; from the ninth on they come again.

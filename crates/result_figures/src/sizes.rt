@@ -5,6 +5,7 @@ ghost use Rattle.result_figures.specs.Sizes as sizes;
 
 use crate::layout::TEXT_SIZE;
 
+/// The powers of ten below 2^64.
 pub const TENS: [u64; 20] = [
     1,
     10,
