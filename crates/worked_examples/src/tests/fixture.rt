@@ -86,6 +86,7 @@ pub fn word(b0: u8, b1: u8, b2: u8, b3: u8) -> Word {
     Word { b0, b1, b2, b3 }
 }
 
+/// A word whose first byte is its number.
 pub fn numbered(b0: u8) -> Word {
     word(b0, 0, 0, 0)
 }

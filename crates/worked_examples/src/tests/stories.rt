@@ -49,6 +49,7 @@ struct Story {
     lines: &'static [&'static str],
 }
 
+/// The lines that make a block resident.
 pub const ARRIVED: &str = "serve 0 -> moved
 serve 0 -> moved
 serve 1 -> moved
@@ -640,6 +641,7 @@ take 0 -> value 1 11223344
     },
 ];
 
+/// Asks a line of a trace, and writes it with its answer.
 pub fn serve_line<M: AnyMachine>(
     alloc: Global,
     machine: &mut M,
