@@ -57,8 +57,7 @@ fn apply_in(kept: &mut Kept, event: &EventRow, answer: &mut AnswerRow) -> u32
     }
 }
 
-/// Makes the driver's event: takes a ready reply, processes a word, has an answer arrive, serves a command or drains a word, the first of
-/// these that is possible.
+/// Makes the first driver's event that is possible: a take, process, arrive, serve or drain.
 pub fn pump(alloc: Global, handle: &mut Handle, event: &mut EventRow, answer: &mut AnswerRow) -> u32
     ensures status { result ≡ pump_status (standing handle.old) }
     ensures event { event.new
@@ -75,7 +74,6 @@ pub fn pump(alloc: Global, handle: &mut Handle, event: &mut EventRow, answer: &m
     status
 }
 
-// Makes the driver's event, as the machine shows it.
 #[tactic(auto, unfolding(machine_core::specs::AnyMachine::answered, machine_core::specs::AnyMachine::after_event, machine_core::specs::AnyMachine::pump_tells, machine_core::specs::AnyMachine::pump_leaves))]
 fn pump_machine(machine: &mut ShapedMachine) -> Option<(Event, Answer)>
     ensures told { result ≡ pump_tells machine.old }
@@ -84,7 +82,6 @@ fn pump_machine(machine: &mut ShapedMachine) -> Option<(Event, Answer)>
     machine.pump()
 }
 
-// Makes the driver's event, unless rounds make them.
 fn pump_in(kept: &mut Kept, event: &mut EventRow, answer: &mut AnswerRow) -> u32
     ensures status { result ≡ pump_status (Some (standing_of kept.old)) }
     ensures event { event.new
@@ -186,7 +183,7 @@ pub fn register(alloc: Global, handle: &mut Handle, slot: u32, row: &mut Registe
     }
 }
 
-/// What the register `slot` shows of word `i` of its block.
+/// Word `i` of a register's block.
 #[tactic(auto, unfolding(machine_core::specs::AnyMachine::field_shown))]
 pub fn field(alloc: Global, handle: &mut Handle, slot: u32, i: u32, row: &mut FieldRow) -> u32
     ensures status { result
@@ -210,7 +207,7 @@ pub fn field(alloc: Global, handle: &mut Handle, slot: u32, i: u32, row: &mut Fi
     }
 }
 
-/// The load at `place` among those that wait for word `i` of the block of register `slot`, in the order in which they were accepted.
+/// The load at `place` of those that wait for a register's word `i`, oldest first.
 #[tactic(auto, unfolding(machine_core::specs::AnyMachine::target_shown))]
 pub fn target(
     alloc: Global,

@@ -14,13 +14,12 @@ use crate::views::ShapeRow;
 use flat_model::{ShapeField, Word};
 use std::alloc::Global;
 
-/// There is no machine of these first four numbers.
 const NO_SUCH_MACHINE: u32 = 100;
 
 /// A machine is behind the handle already.
 const OPEN_ALREADY: u32 = 102;
 
-/// Opens a machine over the words of an image, behind a closed handle.
+/// Opens a machine over an image, behind a closed handle.
 pub fn open_machine(alloc: Global, handle: &mut Handle, shape: &ShapeRow, image: &[Word]) -> u32
     ensures status { IsTold result
         (open_fault (behind handle.old) shape.now (length image.now)) }
@@ -34,7 +33,7 @@ pub fn open_machine(alloc: Global, handle: &mut Handle, shape: &ShapeRow, image:
     }
 }
 
-/// Gives the machine up, with its rounds and all its memory.
+/// Gives the machine up, with its rounds.
 pub fn free_machine(alloc: Global, handle: &mut Handle) -> u32
     ensures status { result ≡ told_status (standing handle.old) }
     ensures closed { standing handle.new ≡ None }
@@ -71,7 +70,6 @@ fn open_into(
     Ok(())
 }
 
-// A machine without rounds, in memory of its own.
 fn boxed(alloc: Global, shape: &ShapeRow, image: &[Word]) -> Result<Box<Kept, Global>, OpenFault>
     ensures ok { IfOk result
         (λ b. alone (made.opened (sizes_of shape.now) image.now) ≡ standing_of b.value) }

@@ -1,4 +1,4 @@
-//! The calls that show the parts of a machine behind a handle.
+//! Calls that show a machine's parts.
 ghost use Rattle.std.specs.Prelude.{◌≡◌, Some};
 ghost use Rattle.std.specs.Option.{option_map};
 ghost use Rattle.machine_handles.specs.Behind.{standing, behind};
@@ -46,7 +46,7 @@ pub fn frame(alloc: Global, handle: &mut Handle, frame: u32, row: &mut FrameRow)
     tell(found, row)
 }
 
-/// Word `i` of the block that a frame holds.
+/// Word `i` of a frame's block.
 pub fn frame_word(
     alloc: Global,
     handle: &mut Handle,
@@ -69,7 +69,7 @@ pub fn frame_word(
     tell(found, row)
 }
 
-/// The word at `place` of the input stack, the one that came first at 0.
+/// The stack's word at `place`, the oldest at 0.
 pub fn stack_entry(alloc: Global, handle: &mut Handle, place: u32, row: &mut ArrivalRow) -> u32
     ensures status { result
         ≡ found_status (option_map (λ m. parts.stack_shown m place) (behind handle.old)) }
@@ -86,7 +86,7 @@ pub fn stack_entry(alloc: Global, handle: &mut Handle, place: u32, row: &mut Arr
     tell(found, row)
 }
 
-/// The word at `place` of the write queue, the one that is drained next at 0.
+/// The queue's word at `place`, the next one at 0.
 pub fn queue_entry(alloc: Global, handle: &mut Handle, place: u32, row: &mut QueuedRow) -> u32
     ensures status { result
         ≡ found_status (option_map (λ m. parts.queue_shown m place) (behind handle.old)) }
@@ -103,7 +103,7 @@ pub fn queue_entry(alloc: Global, handle: &mut Handle, place: u32, row: &mut Que
     tell(found, row)
 }
 
-/// The command at `place` among those that wait at a bank, the one that is served next at 0.
+/// A bank's command at `place`, the next one at 0.
 pub fn bank_command(
     alloc: Global,
     handle: &mut Handle,
@@ -126,7 +126,7 @@ pub fn bank_command(
     tell(found, row)
 }
 
-/// The answer at `place` of a bank, the oldest one at 0: an arrival with this place brings it.
+/// A bank's answer at `place`, the oldest at 0. An arrival with this place brings it.
 pub fn bank_answer(
     alloc: Global,
     handle: &mut Handle,
@@ -149,7 +149,7 @@ pub fn bank_answer(
     tell(found, row)
 }
 
-/// The answer that a take at `place` would get: the value that stands ready there, the first one at 0.
+/// What a take at `place` would be answered.
 pub fn reply(alloc: Global, handle: &mut Handle, place: u32, row: &mut AnswerRow) -> u32
     ensures status { result
         ≡ found_status (option_map (λ m. parts.reply_shown m place) (behind handle.old)) }
@@ -166,7 +166,7 @@ pub fn reply(alloc: Global, handle: &mut Handle, place: u32, row: &mut AnswerRow
     tell(found, row)
 }
 
-/// What a request for the word at `at` would find now.
+/// What a request for this word would find.
 pub fn find(alloc: Global, handle: &mut Handle, at: u32, lookup: &mut u32) -> u32
     ensures status { result
         ≡ found_status (option_map (λ m. parts.lookup_shown m at) (behind handle.old)) }
