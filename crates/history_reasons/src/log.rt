@@ -265,7 +265,7 @@ impl StoreLog {
         self.kept_sources(alloc, load, byte)
     }
 
-    /// The same by the flat law: the last store to the byte that was requested before the load, or
+    /// The same by the flat law: the last store to the byte that was requested before the load, if it wrote it, or
     /// memory before the first.
     pub fn sources_at_request(
         &self,

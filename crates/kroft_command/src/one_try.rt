@@ -1,4 +1,3 @@
-
 ghost use Rattle.std.specs.Prelude.{◌≡◌, ◌<◌, true, false, [], length, take, IsErr, IfOk, IfErr, OnOk, OnErr};
 ghost use Rattle.std.specs.IoError.{error_kind};
 ghost use Rattle.std.specs.Io.{WritesAtMost};

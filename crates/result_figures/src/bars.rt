@@ -119,6 +119,7 @@ impl fmt::Display for Bar {
     }
 }
 
+// A cause, its bar's width, and where its number begins.
 #[derive(Clone, Copy)]
 struct LossLine {
     loss: Loss,
@@ -200,6 +201,7 @@ impl fmt::Display for BarTick {
     }
 }
 
+// A grid line at a place, and its number's size.
 #[derive(Clone, Copy)]
 struct BarGrid(u128, u128);
 
@@ -230,6 +232,7 @@ fn write_ticks<W: fmt::Write>(
     Ok(())
 }
 
+// The axis's grid and numbers, up to the largest value.
 #[derive(Clone, Copy)]
 struct BarTicks(u64);
 
@@ -321,6 +324,7 @@ impl fmt::Display for Counts {
     }
 }
 
+// The figure, once its losses and the most of them are known.
 #[derive(Clone, Copy)]
 struct Drawn<'a> {
     most: u64,

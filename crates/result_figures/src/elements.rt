@@ -36,7 +36,7 @@ impl fmt::Display for Size {
     }
 }
 
-/// A text that begins here.
+/// The beginning of a text: its left end, its level and its size.
 #[derive(Clone, Copy)]
 pub(crate) struct TextAt(pub(crate) u128, pub(crate) u128, pub(crate) u128);
 
@@ -50,7 +50,7 @@ impl fmt::Display for TextAt {
     }
 }
 
-/// A text whose middle is here.
+/// The same by its middle.
 #[derive(Clone, Copy)]
 pub(crate) struct MiddleAt(pub(crate) u128, pub(crate) u128, pub(crate) u128);
 
@@ -68,7 +68,7 @@ impl fmt::Display for MiddleAt {
     }
 }
 
-/// A text that ends here.
+/// The same by its right end.
 #[derive(Clone, Copy)]
 pub(crate) struct EndAt(pub(crate) u128, pub(crate) u128, pub(crate) u128);
 

@@ -83,6 +83,7 @@ impl<'a> fmt::Display for Rounds<'a> {
     }
 }
 
+// From a line's end, at this height, to its name.
 #[derive(Clone, Copy)]
 struct Tie {
     end: u128,
@@ -187,6 +188,7 @@ impl fmt::Display for LineNames {
     }
 }
 
+// A latency's line, marks, names and rounds.
 #[derive(Clone, Copy)]
 struct Latency<'a> {
     most: u64,
@@ -253,6 +255,7 @@ impl fmt::Display for Tick {
     }
 }
 
+// A grid line's height, and its number's size.
 #[derive(Clone, Copy)]
 struct Grid(u128, u128);
 
@@ -283,6 +286,7 @@ fn write_ticks<W: fmt::Write>(
     Ok(())
 }
 
+// The axis's grid and numbers, up to the largest value.
 #[derive(Clone, Copy)]
 struct Ticks(u64);
 
@@ -411,6 +415,7 @@ fn first_rows<'a>(lines: &[SweepLine<'a>]) -> &'a [RoundsRow]
     }
 }
 
+// The figure, once its most rounds, height and registers are known.
 #[derive(Clone, Copy)]
 struct Drawn<'a> {
     most: u64,

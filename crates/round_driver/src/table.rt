@@ -64,7 +64,7 @@ pub struct LostRounds {
 }
 
 impl LostRounds {
-    // Counts a lost round, if the cause passes.
+    // Counts a lost round, and says whether the cause passes.
     fn count(&mut self, cause: Cause) -> bool
         requires { tables.lost_total self.old < 2 ^ 63 }
         ensures passes { result ≡ passes cause }

@@ -1,4 +1,3 @@
-
 ghost use Rattle.std.specs.Prelude.{◌≡◌};
 ghost use Rattle.trace_text.specs.Texts.{after_line, bank_text, settled_text};
 ghost use Rattle.trace_sheets.specs.Sheets.{accepted_text as text_of_accepted};

@@ -73,8 +73,8 @@ fn may_return<R: Abort>(rt: &R, memory: &RegularMemory, number: u64, wanted: &[u
     }
 }
 
-/// A load that overlaps a store sees it; a later overlapping one doesn't. Behind the answer no load
-/// may see what was there.
+/// A load that overlaps a store sees it; a later overlapping one doesn't. Once the store is
+/// answered, no load may see what was there before.
 #[test]
 fn new_then_old(rt: HostRuntime) -> Result<(), Fail> {
     let mut memory = RegularMemory::new(rt.alloc(), &[], Rest::Zeros)?;

@@ -102,7 +102,7 @@ const EMPTY_TABLE: Table = Table {
 
 const TABLES: &[Rounds] = &[
     // Latency 0: the load is accepted in round 1, the four banks serve in round 2, and words come
-    // in rounds 2 to 5.
+    // in rounds 2 to 5. Nothing moves in round 6.
     Rounds {
         name: "a_load_without_latency",
         latency: 0,
@@ -122,7 +122,7 @@ const TABLES: &[Rounds] = &[
     // Latency 2, one register: word 0 is asked in round 1, begun in 2, served in 4. Its words come
     // in rounds 4 to 7, so it waits 3 rounds. Word 1 joins in round 2 and waits for round 5. Word 4
     // is asked from round 3, finds the register free in round 7, and comes in round 10. An address
-    // outside is denied in round 8. The last word comes in round 13.
+    // outside is denied in round 8. The last word comes in round 13, and nothing moves in round 14.
     Rounds {
         name: "a_table_of_four_requests",
         latency: 2,
@@ -151,9 +151,9 @@ const TABLES: &[Rounds] = &[
         },
         shown: "rounds 14 accepted 3 denied 1 hits 0 joins 1 misses 2 stalled 1 lost 3:0 4:0 5:0 7:4 8:0 9:0 10:0 values 3 mean 3.00 longest 3 registers 1 written 0",
     },
-    // A drain is no request, and never ends: it is asked in (1 + 1) * (44 + 1) rounds. A register
-    // of four words weighs 16 at most, four replies 4, four queued words 8, four banks of four
-    // commands 16.
+    // A drain is no request, and never ends: it is asked in (1 + 1) * (44 + 1) rounds, and the
+    // count adds the one in which nothing moves. A register of four words weighs 16 at most, four
+    // replies 4, four queued words 8, four banks of four commands 16.
     Rounds {
         name: "a_drain_is_asked_to_the_last_round",
         latency: 0,
