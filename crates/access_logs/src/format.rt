@@ -117,6 +117,7 @@ fn said_as(
     }
 }
 
+// Whether it is valgrind's own line.
 fn is_remark(text: &[u8]) -> bool
     ensures { result ≡ is_remark_text text.now }
 {

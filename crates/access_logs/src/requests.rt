@@ -15,6 +15,7 @@ use trace_text::{Failed, LineText, Sink, write_whole};
 /// How many tags there are.
 const TAGS: u64 = u16::MAX as u64 + 1;
 
+/// The tag so many loads on.
 pub(crate) fn tag_behind(tag: u16, loads: u64) -> u16
     requires { loads ≤ MAX_TOUCHED }
     ensures { result ≡ tag_behind tag loads }
@@ -92,6 +93,7 @@ fn write_stores<W: Sink>(
     Ok(())
 }
 
+/// The next load's tag behind an access.
 pub(crate) fn tag_after(tag: u16, access: Access) -> u16
     requires { IsWithin access }
     ensures { result ≡ next_tag tag access }

@@ -97,6 +97,7 @@ fn add_part(
     }
 }
 
+// The ways on which a load may have its answer.
 fn pairs_got(
     alloc: Global,
     unit: UnitPlace,
@@ -118,6 +119,7 @@ fn pairs_got(
     Ok(parts)
 }
 
+// Those on which it hasn't, and may still come to it.
 fn pairs_missed(
     alloc: Global,
     unit: UnitPlace,
@@ -272,6 +274,7 @@ fn answer_store(alloc: Global, kept: &mut KeptUnit, number: u64, limit: usize) -
     Ok(())
 }
 
+// An event comes. After an error nothing is known of the unit.
 fn follow(
     alloc: Global,
     unit: UnitPlace,

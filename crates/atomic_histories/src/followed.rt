@@ -96,6 +96,7 @@ impl Followed {
         Ok(followed)
     }
 
+    // Keeps marks, once there are so many pairs.
     fn note_many(&mut self) -> Result<(), AllocError>
         ensures pairs { OnOk result (self.new.pairs ≡ self.old.pairs) }
         ensures followed { OnOk result (IsFollowed self.new) }
@@ -130,6 +131,7 @@ impl Followed {
         }
     }
 
+    // Joins a pair's ways to the same one's.
     #[tactic(auto, using(crate::proofs::Merges::merged_in))]
     fn merge_at(
         &mut self,

@@ -43,6 +43,7 @@ pub(crate) fn close(operations: &mut Vec<Operation>, number: u64)
     operations.retain(|operation| !has_number(operation, number));
 }
 
+// Why so many bytes aren't the load's answer.
 fn answer_fault(load: Option<Operation>, length: usize) -> Option<HistoryFault>
     ensures { result ≡ answer_fault load length }
 {

@@ -8,6 +8,7 @@ ghost use Rattle.atomic_histories.specs.Branches.{gives, may_come_in};
 use crate::unit::{OpenStore, Word};
 use crate::words::{byte_for, is_as_it_stood};
 
+// Whether a store writes an answer's byte in a lane.
 fn gives(stored: Option<u8>, answer: Option<u8>) -> bool
     ensures { result ≡ gives stored answer }
 {
@@ -36,6 +37,7 @@ fn one_may_give(stores: &[OpenStore], lane: usize, answer: Option<u8>) -> bool
     stores.iter().any(|store| may_give(store, lane, answer))
 }
 
+// Whether an answer's byte stands in a lane, or may be written there.
 fn may_come_in(word: &Word, stores: &[OpenStore], lane: usize, answer: Option<u8>) -> bool
     requires { lane < 8 }
     ensures { result ≡ may_come_in lane word.now stores.now answer }

@@ -39,6 +39,7 @@ pub struct KeptUnit {
     pub(crate) room: usize,
 }
 
+// Whether a word was overwritten at a moment or later.
 fn is_late(stretch: &Stretch, since: u64) -> bool
     ensures { result ≡ is_late since stretch.now }
 {
@@ -59,10 +60,12 @@ fn are_late(stretches: &[Stretch], since: u64) -> bool
     stretches.iter().all(|stretch| is_late(stretch, since))
 }
 
+// The most stretches if so many are in use.
 fn room_for(count: usize) -> usize {
     count.saturating_mul(2).saturating_add(SPARE)
 }
 
+// The pairs, with references to moved stretches.
 fn moved_pairs(
     alloc: Global,
     moved: &Moved,
@@ -95,6 +98,7 @@ fn move_pairs(moved: &Moved, pairs: &mut [FollowedPair])
     }
 }
 
+// No load may ask for what stood there before.
 fn drop_pasts(pairs: &mut [FollowedPair])
     ensures { pairs.new ≡ map (λ (p : FollowedPair). record { word = p.word; stores = p.stores; past = Nothing }) pairs.old }
 {
@@ -114,6 +118,7 @@ fn reserve_stores(pairs: &mut [FollowedPair]) -> Result<(), AllocError>
     Ok(())
 }
 
+// A store is open, whatever way was gone.
 fn open_store(pairs: &mut [FollowedPair], number: u64, bytes: Word)
     requires { All (λ (p : FollowedPair). vec_len p.stores < vec_capacity p.stores) pairs.old }
     ensures { (ss : List Stretch) → shown_all ss pairs.new ≡ map (pair_with_store number bytes) (shown_all ss pairs.old) }
@@ -232,6 +237,7 @@ impl KeptUnit {
         Ok(())
     }
 
+    // What the first load alone may ask for goes.
     fn leave_past(&mut self, alloc: Global, number: u64) -> Result<(), AllocError>
         ensures ok { OnOk result
             (shown_unit self.new

@@ -355,6 +355,7 @@ impl AtomicMemory {
         Ok(())
     }
 
+    // The event's units take it; which operations are open changes later.
     fn take_units(&mut self, event: HistoryEvent) -> Result<(), AtomicFault>
         requires { form_fault (held self.old).opened event ≡ None }
         ensures ok { OnOk result (AreTaken (held self.old) event.entry (held self.new)) }
@@ -382,6 +383,7 @@ impl AtomicMemory {
         self.stores.reserve(1)
     }
 
+    // The event's one unit takes it without a search, if it can.
     #[tactic(auto, using(crate::proofs::AtOnce::number_fits, crate::proofs::Ranges::sized))]
     fn takes_at_once(&mut self, event: HistoryEvent) -> Result<bool, AllocError>
         ensures ok { IfOk result (λ taken. AreTakenOrSame (held self.old) event.entry (held self.new) taken) }
@@ -459,6 +461,7 @@ impl AtomicMemory {
         form_fault(self.loads.as_slice(), self.stores.as_slice(), event)
     }
 
+    // The first address of an event's operation, and its length.
     fn covered(&self, event: HistoryEvent) -> (u64, usize)
         ensures { result ≡ covered (held self.now).opened event.entry }
     {

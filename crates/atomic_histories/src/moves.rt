@@ -12,6 +12,7 @@ use crate::pairs::FollowedPair;
 use crate::stretches::{Before, Stretch, merge, overwrite, push};
 use std::alloc::{AllocError, Global};
 
+/// Copied stretches, and where each old one went.
 #[derive(Drop)]
 pub(crate) struct Moved {
     pub(crate) stretches: Vec<Stretch>,
@@ -43,6 +44,7 @@ impl Moved {
         }
     }
 
+    // A stretch with its references moved.
     fn moved(&self, stretch: &Stretch) -> Stretch
         ensures { result ≡ moved_stretch self.now stretch.now }
     {
@@ -146,6 +148,7 @@ fn mark(used: &mut [bool], end: usize, before: Before)
     }
 }
 
+// Marks what the stretch at a place refers to.
 fn mark_of(used: &mut [bool], place: usize, stretch: &Stretch)
     requires { place ≤ length used.old }
     ensures marked { RefersToUsed used.new place stretch.now }

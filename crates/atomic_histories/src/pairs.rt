@@ -192,6 +192,7 @@ impl FollowedPair {
         }
     }
 
+    /// Whether the ways may still come to what is wanted.
     pub(crate) fn hopes(&self, wanted: Wanted) -> bool
         ensures { (ss : List Stretch) → result ≡ (aim_of wanted.entry).hope (shown ss self.now) }
     {

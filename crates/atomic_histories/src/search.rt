@@ -280,6 +280,7 @@ fn copied(alloc: Global, pairs: &[FollowedPair]) -> Result<Vec<FollowedPair>, Al
     Ok(same)
 }
 
+// The pairs that stores lead to in one round.
 fn reach(
     alloc: Global,
     stretches: &mut Vec<Stretch>,

@@ -20,6 +20,7 @@ pub(crate) struct Split {
     missed: Vec<Option<Before>>,
 }
 
+/// Whether a load may have its answer from a word overwritten at a moment.
 pub(crate) fn is_answer(
     unit: UnitPlace,
     load: &WatchedLoad,
@@ -151,6 +152,7 @@ impl Split {
         Ok(())
     }
 
+    // A stretch's shares, once those before it are known.
     fn add(
         &mut self,
         stretches: &mut Vec<Stretch>,

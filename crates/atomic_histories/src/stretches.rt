@@ -51,6 +51,7 @@ pub(crate) fn push(stretches: &mut Vec<Stretch>, stretch: Stretch) -> Result<Bef
     Ok(Before::Behind(place))
 }
 
+/// A word is overwritten, with this past.
 pub(crate) fn overwrite(
     stretches: &mut Vec<Stretch>,
     word: Word,

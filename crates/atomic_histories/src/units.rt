@@ -18,6 +18,7 @@ use memory_histories::{HistoryEvent, HistoryFault, Rest};
 use std::alloc::{AllocError, Global};
 use std::collections::HashMap;
 
+// The first address of an open operation, and its length.
 fn bytes_of_open(operation: Option<Operation>) -> (u64, usize)
     ensures { result ≡ bytes_of_open operation }
 {
@@ -27,6 +28,7 @@ fn bytes_of_open(operation: Option<Operation>) -> (u64, usize)
     }
 }
 
+/// The same of an event's operation.
 pub(crate) fn covered(
     loads: &[Operation],
     stores: &[Operation],
@@ -110,6 +112,7 @@ pub(crate) fn changed_unit(
     Ok(after)
 }
 
+/// Keeps these units, the first under this number.
 #[tactic(auto, using(crate::proofs::Ranges::put_last))]
 pub(crate) fn put_units(units: &mut HashMap<u64, KeptUnit>, from: u64, changes: Vec<KeptUnit>)
     requires room { length changes.items ≤ spare units.old }

@@ -39,6 +39,7 @@ fn initial_byte(image: &[u8], rest: Rest, address: u128) -> Option<u8>
     first_byte(byte_at(image, address), rest)
 }
 
+/// The byte for an address, in bytes from another address on.
 pub(crate) fn byte_for(from: u64, bytes: &[u8], address: u128) -> Option<u8>
     ensures { result ≡ byte_for from bytes.now address }
 {
@@ -190,6 +191,7 @@ pub(crate) fn has_byte(word: Word) -> bool
     word.iter().any(|byte| byte.is_some())
 }
 
+/// Whether an operation of so many bytes has one in the unit.
 pub(crate) fn is_at(unit: UnitPlace, address: u64, length: usize) -> bool
     ensures { result ≡ is_at unit address length }
 {
@@ -219,6 +221,7 @@ pub(crate) fn write(word: &mut [Option<u8>], bytes: &[Option<u8>])
     }
 }
 
+/// Whether an answer gives a byte as it stood there.
 pub(crate) fn is_as_it_stood(byte: Option<u8>, answer: Option<u8>) -> bool
     ensures { result ≡ is_as_it_stood byte answer }
 {

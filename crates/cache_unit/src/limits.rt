@@ -73,6 +73,7 @@ pub fn sizes_of<const WAYS: usize, const WORDS: usize, const REGS: usize, const 
     }
 }
 
+// The first other number out of its range.
 fn bad_number(most: u32, sizes: &Sizes) -> Option<ShapeField>
     requires some { 1 ≤ sizes.now.block_words }
     requires few { sizes.now.block_words ≤ MAX_BLOCK_WORDS }

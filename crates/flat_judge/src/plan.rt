@@ -56,6 +56,7 @@ impl Plan {
             && u64::from(self.blocks) * u64::from(self.block_bytes) - 1 <= u64::MAX - self.base
     }
 
+    // Whether the widest access cuts a block evenly.
     #[tactic(auto, unfolding(crate::specs::Plan::has_widths))]
     fn has_widths(&self) -> bool
         ensures test { result ≡ has_widths self.now }

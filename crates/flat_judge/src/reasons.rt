@@ -66,6 +66,7 @@ pub fn flat_why(
     number(reason)
 }
 
+// Why there is no step to judge, if so.
 fn why(words: &[Word], due: &[Due], event: &EventRow, answer: &AnswerRow) -> Option<Reason>
     ensures { result
         ≡ why_step words.now due.now (event_of event.now) (answer_of answer.now) }
@@ -82,6 +83,7 @@ fn why(words: &[Word], due: &[Due], event: &EventRow, answer: &AnswerRow) -> Opt
     why_not(words, due, event, answer)
 }
 
+// Why the answer isn't flat memory's, if so.
 fn why_not(words: &[Word], due: &[Due], event: Event, answer: Answer) -> Option<Reason>
     ensures { result ≡ why_pair (flat words.now due.now) event answer }
 {

@@ -76,6 +76,7 @@ pub(crate) fn add_givers(
     Ok(())
 }
 
+// Whether a store may give the load this byte.
 fn gives(stores: &[StoreByte], load: &LoadByte, byte: u8, store: &StoreByte) -> bool
     ensures { result ≡ gives stores.now load.now byte store.now }
 {
@@ -101,6 +102,7 @@ pub(crate) fn at_request(
     Ok(taken)
 }
 
+// A store as if it were answered at its request.
 fn taken_at_once(store: StoreByte) -> StoreByte
     ensures { result ≡ taken_at_once store }
 {

@@ -84,6 +84,7 @@ fn is_allowed(image: &[u8], rest: Rest, stores: &[StoreByte], load: &LoadByte, b
     may_return(image, rest, stores, load, byte)
 }
 
+// The last store that put this byte here.
 fn last_with(stores: &[StoreByte], address: u64, byte: u8) -> Option<StoreByte>
     ensures { result ≡ last_that (stores_byte address byte) stores.now }
 {
@@ -94,6 +95,7 @@ fn last_with(stores: &[StoreByte], address: u64, byte: u8) -> Option<StoreByte>
         .find(|store| store.address == address && store.byte == byte)
 }
 
+// The last that overwrote this one before the moment.
 fn last_overwriting(stores: &[StoreByte], store: &StoreByte, moment: u64) -> Option<StoreByte>
     ensures { result ≡ last_that (overwrites store.now moment) stores.now }
 {
@@ -103,6 +105,7 @@ fn last_overwriting(stores: &[StoreByte], store: &StoreByte, moment: u64) -> Opt
     })
 }
 
+// The last store to the byte answered before the load's request.
 fn last_covering(stores: &[StoreByte], load: &LoadByte) -> Option<StoreByte>
     ensures { result ≡ last_that (covers load.now) stores.now }
 {

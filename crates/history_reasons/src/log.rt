@@ -105,6 +105,7 @@ impl StoreLog {
         self.count();
     }
 
+    // Forgets the first bytes of stores, if there are too many.
     #[inline(always)]
     fn forget(&mut self)
         ensures { IsShortened self.old self.new }
@@ -329,12 +330,14 @@ impl StoreLog {
     }
 }
 
+// A reason by the stores that are left.
 fn part_reason(stores: &[KeptStore], load: &LoadByte, byte: u8) -> Option<Reason>
     ensures { result ≡ part_reason (stored_there load.now.address stores.now) load.now byte }
 {
     of_store(reason_there(&[], Rest::Unknown, stores, load, byte))
 }
 
+// A reason that names who stored the byte.
 fn of_store(reason: Option<Reason>) -> Option<Reason>
     ensures { result ≡ of_store reason }
 {
@@ -346,6 +349,7 @@ fn of_store(reason: Option<Reason>) -> Option<Reason>
     }
 }
 
+// How many of so many bytes are forgotten.
 fn forgotten(length: usize) -> usize
     ensures { result ≡ forgotten length }
 {

@@ -33,6 +33,7 @@ pub(crate) fn end_at(stores: &mut [KeptStore], places: &[StorePlace], number: u6
     }
 }
 
+// Answers the store at a place, if it is open under this number.
 #[tactic(auto, using(crate::proofs::Found::put_there, crate::proofs::Found::put_past))]
 fn end_from(stores: &mut [KeptStore], place: StorePlace, number: u64, moment: u64)
     ensures { stores.new ≡ ended_from place number moment stores.old }
@@ -48,6 +49,7 @@ pub(crate) fn end_place(places: &mut Vec<StorePlace>, number: u64)
     places.retain(|place| !is_place_of(place, number));
 }
 
+/// So many stores in front are forgotten.
 pub(crate) fn move_down(places: &mut [StorePlace], count: usize)
     ensures { places.new ≡ map (moved_down count) places.old }
 {

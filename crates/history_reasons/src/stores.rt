@@ -93,6 +93,7 @@ fn enabled_byte(bytes: &[u8], enables: u64, place: usize) -> Option<u8>
     }
 }
 
+// A store's byte at a place, if it is enabled.
 fn lane(store: &KeptStore, place: usize) -> Option<u8>
     ensures { result ≡ get_or (all_lanes store.now) place None }
 {
@@ -140,6 +141,7 @@ pub(crate) fn enabled_count(length: usize, enables: u64) -> usize
     first_bits(length, enables).count_ones() as usize
 }
 
+// So many first bits, and zeros above them.
 #[tactic(auto, using(crate::proofs::StoreLemmas::first_ones, crate::proofs::StoreLemmas::all_ones))]
 fn first_bits(length: usize, enables: u64) -> u64
     requires { length ≤ 64 }
@@ -204,6 +206,7 @@ pub(crate) fn gone_stores(stores: &[KeptStore], count: usize) -> (usize, usize)
     (stores.len(), left)
 }
 
+/// The first store loses its first bytes.
 pub(crate) fn cut(stores: &mut [KeptStore], count: usize)
     ensures { stores.new ≡ cut count stores.old }
 {

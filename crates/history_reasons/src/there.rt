@@ -57,6 +57,7 @@ fn is_allowed(image: &[u8], rest: Rest, stores: &[KeptStore], load: &LoadByte, b
         || (is_initial(image, rest, load.address, byte) && !is_covered(stores, load))
 }
 
+// Whether the load may return it as what a store left.
 fn is_left(stores: &[KeptStore], load: &LoadByte, byte: u8) -> bool
     ensures { result ≡ is_left (stored_there load.now.address stores.now) load.now byte }
 {

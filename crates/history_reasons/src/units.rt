@@ -38,6 +38,7 @@ impl StoreLog {
         self.reason_from(number, address, part, place)
     }
 
+    // The first of these bytes with a reason.
     fn reason_from(
         &self,
         number: u64,

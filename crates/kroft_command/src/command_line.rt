@@ -64,6 +64,7 @@ impl Timings {
         &self.all[..self.given.min(MOST_LATENCIES)]
     }
 
+    // Whether a bank would begin commands more rarely than it serves them.
     fn are_too_busy(&self) -> bool
         ensures { result ≡ list_any is_too_busy (timings_in self.now) }
     {
@@ -689,6 +690,7 @@ fn machine_named<'a>(shape: Option<&'a str>, machine: Option<&'a str>) -> Machin
     }
 }
 
+// The task, if it can be done.
 fn allowed<'a>(
     alloc: Global,
     subcommand: Subcommand,
@@ -722,6 +724,7 @@ fn matches_of<'a>(
     program(alloc, takes_file)?.try_get_matches_from(words)
 }
 
+// What is written of a file's name.
 fn file_refusal(alloc: Global, subcommand: Subcommand, file: &str) -> Result<Error, AllocError> {
     let input = subcommand.input();
     let why = format!(in alloc;

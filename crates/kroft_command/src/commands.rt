@@ -73,6 +73,7 @@ impl Subcommand {
         }
     }
 
+    // Its name in a usage line.
     fn full_name(self) -> &'static str {
         match self {
             Subcommand::Run => "kroft run",
@@ -113,6 +114,7 @@ impl Subcommand {
         }
     }
 
+    // In help's order.
     fn options(self) -> &'static [CommandOption] {
         match self {
             Subcommand::Run => &RUN,
@@ -189,6 +191,7 @@ fn command_of<'a>(
     )
 }
 
+/// The command as its refusals show it.
 pub(crate) fn shown<'a>(alloc: Global, subcommand: Subcommand) -> Result<Command<'a>, AllocError> {
     let command = command_of(alloc, subcommand, false)?;
     Ok(command.name(subcommand.full_name()))

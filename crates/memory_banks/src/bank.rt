@@ -51,6 +51,7 @@ impl Model for MemoryBank {
 
 #[tactic(auto, unfolding(crate::specs::Banks::served, crate::specs::Banks::with_command))]
 impl MemoryBank {
+    /// Bank `bank` of `banks`, with its share of the image.
     pub(crate) fn new(
         alloc: Global,
         image: &[Word],

@@ -35,6 +35,7 @@ pub(crate) fn parts_in(units: &HashMap<u64, KeptUnit>, unit: u64) -> &[StorePart
     }
 }
 
+// Drops what these parts have overwritten.
 fn drop_overwritten(parts: &mut Vec<StorePart>, unit: u64, ending: &[StorePart])
     ensures few { vec_len parts.new ≤ vec_len parts.old }
     ensures room { vec_capacity parts.new ≡ vec_capacity parts.old }
@@ -60,6 +61,7 @@ fn clear_overwritten(parts: &mut [StorePart], unit: u64, ending: &[StorePart])
     }
 }
 
+// Drops what this part has overwritten.
 fn drop_under(parts: &mut Vec<StorePart>, part: &StorePart)
     ensures few { vec_len parts.new ≤ vec_len parts.old }
     ensures room { vec_capacity parts.new ≡ vec_capacity parts.old }
@@ -86,6 +88,7 @@ fn answered_part(part: StorePart, moment: u64) -> StorePart
     }
 }
 
+// Adds those parts that lie in the unit.
 fn add_joined(
     parts: &mut Vec<StorePart>,
     unit: u64,
@@ -102,6 +105,7 @@ fn add_joined(
     Ok(())
 }
 
+// A unit once the store with these parts is answered.
 #[tactic(auto, using(crate::proofs::Pieces::after_parts))]
 fn after_answer(
     alloc: Global,

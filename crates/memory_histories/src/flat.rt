@@ -271,6 +271,7 @@ fn wrong_place(loads: &[OwedByte], number: u64, bytes: &[u8]) -> Option<usize>
         .position(|(load, byte)| !is_paid_by(load.owed, *byte))
 }
 
+// Whether a load that is owed this may return a byte.
 fn is_paid_by(owed: Owed, byte: u8) -> bool
     ensures { result ≡ is_paid_by owed byte }
 {

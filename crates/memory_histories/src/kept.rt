@@ -51,6 +51,7 @@ fn initial_at(image: &[u8], rest: Rest, address: u64) -> ByteSet
     initial_set(image.get(address as usize).copied(), rest)
 }
 
+// Whether a part of an answered store has a byte here.
 #[tactic(auto, using(crate::proofs::Pieces::any_there))]
 fn is_covered(answered: &[StorePart], address: u64) -> bool
     ensures { result ≡ is_covered_by (parts_bytes answered.now) address }
@@ -184,6 +185,7 @@ fn fill_first(set: &mut ByteSet, memory: (&[u8], Rest), answered: &[StorePart], 
     }
 }
 
+// Makes a set what memory had at first.
 #[inline(never)]
 fn put_initial(set: &mut ByteSet, memory: (&[u8], Rest), address: u64)
     ensures { set.new ≡ initial_set (slice_get memory.entry.0.now address) memory.entry.1 }
@@ -286,6 +288,7 @@ fn add_pieces(
     }
 }
 
+// A requested load, without open stores.
 fn settled_load(
     sets: Vec<ByteSet>,
     memory: (&[u8], Rest, &HashMap<u64, KeptUnit>),

@@ -155,6 +155,7 @@ fn wrong_in(load: &OpenLoad, number: u64, bytes: &[u8]) -> Option<usize>
     }
 }
 
+// The bytes behind those of a load, if it is open under this number.
 fn behind<'a>(load: &OpenLoad, number: u64, bytes: &'a [u8]) -> &'a [u8]
     ensures { result.now ≡ behind number load.now bytes.entry.now }
 {
@@ -179,6 +180,7 @@ fn wrong_place(loads: &[OpenLoad], number: u64, bytes: &[u8]) -> Option<usize>
     None
 }
 
+// Adds a byte, if it is one.
 fn add_known(set: &mut ByteSet, lane: Option<u8>)
     ensures { set.new ≡ with_known set.old lane }
 {
@@ -252,6 +254,7 @@ fn show_near(sets: &mut [ByteSet], address: u64, part: &StorePart)
     }
 }
 
+// The sets once these parts are seen.
 fn show_seen(sets: &mut [ByteSet], address: u64, parts: &[StorePart])
     ensures { sets.new ≡ all_shown_sets parts.now address sets.old }
 {

@@ -102,6 +102,7 @@ fn is_whole(unit: u64, from: u64, length: usize) -> bool
     from == 8 * unit && length == 8
 }
 
+/// A store's part in a unit, before it has a byte.
 pub(crate) fn empty_part(number: u64, unit: u64, moment: u64) -> StorePart
     ensures { result ≡ empty_part number unit moment }
 {

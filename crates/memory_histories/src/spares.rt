@@ -35,6 +35,7 @@ fn emptied(sets: Vec<ByteSet>) -> Vec<ByteSet>
     sets
 }
 
+// New room, also for the spares to come.
 #[inline(never)]
 fn new_room(
     alloc: Global,

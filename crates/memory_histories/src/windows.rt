@@ -75,6 +75,7 @@ pub fn is_overwritten(stores: &[StoreByte], store: &StoreByte, moment: u64) -> b
     })
 }
 
+// Whether a load may return this byte as what a store left.
 fn is_left(stores: &[StoreByte], load: &LoadByte, byte: u8) -> bool
     ensures { result ≡ is_left stores.now load.now byte }
 {

@@ -46,6 +46,7 @@ pub(crate) fn may_make_room(told: Option<(Event, Answer)>) -> bool
     }
 }
 
+// Whether an event changes no frame, register or queue place.
 #[inline(always)]
 fn leaves_room(event: Event) -> bool
     ensures { result ≡ room.leaves_room event }

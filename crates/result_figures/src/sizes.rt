@@ -29,6 +29,7 @@ pub const TENS: [u64; 20] = [
     10_000_000_000_000_000_000,
 ];
 
+// How many powers of ten don't exceed a number.
 fn reached(tens: &[u64], n: u64) -> u64
     ensures reached { result ≡ sizes.reached tens.now n }
 {

@@ -165,6 +165,7 @@ fn name_size(latency: u64) -> u128
     size_for(8 + u128::from(digits(latency)), NAME_ROOM)
 }
 
+// A latency's name, behind its line's end and in the table.
 #[derive(Clone, Copy)]
 struct LineNames {
     latency: u64,

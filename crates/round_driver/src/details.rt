@@ -170,6 +170,7 @@ impl TagRounds {
     }
 }
 
+/// What is counted of notes, and what a load's wait takes.
 #[derive(Drop)]
 pub(crate) struct Told {
     pub(crate) kinds: ByKind,

@@ -59,6 +59,7 @@ pub(crate) fn round<'a>(
     }
 }
 
+/// Whether requests are used up, and nothing is on its way.
 #[tactic(auto, unfolding(machine_core::specs::AnyMachine::weight_of))]
 pub(crate) fn is_over(machine: &ShapedMachine, left: &[Event]) -> bool
     ensures { result ≡ rounds.is_over_at machine.now left.now }

@@ -41,6 +41,7 @@ impl InFlight {
         self.begun.len() as u32
     }
 
+    /// When the next command to be served was begun.
     pub(crate) fn first(&self) -> Option<u64>
         ensures { result ≡ slice_get self.now 0 }
     {

@@ -51,6 +51,7 @@ pub(crate) fn most_moves(machine: &ShapedMachine) -> u64
     most_moves_for(machine.sizes())
 }
 
+// The same of numbers in their ranges.
 fn most_moves_for(sizes: &Sizes) -> u64
     requires { InRange sizes.now }
     ensures value { result ≡ most_moves sizes.now }

@@ -20,6 +20,7 @@ pub(crate) const MOST_NOTES: usize = MAX_BANKS as usize + 5;
 
 pub(crate) type Notes = ArrayVec<Note, MOST_NOTES>;
 
+// Whether something was done.
 fn is_done(answer: Answer) -> bool
     ensures { result ≡ rounds.is_done answer }
 {
@@ -201,6 +202,7 @@ pub(crate) fn ask(
     is_end(answer)
 }
 
+/// What a round moves before it asks.
 #[tactic(auto, unfolding(crate::specs::Rounds::moves))]
 pub(crate) fn moves(machine: &mut ShapedMachine, schedule: &mut Schedule, notes: &mut Notes)
     requires banks { machine.old.sizes.banks ≤ MAX_BANKS }

@@ -72,6 +72,7 @@ impl Schedule {
         }
     }
 
+    /// A bank has served its first command.
     pub(crate) fn end(&mut self, bank: u32)
         requires bank { bank < MAX_BANKS }
         requires due { IsTrue (rounds.is_due self.old bank) }

@@ -269,6 +269,7 @@ fn next_request(random: &mut Pcg32, number: u64) -> Ask
     ask_by(pick, tag, pick / 8 % WORDS, word, BLOCK_WORDS as u32)
 }
 
+// The requests, dealt out to the ports in turn.
 fn share(alloc: Global, requests: &[Ask], plan: &Plan) -> Result<Vec<Vec<Ask>>, AllocError>
     ensures number { IfOk result (λ scripts. vec_len scripts ≡ plan.now.ports) }
     ensures each { IfOk result (λ scripts. (port : ℕ) → port < plan.now.ports

@@ -8,6 +8,7 @@ use std::rt::Files;
 use std::test::Fail;
 use std::thread::Threads;
 
+// Fails at its first call, and would end at the next.
 #[derive(Drop)]
 struct FailsOnce {
     calls: usize,

@@ -179,6 +179,7 @@ fn swept<R: Abort + AllocGlobal + Threads + Sync>(
     text_of(alloc, sweep(rt, alloc, &REQUESTS, shapes, turns, gate))
 }
 
+// More turns than a thread takes while another has no processor.
 const LONG: u64 = 1_000_000_000;
 
 // A thread has exactly as many turns as given.

@@ -11,6 +11,7 @@ use trace_text::serve_text;
 /// What a reader gave behind `<`, what a writer took behind `>`, `!` for a flush.
 type Log = RefCell<Vec<u8>>;
 
+// Notes a piece. Without the log the stream fails.
 fn note(log: &Log, mark: u8, bytes: &[u8]) -> io::Result<()> {
     let Ok(mut log) = log.try_borrow_mut() else {
         return Err(io::Error::from(io::ErrorKind::Other));
@@ -42,6 +43,7 @@ impl Read for NotedReader<'_> {
     }
 }
 
+// Takes at most 16 bytes in each write.
 #[derive(Drop)]
 struct NotedWriter<'a> {
     log: &'a Log,

@@ -48,6 +48,7 @@ const READ_7: Option<Command> = Some(Command::Read {
     place: 3,
 });
 
+// Words 9 and 11 lie in bank 1.
 const READ_9: Option<Command> = Some(Command::Read {
     slot: 0,
     i: 1,

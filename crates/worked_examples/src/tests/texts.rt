@@ -425,6 +425,7 @@ fn failing_writer<R: Abort>(rt: &R, alloc: Global) -> Result<(), Fail> {
     Ok(())
 }
 
+// Word 1's stored lanes behind a failing writer.
 fn code_behind<R: Abort>(rt: &R, alloc: Global, room: usize) -> Result<Lanes, Fail> {
     let machine = serves_until(rt, alloc, room, true)?;
     let field = machine.field(0, 1).ok_or("a word's field")?;
