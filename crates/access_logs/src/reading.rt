@@ -261,9 +261,9 @@ fn read_through<R: Source, F: LogFormat>(
 /// Reads a log: the requests that [`write_requests`](crate::write_requests) writes over as many
 /// words, in groups by access.
 ///
-/// Its faults but `Write` may come: for the first faulty line, or the first without room.
-/// `TooManyLines` also says that there are more than 16,777,216 requests. A fault gives none; the
-/// reader may have been read beyond it. `OutOfMemory` may replace any answer.
+/// The faults are that call's, without `Write`: the first faulty line, or the first without room.
+/// `TooManyLines` also says that there are more than 16,777,216 requests. A fault returns no
+/// request; the reader may have been read beyond it. `OutOfMemory` may replace any answer.
 ///
 /// 4,096 bytes are allocated before the first read, and more for what is returned.
 pub fn read_log<R: Source, F: LogFormat>(

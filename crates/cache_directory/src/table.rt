@@ -20,8 +20,8 @@ const MAX_FRAMES: usize = MAX_SETS as usize * MAX_WAYS;
 /// Frames: `ways` (1 to 16) a set, `words` (1 to 16) a frame. The table keeps neither number: calls
 /// are given the same ones.
 ///
-/// Frames are numbered set by set, from 0; block `b` may lie in set `b % sets`. A frame that is
-/// given exists, and so does a word of it.
+/// Frames are numbered set by set, from 0; block `b` may lie only in set `b % sets`. A frame that
+/// is given exists, and so does a word of it.
 #[derive(Drop)]
 pub struct FrameTable {
     ways: Vec<Way>,

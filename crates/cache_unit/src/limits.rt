@@ -11,8 +11,8 @@ use flat_model::{
     Shape, ShapeField,
 };
 
-/// The first number out of its range: words of a block (1 to 16), ways (1 to 16), registers (1 to
-/// 64), places of the stack (1 to 64), then words, sets, banks, queues, replies.
+/// The first number out of its range. Words of a block are 1 to 16, ways 1 to 16, registers 1 to
+/// 64, places of the stack 1 to 64. Then come words, sets, banks, queues and replies.
 pub fn bad_size(sizes: &Sizes) -> Option<ShapeField>
     ensures { result ≡ limits.bad_size sizes.now }
 {

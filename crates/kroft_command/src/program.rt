@@ -27,11 +27,14 @@ use std::rt::Files;
 use std::thread::Threads;
 use trace_text::{Sink, Source};
 
-/// Does what the words ask for, and returns the status: 0 done; 1 a run that isn't flat, a history
-/// against its law, a wrong prediction, or something open that mustn't be; 2 words refused; 3 a
-/// fault of the shape or machine file; 4 a fault of the input or image, no room for a log's page,
-/// or a failed read or write; 5 want of memory, or a sweep's turn limit; 6 no verdict on a history.
-/// A fault is a line on `errors`; so is, first of all, that a check doesn't read a run to its end.
+/// Does what the words ask for, and returns the status.
+///
+/// 0: done. 1: a run that isn't flat, a history against its law, a wrong prediction, or something
+/// open that mustn't be. 2: words refused. 3: a fault of the shape or machine file. 4: a fault of
+/// the input or image, no room for a log's page, or a failed read or write. 5: want of memory, or a
+/// sweep's turn limit. 6: no verdict on a history.
+///
+/// A fault is a line on `errors`. So is, first of all, that a check doesn't read a run to its end.
 pub fn tool<R: AllocGlobal + Files + Threads + Sync, I: Source, O: Sink, E: Sink>(
     rt: &R,
     words: &[&str],

@@ -110,11 +110,7 @@ impl<const WAYS: usize, const WORDS: usize, const REGS: usize, const DEPTH: usiz
         self.machine.run(alloc, events)
     }
 
-    /// What is on its way, weighed by the pumps that it may take: from 0 to `4 * regs * block_words
-    /// + replies + 2 * write_queue + banks * bank_queue`.
-    ///
-    /// After as many pumps it is 0. Then each load, prefetch and store with a lane inside memory is
-    /// accepted, and an eviction is accepted or refused with 1 or 11.
+    /// What is on its way, as [`ShapedMachine::weight`].
     pub fn weight(&self) -> u64
         ensures value { result ≡ driver.weight self.now.machine }
         ensures within { result ≤ most_weight self.now.sizes }
@@ -124,10 +120,7 @@ impl<const WAYS: usize, const WORDS: usize, const REGS: usize, const DEPTH: usiz
         self.machine.weight()
     }
 
-    /// Makes the first of these events that is possible, and returns it with its answer: the first
-    /// reply is taken; the stack's first word is processed; the lowest bank with an answer has it
-    /// arrive; the lowest bank with a command serves it; the write queue's front is drained.
-    /// `None`: the weight is 0.
+    /// As [`ShapedMachine::pump`]: makes the first possible event. `None`: the weight is 0.
     pub fn pump(&mut self) -> Option<(Event, Answer)>
         ensures event { result
             ≡ option_map (with_answer self.old.sizes self.old.machine)

@@ -126,10 +126,9 @@ impl ShapedMachine {
             + weight_of_registers(&self.unit)
     }
 
-    /// Makes the first of these events that is possible, and returns it with its answer: the first
-    /// reply is taken; the stack's first word is processed; the lowest bank with an answer has it
-    /// arrive; the lowest bank with a command serves it; the write queue's front is drained.
-    /// `None`: the weight is 0.
+    /// Makes the first possible event, and returns it with its answer. The order: take the first
+    /// reply, process the stack's first word, arrive from the lowest bank with an answer, serve the
+    /// lowest one with a command, drain. `None`: the weight is 0.
     pub fn pump(&mut self) -> Option<(Event, Answer)>
         ensures event { result
             ≡ option_map (with_answer self.old.sizes self.old.machine)

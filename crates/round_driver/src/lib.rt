@@ -3,10 +3,10 @@
 //! [`drive`] writes a run, [`summarize`] and [`detail_with`] count it; their caller has all
 //! requests at hand. [`Rounds`] makes one round at a time for a caller who hasn't.
 //!
-//! A round does, in this order: each bank, by number, begins a waiting command if it isn't busy,
-//! and serves its oldest one begun `latency` rounds before; an answer arrives from the next bank
-//! that has one, if the stack has room; the stack's first word is processed, the first reply taken
-//! and the write queue's front drained; the request at hand is asked once. If it is accepted, or
+//! A round makes these steps. Each bank, by number, begins a waiting command if it isn't busy, and
+//! serves its oldest one begun `latency` rounds before. An answer arrives from the next bank that
+//! has one, if the stack has room. The stack's first word is processed, the first reply taken, the
+//! write queue's front drained. At last the request at hand is asked once. If it is accepted, or
 //! refused with 1, 2 or 11, the next one follows; otherwise it is asked again. A run ends once the
 //! requests are used up and nothing is on its way.
 //!

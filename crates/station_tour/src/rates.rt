@@ -55,8 +55,8 @@ const SERVERS: [Server; 12] = [
     },
 ];
 
-// Journal entries for a request: one makes five or six with refused offers. So small a journal is
-// memory that was had before; the system clears the largest one page by page at each run.
+// Journal entries for a request: one makes five or six with refused offers. So small a journal
+// reuses the last station's memory; the system clears a large one page by page at each run.
 const ENTRIES_A_REQUEST: usize = 8;
 
 /// Who serves the requests.

@@ -91,8 +91,8 @@ impl Course {
     }
 }
 
-/// Runs the ports, and tells of it. The findings are the last segment's: the first where an audit
-/// isn't clean, the journal isn't flat, or a port's list isn't the journal's part of it; or else
+/// Runs the ports, and tells of it. The findings are the last segment's. It is the first where an
+/// audit isn't clean, the journal isn't flat, or a port's list isn't the journal's part of it; else
 /// the one that leaves no ask. A plan without an ask has none.
 pub(crate) fn tour<R: AllocGlobal + Clock + Threads + Sync, S: Write, J: Write, E: Write>(
     rt: &R,

@@ -69,8 +69,8 @@ fn ask_one(
     Err(StationFault::TurnLimit)
 }
 
-// Makes the first possible step, in the order of the core's driver: a value is told and taken, the
-// stack's word is processed, a bank's word comes, a bank serves, a queued word is drained.
+// Makes the first possible step, as the core's driver: tells and takes a value, processes a word,
+// brings one, serves a command, drains a word.
 fn move_on(cache: &mut Cache, port: &mut Port, banks: &mut [BankSide]) -> bool {
     if cache.step(Source::Reply(0)) == Stepped::Did {
         let _value = port.take();
