@@ -13,7 +13,7 @@ const CAUSES = [
   ['stack', 'processing', '--stack'],
   ['ready', 'being taken', '--ready'],
   ['refused 3', 'its tag', '--refused'],
-  ['refused 4', 'room for a value', '--refused'],
+  ['refused 4', 'a place for its reply', '--refused'],
   ['refused 5', 'a place at the word', '--refused'],
   ['refused 7', 'a register', '--refused'],
   ['refused 8', 'a way', '--refused'],

@@ -39,5 +39,6 @@ def edits_of(path, head, keys, top):
         elif colon and key in keys and edits:
             edits[-1].lines.append((number, key, text))
         else:
-            raise SystemExit(f"{name}:{number}: " + (f"{text} stands there twice" if key == head else f"no block has a line {line!r} there"))
+            fault = f"{text} stands there twice" if key == head else f"no block has a line {line!r} there"
+            raise SystemExit(f"{name}:{number}: {fault}")
     return edits

@@ -1,5 +1,6 @@
-"""Verdicts on wrong bodies, kept on this machine by the checksum of all that they were made from: the edit, the sources of its crate
-and of those below it, the built libraries of these, their lines of crates.txt, the scripts that try it, and the kit."""
+"""Verdicts on wrong bodies, kept on this machine by the checksum of all that they were made from. Of a body that the prover refuses:
+the edit, the sources of its crate and of those below it, the built libraries of these, their lines of crates.txt, the scripts that
+try it, and the kit."""
 
 import contextlib
 import functools
@@ -20,51 +21,25 @@ MOST = 10_000
 LEFT_OVER = 86_400
 
 
-def store():
-    """The folder in which verdicts are kept, if the user has one for such files."""
+def user_cache():
+    """The folder of the user's own for what can be made again, if there is one."""
     named = os.environ.get("XDG_CACHE_HOME", "")
     with contextlib.suppress(RuntimeError):
-        cache = pathlib.Path(named) if os.path.isabs(named) else pathlib.Path.home() / ".cache"
-        return cache / "kroft/wrong_bodies"
+        return pathlib.Path(named) if os.path.isabs(named) else pathlib.Path.home() / ".cache"
     return None
 
 
-@functools.lru_cache(maxsize=None)
-def of_the_tools():
-    """What the kit says that it is, and the scripts that try a body."""
-    said = subprocess.run(["rt", "version"], capture_output=True, check=True).stdout
-    return repr([said, *((HERE / it).read_bytes() for it in TRYING)]).encode()
+class Store:
+    """A folder of verdicts in the user's cache, each by the checksum of all that it was made from."""
 
+    def __init__(self, name):
+        cache = user_cache()
+        self.at = cache and cache / "kroft" / name
 
-class Verdicts:
-    """The kept verdicts of one crate's bodies."""
-
-    def __init__(self, crates, crate):
-        self.crates, self.crate, self.at = crates, crate, store()
-        self.sum = self.sum_now()
-
-    def sum_now(self):
-        """The checksum of what a verdict stands on, beside the edit."""
-        found = hashlib.sha256(of_the_tools())
-        for crate in [self.crate, *sorted(self.crates.below(self.crate), key=lambda it: it.name)]:
-            found.update(repr((crate.name, crate.kind, crate.uses)).encode())
-            files = [it for part in ("src", "specs", "proofs") for it in (crate.folder / part).rglob("*") if it.is_file()]
-            # (a library that isn't of these sources is another one: its format has the sums of all its files)
-            files += [it for it in [crate.rlib / "format"] if crate is not self.crate and it.is_file()]
-            for file in sorted(files):
-                data = file.read_bytes()
-                found.update(f"{file.relative_to(crate.folder).as_posix()} {len(data)}\n".encode())
-                found.update(data)
-        return found.hexdigest()
-
-    def name(self, edit):
-        return hashlib.sha256(repr((self.sum, edit.says())).encode()).hexdigest()
-
-    def kept(self, edit, kinds):
-        """The verdict on this edit, if one of these kinds is kept, and its reason. It counts as used now."""
+    def kept(self, name, kinds):
+        """The verdict of this name, if one of these kinds is kept, and its reason. It counts as used now."""
         if self.at is None:
             return None
-        name = self.name(edit)
         with contextlib.suppress(OSError, ValueError, KeyError, TypeError):
             found = json.loads((self.at / name).read_text(encoding="utf-8"))
             if found["name"] == name and found["kind"] in kinds and isinstance(found["why"], str):
@@ -73,15 +48,15 @@ class Verdicts:
         return None
 
     def keep(self, verdicts):
-        """Keeps these: of each an edit, the kind and the reason. None, if a source was changed meanwhile."""
-        if self.at is None or not verdicts or self.sum_now() != self.sum:
+        """Keeps these, each a name, a kind and a reason. (What can't be written, on a full disk say, isn't kept.)"""
+        if self.at is None or not verdicts:
             return
         with contextlib.suppress(OSError):
             self.at.mkdir(parents=True, exist_ok=True)
-            for edit, kind, why in verdicts:
+            for name, kind, why in verdicts:
                 with tempfile.NamedTemporaryFile("w", prefix="new-", dir=self.at, delete=False, encoding="utf-8") as file:
-                    json.dump({"name": self.name(edit), "kind": kind, "why": why}, file)
-                os.replace(file.name, self.at / self.name(edit))
+                    json.dump({"name": name, "kind": kind, "why": why}, file)
+                os.replace(file.name, self.at / name)
             self.shrink()
 
     def shrink(self):
@@ -97,3 +72,53 @@ class Verdicts:
         for path in over:
             with contextlib.suppress(OSError):
                 os.remove(path)
+
+
+def sum_of_kit():
+    """What the kit says that it is."""
+    return subprocess.run(["rt", "version"], capture_output=True, check=True).stdout
+
+
+def note_files(found, folder, files):
+    """Takes files into a checksum, by their names below a folder and what they hold."""
+    for file in sorted(files):
+        data = file.read_bytes()
+        found.update(f"{file.relative_to(folder).as_posix()} {len(data)}\n".encode())
+        found.update(data)
+
+
+@functools.lru_cache(maxsize=None)
+def of_the_tools():
+    """What the kit says that it is, and the scripts that try a body."""
+    return repr([sum_of_kit(), *((HERE / it).read_bytes() for it in TRYING)]).encode()
+
+
+class Verdicts:
+    """The kept verdicts of one crate's bodies."""
+
+    def __init__(self, crates, crate):
+        self.crates, self.crate, self.store = crates, crate, Store("wrong_bodies")
+        self.sum = self.sum_now()
+
+    def sum_now(self):
+        """The checksum of what a verdict stands on, beside the edit."""
+        found = hashlib.sha256(of_the_tools())
+        for crate in [self.crate, *sorted(self.crates.below(self.crate), key=lambda it: it.name)]:
+            found.update(repr((crate.name, crate.kind, crate.uses)).encode())
+            files = [it for part in ("src", "specs", "proofs") for it in (crate.folder / part).rglob("*") if it.is_file()]
+            # (a library that isn't of these sources is another one: its format has the sums of all its files)
+            files += [it for it in [crate.rlib / "format"] if crate is not self.crate and it.is_file()]
+            note_files(found, crate.folder, files)
+        return found.hexdigest()
+
+    def name(self, edit):
+        return hashlib.sha256(repr((self.sum, edit.says())).encode()).hexdigest()
+
+    def kept(self, edit, kinds):
+        """The verdict on this edit, if one of these kinds is kept, and its reason."""
+        return self.store.kept(self.name(edit), kinds)
+
+    def keep(self, verdicts):
+        """Keeps these: of each an edit, the kind and the reason. None, if a source was changed meanwhile."""
+        if verdicts and self.sum_now() == self.sum:
+            self.store.keep([(self.name(edit), kind, why) for edit, kind, why in verdicts])

@@ -15,9 +15,8 @@ REQUESTS = (TOP / "examples/true.requests").read_text()
 SHAPE = "words = 1048576\nsets = 64\n"
 ROUNDS = ["--latency", "20", "--busy", "1"]
 REGISTERS = [1, 2, 4, 8]
-# The causes for which a round may be lost.
-CAUSES = {3: "tag in use", 4: "too many loads are owed", 5: "four loads wait for the word", 7: "no register is free",
-          8: "all ways wait for words", 9: "write queue too full", 10: "bank queue too full"}
+# The causes for which a round may be lost, by the names that figures and formats have.
+CAUSES = {3: "tag in use", 4: "replies full", 5: "targets full", 7: "no register", 8: "set pending", 9: "queue full", 10: "bank full"}
 
 
 def wants_counts(description):

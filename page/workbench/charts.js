@@ -74,10 +74,9 @@ function sweepCharts(rows) {
   return OF_SWEEPS.filter((name) => named.some((row) => Number(row.get(name) ?? 0) > 0))
     .map((name) => chartOf(name, named.map((row) => [`regs ${row.get('regs')}`, row.get(name)])));
 }
-// Why a request is refused that is asked again.
+// Why a request is refused that is asked again, by the names that figures and formats have.
 const CAUSES = {
-  3: 'the tag is in use', 4: 'too many loads are owed', 5: 'four loads wait for it', 7: 'no register is free',
-  8: 'all ways wait for words', 9: 'the write queue is full', 10: "a bank's queue is full",
+  3: 'tag in use', 4: 'replies full', 5: 'targets full', 7: 'no register', 8: 'set pending', 9: 'queue full', 10: 'bank full',
 };
 function driveCharts(row) {
   const counts = new Map(row);

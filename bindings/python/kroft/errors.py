@@ -26,7 +26,7 @@ class Cause(enum.IntEnum):
     OUT_OF_RANGE = 1  #: the word or block isn't in memory
     NO_LANES = 2  #: a store without a lane
     TAG_IN_USE = 3  #: the tag is awaited, or its value stands ready
-    REPLIES_FULL = 4  #: as many loads are owed values as may be
+    REPLIES_FULL = 4  #: the limit of outstanding loads is reached
     TARGETS_FULL = 5  #: four loads wait for the word
     BLOCK_QUEUED = 6  #: never given by the machine of this library
     NO_REGISTER = 7  #: no register is free

@@ -6,12 +6,13 @@ ghost use Rattle.access_logs.specs.Faults.{place_text, remedy_text};
 use crate::pages::{MAX_PAGES, PAGE_WORDS};
 use flat_model::MAX_WORDS;
 use std::alloc::AllocError;
-use std::error::Error;
 use std::fmt;
+use thiserror::Error;
 use trace_text::TraceFault;
 
 /// A line touches a page of the program for which memory has no room.
-#[derive(Clone, Copy, Debug, PartialEq, Eq)]
+#[derive(Clone, Copy, Debug, PartialEq, Eq, Error)]
+#[error("{}", FaultText(self))]
 pub struct NoRoom {
     /// The number of the line, counted from 1.
     pub line: u64,
@@ -41,24 +42,27 @@ impl NoRoom {
     }
 }
 
-impl Error for NoRoom {}
+/// A fault's text, of which a contract knows each byte.
+#[derive(Drop)]
+pub struct FaultText<'a, F>(pub &'a F);
 
 /// `line N: no room for page P: W words would do`, or that memory has at most 1,048,576 words. Pages are
 /// counted from 1.
-impl fmt::Display for NoRoom {
+impl fmt::Display for FaultText<'_, NoRoom> {
     ghost use Rattle.access_logs.specs.Faults.{no_room_text};
 
-    ghost output = { λ fault. Some (no_room_text fault) };
+    ghost output = { λ told. Some (no_room_text told.0.now) };
 
     fn fmt<W: fmt::Write>(&self, f: &mut fmt::Formatter<W>) -> fmt::Result {
-        self.write_place(f)?;
+        self.0.write_place(f)?;
         f.write_str(": ")?;
-        self.write_remedy(f)
+        self.0.write_remedy(f)
     }
 }
 
 /// Why the requests of a log weren't written to its end.
-#[derive(Clone, Copy, Debug, PartialEq, Eq)]
+#[derive(Clone, Copy, Debug, PartialEq, Eq, Error)]
+#[error("{}", FaultText(self))]
 pub enum LogFault {
     /// A line can't be read, a stream failed, or there was too little memory, as of a trace.
     Trace(TraceFault),
@@ -66,18 +70,16 @@ pub enum LogFault {
     NoRoom(NoRoom),
 }
 
-impl Error for LogFault {}
-
 /// As that of a trace's fault, or of a page that has no room.
-impl fmt::Display for LogFault {
+impl fmt::Display for FaultText<'_, LogFault> {
     ghost use Rattle.access_logs.specs.Faults.{log_fault_text};
 
-    ghost output = { λ fault. Some (log_fault_text fault) };
+    ghost output = { λ told. Some (log_fault_text told.0.now) };
 
     fn fmt<W: fmt::Write>(&self, f: &mut fmt::Formatter<W>) -> fmt::Result {
-        match self {
-            LogFault::Trace(fault) => write!(f, "{fault}"),
-            LogFault::NoRoom(fault) => write!(f, "{fault}"),
+        match self.0 {
+            LogFault::Trace(fault) => write!(f, "{}", trace_text::FaultText(fault)),
+            LogFault::NoRoom(fault) => write!(f, "{}", FaultText(fault)),
         }
     }
 }

@@ -19,7 +19,7 @@ mod requests;
 mod writing;
 
 pub use access::{Access, AccessKind, MAX_SIZE, MAX_TOUCHED, WORD_BYTES};
-pub use fault::{LogFault, NoRoom};
+pub use fault::{FaultText, LogFault, NoRoom};
 pub use format::{Din, Lackey, LogFormat};
 pub use pages::{MAX_PAGES, PAGE_WORDS};
 pub use reading::{AccessGroup, LogRequests, read_log};

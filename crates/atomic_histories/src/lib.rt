@@ -26,6 +26,7 @@ mod unit;
 mod units;
 mod words;
 
+pub use faults::FaultText;
 pub use kept::KeptUnit;
 pub use memory::{AtomicFault, AtomicMemory, DEFAULT_LIMIT, UnitSize};
 pub use pairs::{FollowedPair, Wanted};

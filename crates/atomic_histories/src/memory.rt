@@ -23,6 +23,7 @@ ghost use Rattle.atomic_histories.specs.Told.{HaltIs, GoOn, IsToldOf};
 ghost use Rattle.atomic_histories.specs.Shown.{shown_unit};
 
 use crate::at_once::take_at;
+use crate::faults::FaultText;
 use crate::forms::{close, form_fault, open_under};
 use crate::kept::KeptUnit;
 use crate::may::unit_set;
@@ -35,6 +36,7 @@ use crate::units::{
 use memory_histories::{ByteSet, HistoryEvent, HistoryFault, Rest};
 use std::alloc::{AllocError, Global};
 use std::collections::HashMap;
+use thiserror::Error;
 
 /// The usual limit of pairs followed at a unit.
 pub const DEFAULT_LIMIT: usize = 4096;
@@ -68,7 +70,8 @@ impl UnitSize {
 }
 
 /// Why an event isn't taken, or sets aren't told.
-#[derive(Clone, Copy, PartialEq, Eq, Debug)]
+#[derive(Clone, Copy, PartialEq, Eq, Debug, Error)]
+#[error("{}", FaultText(self))]
 pub enum AtomicFault {
     /// The history with this event isn't of the law; asked for sets: no load is open under the
     /// number.

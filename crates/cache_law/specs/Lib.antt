@@ -13,6 +13,6 @@ pub mod Requests
 pub mod Counts
 pub mod Lookups
 pub mod UnitForms
-pub mod Words
 -- the parts' own words, for what stands above
 pub use Rattle.cache_directory.specs.Frames
+pub use Rattle.cache_directory.specs.declared.Cell

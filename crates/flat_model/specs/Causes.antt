@@ -26,7 +26,7 @@ abbrev pub cause_words : Cause → List ℕ
 cause_words OutOfRange = codes "it is outside memory"
 cause_words NoLanes = codes "the store names no byte"
 cause_words TagInUse = codes "the tag is owed a value that wasn't taken yet"
-cause_words RepliesFull = codes "as many loads are owed values as may be"
+cause_words RepliesFull = codes "the limit of outstanding loads is reached"
 cause_words TargetsFull = codes "four loads wait for the word already"
 cause_words BlockQueued = codes "the block waits to be written"
 cause_words NoRegister = codes "all registers are in use"

@@ -36,7 +36,7 @@ impl Cause {
             Cause::OutOfRange => "it is outside memory",
             Cause::NoLanes => "the store names no byte",
             Cause::TagInUse => "the tag is owed a value that wasn't taken yet",
-            Cause::RepliesFull => "as many loads are owed values as may be",
+            Cause::RepliesFull => "the limit of outstanding loads is reached",
             Cause::TargetsFull => "four loads wait for the word already",
             Cause::BlockQueued => "the block waits to be written",
             Cause::NoRegister => "all registers are in use",

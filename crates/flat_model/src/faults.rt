@@ -4,17 +4,18 @@ ghost use Rattle.std.specs.Prelude.{Some, ◌≡◌};
 ghost use Rattle.flat_model.specs.Faults as texts;
 
 use crate::{MakeFault, ReplayFault, ShapeField, StepFault};
-use std::error::Error;
 use std::fmt;
 
-impl Error for MakeFault {}
+/// A fault's text, of which a contract knows each byte.
+#[derive(Drop)]
+pub struct FaultText<'a, F>(pub &'a F);
 
 /// `Sets is out of range`, with the name of the field, or `out of memory`.
-impl fmt::Display for MakeFault {
-    ghost output = { λ fault. Some (texts.make_fault_text fault) };
+impl fmt::Display for FaultText<'_, MakeFault> {
+    ghost output = { λ told. Some (texts.make_fault_text told.0.now) };
 
     fn fmt<W: fmt::Write>(&self, f: &mut fmt::Formatter<W>) -> fmt::Result {
-        match self {
+        match self.0 {
             MakeFault::BadShape(field) => write!(f, "{} is out of range", name_of(*field)),
             MakeFault::OutOfMemory => f.write_str("out of memory"),
         }
@@ -42,14 +43,12 @@ fn name_of(field: ShapeField) -> &'static str
     }
 }
 
-impl Error for ReplayFault {}
-
 /// What was wrong, with the place of the answer that flat memory doesn't give.
-impl fmt::Display for ReplayFault {
-    ghost output = { λ fault. Some (texts.replay_fault_text fault) };
+impl fmt::Display for FaultText<'_, ReplayFault> {
+    ghost output = { λ told. Some (texts.replay_fault_text told.0.now) };
 
     fn fmt<W: fmt::Write>(&self, f: &mut fmt::Formatter<W>) -> fmt::Result {
-        match self {
+        match self.0 {
             ReplayFault::Lengths => f.write_str("as many answers as events are needed"),
             ReplayFault::Mismatch { place } => {
                 write!(f, "the answer at place {place} is not one of flat memory")
@@ -59,14 +58,12 @@ impl fmt::Display for ReplayFault {
     }
 }
 
-impl Error for StepFault {}
-
 /// What was wrong.
-impl fmt::Display for StepFault {
-    ghost output = { λ fault. Some (texts.step_fault_text fault) };
+impl fmt::Display for FaultText<'_, StepFault> {
+    ghost output = { λ told. Some (texts.step_fault_text told.0.now) };
 
     fn fmt<W: fmt::Write>(&self, f: &mut fmt::Formatter<W>) -> fmt::Result {
-        match self {
+        match self.0 {
             StepFault::Mismatch => f.write_str("the answer is not one of flat memory"),
             StepFault::OutOfMemory => f.write_str("out of memory"),
         }

@@ -22,6 +22,7 @@ mod operators;
 pub use answers::may_answer;
 use bitflags::{Flag, Flags};
 pub use display::TwoDigits;
+pub use faults::FaultText;
 pub use image::Image;
 pub use limits::{
     MAX_BANK_QUEUE, MAX_BANKS, MAX_BLOCK_WORDS, MAX_CONST_DEPTH, MAX_CONST_REGS, MAX_CONST_WAYS,
@@ -29,6 +30,7 @@ pub use limits::{
 };
 pub use memory::{FlatMemory, ReplayFault, StepFault};
 use std::alloc::AllocError;
+use thiserror::Error;
 
 /// A word of memory: four bytes in memory order, byte 0 first. C has it as four bytes too.
 #[repr(C)]
@@ -329,7 +331,8 @@ pub enum ShapeField {
 
 /// Why a part can't be made. A bad field is named first, before any memory is asked for, and
 /// after each of these nothing is made.
-#[derive(Clone, Copy, PartialEq, Eq, Debug)]
+#[derive(Clone, Copy, PartialEq, Eq, Debug, Error)]
+#[error("{}", FaultText(self))]
 pub enum MakeFault {
     /// The first field, in the order of the checks, that is out of its range.
     BadShape(ShapeField),

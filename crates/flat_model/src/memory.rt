@@ -10,12 +10,15 @@ ghost use Rattle.flat_model.specs.Words.{zero_word};
 ghost use Rattle.flat_model.specs.Memory.{shown, FaultIs, StepFaultIs, is_load, more_owed};
 
 use crate::answers::may_answer;
+use crate::faults::FaultText;
 use crate::{Answer, Event, Lanes, Word, merge};
 use std::alloc::{AllocError, Global};
 use std::collections::HashMap;
+use thiserror::Error;
 
 /// Why a replay failed. After each of these the memory is as it was.
-#[derive(Clone, Copy, PartialEq, Eq, Debug)]
+#[derive(Clone, Copy, PartialEq, Eq, Debug, Error)]
+#[error("{}", FaultText(self))]
 pub enum ReplayFault {
     /// There are not as many answers as events.
     Lengths,
@@ -38,7 +41,8 @@ impl From<AllocError> for ReplayFault {
 }
 
 /// Why a step couldn't be made. After each of these the memory is as it was.
-#[derive(Clone, Copy, PartialEq, Eq, Debug)]
+#[derive(Clone, Copy, PartialEq, Eq, Debug, Error)]
+#[error("{}", FaultText(self))]
 pub enum StepFault {
     /// Flat memory doesn't give this answer to the event.
     Mismatch,

@@ -1,7 +1,7 @@
 -- How an end is told, and the end of a job that puts what it found.
 use Rattle.std.proofs.Common.{◌≡◌, ℕ, List, Result, Ok, Err, IfOk, IfErr, OnOk, OnErr, IsErrAnd, sym, ap, subst, inr, ◌∙◌}
 use Rattle.kroft_jobs.specs.Writing.{IsPut, IsCut}
-use Rattle.kroft_command.specs.declared.fault.ToolFault.{ToolFault}
+use Rattle.kroft_command.specs.Words.{ToolFault}
 use Rattle.kroft_command.specs.Tool.{write_fault}
 use Rattle.kroft_command.specs.Program.{told, Answers}
 

@@ -1,9 +1,7 @@
 -- An image that is too long ends the task before it begins.
 use Rattle.std.proofs.Common.{◌≡◌, ℕ, List, Result, Ok, Err, IsErrAnd, refl, sym, subst, inr}
-use Rattle.register_sweeps.specs.Words.{Sizes}
-use Rattle.flat_model.specs.declared.image.Image.{Image}
-use Rattle.kroft_command.specs.declared.command_line.CommandLine.{CommandLine}
-use Rattle.kroft_command.specs.declared.fault.ToolFault.{ToolFault}
+use Rattle.kroft_jobs.specs.Words.{Sizes, Image}
+use Rattle.kroft_command.specs.Words.{CommandLine, ToolFault}
 use Rattle.kroft_command.specs.Program.{IsMachineOf, IsImageOf, LacksRoom, Performs}
 
 module _ {R W E : Type 0} (gave : R → List ℕ → R → Type 0) (failed : R → R → Type 0)

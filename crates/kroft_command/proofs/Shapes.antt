@@ -3,9 +3,8 @@ use Rattle.std.proofs.Common.{◌≡◌, Bool, true, false, if◌then◌else◌,
 use Rattle.toml.specs.Data.{Members}
 use Rattle.flat_model.specs.declared.ShapeField.{ShapeField}
 use Rattle.shape_files.specs.ShapeFile.{and_then, bad_field, or_bad, shape_of, shape_said, numbers_of, has_other_key, text_says}
-use Rattle.shape_files.specs.declared.shape_file.ShapeFault.{ShapeFault}
+use Rattle.kroft_jobs.specs.Words.{ShapeFault, ToolShape}
 use Rattle.shape_files.specs.declared.shape_file.ShapeFault.TheVariants.{UnknownKey}
-use Rattle.shape_files.specs.declared.shape_file.ToolShape.{ToolShape}
 
 not_ok : {X E : Type 0} {e : E} {x : X} → Err e ≡ Ok x → ⊥
 not_ok h = cc

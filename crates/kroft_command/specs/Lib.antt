@@ -1,3 +1,4 @@
+pub mod Words
 pub mod Tool
 pub mod Told
 pub mod Program

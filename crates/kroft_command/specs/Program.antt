@@ -6,55 +6,33 @@ use Rattle.std.specs.List.{flat_map}
 use Rattle.std.specs.String.{string_bytes}
 use Rattle.std.specs.Global.{Global, Vec}
 use Rattle.std.specs.declared.string.String.{String}
-use Rattle.register_sweeps.specs.Words.{Sizes}
+use Rattle.kroft_jobs.specs.Words.{Sizes, Image, CheckEnd, MAX_LINE, MAX_PAIR, TraceFault, LineFault, Counts, Access, LogFault, AccessGroup}
+use Rattle.kroft_jobs.specs.Words.{AccessCounts, Event, PAGE_WORDS, Format, Details, Table, Timing, Form, ShowFault, Explanation, RoundsRow}
+use Rattle.kroft_jobs.specs.Words.{MachineFault, ShapeFault, ToolShape, Score}
 use Rattle.register_sweeps.specs.Machine.{MachineState}
 use Rattle.toml.specs.Parse.{parse_document}
 use Rattle.flat_model.specs.Flat.{Flat}
 use Rattle.flat_model.specs.Images.{memory_from, flat_from, bytes_of}
-use Rattle.flat_model.specs.declared.image.Image.{Image}
 use Rattle.flat_model.specs.declared.image.Image.TheVariants as memory
 use Rattle.trace_text.specs.Checks.{pair_fault, IsJudgedFrom}
 use Rattle.trace_text.specs.Reading.{ReadWhole, ReadFails}
 use Rattle.trace_text.specs.Requests.{requests_of}
 use Rattle.trace_text.specs.Serving.{trace_fault, Ends}
-use Rattle.trace_text.specs.declared.check.CheckEnd.{CheckEnd}
-use Rattle.trace_text.specs.declared.fault.TheConstants.{MAX_LINE, MAX_PAIR}
-use Rattle.trace_text.specs.declared.fault.TraceFault.{TraceFault}
-use Rattle.trace_text.specs.declared.lines.LineFault.{LineFault}
-use Rattle.trace_text.specs.declared.serve.Counts.{Counts}
 use Rattle.access_logs.specs.Formats.{lackey_access, din_access}
 use Rattle.access_logs.specs.Logs as logs
-use Rattle.access_logs.specs.declared.access.Access.{Access}
-use Rattle.access_logs.specs.declared.fault.LogFault.{LogFault}
-use Rattle.access_logs.specs.declared.reading.AccessGroup.{AccessGroup}
-use Rattle.result_formats.specs.declared.accesses.AccessCounts.{AccessCounts}
-use Rattle.flat_model.specs.declared.Event.{Event}
-use Rattle.access_logs.specs.declared.pages.TheConstants.{PAGE_WORDS}
 use Rattle.history_text.specs.Answers.{verdict_status as history_status}
 use Rattle.history_text.specs.Choice.{chosen_law}
 use Rattle.history_text.specs.Histories.{Judges}
 use Rattle.history_text.specs.Told.{ToldLaw}
 use Rattle.history_text.specs.Values.{Writes}
 use Rattle.history_text.specs.declared.answers.HistoryEnd.{HistoryEnd}
-use Rattle.named_fields.specs.declared.format.Format.{Format}
-use Rattle.round_driver.specs.declared.details.Details.{Details}
-use Rattle.round_driver.specs.declared.table.Table.{Table}
-use Rattle.round_driver.specs.declared.timing.Timing.{Timing}
 use Rattle.run_pictures.specs.Drawn.{Shows}
-use Rattle.run_pictures.specs.declared.drawing.Form.{Form}
-use Rattle.run_pictures.specs.declared.show.ShowFault.{ShowFault}
 use Rattle.kroft_jobs.specs.Runs.{Explains, status_of as explanation_status}
-use Rattle.kroft_jobs.specs.Explanation.{Explanation}
 use Rattle.register_sweeps.specs.Sweep.{machine_over, row_of}
-use Rattle.register_sweeps.specs.declared.rounds.RoundsRow.{RoundsRow}
 use Rattle.shape_files.specs.MachineFile.{TextSays, TextFails}
 use Rattle.shape_files.specs.ShapeFile.{sizes_of, text_says}
-use Rattle.shape_files.specs.declared.machine_file.MachineFault.{MachineFault}
-use Rattle.shape_files.specs.declared.shape_file.ShapeFault.{ShapeFault}
 use Rattle.shape_files.specs.declared.shape_file.TheConstants.{DEFAULT_SHAPE}
-use Rattle.shape_files.specs.declared.shape_file.ToolShape.{ToolShape}
 use Rattle.kroft_jobs.specs.Grades.{score_status}
-use Rattle.kroft_jobs.specs.Score.{Score}
 use Rattle.result_formats.specs.Details.{details_in}
 use Rattle.result_figures.specs.Bars.{loss_figure}
 use Rattle.result_figures.specs.Sweeps.{Swept, sweep_figure}
@@ -77,19 +55,12 @@ use Rattle.kroft_jobs.specs.declared.rounds.LatencyRows.{LatencyRows}
 use Rattle.clap.specs.Values.{kind_of}
 use Rattle.clap.specs.declared.error.Error.{Error}
 use Rattle.clap.specs.declared.error.kind.ErrorKind.TheVariants.{DisplayHelp, DisplayVersion}
-use Rattle.kroft_command.specs.declared.command_line.CommandLine.{CommandLine}
-use Rattle.kroft_command.specs.declared.command_line.CountForm.{CountForm}
+use Rattle.kroft_command.specs.Words.{CommandLine, CountForm, HistoryTask, ImageName, LogName, MachineName, Task, ToolFault}
 use Rattle.kroft_command.specs.declared.command_line.CountForm.TheVariants.{Lines, Figure}
-use Rattle.kroft_command.specs.declared.command_line.HistoryTask.{HistoryTask}
-use Rattle.kroft_command.specs.declared.command_line.ImageName.{ImageName}
 use Rattle.kroft_command.specs.declared.command_line.ImageName.TheVariants as name
-use Rattle.kroft_command.specs.declared.command_line.LogName.{LogName}
 use Rattle.kroft_command.specs.declared.command_line.LogName.TheVariants.{Lackey, Din}
-use Rattle.kroft_command.specs.declared.command_line.MachineName.{MachineName}
 use Rattle.kroft_command.specs.declared.command_line.MachineName.TheVariants as source
-use Rattle.kroft_command.specs.declared.command_line.Task.{Task}
 use Rattle.kroft_command.specs.declared.command_line.Task.TheVariants as task
-use Rattle.kroft_command.specs.declared.fault.ToolFault.{ToolFault}
 use Rattle.kroft_command.specs.declared.fault.ToolFault.TheVariants.{CommandLine as Words, Job, MachineUnreadable, ImageUnreadable}
 use Rattle.kroft_command.specs.declared.fault.ToolFault.TheVariants.{LongImage as TooLong}
 use Rattle.kroft_command.specs.Tool.{IsInRange, IsAllowed, MayBegin, timings_in, registers_in, line, write_fault, no_memory, of_machine}

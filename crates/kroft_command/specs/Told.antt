@@ -1,7 +1,7 @@
 -- What is told of the program's end, and by which status it ends.
 use Rattle.std.specs.Prelude.{◌≡◌, ◌⊎◌, ℕ, List, Result, Ok, Err}
 use Rattle.kroft_jobs.specs.Writing.{IsOffered}
-use Rattle.kroft_command.specs.declared.fault.ToolFault.{ToolFault}
+use Rattle.kroft_command.specs.Words.{ToolFault}
 use Rattle.kroft_command.specs.Tool.{IsLineOf, no_memory, status_of}
 
 -- Of the errors: what they may take, and how they may refuse a write or a flush.

@@ -1,44 +1,31 @@
 -- What the program is asked for, and how it ends.
-use Rattle.std.specs.Prelude.{◌≡◌, ℕ, ◌%◌, ◌≤◌, Bool, true, false, ◌==◌, ◌&&◌, nat_lt, if◌then◌else◌, min, Option, Some, None, is_some}
+use Rattle.std.specs.Prelude.{◌≡◌, ℕ, ◌%◌, ◌≤◌, Bool, true, false, ◌==◌, ◌&&◌, nat_lt, if◌then◌else◌, min, Option, Some, None, IfSome, is_some}
 use Rattle.std.specs.Prelude.{List, [], ◌∷◌, ◌++◌, take, codes, decimal}
 use Rattle.std.specs.Borrow.{Bor}
 use Rattle.std.specs.List.{AllByRecursion, list_any}
 use Rattle.std.specs.Option.{unwrap_or}
-use Rattle.access_logs.specs.declared.writing.TheConstants.{MAX_WORDS}
+use Rattle.kroft_jobs.specs.Words.{MAX_WORDS, MOST_LATENCY, Timing, LogFault, ShowFault, MachineFault, TraceFault}
 use Rattle.atomic_histories.specs.declared.memory.UnitSize.{UnitSize}
 use Rattle.atomic_histories.specs.declared.memory.UnitSize.TheVariants.{Eight}
 use Rattle.atomic_histories.specs.declared.memory.TheConstants.{DEFAULT_LIMIT}
-use Rattle.round_driver.specs.declared.driving.TheConstants.{MOST_LATENCY}
 use Rattle.round_driver.specs.Timings.{unpipelined}
-use Rattle.round_driver.specs.declared.timing.Timing.{Timing}
-use Rattle.kroft_command.specs.declared.command_line.MachineName.{MachineName}
+use Rattle.kroft_command.specs.Words.{MachineName, Registers, Timings, Task, HistoryTask, ImageName, ToolFault, LongImage}
 use Rattle.kroft_command.specs.declared.command_line.MachineName.TheVariants as source
-use Rattle.kroft_command.specs.declared.command_line.Registers.{Registers}
 use Rattle.kroft_command.specs.declared.command_line.TheConstants.{MOST_LATENCIES, MOST_ROWS}
-use Rattle.kroft_command.specs.declared.command_line.Timings.{Timings}
-use Rattle.kroft_command.specs.declared.command_line.Task.{Task}
 use Rattle.kroft_command.specs.declared.command_line.Task.TheVariants.{Sweep, Drive, Requests, History}
-use Rattle.kroft_command.specs.declared.command_line.HistoryTask.{HistoryTask}
-use Rattle.kroft_command.specs.declared.command_line.ImageName.{ImageName}
 use Rattle.kroft_command.specs.declared.command_line.ImageName.TheVariants as image
 use Rattle.history_text.specs.declared.laws.HistoryLaw.{HistoryLaw}
 use Rattle.history_text.specs.declared.laws.HistoryLaw.TheVariants.{Atomic}
 use Rattle.named_fields.specs.declared.format.Format.TheVariants.{Text}
 use Rattle.access_logs.specs.Faults.{no_room_text}
-use Rattle.access_logs.specs.declared.fault.LogFault.{LogFault}
 use Rattle.access_logs.specs.declared.fault.LogFault.TheVariants as log
-use Rattle.run_pictures.specs.declared.show.ShowFault.{ShowFault}
 use Rattle.shape_files.specs.MachineFile.{machine_fault_text}
-use Rattle.shape_files.specs.declared.machine_file.MachineFault.{MachineFault}
 use Rattle.shape_files.specs.declared.machine_file.MachineFault.TheVariants as machine
 use Rattle.shape_files.specs.declared.shape_file.TheConstants.{REGISTER_COUNTS}
 use Rattle.trace_text.specs.Codes.{line_feed}
-use Rattle.trace_text.specs.declared.fault.TraceFault.{TraceFault}
 use Rattle.trace_text.specs.declared.fault.TraceFault.TheVariants.{Write}
 use Rattle.kroft_jobs.specs.Jobs as jobs
 use Rattle.kroft_jobs.specs.declared.fault.JobFault.TheVariants.{Trace, OutOfMemory}
-use Rattle.kroft_command.specs.declared.fault.ToolFault.{ToolFault}
-use Rattle.kroft_command.specs.declared.fault.LongImage.{LongImage}
 use Rattle.kroft_command.specs.declared.fault.ToolFault.TheVariants.{CommandLine, Job, Machine, MachineUnreadable, NoRoom, ImageUnreadable}
 use Rattle.kroft_command.specs.declared.fault.ToolFault.TheVariants.{LongImage as TooLong}
 
@@ -167,15 +154,19 @@ abbrev pub long_image_text : LongImage → List ℕ
 long_image_text image =
     codes "image: longer than memory: " ++ (decimal image.bytes ++ (codes " bytes, and memory has " ++ decimal image.memory))
 
--- The line of a fault, with its LF. What `clap` says of refused words ends its own line, and no contract says it.
+-- What is told of a fault. No contract says what `clap` tells of refused words.
+abbrev pub fault_text : ToolFault → Option (List ℕ)
+fault_text (CommandLine error) = None
+fault_text (Job fault) = Some (jobs.fault_text fault)
+fault_text (Machine fault) = Some (machine_fault_text fault)
+fault_text MachineUnreadable = Some (codes "machine: file not readable")
+fault_text (NoRoom fault) = Some (no_room_text fault)
+fault_text ImageUnreadable = Some (codes "image: file not readable")
+fault_text (TooLong image) = Some (long_image_text image)
+
+-- the line of a fault, with its LF; what `clap` tells ends its own line
 abbrev pub IsLineOf : ToolFault → List ℕ → Type 0
-IsLineOf (CommandLine error) text = Unit {0}
-IsLineOf (Job fault) text = text ≡ line (jobs.fault_text fault)
-IsLineOf (Machine fault) text = text ≡ line (machine_fault_text fault)
-IsLineOf MachineUnreadable text = text ≡ line (codes "machine: file not readable")
-IsLineOf (NoRoom fault) text = text ≡ line (no_room_text fault)
-IsLineOf ImageUnreadable text = text ≡ line (codes "image: file not readable")
-IsLineOf (TooLong image) text = text ≡ line (long_image_text image)
+IsLineOf fault text = IfSome (fault_text fault) (λ told. text ≡ line told)
 
 -- ---- what is told of a fault below
 

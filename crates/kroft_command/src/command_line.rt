@@ -3,8 +3,7 @@
 ghost use Rattle.std.specs.Prelude.{◌≡◌, ◌≤◌, IfOk, IfSome, IfNone};
 ghost use Rattle.std.specs.Option.{option_or};
 ghost use Rattle.std.specs.List.{All, AllByRecursion, list_any};
-ghost use Rattle.access_logs.specs.declared.writing.TheConstants.{MAX_WORDS};
-ghost use Rattle.round_driver.specs.declared.driving.TheConstants.{MOST_LATENCY};
+ghost use Rattle.kroft_jobs.specs.Words.{MAX_WORDS, MOST_LATENCY};
 ghost use Rattle.kroft_command.specs.Tool.{IsInRange, IsTimely, latency_or_usual, machine_named, registers_in, timing_with, timings_in};
 ghost use Rattle.kroft_command.specs.Tool.{words_or_most, latency_in, ascends, is_too_busy};
 ghost use Rattle.kroft_command.specs.Tool.{AreInOrder, AreSwept, AreRows, HasUnit, IsJudged, IsAllowed, MayBegin};

@@ -1,8 +1,8 @@
 //! Why the program ends without having done what it was asked for.
 
-ghost use Rattle.std.specs.Prelude.{◌≡◌, Some, IfOk};
+ghost use Rattle.std.specs.Prelude.{◌≡◌, IfOk};
 ghost use Rattle.std.specs.String.{string_bytes};
-ghost use Rattle.kroft_command.specs.Tool.{status_of, long_image_text, IsLineOf};
+ghost use Rattle.kroft_command.specs.Tool.{status_of, fault_text, IsLineOf};
 ghost use Rattle.kroft_command.specs.Told.{TellsFault};
 
 use access_logs::{LogFault, NoRoom};
@@ -11,10 +11,12 @@ use run_pictures::ShowFault;
 use shape_files::MachineFault;
 use std::alloc::{AllocError, Global};
 use std::fmt;
+use thiserror::Error;
 use trace_text::{Sink, TraceFault};
 
 /// Why the program ends without having done what it was asked for.
-#[derive(Drop)]
+#[derive(Debug, Drop, Error)]
+#[error("{}", FaultText(self))]
 pub enum ToolFault {
     /// The words of the command line were refused.
     CommandLine(clap::Error),
@@ -41,16 +43,27 @@ pub struct LongImage {
     pub memory: usize,
 }
 
-/// How many bytes the image has, and how many memory has.
-impl fmt::Display for LongImage {
-    ghost output = { λ image. Some (long_image_text image) };
+/// A fault's text, of which a contract knows each byte, but for what `clap` says of refused words.
+#[derive(Drop)]
+pub(crate) struct FaultText<'a>(pub &'a ToolFault);
+
+impl fmt::Display for FaultText<'_> {
+    ghost output = { λ told. fault_text told.0.now };
 
     fn fmt<W: fmt::Write>(&self, f: &mut fmt::Formatter<W>) -> fmt::Result {
-        let LongImage { bytes, memory } = *self;
-        write!(
-            f,
-            "image: longer than memory: {bytes} bytes, and memory has {memory}"
-        )
+        match self.0 {
+            ToolFault::CommandLine(error) => write!(f, "{error}"),
+            ToolFault::Job(fault) => write!(f, "{}", kroft_jobs::FaultText(fault)),
+            ToolFault::Machine(fault) => write!(f, "{}", shape_files::FaultText(fault)),
+            ToolFault::MachineUnreadable => f.write_str("machine: file not readable"),
+            ToolFault::NoRoom(fault) => write!(f, "{}", access_logs::FaultText(fault)),
+            ToolFault::ImageUnreadable => f.write_str("image: file not readable"),
+            ToolFault::LongImage(image) => write!(
+                f,
+                "image: longer than memory: {} bytes, and memory has {}",
+                image.bytes, image.memory
+            ),
+        }
     }
 }
 
@@ -73,12 +86,7 @@ impl ToolFault {
     {
         match self {
             ToolFault::CommandLine(error) => format!(in alloc; "{error}"),
-            ToolFault::Job(fault) => format!(in alloc; "{fault}\n"),
-            ToolFault::Machine(fault) => format!(in alloc; "{fault}\n"),
-            ToolFault::MachineUnreadable => format!(in alloc; "machine: file not readable\n"),
-            ToolFault::NoRoom(fault) => format!(in alloc; "{fault}\n"),
-            ToolFault::ImageUnreadable => format!(in alloc; "image: file not readable\n"),
-            ToolFault::LongImage(image) => format!(in alloc; "{image}\n"),
+            fault => format!(in alloc; "{}\n", FaultText(fault)),
         }
     }
 

@@ -5,7 +5,7 @@ ghost use Rattle.shape_files.specs.MachineFile.{bad_machine};
 ghost use Rattle.toml.specs.Parse.{parse_document};
 ghost use Rattle.shape_files.specs.MachineFile.{TextSays};
 ghost use Rattle.shape_files.specs.ShapeFile.{bad_field as bad_shape, text_says};
-ghost use Rattle.kroft_command.specs.declared.fault.ToolFault.{ToolFault as FaultValue};
+ghost use Rattle.kroft_command.specs.Words.{ToolFault as FaultValue};
 ghost use Rattle.kroft_command.specs.declared.fault.ToolFault.TheVariants as faults;
 ghost use Rattle.kroft_command.specs.Tool.{IsInRange};
 ghost use Rattle.kroft_command.specs.Told.{EndsBy};

@@ -3,12 +3,11 @@
 ghost use Rattle.std.specs.Prelude.{◌≡◌, ◌≤◌, [], ◌++◌, map, None, IfOk, IfErr, OnOk, OnErr};
 ghost use Rattle.std.specs.List.{All, AllByRecursion, flat_map};
 ghost use Rattle.std.specs.String.{string_bytes};
-ghost use Rattle.access_logs.specs.declared.writing.TheConstants.{MAX_WORDS};
+ghost use Rattle.kroft_jobs.specs.Words.{MAX_WORDS, MOST_LATENCY};
 ghost use Rattle.shape_files.specs.MachineFile.{bad_machine};
 ghost use Rattle.history_text.specs.Answers.{verdict_status as history_status};
 ghost use Rattle.result_figures.specs.Sweeps.{told};
 ghost use Rattle.result_formats.specs.Counts.{rounds_in, latency_in, pumps_in};
-ghost use Rattle.round_driver.specs.declared.driving.TheConstants.{MOST_LATENCY};
 ghost use Rattle.kroft_jobs.specs.Jobs.{swept};
 ghost use Rattle.kroft_jobs.specs.Writing.{IsPut, IsCut};
 ghost use Rattle.kroft_command.specs.Tool.{IsTimely, timings_in, registers_in, line, write_fault};

@@ -2,21 +2,15 @@
 use Rattle.std.proofs.Common.{◌≡◌, ℕ, true, List, [], ◌∷◌, ◌≤◌, Option, length, refl, sym, subst, inr}
 use Rattle.std.specs.List.{AllByRecursion, list_all}
 use Rattle.std.specs.Prelude.{Result, Ok, Err, IfErr}
-use Rattle.flat_model.specs.declared.Event.{Event}
+use Rattle.kroft_jobs.specs.Words.{Event, TraceFault, LineFault, Access, LogFault, AccessGroup, Timing}
 use Rattle.flat_model.specs.declared.Event.TheVariants.{Load, Store, Prefetch, Evict}
 use Rattle.register_sweeps.specs.Machine.{MachineState}
 use Rattle.trace_text.specs.Requests.{IsRequest}
-use Rattle.trace_text.specs.declared.fault.TraceFault.{TraceFault}
 use Rattle.trace_text.specs.Codes.{most_lines}
-use Rattle.trace_text.specs.declared.lines.LineFault.{LineFault}
 use Rattle.access_logs.specs.Formats.{lackey_access, din_access}
 use Rattle.access_logs.specs.Reads.{LogSays, LogFails}
-use Rattle.access_logs.specs.declared.access.Access.{Access}
-use Rattle.access_logs.specs.declared.fault.LogFault.{LogFault}
 use Rattle.access_logs.specs.declared.fault.LogFault.TheVariants as log
-use Rattle.access_logs.specs.declared.reading.AccessGroup.{AccessGroup}
 use Rattle.round_driver.specs.Walks.{is_request}
-use Rattle.round_driver.specs.declared.timing.Timing.{Timing}
 use Rattle.kroft_jobs.specs.Asking.{Asks, AsksNothing}
 use Rattle.kroft_jobs.specs.Driving.{IsToldAndDriven, DrivesAll}
 use Rattle.kroft_jobs.specs.declared.asked.RequestText.{RequestText}

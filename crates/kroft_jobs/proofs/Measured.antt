@@ -6,15 +6,13 @@ use Rattle.std.specs.List.{FoldsTo, concat, list_all}
 use Rattle.std.specs.Global.{Vec}
 use Rattle.std.proofs.lemmas.Bool.{ltb-true, ltb-false}
 use Rattle.std.proofs.lemmas.List.Sums.{sum_by-append}
-use Rattle.flat_model.specs.declared.Event.{Event}
+use Rattle.kroft_jobs.specs.Words.{Event, TraceFault, Timing}
 use Rattle.register_sweeps.specs.Machine.{MachineState}
 use Rattle.register_sweeps.specs.Whole.{IsWholeState}
 use Rattle.trace_text.specs.Codes.{most_lines}
 use Rattle.trace_text.specs.Streams.{Moves, Stopped}
-use Rattle.trace_text.specs.declared.fault.TraceFault.{TraceFault}
 use Rattle.trace_text.specs.declared.fault.TraceFault.TheVariants.{Write, OutOfMemory}
 use Rattle.round_driver.specs.declared.note.Note.{Note}
-use Rattle.round_driver.specs.declared.timing.Timing.{Timing}
 use Rattle.round_driver.specs.Rounds.{Run, Course, asked, moves, course, next_round, after_round, is_over, rounds_until_over, start_of}
 use Rattle.round_driver.specs.Rounds.{most_rounds, whole_run}
 use Rattle.round_driver.specs.Walks.{is_request, IsOverInTime, RequestsEnd}

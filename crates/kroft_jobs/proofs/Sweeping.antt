@@ -4,20 +4,13 @@ use Rattle.std.proofs.Common.{IfErr, IsErrAnd, refl, sym, subst}
 use Rattle.std.proofs.lemmas.List.{take_more}
 use Rattle.std.specs.List.{list_all}
 use Rattle.shape_files.specs.MachineFile.{bad_machine}
-use Rattle.register_sweeps.specs.Words.{Sizes}
-use Rattle.flat_model.specs.declared.Event.{Event}
+use Rattle.kroft_jobs.specs.Words.{Sizes, Event, MAX_LINE, Details, Table, Timing, RoundsRow, SweepFault}
 use Rattle.register_sweeps.specs.Machine.{MachineState}
 use Rattle.trace_text.specs.Reading.{ReadWhole}
 use Rattle.trace_text.specs.Serving.{trace_fault}
-use Rattle.trace_text.specs.declared.fault.TheConstants.{MAX_LINE}
 use Rattle.round_driver.specs.Details.{details_of}
 use Rattle.round_driver.specs.Tables.{table_of}
 use Rattle.round_driver.specs.Walks.{is_request, RequestsEnd}
-use Rattle.round_driver.specs.declared.details.Details.{Details}
-use Rattle.round_driver.specs.declared.table.Table.{Table}
-use Rattle.round_driver.specs.declared.timing.Timing.{Timing}
-use Rattle.register_sweeps.specs.declared.rounds.RoundsRow.{RoundsRow}
-use Rattle.register_sweeps.specs.declared.sweeps.SweepFault.{SweepFault}
 use Rattle.register_sweeps.specs.declared.sweeps.SweepFault.TheVariants as sweep
 use Rattle.register_sweeps.specs.Rounds.{rounds_row_of, EachRunEnds}
 use Rattle.register_sweeps.specs.Sweep.{FaultSays}

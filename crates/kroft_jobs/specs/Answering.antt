@@ -2,7 +2,7 @@
 use Rattle.std.specs.Prelude.{ℕ, ◌==◌, if◌then◌else◌, List, [], ◌∷◌, ◌++◌, length, codes, decimal, is_some}
 use Rattle.std.specs.List.{filter, flat_map, range_with_len}
 use Rattle.flat_model.specs.Flat.{Flat}
-use Rattle.trace_text.specs.declared.check.CheckEnd.{CheckEnd}
+use Rattle.kroft_jobs.specs.Words.{CheckEnd}
 use Rattle.trace_text.specs.declared.check.CheckEnd.TheVariants as check
 use Rattle.kroft_jobs.specs.declared.answered.TheConstants.{TAGS}
 use Rattle.kroft_jobs.specs.Jobs.{verdict_text}

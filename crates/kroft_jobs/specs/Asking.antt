@@ -1,21 +1,13 @@
 -- What an input says as requests, if it is a trace or a log.
 use Rattle.std.specs.Prelude.{◌≡◌, ℕ, ◌/◌, min, Option, Some, None, List, []}
-use Rattle.register_sweeps.specs.Words.{Sizes}
-use Rattle.flat_model.specs.declared.Event.{Event}
+use Rattle.kroft_jobs.specs.Words.{Sizes, Event, MAX_LINE, TraceFault, LogFault, PAGE_WORDS, AccessGroup, MAX_WORDS, AccessCounts}
 use Rattle.trace_text.specs.Reading.{ReadWhole, ReadFails}
 use Rattle.trace_text.specs.Requests.{requests_of}
 use Rattle.trace_text.specs.Serving.{trace_fault}
-use Rattle.trace_text.specs.declared.fault.TheConstants.{MAX_LINE}
-use Rattle.trace_text.specs.declared.fault.TraceFault.{TraceFault}
 use Rattle.access_logs.specs.Formats.{lackey_access, din_access}
 use Rattle.access_logs.specs.Reads.{LogSays, LogFails}
-use Rattle.access_logs.specs.declared.fault.LogFault.{LogFault}
 use Rattle.access_logs.specs.declared.fault.LogFault.TheVariants as log
-use Rattle.access_logs.specs.declared.pages.TheConstants.{PAGE_WORDS}
-use Rattle.access_logs.specs.declared.reading.AccessGroup.{AccessGroup}
-use Rattle.access_logs.specs.declared.writing.TheConstants.{MAX_WORDS}
 use Rattle.result_formats.specs.Accesses.{counts_of}
-use Rattle.result_formats.specs.declared.accesses.AccessCounts.{AccessCounts}
 use Rattle.round_driver.specs.declared.outcomes.Outcome.{Outcome}
 use Rattle.kroft_jobs.specs.declared.asked.RequestText.{RequestText}
 use Rattle.kroft_jobs.specs.declared.asked.RequestText.TheVariants.{Trace, Lackey, Din}

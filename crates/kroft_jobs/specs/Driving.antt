@@ -1,17 +1,13 @@
 -- What becomes of the requests of a trace that are driven in rounds.
 use Rattle.std.specs.Prelude.{◌≡◌, ◌⊎◌, ◌+◌, ℕ, List, Result, Ok, Err}
-use Rattle.flat_model.specs.declared.Event.{Event}
+use Rattle.kroft_jobs.specs.Words.{Event, TraceFault, Timing, LogFault, AccessGroup}
 use Rattle.register_sweeps.specs.Machine.{MachineState}
 use Rattle.trace_text.specs.Streams.{Moves, Stopped}
-use Rattle.trace_text.specs.declared.fault.TraceFault.{TraceFault}
 use Rattle.trace_text.specs.declared.fault.TraceFault.TheVariants.{Write, OutOfMemory}
 use Rattle.round_driver.specs.Rounds.{start_of, whole_run}
 use Rattle.round_driver.specs.Walks.{IsOverInTime}
 use Rattle.round_driver.specs.Written.{text_of_rounds}
-use Rattle.round_driver.specs.declared.timing.Timing.{Timing}
-use Rattle.access_logs.specs.declared.fault.LogFault.{LogFault}
 use Rattle.access_logs.specs.declared.fault.LogFault.TheVariants as log
-use Rattle.access_logs.specs.declared.reading.AccessGroup.{AccessGroup}
 use Rattle.kroft_jobs.specs.Asking.{Asks, AsksNothing}
 use Rattle.kroft_jobs.specs.Lengths.{whole_text, TellsLength}
 use Rattle.kroft_jobs.specs.declared.asked.RequestText.{RequestText}

@@ -1,8 +1,7 @@
 -- What a check found, by names.
 use Rattle.std.specs.Prelude.{ℕ, List, [], ◌∷◌, ◌++◌, codes}
 use Rattle.named_fields.specs.Formats.{Named, absent, counted, worded, numbers, alone_in}
-use Rattle.named_fields.specs.declared.format.Format.{Format}
-use Rattle.trace_text.specs.declared.check.CheckEnd.{CheckEnd}
+use Rattle.kroft_jobs.specs.Words.{Format, CheckEnd}
 use Rattle.trace_text.specs.declared.check.CheckEnd.TheVariants.{Flat, Mismatch}
 use Rattle.kroft_jobs.specs.Jobs.{verdict_text}
 use Rattle.kroft_jobs.specs.Answering.{answered_text}

@@ -2,12 +2,9 @@
 use Rattle.std.specs.Prelude.{◌≡◌, ◌⊎◌, ℕ, List, Result, Ok, Err}
 use Rattle.register_sweeps.specs.Machine.{MachineState}
 use Rattle.trace_text.specs.Reading.{ReadWhole, ReadFails}
-use Rattle.trace_text.specs.declared.fault.TheConstants.{MAX_PAIR}
-use Rattle.trace_text.specs.declared.fault.TraceFault.{TraceFault}
-use Rattle.named_fields.specs.declared.format.Format.{Format}
+use Rattle.kroft_jobs.specs.Words.{MAX_PAIR, TraceFault, Format, Score}
 use Rattle.trace_sheets.specs.Sheets.{sheet_fault}
 use Rattle.trace_sheets.specs.Grades.{Graded, grade_text}
-use Rattle.trace_sheets.specs.declared.score.Score.{Score}
 use Rattle.kroft_jobs.specs.Writing.{IsWritten}
 
 -- The grade of the sheet is written. Or the sheet couldn't be read to its end, and then nothing is written; or the writing

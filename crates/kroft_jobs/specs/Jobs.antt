@@ -1,18 +1,13 @@
 -- What a job does, and how it ends.
 use Rattle.std.specs.Prelude.{ℕ, List, ◌++◌, map, codes, decimal}
-use Rattle.trace_text.specs.declared.check.CheckEnd.{CheckEnd}
+use Rattle.kroft_jobs.specs.Words.{CheckEnd, TraceFault, Sizes, ShapeFault, SweepFault, ShowFault}
 use Rattle.trace_text.specs.declared.check.CheckEnd.TheVariants.{Flat, Mismatch}
-use Rattle.trace_text.specs.declared.fault.TraceFault.{TraceFault}
 use Rattle.trace_text.specs.declared.fault.TraceFault.TheVariants as trace
-use Rattle.register_sweeps.specs.Words.{Sizes}
-use Rattle.shape_files.specs.declared.shape_file.ShapeFault.{ShapeFault}
 use Rattle.shape_files.specs.declared.shape_file.ShapeFault.TheVariants as shape
 use Rattle.shape_files.specs.ShapeFile.{fault_text as shape_text}
 use Rattle.trace_text.specs.Faults.{trace_fault_text}
-use Rattle.register_sweeps.specs.declared.sweeps.SweepFault.{SweepFault}
 use Rattle.register_sweeps.specs.declared.sweeps.SweepFault.TheVariants as sweep
-use Rattle.run_pictures.specs.declared.drawn.TheConstants.{MOST_EVENTS}
-use Rattle.run_pictures.specs.declared.show.ShowFault.{ShowFault}
+use Rattle.run_pictures.specs.Faults.{show_fault_text}
 use Rattle.run_pictures.specs.declared.show.ShowFault.TheVariants as show
 use Rattle.kroft_jobs.specs.declared.fault.JobFault.{JobFault}
 use Rattle.kroft_jobs.specs.declared.fault.JobFault.TheVariants.{ShapeUnreadable, Shape, Trace, TooManyEvents, TurnLimit, OutOfMemory}
@@ -48,7 +43,7 @@ abbrev pub fault_text : JobFault → List ℕ
 fault_text ShapeUnreadable = codes "shape: file not readable"
 fault_text (Shape fault) = shape_text fault
 fault_text (Trace fault) = trace_fault_text fault
-fault_text TooManyEvents = codes "too many events: " ++ decimal MOST_EVENTS ++ codes " at most are shown"
+fault_text TooManyEvents = show_fault_text show.TooManyEvents
 fault_text TurnLimit = codes "turn limit"
 fault_text OutOfMemory = codes "out of memory"
 

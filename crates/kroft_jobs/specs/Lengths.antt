@@ -1,13 +1,12 @@
 -- How long a run is, and what is told of one that is too long for a check.
 use Rattle.std.specs.Prelude.{◌≡◌, ◌⊎◌, ℕ, ◌+◌, ◌<◌, ◌≤◌, ◌==◌, Bool, true, nat_lt, if◌then◌else◌, List, ◌++◌, codes}
 use Rattle.std.specs.List.{count_by}
-use Rattle.flat_model.specs.declared.Event.{Event}
+use Rattle.kroft_jobs.specs.Words.{Event, Timing}
 use Rattle.register_sweeps.specs.Machine.{MachineState}
 use Rattle.trace_text.specs.Codes.{line_feed, most_lines}
 use Rattle.round_driver.specs.Rounds.{whole_run}
 use Rattle.round_driver.specs.Walks.{IsOverInTime}
 use Rattle.round_driver.specs.Written.{run_text}
-use Rattle.round_driver.specs.declared.timing.Timing.{Timing}
 use Rattle.kroft_jobs.specs.Writing.{IsOffered}
 use Rattle.kroft_jobs.specs.declared.lengths.RunMeasure.{RunMeasure}
 use Rattle.kroft_jobs.specs.declared.lengths.RunLength.{RunLength}

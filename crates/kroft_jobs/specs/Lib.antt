@@ -1,3 +1,4 @@
+pub mod Words
 pub mod Jobs
 pub mod Writing
 pub mod Asking
@@ -9,6 +10,4 @@ pub mod Answering
 pub mod Forms
 -- what explanations and grades say, for what stands above
 pub use Rattle.run_reasons.specs.Runs
-pub use Rattle.run_reasons.specs.declared.explain.Explanation
 pub use Rattle.trace_sheets.specs.Grades
-pub use Rattle.trace_sheets.specs.declared.score.Score

@@ -2,24 +2,16 @@
 use Rattle.std.specs.Prelude.{⊤, ◌≡◌, ℕ, List, [], ◌∷◌, map, Option, Some}
 use Rattle.std.specs.List.{All}
 use Rattle.shape_files.specs.MachineFile.{bad_machine}
-use Rattle.register_sweeps.specs.Words.{Sizes}
-use Rattle.flat_model.specs.declared.Event.{Event}
+use Rattle.kroft_jobs.specs.Words.{Sizes, Event, MAX_LINE, Details, Table, Timing, RoundsRow, AccessCounts, AccessGroup}
 use Rattle.register_sweeps.specs.Machine.{MachineState}
 use Rattle.trace_text.specs.Reading.{ReadWhole, ReadStops}
 use Rattle.trace_text.specs.Serving.{trace_fault}
-use Rattle.trace_text.specs.declared.fault.TheConstants.{MAX_LINE}
 use Rattle.round_driver.specs.Details.{details_of}
 use Rattle.round_driver.specs.Tables.{table_of}
 use Rattle.round_driver.specs.Walks.{IsOverInTime}
-use Rattle.round_driver.specs.declared.details.Details.{Details}
-use Rattle.round_driver.specs.declared.table.Table.{Table}
-use Rattle.round_driver.specs.declared.timing.Timing.{Timing}
 use Rattle.shape_files.specs.declared.shape_file.ShapeFault.TheVariants as shape
-use Rattle.register_sweeps.specs.declared.rounds.RoundsRow.{RoundsRow}
 use Rattle.register_sweeps.specs.Rounds.{rounds_row_of}
 use Rattle.register_sweeps.specs.Sweep.{bad_from, new_machine}
-use Rattle.result_formats.specs.declared.accesses.AccessCounts.{AccessCounts}
-use Rattle.access_logs.specs.declared.reading.AccessGroup.{AccessGroup}
 use Rattle.kroft_jobs.specs.Asking.{Asks, accesses_of}
 use Rattle.kroft_jobs.specs.declared.asked.RequestText.{RequestText}
 use Rattle.kroft_jobs.specs.declared.fault.JobFault.{JobFault}

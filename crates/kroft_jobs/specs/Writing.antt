@@ -1,7 +1,7 @@
 -- How a text is written to its end.
 use Rattle.std.specs.Prelude.{◌≡◌, ◌⊎◌, ℕ, List, [], Result, Ok, Err}
 use Rattle.trace_text.specs.Streams.{Moves, Stopped}
-use Rattle.trace_text.specs.declared.fault.TraceFault.{TraceFault}
+use Rattle.kroft_jobs.specs.Words.{TraceFault}
 use Rattle.trace_text.specs.declared.fault.TraceFault.TheVariants as fault
 
 -- A text was put: it is written as a whole, and a flush stands behind it.

@@ -4,7 +4,7 @@ ghost use Rattle.std.specs.Prelude.{◌≡◌, ℕ, List, Some, IfOk, IfErr};
 ghost use Rattle.flat_model.specs.Flat.{Flat};
 ghost use Rattle.flat_model.specs.Memory.{shown};
 ghost use Rattle.flat_model.specs.Images.{flat_from};
-ghost use Rattle.trace_text.specs.declared.fault.TheConstants.{MAX_PAIR};
+ghost use Rattle.kroft_jobs.specs.Words.{MAX_PAIR};
 ghost use Rattle.trace_text.specs.Reading.{ReadWhole, ReadFails};
 ghost use Rattle.trace_text.specs.Checks.{pair_fault, IsJudgedFrom};
 ghost use Rattle.kroft_jobs.specs.Answering.{tags_owed, open_text, tags_text, answered_text, answered_status};

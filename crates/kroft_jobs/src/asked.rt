@@ -2,8 +2,7 @@
 
 ghost use Rattle.std.specs.Prelude.{◌≡◌, ◌/◌, ◌≤◌, true, length, IfOk, IfErr};
 ghost use Rattle.std.specs.List.{list_all};
-ghost use Rattle.access_logs.specs.declared.pages.TheConstants.{PAGE_WORDS};
-ghost use Rattle.access_logs.specs.declared.writing.TheConstants.{MAX_WORDS};
+ghost use Rattle.kroft_jobs.specs.Words.{PAGE_WORDS, MAX_WORDS};
 ghost use Rattle.access_logs.specs.Reads.{LogSays, LogFails};
 ghost use Rattle.round_driver.specs.Rounds.{most_requests};
 ghost use Rattle.round_driver.specs.Walks.{is_request};

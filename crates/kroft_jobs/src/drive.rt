@@ -4,7 +4,7 @@ ghost use Rattle.std.specs.Prelude.{◌≡◌, ◌≤◌, true, None, length, If
 ghost use Rattle.std.specs.List.{list_all};
 ghost use Rattle.shape_files.specs.MachineFile.{bad_machine};
 ghost use Rattle.register_sweeps.specs.Sweep.{machine_over};
-ghost use Rattle.round_driver.specs.declared.driving.TheConstants.{MOST_LATENCY};
+ghost use Rattle.kroft_jobs.specs.Words.{MOST_LATENCY};
 ghost use Rattle.round_driver.specs.Rounds.{most_requests};
 ghost use Rattle.round_driver.specs.Walks.{is_request};
 ghost use Rattle.trace_text.specs.Streams.{Moves, Stopped};

@@ -4,15 +4,16 @@ ghost use Rattle.std.specs.Prelude.{◌≡◌};
 ghost use Rattle.kroft_jobs.specs.Jobs.{status_of};
 
 use register_sweeps::SweepFault;
-use run_pictures::{MOST_EVENTS, ShowFault};
+use run_pictures::ShowFault;
 use shape_files::ShapeFault;
 use std::alloc::AllocError;
-use std::error::Error;
 use std::fmt;
+use thiserror::Error;
 use trace_text::TraceFault;
 
 /// Why a job ends without having done what was asked for.
-#[derive(Debug, Drop)]
+#[derive(Debug, Drop, Error)]
+#[error("{}", FaultText(self))]
 pub enum JobFault {
     /// The shape file can't be read, or isn't UTF-8.
     ShapeUnreadable,
@@ -20,7 +21,7 @@ pub enum JobFault {
     Shape(ShapeFault),
     /// What the trace says, or a failed read or write.
     Trace(TraceFault),
-    /// The trace has more events than are drawn, which are [`MOST_EVENTS`] at most.
+    /// The trace has more events than are drawn, which are [`run_pictures::MOST_EVENTS`] at most.
     TooManyEvents,
     /// The thread of a sweep used up its turns.
     TurnLimit,
@@ -28,21 +29,23 @@ pub enum JobFault {
     OutOfMemory,
 }
 
-impl Error for JobFault {}
+/// A fault's text, of which a contract knows each byte.
+#[derive(Drop)]
+pub struct FaultText<'a>(pub &'a JobFault);
 
-impl fmt::Display for JobFault {
+impl fmt::Display for FaultText<'_> {
     ghost use Rattle.std.specs.Prelude.{Some};
     ghost use Rattle.kroft_jobs.specs.Jobs.{fault_text};
 
-    ghost output = { λ fault. Some (fault_text fault) };
+    ghost output = { λ told. Some (fault_text told.0.now) };
 
     fn fmt<W: fmt::Write>(&self, f: &mut fmt::Formatter<W>) -> fmt::Result {
-        match self {
+        match self.0 {
             JobFault::ShapeUnreadable => f.write_str("shape: file not readable"),
-            JobFault::Shape(fault) => write!(f, "{fault}"),
-            JobFault::Trace(fault) => write!(f, "{fault}"),
+            JobFault::Shape(fault) => write!(f, "{}", shape_files::FaultText(fault)),
+            JobFault::Trace(fault) => write!(f, "{}", trace_text::FaultText(fault)),
             JobFault::TooManyEvents => {
-                write!(f, "too many events: {MOST_EVENTS} at most are shown")
+                write!(f, "{}", run_pictures::FaultText(&ShowFault::TooManyEvents))
             }
             JobFault::TurnLimit => f.write_str("turn limit"),
             JobFault::OutOfMemory => f.write_str("out of memory"),

@@ -4,7 +4,7 @@ ghost use Rattle.std.specs.Prelude.{◌≡◌, ℕ, List, None, Some, IfOk, IfEr
 ghost use Rattle.flat_model.specs.Flat.{Flat};
 ghost use Rattle.flat_model.specs.Images.{memory_from, flat_from};
 ghost use Rattle.register_sweeps.specs.Machine.{MachineState};
-ghost use Rattle.trace_text.specs.declared.fault.TheConstants.{MAX_LINE, MAX_PAIR};
+ghost use Rattle.kroft_jobs.specs.Words.{MAX_LINE, MAX_PAIR};
 ghost use Rattle.trace_text.specs.Reading.{ReadWhole, ReadFails};
 ghost use Rattle.trace_text.specs.Serving.{trace_fault, Ends};
 ghost use Rattle.trace_text.specs.Checks.{pair_fault, IsJudgedFrom};

@@ -21,7 +21,7 @@ mod writing;
 pub use answered::{AnsweredVerdict, check_answered};
 pub use asked::RequestText;
 pub use drive::drive_requests;
-pub use fault::JobFault;
+pub use fault::{FaultText, JobFault};
 pub use forms::{AnsweredIn, CheckIn};
 pub use grades::grade;
 pub use jobs::{Verdict, check, explain, serve, sweep_registers};

@@ -2,19 +2,16 @@
 
 ghost use Rattle.std.specs.Prelude.{◌≡◌, ◌≢◌, ◌≤◌, ℕ, List, None, Err, true, IfOk, IfErr, OnOk, length};
 ghost use Rattle.std.specs.List.{All, list_all};
-ghost use Rattle.trace_text.specs.declared.fault.TheConstants.{MAX_LINE};
+ghost use Rattle.kroft_jobs.specs.Words.{MAX_LINE, MOST_LATENCY, Event as EventValue, AccessGroup as Group};
 ghost use Rattle.trace_text.specs.Reading.{ReadWhole};
 ghost use Rattle.trace_text.specs.Serving.{trace_fault};
 ghost use Rattle.trace_text.specs.Requests.{requests_of};
 ghost use Rattle.shape_files.specs.MachineFile.{bad_machine};
 ghost use Rattle.register_sweeps.specs.declared.sweeps.SweepFault.TheVariants.{TurnLimit};
 ghost use Rattle.register_sweeps.specs.Sweep.{FaultSays, machine_over};
-ghost use Rattle.round_driver.specs.declared.driving.TheConstants.{MOST_LATENCY};
 ghost use Rattle.round_driver.specs.Details.{details_of};
 ghost use Rattle.round_driver.specs.Rounds.{most_requests};
 ghost use Rattle.round_driver.specs.Walks.{is_request, RequestsEnd};
-ghost use Rattle.flat_model.specs.declared.Event.{Event as EventValue};
-ghost use Rattle.access_logs.specs.declared.reading.AccessGroup.{AccessGroup as Group};
 ghost use Rattle.kroft_jobs.specs.Asking.{Asks, AsksNothing, room_of};
 ghost use Rattle.kroft_jobs.specs.Jobs.{swept};
 ghost use Rattle.kroft_jobs.specs.Sweeping.{IsCounted, CountsAll, AreCounted, AreSwept, SweepFails};

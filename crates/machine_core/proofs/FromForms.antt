@@ -5,7 +5,7 @@ use Rattle.std.proofs.Common.{slice_get, refl, sym, ap, ◌∙◌, arith, eq-eqb
 use Rattle.std.proofs.Common.{◌/◌, ◌<◌, ◌++◌, set, length-set, ◌⊎◌, ⊎_elim, get_or, get_or-set_same, ◌-◌, ◌%◌, ne_eqb}
 use Rattle.std.proofs.Common.{◌*◌, nat_lt, length-append, lt-ltb}
 use Rattle.std.proofs.lemmas.Bool.{and_parts, cases_eq, cases_lt, ltb-false}
-use Rattle.cache_law.specs.Words.{Word, Lanes, Event, Cell}
+use Rattle.machine_core.specs.Words.{Word, Lanes, Event, Cell}
 use Rattle.flat_model.specs.Words.{merged, Lane, byte, has, zero_word}
 use Rattle.memory_banks.specs.Banks.{Bank, bank_at, all_pending, words_after, no_bank, room_in, all_sent, commands_for, pending, answers_to}
 use Rattle.memory_banks.specs.Banks.{after}

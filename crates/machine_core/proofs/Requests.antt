@@ -6,8 +6,8 @@ use Rattle.std.proofs.Common.{add-zero, ◌-◌, get_or, replicate, div-add-mod'
 use Rattle.std.specs.List.{range_with_len, list_any, list_all}
 use Rattle.std.proofs.lemmas.Bool.{cases_eq, not-false, and_parts, not-true}
 use Rattle.std.proofs.lemmas.Nat.{mod-mul-add}
-use Rattle.cache_law.specs.Words.{Word, Lanes, Cause, OutOfRange, TagInUse, RepliesFull, TargetsFull, NoRegister, SetPending, QueueFull}
-use Rattle.cache_law.specs.Words.{BankFull, Event, Load, Store, Prefetch, Evict, Accepted, Refused, Cell}
+use Rattle.machine_core.specs.Words.{Word, Lanes, Cause, OutOfRange, TagInUse, RepliesFull, TargetsFull, NoRegister, SetPending, QueueFull}
+use Rattle.machine_core.specs.Words.{BankFull, Event, Load, Store, Prefetch, Evict, Accepted, Refused, Cell}
 use Rattle.flat_model.specs.Flat.{word_at, with_due, flat_after, flat_step, load_refusals}
 use Rattle.memory_banks.specs.declared.Command.TheVariants.{Read}
 use Rattle.memory_banks.specs.declared.BankAnswer.{BankAnswer}

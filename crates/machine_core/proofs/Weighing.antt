@@ -11,7 +11,7 @@ use Rattle.memory_banks.specs.Memory.{is_read}
 use Rattle.machine_core.specs.Pump.{total, command_weight, bank_weight, field_weight, register_weight, weight, lowest, has_items, when}
 use Rattle.machine_core.specs.Pump.{pumped, first_event}
 use Rattle.std.proofs.lemmas.Bool.{lt-leb, cases_lt, and_parts, ltb-true}
-use Rattle.cache_law.specs.Words.{Event, Take, Process, Arrive, Serve, Drain, Word}
+use Rattle.machine_core.specs.Words.{Event, Take, Process, Arrive, Serve, Drain, Word}
 use Rattle.memory_banks.specs.declared.BankAnswer.{BankAnswer}
 use Rattle.memory_banks.specs.Banks.{Bank, bank_at, no_bank, pending, all_pending, answers_to, served, with_command, room_in}
 use Rattle.cache_law.specs.declared.Reply.{Reply}

@@ -3,7 +3,7 @@ use Rattle.std.proofs.Common.{◌≡◌, ℕ, List, [], ◌∷◌, ◌++◌, sli
 use Rattle.std.proofs.Common.{◌/◌, ◌%◌, ◌<◌, ◌≤◌, Bool, true, false, cond, ◌==◌, nat_lt, length, get_or, arith, ⊎_elim, lt-ltb, le-ltb}
 use Rattle.std.proofs.Common.{eq-eqb, ne_eqb, mod-lt, div-add-mod', mul-le-mul_right, ◌≢◌, not, is_none, is_some, flat_map}
 use Rattle.std.proofs.Common.{length-append}
-use Rattle.cache_law.specs.Words.{Cause, Event, Answer, Moved, Refused, Word, Load, Store, Prefetch, Evict, Arrive, Cell, StrayWord}
+use Rattle.machine_core.specs.Words.{Cause, Event, Answer, Moved, Refused, Word, Load, Store, Prefetch, Evict, Arrive, Cell, StrayWord}
 use Rattle.memory_banks.specs.declared.Command.{Command}
 use Rattle.memory_banks.specs.declared.BankAnswer.{BankAnswer}
 use Rattle.memory_banks.specs.Banks.{bank_at, room_in, answers_to, no_bank, all_pending, Bank, pending, opening_banks}

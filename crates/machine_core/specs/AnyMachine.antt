@@ -1,7 +1,7 @@
 -- What a machine answers and shows, by its state alone.
 use Rattle.std.specs.Prelude.{ℕ, Bool, Option, Some, None}
 use Rattle.std.specs.Option.{option_map}
-use Rattle.cache_law.specs.Words.{Word, Event, Answer}
+use Rattle.machine_core.specs.Words.{Word, Event, Answer}
 use Rattle.flat_model.specs.Flat.{Flat}
 use Rattle.miss_registers.specs.declared.Owed.{Owed}
 use Rattle.miss_registers.specs.declared.RegisterView.{RegisterView}

@@ -2,9 +2,11 @@
 use Rattle.std.specs.Prelude.{◌≡◌, ℕ, ◌+◌, ◌-◌, ◌*◌, zero, false, IsTrue, List, [], ◌∷◌, ◌++◌, map, slice_set}
 use Rattle.std.proofs.Common.{refl}
 use Rattle.std.specs.List.{range_with_len}
-use Rattle.cache_law.specs.Words.{Word, Lanes, OutOfRange, NoLanes, TagInUse, RepliesFull, TargetsFull, NoRegister, SetPending, QueueFull}
-use Rattle.cache_law.specs.Words.{BankFull, NotPresent, StackFull, Event, Load, Store, Prefetch, Evict, Drain, Serve, Arrive, Process, Take}
-use Rattle.cache_law.specs.Words.{Answer, Accepted, Moved, Value, Nothing, Refused}
+use Rattle.machine_core.specs.Words.{Word, Lanes, OutOfRange, NoLanes, TagInUse, RepliesFull, TargetsFull, NoRegister, SetPending}
+use Rattle.machine_core.specs.Words.{QueueFull}
+use Rattle.machine_core.specs.Words.{BankFull, NotPresent, StackFull, Event, Load, Store, Prefetch, Evict, Drain, Serve, Arrive, Process}
+use Rattle.machine_core.specs.Words.{Take}
+use Rattle.machine_core.specs.Words.{Answer, Accepted, Moved, Value, Nothing, Refused}
 use Rattle.flat_model.specs.Words.{has, joined, merged}
 use Rattle.input_stack.specs.Stack.{stack_word}
 use Rattle.memory_banks.specs.Banks.{with_command, served}

@@ -2,8 +2,8 @@
 use Rattle.std.specs.Prelude.{ℕ, ◌/◌, ◌%◌, Bool, ◌&&◌, List, [], ◌∷◌, map, Option, Some, None, slice_get, slice_set}
 use Rattle.std.specs.Option.{option_map}
 use Rattle.std.specs.List.{list_all, range_with_len}
-use Rattle.cache_law.specs.Words.{Word, Cause, Event, Load, Store, Prefetch, Evict, Drain, Serve, Arrive, Process, Take, Answer, Moved}
-use Rattle.cache_law.specs.Words.{Nothing, Refused}
+use Rattle.machine_core.specs.Words.{Word, Cause, Event, Load, Store, Prefetch, Evict, Drain, Serve, Arrive, Process, Take, Answer, Moved}
+use Rattle.machine_core.specs.Words.{Nothing, Refused}
 use Rattle.flat_model.specs.Flat.{Flat, word_at}
 use Rattle.memory_banks.specs.declared.Command.{Command}
 use Rattle.memory_banks.specs.declared.BankAnswer.{BankAnswer}

@@ -1,7 +1,7 @@
 -- What each machine that a walk comes to keeps.
 use Rattle.std.specs.Prelude.{◌≡◌, ℕ, ◌+◌, ◌/◌, ◌%◌, ◌<◌, ◌≤◌, Bool, ◌&&◌, not, ◌==◌, nat_lt, length}
 use Rattle.std.specs.Prelude.{Option, Some, None, slice_index_or}
-use Rattle.cache_law.specs.Words.{Word}
+use Rattle.machine_core.specs.Words.{Word}
 use Rattle.flat_model.specs.Words.{merged, zero_word}
 use Rattle.memory_banks.specs.declared.BankAnswer.{BankAnswer}
 use Rattle.memory_banks.specs.Banks.{bank_at, pending, all_pending}

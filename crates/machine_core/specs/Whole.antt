@@ -1,7 +1,7 @@
 -- What is so of every whole machine, and what its calls answer.
 use Rattle.std.specs.Prelude.{◌≡◌, ℕ, ◌<◌, nat_lt, if◌then◌else◌, ◌==◌, IsTrue, Option, Some, None}
 use Rattle.std.specs.Option.{option_or}
-use Rattle.cache_law.specs.Words.{Word, Event, Load, Store, Prefetch, Evict, Answer, Accepted}
+use Rattle.machine_core.specs.Words.{Word, Event, Load, Store, Prefetch, Evict, Answer, Accepted}
 use Rattle.flat_model.specs.declared.ShapeField.{ShapeField}
 use Rattle.flat_model.specs.declared.ShapeField.TheVariants.{Image}
 use Rattle.flat_model.specs.Words.{has_any}

@@ -3,7 +3,7 @@ ghost use Rattle.std.specs.Prelude.{◌≡◌, ◌≢◌, ℕ, ◌+◌, ◌*◌,
 ghost use Rattle.std.specs.Prelude.{None, Some, slice_get};
 ghost use Rattle.std.specs.Option.{option_map};
 ghost use Rattle.flat_model.specs.Flat.{flat_step, flat_run, word_at};
-ghost use Rattle.cache_law.specs.Words.{StrayWord};
+ghost use Rattle.machine_core.specs.Words.{StrayWord};
 ghost use Rattle.memory_banks.specs.Memory.{fault_of};
 ghost use Rattle.cache_law.specs.Views as views;
 ghost use Rattle.cache_law.specs.Lookups.{lookup};

@@ -7,17 +7,22 @@ use crate::views::ShapeRow;
 use flat_model::{MakeFault, ShapeField, Word};
 use machine_core::ShapedMachine;
 use std::alloc::Global;
+use thiserror::Error;
 
 /// Why a machine isn't opened.
-#[derive(Clone, Copy)]
+#[derive(Clone, Copy, Debug, Error)]
 pub enum OpenFault {
     /// One of the first four numbers is out of its range.
+    #[error("there is no such machine")]
     NoSuchMachine,
     /// The first other one that is.
+    #[error("{}", MakeFault::BadShape(*.0))]
     BadShape(ShapeField),
     /// There was too little memory.
+    #[error("out of memory")]
     OutOfMemory,
     /// A machine is behind the handle already.
+    #[error("a machine is behind the handle already")]
     OpenAlready,
 }
 

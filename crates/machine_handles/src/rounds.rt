@@ -43,7 +43,7 @@ pub struct CountsRow {
     pub stalled: u64,
     /// Rounds lost with 3: the tag is in use.
     pub lost_tag_in_use: u64,
-    /// With 4: as many loads are owed as may be.
+    /// With 4: the limit of outstanding loads is reached.
     pub lost_replies_full: u64,
     /// With 5: four loads wait for the word.
     pub lost_targets_full: u64,

@@ -1,6 +1,8 @@
 //! The events of a history, and why one of them is refused.
 
+use crate::faults::FaultText;
 use std::alloc::AllocError;
+use thiserror::Error;
 
 /// The most bytes of one operation.
 pub const MAX_LENGTH: usize = 64;
@@ -38,7 +40,8 @@ pub enum HistoryEvent<'a> {
 }
 
 /// Why an event is none of the law. Of the faults that hold, the first in this order is answered.
-#[derive(Clone, Copy, PartialEq, Eq, Debug)]
+#[derive(Clone, Copy, PartialEq, Eq, Debug, Error)]
+#[error("{}", FaultText(self))]
 pub enum HistoryFault {
     /// The operation has no byte or more than 64, or runs beyond the last address.
     OutOfRange,
@@ -64,7 +67,8 @@ pub enum Rest {
 }
 
 /// Why an event was not taken. After each of these everything is as it was.
-#[derive(Clone, Copy, PartialEq, Eq, Debug)]
+#[derive(Clone, Copy, PartialEq, Eq, Debug, Error)]
+#[error("{}", FaultText(self))]
 pub enum StepFault {
     /// The history with this event is none of the law.
     Refused(HistoryFault),

@@ -22,6 +22,7 @@ mod windows;
 
 pub use answered::{KeptUnit, UnitChange};
 pub use events::{HistoryEvent, HistoryFault, MAX_LENGTH, Rest, StepFault};
+pub use faults::FaultText;
 pub use flat::{FlatHistory, OwedByte};
 pub use forms::{
     has_enabled, is_inside, load_request_fault, store_request_fault, store_response_fault,

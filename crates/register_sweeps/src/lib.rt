@@ -17,4 +17,4 @@ pub use machine_core::Sizes;
 pub use machines::new_machine;
 pub use rounds::{RoundsRow, rounds_table, sweep_rounds};
 pub use row::Row;
-pub use sweeps::{OpenGate, SweepFault, SweepGate, sweep, sweep_machines, sweep_row};
+pub use sweeps::{FaultText, OpenGate, SweepFault, SweepGate, sweep, sweep_machines, sweep_row};

@@ -16,12 +16,13 @@ use flat_model::{Event, Image, MakeFault, ShapeField};
 use machine_core::Sizes;
 use shape_files::{ToolShape, bad_field};
 use std::alloc::{AllocError, Global};
-use std::error::Error;
 use std::fmt;
 use std::thread::Threads;
+use thiserror::Error;
 
 /// Why a sweep gave no rows.
-#[derive(Clone, Copy, PartialEq, Eq, Debug)]
+#[derive(Clone, Copy, PartialEq, Eq, Debug, Error)]
+#[error("{}", FaultText(self))]
 pub enum SweepFault {
     /// The first shape or machine, counted from 0, that has a number out of its range, and the first such
     /// number. It is found before any thread begins.
@@ -32,17 +33,19 @@ pub enum SweepFault {
     OutOfMemory,
 }
 
-impl Error for SweepFault {}
+/// A fault's text, of which a contract knows each byte.
+#[derive(Drop)]
+pub struct FaultText<'a>(pub &'a SweepFault);
 
 /// `shape 2: Sets is out of range`, `turn limit` or `out of memory`.
-impl fmt::Display for SweepFault {
-    ghost output = { λ fault. Some (sweep_fault_text fault) };
+impl fmt::Display for FaultText<'_> {
+    ghost output = { λ told. Some (sweep_fault_text told.0.now) };
 
     fn fmt<W: fmt::Write>(&self, f: &mut fmt::Formatter<W>) -> fmt::Result {
-        match self {
+        match self.0 {
             SweepFault::BadShape { place, field } => {
                 let fault = MakeFault::BadShape(*field);
-                write!(f, "shape {place}: {fault}")
+                write!(f, "shape {place}: {}", flat_model::FaultText(&fault))
             }
             SweepFault::TurnLimit => f.write_str("turn limit"),
             SweepFault::OutOfMemory => f.write_str("out of memory"),

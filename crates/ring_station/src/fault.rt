@@ -2,12 +2,13 @@
 
 use station_parts::RenewFault;
 use std::alloc::AllocError;
-use std::error::Error;
 use std::fmt;
+use thiserror::Error;
 
 /// Why a run gave no lists. The station stands where the steps of its threads left it, and may be
 /// audited.
-#[derive(Clone, Copy, PartialEq, Eq, Debug)]
+#[derive(Clone, Copy, PartialEq, Eq, Debug, Error)]
+#[error("{}", FaultText(self))]
 pub enum RunFault {
     /// A thread used up its turns before it came to its end, or the cache side found its journal full, or
     /// the audit isn't `Clean`: [`Run::stop`](crate::Run::stop) tells these apart.
@@ -16,17 +17,19 @@ pub enum RunFault {
     OutOfMemory,
 }
 
-impl Error for RunFault {}
+/// A fault's text, of which a contract knows each byte.
+#[derive(Drop)]
+pub struct FaultText<'a, F>(pub &'a F);
 
 /// `turn limit` or `out of memory`.
-impl fmt::Display for RunFault {
+impl fmt::Display for FaultText<'_, RunFault> {
     ghost use Rattle.std.specs.Prelude.{Some};
     ghost use Rattle.ring_station.specs.Faults.{run_fault_text};
 
-    ghost output = { λ fault. Some (run_fault_text fault) };
+    ghost output = { λ told. Some (run_fault_text told.0.now) };
 
     fn fmt<W: fmt::Write>(&self, f: &mut fmt::Formatter<W>) -> fmt::Result {
-        f.write_str(match self {
+        f.write_str(match self.0 {
             RunFault::TurnLimit => "turn limit",
             RunFault::OutOfMemory => "out of memory",
         })
@@ -45,7 +48,8 @@ impl From<AllocError> for RunFault {
 }
 
 /// Why a run gave no lists and no journal.
-#[derive(Clone, Copy, PartialEq, Eq, Debug)]
+#[derive(Clone, Copy, PartialEq, Eq, Debug, Error)]
+#[error("{}", FaultText(self))]
 pub enum SegmentFault {
     /// The run came to no end.
     Run(RunFault),
@@ -53,19 +57,17 @@ pub enum SegmentFault {
     Renewal(RenewFault),
 }
 
-impl Error for SegmentFault {}
-
 /// The text of the fault that it holds.
-impl fmt::Display for SegmentFault {
+impl fmt::Display for FaultText<'_, SegmentFault> {
     ghost use Rattle.std.specs.Prelude.{Some};
     ghost use Rattle.ring_station.specs.Faults.{segment_fault_text};
 
-    ghost output = { λ fault. Some (segment_fault_text fault) };
+    ghost output = { λ told. Some (segment_fault_text told.0.now) };
 
     fn fmt<W: fmt::Write>(&self, f: &mut fmt::Formatter<W>) -> fmt::Result {
-        match self {
-            SegmentFault::Run(fault) => write!(f, "{fault}"),
-            SegmentFault::Renewal(fault) => write!(f, "{fault}"),
+        match self.0 {
+            SegmentFault::Run(fault) => write!(f, "{}", FaultText(fault)),
+            SegmentFault::Renewal(fault) => write!(f, "{}", station_parts::FaultText(fault)),
         }
     }
 }

@@ -22,7 +22,7 @@ mod threads;
 
 pub use cache_unit::CacheUnit;
 pub use crew::Crew;
-pub use fault::{RunFault, SegmentFault};
+pub use fault::{FaultText, RunFault, SegmentFault};
 pub use flat_model::{Answer, Cause, Event, Lanes, MakeFault, Shape, ShapeField, Word};
 pub use gate::{Actor, Gate};
 pub use keeper::Keeper;

@@ -1,13 +1,18 @@
 //! How the threads of a run ended.
 
+use thiserror::Error;
+
 /// Why a thread stopped before its part was done.
-#[derive(Clone, Copy, PartialEq, Eq, Debug)]
+#[derive(Clone, Copy, PartialEq, Eq, Debug, Error)]
 pub enum ThreadFault {
     /// It used up its turns.
+    #[error("turn limit")]
     TurnLimit,
     /// A port found no memory to note what it is told. The telling stands in the ring still.
+    #[error("out of memory")]
     OutOfMemory,
     /// The cache side's journal had no room for its next step.
+    #[error("the journal is full")]
     JournalFull,
 }
 

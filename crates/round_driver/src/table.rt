@@ -47,7 +47,7 @@ pub struct Table {
 pub struct LostRounds {
     /// 3: the tag is in use.
     pub tag_in_use: u64,
-    /// 4: as many loads are owed values as may be.
+    /// 4: the limit of outstanding loads is reached.
     pub replies_full: u64,
     /// 5: four loads wait for the word.
     pub targets_full: u64,

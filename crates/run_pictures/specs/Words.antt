@@ -286,7 +286,7 @@ bank_words s event =
 -- by a machine's numbers alone
 abbrev pub limit_words : Sizes → Event → Cause → List ℕ
 limit_words z event OutOfRange = outside_words z event
-limit_words z event RepliesFull = codes "as many loads are owed values as may be: " ++ decimal z.replies
+limit_words z event RepliesFull = codes "the limit of outstanding loads is reached: " ++ decimal z.replies
 limit_words z event NoRegister = codes "all registers are in use: " ++ decimal z.regs
 limit_words z event SetPending =
     codes "every way of set " ++ (decimal (set_in z (block_about z event)) ++ codes " waits for words")

@@ -33,5 +33,5 @@ pub use drawing::Form;
 pub use drawn::{MOST_EVENTS, WHOLE_EVERY};
 pub use place::Place;
 pub use reasons::words_by;
-pub use show::{ShowFault, show_text};
+pub use show::{FaultText, ShowFault, show_text};
 pub use signal::Signal;

@@ -213,7 +213,7 @@ fn limited(sizes: &Sizes, event: Event, cause: Cause) -> Numbered
     match cause {
         Cause::OutOfRange => outside(sizes, event),
         Cause::RepliesFull => Numbered::One(
-            "as many loads are owed values as may be: ",
+            "the limit of outstanding loads is reached: ",
             sizes.replies,
         ),
         Cause::NoRegister => Numbered::One("all registers are in use: ", sizes.regs),

@@ -10,12 +10,13 @@ use crate::drawn::{MOST_EVENTS, draw_run};
 use flat_model::Image;
 use machine_core::ShapedMachine;
 use std::alloc::{AllocError, Global};
-use std::error::Error;
 use std::fmt;
+use thiserror::Error;
 use trace_text::{Source, TraceFault};
 
 /// Why a trace isn't drawn.
-#[derive(Clone, Copy, PartialEq, Eq, Debug)]
+#[derive(Clone, Copy, PartialEq, Eq, Debug, Error)]
+#[error("{}", FaultText(self))]
 pub enum ShowFault {
     /// What the trace says, or a failed read.
     Trace(TraceFault),
@@ -25,15 +26,17 @@ pub enum ShowFault {
     OutOfMemory,
 }
 
-impl Error for ShowFault {}
+/// A fault's text, of which a contract knows each byte.
+#[derive(Drop)]
+pub struct FaultText<'a>(pub &'a ShowFault);
 
 /// The fault of the trace as it tells itself, `too many events: 10000 at most are shown`, or `out of memory`.
-impl fmt::Display for ShowFault {
-    ghost output = { λ fault. Some (show_fault_text fault) };
+impl fmt::Display for FaultText<'_> {
+    ghost output = { λ told. Some (show_fault_text told.0.now) };
 
     fn fmt<W: fmt::Write>(&self, f: &mut fmt::Formatter<W>) -> fmt::Result {
-        match self {
-            ShowFault::Trace(fault) => write!(f, "{fault}"),
+        match self.0 {
+            ShowFault::Trace(fault) => write!(f, "{}", trace_text::FaultText(fault)),
             ShowFault::TooManyEvents => {
                 write!(f, "too many events: {MOST_EVENTS} at most are shown")
             }

@@ -14,14 +14,17 @@ use crate::reason::{Mismatch, Reason, WrongWord, is_ever, is_out_of_range, never
 use crate::tags::Tags;
 use flat_model::{Answer, Event, FlatMemory, Image, Lanes, StepFault, Word, merge};
 use std::alloc::{AllocError, Global};
+use thiserror::Error;
 
 /// Why a line wasn't read. After each of these the explainer is as it was.
-#[derive(Clone, Copy, PartialEq, Eq, Debug)]
+#[derive(Clone, Copy, PartialEq, Eq, Debug, Error)]
 pub enum ReadFault {
     /// Flat memory can't answer so.
+    #[error("flat memory can't answer so at line {}", .0.line)]
     Mismatch(Mismatch),
     /// There was too little memory for the word that a load is owed, or for those that a store
     /// overwrites or leaves.
+    #[error("out of memory")]
     OutOfMemory,
 }
 

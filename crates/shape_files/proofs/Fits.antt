@@ -6,7 +6,7 @@ use Rattle.flat_model.specs.declared.ShapeField.TheVariants.{BlockWords, Ways, R
 use Rattle.flat_model.specs.declared.limits.TheConstants.{MAX_BLOCK_WORDS, MAX_WAYS, MAX_REGS, MAX_DEPTH, MAX_WORDS, MAX_MEMORY}
 use Rattle.flat_model.specs.Ranges.{is_between}
 use Rattle.flat_model.proofs.Ranges.{between, inside}
-use Rattle.cache_unit.specs.Words.{Sizes}
+use Rattle.cache_unit.specs.Sizes.{Sizes}
 use Rattle.cache_unit.specs.Limits as limits
 use Rattle.cache_unit.proofs.Numbers.{passed}
 use Rattle.shape_files.specs.declared.shape_file.TheConstants.{MOST_WAYS}

@@ -1,5 +1,5 @@
 -- What a machine file says: the answer for every text.
-use Rattle.std.specs.Prelude.{ℕ, ℤ, ◌≡◌, ◌⊎◌, ◌^◌, ◌-◌, Bool, true, false, not, if◌then◌else◌, List, ◌++◌, map, Option, Some, None, IsSome}
+use Rattle.std.specs.Prelude.{ℕ, ℤ, ◌≡◌, ◌⊎◌, ◌^◌, ◌-◌, Bool, true, false, not, if◌then◌else◌, List, ◌++◌, map, take, Option, Some, None, IsSome}
 use Rattle.std.specs.Prelude.{codes, decimal}
 use Rattle.std.specs.List.{list_any, find}
 use Rattle.std.specs.Str.{bytes_eq}
@@ -13,10 +13,10 @@ use Rattle.flat_model.specs.declared.ShapeField.TheVariants.{Depth}
 use Rattle.flat_model.specs.declared.limits.TheConstants.{MAX_BLOCK_WORDS, MAX_WAYS, MAX_REGS, MAX_DEPTH, MAX_WORDS, MAX_SETS, MAX_BANKS}
 use Rattle.flat_model.specs.declared.limits.TheConstants.{MAX_BANK_QUEUE, MAX_WRITE_QUEUE, MAX_REPLIES}
 use Rattle.flat_model.specs.Ranges.{is_between}
-use Rattle.cache_unit.specs.Words.{Sizes}
+use Rattle.cache_unit.specs.Sizes.{Sizes}
 use Rattle.cache_unit.specs.Limits as limits
 use Rattle.shape_files.specs.declared.shape_file.TheConstants.{DEFAULT_SHAPE}
-use Rattle.shape_files.specs.declared.machine_file.TheConstants.{MACHINE_FIELDS}
+use Rattle.shape_files.specs.declared.machine_file.TheConstants.{MACHINE_FIELDS, MAX_TOLD_KEY}
 use Rattle.shape_files.specs.declared.machine_file.MachineFault.{MachineFault}
 use Rattle.shape_files.specs.declared.machine_file.MachineFault.TheVariants.{NotToml, UnknownKey, NotWhole, OutOfRange, OutOfMemory}
 use Rattle.shape_files.specs.ShapeFile.{key_of, integer_at, fitted, sizes_of}
@@ -96,6 +96,10 @@ bad_machine z = limits.bad_field_within most_of_program z
 abbrev pub printable_byte : ℕ → ℕ
 printable_byte b = if is_between b 32 126 then b else 63
 
+-- a key as it is told: its start, byte for byte
+abbrev pub told_key : List ℕ → List ℕ
+told_key key = map printable_byte (take MAX_TOLD_KEY key)
+
 -- All keys are a machine's, all numbers are whole ones, and in their ranges.
 abbrev pub TableSays : Members → Sizes → Type 0
 TableSays ms z = (other_key ms ≡ None) × (first_not_whole ms ≡ None) × (z ≡ sizes_said ms) × (bad_machine z ≡ None)
@@ -103,7 +107,7 @@ TableSays ms z = (other_key ms ≡ None) × (first_not_whole ms ≡ None) × (z 
 -- Why not: the first cause in this order. Memory may be missing for the name of a key.
 abbrev pub TableFails : Members → MachineFault → Type 0
 TableFails ms NotToml = ⊥
-TableFails ms (UnknownKey name) = (key : List ℕ) × (other_key ms ≡ Some key) × (string_bytes name ≡ map printable_byte key)
+TableFails ms (UnknownKey name) = (key : List ℕ) × (other_key ms ≡ Some key) × (string_bytes name ≡ told_key key)
 TableFails ms (NotWhole field) = (other_key ms ≡ None) × (first_not_whole ms ≡ Some field)
 TableFails ms (OutOfRange field) =
     (other_key ms ≡ None) × (first_not_whole ms ≡ None) × (bad_machine (sizes_said ms) ≡ Some field)

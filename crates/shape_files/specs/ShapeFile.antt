@@ -9,7 +9,7 @@ use Rattle.flat_model.specs.declared.ShapeField.{ShapeField}
 use Rattle.flat_model.specs.declared.ShapeField.TheVariants.{Ways, Regs, Words, Sets, Banks, BankQueue, WriteQueue, Replies, BlockWords}
 use Rattle.flat_model.specs.declared.ShapeField.TheVariants.{Depth, Ports, Journal, Image}
 use Rattle.flat_model.specs.Ranges.{is_between}
-use Rattle.cache_unit.specs.Words.{Sizes}
+use Rattle.cache_unit.specs.Sizes.{Sizes}
 use Rattle.cache_unit.specs.Shown as shown
 use Rattle.cache_unit.specs.Limits.{bad_number}
 use Rattle.shape_files.specs.declared.shape_file.TheConstants.{BLOCK_WORDS, DEPTH, MOST_WAYS, REGISTER_COUNTS, DEFAULT_SHAPE}

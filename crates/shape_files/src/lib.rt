@@ -5,8 +5,10 @@
 mod machine_file;
 mod shape_file;
 
-pub use machine_file::{MACHINE_FIELDS, MachineFault, bad_number, machine_of_table, read_machine};
+pub use machine_file::{
+    MACHINE_FIELDS, MAX_TOLD_KEY, MachineFault, bad_number, machine_of_table, read_machine,
+};
 pub use shape_file::{
-    BLOCK_WORDS, DEFAULT_SHAPE, DEPTH, MOST_WAYS, REGISTER_COUNTS, ShapeFault, ToolShape,
-    bad_field, read_shape, shape_of_table,
+    BLOCK_WORDS, DEFAULT_SHAPE, DEPTH, FaultText, MOST_WAYS, REGISTER_COUNTS, ShapeFault,
+    ToolShape, bad_field, read_shape, shape_of_table,
 };

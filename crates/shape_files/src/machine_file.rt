@@ -1,21 +1,21 @@
 //! The machine file: all numbers of a machine, as a TOML table.
 
-ghost use Rattle.std.specs.Prelude.{◌≡◌, None, IfOk, IfErr, map};
+ghost use Rattle.std.specs.Prelude.{◌≡◌, None, IfOk, IfErr, take};
 ghost use Rattle.std.specs.Option.{option_map};
 ghost use Rattle.std.specs.String.{string_bytes};
 ghost use Rattle.toml.specs.Parse.{parse_document};
 ghost use Rattle.toml.specs.View.{table_view};
 ghost use Rattle.shape_files.specs.MachineFile as file;
 
-use crate::shape_file::{DEFAULT_SHAPE, fitted, integer_at, key_of};
+use crate::shape_file::{DEFAULT_SHAPE, FaultText, fitted, integer_at, key_of};
 use cache_unit::Sizes;
 use flat_model::{
     MAX_BANK_QUEUE, MAX_BANKS, MAX_BLOCK_WORDS, MAX_DEPTH, MAX_REGS, MAX_REPLIES, MAX_SETS,
     MAX_WAYS, MAX_WORDS, MAX_WRITE_QUEUE, ShapeField,
 };
 use std::alloc::{AllocError, Global};
-use std::error::Error;
 use std::fmt;
+use thiserror::Error;
 use toml::Table;
 
 /// The numbers of a machine file, in the order in which they are looked at.
@@ -32,13 +32,17 @@ pub const MACHINE_FIELDS: [ShapeField; 10] = [
     ShapeField::Replies,
 ];
 
+/// How many bytes of an unknown key are told at most.
+pub const MAX_TOLD_KEY: usize = 64;
+
 /// Why a machine file is refused.
-#[derive(Debug, Drop)]
+#[derive(Debug, Drop, Error)]
+#[error("{}", FaultText(self))]
 pub enum MachineFault {
     /// The text is no TOML.
     NotToml,
-    /// The table has this key, which no machine has. What isn't a printable ASCII character stands
-    /// as a question mark.
+    /// The table has a key that begins so, which no machine has: its first [`MAX_TOLD_KEY`] bytes. What isn't
+    /// a printable ASCII character stands as a question mark.
     UnknownKey(String),
     /// What stands at the key is no whole number.
     NotWhole(ShapeField),
@@ -48,16 +52,14 @@ pub enum MachineFault {
     OutOfMemory,
 }
 
-impl Error for MachineFault {}
-
-impl fmt::Display for MachineFault {
+impl fmt::Display for FaultText<'_, MachineFault> {
     ghost use Rattle.std.specs.Prelude.{Some};
     ghost use Rattle.shape_files.specs.MachineFile.{machine_fault_text};
 
-    ghost output = { λ fault. Some (machine_fault_text fault) };
+    ghost output = { λ told. Some (machine_fault_text told.0.now) };
 
     fn fmt<W: fmt::Write>(&self, f: &mut fmt::Formatter<W>) -> fmt::Result {
-        match self {
+        match self.0 {
             MachineFault::NotToml => f.write_str("machine: not TOML"),
             MachineFault::UnknownKey(key) => write!(f, "machine: unknown key {key}"),
             MachineFault::NotWhole(field) => {
@@ -213,12 +215,20 @@ fn other_key(table: &Table) -> Option<&str>
     None
 }
 
-// A key as it is told: in one line, whatever its characters are.
+// The bytes of a key that are told.
+#[tactic(auto, using(std::proofs::lemmas::List::take_min))]
+fn told_bytes(key: &[u8]) -> &[u8]
+    ensures { result.now ≡ take MAX_TOLD_KEY key.now }
+{
+    &key[..MAX_TOLD_KEY.min(key.len())]
+}
+
+// A key as it is told: in one short line, whatever its characters are.
 fn printable(alloc: Global, key: &str) -> Result<String, AllocError>
-    ensures { IfOk result (λ text. string_bytes text ≡ map file.printable_byte key.now) }
+    ensures { IfOk result (λ text. string_bytes text ≡ file.told_key key.now) }
 {
     let mut text = String::new(alloc);
-    for byte in key.as_bytes() {
+    for byte in told_bytes(key.as_bytes()) {
         text.push(printable_byte(*byte))?;
     }
     Ok(text)

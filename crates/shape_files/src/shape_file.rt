@@ -12,8 +12,8 @@ ghost use Rattle.shape_files.specs.ShapeFile.{fitted, shape_of, sizes_of, table_
 use cache_unit::Sizes;
 use flat_model::{Shape, ShapeField};
 use std::alloc::Global;
-use std::error::Error;
 use std::fmt;
+use thiserror::Error;
 use toml::Table;
 
 /// Words per block of each machine that the program makes.
@@ -87,7 +87,8 @@ impl Default for ToolShape {
 }
 
 /// Why a shape file is refused.
-#[derive(Clone, Copy, PartialEq, Eq, Debug)]
+#[derive(Clone, Copy, PartialEq, Eq, Debug, Error)]
+#[error("{}", FaultText(self))]
 pub enum ShapeFault {
     /// The text is no TOML.
     NotToml,
@@ -101,16 +102,18 @@ pub enum ShapeFault {
     OutOfMemory,
 }
 
-impl Error for ShapeFault {}
+/// A fault's text, of which a contract knows each byte.
+#[derive(Drop)]
+pub struct FaultText<'a, F>(pub &'a F);
 
-impl fmt::Display for ShapeFault {
+impl fmt::Display for FaultText<'_, ShapeFault> {
     ghost use Rattle.std.specs.Prelude.{Some};
     ghost use Rattle.shape_files.specs.ShapeFile.{fault_text};
 
-    ghost output = { λ fault. Some (fault_text fault) };
+    ghost output = { λ told. Some (fault_text told.0.now) };
 
     fn fmt<W: fmt::Write>(&self, f: &mut fmt::Formatter<W>) -> fmt::Result {
-        match self {
+        match self.0 {
             ShapeFault::NotToml => f.write_str("shape: not TOML"),
             ShapeFault::UnknownKey => f.write_str("shape: unknown key"),
             ShapeFault::NotWhole(field) => {

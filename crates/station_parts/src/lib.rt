@@ -30,3 +30,4 @@ pub use port::{ASK_PLACES, Port, TELLING_PLACES};
 pub use raw::RawBank;
 pub use renewal::{RenewFault, renew};
 pub use station_journal::{Ask, Entry, PORT_TAGS, SideFault, Source, Told};
+pub use texts::FaultText;

@@ -18,12 +18,15 @@ use crate::inspect::audit;
 use crate::make::MAX_NOTED;
 use crate::parts::{Audit, CacheSide};
 use crate::port::Port;
+use crate::texts::FaultText;
 use station_journal::Entry;
 use std::alloc::{AllocError, Global};
 use std::mem::replace;
+use thiserror::Error;
 
 /// Why a station wasn't renewed.
-#[derive(Clone, Copy, PartialEq, Eq, Debug)]
+#[derive(Clone, Copy, PartialEq, Eq, Debug, Error)]
+#[error("{}", FaultText(self))]
 pub enum RenewFault {
     /// With one full journal more the station would have noted more than [`MAX_NOTED`] entries.
     WornOut,

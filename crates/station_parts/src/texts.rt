@@ -4,7 +4,6 @@ ghost use Rattle.station_parts.specs.Texts.{ring_text, audit_text, renew_fault_t
 
 use crate::parts::{Audit, Ring};
 use crate::renewal::RenewFault;
-use std::error::Error;
 use std::fmt::{self, Display, Formatter, Write};
 
 /// As `asks of port 3`, or `answers of bank 0`.
@@ -35,14 +34,16 @@ impl Display for Audit {
     }
 }
 
-impl Error for RenewFault {}
+/// A fault's text, of which a contract knows each byte.
+#[derive(Drop)]
+pub struct FaultText<'a>(pub &'a RenewFault);
 
 /// `worn out`, `out of memory`, or what the audit found, as `not clean, owed: 2`.
-impl Display for RenewFault {
-    ghost output = { λ fault. Some (renew_fault_text fault) };
+impl Display for FaultText<'_> {
+    ghost output = { λ told. Some (renew_fault_text told.0.now) };
 
     fn fmt<W: Write>(&self, f: &mut Formatter<W>) -> fmt::Result {
-        match *self {
+        match *self.0 {
             RenewFault::WornOut => f.write_str("worn out"),
             RenewFault::OutOfMemory => f.write_str("out of memory"),
             RenewFault::NotClean(found) => write!(f, "not clean, {found}"),

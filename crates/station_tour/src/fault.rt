@@ -4,11 +4,12 @@ use clap::error::ErrorKind;
 use flat_model::MakeFault;
 use ring_station::{RenewFault, RunFault, SegmentFault};
 use std::alloc::AllocError;
-use std::error::Error;
 use std::{fmt, io};
+use thiserror::Error;
 
 /// Why the program ends without having told all.
-#[derive(Debug, Drop)]
+#[derive(Debug, Drop, Error)]
+#[error("{}", FaultText(self))]
 pub(crate) enum StationFault {
     /// The words of the command line, or help that was asked for.
     CommandLine(clap::Error),
@@ -26,20 +27,22 @@ pub(crate) enum StationFault {
     OutOfMemory,
 }
 
-impl Error for StationFault {}
+/// A fault's text, of which a contract knows each byte.
+#[derive(Drop)]
+pub(crate) struct FaultText<'a>(pub &'a StationFault);
 
 /// What was wrong; of the command line and of a stream in the words of what it holds.
-impl fmt::Display for StationFault {
+impl fmt::Display for FaultText<'_> {
     ghost use Rattle.station_tour.specs.Texts.{station_fault_text};
 
-    ghost output = { λ fault. station_fault_text fault };
+    ghost output = { λ told. station_fault_text told.0.now };
 
     fn fmt<W: fmt::Write>(&self, f: &mut fmt::Formatter<W>) -> fmt::Result {
-        match self {
+        match self.0 {
             StationFault::CommandLine(fault) => write!(f, "{fault}"),
             StationFault::Shape => f.write_str("the shape is out of range"),
             StationFault::TurnLimit => f.write_str("turn limit"),
-            StationFault::Renewal(fault) => write!(f, "{fault}"),
+            StationFault::Renewal(fault) => write!(f, "{}", station_parts::FaultText(fault)),
             StationFault::Journal(fault) => write!(f, "journal: {fault}"),
             StationFault::Io(fault) => write!(f, "{fault}"),
             StationFault::OutOfMemory => f.write_str("out of memory"),

@@ -18,7 +18,7 @@ mod tour;
 
 use crate::command_line::{Job, Show, read_words};
 use crate::crew::threads_here;
-use crate::fault::StationFault;
+use crate::fault::{FaultText, StationFault};
 use crate::rates::{serve_once, tell_rates};
 use crate::seen::Seen;
 use crate::soak::soak;
@@ -64,8 +64,8 @@ fn end_with<P: Print, E: Print>(output: &P, errors: &E, end: &Result<Seen, Stati
 // The command line's texts end their own lines.
 fn tell_fault<E: Print>(errors: &E, fault: &StationFault) -> io::Result<()> {
     match fault {
-        StationFault::CommandLine(_) => print!(errors; "{fault}"),
-        _ => println!(errors; "{fault}"),
+        StationFault::CommandLine(_) => print!(errors; "{}", FaultText(fault)),
+        _ => println!(errors; "{}", FaultText(fault)),
     }
 }
 

@@ -5,8 +5,8 @@ ghost use Rattle.trace_text.specs.Faults.{trace_fault_text};
 
 use crate::lines::LineFault;
 use std::alloc::AllocError;
-use std::error::Error;
 use std::fmt;
+use thiserror::Error;
 
 /// How many lines a trace has at most.
 pub const MAX_LINES: u64 = 16_777_216;
@@ -25,7 +25,8 @@ pub const MAX_LINE_LIMIT: usize = 1000;
 pub const BUFFER_LEN: usize = 4096;
 
 /// Why a trace wasn't read or served to its end.
-#[derive(Clone, Copy, Debug, PartialEq, Eq)]
+#[derive(Clone, Copy, Debug, PartialEq, Eq, Error)]
+#[error("{}", FaultText(self))]
 pub enum TraceFault {
     /// The line of this number, counted from 1, has this fault.
     Line { number: u64, fault: LineFault },
@@ -39,15 +40,17 @@ pub enum TraceFault {
     TooManyLines,
 }
 
-impl Error for TraceFault {}
+/// A fault's text, of which a contract knows each byte.
+#[derive(Drop)]
+pub struct FaultText<'a, F>(pub &'a F);
 
 /// `line N: bad field` and the like, or what failed.
-impl fmt::Display for TraceFault {
-    ghost output = { λ fault. Some (trace_fault_text fault) };
+impl fmt::Display for FaultText<'_, TraceFault> {
+    ghost output = { λ told. Some (trace_fault_text told.0.now) };
 
     fn fmt<W: fmt::Write>(&self, f: &mut fmt::Formatter<W>) -> fmt::Result {
-        match self {
-            TraceFault::Line { number, fault } => write!(f, "line {number}: {fault}"),
+        match self.0 {
+            TraceFault::Line { number, fault } => write!(f, "line {number}: {}", FaultText(fault)),
             TraceFault::Read => f.write_str("read failed"),
             TraceFault::Write => f.write_str("write failed"),
             TraceFault::OutOfMemory => f.write_str("out of memory"),

@@ -32,7 +32,7 @@ mod writers;
 
 pub use check::{CheckEnd, Checked, check_from, check_text};
 pub use events::read_events;
-pub use fault::{BUFFER_LEN, MAX_LINE, MAX_LINE_LIMIT, MAX_LINES, MAX_PAIR, TraceFault};
+pub use fault::{BUFFER_LEN, FaultText, MAX_LINE, MAX_LINE_LIMIT, MAX_LINES, MAX_PAIR, TraceFault};
 pub use fields::{begins_badly, byte, hexadecimal, nibble, number};
 pub use lines::{Line, LineFault, cut, line_said, read_line};
 pub use pairs::{Pair, pair_said, read_pair};

@@ -5,11 +5,11 @@ ghost use Rattle.trace_text.specs.Faults.{line_fault_text};
 ghost use Rattle.trace_text.specs.Lines.{IsSaid, line_of, ended_line_of, cut_of, name_of, command_told, BeginsNoCommand, command_named};
 ghost use Rattle.trace_text.specs.Lines.{one_number, bare as bare_line, load_of, store_of, arrive_of, line_from as line_made};
 
-use crate::fault::MAX_LINE;
+use crate::fault::{FaultText, MAX_LINE};
 use crate::fields::{MAX_NUMBER, MAX_TAG, lanes, number, word};
 use flat_model::Event;
-use std::error::Error;
 use std::fmt;
+use thiserror::Error;
 
 /// What a line of a trace asks for.
 #[derive(Clone, Copy, Debug, PartialEq, Eq)]
@@ -26,7 +26,8 @@ pub enum Line {
 
 /// Why a line can't be read. Of the faults that a line has, the one that comes first in the order
 /// TooLong, NotEnded, Unknown, Field is named.
-#[derive(Clone, Copy, Debug, PartialEq, Eq)]
+#[derive(Clone, Copy, Debug, PartialEq, Eq, Error)]
+#[error("{}", FaultText(self))]
 pub enum LineFault {
     /// What stands up to the first space is no command. An empty line has none.
     Unknown,
@@ -38,14 +39,12 @@ pub enum LineFault {
     NotEnded,
 }
 
-impl Error for LineFault {}
-
 /// What stands behind the line's number.
-impl fmt::Display for LineFault {
-    ghost output = { λ fault. Some (line_fault_text fault) };
+impl fmt::Display for FaultText<'_, LineFault> {
+    ghost output = { λ told. Some (line_fault_text told.0.now) };
 
     fn fmt<W: fmt::Write>(&self, f: &mut fmt::Formatter<W>) -> fmt::Result {
-        f.write_str(match self {
+        f.write_str(match self.0 {
             LineFault::Unknown => "unknown command",
             LineFault::Field => "bad field",
             LineFault::TooLong => "line too long",

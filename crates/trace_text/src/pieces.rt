@@ -8,9 +8,11 @@ use crate::lines::LineFault;
 use crate::streams::Source;
 use memchr::memchr_iter;
 use std::io;
+use thiserror::Error;
 
 /// A write or a flush was refused, or a read failed.
-#[derive(Clone, Copy)]
+#[derive(Clone, Copy, Debug, Error)]
+#[error("a stream failed")]
 pub struct Failed;
 
 impl From<io::Error> for Failed {

@@ -19,10 +19,10 @@ impl ShapedUnit {
     /// sends its reads.
     ///
     /// Refused for the first that holds. The word is out of range (1). A store has no lane (2). A
-    /// load's tag is owed a value (3), as many loads are owed as may be (4), or, in a present
-    /// block, four loads wait for the word (5). Of an absent block: no register is free (7); every
-    /// way is pending (8); the write queue lacks places for the victim's dirty words (9); a bank
-    /// lacks room for the reads (10).
+    /// load's tag is owed a value (3), the limit of outstanding loads is reached (4), or, in a
+    /// present block, four loads wait for the word (5). Of an absent block: no register is free (7);
+    /// every way is pending (8); the write queue lacks places for the victim's dirty words (9); a
+    /// bank lacks room for the reads (10).
     #[inline(always)]
     pub fn request<L: Lines>(&mut self, request: Request, lines: &mut L) -> Answer
         ensures { MakesOver L.sent_to L.room_of L.same

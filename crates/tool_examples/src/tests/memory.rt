@@ -2,6 +2,7 @@
 //! gives the example's answer. With memory the first call does.
 
 use super::sweeps::{REQUESTS, row_of_three_loads, with_registers};
+use flat_model::ShapeField;
 use kroft_command::tool;
 use register_sweeps::{OpenGate, SweepFault, sweep, sweep_rounds, sweep_row};
 use round_driver::Timing;
@@ -41,6 +42,20 @@ fn a_sweep_may_find_no_memory(rt: HostRuntime) -> Result<(), Fail> {
         }
         Err(fault) => assert_eq!(rt; fault, SweepFault::OutOfMemory),
     }
+    Ok(())
+}
+
+#[test]
+fn a_bad_shape_comes_before_memory(rt: HostRuntime) -> Result<(), Fail> {
+    let mut three_ways = with_registers(2);
+    three_ways.ways = 3;
+    let shapes = [with_registers(1), three_ways];
+    let refused = sweep(&rt, rt.alloc(), &REQUESTS, &shapes, 1_000, &OpenGate);
+    let fault = SweepFault::BadShape {
+        place: 1,
+        field: ShapeField::Ways,
+    };
+    assert!(rt; matches!(refused, Err(found) if found == fault));
     Ok(())
 }
 

@@ -76,11 +76,15 @@ fn shape_texts(rt: HostRuntime) -> Result<(), Fail> {
     Ok(())
 }
 
-const REFUSED: [(&str, &str); 8] = [
+const REFUSED: [(&str, &str); 9] = [
     ("ways =", "machine: not TOML"),
     ("regs = 4", "machine: unknown key regs"),
     ("\"a\\nb\u{e9}\" = 1", "machine: unknown key a?b??"),
     ("z = 1\ndepth = 4", "machine: unknown key depth"),
+    (
+        "a_key_of_sixty_five_bytes_of_which_the_last_one_is_never_told_toX = 1",
+        "machine: unknown key a_key_of_sixty_five_bytes_of_which_the_last_one_is_never_told_to",
+    ),
     (
         "words = 0\nstack = true",
         "machine: stack is not a whole number",

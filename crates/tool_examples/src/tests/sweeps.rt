@@ -8,10 +8,14 @@ use round_driver::Timing;
 use shape_files::{ToolShape, read_shape};
 use std::alloc::Global;
 use std::fmt::Display;
+use std::hint::spin_loop;
 use std::process::Abort;
 use std::sync::atomic::{AtomicBool, AtomicU64, Ordering};
 use std::test::Fail;
 use std::thread::Threads;
+
+/// Pauses behind a gate's no: the thread that asks has a limit of turns, and the other may have no processor.
+const PAUSES: u32 = 64;
 
 #[derive(Clone, Copy)]
 enum Opens {
@@ -60,6 +64,17 @@ impl Gate {
         }
     }
 
+    /// Whether the row at place 1 has ended. If not, the thread that asks takes its time.
+    fn has_second_ended(&self) -> bool {
+        let has_ended = self.second_ended.load(Ordering::SeqCst);
+        if !has_ended {
+            for _ in 0..PAUSES {
+                spin_loop();
+            }
+        }
+        has_ended
+    }
+
     /// Asks so far, if one opens the gate; else rows that saw the other begin.
     fn seen(&self) -> u64 {
         match self.opens {
@@ -75,7 +90,7 @@ impl SweepGate for Gate {
         let before = self.asks.fetch_add(1, Ordering::SeqCst);
         match self.opens {
             Opens::AtOnce => true,
-            Opens::SecondFirst => place != 0 || self.second_ended.load(Ordering::SeqCst),
+            Opens::SecondFirst => place != 0 || self.has_second_ended(),
             Opens::BothThere => {
                 self.meet(place);
                 true
@@ -179,8 +194,8 @@ fn swept<R: Abort + AllocGlobal + Threads + Sync>(
     text_of(alloc, sweep(rt, alloc, &REQUESTS, shapes, turns, gate))
 }
 
-// More turns than a thread takes while another has no processor.
-const LONG: u64 = 1_000_000_000;
+/// A waiting row doesn't come to so many turns, unless the other one never begins.
+const LONG: u64 = 5_000_000;
 
 // A thread has exactly as many turns as given.
 #[test]

@@ -1,6 +1,6 @@
 use Rattle.std.proofs.Common.{ℕ, List, subst}
 use Rattle.kroft_jobs.specs.Jobs.{swept}
-use Rattle.round_driver.specs.declared.timing.Timing.{Timing}
+use Rattle.kroft_jobs.specs.Words.{Timing}
 use Rattle.kroft_command.specs.Program.{Sweeps}
 use Rattle.kroft_command.specs.Tool.{timings_in}
 use Rattle.kroft_command.proofs.tasks.sweep.Goals as goal

@@ -1,5 +1,5 @@
 use Rattle.std.proofs.Common.{ap, ◌/◌}
-use Rattle.access_logs.specs.declared.pages.TheConstants.{PAGE_WORDS}
+use Rattle.kroft_jobs.specs.Words.{PAGE_WORDS}
 use Rattle.kroft_jobs.specs.Asking.{room_of}
 use Rattle.kroft_jobs.proofs.Driving.{lackey_fails, din_fails}
 use Rattle.kroft_jobs.proofs.asked.read_asked.Goals as goal

@@ -1,4 +1,4 @@
--- The types of the machine's parts and their values, in one place for what stands above.
+-- The types of the machine and its parts, and their values, in one place: for the machine and for what stands above.
 
 -- of the model
 pub use Rattle.flat_model.specs.declared.Word.{Word}
@@ -8,11 +8,11 @@ pub use Rattle.flat_model.specs.declared.Event.TheVariants.{Load, Store, Prefetc
 pub use Rattle.flat_model.specs.declared.Answer.{Answer}
 pub use Rattle.flat_model.specs.declared.Answer.TheVariants.{Accepted, Moved, Value, Nothing, Refused}
 pub use Rattle.flat_model.specs.declared.Cause.{Cause}
-pub use Rattle.flat_model.specs.declared.Cause.TheVariants.{OutOfRange, NoLanes, TagInUse, RepliesFull, TargetsFull, BlockQueued, NoRegister}
-pub use Rattle.flat_model.specs.declared.Cause.TheVariants.{SetPending, QueueFull, BankFull, NotPresent, StackFull, StrayWord}
+pub use Rattle.flat_model.specs.declared.Cause.TheVariants.{OutOfRange, NoLanes, TagInUse, RepliesFull, TargetsFull, BlockQueued}
+pub use Rattle.flat_model.specs.declared.Cause.TheVariants.{NoRegister, SetPending, QueueFull, BankFull, NotPresent, StackFull, StrayWord}
 
 -- of the parts
-pub use Rattle.cache_directory.specs.declared.Cell.{Cell}
+pub use Rattle.cache_law.specs.Cell.{Cell}
 pub use Rattle.miss_registers.specs.declared.TheConstants.{MAX_WAITING}
 pub use Rattle.miss_registers.specs.declared.RegisterView.{RegisterView}
 pub use Rattle.miss_registers.specs.declared.FieldView.{FieldView}
