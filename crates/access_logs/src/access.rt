@@ -7,13 +7,13 @@ ghost use Rattle.access_logs.specs.Requests.{count_by, request_count_of, request
 
 use flat_model::{Lanes, Word};
 
-/// How many bytes an access touches at most.
+/// The most bytes of an access.
 pub const MAX_SIZE: u32 = 512;
 
 /// How many bytes a word has.
 pub const WORD_BYTES: u64 = 4;
 
-/// How many words an access touches at most: one more than its bytes fill, since it may begin within one.
+/// The most words of an access: it may begin within one.
 pub const MAX_TOUCHED: u64 = MAX_SIZE as u64 / WORD_BYTES + 1;
 
 /// What an access does.
@@ -28,7 +28,6 @@ pub enum AccessKind {
 }
 
 impl AccessKind {
-    // How many requests an access of so many words has.
     fn request_count(self, words: u64) -> u64
         requires { words ≤ MAX_TOUCHED }
         ensures count { result ≡ count_by self words }
@@ -41,26 +40,26 @@ impl AccessKind {
     }
 }
 
-/// An access of a program to its memory.
+/// A program's access.
 #[derive(Clone, Copy, Debug, PartialEq, Eq)]
 pub struct Access {
     /// What it does.
     pub kind: AccessKind,
     /// Its first byte.
     pub address: u64,
-    /// How many bytes it touches, 1 to 512.
+    /// Bytes, 1 to 512.
     pub size: u32,
 }
 
 impl Access {
-    // The number of the first word that it touches.
+    // The first word's number.
     pub(crate) fn first_word(self) -> u64
         ensures { result ≡ first_word_of self }
     {
         self.address / WORD_BYTES
     }
 
-    // The number of the last word that it touches.
+    // The last word's number.
     pub(crate) fn last_word(self) -> u64
         requires { IsWithin self }
         ensures { result ≡ last_word_of self }
@@ -77,8 +76,7 @@ impl Access {
         self.last_word() - self.first_word() + 1
     }
 
-    /// How many requests it has: one for each word that it touches, and for a modification twice as
-    /// many, which load its words and then store them.
+    /// One for each word touched; of a modification twice as many.
     pub fn request_count(self) -> u64
         requires { IsWithin self }
         ensures count { result ≡ request_count_of self }
@@ -88,14 +86,13 @@ impl Access {
         self.kind.request_count(self.word_count())
     }
 
-    // Whether it touches the byte at this address.
     fn has(self, byte: u64) -> bool
         ensures { result ≡ is_touched self byte }
     {
         self.address <= byte && byte - self.address < u64::from(self.size)
     }
 
-    // The bit of a lane in a mask, 1 if the byte at this address is touched.
+    // A lane's bit, 1 if this byte is touched.
     fn bit(self, byte: u64) -> u8
         ensures value { result ≡ bit_at self byte }
         ensures bound { result ≤ 1 }
@@ -103,7 +100,6 @@ impl Access {
         if self.has(byte) { 1 } else { 0 }
     }
 
-    // The lanes of a word that it touches.
     pub(crate) fn lanes(self, word: u64) -> Lanes
         requires { word < 2 ^ 62 }
         ensures { result ≡ lanes_at self word }
@@ -117,7 +113,7 @@ impl Access {
         )
     }
 
-    // The byte that it stores at this address in the line of this number, and 0 where it stores none.
+    // The byte that it stores here in the line of this number, else 0.
     fn byte(self, number: u64, byte: u64) -> u8
         ensures { result ≡ byte_at self number byte }
     {
@@ -128,7 +124,6 @@ impl Access {
         }
     }
 
-    // The bytes that it stores in a word.
     pub(crate) fn word(self, number: u64, word: u64) -> Word
         requires { word < 2 ^ 62 }
         ensures { result ≡ word_at self number word }

@@ -15,29 +15,28 @@ use trace_text::{LineFault, cut, hexadecimal, number};
 
 /// A format of logs.
 pub trait LogFormat {
-    // What a line says: an access, or nothing that is asked of a data cache.
+    // What a line says: an access, or nothing for a data cache.
     ghost access_in: { List ℕ → Result (Option Access) LineFault };
 
-    /// What a line says, without its LF: an access, or `None` for a line that has none for a data
-    /// cache, such as the fetch of an instruction. [`LineFault::Unknown`] says that the line is none of
-    /// the format's, and [`LineFault::Field`] that a field is missing, malformed or out of its range.
+    /// What a line says, without its LF; `None` if nothing for a data cache, such as a fetch.
+    ///
+    /// [`LineFault::Unknown`]: the line isn't the format's. [`LineFault::Field`]: a field is
+    /// missing, malformed or out of range.
     fn access_said(&self, text: &[u8]) -> Result<Option<Access>, LineFault>
         ensures said { result ≡ access_in text.now }
         ensures within { IfOk result (λ access. IfSome access IsWithin) }
         ensures fault { IfErr result IsSaid };
 }
 
-/// What `valgrind --tool=lackey --trace-mem=yes` writes: ` L ADDRESS,SIZE` for a load, ` S ` for a
-/// store, ` M ` for a load and a store of the same bytes, and `I  ` for the fetch of an instruction,
-/// which is passed over. So is a line of valgrind's own, which begins with `==`, `--` or `**`. An
-/// address is hexadecimal, with small letters, below 2^64; a size is decimal, 1 to 512; and the last
-/// byte's address is below 2^64.
+/// What `valgrind --tool=lackey --trace-mem=yes` writes: ` L ADDRESS,SIZE`, ` S ` for a store, ` M
+/// ` for a load and a store of the same bytes. `I  ` (a fetch) is passed over, and so is valgrind's
+/// own line, which begins with `==`, `--` or `**`. Addresses are hexadecimal, in small letters;
+/// sizes are decimal, 1 to 512. All bytes lie below 2^64.
 #[derive(Clone, Copy, Debug)]
 pub struct Lackey;
 
-/// Dinero's `din`: `0 ADDRESS` for a read, `1 ADDRESS` for a write, and `2 ADDRESS` for the fetch of an
-/// instruction, which is passed over. An address is hexadecimal, with small letters, below 2^64. The
-/// format has no size: an access is to the whole word of its address.
+/// Dinero's `din`: `0 ADDRESS` reads and `1 ADDRESS` writes the whole word of an address; `2
+/// ADDRESS` (a fetch) is passed over. Addresses are hexadecimal, in small letters, below 2^64.
 #[derive(Clone, Copy, Debug)]
 pub struct Din;
 
@@ -55,7 +54,6 @@ fn comma(text: &[u8]) -> Option<usize>
     text.iter().position(|byte| *byte == b',')
 }
 
-// An address and a size, with a comma between them.
 fn extent(text: &[u8]) -> Option<(u64, u32)>
     ensures value { result ≡ extent_in text.now }
     ensures some { IfSome result (λ extent. 1 ≤ extent.1) }
@@ -84,7 +82,6 @@ fn word_extent(field: Option<&[u8]>) -> Option<(u64, u32)>
     Some((address / WORD_BYTES * WORD_BYTES, WORD_BYTES as u32))
 }
 
-// The access of a line, if it has one for a data cache.
 fn access_by(reference: Reference, extent: (u64, u32)) -> Option<Access>
     requires some { 1 ≤ extent.1 }
     requires few { extent.1 ≤ MAX_SIZE }
@@ -102,7 +99,6 @@ fn access_by(reference: Reference, extent: (u64, u32)) -> Option<Access>
     }
 }
 
-// What a line says that is about this, if it is one of the format's.
 fn said_as(
     reference: Option<Reference>,
     extent: Option<(u64, u32)>,
@@ -121,7 +117,7 @@ fn said_as(
     }
 }
 
-// Whether it is a line of valgrind's own.
+// Whether it is valgrind's own line.
 fn is_remark(text: &[u8]) -> bool
     ensures { result ≡ is_remark_text text.now }
 {
@@ -131,7 +127,6 @@ fn is_remark(text: &[u8]) -> bool
     }
 }
 
-// What a line of lackey's is about that has this letter.
 fn kind_by(letter: u8) -> Option<Reference>
     ensures { result ≡ kind_of letter }
 {
@@ -143,7 +138,7 @@ fn kind_by(letter: u8) -> Option<Reference>
     }
 }
 
-// Whether a name ends here: at the end of the line, or at a space.
+// A name ends at a space or with the line.
 fn is_name_end(rest: &[u8]) -> bool
     ensures { result ≡ ends_name rest.now }
 {
@@ -163,7 +158,6 @@ fn behind_space(rest: &[u8]) -> Option<&[u8]>
     }
 }
 
-// An address and a size, behind what stands there.
 fn extent_of(fields: Option<&[u8]>) -> Option<(u64, u32)>
     ensures value { result ≡ option_and_then extent_in (option_map (λ text. text.now) fields.entry) }
     ensures some { IfSome result (λ extent. 1 ≤ extent.1) }
@@ -173,7 +167,7 @@ fn extent_of(fields: Option<&[u8]>) -> Option<(u64, u32)>
     extent(fields?)
 }
 
-// A line whose name has this letter behind a space, if that is a name.
+// A line whose name is this letter behind a space.
 fn data_from(letter: u8, rest: &[u8]) -> Result<Option<Access>, LineFault>
     ensures value { result ≡ data_said letter rest.now }
     ensures within { IfOk result (λ access. IfSome access IsWithin) }
@@ -187,7 +181,7 @@ fn data_from(letter: u8, rest: &[u8]) -> Result<Option<Access>, LineFault>
     said_as(reference, extent_of(behind_space(rest)))
 }
 
-// A line whose name is `I`, if it ends there: two spaces stand behind it.
+// A line named `I`, with two spaces behind.
 fn fetch_from(rest: &[u8]) -> Result<Option<Access>, LineFault>
     ensures value { result ≡ fetch_said rest.now }
     ensures within { IfOk result (λ access. IfSome access IsWithin) }
@@ -228,7 +222,6 @@ impl LogFormat for Lackey {
     }
 }
 
-// What a line of `din` with this label is about.
 fn label(text: &[u8]) -> Option<Reference>
     ensures { result ≡ label_of text.now }
 {

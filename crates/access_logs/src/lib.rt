@@ -1,15 +1,13 @@
 //! Logs of memory accesses, as other tools write them, turned into requests.
 //!
-//! Two formats are read: what `valgrind --tool=lackey --trace-mem=yes` writes ([`Lackey`]), and
-//! Dinero's `din` ([`Din`]). [`write_requests`] writes the loads and stores of such a log as lines of a
-//! trace, `load TAG AT` and `store AT MASK WORD`, one for each word of four bytes that an access
-//! touches. [`read_log`] gives these requests in groups, one for each access, and
-//! [`LogFormat::access_said`] reads a single line.
+//! [`write_requests`] writes the loads and stores of a log ([`Lackey`] or [`Din`]) as lines of a
+//! trace, one for each word of four bytes; [`read_log`] returns them in groups by access. Their
+//! caller has a stream.
 //!
-//! A program's addresses have 64 bits, and memory has at most 1,048,576 words. So a log's bytes are
-//! mapped by pages of 4,096 bytes: the first page that is touched is words 0 to 1,023 of memory, the
-//! next one 1,024 to 2,047, and so on. No log has the data that a store writes, so its bytes are made
-//! up: the byte at an address is the address and the number of the line, added, modulo 256.
+//! Addresses have 64 bits, and memory has at most 1,048,576 words. So pages of 4,096 bytes are
+//! mapped in the order of their first touch: the first is words 0 to 1,023, the next 1,024 to
+//! 2,047. No log has the data of a store. So a byte is made up: its address and its line's number,
+//! added, modulo 256.
 #![tactic(auto)]
 
 mod access;

@@ -1,4 +1,4 @@
-//! The pages of a program, in the order of their first touch.
+//! The pages of a program, by their first touch.
 ghost use Rattle.std.specs.Prelude.{◌≡◌, ◌+◌, ◌<◌, ◌≤◌, ℕ, List, Option, [], length, Some, IfSome};
 ghost use Rattle.access_logs.specs.declared.pages.TheConstants.{MAX_KEPT};
 ghost use Rattle.access_logs.specs.Accesses.{IsWithin};
@@ -12,24 +12,23 @@ use std::marker::Model;
 /// How many words a page has.
 pub const PAGE_WORDS: u64 = 1024;
 
-/// How many pages memory has at most.
+/// The most pages of memory.
 pub const MAX_PAGES: u32 = MAX_WORDS / PAGE_WORDS as u32;
 
-/// How many pages are kept: an access that finds no room has touched two more than memory has.
+/// The most pages kept: an access without room may touch two more than memory has.
 const MAX_KEPT: usize = MAX_PAGES as usize + 2;
 
-// A page, and its place among the pages.
 #[derive(Clone, Copy)]
 struct Placed {
     page: u64,
     place: usize,
 }
 
-// The pages so far. No page is twice among them.
+// The pages so far, each once.
 #[derive(Drop)]
 pub(crate) struct Pages {
     touched: ArrayVec<u64, MAX_KEPT>,
-    // The page that was touched last: mostly it is the next one too, and then the list isn't searched.
+    // The page touched last: mostly the next one too, and then no search is needed.
     recent: Option<Placed>,
 }
 
@@ -71,7 +70,7 @@ impl Pages {
         }
     }
 
-    // Touches a page: it is added if it isn't among them.
+    // Adds a page, unless it is there.
     fn touch(&mut self, page: u64)
         requires { length self.old < MAX_KEPT }
         ensures pages { self.new ≡ with_page self.old page }
@@ -96,7 +95,7 @@ impl Pages {
         self.touch(access.last_word() / PAGE_WORDS);
     }
 
-    // The word of memory that a word of the program is, whose page has been touched.
+    // Where a touched page's word lies in memory.
     pub(crate) fn memory_word(&self, word: u64) -> u32
         ensures { result ≡ memory_word self.now word }
     {

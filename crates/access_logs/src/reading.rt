@@ -1,4 +1,4 @@
-//! A log is read whole: its requests, in groups by their accesses.
+//! A log read whole: requests in groups by access.
 ghost use Rattle.std.specs.Prelude.{◌≡◌, [], ◌+◌, ◌/◌, ◌≤◌, ◌<◌, ◌^◌, ◌++◌, ◌∷◌, length, None, OnOk, OnErr, IfOk, IfErr};
 ghost use Rattle.std.specs.List.{AllByRecursion};
 ghost use Rattle.trace_text.specs.Codes.{most_lines};
@@ -25,12 +25,12 @@ use trace_text::{
     read_lines_within,
 };
 
-/// The requests of an access, as a group.
+/// An access and its requests.
 #[derive(Clone, Copy, Debug, PartialEq, Eq)]
 pub struct AccessGroup {
     /// What the access does.
     pub kind: AccessKind,
-    /// How many requests it has, as [`Access::request_count`] tells.
+    /// As [`Access::request_count`] says.
     pub requests: u64,
 }
 
@@ -39,12 +39,10 @@ pub struct AccessGroup {
 pub struct LogRequests {
     /// Its requests, in order.
     pub requests: Vec<Event>,
-    /// Of each access its group, in order: the first one has the first requests, as many as it says,
-    /// the next one as many behind these as it says, and so on.
+    /// Each access's group, in the order of the requests.
     pub groups: Vec<AccessGroup>,
 }
 
-// The request of the i-th word that a load touches.
 fn load(pages: &Pages, tag: u16, access: Access, i: u64) -> Event
     requires within { IsWithin access }
     requires few { i ≤ MAX_TOUCHED }
@@ -56,7 +54,6 @@ fn load(pages: &Pages, tag: u16, access: Access, i: u64) -> Event
     }
 }
 
-// The request of the i-th word that a store in the line of this number touches.
 fn store(pages: &Pages, number: u64, access: Access, i: u64) -> Event
     requires within { IsWithin access }
     requires last { first_word_of access + i < 2 ^ 62 }
@@ -79,7 +76,7 @@ fn push(requests: &mut Vec<Event>, request: Event) -> Result<(), Uncollected>
     Ok(())
 }
 
-// Keeps the loads of an access, with tags from this one on.
+// Keeps loads, with tags from this one on.
 fn push_loads(
     requests: &mut Vec<Event>,
     pages: &Pages,
@@ -96,7 +93,6 @@ fn push_loads(
     Ok(())
 }
 
-// Keeps the stores of an access in the line of this number.
 fn push_stores(
     requests: &mut Vec<Event>,
     pages: &Pages,
@@ -113,7 +109,6 @@ fn push_stores(
     Ok(())
 }
 
-// Keeps the requests of an access in the line of this number, with tags from this one on.
 fn push_access(
     requests: &mut Vec<Event>,
     pages: &Pages,
@@ -140,7 +135,6 @@ fn push_access(
 #[derive(Drop)]
 pub(crate) struct LogReading<'a, F> {
     pub(crate) format: &'a F,
-    // How many pages there is room for.
     pub(crate) room: u64,
     pub(crate) pages: Pages,
     // The tag of the next load.
@@ -149,12 +143,11 @@ pub(crate) struct LogReading<'a, F> {
     pub(crate) lines: u64,
     pub(crate) requests: Vec<Event>,
     pub(crate) groups: Vec<AccessGroup>,
-    // Why there is no room for an access, if there is none.
+    // Why an access has no room, if so.
     pub(crate) fault: Option<LogFault>,
 }
 
 impl<'a, F: LogFormat> LogReading<'a, F> {
-    // Keeps an access in the line of this number, with its requests.
     fn keep(&mut self, number: u64, access: Access) -> Result<(), Uncollected>
         requires within { IsWithin access }
         requires number { number ≡ self.old.lines + 1 }
@@ -238,7 +231,6 @@ impl<'a, F: LogFormat> Collector for LogReading<'a, F> {
     }
 }
 
-// Reads a log to its end, through a buffer.
 fn read_through<R: Source, F: LogFormat>(
     reader: &mut R,
     reading: &mut LogReading<F>,
@@ -266,15 +258,14 @@ fn read_through<R: Source, F: LogFormat>(
     }
 }
 
-/// Reads a log: the requests that [`write_requests`](crate::write_requests) writes of it over as many
-/// words of memory, in this order, and which of them are of one access.
+/// Reads a log: the requests that [`write_requests`](crate::write_requests) writes over as many
+/// words, in groups by access.
 ///
-/// The faults are those of a log that is written, but that none is of a write: the first line with a
-/// fault, or that touches a page for which there is no room. Besides `TooManyLines` says also that the
-/// requests up to that line are more than 16,777,216, so that no trace has them. A fault gives no
-/// requests, and the reader may have been read beyond it. `OutOfMemory` may come in place of any answer.
+/// The faults are that call's, without `Write`: the first faulty line, or the first without room.
+/// `TooManyLines` also says that there are more than 16,777,216 requests. A fault returns no
+/// request; the reader may have been read beyond it. `OutOfMemory` may replace any answer.
 ///
-/// A buffer of 4,096 bytes is allocated before the first read. The requests and their groups take more.
+/// 4,096 bytes are allocated before the first read, and more for what is returned.
 pub fn read_log<R: Source, F: LogFormat>(
     alloc: Global,
     reader: &mut R,

@@ -15,7 +15,7 @@ use trace_text::{Failed, LineText, Sink, write_whole};
 /// How many tags there are.
 const TAGS: u64 = u16::MAX as u64 + 1;
 
-// The tag so many loads behind this one.
+/// The tag so many loads on.
 pub(crate) fn tag_behind(tag: u16, loads: u64) -> u16
     requires { loads ≤ MAX_TOUCHED }
     ensures { result ≡ tag_behind tag loads }
@@ -49,7 +49,6 @@ fn put_store(out: &mut LineText, at: u32, lanes: Lanes, word: Word)
     out.push(b'\n');
 }
 
-// Writes the loads of an access, with tags from this one on.
 fn write_loads<W: Sink>(
     writer: &mut W,
     out: &mut LineText,
@@ -71,7 +70,6 @@ fn write_loads<W: Sink>(
     Ok(())
 }
 
-// Writes the stores of an access in the line of this number.
 fn write_stores<W: Sink>(
     writer: &mut W,
     out: &mut LineText,
@@ -95,7 +93,7 @@ fn write_stores<W: Sink>(
     Ok(())
 }
 
-// The tag of the next load behind an access.
+/// The next load's tag behind an access.
 pub(crate) fn tag_after(tag: u16, access: Access) -> u16
     requires { IsWithin access }
     ensures { result ≡ next_tag tag access }
@@ -106,7 +104,6 @@ pub(crate) fn tag_after(tag: u16, access: Access) -> u16
     }
 }
 
-// Writes the requests of an access in the line of this number, with tags from this one on.
 pub(crate) fn write_access<W: Sink>(
     writer: &mut W,
     out: &mut LineText,

@@ -1,4 +1,4 @@
-//! A log is read line by line, and its requests are written.
+//! A log is read by lines, and its requests are written.
 ghost use Rattle.std.specs.Prelude.{◌≡◌, [], ◌+◌, ◌/◌, ◌≤◌, ◌<◌, length, Some, None, OnOk, OnErr, IfErr, Ok};
 ghost use Rattle.trace_text.specs.declared.fault.TheConstants.{BUFFER_LEN, MAX_PAIR};
 ghost use Rattle.access_logs.specs.declared.pages.TheConstants.{MAX_PAGES, PAGE_WORDS};
@@ -17,10 +17,10 @@ use trace_text::{
     read_lines_within,
 };
 
-/// How many words of memory a log's pages are mapped to at most.
+/// The most words that pages are mapped to.
 pub const MAX_WORDS: u32 = flat_model::MAX_WORDS;
 
-/// How many lines a log has at most: as many as a line's number can count.
+/// The most lines of a log.
 pub const MOST_LOG_LINES: u64 = u64::MAX;
 
 // The writing of a log's requests.
@@ -29,7 +29,6 @@ pub(crate) struct Writing<'a, W, F> {
     pub(crate) writer: &'a mut W,
     pub(crate) format: &'a F,
     pub(crate) out: LineText,
-    // How many pages there is room for.
     pub(crate) room: u64,
     pub(crate) pages: Pages,
     // The tag of the next load.
@@ -40,8 +39,7 @@ pub(crate) struct Writing<'a, W, F> {
 }
 
 impl<'a, W: Sink, F: LogFormat> Writing<'a, W, F> {
-    // Flushes what is written, and keeps the fault of the line of this number, which finds no room. If
-    // the flush is refused, that is the fault.
+    // Flushes what is written, and keeps the line's fault; a refused flush takes its place.
     fn refuse(&mut self, line: u64)
         requires { self.old.no_room ≡ None }
         ensures refuses { Refuses W.took W.unflushed self.old.writer.now line self.old.pages self.new.writer.now
@@ -54,7 +52,6 @@ impl<'a, W: Sink, F: LogFormat> Writing<'a, W, F> {
         }
     }
 
-    // Writes the requests of an access in the line of this number.
     fn ask(&mut self, number: u64, access: Access) -> Result<(), Uncollected>
         requires within { IsWithin access }
         requires number { number ≡ self.old.lines + 1 }
@@ -134,7 +131,6 @@ impl<'a, W: Sink, F: LogFormat> Collector for Writing<'a, W, F> {
     }
 }
 
-// Writes the requests of a log to its end, through a buffer.
 fn write_through<R: Source, W: Sink, F: LogFormat>(
     reader: &mut R,
     writing: &mut Writing<W, F>,
@@ -158,26 +154,21 @@ fn write_through<R: Source, W: Sink, F: LogFormat>(
     }
 }
 
-/// Writes the loads and stores of a log as the lines of a trace, over `words` words of memory.
+/// Writes the loads and stores of a log as lines of a trace, over `words` words of memory.
 ///
-/// A line `load TAG AT` is written for each word that a load touches, in ascending order, and a line
-/// `store AT MASK WORD` for each that a store touches; a modification is a load, and then a store. The
-/// tags are 0 to 65,535 in turn, and then 0 again. A mask names the bytes that are touched; such a byte
-/// is its address and the number of its line, added, modulo 256, and the others are 0. Memory's words
-/// stand for the pages that are touched, of 1,024 words, in the order of their first touch, as many as
-/// have room in it whole.
+/// Each word that a load touches is a line `load TAG AT`, each one of a store `store AT MASK WORD`,
+/// upwards; a modification loads, then stores. Tags run from 0 to 65,535 and begin again. Bytes
+/// outside the mask are 0. Memory holds as many pages as fit whole.
 ///
-/// [`LogFault::Trace`] names the first line with a fault, as [`LogFormat::access_said`] finds it, or says
-/// that the reader or the writer failed, or that a line begins behind [`MOST_LOG_LINES`]. A line is too
-/// long if it has more than 768 bytes before its LF. [`LogFault::NoRoom`] names the first line that touches a page for
-/// which there is no room; nothing is written of it. Whatever the fault, the requests of all lines before
-/// are written, and flushed unless a write or a flush was refused. `OutOfMemory` comes before anything is
-/// read or written. An error isn't tried again.
+/// [`LogFault::Trace`]: the first line with a fault, by [`LogFormat::access_said`] or longer than
+/// 768 bytes; or a stream failed; or there are more than [`MOST_LOG_LINES`]. [`LogFault::NoRoom`]:
+/// the first line that touches a page without room. Nothing of that line is written; all lines
+/// before are, and flushed unless the writer failed. `OutOfMemory` comes before any read or write.
+/// No error is tried again.
 ///
-/// One buffer of 4,096 bytes is all the memory that is allocated, before the first read; the pages, at
-/// most 1,024, stand in 8 KiB on the stack. A line costs some twenty steps for each word that it touches,
-/// and a search of the list of pages where it touches another page than the line before. The writer is
-/// flushed before each read and at the end.
+/// 4,096 bytes are allocated before the first read; pages stand on the stack. A line takes some
+/// twenty steps a word, and a search if its page isn't the last line's. The writer is flushed
+/// before each read and at the end.
 pub fn write_requests<R: Source, W: Sink, F: LogFormat>(
     alloc: Global,
     reader: &mut R,

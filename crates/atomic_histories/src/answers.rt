@@ -23,7 +23,7 @@ use crate::words::{has_byte, is_at, is_word_of, stored_word};
 use memory_histories::HistoryEvent;
 use std::alloc::{AllocError, Global};
 
-// What stood there before on the ways to a pair on which a load may have got its answer, if there are any.
+// The past on a pair's ways on which a load may have its answer.
 fn past_got(
     unit: UnitPlace,
     load: &WatchedLoad,
@@ -43,7 +43,7 @@ fn past_got(
     }
 }
 
-// On the others, if they may still come to the answer.
+// The same on the others, if they may still come to it.
 fn past_missed(
     unit: UnitPlace,
     load: &WatchedLoad,
@@ -73,7 +73,7 @@ fn past_missed(
     }
 }
 
-// The ways to a pair on which that stood there before are among these, if there are any.
+// Adds a pair's ways with this past, if there are any.
 fn add_part(
     alloc: Global,
     parts: &mut Vec<FollowedPair>,
@@ -97,7 +97,7 @@ fn add_part(
     }
 }
 
-// The ways on which a load may have got its answer.
+// The ways on which a load may have its answer.
 fn pairs_got(
     alloc: Global,
     unit: UnitPlace,
@@ -119,7 +119,7 @@ fn pairs_got(
     Ok(parts)
 }
 
-// Those on which it hasn't, and which may still come to it.
+// Those on which it hasn't, and may still come to it.
 fn pairs_missed(
     alloc: Global,
     unit: UnitPlace,
@@ -143,7 +143,7 @@ fn pairs_missed(
     Ok(parts)
 }
 
-// The pairs on whose ways a load may have got its answer, once stores take effect where they have to.
+// The pairs on whose ways a load may have its answer, once stores take effect where they have to.
 fn pairs_answering(
     alloc: Global,
     unit: UnitPlace,
@@ -184,7 +184,6 @@ fn pairs_answering(
     )
 }
 
-// Those pairs are the unit's, if the load is open there.
 fn follow_load(
     alloc: Global,
     unit: UnitPlace,
@@ -318,8 +317,8 @@ fn follow(
     }
 }
 
-// Whether an answer would need too many words, of the unit or of the copy without those that no way is left to. The ways of a
-// forgotten unit need none.
+// Whether an answer needs too many words, of the unit or of a copy without unused ones. A forgotten
+// unit needs none.
 fn has_too_many_words(kept: &KeptUnit, copy: &KeptUnit, event: HistoryEvent) -> bool
     requires { shown_unit copy.now ≡ shown_unit kept.now }
     ensures many { result ≡ true → (limit : ℕ) (unit : UnitPlace)
@@ -355,7 +354,7 @@ fn have_too_many_words(kept: &KeptUnit, copy: &KeptUnit) -> bool
     words_in(copy.stretches.as_slice()) > MOST_WORDS
 }
 
-// A unit after an event: no way is left if it is none of the law.
+// A unit's ways after an event: none if it isn't of the law.
 pub(crate) fn ways_after(
     alloc: Global,
     unit: UnitPlace,

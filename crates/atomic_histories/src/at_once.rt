@@ -1,4 +1,4 @@
-//! Events that a unit takes where it stands, with no search.
+//! Events that a unit takes with no search.
 
 ghost use Rattle.std.specs.Prelude.{◌≡◌, ◌≢◌, ◌<◌, ◌∷◌, [], true, false, length, slice_index_or, None, Some, IfOk};
 ghost use Rattle.std.specs.Prelude.{IfSome, OnErr, nat_eq, ℕ};
@@ -29,8 +29,8 @@ use memory_histories::HistoryEvent;
 use std::alloc::{AllocError, Global};
 use std::collections::HashMap;
 
-// Whether a unit's ways have come to one pair, so that a search would follow one at a time, and there is room for the
-// word that it may overwrite. An answer that finds more words than may be kept has to be told so, which the search does.
+// Whether the ways have come to one pair, and there is room for the word that it may overwrite.
+// Otherwise the search may have to tell of too many words.
 #[tactic(auto, using(crate::proofs::Few::few_stretches))]
 fn is_ready(unit: &KeptUnit, limit: usize) -> bool
     ensures one { result ≡ true → length unit.now.pairs.items ≡ 1 }
@@ -41,9 +41,8 @@ fn is_ready(unit: &KeptUnit, limit: usize) -> bool
     limit != 0 && unit.pairs.len() == 1 && kept < unit.room && kept <= MOST_WORDS
 }
 
-// Whether a load may have got its answer from a word that stood there before, on a past of words that stood there one
-// after the other. Then none of its ways is one on which it hasn't. None is looked for before a word that was overwritten
-// before the load's request: those were overwritten earlier still.
+// Whether a load may have its answer from an earlier word, on a past of one word after another.
+// Then it has so on all its ways. None overwritten before the load's request is looked for.
 fn has_stood(
     place: UnitPlace,
     load: &WatchedLoad,
@@ -87,7 +86,7 @@ fn has_stood(
     false
 }
 
-// Whether a load may have got its answer from the word of now, or from one before it, on each way to a pair.
+// Whether a load may have its answer from the word of now or an earlier one, on each way.
 fn has_answer(
     place: UnitPlace,
     load: &WatchedLoad,
@@ -104,9 +103,8 @@ fn has_answer(
         || has_stood(place, load, bytes, stretches, pair.past)
 }
 
-// What stood there before, once the word of now is overwritten behind a load's answer, where nothing stood there
-// before: only a load that is left may ask for the word. `None` is for a load that is left and was requested behind
-// the last moment, which never comes.
+// The past once the word of now is overwritten behind an answer, if nothing stood there before:
+// only a load that is left may ask for the word. `None` never comes.
 fn past_behind(
     stretches: &mut Vec<Stretch>,
     loads: &[WatchedLoad],
@@ -138,7 +136,7 @@ fn past_behind(
     }
 }
 
-// The word that the one store of a pair makes, if it is an answer's, and neither was the word of now nor one before it.
+// The word that the one store makes, if it is the answer's and no earlier one.
 fn next_word(place: UnitPlace, pair: &FollowedPair, address: u64, bytes: &[u8]) -> Option<Word>
     ensures { IfSome result (IsNextWord place address bytes.now pair.now) }
 {
@@ -157,7 +155,6 @@ fn next_word(place: UnitPlace, pair: &FollowedPair, address: u64, bytes: &[u8]) 
     }
 }
 
-// The one store of a pair has taken effect.
 fn take_effect(pair: &mut FollowedPair, word: Word, past: Before)
     requires { length pair.old.stores.items ≡ 1 }
     ensures word { pair.new.word ≡ word }
@@ -174,7 +171,7 @@ fn take_effect(pair: &mut FollowedPair, word: Word, past: Before)
 }
 
 impl KeptUnit {
-    // No load is open under this number from now on, and there is nothing that it alone may ask for.
+    // No load is open under this number, and nothing is kept for it alone.
     fn drop_load(&mut self, number: u64)
         ensures loads { self.new.loads.items ≡ loads_without number self.old.loads.items }
         ensures moment { self.new.moment ≡ moment_with self.old.moment (loads_without number self.old.loads.items) }
@@ -187,7 +184,7 @@ impl KeptUnit {
         }
     }
 
-    // A load is answered, if it may have got the word of now, or that which the one store makes.
+    // Answers a load with the word of now, or that of the one store.
     fn answer_load_at_once(
         &mut self,
         alloc: Global,
@@ -221,7 +218,7 @@ impl KeptUnit {
         }
     }
 
-    // A load is answered, if it can't have got the word of now but may have got that which the one store makes.
+    // Answers a load that can only have the word of the one store.
     fn answer_later_load(
         &mut self,
         place: UnitPlace,
@@ -255,7 +252,7 @@ impl KeptUnit {
         Ok(true)
     }
 
-    // A store is answered, if it has taken effect, or if it takes effect now and no other store is open.
+    // Answers a store in effect, or one that takes effect now while no other is open.
     fn answer_store_at_once(&mut self, number: u64) -> Result<bool, AllocError>
         requires { length self.old.pairs.items ≡ 1 }
         ensures ok { IfOk result
@@ -307,8 +304,7 @@ impl KeptUnit {
     }
 }
 
-// The unit takes an event, if no search is needed for it. None would be stopped there, since it would follow one pair
-// at a time.
+// Takes an event that needs no search. None is stopped there, since one pair is followed at a time.
 pub(crate) fn take_at_once(
     alloc: Global,
     place: UnitPlace,
@@ -360,7 +356,6 @@ pub(crate) fn take_at_once(
     }
 }
 
-// The unit of this number takes it, if it is kept.
 pub(crate) fn take_at(
     alloc: Global,
     units: &mut HashMap<u64, KeptUnit>,

@@ -1,4 +1,4 @@
-//! Pairs that are followed, each once, found by their marks.
+//! Pairs that are followed, each once, found by marks.
 
 ghost use Rattle.std.specs.Prelude.{◌≡◌, ◌+◌, ◌<◌, ◌≤◌, ◌++◌, ◌∷◌, take, drop, length, map, List, slice_index_or, OnOk, IfOk};
 ghost use Rattle.std.specs.List.{position};
@@ -12,26 +12,23 @@ use crate::pairs::FollowedPair;
 use crate::stretches::{Before, Stretch, merge};
 use std::alloc::{AllocError, Global};
 
-// From so many pairs on their marks are kept beside them. Fewer are compared one by one, so that the searches which
-// find no more need no marks.
+// From so many pairs on marks are kept. Fewer are compared one by one.
 pub(crate) const MARKED: usize = 8;
 
-// Pairs that are followed: the ways to a new one that is among them are put to those that have come there. Once there are
-// many, a new one is compared with those alone that have its mark.
+// Pairs that are followed: ways to a known pair join those that have come there.
 #[derive(Drop)]
 pub(crate) struct Followed {
     pub(crate) pairs: Vec<FollowedPair>,
     marks: Vec<u64>,
 }
 
-// Where a pair stands among others, if it is one of them.
 fn place_of(pairs: &[FollowedPair], pair: &FollowedPair) -> Option<usize>
     ensures { (ss : List Stretch) → result ≡ position (λ f. is_same_pair (shown ss f) (shown ss pair.now)) pairs.now }
 {
     pairs.iter().position(|other| other.is_same(pair))
 }
 
-// Where the first of these marks from a place on stands that is this one, or how many they are.
+// The next place of this mark, or how many marks there are.
 #[tactic(auto, using(crate::proofs::Marks::mark_here, crate::proofs::Marks::mark_later, crate::proofs::Marks::no_mark))]
 fn next_with(marks: &[u64], from: usize, mark: u64) -> usize
     requires { from ≤ length marks.now }
@@ -49,7 +46,7 @@ fn next_with(marks: &[u64], from: usize, mark: u64) -> usize
     at
 }
 
-// Where a pair stands among others whose marks these are: it is none of those with other marks.
+// A pair's place, by its mark.
 fn place_by_mark(
     pairs: &[FollowedPair],
     marks: &[u64],
@@ -99,7 +96,7 @@ impl Followed {
         Ok(followed)
     }
 
-    // The marks are kept, once there are so many pairs.
+    // Keeps marks, once there are so many pairs.
     fn note_many(&mut self) -> Result<(), AllocError>
         ensures pairs { OnOk result (self.new.pairs ≡ self.old.pairs) }
         ensures followed { OnOk result (IsFollowed self.new) }
@@ -110,7 +107,7 @@ impl Followed {
         note_pairs(&mut self.marks, self.pairs.as_slice())
     }
 
-    // One more pair, unless it is among them: then its ways are put to those that have come there.
+    // Adds a pair, or joins its ways to the same one's.
     pub(crate) fn add(
         &mut self,
         stretches: &mut Vec<Stretch>,
@@ -134,7 +131,7 @@ impl Followed {
         }
     }
 
-    // The ways to the pair at a place, and others to it, before which this stood there.
+    // Joins a pair's ways to the same one's.
     #[tactic(auto, using(crate::proofs::Merges::merged_in))]
     fn merge_at(
         &mut self,
@@ -161,7 +158,6 @@ impl Followed {
         Ok(())
     }
 
-    // To so few pairs that their marks aren't kept.
     fn add_to_few(
         &mut self,
         stretches: &mut Vec<Stretch>,

@@ -43,7 +43,7 @@ pub(crate) fn close(operations: &mut Vec<Operation>, number: u64)
     operations.retain(|operation| !has_number(operation, number));
 }
 
-// Why the answer of so many bytes is malformed, of the load that is open under its number.
+// Why so many bytes aren't the load's answer.
 fn answer_fault(load: Option<Operation>, length: usize) -> Option<HistoryFault>
     ensures { result ≡ answer_fault load length }
 {
@@ -59,7 +59,6 @@ fn answer_fault(load: Option<Operation>, length: usize) -> Option<HistoryFault>
     }
 }
 
-// Why an event is malformed while these operations are open.
 pub(crate) fn form_fault(
     loads: &[Operation],
     stores: &[Operation],

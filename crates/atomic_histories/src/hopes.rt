@@ -1,4 +1,4 @@
-//! Whether the word of an answer may come to stand in a unit, once more stores take effect.
+//! Whether an answer's word may come to stand in a unit.
 
 ghost use Rattle.std.specs.Prelude.{◌≡◌, ◌+◌, ◌<◌, ◌&&◌, not, get_or, None};
 ghost use Rattle.std.specs.List.{list_all, list_any, range_with_len};
@@ -37,7 +37,7 @@ fn one_may_give(stores: &[OpenStore], lane: usize, answer: Option<u8>) -> bool
     stores.iter().any(|store| may_give(store, lane, answer))
 }
 
-// Whether an answer's byte stands in a lane, or may still be written there.
+// Whether an answer's byte stands in a lane, or may be written there.
 fn may_come_in(word: &Word, stores: &[OpenStore], lane: usize, answer: Option<u8>) -> bool
     requires { lane < 8 }
     ensures { result ≡ may_come_in lane word.now stores.now answer }
@@ -45,7 +45,7 @@ fn may_come_in(word: &Word, stores: &[OpenStore], lane: usize, answer: Option<u8
     is_as_it_stood(word[lane], answer) || one_may_give(stores, lane, answer)
 }
 
-// Whether a lane may come to have its byte of an answer, in the unit that begins at `first`.
+// The same of a lane of the unit that begins at `first`.
 fn may_come_at(
     word: &Word,
     stores: &[OpenStore],
@@ -61,7 +61,7 @@ fn may_come_at(
     may_come_in(word, stores, lane, byte_for(from, bytes, address))
 }
 
-// Whether the word may come to be one of which these are the bytes from an address on.
+// The same of bytes from an address on.
 pub(crate) fn may_come(
     word: &Word,
     stores: &[OpenStore],

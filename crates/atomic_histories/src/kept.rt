@@ -20,26 +20,26 @@ use crate::stretches::{Before, Stretch};
 use crate::unit::{OpenStore, WatchedLoad, Word};
 use std::alloc::{AllocError, Global};
 
-// So many stretches more than twice those that are in use there may be before the others are dropped: most units never
-// have so many, and dropping them costs little for each that was made.
+// So many stretches beyond twice those in use may be kept: most units never have them, and dropping
+// costs little for each one made.
 const SPARE: usize = 14;
 
-/// The ways that a unit may have gone which an operation has touched: none once it was forgotten.
+/// The ways that a touched unit may have gone; none once it was forgotten.
 #[derive(Drop)]
 pub struct KeptUnit {
-    // The loads that are open there, in the order of their requests.
+    // Open loads, by their requests.
     pub(crate) loads: Vec<WatchedLoad>,
-    // How many loads have been requested since none was open.
+    // Loads requested since none was open.
     pub(crate) moment: u64,
     // The pairs to which ways have come.
     pub(crate) pairs: Vec<FollowedPair>,
     // What stood there before on these ways.
     pub(crate) stretches: Vec<Stretch>,
-    // How many stretches there may be before those are dropped that no way is left to.
+    // The most stretches before unused ones are dropped.
     pub(crate) room: usize,
 }
 
-// Whether a stretch is a word that was overwritten at a moment or later.
+// Whether a word was overwritten at a moment or later.
 fn is_late(stretch: &Stretch, since: u64) -> bool
     ensures { result ≡ is_late since stretch.now }
 {
@@ -60,12 +60,12 @@ fn are_late(stretches: &[Stretch], since: u64) -> bool
     stretches.iter().all(|stretch| is_late(stretch, since))
 }
 
-// How many stretches there may be where so many are in use.
+// The most stretches if so many are in use.
 fn room_for(count: usize) -> usize {
     count.saturating_mul(2).saturating_add(SPARE)
 }
 
-// The same pairs, with references to stretches that were moved.
+// The pairs, with references to moved stretches.
 fn moved_pairs(
     alloc: Global,
     moved: &Moved,
@@ -87,7 +87,6 @@ fn moved_pairs(
     Ok(copied)
 }
 
-// The stretches have moved that the pairs refer to.
 fn move_pairs(moved: &Moved, pairs: &mut [FollowedPair])
     ensures { pairs.new
         ≡ map (λ (p : FollowedPair).
@@ -99,7 +98,7 @@ fn move_pairs(moved: &Moved, pairs: &mut [FollowedPair])
     }
 }
 
-// Nothing stood there before that a load may ask for.
+// No load may ask for what stood there before.
 fn drop_pasts(pairs: &mut [FollowedPair])
     ensures { pairs.new ≡ map (λ (p : FollowedPair). record { word = p.word; stores = p.stores; past = Nothing }) pairs.old }
 {
@@ -119,7 +118,7 @@ fn reserve_stores(pairs: &mut [FollowedPair]) -> Result<(), AllocError>
     Ok(())
 }
 
-// A store is open from now on, whatever way was gone.
+// A store is open, whatever way was gone.
 fn open_store(pairs: &mut [FollowedPair], number: u64, bytes: Word)
     requires { All (λ (p : FollowedPair). vec_len p.stores < vec_capacity p.stores) pairs.old }
     ensures { (ss : List Stretch) → shown_all ss pairs.new ≡ map (pair_with_store number bytes) (shown_all ss pairs.old) }
@@ -143,7 +142,7 @@ fn end_stores(pairs: &mut [FollowedPair], number: u64)
 }
 
 impl KeptUnit {
-    // A unit in which this word stands, and that no operation has touched.
+    // A unit with this word, which no operation has touched.
     pub(crate) fn untouched(alloc: Global, word: Word) -> Result<KeptUnit, AllocError>
         ensures shown { IfOk result
             (λ u. shown_unit u
@@ -182,7 +181,7 @@ impl KeptUnit {
         }
     }
 
-    // A copy, without the stretches that no way is left to.
+    // A copy without unused stretches.
     pub(crate) fn copied(&self, alloc: Global) -> Result<KeptUnit, AllocError>
         ensures same { IfOk result (λ u. shown_unit u ≡ shown_unit self.now) }
         ensures are_in { IfOk result (λ u. AreIn u.stretches.items u.pairs.items) }
@@ -200,7 +199,6 @@ impl KeptUnit {
         })
     }
 
-    // From now on there is as much room as so many stretches need.
     pub(crate) fn renew_room(&mut self)
         ensures same { shown_unit self.new ≡ shown_unit self.old }
         ensures stretches { self.new.stretches ≡ self.old.stretches }
@@ -208,7 +206,7 @@ impl KeptUnit {
         self.room = room_for(self.stretches.len());
     }
 
-    // A load is requested. There is no moment behind the last that has a number, as if memory were short of one.
+    // A load is requested. If moments have no more numbers, memory is told to be short.
     pub(crate) fn request_load(&mut self, number: u64, address: u64) -> Result<(), AllocError>
         ensures ok { OnOk result (shown_unit self.new ≡ ways_with_load number address (shown_unit self.old)) }
         ensures err { OnErr result (shown_unit self.new ≡ shown_unit self.old) }
@@ -224,7 +222,7 @@ impl KeptUnit {
         Ok(())
     }
 
-    // A load is answered. With the first what it alone may ask for is gone.
+    // A load is answered; what the first alone may ask for goes.
     pub(crate) fn close_load(&mut self, alloc: Global, number: u64) -> Result<(), AllocError>
         ensures ok { OnOk result (shown_unit self.new ≡ ways_without_load number (shown_unit self.old) (shown_unit self.old).pairs) }
         ensures err { OnErr result (shown_unit self.new ≡ shown_unit self.old) }
@@ -239,7 +237,7 @@ impl KeptUnit {
         Ok(())
     }
 
-    // What the first load alone may ask for is gone, which has this number.
+    // What the first load alone may ask for goes.
     fn leave_past(&mut self, alloc: Global, number: u64) -> Result<(), AllocError>
         ensures ok { OnOk result
             (shown_unit self.new
@@ -261,7 +259,7 @@ impl KeptUnit {
         }
     }
 
-    // No load is left that may ask for what stood there before.
+    // No load may ask for what stood there.
     fn drop_past(&mut self)
         ensures { shown_unit self.new
             ≡ record {
@@ -275,7 +273,7 @@ impl KeptUnit {
         self.moment = 0;
     }
 
-    // No load is left that may ask for what was overwritten before a moment.
+    // No load may ask for what was overwritten earlier.
     fn cut_past(&mut self, alloc: Global, since: u64) -> Result<(), AllocError>
         ensures ok { OnOk result
             (shown_unit self.new

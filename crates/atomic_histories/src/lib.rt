@@ -1,7 +1,8 @@
 //! Histories of a memory whose operations take effect at one moment each.
 //!
-//! What a history may show stands in `specs/Law.antt`, unit by unit: hidden steps, at which the open
-//! operations take effect, come between the events.
+//! [`AtomicMemory::new`] comes first; its caller passes each event to [`AtomicMemory::step`]. After
+//! a fault all is as it was. Ways are followed unit by unit: hidden steps, at which open operations
+//! take effect, come between the events. `specs/Law.antt` says what a history may show.
 #![tactic(auto)]
 
 mod answers;

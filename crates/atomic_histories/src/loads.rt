@@ -21,14 +21,12 @@ pub(crate) fn find_load(loads: &[WatchedLoad], number: u64) -> Option<WatchedLoa
     loads.iter().copied().find(|load| is_under(load, number))
 }
 
-// No load is open under this number from now on.
 pub(crate) fn end_load(loads: &mut Vec<WatchedLoad>, number: u64)
     ensures { loads.new.items ≡ loads_without number loads.old.items }
 {
     loads.retain(|load| !is_under(load, number));
 }
 
-// The earlier of a moment and that of a load's request.
 fn earlier(oldest: Option<u64>, load: &WatchedLoad) -> Option<u64>
     ensures { result ≡ earlier oldest load.now }
 {
@@ -38,7 +36,7 @@ fn earlier(oldest: Option<u64>, load: &WatchedLoad) -> Option<u64>
     }
 }
 
-// The moment of the oldest request of those but the load under a number.
+// The oldest request among those but one.
 pub(crate) fn oldest_without(loads: &[WatchedLoad], number: u64) -> Option<u64>
     ensures { result ≡ oldest (loads_without number loads.now) }
 {
@@ -48,7 +46,6 @@ pub(crate) fn oldest_without(loads: &[WatchedLoad], number: u64) -> Option<u64>
         .fold(None, |oldest, load| earlier(oldest, load))
 }
 
-// Whether the load that stands first has this number.
 pub(crate) fn is_first(loads: &[WatchedLoad], number: u64) -> bool
     ensures { result ≡ is_first number loads.now }
 {

@@ -1,4 +1,4 @@
-//! What an open load may return, on the ways that a unit may have gone.
+//! What an open load may return.
 
 ghost use Rattle.std.specs.Prelude.{◌≡◌, ◌<◌, false, Some, IfOk, IfErr, OnOk};
 ghost use Rattle.memory_histories.specs.Sets.{no_bytes};
@@ -15,7 +15,7 @@ use crate::unit::WatchedLoad;
 use memory_histories::ByteSet;
 use std::alloc::Global;
 
-// The set with what a load may have got in a lane on the ways to a pair.
+// Adds what a load may have got in a lane on a pair's ways.
 fn with_pair(set: ByteSet, pair: &FollowedPair, sets: &[ByteSet], lane: usize) -> ByteSet
     requires { lane < 8 }
     ensures { result ≡ with_pair_bytes lane sets.now set pair.now }
@@ -33,8 +33,7 @@ fn with_pairs(pairs: &[FollowedPair], sets: &[ByteSet], lane: usize) -> ByteSet
     })
 }
 
-// What an open load may get in a lane, on these ways and on those that stores lead to: not too many pairs are followed
-// at a time.
+// What an open load may get in a lane, on these ways and those that stores lead to.
 #[tactic(auto, using(crate::proofs::ShownBytes::pairs_shown))]
 fn load_set(
     alloc: Global,
@@ -64,7 +63,7 @@ fn load_set(
     Ok(with_pairs(pairs.as_slice(), sets.as_slice(), lane))
 }
 
-// The same of the load under a number, at a unit that may be forgotten.
+// The same of the load under a number; the unit may be forgotten.
 #[tactic(auto, using(crate::proofs::MaySteps::forgotten_set, crate::proofs::MaySteps::unknown_set, crate::proofs::MaySteps::known_set, crate::proofs::MaySteps::forgotten_narrow, crate::proofs::MaySteps::unknown_narrow, crate::proofs::MaySteps::known_narrow))]
 pub(crate) fn unit_set(
     alloc: Global,

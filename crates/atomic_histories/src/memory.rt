@@ -38,25 +38,24 @@ use std::alloc::{AllocError, Global};
 use std::collections::HashMap;
 use thiserror::Error;
 
-/// To how many pairs of a word and the stores in effect ways are followed at a unit, unless the caller
-/// says otherwise.
+/// The usual limit of pairs followed at a unit.
 pub const DEFAULT_LIMIT: usize = 4096;
 
-/// How many bytes a unit of memory has: at each aligned unit an operation takes effect at one moment.
+/// The bytes of an aligned unit, at which an operation takes effect at one moment.
 #[derive(Clone, Copy, PartialEq, Eq, Debug)]
 pub enum UnitSize {
-    /// A unit is one byte: no two bytes of an operation need one moment.
+    /// One byte: bytes of an operation need no common moment.
     One,
-    /// Of two bytes, from each even address on.
+    /// Two bytes, from each even address on.
     Two,
-    /// Of four bytes, from each address on that is a multiple of 4.
+    /// Four bytes, from each multiple of 4 on.
     Four,
-    /// Of eight bytes, from each address on that is a multiple of 8.
+    /// Eight bytes, from each multiple of 8 on.
     Eight,
 }
 
 impl UnitSize {
-    /// The number of bytes, which is never 0: an address may be divided by it.
+    /// Never 0: addresses are divided by it.
     pub fn bytes(self) -> u64
         ensures bytes { result ≡ bytes_of self }
         ensures above { 0 < result }
@@ -70,20 +69,18 @@ impl UnitSize {
     }
 }
 
-/// Why an event was not taken, or what a load may return is not told. After each of these what is kept stands
-/// for the same histories as before.
+/// Why an event isn't taken, or sets aren't told.
 #[derive(Clone, Copy, PartialEq, Eq, Debug, Error)]
 #[error("{}", FaultText(self))]
 pub enum AtomicFault {
-    /// The history with this event is none of the law. Where the question is what a load may return: none is
-    /// open under the number.
+    /// The history with this event isn't of the law; asked for sets: no load is open under the
+    /// number.
     Refused(HistoryFault),
-    /// Too many ways would have to be followed at the unit that begins at this address: there is no
-    /// verdict. They would come to more pairs of a word and the stores in effect than the limit, or more
-    /// words are kept of what stood there before than [`MOST_WORDS`](crate::MOST_WORDS).
+    /// No verdict at the unit that begins here: more pairs than the limit, or more words than
+    /// [`MOST_WORDS`](crate::MOST_WORDS).
     Undecided { address: u64 },
-    /// There was too little memory. A load's request is refused so too if 2^64 - 1 loads have been requested
-    /// at one of its units since none was open there: no moment behind the last has a number.
+    /// Too little memory; or 2^64 - 1 loads were requested at a unit since none was open, and
+    /// moments have no more numbers.
     OutOfMemory,
 }
 
@@ -98,7 +95,6 @@ impl From<AllocError> for AtomicFault {
     }
 }
 
-// A search at the unit that begins there was stopped.
 pub(crate) fn fault_of(stop: Stop, first: u64) -> AtomicFault
     ensures { result ≡ fault_of stop first }
 {
@@ -108,7 +104,7 @@ pub(crate) fn fault_of(stop: Stop, first: u64) -> AtomicFault
     }
 }
 
-/// A memory that is judged by the atomic law, event by event.
+/// A memory judged by the atomic law.
 #[derive(Drop)]
 pub struct AtomicMemory {
     alloc: Global,
@@ -123,10 +119,9 @@ pub struct AtomicMemory {
 
 #[tactic(auto)]
 impl AtomicMemory {
-    /// Memory before the first event, of units of this size. The image is the bytes from address 0 on,
-    /// and `rest` says what stands beyond it. At a unit ways to at most `limit` pairs of a word and the
-    /// stores in effect are followed at a time.
-    /// `AllocError` says that there was too little memory: nothing is made.
+    /// Memory before the first event. The image is the bytes from address 0 on, `rest` what is
+    /// beyond. A pair is a word with the stores in effect; at most `limit` are followed at a unit.
+    /// `AllocError`: too little memory.
     pub fn new(
         alloc: Global,
         size: UnitSize,
@@ -164,13 +159,11 @@ impl AtomicMemory {
         })
     }
 
-    /// Takes one event of a history.
+    /// Takes one event.
     ///
-    /// If it is `Ok`, the history so far with this event is one of the law, and what is kept is then of
-    /// the history with the event. After each fault everything is as it was. A refusal says that the
-    /// history with the event is none of the law, and names the first fault in the order of
-    /// [`HistoryFault`]; its `WrongByte` has the place of the answer's first byte in the lowest unit at
-    /// which there are no moments. What is seen of a unit that was forgotten counts for nothing.
+    /// `Ok`: the history with it is of the law. `Refused`: it isn't, for the first fault in the
+    /// order of [`HistoryFault`]. `WrongByte` has the place of the answer's first byte in the
+    /// lowest unit without moments. A forgotten unit counts for nothing.
     pub fn step(&mut self, event: HistoryEvent) -> Result<(), AtomicFault>
         ensures ok { (history : List HistoryEvent) → StandsForAll (held self.old) history
             → OnOk result
@@ -196,10 +189,9 @@ impl AtomicMemory {
         self.kept_step(event)
     }
 
-    /// What [`step`](AtomicMemory::step) would answer, with nothing changed: `None` if it would take the
-    /// event. The two differ only if there is too little memory or too many words are kept
-    /// ([`events_are_told_alike`](crate::laws::events_are_told_alike)). `OutOfMemory` says that there was too little
-    /// memory to tell; `step` may need less, since it takes many an event with no search.
+    /// What [`step`](AtomicMemory::step) would answer; `None`: it takes the event.
+    /// [`events_are_told_alike`](crate::laws::events_are_told_alike) says when they differ.
+    /// `OutOfMemory` may come where `step` needs no search.
     pub fn fault(&self, event: HistoryEvent) -> Option<AtomicFault>
         ensures none { (history : List HistoryEvent) → StandsForAll (held self.now) history
             → IfNone result
@@ -223,16 +215,12 @@ impl AtomicMemory {
         }
     }
 
-    /// What the load that is open under this number may return if it ended now: for each of its bytes, in
-    /// the order of its answer, the set of all. Each set is of its byte alone: that one byte may be
-    /// returned and another may be returned doesn't say that they may be returned together. A byte is in
-    /// a set exactly if an answer has it there that [`step`](AtomicMemory::step) would take now
+    /// What an open load may return if it ended now: a set for each byte of its answer. Each is of
+    /// its byte alone: two bytes may not go together
     /// ([`sets_are_of_answers`](crate::laws::sets_are_of_answers)).
     ///
-    /// `Refused` has the cause `NotOpen`: no load is open under the number. `Undecided`: the ways of the
-    /// unit that begins at its address lead to too many at a time, and nothing is known of the sets. Where they do
-    /// so no sets are told.
-    /// `OutOfMemory`: there was too little memory to find them.
+    /// `Refused`: no load is open under the number (`NotOpen`). `Undecided`: too many ways at this
+    /// unit; no set is told. `OutOfMemory`: too little memory.
     pub fn may_return(&self, number: u64) -> Result<Vec<ByteSet>, AtomicFault>
         ensures ok { (lost : List ℕ) → (history : List HistoryEvent)
             → StandsBut (held self.now) lost history
@@ -247,9 +235,8 @@ impl AtomicMemory {
         self.kept_sets(number)
     }
 
-    /// The same of one byte: what the load that is open under this number may return for the byte at an
-    /// address if it ended now, or `None` if no such load asks for that byte, however its unit stands. `Undecided`
-    /// and `OutOfMemory` are as there, of a byte that the load asks for, and `Refused` never comes.
+    /// The same of the byte at an address; `None` if no such load asks for it. `Refused` never
+    /// comes.
     pub fn byte_may_return(&self, number: u64, address: u64) -> Result<Option<ByteSet>, AtomicFault>
         ensures ok { (lost : List ℕ) → (history : List HistoryEvent)
             → StandsBut (held self.now) lost history
@@ -291,7 +278,6 @@ impl AtomicMemory {
         }
     }
 
-    // What the load under this number may return, of so many bytes from an address on.
     #[tactic(auto, using(crate::proofs::MaySteps::one_set_more))]
     fn sets_from(
         &self,
@@ -331,11 +317,9 @@ impl AtomicMemory {
         }
     }
 
-    /// Forgets the unit in which the byte at this address lies. From there on its bytes are unknown:
-    /// whatever a load returns there is allowed, what stores write there is not followed, and no event
-    /// is `Undecided` for its sake. The other units are judged on: an event is of the law if there are
-    /// moments at each unit that wasn't forgotten. `AllocError` says that there was too little memory:
-    /// everything is as it was.
+    /// Forgets the unit of this address. Its bytes are unknown from then on: a load may return
+    /// anything there, stores aren't followed, and no event is `Undecided` for it. Other units are
+    /// judged on. `AllocError`: too little memory.
     pub fn forget(&mut self, address: u64) -> Result<(), AllocError>
         ensures ok { (lost : List ℕ) → (history : List HistoryEvent)
             → StandsBut (held self.old) lost history
@@ -374,7 +358,7 @@ impl AtomicMemory {
         Ok(())
     }
 
-    // The units that an event touches take it: which operations are open changes behind that.
+    // The event's units take it; which operations are open changes later.
     fn take_units(&mut self, event: HistoryEvent) -> Result<(), AtomicFault>
         requires { form_fault (held self.old).opened event ≡ None }
         ensures ok { OnOk result (AreTaken (held self.old) event.entry (held self.new)) }
@@ -402,7 +386,7 @@ impl AtomicMemory {
         self.stores.reserve(1)
     }
 
-    // The one unit that an event touches takes it where it stands, if it can.
+    // The event's one unit takes it without a search, if it can.
     #[tactic(auto, using(crate::proofs::AtOnce::number_fits, crate::proofs::Ranges::sized))]
     fn takes_at_once(&mut self, event: HistoryEvent) -> Result<bool, AllocError>
         ensures ok { IfOk result (λ taken. AreTakenOrSame (held self.old) event.entry (held self.new) taken) }
@@ -428,7 +412,7 @@ impl AtomicMemory {
         )
     }
 
-    // The units that an event touches are followed, and put once all of them have ways.
+    // Follows the units of an event, and keeps them once all have ways.
     fn take_by_search(&mut self, event: HistoryEvent) -> Result<(), AtomicFault>
         ensures ok { OnOk result (AreTaken (held self.old) event.entry (held self.new)) }
         ensures told { IsToldOf (limit_of self.old) (held self.old) event.entry (result_err result) }
@@ -458,7 +442,6 @@ impl AtomicMemory {
         Ok(())
     }
 
-    // The ways of the units that an event touches, once it has come.
     fn changes(&self, event: HistoryEvent) -> Result<Vec<KeptUnit>, AtomicFault>
         ensures ways { IfOk result (λ us. map shown_unit us.items ≡ ways_there (held self.now) event.entry) }
         ensures fits { IfOk result
@@ -481,7 +464,7 @@ impl AtomicMemory {
         form_fault(self.loads.as_slice(), self.stores.as_slice(), event)
     }
 
-    // The first address of an event's operation, and how many bytes it has.
+    // The first address of an event's operation, and its length.
     fn covered(&self, event: HistoryEvent) -> (u64, usize)
         ensures { result ≡ covered (held self.now).opened event.entry }
     {
@@ -511,7 +494,6 @@ impl AtomicMemory {
         Ok(changes)
     }
 
-    // The ways of one unit, once an event has come.
     fn changed(&self, event: HistoryEvent, number: u64) -> Result<KeptUnit, AtomicFault>
         requires fits { number * bytes_of self.now.size < 2 ^ 64 }
         ensures unit { IfOk result (λ u. shown_unit u ≡ changed (held self.now) event.entry number) }
@@ -542,7 +524,6 @@ impl AtomicMemory {
         }
     }
 
-    // The operation of an event is open from now on, or it is answered.
     fn open_or_close(&mut self, event: HistoryEvent)
         requires loads { vec_len self.old.loads < vec_capacity self.old.loads }
         requires stores { vec_len self.old.stores < vec_capacity self.old.stores }
@@ -586,7 +567,6 @@ impl AtomicMemory {
     }
 }
 
-// Whether a load asks for the byte at an address.
 fn asks(load: Option<Operation>, address: u64) -> bool
     ensures { result ≡ asks load address }
 {

@@ -1,4 +1,4 @@
-//! Stretches that are copied, without those that no way needs any more.
+//! Stretches are copied without unused ones.
 
 ghost use Rattle.std.specs.Prelude.{◌≡◌, ◌≤◌, true, [], length, IfOk, OnOk};
 ghost use Rattle.atomic_histories.specs.declared.stretches.Before.{Before};
@@ -12,7 +12,7 @@ use crate::pairs::FollowedPair;
 use crate::stretches::{Before, Stretch, merge, overwrite, push};
 use std::alloc::{AllocError, Global};
 
-// Stretches that were copied, and where each of the old ones went.
+/// Copied stretches, and where each old one went.
 #[derive(Drop)]
 pub(crate) struct Moved {
     pub(crate) stretches: Vec<Stretch>,
@@ -31,7 +31,7 @@ impl Moved {
         })
     }
 
-    // Where a reference to one of the old stretches leads now: to nothing if it was to none of them.
+    // Where a reference leads now, if its stretch was copied.
     pub(crate) fn place(&self, before: Before) -> Before
         ensures { result ≡ moved_to self.now before }
     {
@@ -44,7 +44,7 @@ impl Moved {
         }
     }
 
-    // A stretch whose references are to where those that they were to went.
+    // A stretch with its references moved.
     fn moved(&self, stretch: &Stretch) -> Stretch
         ensures { result ≡ moved_stretch self.now stretch.now }
     {
@@ -83,7 +83,7 @@ impl Moved {
         }
     }
 
-    // One stretch more, without what was overwritten before a moment.
+    // Copies a stretch without what was overwritten before a moment.
     fn cut(&mut self, stretch: &Stretch, since: u64) -> Result<Before, AllocError>
         requires { (b : Before) → IsIn self.old.stretches.items (moved_to self.old b) }
         ensures past { IfOk result
@@ -116,7 +116,6 @@ impl Moved {
     }
 }
 
-// The stretches without what was overwritten before a moment.
 pub(crate) fn cut_before(
     alloc: Global,
     stretches: &[Stretch],
@@ -135,7 +134,7 @@ pub(crate) fn cut_before(
     Ok(moved)
 }
 
-// A reference makes a stretch a used one if it is to one of those before a place.
+// Marks a stretch as used, if it stands before a place.
 fn mark(used: &mut [bool], end: usize, before: Before)
     requires { end ≤ length used.old }
     ensures marked { IsUsedBelow used.new end before }
@@ -149,7 +148,7 @@ fn mark(used: &mut [bool], end: usize, before: Before)
     }
 }
 
-// So do those of the stretch at a place.
+// Marks what the stretch at a place refers to.
 fn mark_of(used: &mut [bool], place: usize, stretch: &Stretch)
     requires { place ≤ length used.old }
     ensures marked { RefersToUsed used.new place stretch.now }
@@ -178,7 +177,7 @@ fn mark_pairs(used: &mut [bool], pairs: &[FollowedPair])
     }
 }
 
-// So does each used stretch: those that it refers to stand before it.
+// Marks all behind used ones: what a stretch refers to stands before it.
 fn mark_behind(used: &mut [bool], stretches: &[Stretch])
     requires { length used.old ≡ length stretches.now }
     ensures closed { AreClosed used.new 0 stretches.now }
@@ -217,7 +216,6 @@ fn used_by(
     Ok(used)
 }
 
-// The stretches without those that no past of a pair leads to.
 pub(crate) fn without_unused(
     alloc: Global,
     stretches: &[Stretch],

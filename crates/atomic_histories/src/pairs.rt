@@ -1,4 +1,4 @@
-//! Pairs of a word and of open stores, some in effect, to which the ways of a unit may have come.
+//! Pairs of a word and the stores in effect.
 
 ghost use Rattle.std.specs.Prelude.{◌≡◌, ◌<◌, ◌+◌, ◌++◌, ◌∷◌, not, length, take, drop, slice_index_or, List, IfOk};
 ghost use Rattle.std.specs.List.{filter, list_all};
@@ -15,11 +15,11 @@ use crate::unit::{OpenStore, UnitPlace, Word};
 use crate::words::{is_same_word, is_word_of, write};
 use std::alloc::{AllocError, Global};
 
-// By which a mark is multiplied before a number is added: Knuth's multiplier for numbers of 64 bits, so that
-// few pairs have one mark.
+// Multiplies a mark before a number is added: Knuth's multiplier for 64 bits, so that few pairs
+// share one.
 const MIXER: u64 = 6_364_136_223_846_793_005;
 
-/// A pair to which ways may have come, and what stood there before on them.
+/// A pair, and the past on its ways.
 #[derive(Drop)]
 pub struct FollowedPair {
     pub(crate) word: Word,
@@ -27,8 +27,8 @@ pub struct FollowedPair {
     pub(crate) past: Before,
 }
 
-/// What an answer needs of a pair: that a store has taken effect, or that the word is one of which these are
-/// the bytes from an address on. There may be nothing that is enough.
+/// What an answer needs of a pair: a store in effect, or a word with these bytes from an address
+/// on. Nothing may be enough.
 #[derive(Clone, Copy)]
 pub enum Wanted<'a> {
     /// Nothing is enough.
@@ -133,7 +133,6 @@ impl FollowedPair {
             .fold(word, |mark, store| mark_with_store(mark, store))
     }
 
-    // Whether two are one pair of a word and the stores in effect.
     #[tactic(auto, unfolding(crate::specs::Followed::is_same_pair))]
     pub(crate) fn is_same(&self, other: &FollowedPair) -> bool
         ensures { (ss ts : List Stretch) → result ≡ is_same_pair (shown ss self.now) (shown ts other.now) }
@@ -141,7 +140,7 @@ impl FollowedPair {
         is_same_word(&self.word, &other.word) && self.stores == other.stores
     }
 
-    // The pair to which the ways go on when store `i` takes effect, with what then stood there before.
+    // The pair once store `i` takes effect, with this past.
     pub(crate) fn after(
         &self,
         alloc: Global,
@@ -163,7 +162,6 @@ impl FollowedPair {
         Ok(FollowedPair { word, stores, past })
     }
 
-    // Whether the store under a number has taken effect.
     pub(crate) fn has_effect(&self, number: u64) -> bool
         ensures { result ≡ may_answer_store number self.now.stores.items }
     {
@@ -194,7 +192,7 @@ impl FollowedPair {
         }
     }
 
-    // Whether the ways may still come to what is wanted.
+    /// Whether the ways may still come to what is wanted.
     pub(crate) fn hopes(&self, wanted: Wanted) -> bool
         ensures { (ss : List Stretch) → result ≡ (aim_of wanted.entry).hope (shown ss self.now) }
     {

@@ -1,4 +1,4 @@
-//! The search for pairs on which an answer's goal is met.
+//! The search for pairs that meet an answer's goal.
 
 ghost use Rattle.std.specs.Prelude.{◌≡◌, ◌+◌, ◌<◌, ◌++◌, ◌||◌, [], false, List, length, take, drop, slice_index_or, IfOk, IfErr, OnOk};
 ghost use Rattle.std.specs.List.{filter};
@@ -16,15 +16,14 @@ use crate::stretches::{Before, Stretch, past_on};
 use crate::unit::WatchedLoad;
 use std::alloc::{AllocError, Global};
 
-/// How many words are kept at most at a unit of what stood there since the request of the oldest load that is
-/// open, if an answer is to have a verdict.
+/// The most words that a unit keeps, since the oldest open load's request, for a verdict on an
+/// answer.
 pub const MOST_WORDS: usize = 65_536;
 
 /// Why there is no verdict.
 #[derive(Clone, Copy, PartialEq, Eq, Debug)]
 pub enum Stop {
-    /// More pairs of a word and the stores in effect would have to be followed than the limit allows, or
-    /// more words are kept than [`MOST_WORDS`].
+    /// More pairs than the limit, or more words than [`MOST_WORDS`].
     TooManyWays,
     /// There was too little memory.
     NoMemory,
@@ -41,15 +40,15 @@ impl From<AllocError> for Stop {
     }
 }
 
-// The loads that are open while stores take effect, and the moment.
+// Open loads while stores take effect, and the moment.
 #[derive(Clone, Copy)]
 pub(crate) struct Asked<'a> {
     pub(crate) loads: &'a [WatchedLoad],
     pub(crate) moment: u64,
 }
 
-// The pair to which the ways go on from this one when store `i` takes effect is followed, unless it has taken effect, or no
-// more stores could make the pair what is wanted.
+// Follows the pair once store `i` takes effect, unless it has, or no stores can lead from there to
+// what is wanted.
 fn add_effect(
     alloc: Global,
     stretches: &mut Vec<Stretch>,
@@ -116,8 +115,7 @@ fn add_effects_after(
     Ok(())
 }
 
-// The pairs to which the ways go on from this one: one more of its stores takes effect. Its word is overwritten once for
-// all of them.
+// Follows each pair with one more store in effect. The word is overwritten once for all.
 fn add_effects(
     alloc: Global,
     stretches: &mut Vec<Stretch>,
@@ -145,7 +143,7 @@ fn add_effects(
     add_effects_after(alloc, stretches, next, pair, past, wanted)
 }
 
-// A pair that is wanted is put out, and from another stores take effect.
+// Puts out a wanted pair; from another stores take effect.
 fn follow(
     alloc: Global,
     stretches: &mut Vec<Stretch>,
@@ -182,7 +180,7 @@ fn follow(
     Ok(())
 }
 
-// One round of the search: those of the pairs that are wanted are put out, and from the others stores take effect.
+// One round of the search.
 fn round(
     alloc: Global,
     stretches: &mut Vec<Stretch>,
@@ -214,7 +212,7 @@ fn round(
     Ok(next.pairs)
 }
 
-// How many rounds the search takes at most, but for the first.
+// The most rounds, but for the first.
 fn rounds(pairs: &[FollowedPair]) -> usize
     ensures { (ss : List Stretch) → result ≡ rounds (shown_all ss pairs.now) }
 {
@@ -223,7 +221,6 @@ fn rounds(pairs: &[FollowedPair]) -> usize
         .fold(0, |most, pair| most.max(pair.stores.len()))
 }
 
-// Whether more pairs are followed at a time, or found, than the limit.
 #[tactic(auto, using(crate::proofs::Loops::length_shown))]
 fn are_too_many(limit: usize, pairs: &[FollowedPair], found: &[FollowedPair]) -> bool
     ensures { (ss : List Stretch) → result ≡ (are_too_many limit (shown_all ss pairs.now) || are_too_many limit (shown_all ss found.now)) }
@@ -231,8 +228,7 @@ fn are_too_many(limit: usize, pairs: &[FollowedPair], found: &[FollowedPair]) ->
     limit < pairs.len() || limit < found.len()
 }
 
-// From these pairs on stores take effect, until what is wanted is met, beside those on which it was found already: not too
-// many pairs are followed at a time.
+// From these pairs stores take effect until what is wanted is met.
 pub(crate) fn search(
     alloc: Global,
     stretches: &mut Vec<Stretch>,
@@ -284,7 +280,7 @@ fn copied(alloc: Global, pairs: &[FollowedPair]) -> Result<Vec<FollowedPair>, Al
     Ok(same)
 }
 
-// The pairs that stores lead to from these, in one round.
+// The pairs that stores lead to in one round.
 fn reach(
     alloc: Global,
     stretches: &mut Vec<Stretch>,
@@ -306,7 +302,7 @@ fn reach(
     Ok(next.pairs)
 }
 
-// These pairs, and those that stores lead to from them: not too many that as many stores lead to.
+// These pairs, and all that stores lead to.
 pub(crate) fn reached(
     alloc: Global,
     stretches: &mut Vec<Stretch>,

@@ -1,4 +1,4 @@
-//! What stood in a lane of a unit on the ways of a past, as sets of bytes.
+//! What stood in a lane, as sets of bytes.
 
 ghost use Rattle.std.specs.Prelude.{◌≡◌, ◌<◌, ◌++◌, ◌∷◌, [], IfOk, OnOk};
 ghost use Rattle.atomic_histories.specs.MaySets.{with_lane, set_of, stretch_set, stretch_sets};
@@ -7,7 +7,7 @@ use crate::stretches::{Before, Stretch};
 use memory_histories::ByteSet;
 use std::alloc::{AllocError, Global};
 
-// The set with this byte, or with all if nothing is known of it.
+// Adds this byte, or all if it is unknown.
 pub(crate) fn with_lane(set: ByteSet, byte: Option<u8>) -> ByteSet
     ensures { result ≡ with_lane set byte }
 {
@@ -17,7 +17,6 @@ pub(crate) fn with_lane(set: ByteSet, byte: Option<u8>) -> ByteSet
     }
 }
 
-// The set of what stood there, of those of the stretches.
 pub(crate) fn set_of(sets: &[ByteSet], before: Before) -> ByteSet
     ensures { result ≡ set_of sets.now before }
 {
@@ -33,7 +32,7 @@ pub(crate) fn set_of(sets: &[ByteSet], before: Before) -> ByteSet
     }
 }
 
-// The set of a stretch: of a word in a lane, if a load may have got it since a moment, and of those before.
+// A word's bytes, if a load may have got it since a moment, and those before.
 fn stretch_set(sets: &[ByteSet], stretch: &Stretch, since: u64, lane: usize) -> ByteSet
     requires { lane < 8 }
     ensures { result ≡ stretch_set since lane sets.now stretch.now }

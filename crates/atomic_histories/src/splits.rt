@@ -1,4 +1,4 @@
-//! Of each stretch what is left of it on the ways on which a load may have got its answer, and on the others.
+//! What is left of each stretch for a load's answer, and without it.
 
 ghost use Rattle.std.specs.Prelude.{◌≡◌, ◌<◌, ◌+◌, ◌++◌, [], ◌∷◌, length, Some, IfOk, OnOk};
 ghost use Rattle.atomic_histories.specs.declared.stretches.Before.{Before};
@@ -13,14 +13,14 @@ use crate::unit::{UnitPlace, WatchedLoad, Word};
 use crate::words::is_word_of;
 use std::alloc::{AllocError, Global};
 
-// What is left of each stretch, if anything is: on the ways on which a load may have got its answer, and on the others.
+// What is left of a stretch on ways with the answer, and on the others.
 #[derive(Drop)]
 pub(crate) struct Split {
     got: Vec<Option<Before>>,
     missed: Vec<Option<Before>>,
 }
 
-// Whether a load may have got its answer from a word that was overwritten at a moment.
+/// Whether a load may have its answer from a word overwritten at a moment.
 pub(crate) fn is_answer(
     unit: UnitPlace,
     load: &WatchedLoad,
@@ -33,8 +33,8 @@ pub(crate) fn is_answer(
     load.since <= moment && is_word_of(unit.first, word, load.address, bytes)
 }
 
-// What is left of the stretch of a word at a place, where this is left of what stood there before: the stretch
-// itself if that is all, so that nothing is copied in vain.
+// What is left of a word's stretch, if this is left before it: the stretch itself if all is, so
+// that nothing is copied in vain.
 fn left_of_word(
     stretches: &mut Vec<Stretch>,
     place: usize,
@@ -60,7 +60,7 @@ fn left_of_word(
     }
 }
 
-// What is left of the stretch of two pasts at a place, where this is left of each: the stretch itself if that is all.
+// The same of the stretch of two pasts.
 fn merge_left(
     stretches: &mut Vec<Stretch>,
     place: usize,
@@ -89,7 +89,7 @@ fn merge_left(
     }
 }
 
-// The same where nothing may be left of one, or of both.
+// The same where one or both may be gone.
 fn left_of_two(
     stretches: &mut Vec<Stretch>,
     place: usize,
@@ -119,7 +119,7 @@ fn left_of_two(
 }
 
 impl Split {
-    // What is left of a past on the ways on which the load may have got its answer, if anything is.
+    // What is left of a past on ways with the answer.
     pub(crate) fn got(&self, before: Before) -> Option<Before>
         ensures { result ≡ got_of self.now before }
     {
@@ -152,7 +152,7 @@ impl Split {
         Ok(())
     }
 
-    // The shares of the stretch at a place, where those of the stretches before it are known.
+    // A stretch's shares, once those before it are known.
     fn add(
         &mut self,
         stretches: &mut Vec<Stretch>,
@@ -194,7 +194,7 @@ impl Split {
     }
 }
 
-// What is left of each stretch. The shares that had to be made anew stand behind the stretches.
+// The shares of each stretch. New stretches stand behind the others.
 pub(crate) fn split_stretches(
     alloc: Global,
     stretches: &mut Vec<Stretch>,

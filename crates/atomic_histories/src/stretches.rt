@@ -1,5 +1,5 @@
-//! What stood in a unit, on all ways that it may have gone: stretches of time with one word each, each of which
-//! refers to those before it. They are kept in a list in which a stretch stands behind those that it refers to.
+//! What stood in a unit on all its ways: stretches of time with one word each. A stretch stands in
+//! the list behind those that it refers to.
 
 ghost use Rattle.std.specs.Prelude.{◌≡◌, ◌<◌, ◌+◌, ◌^◌, IfOk, OnOk, OnErr};
 ghost use Rattle.atomic_histories.specs.Pasts.{after, merged, overwritten};
@@ -51,7 +51,7 @@ pub(crate) fn push(stretches: &mut Vec<Stretch>, stretch: Stretch) -> Result<Bef
     Ok(Before::Behind(place))
 }
 
-// A word is overwritten, before which that stood there.
+/// A word is overwritten, with this past.
 pub(crate) fn overwrite(
     stretches: &mut Vec<Stretch>,
     word: Word,
@@ -75,7 +75,7 @@ pub(crate) fn overwrite(
     )
 }
 
-// What stood there before, once the word of now is overwritten: nothing that is asked for if no load is open.
+// The past once the word of now is overwritten: none if no load is open.
 pub(crate) fn past_on(
     stretches: &mut Vec<Stretch>,
     loads: &[WatchedLoad],
@@ -117,7 +117,6 @@ pub(crate) fn merge(
     }
 }
 
-// How many words these are with one more stretch.
 fn count_word(count: usize, stretch: &Stretch) -> usize
     requires { count + 1 < 2 ^ 64 }
     ensures { result ≡ count_word count stretch.now }

@@ -1,6 +1,6 @@
 //! What a unit of memory is, and the operations that are open there.
 
-/// What is known of the bytes of a unit, in eight places: nothing where there is `None`.
+/// A unit's bytes; `None` is unknown.
 pub type Word = [Option<u8>; 8];
 
 /// One aligned unit of memory.
@@ -8,7 +8,7 @@ pub type Word = [Option<u8>; 8];
 pub struct UnitPlace {
     /// The address of its first byte.
     pub first: u64,
-    /// How many bytes it has: 1, 2, 4 or 8.
+    /// 1, 2, 4 or 8.
     pub size: u64,
 }
 
@@ -23,8 +23,8 @@ pub struct Operation {
     pub length: usize,
 }
 
-/// An open store at a unit: the bytes that it writes there, and whether it has taken effect. The places
-/// of the bytes that it doesn't write, and those beyond the unit's size, have `None`.
+/// An open store at a unit: its bytes there (`None` for those it doesn't write), and whether it has
+/// taken effect.
 #[derive(Clone, Copy, PartialEq, Eq, Debug)]
 pub struct OpenStore {
     /// The number of the store.
@@ -42,7 +42,7 @@ pub struct WatchedLoad {
     pub number: u64,
     /// The address of its first byte.
     pub address: u64,
-    /// The moment of its request: it may have got the words that were overwritten at this moment or later.
-    /// A moment is how many loads had been requested at the unit by then, since there were none.
+    /// The moment of its request: how many loads had been requested here by then, since there were
+    /// none. It may get words overwritten then or later.
     pub since: u64,
 }

@@ -18,7 +18,7 @@ use memory_histories::{HistoryEvent, HistoryFault, Rest};
 use std::alloc::{AllocError, Global};
 use std::collections::HashMap;
 
-// The first address of an open operation, and how many bytes it has.
+// The first address of an open operation, and its length.
 fn bytes_of_open(operation: Option<Operation>) -> (u64, usize)
     ensures { result ≡ bytes_of_open operation }
 {
@@ -28,7 +28,7 @@ fn bytes_of_open(operation: Option<Operation>) -> (u64, usize)
     }
 }
 
-// Those of the operation that an event requests or answers.
+/// The same of an event's operation.
 pub(crate) fn covered(
     loads: &[Operation],
     stores: &[Operation],
@@ -84,7 +84,6 @@ pub(crate) fn add_unit(units: &mut Vec<KeptUnit>, unit: KeptUnit) -> Result<(), 
     Ok(())
 }
 
-// The ways of a unit, once an event has come.
 #[tactic(auto, using(crate::proofs::Ranges::stopped_unit))]
 pub(crate) fn changed_unit(
     alloc: Global,
@@ -113,7 +112,7 @@ pub(crate) fn changed_unit(
     Ok(after)
 }
 
-// These units are kept from now on, the first under this number.
+/// Keeps these units, the first under this number.
 #[tactic(auto, using(crate::proofs::Ranges::put_last))]
 pub(crate) fn put_units(units: &mut HashMap<u64, KeptUnit>, from: u64, changes: Vec<KeptUnit>)
     requires room { length changes.items ≤ spare units.old }
@@ -135,7 +134,7 @@ pub(crate) fn put_unit(units: &mut HashMap<u64, KeptUnit>, number: u64, unit: Ke
     let _before = units.insert(number, unit);
 }
 
-// The place in an answer of the first byte that lies in the unit which begins there.
+// The place in an answer of this unit's first byte.
 pub(crate) fn place_in(loads: &[Operation], event: HistoryEvent, first: u64) -> usize
     ensures { result ≡ place_in loads.now event.entry first }
 {

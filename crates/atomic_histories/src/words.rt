@@ -10,7 +10,7 @@ ghost use Rattle.atomic_histories.specs.Words.{written_byte, written, is_as_it_s
 use crate::unit::{UnitPlace, Word};
 use memory_histories::Rest;
 
-// The byte that memory has before the first store, where this is the image's, if it has one there.
+// A byte before the first store: the image's, or the rest's.
 fn first_byte(image: Option<u8>, rest: Rest) -> Option<u8>
     ensures { result ≡ first_byte image rest }
 {
@@ -39,7 +39,7 @@ fn initial_byte(image: &[u8], rest: Rest, address: u128) -> Option<u8>
     first_byte(byte_at(image, address), rest)
 }
 
-// The byte that stands for an address in bytes from another address on.
+/// The byte for an address, in bytes from another address on.
 pub(crate) fn byte_for(from: u64, bytes: &[u8], address: u128) -> Option<u8>
     ensures { result ≡ byte_for from bytes.now address }
 {
@@ -51,7 +51,6 @@ pub(crate) fn byte_for(from: u64, bytes: &[u8], address: u128) -> Option<u8>
     }
 }
 
-// Byte `place` of a store, if it is enabled.
 #[tactic(auto, using(crate::proofs::Bits::none_above))]
 fn enabled_byte(bytes: &[u8], enables: u64, place: u128) -> Option<u8>
     ensures { result ≡ enabled_byte bytes.now enables place }
@@ -67,7 +66,6 @@ fn enabled_byte(bytes: &[u8], enables: u64, place: u128) -> Option<u8>
     }
 }
 
-// The byte that a store writes at an address.
 fn stored_byte(from: u64, bytes: &[u8], enables: u64, address: u128) -> Option<u8>
     ensures { result ≡ stored_byte from bytes.now enables address }
 {
@@ -79,7 +77,6 @@ fn stored_byte(from: u64, bytes: &[u8], enables: u64, address: u128) -> Option<u
     }
 }
 
-// What memory has in a lane of a unit before the first store.
 fn initial_lane(unit: UnitPlace, image: &[u8], rest: Rest, lane: u64) -> Option<u8>
     ensures { result ≡ at_lane unit (initial_byte image.now rest) lane }
 {
@@ -90,7 +87,6 @@ fn initial_lane(unit: UnitPlace, image: &[u8], rest: Rest, lane: u64) -> Option<
     }
 }
 
-// What memory has in a unit before the first store.
 pub(crate) fn initial_word(unit: UnitPlace, image: &[u8], rest: Rest) -> Word
     ensures { result ≡ at_unit unit (initial_byte image.now rest) }
 {
@@ -106,7 +102,6 @@ pub(crate) fn initial_word(unit: UnitPlace, image: &[u8], rest: Rest) -> Word
     ]
 }
 
-// What a store writes in a lane of a unit.
 fn stored_lane(unit: UnitPlace, from: u64, bytes: &[u8], enables: u64, lane: u64) -> Option<u8>
     ensures { result ≡ at_lane unit (stored_byte from bytes.now enables) lane }
 {
@@ -122,7 +117,7 @@ fn stored_lane(unit: UnitPlace, from: u64, bytes: &[u8], enables: u64, lane: u64
     }
 }
 
-// Lane `lane` of a store that begins with the unit, where each byte has the number of its lane.
+// A lane of a store that begins with the unit.
 fn enabled_lane(bytes: &[u8], enables: u64, lane: u64) -> Option<u8>
     requires { lane < 8 }
     ensures { result ≡ enabled_byte bytes.now enables lane }
@@ -134,7 +129,6 @@ fn enabled_lane(bytes: &[u8], enables: u64, lane: u64) -> Option<u8>
     }
 }
 
-// What it writes in a lane of the unit.
 #[tactic(auto, using(crate::proofs::Bits::stored_from_first))]
 fn first_lane(unit: UnitPlace, bytes: &[u8], enables: u64, lane: u64) -> Option<u8>
     requires { lane < 8 }
@@ -197,7 +191,7 @@ pub(crate) fn has_byte(word: Word) -> bool
     word.iter().any(|byte| byte.is_some())
 }
 
-// Whether an operation of so many bytes has one at the unit.
+/// Whether an operation of so many bytes has one in the unit.
 pub(crate) fn is_at(unit: UnitPlace, address: u64, length: usize) -> bool
     ensures { result ≡ is_at unit address length }
 {
@@ -227,7 +221,7 @@ pub(crate) fn write(word: &mut [Option<u8>], bytes: &[Option<u8>])
     }
 }
 
-// Whether an answer gives a byte as it stood there.
+/// Whether an answer gives a byte as it stood there.
 pub(crate) fn is_as_it_stood(byte: Option<u8>, answer: Option<u8>) -> bool
     ensures { result ≡ is_as_it_stood byte answer }
 {
@@ -240,8 +234,7 @@ pub(crate) fn is_as_it_stood(byte: Option<u8>, answer: Option<u8>) -> bool
     }
 }
 
-// Whether these bytes from an address on are the word's, as far as they lie in the unit, which begins at
-// `first`.
+// Whether these bytes are the word's, as far as they lie in the unit.
 #[tactic(auto, using(crate::proofs::Bits::first_same))]
 pub(crate) fn is_word_of(first: u64, word: &[Option<u8>], from: u64, bytes: &[u8]) -> bool
     ensures { result ≡ is_word_of first word.now from bytes.now }
@@ -253,7 +246,7 @@ pub(crate) fn is_word_of(first: u64, word: &[Option<u8>], from: u64, bytes: &[u8
     }
 }
 
-// The same of bytes that begin with the unit, where each has the number of its lane.
+// The same of bytes that begin with the unit.
 #[tactic(auto, using(crate::proofs::Bits::first_more, crate::proofs::Bits::word_all), unfolding(crate::specs::Words::is_word_of))]
 fn is_first_word(word: &[Option<u8>], bytes: &[u8]) -> bool
     ensures { result ≡ is_word_of 0 word.now 0 bytes.now }
@@ -293,7 +286,7 @@ fn is_same_lane(word: &Word, other: &Word, lane: usize) -> bool
     word[lane] == other[lane]
 }
 
-// Whether the lanes of two words are the same. Written out, they are compared faster than by the arrays' own `==`.
+// Whether two words' lanes are the same. Written out it is faster than the arrays' own `==`.
 fn are_same_lanes(word: &Word, other: &Word) -> bool
     ensures { result ≡ are_same_lanes 0 8 word.now other.now }
 {

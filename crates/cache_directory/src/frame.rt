@@ -11,7 +11,7 @@ use arrayvec::ArrayVec;
 use flat_model::{Lanes, MAX_BLOCK_WORDS, MAX_WAYS, Word, merge};
 use std::marker::Model;
 
-/// A frame: empty, or with a block and the cells of its words.
+/// A frame: empty, or a block and its words.
 #[derive(Drop)]
 pub struct Way {
     block: Option<u32>,
@@ -65,7 +65,7 @@ impl Way {
         }
     }
 
-    /// Whether the frame waits for words of its block.
+    /// Whether it waits for words.
     pub fn pending(&self) -> bool
         ensures { result ≡ self.now.pending }
     {
@@ -80,7 +80,7 @@ impl Way {
         cell_in(self.cells.as_slice(), i)
     }
 
-    /// The frame holds the block, with zero words, none of them dirty, and waits for them.
+    /// Takes a block: zero words, none dirty, all awaited.
     pub fn install(&mut self, words: u32, block: u32)
         requires { words ≤ MAX_BLOCK_WORDS }
         ensures { self.new ≡ fresh_frame words block }
@@ -99,7 +99,7 @@ impl Way {
         self.cells.clear();
     }
 
-    /// The bytes of `word` outside `keep` go into word `i`.
+    /// Word `i` takes the bytes outside `keep`.
     pub fn fill(&mut self, i: u32, word: Word, keep: Lanes)
         requires { i < length self.old.cells }
         ensures { self.new ≡ filled self.old i word keep }
@@ -115,7 +115,7 @@ impl Way {
         );
     }
 
-    /// The bytes of `word` in the lanes go into word `i`, and the lanes become dirty.
+    /// Word `i` takes the lanes' bytes, which become dirty.
     pub fn write(&mut self, i: u32, word: Word, lanes: Lanes)
         requires { i < length self.old.cells }
         ensures { self.new ≡ written self.old i word lanes }
@@ -164,7 +164,7 @@ fn zero_cells(words: u32) -> ArrayVec<Cell, MAX_BLOCK_WORDS>
     cells
 }
 
-/// The frames of a set that hold a block, the one allocated longest ago first.
+/// A set's frames with a block, the oldest first.
 #[derive(Drop)]
 pub struct Order {
     frames: ArrayVec<u32, MAX_WAYS>,
@@ -196,14 +196,14 @@ impl Order {
         self.frames.push(frame);
     }
 
-    /// The frame goes; the others stay in their order.
+    /// Takes a frame out.
     pub fn remove(&mut self, frame: u32)
         ensures { self.new ≡ without self.old frame }
     {
         remove_frame(&mut self.frames, frame);
     }
 
-    /// The frames, the one allocated longest ago first.
+    /// Oldest first.
     pub fn as_slice(&self) -> &[u32]
         ensures { result.now ≡ self.now }
     {

@@ -1,4 +1,4 @@
-//! The frames of the cache, with its numbers given at run time.
+//! The frames, with their numbers given at run time.
 #![tactic(auto, unfolding(crate::specs::Frames::installed, crate::specs::Frames::released, crate::specs::Frames::chosen, crate::specs::Frames::free_way, crate::specs::Frames::oldest))]
 
 ghost use Rattle.std.specs.Prelude.{ℕ, ◌≡◌, ◌<◌, ◌≤◌, ◌+◌, ◌/◌, [], length, IsTrue, replicate, IfOk, not, is_none};
@@ -17,15 +17,11 @@ use std::marker::Model;
 // The most frames that a table has.
 const MAX_FRAMES: usize = MAX_SETS as usize * MAX_WAYS;
 
-/// The frames of the cache: `ways` (1 to 16) in each set, with `words` (1 to 16) words in each frame
-/// that holds a block.
+/// Frames: `ways` (1 to 16) a set, `words` (1 to 16) a frame. The table keeps neither number: calls
+/// are given the same ones.
 ///
-/// The table keeps neither number: a call that counts ways or words is given them, the same ones as
-/// the calls before it.
-///
-/// Frames are numbered set by set, from 0. Block `b` may lie only in the frames of the set
-/// `b % sets`. A call that is given a frame needs one that there is, and a call that is given a
-/// word of it needs one that the frame has.
+/// Frames are numbered set by set, from 0; block `b` may lie only in set `b % sets`. A frame that
+/// is given exists, and so does a word of it.
 #[derive(Drop)]
 pub struct FrameTable {
     ways: Vec<Way>,
@@ -41,8 +37,7 @@ impl Model for FrameTable {
 }
 
 impl FrameTable {
-    /// A table of `sets` sets (1 to 1024) of `ways` frames (1 to 16), all of them empty. An error
-    /// says that there was too little memory; nothing is made then.
+    /// `sets` (1 to 1024) empty sets of `ways` frames (1 to 16). An error: too little memory.
     pub fn new(alloc: Global, ways: u32, sets: u32) -> Result<Self, AllocError>
         requires some_way { 0 < ways }
         requires few_ways { ways ≤ MAX_WAYS }
@@ -60,7 +55,7 @@ impl FrameTable {
         })
     }
 
-    /// The frame that holds the block, or `None` where no frame holds it.
+    /// The frame that holds the block, if any.
     pub fn look(&self, ways: u32, block: u32) -> Option<u32>
         requires whole { spec.IsWholeFor ways self.now }
         ensures found { result ≡ spec.frame_of self.now.frames block }
@@ -69,9 +64,8 @@ impl FrameTable {
         holding_way(&self.ways, set * ways, ways, block)
     }
 
-    /// The frame that the block may take: the free frame of its set with the lowest number, else
-    /// the one that was allocated longest ago of those that aren't pending, and `AllPending` where
-    /// all of them are.
+    /// The frame that the block may take: the lowest free one of its set, else the oldest that
+    /// isn't pending.
     pub fn choose(&self, ways: u32, block: u32) -> Choice
         requires whole { spec.IsWholeFor ways self.now }
         ensures chosen { result ≡ spec.chosen ways self.now (spec.set_of self.now block) }
@@ -89,8 +83,8 @@ impl FrameTable {
         }
     }
 
-    /// The free frame, one of the block's set, holds the block, which no frame held: it is
-    /// pending, its words are zero and no lane is dirty. It goes last in the order of its set.
+    /// A free frame of the block's set takes the absent block: pending, zero words, no dirty lane,
+    /// last in the set's order.
     pub fn install(&mut self, ways: u32, words: u32, frame: u32, block: u32)
         requires whole { spec.IsWhole ways words self.old }
         requires frame { frame < length self.old.frames }
@@ -106,7 +100,7 @@ impl FrameTable {
         order.push(frame);
     }
 
-    /// The frame, which held a block, holds none, and leaves the order of its set.
+    /// The frame gives its block up, and leaves the set's order.
     pub fn release(&mut self, ways: u32, frame: u32)
         requires whole { spec.IsWholeFor ways self.old }
         requires held { IsTrue (spec.is_held self.old frame) }
@@ -120,7 +114,7 @@ impl FrameTable {
         order.remove(frame);
     }
 
-    /// Word `i` of the block that the frame holds.
+    /// Word `i` of the frame's block.
     pub fn word(&self, frame: u32, i: u32) -> Word
         requires { i < length (spec.frame_at self.now.frames frame).cells }
         ensures word { result ≡ (spec.cell_at (spec.frame_at self.now.frames frame) i).word }
@@ -129,8 +123,7 @@ impl FrameTable {
         way.cell(i).word
     }
 
-    /// The lanes of word `i` of the block that the frame holds which were written and not yet
-    /// queued for memory.
+    /// Word `i`'s lanes written and not yet queued for memory.
     pub fn dirty(&self, frame: u32, i: u32) -> Lanes
         requires { i < length (spec.frame_at self.now.frames frame).cells }
         ensures dirty { result ≡ (spec.cell_at (spec.frame_at self.now.frames frame) i).dirty }
@@ -139,8 +132,7 @@ impl FrameTable {
         way.cell(i).dirty
     }
 
-    /// The bytes of `word` in the lanes go into word `i` of the block that the frame holds, and
-    /// the lanes become dirty.
+    /// Word `i` takes the lanes' bytes, which become dirty.
     pub fn write(&mut self, frame: u32, i: u32, word: Word, lanes: Lanes)
         requires { i < length (spec.frame_at self.old.frames frame).cells }
         ensures written { self.new ≡ spec.with_frame self.old frame
@@ -152,8 +144,7 @@ impl FrameTable {
         way.write(i, word, lanes);
     }
 
-    /// The bytes of `word` outside `keep` go into word `i` of the block that the frame holds. No
-    /// dirty lane changes.
+    /// Word `i` takes the bytes outside `keep`. No dirty lane changes.
     pub fn fill(&mut self, frame: u32, i: u32, word: Word, keep: Lanes)
         requires { i < length (spec.frame_at self.old.frames frame).cells }
         ensures filled { self.new ≡ spec.with_frame self.old frame
@@ -165,7 +156,7 @@ impl FrameTable {
         way.fill(i, word, keep);
     }
 
-    /// The frame, which holds a block, has all the block's words: it is no longer pending.
+    /// The frame has all words: not pending any more.
     pub fn settle_frame(&mut self, frame: u32)
         requires { IsTrue (spec.is_held self.old frame) }
         ensures settled { self.new ≡ spec.with_frame self.old frame
@@ -177,7 +168,7 @@ impl FrameTable {
         way.settle();
     }
 
-    /// The block that the frame holds, or `None` where it is free.
+    /// The frame's block, if any.
     pub fn block_of(&self, frame: u32) -> Option<u32>
         requires { frame < length self.now.frames }
         ensures block { result ≡ (spec.frame_at self.now.frames frame).block }
@@ -186,7 +177,7 @@ impl FrameTable {
         way.block()
     }
 
-    /// Whether the frame waits for words of its block.
+    /// Whether it waits for words.
     pub fn pending(&self, frame: u32) -> bool
         requires { frame < length self.now.frames }
         ensures pending { result ≡ (spec.frame_at self.now.frames frame).pending }
@@ -216,7 +207,6 @@ fn empty_orders(alloc: Global, count: u32) -> Result<Vec<Order>, AllocError>
     Ok(orders)
 }
 
-// Of `count` frames from `first` on, the first that holds the block.
 fn holding_way(ways: &[Way], first: u32, count: u32, block: u32) -> Option<u32>
     requires there { first + count ≤ length ways.now }
     requires small { length ways.now ≤ MAX_FRAMES }
@@ -231,7 +221,6 @@ fn holding_way(ways: &[Way], first: u32, count: u32, block: u32) -> Option<u32>
     )
 }
 
-// Of `count` frames from `first` on, the first that is free.
 fn free_way(ways: &[Way], first: u32, count: u32) -> Option<u32>
     requires there { first + count ≤ length ways.now }
     requires small { length ways.now ≤ MAX_FRAMES }
@@ -246,7 +235,6 @@ fn free_way(ways: &[Way], first: u32, count: u32) -> Option<u32>
     )
 }
 
-// Of the frames in the order, the first that isn't pending.
 fn oldest(ways: &[Way], order: &[u32]) -> Option<u32>
     requires { All (λ f. f < length ways.now) order.now }
     ensures { result ≡ find (λ f. not (spec.frame_at ways.now f).pending) order.now }

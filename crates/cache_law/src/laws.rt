@@ -2,19 +2,17 @@
 
 ghost use Rattle.cache_law.specs.UnitForms.{EachStepKeeps, EachStepMakesForms};
 
-/// What each step of a sound unit makes of the forms of the unit's words, and of the forms that its
-/// loads are owed, whatever words arrive. An accepted load's tag is owed the form of its word, and an
-/// accepted store's bytes are bytes of its word's form. A miss gives its block's words the newest
-/// queued lanes, and asks for the others. An eviction, and the giving up of a victim, take their
-/// block's forms away. A word that arrives is filled in wherever it was asked for, and a reply that is
-/// taken has the bytes that its tag was owed. A processed word, a drained write and a refusal change
-/// none. Each call's contract says that its unit was sound, and which step it has made.
+/// What a step of a sound unit makes of the forms of its words, and of those that loads are owed.
+/// An accepted load's tag is owed its word's form; an accepted store's bytes are bytes of that
+/// form. A miss gives words the newest queued lanes, and asks for the others. An eviction takes the
+/// block's forms away. An arriving word is filled in wherever it was asked for. A taken reply has
+/// the bytes that its tag was owed. Other steps change no form.
 pub fn each_step_makes_forms()
     ensures { EachStepMakesForms }
 {}
 
-/// Each step of a sound unit leaves it sound, whatever its numbers. That a unit of `cache_unit` is
-/// sound at all times, `ShapedUnit::owed` says there.
+/// A step of a sound unit leaves it sound. `ShapedUnit::owed` of `cache_unit` says that its units
+/// are.
 pub fn each_step_keeps()
     ensures { EachStepKeeps }
 {}

@@ -1,5 +1,5 @@
-//! The laws of a cache unit: its state, its steps, what holds of it at all times, and what its steps make of the bytes that are on
-//! their way. No code but the types that the definitions name, and the shape of a unit's numbers.
+//! The laws of a cache unit: its state, its steps, what always holds, and what steps make of bytes
+//! on their way. Its caller is `cache_unit`; [`Sizes`] comes first.
 #![tactic(auto)]
 
 ghost use Rattle.std.specs.Prelude.{◌≡◌};
@@ -9,7 +9,7 @@ pub mod laws;
 
 use flat_model::{Lanes, Shape, Word};
 
-/// The numbers of a unit, and of the machine around it.
+/// The numbers of a unit and its machine.
 #[derive(Clone, Copy, PartialEq, Eq, Debug)]
 pub struct Sizes {
     /// Frames of each set: 1 to 16.
@@ -18,19 +18,19 @@ pub struct Sizes {
     pub block_words: u32,
     /// Registers for missing blocks: 1 to 64.
     pub regs: u32,
-    /// Places of the stack of words that came from memory: 1 to 64.
+    /// Places of the input stack: 1 to 64.
     pub depth: u32,
-    /// Words of memory: 1 to 4,294,967,295, and a multiple of the words of a block.
+    /// Words of memory: 1 to 4,294,967,295, in whole blocks.
     pub words: u32,
     /// Sets of frames: 1 to 1024.
     pub sets: u32,
     /// Banks of memory: 1 to 16.
     pub banks: u32,
-    /// Commands that may wait at a bank: at most 64, and enough for a bank's share of a block.
+    /// Commands that wait at a bank: a bank's share of a block, to 64.
     pub bank_queue: u32,
-    /// Words that may wait to be written: at least those of a block, at most 256.
+    /// Words in the write queue: a block's, to 256.
     pub write_queue: u32,
-    /// Loads that may be awaited or stand ready: 1 to 64.
+    /// Loads awaited or ready: 1 to 64.
     pub replies: u32,
 }
 
@@ -55,9 +55,9 @@ impl Sizes {
 pub enum Request {
     /// The word at `at`, under a tag.
     Load { tag: u16, at: u32 },
-    /// The bytes of `word` in the lanes are written at `at`.
+    /// Writes the lanes of `word`.
     Store { at: u32, word: Word, lanes: Lanes },
-    /// The block of the word at `at` is wanted in the cache.
+    /// Wants the word's block in the cache.
     Prefetch { at: u32 },
 }
 
@@ -73,11 +73,10 @@ pub struct Reply {
 /// What a request for a word finds.
 #[derive(Clone, Copy, PartialEq, Eq, Debug)]
 pub enum Lookup {
-    /// The word is at hand: a load of it is answered at once, and a store changes the buffer.
+    /// The word is at hand.
     Hit,
-    /// A register waits for the word: a load waits with it, and a store's bytes are kept from the
-    /// word that comes.
+    /// The word is on its way: a load waits for it, and it doesn't change a store's bytes.
     Join,
-    /// No frame holds the block: it would be asked for, in a register of its own.
+    /// No frame holds the block.
     Miss,
 }

@@ -11,8 +11,7 @@ use flat_model::Lanes;
 use miss_registers::RegisterTable;
 use write_queue::WriteQueue;
 
-/// Gives each word of a block that was just installed its newest queued bytes: they go into the
-/// buffer, and the arriving word mustn't change them.
+/// A new block's words get their newest queued bytes, which the arriving words mustn't change.
 pub(crate) fn begin_words(
     directory: &mut FrameTable,
     registers: &mut RegisterTable,

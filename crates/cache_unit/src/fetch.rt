@@ -20,8 +20,8 @@ use memory_banks::Lines;
 use miss_registers::RegisterTable;
 use write_queue::WriteQueue;
 
-/// The frame that the absent block takes: a free one of its set, else the resident one that was
-/// allocated longest ago; `None` where all are pending.
+/// The frame for an absent block: a free one, else the oldest resident one. `None`: all are
+/// pending.
 pub(crate) fn choose_frame(directory: &FrameTable, sizes: &Sizes, block: u32) -> Option<u32>
     requires { dir.IsWhole sizes.now.ways sizes.now.block_words directory.now }
     ensures { result ≡ chosen_frame
@@ -34,7 +34,6 @@ pub(crate) fn choose_frame(directory: &FrameTable, sizes: &Sizes, block: u32) ->
     }
 }
 
-/// How many words the frame owes to memory.
 #[inline(always)]
 pub(crate) fn words_owed(directory: &FrameTable, sizes: &Sizes, frame: u32) -> u32
     requires whole { dir.IsWhole sizes.now.ways sizes.now.block_words directory.now }
@@ -47,8 +46,8 @@ pub(crate) fn words_owed(directory: &FrameTable, sizes: &Sizes, frame: u32) -> u
     }
 }
 
-/// Brings an absent block in: the frame is vacated and holds the block, with the newest queued
-/// bytes of its words; the register waits for them; and the reads go to the banks.
+/// Brings an absent block in: the victim goes, the newest queued bytes come, the register waits,
+/// and reads go to the banks.
 pub(crate) fn bring_in<L: Lines>(
     directory: &mut FrameTable,
     registers: &mut RegisterTable,

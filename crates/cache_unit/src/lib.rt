@@ -1,4 +1,7 @@
-//! The cache's control: requests, arriving words, evictions and replies.
+//! The cache's control: [`ShapedUnit::request`] serves the processor. Other calls take arriving
+//! words, evictions and replies. Its caller is a machine, which owns the banks.
+//!
+//! After a refusal, or `Nothing`, all is as it was.
 #![tactic(auto)]
 
 mod begin;
@@ -14,7 +17,6 @@ pub use fixed::CacheUnit;
 pub use limits::{bad_field, bad_size, sizes_of};
 pub use unit::ShapedUnit;
 
-// The frame and the register that a miss takes.
 #[derive(Clone, Copy)]
 struct Places {
     frame: u32,

@@ -11,9 +11,8 @@ use flat_model::{
     Shape, ShapeField,
 };
 
-/// The first number that is out of its range for a unit, in the order of the checks: the words of a
-/// block (1 to 16), the ways (1 to 16), the registers (1 to 64), the places of the input stack (1 to
-/// 64), and then words, sets, banks, the queues and replies. `None` says that there is such a unit.
+/// The first number out of its range. Words of a block are 1 to 16, ways 1 to 16, registers 1 to
+/// 64, places of the stack 1 to 64. Then come words, sets, banks, queues and replies.
 pub fn bad_size(sizes: &Sizes) -> Option<ShapeField>
     ensures { result ≡ limits.bad_size sizes.now }
 {
@@ -30,8 +29,8 @@ pub fn bad_size(sizes: &Sizes) -> Option<ShapeField>
     }
 }
 
-/// The same of a unit whose words of a block (1 to 16), ways (1 to 8), registers (1 to 16) and places
-/// of the stack (1 to 16) stand in its type, and whose memory has at most 1,048,576 words.
+/// The same of a [`CacheUnit`](crate::CacheUnit): words of a block (1 to 16), ways (1 to 8),
+/// registers (1 to 16), places (1 to 16), with at most 1,048,576 words of memory.
 pub fn bad_field<const WAYS: usize, const WORDS: usize, const REGS: usize, const DEPTH: usize>(
     shape: &Shape,
 ) -> Option<ShapeField>
@@ -50,7 +49,7 @@ pub fn bad_field<const WAYS: usize, const WORDS: usize, const REGS: usize, const
     }
 }
 
-/// The numbers of a unit, four of which stand in its type and fit into 32 bits.
+/// The numbers of a unit, four of them from its type.
 pub fn sizes_of<const WAYS: usize, const WORDS: usize, const REGS: usize, const DEPTH: usize>(
     shape: &Shape,
 ) -> Sizes
@@ -74,7 +73,7 @@ pub fn sizes_of<const WAYS: usize, const WORDS: usize, const REGS: usize, const 
     }
 }
 
-// The first number behind these that is out of its range, where memory has so many words at most.
+// The first other number out of its range.
 fn bad_number(most: u32, sizes: &Sizes) -> Option<ShapeField>
     requires some { 1 ≤ sizes.now.block_words }
     requires few { sizes.now.block_words ≤ MAX_BLOCK_WORDS }

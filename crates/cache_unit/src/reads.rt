@@ -1,4 +1,4 @@
-//! What a miss sends to the banks: a read for each word of its block.
+//! The reads that a miss sends to the banks.
 ghost use Rattle.std.specs.Prelude.{◌≡◌, ℕ, ◌+◌, ◌*◌, ◌%◌, ◌/◌, ◌^◌, ◌<◌, ◌≤◌, ◌==◌, nat_lt, length};
 ghost use Rattle.std.specs.List.{list_any, filter, range_with_len};
 ghost use Rattle.memory_banks.specs.Banks.{HasSent, commands_for};
@@ -6,7 +6,6 @@ ghost use Rattle.cache_law.specs.Reads.{block_reads, is_short};
 
 use memory_banks::{Command, Lines};
 
-// How many of the words from `first` on lie in a bank.
 fn words_in_bank(first: u32, words: u32, banks: u32, bank: u32) -> u32
     requires some { 0 < banks }
     requires fits { first + words < 2 ^ 32 }
@@ -17,8 +16,7 @@ fn words_in_bank(first: u32, words: u32, banks: u32, bank: u32) -> u32
         .count() as u32
 }
 
-// Whether a bank with so much room has too little for its share of these words. One that has room
-// for all of them needs no count.
+// Whether a bank lacks room for its share. One with room for all words needs no count.
 fn is_short(room: u32, first: u32, words: u32, banks: u32, bank: u32) -> bool
     requires some { 0 < banks }
     requires fits { first + words < 2 ^ 32 }
@@ -31,7 +29,6 @@ fn is_short(room: u32, first: u32, words: u32, banks: u32, bank: u32) -> bool
     room < words_in_bank(first, words, banks, bank)
 }
 
-/// Whether some bank has less room than these words need.
 pub(crate) fn lacks_room<L: Lines>(lines: &L, first: u32, words: u32, banks: u32) -> bool
     requires some { 0 < banks }
     requires fits { first + words < 2 ^ 32 }
@@ -46,7 +43,7 @@ pub(crate) fn lacks_room<L: Lines>(lines: &L, first: u32, words: u32, banks: u32
     false
 }
 
-/// Sends a read for each of these words, in their order, to its bank.
+/// Sends a read for each of these words to its bank.
 pub(crate) fn send_reads<L: Lines>(lines: &mut L, slot: u32, first: u32, words: u32, banks: u32)
     requires some { 0 < banks }
     requires words { 0 < words }

@@ -29,20 +29,18 @@ use miss_registers::{OwedList, RegisterTable};
 use std::marker::Model;
 use write_queue::{Queued, WriteQueue};
 
-// Room for every load that may be ready.
+// Room for every ready load.
 const REPLY_PLACES: usize = MAX_REPLIES as usize;
 
-/// A cache of as many sets, frames a set (ways), words a block, registers for missing blocks and
-/// places for words that came from memory as its [`Sizes`] say.
+/// A cache with the numbers of its [`Sizes`].
 ///
-/// Words, blocks, sets and frames are numbered from 0: block `b` has the words from
-/// `b * block_words` on, and set `s` the frames from `s * ways` on. The unit sends its reads and
-/// writes to banks over [`Lines`], and is given the words that come back by [`ShapedUnit::arrive`].
-/// All memory is taken by [`ShapedUnit::new`]; no other call asks for any.
+/// Block `b` has the words from `b * block_words` on, set `s` the frames from `s * ways` on.
+/// Commands go to the banks over [`Lines`]; words come back by [`ShapedUnit::arrive`]. Only
+/// [`ShapedUnit::new`] allocates.
 ///
-/// A call that changes a unit has one clause: the unit was sound, and the answer, the unit after it
-/// and the commands sent are those of one step. [`each_step_makes_forms`](crate::laws::each_step_makes_forms)
-/// is what each step makes of the bytes that haven't come, whatever they will be.
+/// Each changing call is one step of a sound unit.
+/// [`each_step_makes_forms`](crate::laws::each_step_makes_forms) tells what it makes of bytes that
+/// haven't come.
 #[derive(Drop)]
 pub struct ShapedUnit {
     sizes: Sizes,
@@ -66,8 +64,8 @@ impl Model for ShapedUnit {
 }
 
 impl ShapedUnit {
-    /// Sends the front of the write queue to its bank. `Nothing` says that the queue is empty, and
-    /// a refusal (10) that the bank has no room; both leave everything unchanged.
+    /// Sends the write queue's front to its bank. `Nothing`: the queue is empty. Refused (10): the
+    /// bank has no room.
     #[tactic(auto, unfolding(cache_law::specs::Steps::drain_step))]
     pub fn drain<L: Lines>(&mut self, lines: &mut L) -> Answer
         ensures { MakesOver L.sent_to L.room_of L.same
@@ -94,9 +92,9 @@ impl ShapedUnit {
         Answer::Moved
     }
 
-    /// Gives a block up: its words with dirty lanes are queued, its frame is released, and its live
-    /// register becomes obsolete. Refused where there is no such block (1), no frame holds it (11),
-    /// or the write queue has too few free places (9); each leaves everything unchanged.
+    /// Gives a block up: its dirty words are queued, its frame is released, its live register
+    /// becomes obsolete. Refused: no such block (1); no frame holds it (11); the write queue has
+    /// too few places (9).
     #[inline(never)]
     pub fn evict(&mut self, block: u32) -> Answer
         ensures { Makes (steps.evict_step self.old.sizes self.old.cache block)
@@ -118,7 +116,7 @@ impl ShapedUnit {
         Answer::Accepted
     }
 
-    // The block loses its frame, which has few enough dirty words for the write queue.
+    // The block loses its frame; the queue has room.
     fn give_up(&mut self, block: u32, frame: u32)
         requires holds { frame_of self.old.cache block ≡ Some frame }
         requires room { lacks_places self.old.sizes self.old.cache (Some frame) ≡ false }
@@ -129,8 +127,7 @@ impl ShapedUnit {
         retire(&mut self.registers, block);
     }
 
-    /// Takes the ready reply at `place`: its value. `Nothing` says that there is none, and changes
-    /// nothing.
+    /// Takes the ready reply at `place`, or `Nothing`.
     #[tactic(auto, unfolding(cache_law::specs::Steps::take_step))]
     #[inline(never)]
     pub fn take(&mut self, place: u32) -> Answer
@@ -147,9 +144,8 @@ impl ShapedUnit {
         }
     }
 
-    /// Puts the word `i` for the register in `slot`, which came from memory, last into the stack.
-    /// Refused where no register waits for it (13) or the stack is full (12); both leave everything
-    /// unchanged.
+    /// Pushes word `i` for the register in `slot`, which came from memory, onto the stack. Refused:
+    /// no register waits for it (13); the stack is full (12).
     pub fn arrive(&mut self, slot: u32, i: u32, word: Word) -> Answer
         ensures { Makes (steps.arrive_step self.old.sizes self.old.cache slot i word)
             self.old result self.new }
@@ -166,9 +162,8 @@ impl ShapedUnit {
         }
     }
 
-    /// Takes the word at `place` out of the stack. The loads that wait for it are answered in their
-    /// order, and where its register is live, the buffer's lanes outside the word's code take its
-    /// bytes. `Nothing` says that there is no such place, and changes nothing.
+    /// Takes the word at `place` out of the stack, or `Nothing`. Its loads are answered in order; a
+    /// live register's buffer takes the bytes outside the word's code.
     #[tactic(auto, unfolding(cache_law::specs::Steps::process_step))]
     #[inline(never)]
     pub fn process(&mut self, place: u32) -> Answer
@@ -184,7 +179,6 @@ impl ShapedUnit {
     }
 }
 
-// The block's live register, where it has one, becomes obsolete.
 fn retire(registers: &mut RegisterTable, block: u32)
     requires { length registers.old ≤ MAX_REGS }
     ensures retired { registers.new ≡ steps.obsoleted registers.old (regs.live_for registers.old block) }
@@ -196,7 +190,6 @@ fn retire(registers: &mut RegisterTable, block: u32)
     }
 }
 
-// A live register's word goes into its frame.
 #[tactic(auto, unfolding(cache_law::specs::Steps::filled_live))]
 fn fill_live(directory: &mut FrameTable, e: &Entry, live: Option<u32>, keep: Lanes, last: bool)
     requires there { CanFill directory.old live e.now.i }

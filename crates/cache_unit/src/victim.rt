@@ -1,4 +1,4 @@
-//! The words that a frame owes to memory when its block is given up.
+//! What a frame owes to memory when its block goes.
 ghost use Rattle.std.specs.Prelude.{◌≡◌, ℕ, ◌+◌, ◌-◌, ◌*◌, ◌^◌, ◌<◌, ◌≤◌, ◌++◌, length, IsTrue, Some};
 ghost use Rattle.flat_model.specs.declared.limits.TheConstants.{MAX_BLOCK_WORDS};
 ghost use Rattle.cache_directory.specs.Frames.{IsWhole, frame_at, is_held};
@@ -11,7 +11,6 @@ use cache_directory::FrameTable;
 use flat_model::{Lanes, Word, merge};
 use write_queue::{Queued, WriteQueue};
 
-/// How many words with dirty lanes the frame has.
 #[inline(always)]
 pub(crate) fn dirty_words(directory: &FrameTable, sizes: &Sizes, frame: u32) -> u32
     requires whole { IsWhole sizes.now.ways sizes.now.block_words directory.now }
@@ -29,7 +28,7 @@ pub(crate) fn dirty_words(directory: &FrameTable, sizes: &Sizes, frame: u32) -> 
     count
 }
 
-// Queues the frame's words with dirty lanes, in word order, each with these lanes.
+// Queues the frame's dirty words in word order.
 fn queue_dirty_words(
     directory: &FrameTable,
     queue: &mut WriteQueue,
@@ -60,8 +59,7 @@ fn queue_dirty_words(
     }
 }
 
-/// Vacates the frame: where it holds a block, the block's dirty words are queued and the frame is
-/// released.
+/// Empties the frame: its dirty words are queued.
 pub(crate) fn vacate(directory: &mut FrameTable, queue: &mut WriteQueue, sizes: &Sizes, frame: u32)
     requires whole { IsWhole sizes.now.ways sizes.now.block_words directory.old }
     requires frame { frame < length directory.old.frames }

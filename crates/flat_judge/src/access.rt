@@ -26,20 +26,19 @@ pub struct Access {
     pub requester: u32,
     /// How many bytes it has.
     pub length: u32,
-    /// How many accesses this requester had before. A bench that counts the answers of each requester
-    /// sees by it who doesn't get on.
+    /// This requester's earlier accesses: a bench sees by it who doesn't get on.
     pub turn: u64,
     /// The address of its first byte.
     pub address: u64,
-    /// The bytes that a store writes: bit `k` is its byte `k`. 0: a load.
+    /// Bytes that a store writes, bit `k` for byte `k`. 0: a load.
     pub enables: u64,
 }
 
 impl Traffic {
-    /// The access of a number, under a seed.
+    /// The access of a number.
     ///
-    /// Requesters ask in turn. The accesses of a burst go to one block. A store that would leave all its
-    /// bytes out is a load.
+    /// Requesters take turns. The accesses of a burst go to one block. A store without bytes
+    /// becomes a load.
     #[tactic(auto, unfolding(crate::specs::Traffic::access_of))]
     pub fn access(&self, seed: u64, number: u64) -> Access
         ensures access { result ≡ access_of self.now.plan seed number }
@@ -60,7 +59,7 @@ impl Traffic {
         }
     }
 
-    // How far from the first byte an access is.
+    // Its distance from the first byte.
     #[tactic(auto, using(crate::proofs::Standing::piece_fits))]
     fn place(&self, block: u32, offset: u32, length: u32) -> u64
         requires there { block < self.now.plan.blocks }
@@ -72,7 +71,6 @@ impl Traffic {
         u64::from(block) * u64::from(self.plan.block_bytes) + u64::from(offset)
     }
 
-    // The block of a burst.
     #[tactic(auto, unfolding(crate::specs::Traffic::block_of, crate::specs::Traffic::of_burst, crate::specs::Traffic::word, crate::specs::Traffic::behind))]
     fn block(&self, seed: u64, burst: u64) -> u32
         ensures block { result ≡ block_of self.now.plan seed burst }
@@ -87,7 +85,6 @@ impl Traffic {
         }
     }
 
-    // The bytes of an access, by a drawn number.
     #[tactic(auto, unfolding(crate::specs::Traffic::length_of))]
     fn length(&self, pick: u32) -> u32
         ensures length { result ≡ length_of self.now.plan pick }
@@ -102,7 +99,6 @@ impl Traffic {
         }
     }
 
-    // The place of an access in its block, by a drawn number.
     #[tactic(auto, unfolding(crate::specs::Traffic::offset_of))]
     fn offset(&self, requester: u32, length: u32, place: u32) -> u32
         requires asks { requester < self.now.plan.requesters }
@@ -120,7 +116,6 @@ impl Traffic {
         }
     }
 
-    // The bytes that a store writes, none for a load, by drawn numbers.
     #[tactic(auto, unfolding(crate::specs::Traffic::enables_of))]
     fn enables(&self, length: u32, pick: u32, chosen: u64) -> u64
         requires some { 1 ≤ length }
@@ -138,7 +133,7 @@ impl Traffic {
     }
 }
 
-// Where one of the equal pieces of a block begins, by a drawn number.
+// Where a piece of a block begins.
 #[tactic(auto, using(crate::proofs::Standing::piece_below, crate::proofs::Standing::pieces_some))]
 fn piece(place: u32, bytes: u32, piece: u32) -> u32
     requires some { 1 ≤ piece }
@@ -150,7 +145,6 @@ fn piece(place: u32, bytes: u32, piece: u32) -> u32
     place % (bytes / piece) * piece
 }
 
-// The lowest bits of a number.
 fn lowest(number: u64, bits: u32) -> u64
     requires some { 1 ≤ bits }
     requires most { bits ≤ 64 }
@@ -164,7 +158,7 @@ fn lowest(number: u64, bits: u32) -> u64
     }
 }
 
-// What an access is drawn by, and the generator behind that.
+// Draws of an access, and the generator behind them.
 #[derive(Drop)]
 struct Drawn {
     place: u32,
@@ -194,7 +188,7 @@ impl Drawn {
     }
 }
 
-/// Writes what a store of this number writes, under a seed, as far as there is room.
+/// Writes a store's bytes, as far as there is room.
 #[tactic(auto, unfolding(crate::specs::Traffic::bytes_of))]
 pub fn fill_bytes(seed: u64, number: u64, bytes: &mut [u8])
     ensures { bytes.new ≡ bytes_of seed number (length bytes.old) }

@@ -1,4 +1,4 @@
-//! The judge: one step of flat memory at a time.
+//! One step of flat memory.
 ghost use Rattle.std.specs.Prelude.{◌≡◌, ◌≢◌, true, Some, length};
 ghost use Rattle.flat_model.specs.Flat.{may_answer, flat_after};
 ghost use Rattle.flat_model.specs.Memory.{Finds};
@@ -15,24 +15,23 @@ const EXPLAINED: u32 = 0;
 /// Flat memory never gives this answer.
 const NOT_FLAT: u32 = 1;
 
-/// A row says nothing, or the table isn't of one entry for each tag.
+/// There is no step to judge.
 const NO_STEP: u32 = 2;
 
-/// What an event and its answer find in memory and in the table.
+/// What memory and the table have for an event.
 #[derive(Clone, Copy)]
 pub(crate) struct Found {
-    /// Whether there is a word at the address that the event points at.
+    /// Whether memory has the event's word.
     pub(crate) inside: bool,
-    /// What the tag of a load, or of a value that is taken, is owed.
+    /// What the event's tag is owed.
     pub(crate) owed: Option<Word>,
 }
 
-/// One step of a run, over the words of memory and the table of what each tag is owed.
+/// One step of a run, over memory's words and what each tag is owed.
 ///
-/// 0: flat memory gives this answer to this event, and `words` and `due` are as the step leaves
-/// them: of `due` only the entry of a tag that is loaded, or whose value is taken, is written, with 1 and
-/// the word that is owed, or with 0 and the value. 1: flat memory never gives it. 2: a row says nothing, or
-/// `due` hasn't an entry for each tag. After 1 and 2 all is as it was.
+/// 0: flat memory gives this answer, and `words` and `due` are as it leaves them. It writes only
+/// the tag's entry: 1 with the owed word behind a load, 0 with the value behind a take. 1: flat
+/// memory never gives it. 2: a row says nothing, or `due` hasn't an entry for each tag.
 pub fn flat_step(words: &mut [Word], due: &mut [Due], event: &EventRow, answer: &AnswerRow) -> u32
     ensures status { result
         ≡ status_of (judged words.old due.old (event_of event.now) (answer_of answer.now)) }
@@ -57,7 +56,6 @@ pub fn flat_step(words: &mut [Word], due: &mut [Due], event: &EventRow, answer: 
     EXPLAINED
 }
 
-/// What an event and its answer find.
 pub(crate) fn find(words: &[Word], due: &[Due], event: Event, answer: Answer) -> Found
     ensures { Finds (flat words.now due.now) event answer result.inside result.owed }
 {
@@ -76,7 +74,6 @@ pub(crate) fn find(words: &[Word], due: &[Due], event: Event, answer: Answer) ->
     Found { inside, owed }
 }
 
-// Whether flat memory may give this answer to the event.
 fn is_flat(words: &[Word], due: &[Due], event: Event, answer: Answer) -> bool
     ensures { result ≡ may_answer (flat words.now due.now) event answer }
 {
@@ -84,7 +81,6 @@ fn is_flat(words: &[Word], due: &[Due], event: Event, answer: Answer) -> bool
     may_answer(event, answer, found.inside, found.owed)
 }
 
-// Makes the change of a pair that is one of flat memory.
 fn step(words: &mut [Word], due: &mut [Due], event: Event, answer: Answer)
     requires table { length due.old ≡ TAGS }
     requires may { may_answer (flat words.old due.old) event answer ≡ true }

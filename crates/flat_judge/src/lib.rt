@@ -1,13 +1,12 @@
-//! The judge of flat memory, one step at a time, over words and a table that the caller keeps.
+//! The judge of flat memory: [`flat_step`] judges one step, over words and a table that the caller
+//! keeps.
 //!
-//! Events and answers come as rows of plain numbers, and what is said goes out as numbers too, so
-//! that a caller in another language can pass what it has. Every function is total: each number,
-//! each row and each length has an answer. Nothing here allocates.
+//! Its caller is a test bench, mostly in C. Rows and results are plain numbers. Each number, row
+//! and length has an answer. Nothing allocates. After a refusal all is as it was.
 //!
-//! Beside the judge is traffic for a test bench: random loads and stores that caches find hard, from a seed. A [`Plan`]
-//! says what the traffic is like: how large memory is, how long accesses are, how many stores and conflicts there are,
-//! and who asks. [`Traffic::access`] is the access of any number, and [`fill_bytes`] what a store of this number writes:
-//! both depend on the plan, the seed and the number alone, so that a bench keeps nothing and can come back to any access.
+//! Traffic for a bench: a [`Plan`] says how loads and stores are drawn, so that caches find them
+//! hard. [`Traffic::access`] and [`fill_bytes`] depend on plan, seed and number alone, so a bench
+//! keeps nothing.
 #![tactic(auto)]
 
 mod access;

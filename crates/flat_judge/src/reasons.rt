@@ -14,18 +14,18 @@ use crate::rows::{AnswerRow, EventRow};
 use crate::table::{Due, TAGS};
 use flat_model::{Answer, Event, Word, may_answer};
 
-/// Why an answer isn't one of flat memory, or why there is no step to judge.
+/// Why an answer isn't flat memory's, or why there is no step.
 #[derive(Clone, Copy)]
 pub enum Reason {
-    /// Memory has no such word: the event may only be refused for that.
+    /// Memory has no such word: only a refusal for that is flat.
     OutOfRange,
-    /// The store names no lane: it may only be refused for that.
+    /// The store names no lane: only a refusal for that is flat.
     NoLanes,
-    /// The load's tag is owed a word already: the load may only be refused for that.
+    /// The load's tag is owed a word: only a refusal for that is flat.
     TagInUse,
-    /// The tag of the value is owed nothing.
+    /// The tag is owed nothing.
     NothingOwed,
-    /// The tag of the value is owed this word, and the value is another.
+    /// The tag is owed this other word.
     WrongWord(Word),
     /// The event never gets this answer.
     OtherAnswer,
@@ -33,18 +33,17 @@ pub enum Reason {
     NoEvent,
     /// The answer's row says nothing.
     NoAnswer,
-    /// The table isn't of one entry for each tag.
+    /// `due` hasn't an entry for each tag.
     NoTable,
 }
 
-/// Why a step with these arguments isn't accepted. It changes neither words nor table.
+/// Why a step isn't accepted. It changes neither words nor table.
 ///
-/// 0: the step is accepted. 1: memory has no such word. 2: a store without a lane. 3: the tag of a
-/// load is owed a word already. After these three the event may only be refused, for the cause of the
-/// same number. 4: the tag of the value that is taken is owed nothing. 5: it is owed another
-/// word, and `owed` is that word. 6: the event never gets such an answer. 7: the event's row says
-/// nothing. 8: the answer's row says nothing. 9: `due` hasn't an entry for each tag. Of those that
-/// hold it is the first of 7, 8, 9 and then 1 to 6. After all but 5 `owed` is as it was.
+/// 0: it is. 1: memory has no such word. 2: a store without a lane. 3: the load's tag is owed a
+/// word. (After 1 to 3 only a refusal for that cause is flat.) 4: the taken tag is owed nothing. 5:
+/// it is owed another word, `owed`. 6: the event never gets such an answer. 7: the event's row says
+/// nothing. 8: the answer's row says nothing. 9: `due` hasn't an entry for each tag. 7, 8 and 9
+/// come before 1 to 6. Only 5 writes `owed`.
 pub fn flat_why(
     words: &[Word],
     due: &[Due],
@@ -67,7 +66,7 @@ pub fn flat_why(
     number(reason)
 }
 
-// Why there is no such step: `None` if there is one.
+// Why there is no step to judge, if so.
 fn why(words: &[Word], due: &[Due], event: &EventRow, answer: &AnswerRow) -> Option<Reason>
     ensures { result
         ≡ why_step words.now due.now (event_of event.now) (answer_of answer.now) }
@@ -84,7 +83,7 @@ fn why(words: &[Word], due: &[Due], event: &EventRow, answer: &AnswerRow) -> Opt
     why_not(words, due, event, answer)
 }
 
-// Why flat memory doesn't give this answer: `None` if it does.
+// Why the answer isn't flat memory's, if so.
 fn why_not(words: &[Word], due: &[Due], event: Event, answer: Answer) -> Option<Reason>
     ensures { result ≡ why_pair (flat words.now due.now) event answer }
 {
@@ -96,7 +95,6 @@ fn why_not(words: &[Word], due: &[Due], event: Event, answer: Answer) -> Option<
     }
 }
 
-// What stands against an answer that flat memory doesn't give, by what the two find there.
 fn against(event: Event, answer: Answer, found: Found) -> Reason
     ensures { (s : Flat)
         → Finds s event answer found.inside found.owed
@@ -114,7 +112,6 @@ fn against(event: Event, answer: Answer, found: Found) -> Reason
     }
 }
 
-// What stands against the answer to a take, by what the tag of a value is owed.
 fn against_taken(answer: Answer, owed: Option<Word>) -> Reason
     ensures { (s : Flat)
         → (place : ℕ)
@@ -128,7 +125,6 @@ fn against_taken(answer: Answer, owed: Option<Word>) -> Reason
     }
 }
 
-// The number of a reason, and 0 where there is none.
 fn number(reason: Option<Reason>) -> u32
     ensures { result ≡ number_of reason }
 {

@@ -11,9 +11,8 @@ const ZERO_WORD: Word = Word {
     b3: 0,
 };
 
-/// An event as plain numbers: its kind (0 load, 1 store, 2 prefetch, 3 evict, 4 drain, 5 serve,
-/// 6 arrive, 7 process, 8 take), and what an event of this kind carries. The other numbers are not
-/// looked at.
+/// An event by its kind: 0 load, 1 store, 2 prefetch, 3 evict, 4 drain, 5 serve, 6 arrive, 7
+/// process, 8 take. Numbers that the kind doesn't carry aren't read.
 #[repr(C)]
 #[derive(Clone, Copy)]
 pub struct EventRow {
@@ -21,19 +20,19 @@ pub struct EventRow {
     pub kind: u32,
     /// The tag of a load.
     pub tag: u16,
-    /// The lanes of a store: bit `k` is byte `k`. Bits 4 to 7 name no lane, and are dropped.
+    /// A store's lanes, bit `k` for byte `k`. Bits 4 to 7 are dropped.
     pub lanes: u8,
-    /// The word of a load, a store or a prefetch; the block of an eviction; the bank that serves or
-    /// whose answer arrives.
+    /// The word of a load, store or prefetch; the block of an eviction; the bank of a serve or
+    /// arrive.
     pub at: u32,
-    /// The place of what arrives, is processed or is taken.
+    /// The place of an arrive, process or take.
     pub place: u32,
     /// The word of a store.
     pub word: Word,
 }
 
-/// An answer as plain numbers: its kind (0 accepted, 1 moved, 2 value, 3 nothing, 4 refused), and
-/// what an answer of this kind carries. The other numbers are not looked at.
+/// An answer by its kind: 0 accepted, 1 moved, 2 value, 3 nothing, 4 refused. Numbers that the kind
+/// doesn't carry aren't read.
 #[repr(C)]
 #[derive(Clone, Copy)]
 pub struct AnswerRow {
@@ -48,8 +47,7 @@ pub struct AnswerRow {
 }
 
 impl EventRow {
-    /// The event that the row says; `None` for a kind past the last. A store's lanes are the four
-    /// lowest bits of the row's alone.
+    /// `None` for a kind past the last.
     pub fn event(&self) -> Option<Event>
         ensures { result ≡ event_of self.now }
     {
@@ -78,7 +76,6 @@ impl EventRow {
     }
 }
 
-// The lanes that a byte names: its four lowest bits.
 fn lanes_of(byte: u8) -> Lanes
     ensures { result ≡ lanes_of byte }
 {
@@ -86,8 +83,7 @@ fn lanes_of(byte: u8) -> Lanes
 }
 
 impl AnswerRow {
-    /// The answer that the row says; `None` for a kind past the last, and for a refusal whose cause
-    /// isn't 1 to 13.
+    /// `None` for a kind past the last, and for a cause that isn't 1 to 13.
     pub fn answer(&self) -> Option<Answer>
         ensures { result ≡ answer_of self.now }
     {
@@ -158,7 +154,6 @@ pub fn answer_row(answer: Answer) -> AnswerRow
     }
 }
 
-// An event that carries no tag, lanes or word.
 fn plain_event(kind: u32, at: u32, place: u32) -> EventRow
     ensures { result ≡ plain_event kind at place }
 {

@@ -1,11 +1,11 @@
-//! What each tag is owed, as a table that the caller keeps.
+//! What each tag is owed.
 ghost use Rattle.std.specs.Prelude.{◌≡◌, ◌≤◌, if◌then◌else◌, is_some, length, slice_set};
 ghost use Rattle.flat_model.specs.Flat.{with_due};
 ghost use Rattle.flat_judge.specs.Table.{due_in, owed_by, owed_or, tags_owed, owed_below, nth_tag};
 
 use flat_model::Word;
 
-/// The entries of a table of what is owed: one for each tag.
+/// A table's entries: one for each tag.
 pub const TAGS: usize = u16::MAX as usize + 1;
 
 /// What a tag is owed: `word`, if `owed` isn't 0.
@@ -18,10 +18,8 @@ pub struct Due {
     pub word: Word,
 }
 
-/// What a tag is owed, by a table of any length.
-///
-/// 1: `word` is what the tag is owed. 0: it is owed nothing, or the table has no entry for it, and
-/// `word` is as it was.
+/// Whether a tag is owed a word. 1: it is `word`. 0: nothing, or no entry; `word` stays. The table
+/// may have any length.
 pub fn flat_owed(due: &[Due], tag: u16, word: &mut Word) -> u32
     ensures status { result ≡ (if is_some (due_in due.now tag) then 1 else 0) }
     ensures word { word.new ≡ owed_or word.old (due_in due.now tag) }
@@ -35,10 +33,8 @@ pub fn flat_owed(due: &[Due], tag: u16, word: &mut Word) -> u32
     }
 }
 
-/// How many tags are owed a word, by a table of any length, and the tag at place `n` among them, in
-/// the order of their numbers.
-///
-/// `tag` is that tag if there are more than `n` of them; otherwise it is as it was.
+/// How many tags are owed a word, and the tag at place `n` among them, by number; without one `tag`
+/// stays. The table may have any length.
 #[tactic(auto, unfolding(crate::specs::Table::tags_owed))]
 pub fn flat_open(due: &[Due], n: u32, tag: &mut u16) -> u32
     ensures count { result ≡ length (tags_owed due.now) }
@@ -47,7 +43,7 @@ pub fn flat_open(due: &[Due], n: u32, tag: &mut u16) -> u32
     open_below(due, TAGS as u32, n, tag)
 }
 
-// How many of the tags below a number are owed a word, and the tag at place `n` among them.
+// The same of the tags below a number.
 fn open_below(due: &[Due], tags: u32, n: u32, nth: &mut u16) -> u32
     requires { tags ≤ TAGS }
     ensures count { result ≡ length (owed_below due.now tags) }
@@ -66,7 +62,6 @@ fn open_below(due: &[Due], tags: u32, n: u32, nth: &mut u16) -> u32
     open
 }
 
-/// What a tag is owed: nothing, where the table has no entry for it.
 pub(crate) fn due_word(due: &[Due], tag: u16) -> Option<Word>
     ensures { result ≡ due_in due.now tag }
 {
@@ -78,7 +73,6 @@ pub(crate) fn due_word(due: &[Due], tag: u16) -> Option<Word>
     }
 }
 
-/// Writes the entry of a tag.
 pub(crate) fn set_due(due: &mut [Due], tag: u16, entry: Due)
     requires { length due.old ≡ TAGS }
     ensures says { due_in due.new ≡ with_due (due_in due.old) tag (owed_by entry) }

@@ -2,10 +2,9 @@
 ghost use Rattle.std.specs.Prelude.{◌≡◌, ◌<◌, length};
 ghost use Rattle.flat_judge.specs.Texts.{text_of, written};
 
-/// Writes the text of a reason of [`crate::flat_why`], by its number, and a 0 behind it.
-///
-/// The result is the length of the text, without the 0. If the two don't fit, the buffer is as it
-/// was. A number that no reason has gets a text that says so. Every text fits a buffer of 64 bytes.
+/// Writes the text of a reason of [`crate::flat_why`] with a 0 behind it, and returns its length
+/// without the 0. If both don't fit, the buffer stays. 64 bytes fit every text; a number without a
+/// reason has one too.
 pub fn why_text(reason: u32, text: &mut [u8]) -> u32
     ensures length { result ≡ length (text_of reason) }
     ensures fits { result < 64 }
@@ -20,7 +19,6 @@ pub fn why_text(reason: u32, text: &mut [u8]) -> u32
     end as u32
 }
 
-// The text of a reason by its number.
 #[tactic(auto, unfolding(crate::specs::Texts::text_of))]
 fn reason_text(reason: u32) -> &'static [u8]
     ensures text { result.now ≡ text_of reason }

@@ -13,11 +13,10 @@ const NO_PLAN: u32 = 1;
 // There is no room for the widest access.
 const NO_ROOM: u32 = 2;
 
-/// Writes the access of a number, under a seed, and the bytes of a store.
+/// Writes the access of a number, and a store's bytes.
 ///
-/// 0: `access` is the access, and if it is a store, `bytes` begins with its bytes. 1: a number of the
-/// plan isn't as its description says. 2: `bytes` has fewer bytes than the widest access. After 1 and 2
-/// all is as it was. A plan that says nothing is told first.
+/// 0: done. 1: a number of the plan is out of its range. 2: `bytes` is shorter than the widest
+/// access.
 pub fn traffic(plan: &Plan, seed: u64, number: u64, access: &mut Access, bytes: &mut [u8]) -> u32
     ensures status { result ≡ status_of plan.now (length bytes.old) }
     ensures access { access.new ≡ row_behind access.old result (access_of plan.now seed number) }

@@ -1,6 +1,4 @@
-//! How the laws of histories stand to one another: laws over the definitions alone.
-//!
-//! Each function here does nothing; its contract is a law.
+//! How the laws of histories stand to one another. The functions do nothing.
 #![tactic(auto)]
 
 ghost use Rattle.std.specs.Prelude.{ℕ, List};
@@ -13,14 +11,12 @@ ghost use Rattle.history_laws.specs.Late.{LateIsAtomic};
 ghost use Rattle.history_laws.specs.Since.{ToldLateIsAtomic};
 ghost use Rattle.run_reasons.specs.declared.reason.Mismatch.{Mismatch};
 
-/// An atomic history, in units of any size, is a regular one: the regular law blames nothing that the
-/// atomic one lets through.
+/// An atomic history, in units of any size, is a regular one.
 pub fn atomic_is_regular()
     ensures { (image : List ℕ) (rest : Rest) (size : ℕ) (history : List HistoryEvent) → AtomicIsRegular image rest size history }
 {}
 
-/// A flat history is an atomic one, in units of any size: an operation may take effect right behind its
-/// request.
+/// A flat history is an atomic one: an operation may take effect right behind its request.
 pub fn flat_is_atomic()
     ensures { (image : List ℕ) (rest : Rest) (size : ℕ) (history : List HistoryEvent) → FlatIsAtomic image rest size history }
 {}
@@ -30,27 +26,25 @@ pub fn flat_is_regular()
     ensures { (image : List ℕ) (rest : Rest) (history : List HistoryEvent) → FlatIsRegular image rest history }
 {}
 
-/// A run of flat memory over words is a history of all three laws, if each load is open from its
-/// acceptance, under its tag, to its value, and each store is answered at its acceptance.
+/// A run of flat memory is a history of all three laws, if a load is open from acceptance to value,
+/// and a store is answered at once.
 pub fn run_is_lawful()
     ensures { (image : List Word) (size : ℕ) (events : List Event) (answers : List Answer) → RunIsLawful image size events answers }
 {}
 
-/// Whatever events come, what the machine answers is such a history: no judge of the three laws ever
-/// blames the machine.
+/// Whatever events come, no judge of the three laws blames the machine's answers.
 pub fn machine_is_lawful()
     ensures { (z : Sizes) (image : List Word) (size : ℕ) (events : List Event) → MachineIsLawful z image size events }
 {}
 
-/// A value that isn't the word that its load is owed makes an atomic history all the same, in units of any
-/// size, if that word stood at the load's address at some moment since the load was accepted.
+/// A wrong value is atomic all the same, if that word stood there at some moment since the load's
+/// acceptance.
 pub fn late_is_atomic()
     ensures { (image : List Word) (size : ℕ) (events : List Event) (answers : List Answer) (tag : ℕ) (place : ℕ) (word : Word)
         → LateIsAtomic image size events answers tag place word }
 {}
 
-/// So where the explanation of a recorded run says of a wrong word that it stood there at some moment since
-/// its load was accepted, the run up to that line is atomic as a history, in units of any size.
+/// So a run up to a wrong word that is explained as once there is atomic, in units of any size.
 pub fn told_late_is_atomic()
     ensures { (words : List Word) (size : ℕ) (texts : List (List ℕ)) (steps : ℕ) (found : List ℕ) (m : Mismatch)
         → ToldLateIsAtomic words size texts steps found m }

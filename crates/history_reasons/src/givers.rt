@@ -1,4 +1,4 @@
-//! Where a load may get a byte from by the regular law: the stores that may give it, and memory before the first store.
+//! Where a load may get a byte from by the regular law.
 
 ghost use Rattle.std.specs.Prelude.{◌≡◌, ◌<◌, ◌&&◌, ◌↔◌, ◌++◌, not, map, length, IfOk, OnOk, slice_get};
 ghost use Rattle.std.specs.List.{Contains};
@@ -9,7 +9,7 @@ ghost use Rattle.history_reasons.specs.Sources.{IsSource, gives, givers, initial
 use memory_histories::{LoadByte, Rest, StoreByte, is_covered, is_initial, is_overwritten};
 use std::alloc::{AllocError, Global};
 
-/// Where a load may get a byte from.
+/// Where a byte may come from.
 #[derive(Clone, Copy, PartialEq, Eq, Debug)]
 pub enum Source {
     /// Memory had it before the first store.
@@ -18,11 +18,10 @@ pub enum Source {
     Store(StoreByte),
 }
 
-/// Where a load may get this byte from if it is answered now: memory began with this image, and these are the bytes of all
-/// stores so far, in the order of their requests. If memory may have had it before the first store, that is the first
-/// source; the stores that may give it come in their order. There is a source exactly if the law allows the byte.
+/// Where a load may get this byte from now, over all stores so far. Memory before the first store
+/// comes first, then stores in their order. There is a source exactly if the law allows the byte.
 ///
-/// `AllocError` says that there was too little memory.
+/// `AllocError`: too little memory.
 pub fn sources(
     alloc: Global,
     image: &[u8],
@@ -42,7 +41,6 @@ pub fn sources(
     Ok(found)
 }
 
-// Memory before the first store, if the load may get the byte from there.
 fn initial_sources(
     alloc: Global,
     image: &[u8],
@@ -61,7 +59,6 @@ fn initial_sources(
     Ok(found)
 }
 
-// Adds the stores that may give the load this byte, in their order.
 pub(crate) fn add_givers(
     found: &mut Vec<Source>,
     stores: &[StoreByte],
@@ -87,8 +84,8 @@ fn gives(stores: &[StoreByte], load: &LoadByte, byte: u8, store: &StoreByte) -> 
         && (store.byte == byte && !is_overwritten(stores, store, load.began))
 }
 
-// The stores as the flat law has them for a load: each takes effect at its request, so it is as if it were answered then, and
-// those that are requested behind the load's request are none.
+// The stores as the flat law has them for a load: each answered at its request, and none requested
+// behind the load's.
 pub(crate) fn at_request(
     alloc: Global,
     stores: &[StoreByte],

@@ -1,5 +1,8 @@
-//! Why a load may not return a byte by the regular law: who stored it, and who overwrote it. And where it may get a byte
-//! from that the law allows.
+//! Why a load may not return a byte by the regular law: who stored it, and who overwrote it. And
+//! where an allowed byte may come from.
+//!
+//! [`StoreLog`] comes first: its caller notes each event, and asks when an answer is refused.
+//! [`why`] says the same over a list of all stores.
 #![tactic(auto)]
 
 ghost use Rattle.std.specs.Prelude.{◌≡◌, ◌↔◌, None, IfSome};
@@ -21,21 +24,21 @@ use memory_histories::{LoadByte, Rest, StoreByte, is_before, is_initial, may_ret
 pub use open::OpenOperation;
 pub use units::FoundReason;
 
-/// Why a load may not return a byte. Which store is the last goes by the order of the requests.
+/// Why a load may not return a byte. The last store goes by the order of requests.
 #[derive(Clone, Copy, PartialEq, Eq, Debug)]
 pub enum Reason {
-    /// No store so far had it at this address, and memory hadn't it there before the first store.
+    /// Neither a store nor memory had it here.
     NeverThere,
-    /// No store so far had it at this address, memory had it there before the first store, and of the stores to the
-    /// address that were answered before the load's request this was the last.
+    /// Memory had it at first; of the stores here that were answered before the load's request this
+    /// was the last.
     InitialOverwritten { by: StoreByte },
-    /// Of the stores that put it there `stored` was the last; and of those to the address that were requested after its
-    /// response, and answered before the load's request, `by` was the last.
+    /// `stored` was the last that put it here; `by` the last requested after that one's response
+    /// and answered before the load's request.
     StoreOverwritten { stored: StoreByte, by: StoreByte },
 }
 
-/// Why a load may not return this byte if it is answered now, or `None` if it may: memory began with
-/// this image, and these are the bytes of all stores so far, in the order of their requests.
+/// Why a load may not return this byte now; `None` if it may. Memory began with this image, and
+/// these are all stores so far, by their requests.
 pub fn why(
     image: &[u8],
     rest: Rest,
@@ -81,7 +84,7 @@ fn is_allowed(image: &[u8], rest: Rest, stores: &[StoreByte], load: &LoadByte, b
     may_return(image, rest, stores, load, byte)
 }
 
-// The last store that put this byte at an address.
+// The last store that put this byte here.
 fn last_with(stores: &[StoreByte], address: u64, byte: u8) -> Option<StoreByte>
     ensures { result ≡ last_that (stores_byte address byte) stores.now }
 {
@@ -92,7 +95,7 @@ fn last_with(stores: &[StoreByte], address: u64, byte: u8) -> Option<StoreByte>
         .find(|store| store.address == address && store.byte == byte)
 }
 
-// The last store that overwrote this one before the moment.
+// The last that overwrote this one before the moment.
 fn last_overwriting(stores: &[StoreByte], store: &StoreByte, moment: u64) -> Option<StoreByte>
     ensures { result ≡ last_that (overwrites store.now moment) stores.now }
 {
@@ -102,7 +105,7 @@ fn last_overwriting(stores: &[StoreByte], store: &StoreByte, moment: u64) -> Opt
     })
 }
 
-// The last store to the byte that was answered before the load's request.
+// The last store to the byte answered before the load's request.
 fn last_covering(stores: &[StoreByte], load: &LoadByte) -> Option<StoreByte>
     ensures { result ≡ last_that (covers load.now) stores.now }
 {

@@ -1,4 +1,4 @@
-//! The stores and the open loads of a history as it goes, to say why a byte is wrong.
+//! Stores and open loads of a history, kept to say why a byte is wrong.
 
 ghost use Rattle.std.specs.Prelude.{◌≡◌, ◌*◌, ◌≤◌, ◌<◌, ◌↔◌, true, false, None, vec_len, drop, IfOk, OnOk, IfSome, length};
 ghost use Rattle.std.specs.List.{find};
@@ -22,13 +22,11 @@ use crate::there::{reason_there, stored_there};
 use memory_histories::{HistoryEvent, LoadByte, Rest, is_inside};
 use std::alloc::{AllocError, Global};
 
-/// How many bytes of stores a log forgets at a time, the first ones, once it has twice as many: so while fewer
-/// than 8,192 were stored it has all, and then the last 4,096 to 8,191.
+/// So many bytes of stores are forgotten at a time, once there are twice as many.
 pub const KEPT_BYTES: usize = 4096;
 
-/// The bytes of the stores of a history, and its open loads, with the events that requested and answered
-/// them, counted from 0. The first stores are forgotten, so that a log has always fewer than twice
-/// [`KEPT_BYTES`] of them.
+/// A history's stores and open loads, with the events that requested and answered them, counted
+/// from 0. Fewer than twice [`KEPT_BYTES`] bytes of stores are kept.
 #[derive(Drop)]
 pub struct StoreLog {
     image: Vec<u8>,
@@ -42,8 +40,8 @@ pub struct StoreLog {
 }
 
 impl StoreLog {
-    /// The log of a history without an event, of a memory that begins with this image, and beyond it as
-    /// `rest` says. `AllocError` says that there was too little memory: nothing is made.
+    /// A log without an event. Memory begins with this image, and as `rest` says beyond it.
+    /// `AllocError`: too little memory.
     #[tactic(auto, using(crate::proofs::Logs::opened))]
     pub fn new(alloc: Global, image: &[u8], rest: Rest) -> Result<StoreLog, AllocError>
         ensures { IfOk result (λ g. IsLogOf g (opening image.now rest)) }
@@ -61,8 +59,7 @@ impl StoreLog {
         })
     }
 
-    /// Makes room for what one event adds. `AllocError` says that there was too little memory. The log is of the
-    /// same history after both.
+    /// Makes room for one event. `AllocError`: too little memory.
     #[tactic(auto, using(crate::proofs::Logs::same_log, crate::proofs::OpenLemmas::same_open))]
     pub fn make_room(&mut self) -> Result<(), AllocError>
         ensures same { (w : Windows) → IsLogOf self.old w → IsLogOf self.new w }
@@ -74,8 +71,7 @@ impl StoreLog {
         self.loads.reserve(1)
     }
 
-    /// Notes an event of the history. The events have numbers of their own as long as fewer than 2^64 are
-    /// noted. One whose operation doesn't lie within memory is none of any law, and only counted.
+    /// Notes an event, of fewer than 2^64. One outside memory is only counted.
     #[inline(always)]
     pub fn note(&mut self, event: HistoryEvent)
         requires room { HasRoom self.old }
@@ -97,8 +93,7 @@ impl StoreLog {
         self.count()
     }
 
-    /// A moment passes without an event: it is counted. So a log may number its moments by the lines of a text, of
-    /// which some are no events.
+    /// Counts a moment without an event: so a log may number lines of a text.
     #[tactic(auto, using(crate::proofs::Logs::idled, crate::proofs::OpenLemmas::same_open))]
     pub fn pass(&mut self)
         ensures counted { (w : Windows)
@@ -180,7 +175,6 @@ impl StoreLog {
         }
     }
 
-    // A store is open under this number from now on.
     fn note_store(&mut self, number: u64, address: u64, bytes: &[u8], enables: u64)
         requires room { HasRoom self.old }
         requires inside { is_inside address (length bytes.now) ≡ true }
@@ -200,7 +194,6 @@ impl StoreLog {
         self.byte_count = self.byte_count.saturating_add(count);
     }
 
-    // The store that is open under this number is answered.
     fn note_answer(&mut self, number: u64)
         ensures { IsNoted self.old (StoreResponse number) self.new }
     {
@@ -209,14 +202,14 @@ impl StoreLog {
         end_place(&mut self.places, number);
     }
 
-    /// Whether it has all stores so far: exactly if they had fewer than twice [`KEPT_BYTES`] bytes together.
+    /// Whether no store was forgotten.
     pub fn is_whole(&self) -> bool
         ensures { (w : Windows) → IsLogOf self.now w → result ≡ has_all w.stores }
     {
         self.is_whole
     }
 
-    /// The byte at an address of the load that is open under this number, with the event that requested it.
+    /// The byte at an address of an open load, with its request.
     pub fn load_at(&self, number: u64, address: u64) -> Option<LoadByte>
         ensures { (w : Windows)
             → IsLogOf self.now w
@@ -231,13 +224,12 @@ impl StoreLog {
         load_at(self.loads.as_slice(), number, address)
     }
 
-    /// Why a load may not return this byte by the regular law, if it is answered now. It depends on the history alone,
-    /// and is true over all its stores: those that it names are the last of all.
+    /// Why a load may not return this byte now by the regular law, true over all stores of the
+    /// history.
     ///
-    /// If the log [is whole](StoreLog::is_whole), it is what [`why`](crate::why) says over all stores, and `None` exactly
-    /// if the load may return the byte. If it isn't, it is the [`Reason::StoreOverwritten`] that `why` says over the
-    /// stores that are left, and `None` otherwise: also if none of them had the byte. Then a store that was forgotten
-    /// may be one that still lets the load return it.
+    /// If the log [is whole](StoreLog::is_whole), it is [`why`](crate::why)'s answer. If not, it is
+    /// the [`Reason::StoreOverwritten`] of the stores that are left, else `None`: a forgotten store
+    /// may allow the byte.
     pub fn why(&self, load: &LoadByte, byte: u8) -> Option<Reason>
         ensures told { (w : Windows) → IsLogOf self.now w → result ≡ told_reason w load.now byte }
         ensures reason { (w : Windows)
@@ -251,13 +243,12 @@ impl StoreLog {
         self.kept_reason(load, byte)
     }
 
-    /// Where a load may get this byte from by the regular law, if it is answered now. It depends on the history alone.
+    /// Where a load may get this byte from now by the regular law.
     ///
-    /// If the log [is whole](StoreLog::is_whole), these are the sources that [`sources`](crate::sources) names over all
-    /// stores, so that there is one exactly if the load may return the byte. If it isn't, they are those of the stores
-    /// that are left that may give it, as if there had been no others: none if the byte comes from before them.
+    /// If the log [is whole](StoreLog::is_whole), these are all [`sources`](crate::sources). If
+    /// not, they are those of the stores that are left: none if the byte is older.
     ///
-    /// `AllocError` says that there was too little memory.
+    /// `AllocError`: too little memory.
     pub fn sources(
         &self,
         alloc: Global,
@@ -275,10 +266,8 @@ impl StoreLog {
         self.kept_sources(alloc, load, byte)
     }
 
-    /// The same by the flat law, by which a store takes effect at its request: the last store to the byte that was requested
-    /// before the load, if it put it there, or memory before the first store.
-    ///
-    /// `AllocError` says that there was too little memory.
+    /// The same by the flat law: the last store to the byte that was requested before the load, if it wrote it, or
+    /// memory before the first.
     pub fn sources_at_request(
         &self,
         alloc: Global,
@@ -341,7 +330,7 @@ impl StoreLog {
     }
 }
 
-// Why a load may not return a byte, by the last stores alone.
+// A reason by the stores that are left.
 fn part_reason(stores: &[KeptStore], load: &LoadByte, byte: u8) -> Option<Reason>
     ensures { result ≡ part_reason (stored_there load.now.address stores.now) load.now byte }
 {
@@ -367,7 +356,7 @@ fn forgotten(length: usize) -> usize
     KEPT_BYTES * (length / KEPT_BYTES).saturating_sub(1)
 }
 
-// The first of them go. They are moved at once, where `drain` would turn the list round three times.
+// Moved at once; `drain` would turn the list round three times.
 #[tactic(auto, using(crate::proofs::Found::copied_down))]
 fn drop_first(stores: &mut Vec<KeptStore>, count: usize)
     requires { count ≤ vec_len stores.old }
@@ -378,7 +367,6 @@ fn drop_first(stores: &mut Vec<KeptStore>, count: usize)
     stores.truncate(left);
 }
 
-// Whether an operation that an event requests lies within memory.
 #[inline(always)]
 fn is_within(event: HistoryEvent) -> bool
     ensures { result ≡ is_within event.entry }

@@ -9,7 +9,7 @@ use crate::loads::OpenLoad;
 use crate::log::StoreLog;
 use crate::places::StorePlace;
 
-/// An operation that is open: requested, and not yet answered.
+/// An operation without its answer.
 #[derive(Clone, Copy, PartialEq, Eq, Debug)]
 pub struct OpenOperation {
     /// Its number.
@@ -37,7 +37,7 @@ impl StoreLog {
         self.places.len()
     }
 
-    /// The load at this place among those that are open, in the order of their requests.
+    /// The open load at this place, by requests.
     #[tactic(auto, using(crate::proofs::OpenLemmas::nth))]
     pub fn open_load(&self, place: usize) -> Option<OpenOperation>
         ensures { result ≡ slice_get (open_loads self.now) place }
@@ -45,7 +45,7 @@ impl StoreLog {
         load_operation(self.loads.get(place).copied())
     }
 
-    /// The store at this place among those that are open, in the order of their requests.
+    /// The open store at this place, by requests.
     #[tactic(auto, using(crate::proofs::OpenLemmas::nth))]
     pub fn open_store(&self, place: usize) -> Option<OpenOperation>
         ensures { result ≡ slice_get (open_stores self.now) place }
@@ -61,14 +61,12 @@ impl StoreLog {
     }
 }
 
-// The load that is open under this number.
 fn load_under(loads: &[OpenLoad], number: u64) -> Option<OpenLoad>
     ensures { result ≡ find (λ l. l.number == number) loads.now }
 {
     loads.iter().copied().find(|load| load.number == number)
 }
 
-// A load as the operation that it is.
 fn load_operation(load: Option<OpenLoad>) -> Option<OpenOperation>
     ensures { result ≡ option_map load_operation load }
 {
@@ -82,7 +80,6 @@ fn load_operation(load: Option<OpenLoad>) -> Option<OpenOperation>
     }
 }
 
-// A store as the operation that it is.
 fn store_operation(store: Option<StorePlace>) -> Option<OpenOperation>
     ensures { result ≡ option_map store_operation store }
 {

@@ -1,4 +1,4 @@
-//! Where the open stores stand among all stores, so that an answer looks at its own store alone.
+//! Where open stores stand, so that an answer looks at its own alone.
 
 ghost use Rattle.std.specs.Prelude.{◌≡◌, map, not};
 ghost use Rattle.std.specs.List.{filter};
@@ -6,7 +6,7 @@ ghost use Rattle.history_reasons.specs.Places.{is_place_of, ended_from, ended_at
 
 use crate::stores::{KeptStore, end_store};
 
-/// An open store of so many bytes at most: it stands at this place, unless none of them is enabled or it is forgotten.
+/// An open store's place. It may stand there no more: without an enabled byte, or forgotten.
 #[derive(Clone, Copy)]
 pub struct StorePlace {
     pub(crate) number: u64,
@@ -15,14 +15,13 @@ pub struct StorePlace {
     pub(crate) most: usize,
 }
 
-// Whether it is of a store that is open under this number.
 fn is_place_of(place: &StorePlace, number: u64) -> bool
     ensures { result ≡ is_place_of number place.now }
 {
     place.number == number
 }
 
-// The stores that are open under this number, which stand at these places, are answered at this moment.
+// Answers the stores that are open under this number, at these places.
 #[tactic(auto, using(crate::proofs::Found::ended_at_more))]
 pub(crate) fn end_at(stores: &mut [KeptStore], places: &[StorePlace], number: u64, moment: u64)
     ensures { stores.new ≡ ended_at places.now number moment stores.old }
@@ -34,7 +33,7 @@ pub(crate) fn end_at(stores: &mut [KeptStore], places: &[StorePlace], number: u6
     }
 }
 
-// The store at a place is answered at this moment, if it is open under this number.
+// Answers the store at a place, if it is open under this number.
 #[tactic(auto, using(crate::proofs::Found::put_there, crate::proofs::Found::put_past))]
 fn end_from(stores: &mut [KeptStore], place: StorePlace, number: u64, moment: u64)
     ensures { stores.new ≡ ended_from place number moment stores.old }
@@ -44,14 +43,13 @@ fn end_from(stores: &mut [KeptStore], place: StorePlace, number: u64, moment: u6
     }
 }
 
-// No store is open under this number from now on.
 pub(crate) fn end_place(places: &mut Vec<StorePlace>, number: u64)
     ensures { places.new.items ≡ filter (λ p. not (is_place_of number p)) places.old.items }
 {
     places.retain(|place| !is_place_of(place, number));
 }
 
-// So many stores in front of all others are forgotten.
+/// So many stores in front are forgotten.
 pub(crate) fn move_down(places: &mut [StorePlace], count: usize)
     ensures { places.new ≡ map (moved_down count) places.old }
 {

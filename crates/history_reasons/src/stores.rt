@@ -1,4 +1,4 @@
-//! The stores of a log: each with all its bytes, since most answers are right, and no byte of theirs is looked at.
+//! The stores of a log, each whole: most answers are right, and no byte is looked at.
 
 ghost use Rattle.std.specs.Prelude.{◌≡◌, ◌≤◌, ◌<◌, ◌==◌, ◌+◌, if◌then◌else◌, None, length, get_or, slice_get, take, vec_len, vec_capacity};
 ghost use Rattle.std.specs.Prelude.{count_ones};
@@ -11,8 +11,8 @@ ghost use Rattle.history_reasons.specs.Stores.{without_first, cut, gone_stores, 
 
 use memory_histories::{MAX_LENGTH, StoreByte};
 
-/// A store: its bytes from an address on, those of them that are enabled, and the window of the store. Those in front of
-/// place `from` are forgotten.
+/// A store: its bytes from an address on, their enables, its window. Bytes before `from` are
+/// forgotten.
 #[derive(Clone, Copy)]
 pub struct KeptStore {
     pub(crate) number: u64,
@@ -25,7 +25,6 @@ pub struct KeptStore {
     pub(crate) ended: Option<u64>,
 }
 
-// A store that is requested at this moment.
 #[tactic(auto, using(crate::proofs::StoreLemmas::new_bytes))]
 pub(crate) fn kept_store(
     number: u64,
@@ -65,7 +64,6 @@ fn in_full(bytes: &[u8]) -> [u8; 64]
     full
 }
 
-// Adds a store that has so many bytes, if it has one.
 pub(crate) fn push_store(stores: &mut Vec<KeptStore>, store: KeptStore, count: usize)
     requires room { vec_len stores.old + 1 ≤ vec_capacity stores.old }
     requires count { count ≡ length (bytes_of store) }
@@ -84,7 +82,6 @@ fn bytes_in(store: &KeptStore) -> &[u8]
     &store.bytes[..store.length.min(MAX_LENGTH)]
 }
 
-// The byte at a place, if it is enabled.
 fn enabled_byte(bytes: &[u8], enables: u64, place: usize) -> Option<u8>
     requires { place < 64 }
     ensures { result ≡ (if bit_at enables place == 1 then slice_get bytes.now place else None) }
@@ -96,7 +93,7 @@ fn enabled_byte(bytes: &[u8], enables: u64, place: usize) -> Option<u8>
     }
 }
 
-// The byte of a store at a place, if it is enabled.
+// A store's byte at a place, if it is enabled.
 fn lane(store: &KeptStore, place: usize) -> Option<u8>
     ensures { result ≡ get_or (all_lanes store.now) place None }
 {
@@ -108,7 +105,7 @@ fn lane(store: &KeptStore, place: usize) -> Option<u8>
     }
 }
 
-// The byte of a store at an address, if it isn't forgotten.
+// A store's byte at an address, unless forgotten.
 fn lane_at(store: &KeptStore, address: u64) -> Option<u8>
     ensures { result ≡ lane_at (first_in store.now) (lanes_in store.now) address }
 {
@@ -135,7 +132,6 @@ pub(crate) fn stored_at(store: &KeptStore, address: u64) -> Option<StoreByte>
     }
 }
 
-// How many of so many first bits are set.
 #[tactic(auto, using(crate::proofs::StoreLemmas::few_ones))]
 pub(crate) fn enabled_count(length: usize, enables: u64) -> usize
     requires { length ≤ 64 }
@@ -158,7 +154,7 @@ fn first_bits(length: usize, enables: u64) -> u64
     }
 }
 
-// How many bytes of a store aren't forgotten. Mostly none is.
+// Bytes of a store that aren't forgotten; mostly all.
 #[tactic(auto, using(crate::proofs::StoreLemmas::whole_count))]
 fn byte_count(store: &KeptStore) -> usize
     ensures { result ≡ length (bytes_of store.now) }
@@ -184,7 +180,6 @@ fn left_count(store: &KeptStore) -> usize
     count
 }
 
-// The store that is open under this number is answered at this moment.
 pub(crate) fn end_store(store: &mut KeptStore, number: u64, moment: u64)
     ensures { store.new ≡ after_answer number moment store.old }
 {
@@ -193,7 +188,7 @@ pub(crate) fn end_store(store: &mut KeptStore, number: u64, moment: u64)
     }
 }
 
-// How many of the first stores have all their bytes among so many first ones.
+// How many first stores lie within so many bytes.
 #[tactic(auto, using(crate::proofs::StoreLemmas::gone_more, crate::proofs::StoreLemmas::left_more))]
 pub(crate) fn gone_stores(stores: &[KeptStore], count: usize) -> (usize, usize)
     ensures stores { result.0 ≡ gone_stores count stores.now }
@@ -211,7 +206,7 @@ pub(crate) fn gone_stores(stores: &[KeptStore], count: usize) -> (usize, usize)
     (stores.len(), left)
 }
 
-// The first store loses its first so many bytes.
+/// The first store loses its first bytes.
 pub(crate) fn cut(stores: &mut [KeptStore], count: usize)
     ensures { stores.new ≡ cut count stores.old }
 {
@@ -220,14 +215,12 @@ pub(crate) fn cut(stores: &mut [KeptStore], count: usize)
     }
 }
 
-// A store loses its first so many bytes.
 fn forget_bytes(store: &mut KeptStore, count: usize)
     ensures { store.new ≡ without_first count store.old }
 {
     store.from = place_behind(store, count);
 }
 
-// The place behind its first so many bytes.
 #[tactic(auto, using(crate::proofs::StoreLemmas::with_more, crate::proofs::StoreLemmas::with_past))]
 fn place_behind(store: &KeptStore, count: usize) -> usize
     ensures { result ≡ (without_first count store.now).from }

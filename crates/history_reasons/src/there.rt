@@ -1,5 +1,4 @@
-//! Why a load may not return a byte, and where it may get it from, by stores that are kept whole: of each it looks at the
-//! byte at the load's address alone.
+//! Reasons and sources by whole stores: of each only the byte at the load's address is looked at.
 
 ghost use Rattle.std.specs.Prelude.{◌≡◌, IfOk};
 ghost use Rattle.memory_histories.specs.Regular.{may_return_byte, is_left, is_overwritten, is_covered, overwrites};
@@ -71,7 +70,6 @@ fn is_left(stores: &[KeptStore], load: &LoadByte, byte: u8) -> bool
         })
 }
 
-// Whether of the stores to an address one overwrote this one before the moment.
 fn is_overwritten(stores: &[KeptStore], address: u64, store: &StoreByte, moment: u64) -> bool
     ensures { result ≡ is_overwritten (stored_there address stores.now) store.now moment }
 {
@@ -84,7 +82,6 @@ fn is_overwritten(stores: &[KeptStore], address: u64, store: &StoreByte, moment:
         })
 }
 
-// Whether a store to the byte was answered before the load's request.
 fn is_covered(stores: &[KeptStore], load: &LoadByte) -> bool
     ensures { result ≡ is_covered (stored_there load.now.address stores.now) load.now }
 {
@@ -94,7 +91,6 @@ fn is_covered(stores: &[KeptStore], load: &LoadByte) -> bool
         .any(|store| store.address == load.address && is_before(store.ended, load.began))
 }
 
-// The last store that put this byte at an address.
 fn last_with(stores: &[KeptStore], address: u64, byte: u8) -> Option<StoreByte>
     ensures { result ≡ last_there (stores_byte address byte) address stores.now }
 {
@@ -105,7 +101,6 @@ fn last_with(stores: &[KeptStore], address: u64, byte: u8) -> Option<StoreByte>
         .find(|store| store.address == address && store.byte == byte)
 }
 
-// Of the stores to an address the last that overwrote this one before the moment.
 fn last_overwriting(
     stores: &[KeptStore],
     address: u64,
@@ -124,7 +119,6 @@ fn last_overwriting(
         })
 }
 
-// The last store to the byte that was answered before the load's request.
 fn last_covering(stores: &[KeptStore], load: &LoadByte) -> Option<StoreByte>
     ensures { result ≡ last_there (covers load.now) load.now.address stores.now }
 {

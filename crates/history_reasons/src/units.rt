@@ -1,4 +1,4 @@
-//! Why an answer is wrong in a unit of memory: the first byte of it for which there is a reason.
+//! Why an answer is wrong in a unit: its first byte with a reason.
 
 ghost use Rattle.std.specs.Prelude.{◌≡◌, ◌+◌, ◌<◌, ◌^◌, length, drop};
 ghost use Rattle.memory_histories.specs.Windows.{Windows};
@@ -8,19 +8,19 @@ ghost use Rattle.history_reasons.specs.Units.{reason_at, address_at, reason_from
 use crate::Reason;
 use crate::log::StoreLog;
 
-/// A byte of an answer that is wrong for a reason.
+/// A wrong byte of an answer, and why.
 #[derive(Clone, Copy, PartialEq, Eq, Debug)]
 pub struct FoundReason {
-    /// Its place in the answer, counted from 0.
+    /// From 0.
     pub place: usize,
     /// Why the load may not return it.
     pub reason: Reason,
 }
 
 impl StoreLog {
-    /// Of the answer to the load that is open under this number and begins at this address: the first byte for which
-    /// [`why`](StoreLog::why) has a reason, of those from this place on that lie in the same aligned unit of so many
-    /// bytes. `None` says that there is none: if the log is whole, the regular law allows each of these bytes for itself.
+    /// The first byte with a reason ([`why`](StoreLog::why)) of an answer to the load open under
+    /// this number, from this place on and within its aligned unit of so many bytes. `None`: if the
+    /// log is whole, the regular law allows each byte for itself.
     pub fn unit_reason(
         &self,
         size: u64,
@@ -38,7 +38,7 @@ impl StoreLog {
         self.reason_from(number, address, part, place)
     }
 
-    // Of these bytes of an answer, which stand from this place on, the first for which there is a reason.
+    // The first of these bytes with a reason.
     fn reason_from(
         &self,
         number: u64,
@@ -63,7 +63,6 @@ impl StoreLog {
         None
     }
 
-    // Why the load that is open under a number may not return a byte at an address.
     fn reason_at(&self, number: u64, address: u64, byte: u8) -> Option<Reason>
         ensures { (w : Windows)
             → IsLogOf self.now w
@@ -74,14 +73,13 @@ impl StoreLog {
     }
 }
 
-// The address of the byte at a place of an operation that begins at an address.
 fn address_at(address: u64, place: usize) -> u64
     ensures { result ≡ address_at address place }
 {
     address.saturating_add(place as u64)
 }
 
-// The bytes of an answer from a place on that lie in the same unit as the one there.
+// The answer's bytes from a place on in that place's unit.
 fn unit_part(size: u64, address: u64, bytes: &[u8], place: usize) -> &[u8]
     requires { 0 < size }
     ensures part { result.now ≡ unit_part size address bytes.now place }

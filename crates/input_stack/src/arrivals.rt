@@ -1,4 +1,4 @@
-//! The stack, with its number of places given at run time.
+//! The stack, with its places given at run time.
 
 ghost use Rattle.std.specs.Prelude.{◌≡◌, ◌<◌, ◌≤◌, ◌↔◌, ◌++◌, [], ◌∷◌, length, slice_get, IfErr, IsOk, OnOk, OnErr, IfNone, IfSome};
 ghost use Rattle.std.specs.List.{remove};
@@ -9,7 +9,7 @@ use arrayvec::ArrayVec;
 use flat_model::{MAX_DEPTH, Word};
 use std::marker::Model;
 
-/// The words that came, the first to come at place 0: at most 64.
+/// Words that came, the first at place 0: at most 64.
 #[derive(Drop)]
 pub struct ArrivalStack {
     entries: ArrayVec<Entry, MAX_DEPTH>,
@@ -44,8 +44,7 @@ impl ArrivalStack {
         self.entries.len() as u32
     }
 
-    /// Puts an entry last. It comes back, with the stack unchanged, exactly where `places` (64 at
-    /// most) or more entries stand in the stack.
+    /// Puts an entry last. It comes back if `places` (64 at most) or more stand here.
     pub fn push(&mut self, places: u32, entry: Entry) -> Result<(), Entry>
         requires { places ≤ MAX_DEPTH }
         ensures variant { IsOk result ↔ (length self.old < places) }
@@ -61,8 +60,7 @@ impl ArrivalStack {
         }
     }
 
-    /// The first word that stands here for word `i` of the register in `slot`; `None` where none
-    /// does.
+    /// The first word here for word `i` of a register.
     #[tactic(auto, unfolding(crate::specs::Stack::stack_word))]
     pub fn find(&self, slot: u32, i: u32) -> Option<Word>
         ensures { result ≡ stack_word self.now slot i }
@@ -73,15 +71,14 @@ impl ArrivalStack {
             .map(|e| e.word)
     }
 
-    /// The entry at `place`; `None` where none stands there.
+    /// The entry at `place`, if any.
     pub fn get(&self, place: u32) -> Option<Entry>
         ensures { result ≡ slice_get self.now place }
     {
         self.entries.get(place as usize).copied()
     }
 
-    /// Takes out the entry at `place`; later ones move up. `None` says that none stands there, and
-    /// changes nothing.
+    /// Takes the entry at `place` out; later ones move up. `None` changes nothing.
     pub fn remove(&mut self, place: u32) -> Option<Entry>
         ensures value { result ≡ slice_get self.old place }
         ensures taken { IfSome result (λ _. self.new ≡ remove self.old place) }

@@ -10,11 +10,6 @@ use flat_judge::{AnswerRow, Due, EventRow};
 use flat_model::Word;
 
 /// One step of a run, over the words of memory and the table of what each tag is owed.
-///
-/// 0: flat memory gives this answer to this event, and `words` and `due` are as the step leaves
-/// them: of `due` only the entry of a tag that is loaded, or whose value is taken, is written, with 1 and
-/// the word that is owed, or with 0 and the value. 1: flat memory never gives it. 2: a row says nothing, or
-/// `due` hasn't an entry for each tag. After 1 and 2 all is as it was.
 #[unsafe(no_mangle)]
 pub extern "C" fn kroft_flat_step(
     words: &mut [Word],
@@ -35,14 +30,7 @@ pub extern "C" fn kroft_flat_step(
     flat_judge::flat_step(words, due, event, answer)
 }
 
-/// Why a step with these arguments isn't accepted. It changes neither words nor table.
-///
-/// 0: the step is accepted. 1: memory has no such word. 2: a store without a lane. 3: the tag of a
-/// load is owed a word already. After these three the event may only be refused, for the cause of the
-/// same number. 4: the tag of the value that is taken is owed nothing. 5: it is owed another
-/// word, and `owed` is that word. 6: the event never gets such an answer. 7: the event's row says
-/// nothing. 8: the answer's row says nothing. 9: `due` hasn't an entry for each tag. Of those that
-/// hold it is the first of 7, 8, 9 and then 1 to 6. After all but 5 `owed` is as it was.
+/// Why a step with these arguments isn't accepted.
 #[unsafe(no_mangle)]
 pub extern "C" fn kroft_flat_why(
     words: &[Word],
@@ -63,9 +51,6 @@ pub extern "C" fn kroft_flat_why(
 }
 
 /// Writes the text of a reason of [`kroft_flat_why`], by its number, and a 0 behind it.
-///
-/// The result is the length of the text, without the 0. If the two don't fit, the buffer is as it
-/// was. A number that no reason has gets a text that says so. Every text fits a buffer of 64 bytes.
 #[unsafe(no_mangle)]
 pub extern "C" fn kroft_why_text(reason: u32, text: &mut [u8]) -> u32
     ensures length { result ≡ length (text_of reason) }
@@ -76,9 +61,6 @@ pub extern "C" fn kroft_why_text(reason: u32, text: &mut [u8]) -> u32
 }
 
 /// What a tag is owed, by a table of any length.
-///
-/// 1: `word` is what the tag is owed. 0: it is owed nothing, or the table has no entry for it, and
-/// `word` is as it was.
 #[unsafe(no_mangle)]
 pub extern "C" fn kroft_flat_owed(due: &[Due], tag: u16, word: &mut Word) -> u32
     ensures status { result ≡ (if is_some (due_in due.now tag) then 1 else 0) }
@@ -87,10 +69,7 @@ pub extern "C" fn kroft_flat_owed(due: &[Due], tag: u16, word: &mut Word) -> u32
     flat_judge::flat_owed(due, tag, word)
 }
 
-/// How many tags are owed a word, by a table of any length, and the tag at place `n` among them, in
-/// the order of their numbers.
-///
-/// `tag` is that tag if there are more than `n` of them; otherwise it is as it was.
+/// How many tags are owed a word, and the tag at place `n` among them, by number.
 #[unsafe(no_mangle)]
 pub extern "C" fn kroft_flat_open(due: &[Due], n: u32, tag: &mut u16) -> u32
     ensures count { result ≡ length (tags_owed due.now) }

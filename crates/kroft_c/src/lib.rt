@@ -1,9 +1,8 @@
 //! Kroft for C: the judge of one step of flat memory, the history behind a handle, the machine behind
 //! one, and traffic for a bench.
 //!
-//! Each export but `kroft_version` is one call of `flat_judge`, `history_handles` or `machine_handles`, and
-//! states the contract of that call again. Every export is total: each number, each row and each length that C may pass has an
-//! answer.
+//! Each export but `kroft_version` is one call of `flat_judge`, `history_handles` or `machine_handles`, with its contract. Every
+//! export is total. What each result means, and what it leaves unchanged, stands in `kroft.h`.
 #![tactic(auto)]
 
 mod history;

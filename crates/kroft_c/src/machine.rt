@@ -16,12 +16,6 @@ use machine_handles::{Handle, ShapeRow};
 use std::alloc::Global;
 
 /// Opens a machine over the words of an image, behind a closed handle.
-///
-/// 0: it stands behind the handle, and nothing has happened in it. 102: a machine is behind the
-/// handle already. 100: no machine has these ways, words a block, registers and places.
-/// 5 to 10 and 13: the number of the first member of the shape that is out of its range, 13 that the
-/// image hasn't as many words as memory. 101: there was too little memory. They are looked for in
-/// this order, and after each of them the handle is as it was, and no memory is kept.
 #[unsafe(no_mangle)]
 pub extern "C" fn kroft_open(
     alloc: Global,
@@ -38,8 +32,7 @@ pub extern "C" fn kroft_open(
     machine_handles::open_machine(alloc, handle, shape, image)
 }
 
-/// Gives the machine up, with its rounds and all its memory. 0: it is given up, and the handle is closed. 3: the
-/// handle was closed already.
+/// Gives the machine up, with its rounds and all its memory.
 #[unsafe(no_mangle)]
 pub extern "C" fn kroft_free(alloc: Global, handle: &mut Handle) -> u32
     ensures status { result ≡ told_status (standing handle.old) }
@@ -49,9 +42,6 @@ pub extern "C" fn kroft_free(alloc: Global, handle: &mut Handle) -> u32
 }
 
 /// Makes one event.
-///
-/// 0: it was made, and `answer` is the machine's. 3: the handle is closed. 107: rounds are under way.
-/// 2: the row is no event. They are looked for in this order, and after each of them all is as it was.
 #[unsafe(no_mangle)]
 pub extern "C" fn kroft_apply(
     alloc: Global,
@@ -69,11 +59,7 @@ pub extern "C" fn kroft_apply(
     machine_handles::apply(alloc, handle, event, answer)
 }
 
-/// Makes the driver's event: takes a ready reply, processes a word, has an answer arrive, serves a
-/// command or drains a word, the first of these that is possible.
-///
-/// 1: it was made, `event` says which it was, and `answer` is the machine's. 0: nothing is on its
-/// way. 3: the handle is closed. 107: rounds are under way. After 0, 3 and 107 all is as it was.
+/// Makes the driver's event: the first that is possible of take, process, arrive, serve and drain.
 #[unsafe(no_mangle)]
 pub extern "C" fn kroft_pump(
     alloc: Global,
@@ -91,7 +77,7 @@ pub extern "C" fn kroft_pump(
     machine_handles::pump(alloc, handle, event, answer)
 }
 
-/// What is on its way, weighed. 0: `weight` is it. 3: the handle is closed, and `weight` is as it was.
+/// What is on its way, weighed.
 #[unsafe(no_mangle)]
 pub extern "C" fn kroft_weight(alloc: Global, handle: &mut Handle, weight: &mut u64) -> u32
     ensures status { result ≡ told_status (behind handle.old) }
@@ -102,7 +88,7 @@ pub extern "C" fn kroft_weight(alloc: Global, handle: &mut Handle, weight: &mut 
     machine_handles::weight(alloc, handle, weight)
 }
 
-/// Whether nothing is on its way to memory. 1: nothing is. 0: something is. 3: the handle is closed.
+/// Whether nothing is on its way to memory.
 #[unsafe(no_mangle)]
 pub extern "C" fn kroft_settled(alloc: Global, handle: &mut Handle) -> u32
     ensures status { result ≡ test_status (option_map is_settled (behind handle.old)) }

@@ -9,8 +9,7 @@ use flat_judge::AnswerRow;
 use machine_handles::{ArrivalRow, CommandRow, FrameRow, FrameWordRow, Handle, QueuedRow};
 use std::alloc::Global;
 
-/// What a frame shows. Set `s` has the frames from `s` times its ways on. 1: `row` is it. 0: there is no
-/// such frame. 3: the handle is closed. After 0 and 3 `row` is as it was.
+/// What a frame shows.
 #[unsafe(no_mangle)]
 pub extern "C" fn kroft_frame(
     alloc: Global,
@@ -28,8 +27,7 @@ pub extern "C" fn kroft_frame(
     machine_handles::frame(alloc, handle, frame, row)
 }
 
-/// Word `i` of the block that a frame holds. 1: `row` is it. 0: there is no such frame, it is free, or
-/// blocks have no such word. 3: the handle is closed. After 0 and 3 `row` is as it was.
+/// Word `i` of the block that a frame holds.
 #[unsafe(no_mangle)]
 pub extern "C" fn kroft_frame_word(
     alloc: Global,
@@ -48,8 +46,7 @@ pub extern "C" fn kroft_frame_word(
     machine_handles::frame_word(alloc, handle, frame, i, row)
 }
 
-/// The word at `place` of the input stack, the one that came first at 0. 1: `row` is it. 0: there is
-/// none. 3: the handle is closed. After 0 and 3 `row` is as it was.
+/// The word at `place` of the input stack, the one that came first at 0.
 #[unsafe(no_mangle)]
 pub extern "C" fn kroft_stack_entry(
     alloc: Global,
@@ -67,8 +64,7 @@ pub extern "C" fn kroft_stack_entry(
     machine_handles::stack_entry(alloc, handle, place, row)
 }
 
-/// The word at `place` of the write queue, the one that is drained next at 0. 1: `row` is it. 0: there
-/// is none. 3: the handle is closed. After 0 and 3 `row` is as it was.
+/// The word at `place` of the write queue, the one that is drained next at 0.
 #[unsafe(no_mangle)]
 pub extern "C" fn kroft_queue_entry(
     alloc: Global,
@@ -86,9 +82,7 @@ pub extern "C" fn kroft_queue_entry(
     machine_handles::queue_entry(alloc, handle, place, row)
 }
 
-/// The command at `place` among those that wait at a bank, the one that is served next at 0. 1: `row`
-/// is it. 0: there is no such bank or command. 3: the handle is closed. After 0 and 3 `row` is as it
-/// was.
+/// The command at `place` of a bank, the one that is served next at 0.
 #[unsafe(no_mangle)]
 pub extern "C" fn kroft_bank_command(
     alloc: Global,
@@ -107,9 +101,7 @@ pub extern "C" fn kroft_bank_command(
     machine_handles::bank_command(alloc, handle, bank, place, row)
 }
 
-/// The answer at `place` of a bank, the oldest one at 0: an arrival with this place brings it. 1: `row`
-/// is it. 0: there is no such bank or answer. 3: the handle is closed. After 0 and 3 `row` is as it
-/// was.
+/// The answer at `place` of a bank, the oldest one at 0.
 #[unsafe(no_mangle)]
 pub extern "C" fn kroft_bank_answer(
     alloc: Global,
@@ -128,8 +120,7 @@ pub extern "C" fn kroft_bank_answer(
     machine_handles::bank_answer(alloc, handle, bank, place, row)
 }
 
-/// The answer that a take at `place` would get: the value that stands ready there, the first one at 0.
-/// 1: `row` is it. 0: none stands there. 3: the handle is closed. After 0 and 3 `row` is as it was.
+/// The ready value at `place`, the first one at 0.
 #[unsafe(no_mangle)]
 pub extern "C" fn kroft_reply(
     alloc: Global,
@@ -147,10 +138,7 @@ pub extern "C" fn kroft_reply(
     machine_handles::reply(alloc, handle, place, row)
 }
 
-/// What a request for the word at `at` would find now. Nothing changes. 1: `lookup` is 0, a hit: the word is
-/// at hand. It is 1: a register waits for the word, and the request would join it. Or it is 2: no frame
-/// holds the block, a miss. 0: memory has no such word. 3: the handle is closed. After 0 and 3 `lookup` is
-/// as it was.
+/// What a request for the word at `at` would find now.
 #[unsafe(no_mangle)]
 pub extern "C" fn kroft_find(alloc: Global, handle: &mut Handle, at: u32, lookup: &mut u32) -> u32
     ensures status { result

@@ -11,11 +11,6 @@ use machine_handles::{CountsRow, Handle, RoundRow};
 use std::alloc::Global;
 
 /// Drives these requests through the machine in rounds until nothing is on its way, and counts.
-///
-/// 0: `counts` is what was counted, the requests are used up and nothing is on its way. 3: the handle
-/// is closed. 107: rounds are under way. 105: `latency` is higher than 1,000. 104: there are more than 16,777,216 requests. 2: a
-/// row is no load, store, prefetch or eviction. 101: there was too little memory. They are looked for
-/// in this order, and after each of them all is as it was.
 #[unsafe(no_mangle)]
 pub extern "C" fn kroft_drive(
     alloc: Global,
@@ -40,12 +35,7 @@ pub extern "C" fn kroft_drive(
     machine_handles::drive(alloc, handle, latency, busy, requests, counts)
 }
 
-/// Begins rounds in the machine behind the handle: the next one is round 1, and nothing is counted.
-/// Rounds that were begun before end. What is on its way in the machine stays on its way. While rounds
-/// are under way they alone make the machine's events.
-///
-/// 0: they are begun. 3: the handle is closed. 105: `latency` is higher than 1,000. 101: there was too
-/// little memory. They are looked for in this order, and after each of them all is as it was.
+/// Begins rounds in the machine: the next one is round 1, and nothing is counted.
 #[unsafe(no_mangle)]
 pub extern "C" fn kroft_rounds_begin(
     alloc: Global,
@@ -61,11 +51,7 @@ pub extern "C" fn kroft_rounds_begin(
     machine_handles::begin_rounds(alloc, handle, latency, busy)
 }
 
-/// Makes one round, in which the first of these requests is offered, if there is one.
-///
-/// 0: it was made, and `row` is what is told of it. 3: the handle is closed. 106: no rounds were begun.
-/// 2: the first row is no load, store, prefetch or eviction. 104: 2^48 rounds were made. They are
-/// looked for in this order, and after each of them all is as it was. It takes no memory.
+/// Makes one round, which offers the first of these requests, if there is one.
 #[unsafe(no_mangle)]
 pub extern "C" fn kroft_round(
     alloc: Global,
@@ -85,8 +71,7 @@ pub extern "C" fn kroft_round(
     machine_handles::round(alloc, handle, requests, row)
 }
 
-/// What was counted of the rounds that were made since they were begun. 0: `counts` is it. 3: the
-/// handle is closed. 106: no rounds were begun. After 3 and 106 `counts` is as it was.
+/// What was counted since the rounds were begun.
 #[unsafe(no_mangle)]
 pub extern "C" fn kroft_round_counts(
     alloc: Global,
@@ -100,9 +85,7 @@ pub extern "C" fn kroft_round_counts(
     machine_handles::round_counts(alloc, handle, counts)
 }
 
-/// Ends the rounds that were begun, and gives their memory back: from then on the caller makes the
-/// machine's events. The machine stays as it is. 0: they are ended. 3: the handle is closed. 106: no
-/// rounds were begun.
+/// Ends the rounds: from then on the caller makes the machine's events.
 #[unsafe(no_mangle)]
 pub extern "C" fn kroft_rounds_end(alloc: Global, handle: &mut Handle) -> u32
     ensures status { result ≡ fault_status (absent (standing handle.old)) }

@@ -5,11 +5,6 @@ ghost use Rattle.flat_judge.specs.Traffic.{access_of, bytes_behind, row_behind, 
 use flat_judge::{Access, Plan};
 
 /// Writes the access of a number, under a seed, and the bytes of a store.
-///
-/// 0: `access` is the access, and if it is a store, `bytes` begins with its bytes. 1: a number of the
-/// plan isn't as its description says. 2: `bytes` has fewer bytes than the widest access. After 1 and 2
-/// all is as it was. A plan that says nothing is told first. It takes no memory, and equal arguments
-/// have equal answers.
 #[unsafe(no_mangle)]
 pub extern "C" fn kroft_traffic(
     plan: &Plan,

@@ -10,8 +10,7 @@ use flat_model::Word;
 use machine_handles::{FieldRow, Handle, RegisterRow, TargetRow};
 use std::alloc::Global;
 
-/// The word of memory at `at`, as it stands in its bank. 1: `word` is it. 0: there is no such word.
-/// 3: the handle is closed. After 0 and 3 `word` is as it was.
+/// The word of memory at `at`, as it stands in its bank.
 #[unsafe(no_mangle)]
 pub extern "C" fn kroft_bank_word(
     alloc: Global,
@@ -28,8 +27,7 @@ pub extern "C" fn kroft_bank_word(
     machine_handles::bank_word(alloc, handle, at, word)
 }
 
-/// What the register `slot` shows. 1: `row` is it. 0: there is no such register. 3: the handle is
-/// closed. After 0 and 3 `row` is as it was.
+/// What the register `slot` shows.
 #[unsafe(no_mangle)]
 pub extern "C" fn kroft_register(
     alloc: Global,
@@ -47,8 +45,7 @@ pub extern "C" fn kroft_register(
     machine_handles::register(alloc, handle, slot, row)
 }
 
-/// What the register `slot` shows of word `i` of its block. 1: `row` is it. 0: there is no such
-/// register or word. 3: the handle is closed. After 0 and 3 `row` is as it was.
+/// What the register `slot` shows of word `i` of its block.
 #[unsafe(no_mangle)]
 pub extern "C" fn kroft_field(
     alloc: Global,
@@ -67,9 +64,7 @@ pub extern "C" fn kroft_field(
     machine_handles::field(alloc, handle, slot, i, row)
 }
 
-/// The load at `place` among those that wait for word `i` of the block of register `slot`, in the
-/// order in which they were accepted. 1: `row` is it. 0: there is none. 3: the handle is closed.
-/// After 0 and 3 `row` is as it was.
+/// The load at `place` among those that wait for word `i` of register `slot`, the oldest at 0.
 #[unsafe(no_mangle)]
 pub extern "C" fn kroft_target(
     alloc: Global,

@@ -44,12 +44,12 @@ pub(crate) enum CountForm {
 /// How many latencies a sweep takes at most.
 const MOST_LATENCIES: usize = 8;
 
-/// The times of memory of a sweep, in the order in which they are swept: none if it makes no rounds.
+/// A sweep's times of memory, in order; none without rounds.
 #[derive(Clone, Copy)]
 pub(crate) struct Timings {
     /// How many were given.
     given: usize,
-    /// The first eight of them. What stands behind the last one that was given means nothing.
+    /// Those that weren't given mean nothing.
     all: [Timing; MOST_LATENCIES],
 }
 
@@ -70,7 +70,6 @@ impl Timings {
         self.as_slice().iter().any(|timing| is_too_busy(*timing))
     }
 
-    // Why their latencies can't be swept, if they can't.
     fn conflict(&self) -> Option<&'static str>
         ensures { IfNone result (AreInOrder self.now) }
     {
@@ -86,7 +85,6 @@ impl Timings {
     }
 }
 
-// Whether each latency is more than the one before it.
 fn is_ascending(timings: &[Timing]) -> bool
     ensures { result ≡ ascends latency_in timings.now }
 {
@@ -99,15 +97,15 @@ fn is_ascending(timings: &[Timing]) -> bool
     }
 }
 
-/// How many numbers of registers a sweep takes at most.
+/// The most numbers of registers.
 const MOST_ROWS: usize = 16;
 
-/// The numbers of registers of a sweep, in the order of its rows: 1, 2, 4 and 8 if none were given.
+/// A sweep's numbers of registers, in order: 1, 2, 4 and 8 unless given.
 #[derive(Clone, Copy)]
 pub(crate) struct Registers {
     /// How many were given.
     given: usize,
-    /// The first sixteen of them. What stands behind the last one that was given means nothing.
+    /// Those that weren't given mean nothing.
     all: [u32; MOST_ROWS],
 }
 
@@ -123,7 +121,6 @@ impl Registers {
         }
     }
 
-    // Why they can't be the numbers of rows, if they can't.
     fn conflict(&self) -> Option<&'static str>
         ensures { IfNone result (AreRows self.now) }
     {
@@ -139,7 +136,6 @@ impl Registers {
     }
 }
 
-// Whether each number is more than the one before it.
 fn each_is_more(numbers: &[u32]) -> bool
     ensures { result ≡ ascends (λ n. n) numbers.now }
 {
@@ -152,29 +148,28 @@ fn each_is_more(numbers: &[u32]) -> bool
     }
 }
 
-/// What the program is asked to do with the trace on its input.
+/// What the program is asked to do with its input.
 #[derive(Clone, Copy)]
 pub(crate) enum Task {
     /// Serve its lines on a new machine.
     Run,
-    /// Judge its lines, as `Run` writes them, against flat memory.
+    /// Judge a run against flat memory.
     Check {
-        /// Whether loads that are open at the end are a fault.
+        /// Whether open loads are a fault.
         all_answered: bool,
         /// How the verdict is written.
         format: Format,
     },
     /// Serve its requests with several numbers of registers.
     Sweep {
-        /// How long a bank takes for a command, if the requests are driven in rounds; none if they
-        /// are served by pumps.
+        /// None if pumps serve the requests.
         timings: Timings,
         /// The numbers of registers.
         registers: Registers,
         /// How the rows are shown.
         form: CountForm,
     },
-    /// Judge its lines up to the first that flat memory doesn't explain, and say why.
+    /// Say why a run isn't flat memory's.
     Explain {
         /// How the explanation is written.
         format: Format,
@@ -190,7 +185,7 @@ pub(crate) enum Task {
         from: RequestText,
         /// How long a bank takes for a command.
         timing: Timing,
-        /// Whether a table of counts is written in place of the run.
+        /// Whether counts are written in place of the run.
         summary: bool,
         /// Whether the table has all details.
         all: bool,
@@ -201,7 +196,7 @@ pub(crate) enum Task {
     Requests {
         /// What wrote the log.
         from: LogName,
-        /// Words of memory, 1 to 1,048,576 and a multiple of 4.
+        /// Words of memory: 1 to 1,048,576, in fours.
         words: u32,
     },
     /// Draw the machine at each of its events.
@@ -218,19 +213,19 @@ pub(crate) enum Task {
 pub(crate) struct HistoryTask {
     /// The law that it is judged by.
     pub law: HistoryLaw,
-    /// The size of a unit, where one is given: only the atomic law knows units.
+    /// Only the atomic law has units.
     pub unit: Option<UnitSize>,
     /// What memory has beyond its image.
     pub rest: Rest,
-    /// Whether operations that are open at the end are a fault.
+    /// Whether open operations are a fault.
     pub all_answered: bool,
-    /// Whether its lines are written, with what the loads may have returned.
+    /// Whether lines are written, with what loads may have returned.
     pub values: bool,
     /// How the verdict is written.
     pub format: Format,
 }
 
-/// What memory begins with, as the words name it.
+/// Where memory's beginning is read from.
 #[derive(Clone, Copy)]
 pub(crate) enum ImageName<'a> {
     /// Zeros, where nothing is named.
@@ -241,7 +236,7 @@ pub(crate) enum ImageName<'a> {
     File(&'a str),
 }
 
-/// What the machine's numbers are read from, as the words name it.
+/// Where the machine's numbers are read from.
 #[derive(Clone, Copy)]
 pub(crate) enum MachineName<'a> {
     /// Nothing: it is the program's own machine.
@@ -252,7 +247,6 @@ pub(crate) enum MachineName<'a> {
     Machine(&'a str),
 }
 
-/// What the words of the command line ask for.
 #[derive(Clone, Copy)]
 pub(crate) struct CommandLine<'a> {
     /// What is done with the trace.
@@ -263,10 +257,10 @@ pub(crate) struct CommandLine<'a> {
     pub image: ImageName<'a>,
 }
 
-/// Rounds from a command's begin to its service, where none are given.
+/// The latency unless given.
 const USUAL_LATENCY: u64 = 10;
 
-// The latency that is asked for. A greater one was refused; only the contract needs the bound again.
+// A greater latency was refused; the contract alone asks again.
 fn latency_of(rest: &ArgMatches<'_>) -> Option<u64>
     ensures { IfSome result (λ latency. latency ≤ MOST_LATENCY) }
 {
@@ -283,7 +277,7 @@ fn latency_or_usual(asked: Option<u64>) -> u64
     asked.unwrap_or(USUAL_LATENCY)
 }
 
-// The times of memory with this latency: one command at a time, unless `busy` is given.
+// One command at a time, unless `busy` is given.
 fn timing_with(latency: u64, busy: Option<u64>) -> Timing
     ensures { result ≡ timing_with latency busy }
 {
@@ -293,7 +287,7 @@ fn timing_with(latency: u64, busy: Option<u64>) -> Timing
     }
 }
 
-// The words of memory. More than there may be were refused, as for the latency.
+// More words were refused.
 fn words_or_most(asked: Option<u32>) -> u32
     ensures { result ≡ words_or_most asked }
 {
@@ -312,7 +306,7 @@ fn format_of(rest: &ArgMatches<'_>) -> Format {
     }
 }
 
-// How counts are shown. A format beside a figure was refused.
+// A format beside a figure was refused.
 fn count_form_of(rest: &ArgMatches<'_>) -> CountForm {
     if rest.get_flag(SVG) {
         CountForm::Figure
@@ -321,7 +315,7 @@ fn count_form_of(rest: &ArgMatches<'_>) -> CountForm {
     }
 }
 
-// The latency of this place among those that are asked for: 0 if there are fewer.
+// The latency at this place, or 0.
 fn latency_at(rest: &ArgMatches<'_>, place: usize) -> u64 {
     match rest.get_many::<u64>(LATENCY) {
         Some(mut given) => match given.nth(place) {
@@ -332,7 +326,7 @@ fn latency_at(rest: &ArgMatches<'_>, place: usize) -> u64 {
     }
 }
 
-// The times of memory with this latency. A greater one than there may be was refused.
+// A greater latency was refused.
 fn timing_at(rest: &ArgMatches<'_>, place: usize) -> Timing
     ensures { result.latency ≤ MOST_LATENCY }
 {
@@ -377,7 +371,7 @@ fn check_task(rest: &ArgMatches<'_>) -> Task
     }
 }
 
-// The number of registers of this place among those that are asked for: 0 if there are fewer.
+// The number at this place, or 0.
 fn registers_at(rest: &ArgMatches<'_>, place: usize) -> u32 {
     match rest.get_many::<u32>(REGISTERS) {
         Some(mut given) => match given.nth(place) {
@@ -412,7 +406,6 @@ fn sweep_task(rest: &ArgMatches<'_>) -> Task
     }
 }
 
-// What the requests of a drive are read from: a trace, unless a log is named.
 fn text_of(rest: &ArgMatches<'_>) -> RequestText {
     match rest.get_str(LOG) {
         Some("lackey") => RequestText::Lackey,
@@ -450,7 +443,6 @@ fn requests_task(rest: &ArgMatches<'_>) -> Task
     }
 }
 
-// Whether a bank would begin commands more rarely than it serves them.
 fn is_too_busy(timing: Timing) -> bool
     ensures { result ≡ is_too_busy timing }
 {
@@ -459,7 +451,6 @@ fn is_too_busy(timing: Timing) -> bool
 
 const TOO_BUSY: &str = "invalid value for '--busy <B>': it is more than the least latency";
 
-// Why the rows that are asked for can't be swept, if they can't.
 fn sweep_conflict(timings: &Timings, registers: &Registers) -> Option<&'static str>
     ensures { IfNone result (AreSwept timings.now × AreRows registers.now) }
 {
@@ -470,7 +461,6 @@ fn sweep_conflict(timings: &Timings, registers: &Registers) -> Option<&'static s
     }
 }
 
-// Why a history can't be judged so, if it can't.
 fn history_conflict(asked: HistoryTask) -> Option<&'static str>
     ensures { IfNone result (IsJudged asked) }
 {
@@ -485,7 +475,6 @@ fn history_conflict(asked: HistoryTask) -> Option<&'static str>
     }
 }
 
-// Why the files that are named can't all be read, if they can't.
 fn file_conflict(asked: Asked<'_>) -> Option<&'static str> {
     if asked.before.is_some() && asked.behind.is_some() {
         Some("the argument '--shape <FILE>' cannot be used multiple times")
@@ -496,7 +485,6 @@ fn file_conflict(asked: Asked<'_>) -> Option<&'static str> {
     }
 }
 
-// Why a task can't be done, if it can't.
 fn task_conflict(task: Task) -> Option<&'static str>
     ensures { IfNone result (IsAllowed task) }
 {
@@ -515,7 +503,7 @@ fn task_conflict(task: Task) -> Option<&'static str>
     }
 }
 
-// Why what was asked for can't be done, if it can't. `before` is a shape file that was named before the command.
+// Why it can't be done. `before` is a shape file named before the command.
 fn conflict(task: Task, before: Option<&str>) -> Option<&'static str>
     ensures { IfNone result (IsAllowed task) }
 {
@@ -532,7 +520,7 @@ fn conflict(task: Task, before: Option<&str>) -> Option<&'static str>
     }
 }
 
-// What the words behind `show` ask for. Two forms at once were refused.
+// Two forms at once were refused.
 fn show_task(rest: &ArgMatches<'_>) -> Task
     ensures { IsInRange result }
 {
@@ -546,7 +534,6 @@ fn show_task(rest: &ArgMatches<'_>) -> Task
     Task::Show { form }
 }
 
-// The size of a unit that is asked for, if one is.
 fn unit_of(rest: &ArgMatches<'_>) -> Option<UnitSize> {
     match rest.get_str("unit") {
         Some("1") => Some(UnitSize::One),
@@ -557,7 +544,6 @@ fn unit_of(rest: &ArgMatches<'_>) -> Option<UnitSize> {
     }
 }
 
-// The law that is asked for, with this unit if it has units.
 fn law_of(rest: &ArgMatches<'_>, unit: Option<UnitSize>) -> HistoryLaw
     ensures { HasUnit unit result }
 {
@@ -591,7 +577,7 @@ fn history_task(rest: &ArgMatches<'_>) -> Task
     })
 }
 
-// What memory begins with. Commands that take no image have zeros.
+// Commands without an image have zeros.
 fn image_of<'a>(rest: &ArgMatches<'a>) -> ImageName<'a> {
     match rest.get_str("image") {
         Some("address") => ImageName::Address,
@@ -600,7 +586,7 @@ fn image_of<'a>(rest: &ArgMatches<'a>) -> ImageName<'a> {
     }
 }
 
-// Why a task can't begin with this image, if it can't: the memory of a history is bytes, and has no end.
+// Why an image doesn't fit: a history's memory is bytes, and has no end.
 fn image_conflict(task: Task, image: ImageName<'_>) -> Option<&'static str>
     ensures { IfNone result (MayBegin task image.entry) }
 {
@@ -614,7 +600,6 @@ fn image_conflict(task: Task, image: ImageName<'_>) -> Option<&'static str>
     }
 }
 
-// What a command and the words behind it ask for.
 fn task_of(subcommand: Subcommand, rest: &ArgMatches<'_>) -> Task
     ensures { IsInRange result }
 {
@@ -635,7 +620,7 @@ fn task_of(subcommand: Subcommand, rest: &ArgMatches<'_>) -> Task
     }
 }
 
-// The command that words name. Words with no command were refused, so `run` stands for none.
+// Words with no command were refused, so `run` stands for none.
 fn subcommand_of(matches: &ArgMatches<'_>) -> Subcommand {
     match matches.subcommand_name() {
         Some(name) => Subcommand::of(name).unwrap_or(Subcommand::Run),
@@ -654,8 +639,8 @@ fn refusal(
     command.error(kind, why)
 }
 
-// What words ask for, with the shape files before and behind the command, the machine file, and the file that is
-// given to it in place of its standard input.
+// A task, with the shape files before and behind the command, the machine file, and the file in
+// place of the standard input.
 #[derive(Clone, Copy)]
 struct Asked<'a> {
     task: Task,
@@ -666,7 +651,6 @@ struct Asked<'a> {
     file: Option<&'a str>,
 }
 
-// What the words ask for that were found to be these.
 fn asked_for<'a>(subcommand: Subcommand, matches: &ArgMatches<'a>) -> Asked<'a>
     ensures { IsInRange result.task }
 {
@@ -705,7 +689,7 @@ fn machine_named<'a>(shape: Option<&'a str>, machine: Option<&'a str>) -> Machin
     }
 }
 
-// What is asked for, if it can be done.
+// The task, if it can be done.
 fn allowed<'a>(
     alloc: Global,
     subcommand: Subcommand,
@@ -739,7 +723,7 @@ fn matches_of<'a>(
     program(alloc, takes_file)?.try_get_matches_from(words)
 }
 
-// The refusal of a file's name: what to write.
+// What is written of a file's name.
 fn file_refusal(alloc: Global, subcommand: Subcommand, file: &str) -> Result<Error, AllocError> {
     let input = subcommand.input();
     let why = format!(in alloc;
@@ -748,7 +732,7 @@ fn file_refusal(alloc: Global, subcommand: Subcommand, file: &str) -> Result<Err
     refusal(alloc, subcommand, ErrorKind::UnknownArgument, why.as_str())
 }
 
-// The refusal of words that would be right but for a file's name among them.
+// The refusal of words that would be right but for a file's name.
 fn told_of_file<'a>(alloc: Global, matches: &ArgMatches<'a>) -> Result<Option<Error>, AllocError> {
     let subcommand = subcommand_of(matches);
     match asked_for(subcommand, matches).file {
@@ -757,7 +741,7 @@ fn told_of_file<'a>(alloc: Global, matches: &ArgMatches<'a>) -> Result<Option<Er
     }
 }
 
-// What is told in place of an argument that is unknown.
+// What is told in place of an unknown argument.
 fn told_of<'a>(alloc: Global, words: &'a [&'a str]) -> Result<Option<Error>, Error> {
     match matches_of(alloc, words, true) {
         Ok(matches) => Ok(told_of_file(alloc, &matches)?),
@@ -766,8 +750,8 @@ fn told_of<'a>(alloc: Global, words: &'a [&'a str]) -> Result<Option<Error>, Err
     }
 }
 
-/// Reads the words behind the program's name. Help and the version come as an error too, which
-/// says that it belongs on the standard output.
+/// Reads the words behind the program's name. Help and the version come as an error that belongs on
+/// the standard output.
 pub(crate) fn read_words<'a>(alloc: Global, words: &'a [&'a str]) -> Result<CommandLine<'a>, Error>
     ensures range { IfOk result (λ asked. IsInRange asked.task) }
     ensures task { IfOk result (λ asked. IsAllowed asked.task) }

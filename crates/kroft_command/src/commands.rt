@@ -1,4 +1,4 @@
-//! The program's commands: their words, their options, and what their help says.
+//! The program's commands.
 
 use crate::notes::{
     CHECK_NOTES, DRIVE_NOTES, EXPLAIN_NOTES, GRADE_NOTES, HISTORY_NOTES, PROGRAM_NOTES,
@@ -28,7 +28,7 @@ pub(crate) enum Subcommand {
     History,
 }
 
-/// The commands, in the order in which help lists them.
+/// In help's order.
 const SUBCOMMANDS: [Subcommand; 9] = [
     Subcommand::Run,
     Subcommand::Check,
@@ -73,7 +73,7 @@ impl Subcommand {
         }
     }
 
-    // What it is called in a usage line of its own.
+    // Its name in a usage line.
     fn full_name(self) -> &'static str {
         match self {
             Subcommand::Run => "kroft run",
@@ -114,7 +114,7 @@ impl Subcommand {
         }
     }
 
-    // Its options, in the order in which help lists them.
+    // In help's order.
     fn options(self) -> &'static [CommandOption] {
         match self {
             Subcommand::Run => &RUN,
@@ -145,7 +145,7 @@ impl Subcommand {
     }
 }
 
-// The options of a command, and the name of a file behind them if one is taken.
+// Its options, and a file's name if one is taken.
 fn arguments_of<'a>(
     alloc: Global,
     subcommand: Subcommand,
@@ -191,7 +191,7 @@ fn command_of<'a>(
     )
 }
 
-/// One of the commands, as its refusals show it.
+/// The command as its refusals show it.
 pub(crate) fn shown<'a>(alloc: Global, subcommand: Subcommand) -> Result<Command<'a>, AllocError> {
     let command = command_of(alloc, subcommand, false)?;
     Ok(command.name(subcommand.full_name()))
@@ -218,8 +218,7 @@ fn base<'a>(alloc: Global) -> Result<Command<'a>, AllocError> {
         .arg(argument(alloc, &SHAPE, false)?)
 }
 
-/// The program's whole command line. No command takes a file's name: only to tell of one are they
-/// made as if they did.
+/// The whole command line. No command takes a file's name; they are made so to tell of one.
 pub(crate) fn program<'a>(alloc: Global, takes_file: bool) -> Result<Command<'a>, AllocError> {
     let commands = commands(alloc, takes_file)?;
     base(alloc)?.bin_name(PROGRAM)?.subcommands(commands)

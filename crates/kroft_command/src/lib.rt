@@ -1,5 +1,7 @@
-//! The program over its words, a reader and two writers: the words of the command line, and the
-//! jobs that they ask for.
+//! The program over its words, a reader and two writers.
+//!
+//! [`tool`] is all of it; its caller is `main`. It reads the words, reads the files that they name,
+//! and does the job.
 #![tactic(auto)]
 
 mod command_line;

@@ -1,4 +1,4 @@
-//! What the help of the program and of its commands says below their options.
+//! What help says below options.
 
 pub(crate) const PROGRAM_NOTES: &str =
     "Each command reads standard input and writes standard output: `kroft run < FILE`.

@@ -1,5 +1,3 @@
-//! A writer that isn't asked again once it has failed.
-
 ghost use Rattle.std.specs.Prelude.{◌≡◌, ◌<◌, true, false, [], length, take, IsErr, IfOk, IfErr, OnOk, OnErr};
 ghost use Rattle.std.specs.IoError.{error_kind};
 ghost use Rattle.std.specs.Io.{WritesAtMost};
@@ -9,10 +7,9 @@ ghost use Rattle.kroft_command.specs.OneTry.{writer_behind, has_failed};
 use std::io::{Error, ErrorKind, Result, Write};
 use trace_text::Sink;
 
-/// Writes through to another writer until a write or a flush fails, or a write takes none of its bytes. From
-/// then on nothing reaches that writer: each further write and flush fails at once. A failure that says
-/// that it was interrupted is told as one of another kind, since callers try such a write again. A write of
-/// no bytes asks nothing of that writer.
+/// Writes to another writer until a write or a flush fails, or a write takes no byte. From then on
+/// that writer is asked nothing, and each call fails. An interruption is told as another failure,
+/// since callers try those again. A write of no bytes asks nothing.
 #[derive(Drop)]
 pub struct OneTryWriter<W> {
     writer: W,
@@ -42,7 +39,6 @@ impl<W> OneTryWriter<W> {
 }
 
 impl<W: Sink> OneTryWriter<W> {
-    // A write of some bytes, which is passed on if none has failed.
     fn pass_on(&mut self, buf: &[u8]) -> Result<usize>
         requires { 0 < length buf.now }
         ensures bound { WritesAtMost result buf.now }
@@ -66,7 +62,6 @@ impl<W: Sink> OneTryWriter<W> {
         }
     }
 
-    // A flush, which is passed on if none has failed.
     fn flush_on(&mut self) -> Result<()>
         ensures once { has_failed self.old ≡ true → IsErr result × (self.new ≡ self.old) }
         ensures took { OnOk result (W.took (writer_behind self.old) [] (writer_behind self.new)) }

@@ -6,25 +6,21 @@ use flat_model::MAX_REGS;
 use round_driver::MOST_LATENCY;
 use std::alloc::{AllocError, Global};
 
-/// The name of the option for the machine file.
 pub(crate) const MACHINE: &str = "machine";
 
-/// The name of the option for the rows of a sweep.
 pub(crate) const REGISTERS: &str = "registers";
 
-/// The name of the option for the latency of rounds.
 pub(crate) const LATENCY: &str = "latency";
 
-/// The name of the option for the rounds between two begins of a bank.
+/// Rounds between two begins of a bank.
 pub(crate) const BUSY: &str = "busy";
 
-/// The option that names a log's format, where a log takes the place of a trace.
+/// A log's format, if a log takes a trace's place.
 pub(crate) const LOG: &str = "log";
 
 /// The name of the option for a figure.
 pub(crate) const SVG: &str = "svg";
 
-/// The name of the argument that stands for files' names.
 pub(crate) const FILE: &str = "file";
 
 // What stands behind an option.
@@ -36,7 +32,7 @@ enum Value {
     Text,
     // One of these words.
     Word(&'static [&'static str]),
-    // A whole number from the first of these to the second.
+    // From the first to the second.
     Number(i64, i64),
     // A number of rounds, from this one on.
     Rounds(i64),
@@ -49,11 +45,11 @@ pub(crate) struct CommandOption {
     // What its value is called in the help.
     value_name: &'static str,
     value: Value,
-    // Whether several values may stand behind it, with commas between them.
+    // Whether commas part several values.
     is_list: bool,
-    // Whether a command that takes no file needs it.
+    // Unless a command takes a file.
     is_required: bool,
-    // The options that have to stand beside it, and those that mustn't.
+    // Options that must stand beside it, and that mustn't.
     needs: &'static [&'static str],
     conflicts: &'static [&'static str],
     help: &'static str,
@@ -78,21 +74,20 @@ const A_FILE: CommandOption = CommandOption {
     ..FLAG
 };
 
-/// The option for the shape file. It may stand before or behind the command.
+/// It may stand before or behind the command.
 pub(crate) const SHAPE: CommandOption = CommandOption {
     name: "shape",
     help: "The TOML file with the machine's numbers",
     ..A_FILE
 };
 
-// The option for the machine file. It stands behind the command.
+// It stands behind the command.
 const MACHINE_FILE: CommandOption = CommandOption {
     name: MACHINE,
     help: "The TOML file with all numbers of a machine, in place of a shape file",
     ..A_FILE
 };
 
-// What a machine's memory has before the first store.
 const IMAGE: CommandOption = CommandOption {
     name: "image",
     value_name: "address|FILE",
@@ -153,8 +148,7 @@ pub(crate) static CHECK: [CommandOption; 5] = [
     FORMAT,
 ];
 
-/// The options of `sweep`, whose counts don't depend on what memory begins with. Without a latency it makes no
-/// rounds, so no bank is busy.
+/// The image changes no counts. Without a latency no bank is busy.
 pub(crate) static SWEEP: [CommandOption; 7] = [
     SHAPE,
     MACHINE_FILE,
@@ -168,7 +162,7 @@ pub(crate) static SWEEP: [CommandOption; 7] = [
         ..BUSY_BANKS
     },
     COUNTS_FORMAT,
-    // The figure has a column for each of the usual numbers, and no format goes with it.
+    // The figure has a column for each usual number, and no format.
     CommandOption {
         name: SVG,
         needs: &[LATENCY],
@@ -364,7 +358,6 @@ fn valued<'a>(arg: Arg<'a>, option: &CommandOption) -> Arg<'a> {
     }
 }
 
-/// The names of files, where a user gives some.
 pub(crate) fn file_argument<'a>(alloc: Global) -> Arg<'a> {
     Arg::new(alloc, FILE)
         .action(ArgAction::Set)

@@ -27,12 +27,14 @@ use std::rt::Files;
 use std::thread::Threads;
 use trace_text::{Sink, Source};
 
-/// Does what the words behind the program's name ask for, and gives the status that the program ends with: 0 done; 1 a run
-/// that isn't flat, a history that its law doesn't allow, a wrong prediction, or a load or an operation that is open where
-/// none may be; 2 the words were refused; 3 a fault of the shape or machine file; 4 a fault of the input or of the image, a
-/// page of a log for which there is no room, or a failed read or write; 5 want of memory, or the turn limit of a sweep; 6 a
-/// history of which it can't be told. A fault is told in one line on `errors`; so is, before anything else, that a run which
-/// is to be written has more lines than a check reads.
+/// Does what the words ask for, and returns the status.
+///
+/// 0: done. 1: a run that isn't flat, a history against its law, a wrong prediction, or something
+/// open that mustn't be. 2: words refused. 3: a fault of the shape or machine file. 4: a fault of
+/// the input or image, no room for a log's page, or a failed read or write. 5: want of memory, or a
+/// sweep's turn limit. 6: no verdict on a history.
+///
+/// A fault is a line on `errors`. So is, first of all, that a check doesn't read a run to its end.
 pub fn tool<R: AllocGlobal + Files + Threads + Sync, I: Source, O: Sink, E: Sink>(
     rt: &R,
     words: &[&str],
@@ -71,7 +73,7 @@ fn work<R: AllocGlobal + Files + Threads + Sync, I: Source, O: Sink, E: Sink>(
     }
 }
 
-// What becomes of words that are no task: help and the version are put, and any other words were refused.
+// Help and the version are put; other words were refused.
 fn told<O: Sink>(alloc: Global, said: clap::Error, output: &mut O) -> Result<u8, ToolFault>
     ensures few { IfOk result (λ status. status ≤ 1) }
     ensures ends { TellsWords O.took O.refused O.unflushed said output.old output.new result }
@@ -86,7 +88,6 @@ fn told<O: Sink>(alloc: Global, said: clap::Error, output: &mut O) -> Result<u8,
     }
 }
 
-// Reads the files that are named, and does the task.
 #[tactic(auto, unfolding(crate::specs::Program::Performs))]
 fn perform<R: AllocGlobal + Files + Threads + Sync, I: Source, O: Sink, E: Sink>(
     rt: &R,
@@ -106,7 +107,7 @@ fn perform<R: AllocGlobal + Files + Threads + Sync, I: Source, O: Sink, E: Sink>
     complete(rt, asked.task, &sizes, &image, input, output, errors)
 }
 
-// Does the task on a machine of these numbers or on a history, of a memory that began with the image.
+// Does the task on a machine or a history, over an image.
 #[tactic(auto, unfolding(crate::specs::Program::IsDone))]
 fn complete<R: AllocGlobal + Threads + Sync, I: Source, O: Sink, E: Sink>(
     rt: &R,
@@ -152,7 +153,6 @@ fn complete<R: AllocGlobal + Threads + Sync, I: Source, O: Sink, E: Sink>(
     }
 }
 
-// The numbers of the machine: those of the file, if one is named.
 fn sizes_of<R: AllocGlobal + Files>(rt: &R, name: MachineName<'_>) -> Result<Sizes, ToolFault>
     ensures sizes { IfOk result (IsMachineOf name.entry) }
     ensures good { IfOk result (λ sizes. bad_machine sizes ≡ None) }
@@ -172,7 +172,7 @@ fn sizes_of<R: AllocGlobal + Files>(rt: &R, name: MachineName<'_>) -> Result<Siz
     }
 }
 
-// The text of a file. Nothing is known of it but that the file gave it.
+// Nothing is known of a text but that the file gave it.
 fn text_of<R: AllocGlobal + Files>(
     rt: &R,
     path: &str,
@@ -219,7 +219,7 @@ fn image_of<R: AllocGlobal + Files>(rt: &R, name: ImageName<'_>) -> Result<Image
     }
 }
 
-// The bytes of an image's file. Nothing is known of them but that the file gave them.
+// As of a text.
 fn image_bytes<R: AllocGlobal + Files>(rt: &R, path: &str) -> Result<Vec<u8>, ToolFault>
     ensures { IfErr result (IsUnread faults.ImageUnreadable) }
 {
@@ -232,7 +232,7 @@ fn image_bytes<R: AllocGlobal + Files>(rt: &R, path: &str) -> Result<Vec<u8>, To
     }
 }
 
-// Sees whether memory has room for the image. That of a history has no end.
+// Whether the image fits. A history's memory has no end.
 fn find_room(task: Task, sizes: &Sizes, image: &Image) -> Result<(), ToolFault>
     ensures ok { OnOk result (HasRoom task sizes.now image.now) }
     ensures fault { IfErr result (LacksRoom task sizes.now image.now) }

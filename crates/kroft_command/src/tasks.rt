@@ -1,5 +1,4 @@
-//! What the program does for each task: the job of the machine whose numbers were read, on the input, and what is
-//! written of its end.
+//! Each task: its job, and what is written of its end.
 
 ghost use Rattle.std.specs.Prelude.{◌≡◌, ◌≤◌, [], ◌++◌, map, None, IfOk, IfErr, OnOk, OnErr};
 ghost use Rattle.std.specs.List.{All, AllByRecursion, flat_map};
@@ -41,7 +40,6 @@ use std::alloc::{AllocError, Global};
 use std::thread::Threads;
 use trace_text::{Sink, Source, TraceFault};
 
-/// Puts what a job found, and gives its status.
 pub(crate) fn answer<O: Sink>(output: &mut O, text: &str, status: u8) -> Result<u8, ToolFault>
     ensures ok { OnOk result (IsPut O.took output.old text.now output.new) }
     ensures status { IfOk result (λ told. told ≡ status) }
@@ -101,7 +99,6 @@ fn check<I: Source, O: Sink>(
     answer(output, text.as_str(), Verdict(end).status())
 }
 
-// Judges what a run wrote, and tells which of its loads weren't answered.
 #[tactic(auto, unfolding(crate::specs::Program::ChecksAnswered))]
 fn check_answered<I: Source, O: Sink>(
     alloc: Global,
@@ -120,7 +117,7 @@ fn check_answered<I: Source, O: Sink>(
     answer(output, text.as_str(), answered.status())
 }
 
-/// Judges what a run wrote. Loads that weren't answered are a fault if that is asked for.
+/// Judges a run; open loads are a fault if asked.
 #[tactic(auto, unfolding(crate::specs::Program::checks_by))]
 pub(crate) fn check_by<I: Source, O: Sink>(
     alloc: Global,
@@ -142,7 +139,6 @@ pub(crate) fn check_by<I: Source, O: Sink>(
     }
 }
 
-/// Says why what a run wrote is none of flat memory.
 #[tactic(auto, unfolding(crate::specs::Program::ExplainsRun))]
 pub(crate) fn explain<I: Source, O: Sink>(
     alloc: Global,
@@ -180,7 +176,7 @@ pub(crate) fn grade<I: Source, O: Sink>(
     Ok(score.status())
 }
 
-// Drives the requests in rounds, and writes the run, of which it tells if it is too long for a check.
+// Writes the run, and tells if it is too long for a check.
 fn write_run<I: Source, O: Sink, E: Sink>(
     alloc: Global,
     sizes: &Sizes,
@@ -298,7 +294,6 @@ fn show_counts<I: Source, O: Sink>(
     }
 }
 
-/// Drives the requests in rounds, and writes the run or what it counts.
 #[tactic(auto, unfolding(crate::specs::Program::Drives))]
 pub(crate) fn drive<I: Source, O: Sink, E: Sink>(
     alloc: Global,
@@ -326,7 +321,6 @@ pub(crate) fn drive<I: Source, O: Sink, E: Sink>(
     }
 }
 
-// Writes the requests of a log in a format.
 #[tactic(auto, unfolding(crate::specs::Program::WritesRequests))]
 fn requests_in<F: LogFormat, I: Source, O: Sink>(
     alloc: Global,
@@ -363,7 +357,6 @@ pub(crate) fn requests<I: Source, O: Sink>(
     }
 }
 
-/// Draws the machine at each event of the trace.
 #[tactic(auto, unfolding(crate::specs::Program::Draws))]
 pub(crate) fn show<I: Source, O: Sink>(
     alloc: Global,
@@ -422,7 +415,7 @@ fn judge_history<I: Source, O: Sink>(
     put_verdict(alloc, how, judged, output)
 }
 
-// Judges a history, and writes its lines. What was written is seen through to its end, whatever became of it.
+// Judges a history, and writes its lines to their end, whatever comes of it.
 fn write_history<I: Source, O: Sink>(
     alloc: Global,
     how: HistoryTask,
@@ -439,7 +432,6 @@ fn write_history<I: Source, O: Sink>(
     put_verdict(alloc, how, judged, output)
 }
 
-/// Judges a history by a law, and writes its lines if that is asked for.
 #[tactic(auto, unfolding(crate::specs::Program::FollowsHistory))]
 pub(crate) fn history<I: Source, O: Sink>(
     alloc: Global,
@@ -470,7 +462,6 @@ fn lines_of_rows(alloc: Global, format: Format, rows: &[Row]) -> Result<String, 
     Ok(text)
 }
 
-// Rows of numbers of registers in rounds, a line each.
 fn lines_of_rounds(alloc: Global, format: Format, rows: &[RoundsRow]) -> Result<String, AllocError>
     ensures { IfOk result (λ text. string_bytes text ≡ flat_map (λ row. line (rounds_in format row)) rows.now) }
 {
@@ -501,7 +492,6 @@ fn put_registers<R: AllocGlobal + Threads + Sync, I: Source, O: Sink>(
     answer(output, lines.as_str(), 0)
 }
 
-// Drives the requests in rounds with each number of registers.
 fn put_rounds<R: AllocGlobal + Threads + Sync, I: Source, O: Sink>(
     rt: &R,
     sizes: &Sizes,
@@ -523,7 +513,6 @@ fn put_rounds<R: AllocGlobal + Threads + Sync, I: Source, O: Sink>(
     answer(output, rounds.as_str(), 0)
 }
 
-// Adds a line for each row of a latency.
 fn push_latency(
     text: &mut String,
     format: Format,
@@ -554,7 +543,6 @@ fn lines_of_latencies(
     Ok(text)
 }
 
-// Drives the requests in rounds with each of these times of memory, and each number of registers.
 fn put_latencies<R: AllocGlobal + Threads + Sync, I: Source, O: Sink>(
     rt: &R,
     sizes: &Sizes,
@@ -576,7 +564,6 @@ fn put_latencies<R: AllocGlobal + Threads + Sync, I: Source, O: Sink>(
     answer(output, latencies.as_str(), 0)
 }
 
-// The rows of latencies as the lines of a figure.
 fn lines_of_figure<'a>(
     alloc: Global,
     swept: &'a [LatencyRows],
@@ -615,7 +602,7 @@ fn draw_sweep<R: AllocGlobal + Threads + Sync, I: Source, O: Sink>(
     answer(output, figure.as_str(), 0)
 }
 
-// Serves the requests with each number of registers, or drives them in rounds if there are times of memory.
+// Serves the requests, or drives them if there are times.
 fn put_sweep<R: AllocGlobal + Threads + Sync, I: Source, O: Sink>(
     rt: &R,
     sizes: &Sizes,
@@ -638,7 +625,6 @@ fn put_sweep<R: AllocGlobal + Threads + Sync, I: Source, O: Sink>(
     }
 }
 
-// Counts the requests with each number of registers, and writes or draws the counts.
 #[tactic(auto, unfolding(crate::specs::Program::Sweeps))]
 fn sweep_by<R: AllocGlobal + Threads + Sync, I: Source, O: Sink>(
     rt: &R,
@@ -661,7 +647,6 @@ fn sweep_by<R: AllocGlobal + Threads + Sync, I: Source, O: Sink>(
     }
 }
 
-/// Counts the requests with each number of registers, by pumps or in rounds, and writes or draws the counts.
 pub(crate) fn sweep<R: AllocGlobal + Threads + Sync, I: Source, O: Sink>(
     rt: &R,
     sizes: &Sizes,

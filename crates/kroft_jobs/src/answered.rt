@@ -1,4 +1,4 @@
-//! A check of a run all of whose loads have to be answered.
+//! A check of a run whose loads must all be answered.
 
 ghost use Rattle.std.specs.Prelude.{◌≡◌, ℕ, List, Some, IfOk, IfErr};
 ghost use Rattle.flat_model.specs.Flat.{Flat};
@@ -16,20 +16,19 @@ use std::alloc::{AllocError, Global};
 use std::fmt;
 use trace_text::{CheckEnd, Source, TraceFault, check_from};
 
-// How many tags there are: they are numbers of 16 bits.
 const TAGS: u32 = u16::MAX as u32 + 1;
 
-/// What a check found of a run all of whose loads have to be answered.
+/// What such a check found.
 #[derive(Drop)]
 pub struct AnsweredVerdict {
     /// What was found.
     pub end: CheckEnd,
-    /// The tags that are owed a value behind the steps that were judged, the lowest first.
+    /// Tags still owed a value, lowest first.
     pub tags: Vec<u16>,
 }
 
 impl AnsweredVerdict {
-    /// The status with which the program ends: 0 for a flat run behind which no load is open, else 1.
+    /// 0: a flat run with no open load; else 1.
     pub fn status(&self) -> u8
         ensures { result ≡ answered_status self.now.end self.now.tags.items }
     {
@@ -40,8 +39,7 @@ impl AnsweredVerdict {
     }
 }
 
-/// As a check's verdict, and behind a flat run how many loads are open, if some are, and under which
-/// tags: `flat run, 9 steps, 2 loads open: tags 3 7`.
+/// The verdict, and behind a flat run its open loads: `flat run, 9 steps, 2 loads open: tags 3 7`.
 impl fmt::Display for AnsweredVerdict {
     ghost output = { λ verdict. Some (answered_text verdict.end verdict.tags.items) };
 
@@ -55,7 +53,7 @@ impl fmt::Display for AnsweredVerdict {
     }
 }
 
-// How many loads are open, and under which tags, if some are.
+// The open loads, if any.
 #[derive(Clone, Copy)]
 struct OpenLoads<'a>(&'a [u16]);
 
@@ -89,7 +87,7 @@ impl<'a> fmt::Display for Tags<'a> {
     }
 }
 
-/// Judges what a run wrote, as [`check`](crate::check) does, and tells which loads weren't answered.
+/// Judges as [`check`](crate::check) does, and lists unanswered loads.
 pub fn check_answered<I: Source>(
     alloc: Global,
     sizes: &Sizes,
@@ -113,7 +111,6 @@ pub fn check_answered<I: Source>(
     })
 }
 
-// The tags that are owed a value.
 #[tactic(auto, unfolding(crate::specs::Answering::tags_owed))]
 fn open_tags(alloc: Global, memory: &FlatMemory) -> Result<Vec<u16>, AllocError>
     ensures { IfOk result (λ tags. tags.items ≡ tags_owed (shown memory.now)) }

@@ -1,4 +1,4 @@
-//! What an input asks for: the requests of a trace or of a log.
+//! The requests that an input asks for.
 
 ghost use Rattle.std.specs.Prelude.{◌≡◌, ◌/◌, ◌≤◌, true, length, IfOk, IfErr};
 ghost use Rattle.std.specs.List.{list_all};
@@ -21,15 +21,14 @@ use trace_text::{Source, read_requests};
 /// What an input says as requests.
 #[derive(Clone, Copy, PartialEq, Eq, Debug)]
 pub enum RequestText {
-    /// A trace: the requests of its lines.
+    /// The requests of a trace's lines.
     Trace,
-    /// A log of valgrind's lackey: the requests of its accesses.
+    /// A log of valgrind's lackey.
     Lackey,
-    /// A log in Dinero's format `din`: those of its accesses.
+    /// A log in Dinero's format `din`.
     Din,
 }
 
-// The requests of a log over so many words of memory.
 #[tactic(auto, using(crate::proofs::Driving::all_requests, crate::proofs::Driving::log_few))]
 fn log_requests<I: Source, F: LogFormat>(
     alloc: Global,
@@ -70,10 +69,9 @@ fn trace_requests<I: Source>(alloc: Global, input: &mut I) -> Result<LogRequests
     }
 }
 
-/// Reads the requests of an input: those of a trace, as `read_requests` does, or those of a log, as
-/// `read_log` does over the memory of the shape. Only a log has groups.
+/// The requests of a trace, or of a log over the shape's memory. Only a log has groups.
 ///
-/// The faults of a trace are told as [`LogFault::Trace`].
+/// A trace's faults come as [`LogFault::Trace`].
 pub(crate) fn read_asked<I: Source>(
     alloc: Global,
     from: RequestText,
@@ -96,7 +94,7 @@ pub(crate) fn read_asked<I: Source>(
     }
 }
 
-// What is counted of accesses, of which these are the groups, and of whose requests this became.
+// Counts accesses by their groups and the requests' outcomes.
 pub(crate) fn accesses_of(
     from: RequestText,
     groups: &[AccessGroup],

@@ -1,4 +1,4 @@
-//! The requests of a trace or of a log are driven in rounds, and the run is written.
+//! Requests are driven, and the run is written.
 
 ghost use Rattle.std.specs.Prelude.{◌≡◌, ◌≤◌, true, None, length, IfOk, IfErr, OnOk, OnErr};
 ghost use Rattle.std.specs.List.{list_all};
@@ -23,17 +23,14 @@ use round_driver::{Timing, drive_with, keeps_whole};
 use std::alloc::Global;
 use trace_text::{Sink, Source, TraceFault, write_whole};
 
-/// Drives the requests of a trace or of a log in rounds through a new machine of numbers that are in their
-/// ranges, over an image, as [`drive_with`] does, and writes the run. Gives the number of rounds, behind which the
-/// requests are used up and nothing is on its way. The output isn't flushed.
+/// Drives the requests of a trace or of a log over an image, as [`drive_with`] does, and writes the
+/// run. Returns its rounds. The output isn't flushed.
 ///
-/// A run of more than 16,777,216 lines is told of before it is written, in one line on `errors`, since a check
-/// reads no more; the run is written all the same. Of a shorter one nothing is told. So a run of more than 16 MiB
-/// is driven twice: first up to the first line more than a check reads, and then as it is written.
+/// If the run has more than 16,777,216 lines, a line on `errors` says so first, since no check
+/// reads more. So a run above 16 MiB is driven twice: to measure it, then to write it.
 ///
-/// All requests are read before anything is written: a fault of the input leaves the output and the errors as they
-/// are. A write that is refused ends the run at once; if `errors` refuse the line, the run is written without it. The
-/// latency of `timing` is at most `MOST_LATENCY`.
+/// All requests are read before anything is written. A refused write ends the run at once; a
+/// refused line on `errors` doesn't. The latency is at most `MOST_LATENCY`.
 pub fn drive_requests<I: Source, O: Sink, E: Sink>(
     alloc: Global,
     sizes: &Sizes,
@@ -57,7 +54,7 @@ pub fn drive_requests<I: Source, O: Sink, E: Sink>(
     }
 }
 
-// Drives requests on a new machine, and tells before that of a run that is too long for a check.
+// Drives requests; of a run too long for a check it tells first.
 fn tell_and_drive<O: Sink, E: Sink>(
     alloc: Global,
     sizes: &Sizes,
@@ -84,7 +81,7 @@ fn tell_and_drive<O: Sink, E: Sink>(
     }
 }
 
-// Tells that a check doesn't read all of a run. If the errors refuse the line, nothing is left to tell it to.
+// Tells that a check doesn't read the whole run. A refusal has nowhere to go.
 fn tell_length<E: Sink>(errors: &mut E)
     ensures { IsOffered E.took E.refused E.unflushed errors.old long_run_line errors.new }
 {
@@ -94,7 +91,6 @@ fn tell_length<E: Sink>(errors: &mut E)
     );
 }
 
-// Writes a run of so many rounds that is kept as a text.
 fn put_run<O: Sink>(output: &mut O, text: &[u8], rounds: u64) -> Result<u64, TraceFault>
     ensures ok { OnOk result (Moves O.took output.old text.now output.new) }
     ensures rounds { IfOk result (λ told. told ≡ rounds) }
@@ -107,7 +103,7 @@ fn put_run<O: Sink>(output: &mut O, text: &[u8], rounds: u64) -> Result<u64, Tra
     }
 }
 
-// Finds out how long the run of these requests is, by driving them on a new machine. Memory may be missing.
+// How long the run is, by driving it on a new machine. Memory may be missing.
 fn measure_run(
     alloc: Global,
     sizes: &Sizes,

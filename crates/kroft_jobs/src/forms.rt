@@ -29,7 +29,6 @@ fn check_fields(end: CheckEnd) -> [Field<'static>; 3]
     }
 }
 
-// The tags of the loads that are open.
 fn open_field(end: CheckEnd, tags: &[u16]) -> Field<'_>
     ensures { said result ≡ forms.open_named end tags.now }
 {
@@ -39,7 +38,6 @@ fn open_field(end: CheckEnd, tags: &[u16]) -> Field<'_>
     }
 }
 
-// The verdict, and the tags of the loads that are open.
 #[tactic(auto, unfolding(crate::specs::Forms::answered_named))]
 fn answered_fields(end: CheckEnd, tags: &[u16]) -> [Field<'_>; 4]
     ensures { map said result ≡ forms.answered_named end tags.now }
@@ -48,7 +46,7 @@ fn answered_fields(end: CheckEnd, tags: &[u16]) -> [Field<'_>; 4]
     [verdict, steps, line, open_field(end, tags)]
 }
 
-/// What a check found, in a format: the verdict with its steps or its line.
+/// A verdict in a format, with its steps or its line.
 #[derive(Clone, Copy)]
 pub struct CheckIn(pub Format, pub CheckEnd);
 
@@ -67,8 +65,7 @@ impl fmt::Display for CheckIn {
     }
 }
 
-/// What a check found of a run all of whose loads have to be answered, in a format: the verdict, and behind a flat run the
-/// tags of the loads that are open.
+/// The same, and behind a flat run the tags of its open loads.
 #[derive(Clone, Copy)]
 pub struct AnsweredIn<'a>(pub Format, pub &'a AnsweredVerdict);
 

@@ -15,11 +15,11 @@ use std::alloc::Global;
 use trace_sheets::{Grade, GradeHead, Score, ScoreIn, grade_sheet};
 use trace_text::{Sink, Source, TraceFault};
 
-/// Grades a sheet on a new machine of numbers that are in their ranges, over an image, as [`grade_sheet`] does,
-/// and writes the grade in a format: what is told of each wrong prediction, and the score as its last line.
+/// Grades a sheet as [`grade_sheet`] does, and writes each wrong prediction, and at last the score,
+/// in a format.
 ///
-/// The whole sheet is read before anything is written: a fault of it leaves the output as it is. A write
-/// that is refused ends the job at once. The output is flushed behind the score.
+/// The sheet is read whole before anything is written. A refused write ends the job at once. The
+/// output is flushed behind the score.
 pub fn grade<I: Source, O: Sink>(
     alloc: Global,
     sizes: &Sizes,

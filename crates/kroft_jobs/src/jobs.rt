@@ -26,11 +26,10 @@ use trace_text::{
     CheckEnd, Counts, Sink, Source, TraceFault, check_from, read_requests, serve_text,
 };
 
-// Turns of each thread of the program's sweep. Its gate is always open, so one is enough.
+// The sweep's gate is always open, so one turn is enough.
 pub(crate) const SWEEP_TURNS: u64 = 1_000_000;
 
-/// Serves a trace on a new machine of numbers that are in their ranges, over an image, as
-/// `serve_text` does.
+/// Serves a trace on a new machine, as `serve_text` does.
 pub fn serve<I: Source, O: Sink>(
     alloc: Global,
     sizes: &Sizes,
@@ -49,7 +48,7 @@ pub fn serve<I: Source, O: Sink>(
     serve_text(alloc, input, output, &mut machine)
 }
 
-/// Judges what a run wrote, over as many words of an image as the shape says, as `check_from` does.
+/// Judges a run over the shape's memory, as `check_from` does.
 pub fn check<I: Source>(
     alloc: Global,
     sizes: &Sizes,
@@ -68,8 +67,7 @@ pub fn check<I: Source>(
     Ok(checked.end)
 }
 
-/// Says why what a run wrote is none of flat memory, over as many words of an image as the shape says, as
-/// `explain_text` does.
+/// Says why a run isn't flat memory's, as `explain_text` does.
 pub fn explain<I: Source>(
     alloc: Global,
     sizes: &Sizes,
@@ -81,12 +79,12 @@ pub fn explain<I: Source>(
     explain_text(alloc, input, image, sizes.words)
 }
 
-/// What a check found, as the program tells it.
+/// A check's verdict as the program tells it.
 #[derive(Clone, Copy)]
 pub struct Verdict(pub CheckEnd);
 
 impl Verdict {
-    /// The status with which the program ends: 0 for a flat run, 1 for a mismatch.
+    /// 0: a flat run. 1: a mismatch.
     pub fn status(self) -> u8
         ensures { result ≡ verdict_status self.0 }
     {
@@ -108,8 +106,8 @@ impl fmt::Display for Verdict {
     }
 }
 
-/// The rows of the requests of a trace, with each of these numbers of registers and all else as `sizes` says. Its
-/// faults are those of [`sweep_in_rounds`](crate::sweep_in_rounds).
+/// A sweep's rows, one for each number of registers. Its faults are those of
+/// [`sweep_in_rounds`](crate::sweep_in_rounds).
 pub fn sweep_registers<R: Threads + Sync, I: Source>(
     rt: &R,
     alloc: Global,
@@ -135,7 +133,6 @@ pub fn sweep_registers<R: Threads + Sync, I: Source>(
     Ok(rows)
 }
 
-// The machines of a sweep: with each of these numbers of registers.
 pub(crate) fn swept_machines(
     alloc: Global,
     sizes: &Sizes,

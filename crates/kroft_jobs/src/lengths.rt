@@ -1,4 +1,4 @@
-//! How long a run is, measured as it is driven and before any of it is written.
+//! A run's length, measured before any of it is written.
 
 ghost use Rattle.std.specs.Prelude.{◌≡◌, ◌<◌, ◌++◌, true, nat_lt, []};
 ghost use Rattle.trace_text.specs.Codes.{most_lines};
@@ -9,29 +9,26 @@ use std::alloc::Global;
 use std::io;
 use trace_text::{MAX_LINES, Sink};
 
-// The most bytes of a run that are kept while it is measured. A run that has no more is driven once.
+// A run of no more bytes is kept as it is measured, and driven once.
 const MOST_KEPT: usize = 16_777_216;
 
-/// What is known of a run that was measured.
+/// What measuring found.
 #[derive(Drop)]
 pub(crate) enum RunLength {
-    /// It is this text, of so many rounds, and a check can read it.
+    /// Its text and rounds; a check reads it.
     Kept { text: Vec<u8>, rounds: u64 },
     /// A check can read it.
     Readable,
-    /// It has more lines than a check reads.
+    /// A check doesn't read all lines.
     TooLong,
 }
 
-/// Takes a run up to the first line more than a check reads, counts its lines, and keeps its text as long as that is
-/// short.
+/// Counts a run's lines up to the first one too many, and keeps its text while short.
 #[derive(Drop)]
 pub(crate) struct RunMeasure {
     // How many lines it took.
     pub(crate) lines: u64,
-    // Whether all that it took is kept.
     pub(crate) is_kept: bool,
-    // All that it took, if that is kept.
     pub(crate) text: Vec<u8>,
 }
 
@@ -41,7 +38,6 @@ fn is_end(byte: &u8) -> bool
     *byte == b'\n'
 }
 
-// How many lines end in these bytes.
 fn line_count(bytes: &[u8]) -> usize
     ensures { result ≡ lengths.line_count bytes.now }
 {
@@ -62,14 +58,12 @@ impl RunMeasure {
         }
     }
 
-    // Whether it has more lines than a check reads.
     fn is_too_long(&self) -> bool
         ensures { result ≡ nat_lt most_lines self.now.lines }
     {
         self.lines > MAX_LINES
     }
 
-    /// What is known of a run of so many rounds that was taken to its end.
     pub(crate) fn length(self, rounds: u64) -> RunLength
         ensures { result ≡ lengths.length_of self rounds }
     {
@@ -85,7 +79,7 @@ impl RunMeasure {
         }
     }
 
-    // Keeps these bytes behind the others, if all is kept and there is room.
+    // Keeps these bytes, if all was kept and there is room.
     fn keep(&mut self, bytes: &[u8])
         ensures lines { self.new.lines ≡ self.old.lines }
         ensures kept { self.new.is_kept ≡ true

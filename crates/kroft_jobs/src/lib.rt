@@ -1,10 +1,9 @@
-//! What is done with a trace, for the shape and the image that were read: [`serve`] runs it on a new machine,
-//! [`check`], [`check_answered`] and [`explain`] judge what a run wrote, [`sweep_registers`] counts what its requests
-//! wait for, [`drive_requests`], [`summarize_requests`] and [`detail_requests`] drive them in rounds, and
-//! [`sweep_in_rounds`] counts rounds with several numbers of registers, [`sweep_latencies`] with several
-//! latencies too. [`show`] draws the machine at each event, and [`grade`] grades a sheet of predictions. [`Verdict`],
-//! [`AnsweredVerdict`] and [`JobFault`] have the texts and statuses that their ends are told by, [`CheckIn`] and
-//! [`AnsweredIn`] the forms for other programs, and [`put_text`] writes a text to its end.
+//! What the program does with a trace, for a shape and an image that were read.
+//!
+//! Its caller is the command line: [`serve`] comes first, and then [`check`], [`explain`],
+//! [`drive_requests`] and the others. Each makes a new machine of numbers in their ranges.
+//! [`JobFault`] and the verdicts have the statuses. A fault of the input leaves the output
+//! untouched.
 #![tactic(auto)]
 
 mod answered;

@@ -11,8 +11,7 @@ use run_pictures::{Form, ShowFault, show_text};
 use std::alloc::Global;
 use trace_text::Source;
 
-/// Draws the walk of a new machine of numbers that are in their ranges, over an image, over the events of
-/// a trace or of a recorded run, as `show_text` does.
+/// Draws a machine at each event of a trace or of a recorded run, as `show_text` does.
 pub fn show<I: Source>(
     alloc: Global,
     sizes: &Sizes,

@@ -1,4 +1,4 @@
-//! What the program does with the requests of a trace or of a log in rounds.
+//! Requests in rounds.
 
 ghost use Rattle.std.specs.Prelude.{◌≡◌, ◌≢◌, ◌≤◌, ℕ, List, None, Err, true, IfOk, IfErr, OnOk, length};
 ghost use Rattle.std.specs.List.{All, list_all};
@@ -30,9 +30,7 @@ use std::alloc::{AllocError, Global};
 use std::thread::Threads;
 use trace_text::{Source, read_requests};
 
-/// Drives the requests of a trace or of a log in rounds through a new machine of numbers that are in their
-/// ranges, over an image, and counts, as [`rounds_table`] does. Behind the rounds that are counted the requests
-/// are used up and nothing is on its way. The latency of `timing` is at most `MOST_LATENCY`.
+/// Drives requests, and counts as [`rounds_table`] does. The latency is at most `MOST_LATENCY`.
 pub fn summarize_requests<I: Source>(
     alloc: Global,
     sizes: &Sizes,
@@ -59,12 +57,12 @@ pub fn summarize_requests<I: Source>(
 pub struct CountedRun {
     /// The details.
     pub details: Details,
-    /// The accesses, if a log told them.
+    /// Of a log, its accesses.
     pub accesses: Option<AccessCounts>,
 }
 
-/// Drives the requests of a trace or of a log as [`summarize_requests`] does, and counts more, as [`detail_with`] does;
-/// and of a log its accesses, as [`count_accesses`](result_formats::count_accesses) does.
+/// Counts also what [`detail_with`] does, and of a log its accesses by
+/// [`count_accesses`](result_formats::count_accesses).
 pub fn detail_requests<I: Source>(
     alloc: Global,
     sizes: &Sizes,
@@ -87,7 +85,6 @@ pub fn detail_requests<I: Source>(
     Ok(CountedRun { details, accesses })
 }
 
-// Counts requests on a new machine over an image.
 fn detail_all(
     alloc: Global,
     sizes: &Sizes,
@@ -106,12 +103,10 @@ fn detail_all(
     detail_with(alloc, &mut machine, timing, requests)
 }
 
-/// The rows of the requests of a trace in rounds, with each of these numbers of registers and all else as
-/// `sizes` says, as [`sweep_rounds`] makes them. Each run is over in time. The latency of `timing` is at most
-/// `MOST_LATENCY`.
+/// A sweep's rows in rounds, one for each number of registers, as [`sweep_rounds`] makes them. The
+/// latency is at most `MOST_LATENCY`.
 ///
-/// All requests are read before the machines are judged, whose own number of registers `sizes` doesn't have: so a
-/// fault of the trace goes before one of the machine. `TurnLimit` never comes, as the program's gate is always open.
+/// A trace's fault goes before a machine's. `TurnLimit` never comes.
 pub fn sweep_in_rounds<R: Threads + Sync, I: Source>(
     rt: &R,
     alloc: Global,
@@ -140,16 +135,15 @@ pub fn sweep_in_rounds<R: Threads + Sync, I: Source>(
     Ok(rows)
 }
 
-/// The rows of a sweep in rounds with one latency.
+/// The rows of one latency.
 #[derive(Debug, Drop)]
 pub struct LatencyRows {
-    /// Rounds from a command's begin to its service.
+    /// Rounds from begin to service.
     pub latency: u64,
-    /// The rows, one for each number of registers.
+    /// One for each number of registers.
     pub rows: Vec<RoundsRow>,
 }
 
-// The rows of requests with each of these times of memory, on machines.
 fn sweep_each<R: Threads + Sync>(
     rt: &R,
     alloc: Global,
@@ -187,9 +181,8 @@ fn sweep_each<R: Threads + Sync>(
     Ok(swept)
 }
 
-/// The rows of the requests of a trace with each of these times of memory in turn, as
-/// [`sweep_in_rounds`] makes them. The requests are read once. Each latency is at most `MOST_LATENCY`. The faults are
-/// those of [`sweep_in_rounds`], if there are times at all.
+/// The rows of each of these times of memory, as [`sweep_in_rounds`] makes them. The requests are
+/// read once.
 pub fn sweep_latencies<R: Threads + Sync, I: Source>(
     rt: &R,
     alloc: Global,

@@ -5,8 +5,8 @@ ghost use Rattle.kroft_jobs.specs.Writing.{IsPut, IsCut};
 
 use trace_text::{Sink, TraceFault, write_whole};
 
-/// Writes a text as a whole, and flushes it. `Write`, the only fault, says that a write or the flush
-/// was refused: what is left of the text then isn't tried again.
+/// Writes a text whole, and flushes it. `Write`: a write or the flush was refused; the rest isn't
+/// tried.
 pub fn put_text<O: Sink>(output: &mut O, text: &[u8]) -> Result<(), TraceFault>
     ensures ok { OnOk result (IsPut O.took output.old text.now output.new) }
     ensures err { OnErr result (IsCut O.took O.refused O.unflushed output.old text.now output.new) }

@@ -1,4 +1,4 @@
-//! The program: hands its words and its three streams to [`tool`], and ends with the status that this gives.
+//! The program: hands its words and streams to [`tool`], and ends with its status.
 #![tactic(auto)]
 
 use kroft_command::{OneTryWriter, tool};
@@ -23,8 +23,8 @@ fn main(rt: HostRuntime) -> ExitCode {
     ExitCode::from(status)
 }
 
-// Runs the program over the process's own words and streams, with its output in pieces, of which none
-// is written behind one that failed. It fails if the words can't be read, or there is no memory for them.
+// Runs the program over the process's words and streams. Behind a failed write nothing is written.
+// Fails without readable words or without memory for them.
 fn start<R: AllocGlobal + Env + Files + Input + Print + Threads + Sync, E: Print>(
     rt: &R,
     errors: &E,

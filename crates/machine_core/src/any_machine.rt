@@ -1,4 +1,4 @@
-//! A machine whose text is told, with its numbers in its type or without.
+//! A machine whose text is told.
 ghost use Rattle.std.specs.Prelude.{◌≡◌, Some};
 ghost use Rattle.flat_model.specs.Flat.{flat_step};
 ghost use Rattle.machine_core.specs.Machine.{MachineState};
@@ -8,10 +8,8 @@ use crate::{Machine, ShapedMachine};
 use flat_model::{Answer, Event, Word};
 use miss_registers::{FieldView, RegisterView};
 
-/// What a text asks of a machine: a [`ShapedMachine`], or one whose numbers stand in its type.
-///
-/// Each call is the call of [`ShapedMachine`] of its name, and its contract speaks of the state that the
-/// machine shows.
+/// What a text asks of a [`ShapedMachine`], or of one whose numbers stand in its type. Each call is
+/// the call of that name.
 pub trait AnyMachine {
     // The state that it shows.
     ghost state: { Self → MachineState };
@@ -23,11 +21,11 @@ pub trait AnyMachine {
         ensures flat { flat_step (any.flat (state self.old)) event result
             ≡ Some (any.flat (state self.new)) };
 
-    /// Whether nothing is on its way to memory, as [`ShapedMachine::settled`].
+    /// As [`ShapedMachine::settled`].
     fn settled(&self) -> bool
         ensures { result ≡ any.is_settled (state self.now) };
 
-    /// The word of memory at `at`, as [`ShapedMachine::bank_word`].
+    /// As [`ShapedMachine::bank_word`].
     fn bank_word(&self, at: u32) -> Option<Word>
         ensures { result ≡ any.bank_shown (state self.now) at };
 
@@ -35,7 +33,7 @@ pub trait AnyMachine {
     fn register(&self, slot: u32) -> Option<RegisterView>
         ensures { result ≡ any.register_shown (state self.now) slot };
 
-    /// What a register shows of a word, as [`ShapedMachine::field`].
+    /// As [`ShapedMachine::field`].
     fn field(&self, slot: u32, i: u32) -> Option<FieldView>
         ensures { result ≡ any.field_shown (state self.now) slot i };
 }

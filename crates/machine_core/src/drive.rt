@@ -1,4 +1,4 @@
-//! Which event the driver chooses: what it looks for at the banks.
+//! Which event the driver chooses.
 ghost use Rattle.std.specs.Prelude.{◌≡◌, length, Option};
 ghost use Rattle.std.specs.List.{find, list_all, range_with_len};
 ghost use Rattle.memory_banks.specs.Banks.{bank_at};
@@ -10,7 +10,6 @@ use cache_unit::ShapedUnit;
 use flat_model::Event;
 use memory_banks::Banks;
 
-/// The event that the driver makes now, if there is one.
 pub(crate) fn next_event(unit: &ShapedUnit, banks: &Banks) -> Option<Event>
     ensures { result ≡ pumped unit.now.sizes (machine_of unit.now banks.now) }
 {
@@ -33,7 +32,6 @@ pub(crate) fn next_event(unit: &ShapedUnit, banks: &Banks) -> Option<Event>
     None
 }
 
-// The lowest bank in which an answer stands.
 fn first_with_answer(banks: &Banks, number: u32) -> Option<u32>
     ensures { result ≡ find (λ b. has_items (bank_at banks.now.banks b).answers)
         (range_with_len 0 number) }
@@ -41,7 +39,6 @@ fn first_with_answer(banks: &Banks, number: u32) -> Option<u32>
     (0..number).find(|bank| has_answer(banks, *bank))
 }
 
-// The lowest bank at which a command waits.
 fn first_with_command(banks: &Banks, number: u32) -> Option<u32>
     ensures { result ≡ find (λ b. has_items (bank_at banks.now.banks b).queue)
         (range_with_len 0 number) }
@@ -49,7 +46,6 @@ fn first_with_command(banks: &Banks, number: u32) -> Option<u32>
     (0..number).find(|bank| has_command(banks, *bank))
 }
 
-/// Whether no command waits at any bank.
 pub(crate) fn all_served(banks: &Banks, number: u32) -> bool
     requires { length banks.now.banks ≡ number }
     ensures { result ≡ list_all (λ b. is_empty b.queue) banks.now.banks }

@@ -1,4 +1,4 @@
-//! A machine whose ways, words of a block, registers and places of the stack stand in its type.
+//! A machine with its numbers in its type.
 ghost use Rattle.std.specs.Prelude.{◌≡◌, ◌≢◌, ℕ, ◌<◌, ◌≤◌, ◌↔◌, length, IfOk, IfErr, IfSome, OnOk, OnErr, IsTrue, IsNone, None, Some};
 ghost use Rattle.std.specs.Prelude.{slice_get};
 ghost use Rattle.std.specs.Option.{option_map};
@@ -24,10 +24,8 @@ use std::alloc::{AllocError, Global};
 use std::marker::Model;
 use write_queue::Queued;
 
-/// A cache unit over the banks of its memory: `WAYS` (1 to 8) ways a set, `WORDS` (1 to 16) words a
-/// block, `REGS` (1 to 16) registers and `DEPTH` (1 to 16) places in the input stack.
-///
-/// It is a [`ShapedMachine`] of these numbers, and each call does what that one's does.
+/// A [`ShapedMachine`] of `WAYS` (1 to 8) ways, `WORDS` (1 to 16) words a block, `REGS` (1 to 16)
+/// registers and `DEPTH` (1 to 16) places in the stack. Each call does what that one's does.
 #[derive(Drop)]
 pub struct Machine<const WAYS: usize, const WORDS: usize, const REGS: usize, const DEPTH: usize> {
     machine: ShapedMachine,
@@ -52,9 +50,8 @@ impl<const WAYS: usize, const WORDS: usize, const REGS: usize, const DEPTH: usiz
     REGS,
     DEPTH,
 > {
-    /// A machine in which nothing has happened, over the words of the image. `BadShape` names the
-    /// first number that is out of its range, the image's length last, before any memory is asked
-    /// for; `OutOfMemory` says that there was too little memory. After either nothing is made.
+    /// A machine in which nothing has happened, over the words of the image. The faults are those
+    /// of [`ShapedMachine::new`].
     pub fn new(alloc: Global, shape: Shape, image: &[Word]) -> Result<Self, MakeFault>
         ensures ok { IfOk result
             (λ m. m ≡ record {
@@ -97,7 +94,7 @@ impl<const WAYS: usize, const WORDS: usize, const REGS: usize, const DEPTH: usiz
         self.machine.apply(event)
     }
 
-    /// Makes all events, one after another. [`ShapedMachine::run`] says more.
+    /// Makes all events, one after another.
     pub fn run(&mut self, alloc: Global, events: &[Event]) -> Result<Vec<Answer>, AllocError>
         ensures answers { IfOk result
             (λ answers. answers.items ≡ machine.told self.old.sizes self.old.machine events.now) }
@@ -113,9 +110,7 @@ impl<const WAYS: usize, const WORDS: usize, const REGS: usize, const DEPTH: usiz
         self.machine.run(alloc, events)
     }
 
-    /// What is on its way, each word and load weighed by the pumps that it may still take at most:
-    /// from 0 to `4 * regs * block_words + replies + 2 * write_queue + banks * bank_queue`.
-    /// [`ShapedMachine::weight`] says more.
+    /// What is on its way, as [`ShapedMachine::weight`].
     pub fn weight(&self) -> u64
         ensures value { result ≡ driver.weight self.now.machine }
         ensures within { result ≤ most_weight self.now.sizes }
@@ -125,10 +120,7 @@ impl<const WAYS: usize, const WORDS: usize, const REGS: usize, const DEPTH: usiz
         self.machine.weight()
     }
 
-    /// Makes the driver's event, the first of these that is possible: the first ready reply is
-    /// taken; the first word of the input stack is processed; the lowest bank with an answer has
-    /// its first one arrive; the lowest bank with a command serves it; the write queue's front is
-    /// drained. [`ShapedMachine::pump`] says more.
+    /// As [`ShapedMachine::pump`]: makes the first possible event. `None`: the weight is 0.
     pub fn pump(&mut self) -> Option<(Event, Answer)>
         ensures event { result
             ≡ option_map (with_answer self.old.sizes self.old.machine)
@@ -149,8 +141,8 @@ impl<const WAYS: usize, const WORDS: usize, const REGS: usize, const DEPTH: usiz
         self.machine.pump()
     }
 
-    /// Whether no register is valid, no word is dirty, and the write queue and the queues of the
-    /// banks are empty. [`ShapedMachine::settled`] says more.
+    /// Whether no register is valid, no word dirty, and the queues of writes and banks are empty.
+    /// Banks then hold flat memory; replies may be ready.
     pub fn settled(&self) -> bool
         ensures value { result ≡ machine.settled self.now.machine }
         ensures banks { IsTrue result → (at : ℕ) → at < self.now.sizes.words
@@ -160,99 +152,91 @@ impl<const WAYS: usize, const WORDS: usize, const REGS: usize, const DEPTH: usiz
         self.machine.settled()
     }
 
-    /// The word of memory at `at`, as it now stands in its bank; `None` exactly if memory has no
-    /// such word.
+    /// The word of memory as it stands in its bank, if there is one.
     pub fn bank_word(&self, at: u32) -> Option<Word>
         ensures { result ≡ bank_word_view self.now.sizes self.now.machine at }
     {
         self.machine.bank_word(at)
     }
 
-    /// What a register shows; `None` where there is no such register.
+    /// The register in `slot`, if there is one.
     pub fn register(&self, slot: u32) -> Option<RegisterView>
         ensures { result ≡ views.register_view self.now.machine.cache slot }
     {
         self.machine.register(slot)
     }
 
-    /// What a register shows of the word `i` of its block; `None` where there is no such register
-    /// or no such word.
+    /// Word `i` of a register's block, if there is one.
     pub fn field(&self, slot: u32, i: u32) -> Option<FieldView>
         ensures { result ≡ views.field_view self.now.sizes self.now.machine.cache slot i }
     {
         self.machine.field(slot, i)
     }
 
-    /// The load at `place` among those that wait for word `i` of a register's block, in the order
-    /// in which they were accepted; `None` where there is none.
+    /// The load at `place` among those that wait for a register's word `i`, oldest first.
     pub fn target(&self, slot: u32, i: u32, place: u32) -> Option<Owed>
         ensures { result ≡ views.target_view self.now.machine.cache slot i place }
     {
         self.machine.target(slot, i, place)
     }
 
-    /// What a request for the word at `at` would find now: a hit, a miss that is under way already,
-    /// or a miss. [`ShapedMachine::find`] says more.
+    /// What a request for the word at `at` would find now; `None` if memory has no such word.
     pub fn find(&self, at: u32) -> Option<Lookup>
         ensures { result ≡ lookup self.now.sizes self.now.machine.cache at }
     {
         self.machine.find(at)
     }
 
-    /// How many answers stand in a bank, which may arrive: 0 for a bank that isn't there.
+    /// Answers in a bank that may arrive; 0 without such a bank.
     pub fn answers(&self, bank: u32) -> u32
         ensures { result ≡ length (bank_at self.now.machine.banks bank).answers }
     {
         self.machine.answers(bank)
     }
 
-    /// How many commands wait at a bank to be served: 0 for a bank that isn't there.
+    /// Commands that wait at a bank; 0 without such a bank.
     pub fn commands(&self, bank: u32) -> u32
         ensures { result ≡ length (bank_at self.now.machine.banks bank).queue }
     {
         self.machine.commands(bank)
     }
 
-    /// The command that waits at `place` of a bank's queue, the one that is served next at 0;
-    /// `None` where none waits there or the bank isn't there.
+    /// The command at `place` of a bank's queue, the next one at 0.
     pub fn command_at(&self, bank: u32, place: u32) -> Option<Command>
         ensures { result ≡ slice_get (bank_at self.now.machine.banks bank).queue place }
     {
         self.machine.command_at(bank, place)
     }
 
-    /// The answer that stands at `place` in a bank, which an arrival with the same `place` brings,
-    /// the oldest one at 0; `None` where none stands there or the bank isn't there.
+    /// The answer at `place` of a bank, the oldest at 0. An arrival with this place brings it.
     pub fn answer_at(&self, bank: u32, place: u32) -> Option<BankAnswer>
         ensures { result ≡ slice_get (bank_at self.now.machine.banks bank).answers place }
     {
         self.machine.answer_at(bank, place)
     }
 
-    /// How many words stand in the input stack.
+    /// Words in the input stack.
     pub fn stack_len(&self) -> u32
         ensures { result ≡ length self.now.machine.cache.stack }
     {
         self.machine.stack_len()
     }
 
-    /// The entry of the input stack at `place`, the one that came first at 0; `None` where there is
-    /// none.
+    /// The stack's entry at `place`, the oldest at 0.
     pub fn stack_entry(&self, place: u32) -> Option<Entry>
         ensures { result ≡ slice_get self.now.machine.cache.stack place }
     {
         self.machine.stack_entry(place)
     }
 
-    /// How many words stand in the write queue.
+    /// Words in the write queue.
     pub fn queue_len(&self) -> u32
         ensures { result ≡ length self.now.machine.cache.queue }
     {
         self.machine.queue_len()
     }
 
-    /// The entry of the write queue at `place`, the one that is drained next at 0; `None` where
-    /// there is none.
+    /// The queue's entry at `place`, the next one at 0.
     pub fn queue_entry(&self, place: u32) -> Option<Queued>
         ensures { result ≡ slice_get self.now.machine.cache.queue place }
     {
@@ -266,45 +250,43 @@ impl<const WAYS: usize, const WORDS: usize, const REGS: usize, const DEPTH: usiz
         self.machine.replies_len()
     }
 
-    /// The value that a take at `place` would be answered; `None` where no reply stands there.
+    /// What a take at `place` would answer.
     pub fn reply(&self, place: u32) -> Option<Answer>
         ensures { result ≡ views.reply_view self.now.machine.cache place }
     {
         self.machine.reply(place)
     }
 
-    /// The block that a frame holds; `None` where it is free or there is no such frame.
-    /// [`ShapedMachine::frame_block`] says more.
+    /// The block that a frame holds, if any. Set `s` has the frames from `s * ways` on.
     pub fn frame_block(&self, frame: u32) -> Option<u32>
         ensures { result ≡ views.frame_view self.now.machine.cache frame }
     {
         self.machine.frame_block(frame)
     }
 
-    /// The buffer's word `i` of the block that a frame holds; `None` where it holds none or blocks
-    /// have no such word. [`ShapedMachine::buffer_word`] says more.
+    /// The buffer's word `i` of a frame's block, if there is one. Of a word on its way only the
+    /// code's lanes have come.
     pub fn buffer_word(&self, frame: u32, i: u32) -> Option<Word>
         ensures { result ≡ views.word_view self.now.machine.cache frame i }
     {
         self.machine.buffer_word(frame, i)
     }
 
-    /// The lanes of that word that were stored since the frame took the block, and that memory
-    /// doesn't have yet; `None` where the frame holds no block or blocks have no such word.
+    /// That word's dirty lanes: stored since the frame took the block, and not yet in memory.
     pub fn dirty(&self, frame: u32, i: u32) -> Option<Lanes>
         ensures { result ≡ views.dirty_view self.now.machine.cache frame i }
     {
         self.machine.dirty(frame, i)
     }
 
-    /// The numbers that the machine was made with, beside those of its type.
+    /// The numbers beside those of its type.
     pub fn shape(&self) -> Shape
         ensures { sizes_of WAYS WORDS REGS DEPTH result ≡ self.now.sizes }
     {
         self.machine.sizes().shape()
     }
 
-    /// The same machine, without its numbers in its type.
+    /// The same machine without numbers in its type.
     pub fn into_shaped(self) -> ShapedMachine
         ensures { result ≡ self.entry }
     {

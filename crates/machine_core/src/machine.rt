@@ -25,7 +25,7 @@ use std::alloc::{AllocError, Global};
 use std::marker::Model;
 use write_queue::Queued;
 
-/// A cache unit over the banks of its memory, with the numbers that its [`Sizes`] say.
+/// A cache unit over the banks of its memory, with the numbers of its [`Sizes`].
 #[derive(Drop)]
 pub struct ShapedMachine {
     unit: ShapedUnit,
@@ -45,9 +45,10 @@ impl Model for ShapedMachine {
 }
 
 impl ShapedMachine {
-    /// A machine in which nothing has happened, over the words of the image. `BadShape` names the
-    /// first number that is out of its range, the image's length last, before any memory is asked
-    /// for; `OutOfMemory` says that there was too little memory. After either nothing is made.
+    /// A machine in which nothing has happened, over the words of the image.
+    ///
+    /// `BadShape` names the first number out of its range, the image's length last, before anything
+    /// is allocated. `OutOfMemory`: too little memory, and none is kept.
     pub fn new(alloc: Global, sizes: &Sizes, image: &[Word]) -> Result<Self, MakeFault>
         ensures ok { IfOk result
             (λ m. m ≡ record { sizes = sizes.now; machine = machine.opening sizes.now image.now }) }
@@ -68,8 +69,7 @@ impl ShapedMachine {
         Ok(ShapedMachine { unit, banks })
     }
 
-    /// Makes one event. A refusal names its cause and leaves everything unchanged; a stray word (13)
-    /// never comes. The answer is one of flat memory.
+    /// Makes one event. A stray word (13) never comes.
     #[inline(always)]
     pub fn apply(&mut self, event: Event) -> Answer
         ensures answer { result ≡ (machine.apply self.old.sizes self.old.machine event).answer }
@@ -87,9 +87,8 @@ impl ShapedMachine {
         step(&mut self.unit, &mut self.banks, event)
     }
 
-    /// Makes all events, one after another. Their answers come back, one for each, and are a run of
-    /// flat memory. All memory is taken before the first event: want of it leaves the machine
-    /// unchanged.
+    /// Makes all events, and returns their answers. Memory is allocated first: without it nothing
+    /// changes.
     pub fn run(&mut self, alloc: Global, events: &[Event]) -> Result<Vec<Answer>, AllocError>
         ensures answers { IfOk result
             (λ answers. answers.items ≡ machine.told self.old.sizes self.old.machine events.now) }
@@ -108,12 +107,11 @@ impl ShapedMachine {
         Ok(answers)
     }
 
-    /// What is on its way, each word and load weighed by the pumps that it may still take at most:
-    /// from 0 to `4 * regs * block_words + replies + 2 * write_queue + banks * bank_queue`.
+    /// What is on its way, weighed by the pumps that it may take: from 0 to `4 * regs * block_words
+    /// + replies + 2 * write_queue + banks * bank_queue`.
     ///
-    /// After as many pumps the weight is 0. Then each load, each prefetch and each store with a lane
-    /// that points into memory is accepted, and an eviction is accepted or refused because there is
-    /// no such block (1) or no frame holds it (11).
+    /// After as many pumps it is 0. Then each load, prefetch and store with a lane inside memory is
+    /// accepted, and an eviction is accepted or refused with 1 or 11.
     pub fn weight(&self) -> u64
         ensures value { result ≡ driver.weight self.now.machine }
         ensures within { result ≤ most_weight self.now.sizes }
@@ -128,11 +126,9 @@ impl ShapedMachine {
             + weight_of_registers(&self.unit)
     }
 
-    /// Makes the driver's event, the first of these that is possible: the first ready reply is
-    /// taken; the first word of the input stack is processed; the lowest bank with an answer has its
-    /// first one arrive; the lowest bank with a command serves it; the write queue's front is
-    /// drained. The event and its answer are returned, and the weight is lower than before. `None`
-    /// says that the weight is 0, and changes nothing.
+    /// Makes the first possible event, and returns it with its answer. The order: take the first
+    /// reply, process the stack's first word, arrive from the lowest bank with an answer, serve the
+    /// lowest one with a command, drain. `None`: the weight is 0.
     pub fn pump(&mut self) -> Option<(Event, Answer)>
         ensures event { result
             ≡ option_map (with_answer self.old.sizes self.old.machine)
@@ -154,8 +150,8 @@ impl ShapedMachine {
         Some((event, self.apply(event)))
     }
 
-    /// Whether no register is valid, no word is dirty, and the write queue and the queues of the
-    /// banks are empty. The banks then hold the words of flat memory; replies may still stand ready.
+    /// Whether no register is valid, no word dirty, and the queues of writes and banks are empty.
+    /// Banks then hold flat memory; replies may be ready.
     pub fn settled(&self) -> bool
         ensures value { result ≡ machine.settled self.now.machine }
         ensures banks { IsTrue result → (at : ℕ) → at < self.now.sizes.words
@@ -165,106 +161,98 @@ impl ShapedMachine {
         self.unit.clean() && all_served(&self.banks, self.unit.sizes().banks)
     }
 
-    /// The word of memory at `at`, as it now stands in its bank; `None` exactly if memory has no such
-    /// word.
+    /// The word of memory as it stands in its bank, if there is one.
     pub fn bank_word(&self, at: u32) -> Option<Word>
         ensures { result ≡ bank_word_view self.now.sizes self.now.machine at }
     {
         self.banks.word(at)
     }
 
-    /// What a register shows; `None` where there is no such register.
+    /// The register in `slot`, if there is one.
     pub fn register(&self, slot: u32) -> Option<RegisterView>
         ensures { result ≡ views.register_view self.now.machine.cache slot }
     {
         self.unit.register(slot)
     }
 
-    /// What a register shows of the word `i` of its block; `None` where there is no such register or
-    /// no such word.
+    /// Word `i` of a register's block, if there is one.
     pub fn field(&self, slot: u32, i: u32) -> Option<FieldView>
         ensures { result ≡ views.field_view self.now.sizes self.now.machine.cache slot i }
     {
         self.unit.field(slot, i)
     }
 
-    /// The load at `place` among those that wait for word `i` of a register's block, in the order in
-    /// which they were accepted; `None` where there is none.
+    /// The load at `place` among those that wait for a register's word `i`, oldest first.
     pub fn target(&self, slot: u32, i: u32, place: u32) -> Option<Owed>
         ensures { result ≡ views.target_view self.now.machine.cache slot i place }
     {
         self.unit.target(slot, i, place)
     }
 
-    /// The numbers that the machine was made with.
+    /// The numbers it was made with.
     pub fn sizes(&self) -> &Sizes
         ensures { result.now ≡ self.now.sizes }
     {
         self.unit.sizes()
     }
 
-    /// What a request for the word at `at` would find now: a hit, a miss that is under way already,
-    /// or a miss. `None` says that memory has no such word. Nothing changes.
+    /// What a request for the word at `at` would find now; `None` if memory has no such word.
     pub fn find(&self, at: u32) -> Option<Lookup>
         ensures { result ≡ lookup self.now.sizes self.now.machine.cache at }
     {
         self.unit.find(at)
     }
 
-    /// How many answers stand in a bank, which may arrive: 0 for a bank that isn't there.
+    /// Answers in a bank that may arrive; 0 without such a bank.
     pub fn answers(&self, bank: u32) -> u32
         ensures { result ≡ length (bank_at self.now.machine.banks bank).answers }
     {
         self.banks.answers(bank)
     }
 
-    /// How many commands wait at a bank to be served: 0 for a bank that isn't there.
+    /// Commands that wait at a bank; 0 without such a bank.
     pub fn commands(&self, bank: u32) -> u32
         ensures { result ≡ length (bank_at self.now.machine.banks bank).queue }
     {
         self.banks.queued(bank)
     }
 
-    /// The command that waits at `place` of a bank's queue, the one that is served next at 0; `None`
-    /// where none waits there or the bank isn't there.
+    /// The command at `place` of a bank's queue, the next one at 0.
     pub fn command_at(&self, bank: u32, place: u32) -> Option<Command>
         ensures { result ≡ slice_get (bank_at self.now.machine.banks bank).queue place }
     {
         self.banks.command_at(bank, place)
     }
 
-    /// The answer that stands at `place` in a bank, which an arrival with the same `place` brings, the
-    /// oldest one at 0; `None` where none stands there or the bank isn't there.
+    /// The answer at `place` of a bank, the oldest at 0. An arrival with this place brings it.
     pub fn answer_at(&self, bank: u32, place: u32) -> Option<BankAnswer>
         ensures { result ≡ slice_get (bank_at self.now.machine.banks bank).answers place }
     {
         self.banks.answer_at(bank, place)
     }
 
-    /// How many words stand in the input stack.
+    /// Words in the input stack.
     pub fn stack_len(&self) -> u32
         ensures { result ≡ length self.now.machine.cache.stack }
     {
         self.unit.stack_len()
     }
 
-    /// The entry of the input stack at `place`, the one that came first at 0; `None` where there is
-    /// none.
+    /// The stack's entry at `place`, the oldest at 0.
     pub fn stack_entry(&self, place: u32) -> Option<Entry>
         ensures { result ≡ slice_get self.now.machine.cache.stack place }
     {
         self.unit.stack_entry(place)
     }
 
-    /// How many words stand in the write queue.
+    /// Words in the write queue.
     pub fn queue_len(&self) -> u32
         ensures { result ≡ length self.now.machine.cache.queue }
     {
         self.unit.queue_len()
     }
 
-    /// The entry of the write queue at `place`, the one that is drained next at 0; `None` where
-    /// there is none.
+    /// The queue's entry at `place`, the next one at 0.
     pub fn queue_entry(&self, place: u32) -> Option<Queued>
         ensures { result ≡ slice_get self.now.machine.cache.queue place }
     {
@@ -278,32 +266,29 @@ impl ShapedMachine {
         self.unit.replies_len()
     }
 
-    /// The value that a take at `place` would be answered; `None` where no reply stands there.
+    /// What a take at `place` would answer.
     pub fn reply(&self, place: u32) -> Option<Answer>
         ensures { result ≡ views.reply_view self.now.machine.cache place }
     {
         self.unit.reply(place)
     }
 
-    /// The block that a frame holds; `None` where it is free or there is no such frame. Set `s` has
-    /// the frames from `s * ways` on.
+    /// The block that a frame holds, if any. Set `s` has the frames from `s * ways` on.
     pub fn frame_block(&self, frame: u32) -> Option<u32>
         ensures { result ≡ views.frame_view self.now.machine.cache frame }
     {
         self.unit.frame_block(frame)
     }
 
-    /// The buffer's word `i` of the block that a frame holds; `None` where it holds none or blocks
-    /// have no such word. Of a word that is still on its way only the lanes of its register's code
-    /// have come to the buffer.
+    /// The buffer's word `i` of a frame's block, if there is one. Of a word on its way only the
+    /// code's lanes have come.
     pub fn buffer_word(&self, frame: u32, i: u32) -> Option<Word>
         ensures { result ≡ views.word_view self.now.machine.cache frame i }
     {
         self.unit.buffer_word(frame, i)
     }
 
-    /// The lanes of that word that were stored since the frame took the block, and that memory
-    /// doesn't have yet; `None` where the frame holds no block or blocks have no such word.
+    /// That word's dirty lanes: stored since the frame took the block, and not yet in memory.
     pub fn dirty(&self, frame: u32, i: u32) -> Option<Lanes>
         ensures { result ≡ views.dirty_view self.now.machine.cache frame i }
     {
@@ -311,7 +296,7 @@ impl ShapedMachine {
     }
 }
 
-// The first number that is out of its range, the image's length last.
+// The first number out of its range, the image's length last.
 fn bad_field(sizes: &Sizes, image: usize) -> Option<ShapeField>
     ensures { result ≡ bad_size sizes.now image }
 {

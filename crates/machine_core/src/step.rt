@@ -12,9 +12,8 @@ use cache_unit::{Request, ShapedUnit};
 use flat_model::{Answer, Event};
 use memory_banks::Banks;
 
-/// Makes one event: its answer, and what it leaves of the unit and the banks.
-// Each kind of event is a function that isn't inlined: a function pays at its entry for all its
-// locals, and so an event pays for its own alone.
+/// Makes one event. Each kind is a function that isn't inlined, and so pays for its own locals
+/// alone.
 #[inline(always)]
 pub(crate) fn step(unit: &mut ShapedUnit, banks: &mut Banks, event: Event) -> Answer
     requires limit { banks.old.limit ≡ unit.old.sizes.bank_queue }
@@ -35,7 +34,7 @@ pub(crate) fn step(unit: &mut ShapedUnit, banks: &mut Banks, event: Event) -> An
     }
 }
 
-/// Makes the events, one after another, and puts their answers into the list.
+/// Makes the events in order, and lists their answers.
 pub(crate) fn walk(
     unit: &mut ShapedUnit,
     banks: &mut Banks,
@@ -65,7 +64,6 @@ pub(crate) fn walk(
     }
 }
 
-// A request goes to the unit, and what it sends to the banks.
 #[inline(always)]
 fn ask(unit: &mut ShapedUnit, banks: &mut Banks, request: Request) -> Answer
     requires { banks.old.limit ≡ unit.old.sizes.bank_queue }
@@ -76,7 +74,6 @@ fn ask(unit: &mut ShapedUnit, banks: &mut Banks, request: Request) -> Answer
     unit.request(request, banks)
 }
 
-// The front of the write queue goes to its bank.
 #[inline(never)]
 fn drain(unit: &mut ShapedUnit, banks: &mut Banks) -> Answer
     requires { banks.old.limit ≡ unit.old.sizes.bank_queue }
@@ -101,7 +98,7 @@ fn serve(banks: &mut Banks, bank: u32) -> Answer
     }
 }
 
-// The bank's answer at a place goes to the unit, and stays where the unit refuses it.
+// The answer goes to the unit, and stays if the unit refuses it.
 #[inline(never)]
 fn bring(unit: &mut ShapedUnit, banks: &mut Banks, bank: u32, place: u32) -> Answer
     ensures { Makes (machine.arrive_from unit.old.sizes (machine_of unit.old banks.old) bank place

@@ -8,8 +8,7 @@ ghost use Rattle.machine_core.specs.Pump.{total, bank_weight, field_weight, regi
 use cache_unit::ShapedUnit;
 use memory_banks::Banks;
 
-/// What is on its way at the banks: 4 for each queued read, 1 for each queued write and 3 for each
-/// answer.
+/// 4 for each queued read, 1 for each queued write, 3 for each answer.
 pub(crate) fn weight_of_banks(banks: &Banks, number: u32) -> u64
     requires number { length banks.now.banks ≡ number }
     requires few { number ≤ MAX_BANKS }
@@ -31,8 +30,7 @@ fn weight_of_bank(banks: &Banks, bank: u32) -> u64
     commands + 3 * u64::from(banks.answers(bank))
 }
 
-/// What the loads add that wait for the words of valid registers: 1 for each load that waits for a
-/// word beyond the first.
+/// 1 for each load behind the first one of its word.
 pub(crate) fn weight_of_registers(unit: &ShapedUnit) -> u64
     requires few { unit.now.sizes.regs ≤ MAX_REGS }
     requires few_words { unit.now.sizes.block_words ≤ MAX_BLOCK_WORDS }
@@ -42,7 +40,7 @@ pub(crate) fn weight_of_registers(unit: &ShapedUnit) -> u64
     ensures value { result ≡ total register_weight unit.now.cache.registers }
     ensures small { result < 2 ^ 48 }
 {
-    // A load weighs only behind another one, and mostly one load waits at most.
+    // One load alone adds nothing, and mostly there is no other.
     if unit.owed() - unit.replies_len() < 2 {
         return 0;
     }

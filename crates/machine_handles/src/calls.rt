@@ -19,9 +19,6 @@ use machine_core::ShapedMachine;
 use std::alloc::Global;
 
 /// Makes one event.
-///
-/// 0: it was made, and `answer` is the machine's. 3: the handle is closed. 107: rounds are under way.
-/// 2: the row is no event. They are looked for in this order, and after each of them all is as it was.
 pub fn apply(alloc: Global, handle: &mut Handle, event: &EventRow, answer: &mut AnswerRow) -> u32
     ensures status { result ≡ apply_status (standing handle.old) (event_of event.now) }
     ensures answer { answer.new
@@ -60,11 +57,7 @@ fn apply_in(kept: &mut Kept, event: &EventRow, answer: &mut AnswerRow) -> u32
     }
 }
 
-/// Makes the driver's event: takes a ready reply, processes a word, has an answer arrive, serves a
-/// command or drains a word, the first of these that is possible.
-///
-/// 1: it was made, `event` says which it was, and `answer` is the machine's. 0: nothing is on its
-/// way. 3: the handle is closed. 107: rounds are under way. After 0, 3 and 107 all is as it was.
+/// Makes the first driver's event that is possible: a take, process, arrive, serve or drain.
 pub fn pump(alloc: Global, handle: &mut Handle, event: &mut EventRow, answer: &mut AnswerRow) -> u32
     ensures status { result ≡ pump_status (standing handle.old) }
     ensures event { event.new
@@ -81,7 +74,6 @@ pub fn pump(alloc: Global, handle: &mut Handle, event: &mut EventRow, answer: &m
     status
 }
 
-// Makes the driver's event, as the machine shows it.
 #[tactic(auto, unfolding(machine_core::specs::AnyMachine::answered, machine_core::specs::AnyMachine::after_event, machine_core::specs::AnyMachine::pump_tells, machine_core::specs::AnyMachine::pump_leaves))]
 fn pump_machine(machine: &mut ShapedMachine) -> Option<(Event, Answer)>
     ensures told { result ≡ pump_tells machine.old }
@@ -90,7 +82,6 @@ fn pump_machine(machine: &mut ShapedMachine) -> Option<(Event, Answer)>
     machine.pump()
 }
 
-// Makes the driver's event, unless rounds make them.
 fn pump_in(kept: &mut Kept, event: &mut EventRow, answer: &mut AnswerRow) -> u32
     ensures status { result ≡ pump_status (Some (standing_of kept.old)) }
     ensures event { event.new
@@ -115,7 +106,7 @@ fn pump_in(kept: &mut Kept, event: &mut EventRow, answer: &mut AnswerRow) -> u32
     }
 }
 
-/// What is on its way, weighed. 0: `weight` is it. 3: the handle is closed, and `weight` is as it was.
+/// What is on its way, weighed.
 #[tactic(auto, unfolding(machine_core::specs::AnyMachine::weight_of))]
 pub fn weight(alloc: Global, handle: &mut Handle, weight: &mut u64) -> u32
     ensures status { result ≡ told_status (behind handle.old) }
@@ -131,7 +122,7 @@ pub fn weight(alloc: Global, handle: &mut Handle, weight: &mut u64) -> u32
     DONE
 }
 
-/// Whether nothing is on its way to memory. 1: nothing is. 0: something is. 3: the handle is closed.
+/// Whether nothing is on its way to memory.
 #[tactic(auto, unfolding(machine_core::specs::AnyMachine::is_settled))]
 pub fn settled(alloc: Global, handle: &mut Handle) -> u32
     ensures status { result ≡ test_status (option_map is_settled (behind handle.old)) }
@@ -145,8 +136,7 @@ pub fn settled(alloc: Global, handle: &mut Handle) -> u32
     u32::from(settled)
 }
 
-/// The word of memory at `at`, as it stands in its bank. 1: `word` is it. 0: there is no such word.
-/// 3: the handle is closed. After 0 and 3 `word` is as it was.
+/// The word of memory at `at`, as it stands in its bank.
 #[tactic(auto, unfolding(machine_core::specs::AnyMachine::bank_shown))]
 pub fn bank_word(alloc: Global, handle: &mut Handle, at: u32, word: &mut Word) -> u32
     ensures status { result
@@ -169,8 +159,7 @@ pub fn bank_word(alloc: Global, handle: &mut Handle, at: u32, word: &mut Word) -
     }
 }
 
-/// What the register `slot` shows. 1: `row` is it. 0: there is no such register. 3: the handle is
-/// closed. After 0 and 3 `row` is as it was.
+/// What the register `slot` shows.
 #[tactic(auto, unfolding(machine_core::specs::AnyMachine::register_shown))]
 pub fn register(alloc: Global, handle: &mut Handle, slot: u32, row: &mut RegisterRow) -> u32
     ensures status { result
@@ -194,8 +183,7 @@ pub fn register(alloc: Global, handle: &mut Handle, slot: u32, row: &mut Registe
     }
 }
 
-/// What the register `slot` shows of word `i` of its block. 1: `row` is it. 0: there is no such
-/// register or word. 3: the handle is closed. After 0 and 3 `row` is as it was.
+/// Word `i` of a register's block.
 #[tactic(auto, unfolding(machine_core::specs::AnyMachine::field_shown))]
 pub fn field(alloc: Global, handle: &mut Handle, slot: u32, i: u32, row: &mut FieldRow) -> u32
     ensures status { result
@@ -219,9 +207,7 @@ pub fn field(alloc: Global, handle: &mut Handle, slot: u32, i: u32, row: &mut Fi
     }
 }
 
-/// The load at `place` among those that wait for word `i` of the block of register `slot`, in the
-/// order in which they were accepted. 1: `row` is it. 0: there is none. 3: the handle is closed.
-/// After 0 and 3 `row` is as it was.
+/// The load at `place` of those that wait for a register's word `i`, oldest first.
 #[tactic(auto, unfolding(machine_core::specs::AnyMachine::target_shown))]
 pub fn target(
     alloc: Global,

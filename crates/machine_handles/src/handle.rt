@@ -1,8 +1,6 @@
-//! A handle: what a caller in C holds of a machine.
-//!
-//! The machine lies in memory of its own, with the rounds that were begun with it, and the handle says where. `keep` makes the
-//! pointer of a box and `taken` a box of the pointer; both, and `mark`, which tells whether there is one, are proved by hand.
-//! What is said of them names no pointer: a machine is taken out as a box, and a box is kept.
+//! What a caller in C holds of a machine: the handle says where it and its rounds lie. `keep` and
+//! `taken`, which make a pointer of a box and back, and `mark` are proved by hand. What is said of
+//! them names no pointer.
 ghost use Rattle.std.specs.Prelude.{◌≡◌, ◌≢◌, IfSome, IsNone, None, Some, is_some};
 ghost use Rattle.machine_handles.specs.declared.kept.Kept.{Kept};
 
@@ -10,21 +8,21 @@ use crate::kept::Kept;
 use std::alloc::Global;
 use std::marker::Model;
 
-/// What C may know of a machine: where it is.
+/// Where a machine is.
 #[repr(C)]
 #[derive(Drop)]
 pub struct Opaque {
     hidden: u8,
 }
 
-/// A machine that C holds. All zeros are a closed handle.
+/// A machine that C holds; closed if all zeros.
 #[repr(C)]
 #[derive(Drop)]
 pub struct Handle {
     /// 0 if no machine is behind it.
     pub open: u32,
     at: *mut Opaque,
-    /// The machine and its rounds, while the handle is open.
+    /// The machine and rounds of an open handle.
     pub ghost kept: { Kept },
 }
 
@@ -41,7 +39,7 @@ impl Model for Handle {
 impl Handle {
     ghost use Rattle.machine_handles.specs.Behind.{standing, standing_of};
 
-    /// Takes the machine and its rounds out; the handle is then closed.
+    /// Takes the machine out, and closes the handle.
     pub(crate) fn take(&mut self, alloc: Global) -> Option<Box<Kept, Global>>
         ensures kept { IfSome result (λ b. standing self.old ≡ Some (standing_of b.value)) }
         ensures closed { IsNone result → standing self.old ≡ None }
@@ -62,7 +60,6 @@ impl Handle {
         self.mark() != 0
     }
 
-    /// The mark: 0 if no machine is behind it.
     fn mark(&mut self) -> u32
         ensures { (result ≡ self.old.open) × (self.new ≡ self.old) }
     {
@@ -77,7 +74,6 @@ impl Handle {
         unsafe { Box::from_raw(alloc, self.at as *mut Kept) }
     }
 
-    /// Keeps a machine with its rounds in a closed handle.
     pub(crate) fn keep(&mut self, kept: Box<Kept, Global>)
         requires closed { standing self.old ≡ None }
         ensures { standing self.new ≡ Some (standing_of kept.value) }

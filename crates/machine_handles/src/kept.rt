@@ -4,7 +4,7 @@ ghost use Rattle.std.specs.Prelude.{◌≡◌, is_none};
 use machine_core::ShapedMachine;
 use round_driver::Rounds;
 
-/// A machine, and the rounds that were begun with it.
+/// A machine, and its rounds if begun.
 #[derive(Drop)]
 pub struct Kept {
     pub(crate) machine: ShapedMachine,
@@ -12,7 +12,7 @@ pub struct Kept {
 }
 
 impl Kept {
-    /// Whether the caller makes the machine's events, and no rounds do.
+    /// Whether no rounds make its events.
     pub(crate) fn is_idle(&self) -> bool
         ensures { result ≡ is_none self.now.rounds }
     {

@@ -1,8 +1,9 @@
-//! Machines behind handles: what a caller in another language holds of a machine, and the calls on it.
+//! Machines behind handles, for callers in other languages.
 //!
-//! A [`Handle`] is a mark and a pointer. All zeros are a closed one. Every function is total: each
-//! number, each row and each length has an answer. Events, answers and what a machine shows go as
-//! rows of plain numbers, and what a call says is a number.
+//! [`open_machine`] comes first; its caller is the C library. A [`Handle`] is a mark and a pointer;
+//! all zeros are a closed one. Each number, row and length has an answer. Events, answers and parts
+//! go as rows of plain numbers. `kroft.h` has each result, in the order of the checks. After a
+//! refusal all is as it was.
 #![tactic(auto)]
 
 mod calls;

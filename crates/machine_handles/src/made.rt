@@ -12,10 +12,10 @@ use thiserror::Error;
 /// Why a machine isn't opened.
 #[derive(Clone, Copy, Debug, Error)]
 pub enum OpenFault {
-    /// There is no machine of these ways, words a block, registers and places.
+    /// One of the first four numbers is out of its range.
     #[error("there is no such machine")]
     NoSuchMachine,
-    /// The first number of the others that is out of its range.
+    /// The first other one that is.
     #[error("{}", MakeFault::BadShape(*.0))]
     BadShape(ShapeField),
     /// There was too little memory.
@@ -40,7 +40,6 @@ impl From<MakeFault> for OpenFault {
     }
 }
 
-// How a number that is out of its range is told.
 fn refused(field: ShapeField) -> OpenFault
     ensures { result ≡ refused field }
 {
@@ -52,11 +51,8 @@ fn refused(field: ShapeField) -> OpenFault
     }
 }
 
-/// A machine in which nothing has happened, over the words of the image.
-///
-/// `NoSuchMachine` if one of the row's first four numbers is out of its range; `BadShape` names the
-/// first of the others that is, the image's length last, before any memory is asked for;
-/// `OutOfMemory` says that there was too little memory.
+/// A machine in which nothing has happened, over the image. Numbers are judged in the row's order,
+/// the image's length last, before anything is allocated.
 pub(crate) fn made(
     alloc: Global,
     row: &ShapeRow,

@@ -14,19 +14,12 @@ use crate::views::ShapeRow;
 use flat_model::{ShapeField, Word};
 use std::alloc::Global;
 
-/// There is no machine of these first four numbers.
 const NO_SUCH_MACHINE: u32 = 100;
 
 /// A machine is behind the handle already.
 const OPEN_ALREADY: u32 = 102;
 
-/// Opens a machine over the words of an image, behind a closed handle.
-///
-/// 0: it stands behind the handle, and nothing has happened in it. 102: a machine is behind the
-/// handle already. 100: no machine has these ways, words a block, registers and places.
-/// 5 to 10 and 13: the number of the first member of the shape that is out of its range, 13 that the
-/// image hasn't as many words as memory. 101: there was too little memory. They are looked for in
-/// this order, and after each of them the handle is as it was, and no memory is kept.
+/// Opens a machine over an image, behind a closed handle.
 pub fn open_machine(alloc: Global, handle: &mut Handle, shape: &ShapeRow, image: &[Word]) -> u32
     ensures status { IsTold result
         (open_fault (behind handle.old) shape.now (length image.now)) }
@@ -40,8 +33,7 @@ pub fn open_machine(alloc: Global, handle: &mut Handle, shape: &ShapeRow, image:
     }
 }
 
-/// Gives the machine up, with its rounds and all its memory. 0: it is given up, and the handle is closed. 3: the
-/// handle was closed already.
+/// Gives the machine up, with its rounds.
 pub fn free_machine(alloc: Global, handle: &mut Handle) -> u32
     ensures status { result ≡ told_status (standing handle.old) }
     ensures closed { standing handle.new ≡ None }
@@ -78,7 +70,6 @@ fn open_into(
     Ok(())
 }
 
-// A machine without rounds, in memory of its own.
 fn boxed(alloc: Global, shape: &ShapeRow, image: &[Word]) -> Result<Box<Kept, Global>, OpenFault>
     ensures ok { IfOk result
         (λ b. alone (made.opened (sizes_of shape.now) image.now) ≡ standing_of b.value) }

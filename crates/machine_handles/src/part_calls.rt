@@ -1,4 +1,4 @@
-//! The calls that show the parts of a machine behind a handle.
+//! Calls that show a machine's parts.
 ghost use Rattle.std.specs.Prelude.{◌≡◌, Some};
 ghost use Rattle.std.specs.Option.{option_map};
 ghost use Rattle.machine_handles.specs.Behind.{standing, behind};
@@ -29,8 +29,7 @@ fn tell<T: Copy>(found: Option<T>, row: &mut T) -> u32
     }
 }
 
-/// What a frame shows. Set `s` has the frames from `s` times its ways on. 1: `row` is it. 0: there is no
-/// such frame. 3: the handle is closed. After 0 and 3 `row` is as it was.
+/// What a frame shows.
 pub fn frame(alloc: Global, handle: &mut Handle, frame: u32, row: &mut FrameRow) -> u32
     ensures status { result
         ≡ found_status (option_map (λ m. parts.frame_shown m frame) (behind handle.old)) }
@@ -47,8 +46,7 @@ pub fn frame(alloc: Global, handle: &mut Handle, frame: u32, row: &mut FrameRow)
     tell(found, row)
 }
 
-/// Word `i` of the block that a frame holds. 1: `row` is it. 0: there is no such frame, it is free, or
-/// blocks have no such word. 3: the handle is closed. After 0 and 3 `row` is as it was.
+/// Word `i` of a frame's block.
 pub fn frame_word(
     alloc: Global,
     handle: &mut Handle,
@@ -71,8 +69,7 @@ pub fn frame_word(
     tell(found, row)
 }
 
-/// The word at `place` of the input stack, the one that came first at 0. 1: `row` is it. 0: there is
-/// none. 3: the handle is closed. After 0 and 3 `row` is as it was.
+/// The stack's word at `place`, the oldest at 0.
 pub fn stack_entry(alloc: Global, handle: &mut Handle, place: u32, row: &mut ArrivalRow) -> u32
     ensures status { result
         ≡ found_status (option_map (λ m. parts.stack_shown m place) (behind handle.old)) }
@@ -89,8 +86,7 @@ pub fn stack_entry(alloc: Global, handle: &mut Handle, place: u32, row: &mut Arr
     tell(found, row)
 }
 
-/// The word at `place` of the write queue, the one that is drained next at 0. 1: `row` is it. 0: there
-/// is none. 3: the handle is closed. After 0 and 3 `row` is as it was.
+/// The queue's word at `place`, the next one at 0.
 pub fn queue_entry(alloc: Global, handle: &mut Handle, place: u32, row: &mut QueuedRow) -> u32
     ensures status { result
         ≡ found_status (option_map (λ m. parts.queue_shown m place) (behind handle.old)) }
@@ -107,9 +103,7 @@ pub fn queue_entry(alloc: Global, handle: &mut Handle, place: u32, row: &mut Que
     tell(found, row)
 }
 
-/// The command at `place` among those that wait at a bank, the one that is served next at 0. 1: `row`
-/// is it. 0: there is no such bank or command. 3: the handle is closed. After 0 and 3 `row` is as it
-/// was.
+/// A bank's command at `place`, the next one at 0.
 pub fn bank_command(
     alloc: Global,
     handle: &mut Handle,
@@ -132,9 +126,7 @@ pub fn bank_command(
     tell(found, row)
 }
 
-/// The answer at `place` of a bank, the oldest one at 0: an arrival with this place brings it. 1: `row`
-/// is it. 0: there is no such bank or answer. 3: the handle is closed. After 0 and 3 `row` is as it
-/// was.
+/// A bank's answer at `place`, the oldest at 0. An arrival with this place brings it.
 pub fn bank_answer(
     alloc: Global,
     handle: &mut Handle,
@@ -157,8 +149,7 @@ pub fn bank_answer(
     tell(found, row)
 }
 
-/// The answer that a take at `place` would get: the value that stands ready there, the first one at 0.
-/// 1: `row` is it. 0: none stands there. 3: the handle is closed. After 0 and 3 `row` is as it was.
+/// What a take at `place` would be answered.
 pub fn reply(alloc: Global, handle: &mut Handle, place: u32, row: &mut AnswerRow) -> u32
     ensures status { result
         ≡ found_status (option_map (λ m. parts.reply_shown m place) (behind handle.old)) }
@@ -175,10 +166,7 @@ pub fn reply(alloc: Global, handle: &mut Handle, place: u32, row: &mut AnswerRow
     tell(found, row)
 }
 
-/// What a request for the word at `at` would find now. Nothing changes. 1: `lookup` is 0, a hit: the word is
-/// at hand. It is 1: a register waits for the word, and the request would join it. Or it is 2: no frame
-/// holds the block, a miss. 0: memory has no such word. 3: the handle is closed. After 0 and 3 `lookup` is
-/// as it was.
+/// What a request for this word would find.
 pub fn find(alloc: Global, handle: &mut Handle, at: u32, lookup: &mut u32) -> u32
     ensures status { result
         ≡ found_status (option_map (λ m. parts.lookup_shown m at) (behind handle.old)) }

@@ -1,45 +1,43 @@
-//! What the frames, the input stack, the write queue and the banks of a machine show, as rows of
-//! plain numbers.
+//! What frames, stack, queue and banks show, as rows.
 ghost use Rattle.std.specs.Prelude.{◌≡◌};
 ghost use Rattle.machine_handles.specs.Parts as parts;
 
 use flat_model::{Lanes, Word};
 use machine_core::{BankAnswer, Command, Entry, Lookup, Queued};
 
-/// What a frame of the cache shows of itself.
+/// A frame of the cache.
 #[repr(C)]
 #[derive(Clone, Copy)]
 pub struct FrameRow {
-    /// 1 if it holds a block, 0 if it is free.
+    /// 1 if it holds a block.
     pub valid: u32,
     /// The block, 0 if it is free.
     pub block: u32,
 }
 
-/// A word of the block that a frame holds.
+/// A word of a frame's block.
 #[repr(C)]
 #[derive(Clone, Copy)]
 pub struct FrameWordRow {
-    /// The bytes in the buffer. Of a word that is still on its way only the lanes of its register's
-    /// code have come to the buffer.
+    /// The buffer's bytes. Of a word on its way only the code's lanes have come.
     pub word: Word,
-    /// The lanes that were stored since the frame took the block, and that memory doesn't have yet.
+    /// Lanes stored since the frame took the block, not yet in memory.
     pub dirty: u8,
 }
 
-/// A word on its way from its bank to a register.
+/// A word on its way from its bank.
 #[repr(C)]
 #[derive(Clone, Copy)]
 pub struct ArrivalRow {
     /// The register.
     pub slot: u32,
-    /// The number of the word in the register's block.
+    /// Word of the register's block.
     pub i: u32,
-    /// The word as its bank had it when it served the command.
+    /// As it was when the bank served.
     pub word: Word,
 }
 
-/// A word that waits in the write queue.
+/// A word of the write queue.
 #[repr(C)]
 #[derive(Clone, Copy)]
 pub struct QueuedRow {
@@ -47,25 +45,25 @@ pub struct QueuedRow {
     pub block: u32,
     /// The address of the word.
     pub at: u32,
-    /// The bytes to be written: only those in the lanes count.
+    /// Only bytes in the lanes count.
     pub word: Word,
     /// The lanes to be written.
     pub lanes: u8,
 }
 
-/// A command that waits at a bank. What doesn't apply to its kind is 0.
+/// A bank's command; 0 where it doesn't apply.
 #[repr(C)]
 #[derive(Clone, Copy)]
 pub struct CommandRow {
-    /// 0: the word is read for a register. 1: it is written.
+    /// 0: read for a register. 1: written.
     pub kind: u32,
-    /// The register that asks, if it is read.
+    /// The register of a read.
     pub slot: u32,
-    /// The number of the word in the register's block, if it is read.
+    /// A read's word of the register's block.
     pub i: u32,
-    /// Where the word lies in the bank, counted from 0.
+    /// The word's place in the bank, from 0.
     pub place: u32,
-    /// The bytes to be written: only those in the lanes count.
+    /// Only bytes in the lanes count.
     pub word: Word,
     /// The lanes to be written.
     pub lanes: u8,
@@ -78,7 +76,6 @@ const ZERO_WORD: Word = Word {
     b3: 0,
 };
 
-/// A frame as a row: free, or with this block.
 pub(crate) fn frame_row(block: Option<u32>) -> FrameRow
     ensures { result ≡ parts.frame_row block }
 {
@@ -88,7 +85,6 @@ pub(crate) fn frame_row(block: Option<u32>) -> FrameRow
     }
 }
 
-/// A word of a frame's block as a row, if there is one.
 pub(crate) fn frame_word_row(word: Option<Word>, dirty: Option<Lanes>) -> Option<FrameWordRow>
     ensures { result ≡ parts.frame_word_row word dirty }
 {
@@ -101,7 +97,6 @@ pub(crate) fn frame_word_row(word: Option<Word>, dirty: Option<Lanes>) -> Option
     }
 }
 
-/// An entry of the input stack as a row.
 pub(crate) fn entry_row(entry: Entry) -> ArrivalRow
     ensures { result ≡ parts.entry_row entry }
 {
@@ -123,7 +118,6 @@ pub(crate) fn bank_answer_row(answer: BankAnswer) -> ArrivalRow
     }
 }
 
-/// A word of the write queue as a row.
 pub(crate) fn queued_row(queued: Queued) -> QueuedRow
     ensures { result ≡ parts.queued_row queued }
 {
@@ -159,7 +153,7 @@ pub(crate) fn command_row(command: Command) -> CommandRow
     }
 }
 
-/// What a request finds, by its number: 0 a hit, 1 a miss that is under way, 2 a miss.
+/// 0 a hit, 1 a join, 2 a miss.
 pub(crate) fn lookup_number(lookup: Lookup) -> u32
     ensures { result ≡ parts.lookup_number lookup }
 {

@@ -1,4 +1,4 @@
-//! What the parts of a machine show, as rows. `None` is no such thing.
+//! A machine's parts as rows; `None` if there is none.
 ghost use Rattle.std.specs.Prelude.{◌≡◌};
 ghost use Rattle.machine_handles.specs.Parts as parts;
 
@@ -9,7 +9,7 @@ use crate::part_rows::{
 use flat_judge::{AnswerRow, answer_row};
 use machine_core::ShapedMachine;
 
-// A frame. Set `s` has the frames from `s` times its ways on.
+// Set `s` has the frames from `s` times its ways on.
 #[tactic(auto, unfolding(crate::specs::Parts::frame_shown))]
 pub(crate) fn frame_of(machine: &ShapedMachine, frame: u32) -> Option<FrameRow>
     ensures { result ≡ parts.frame_shown machine.now frame }
@@ -23,7 +23,6 @@ pub(crate) fn frame_of(machine: &ShapedMachine, frame: u32) -> Option<FrameRow>
     }
 }
 
-// Word `i` of the block that a frame holds.
 #[tactic(auto, unfolding(crate::specs::Parts::frame_word_shown))]
 pub(crate) fn frame_word_of(machine: &ShapedMachine, frame: u32, i: u32) -> Option<FrameWordRow>
     ensures { result ≡ parts.frame_word_shown machine.now frame i }
@@ -31,7 +30,6 @@ pub(crate) fn frame_word_of(machine: &ShapedMachine, frame: u32, i: u32) -> Opti
     frame_word_row(machine.buffer_word(frame, i), machine.dirty(frame, i))
 }
 
-// The entry of the input stack at `place`, the one that came first at 0.
 #[tactic(auto, unfolding(crate::specs::Parts::stack_shown))]
 pub(crate) fn stack_entry_of(machine: &ShapedMachine, place: u32) -> Option<ArrivalRow>
     ensures { result ≡ parts.stack_shown machine.now place }
@@ -39,7 +37,6 @@ pub(crate) fn stack_entry_of(machine: &ShapedMachine, place: u32) -> Option<Arri
     machine.stack_entry(place).map(entry_row)
 }
 
-// The word of the write queue at `place`, the one that is drained next at 0.
 #[tactic(auto, unfolding(crate::specs::Parts::queue_shown))]
 pub(crate) fn queue_entry_of(machine: &ShapedMachine, place: u32) -> Option<QueuedRow>
     ensures { result ≡ parts.queue_shown machine.now place }
@@ -47,7 +44,6 @@ pub(crate) fn queue_entry_of(machine: &ShapedMachine, place: u32) -> Option<Queu
     machine.queue_entry(place).map(queued_row)
 }
 
-// The command that waits at `place` of a bank's queue, the one that is served next at 0.
 #[tactic(auto, unfolding(crate::specs::Parts::command_shown))]
 pub(crate) fn command_of(machine: &ShapedMachine, bank: u32, place: u32) -> Option<CommandRow>
     ensures { result ≡ parts.command_shown machine.now bank place }
@@ -55,7 +51,6 @@ pub(crate) fn command_of(machine: &ShapedMachine, bank: u32, place: u32) -> Opti
     machine.command_at(bank, place).map(command_row)
 }
 
-// The answer that stands at `place` in a bank, the oldest one at 0.
 #[tactic(auto, unfolding(crate::specs::Parts::bank_answer_shown))]
 pub(crate) fn bank_answer_of(machine: &ShapedMachine, bank: u32, place: u32) -> Option<ArrivalRow>
     ensures { result ≡ parts.bank_answer_shown machine.now bank place }
@@ -63,7 +58,6 @@ pub(crate) fn bank_answer_of(machine: &ShapedMachine, bank: u32, place: u32) -> 
     machine.answer_at(bank, place).map(bank_answer_row)
 }
 
-// The answer that a take at `place` would get.
 #[tactic(auto, unfolding(crate::specs::Parts::reply_shown))]
 pub(crate) fn reply_of(machine: &ShapedMachine, place: u32) -> Option<AnswerRow>
     ensures { result ≡ parts.reply_shown machine.now place }
@@ -71,7 +65,6 @@ pub(crate) fn reply_of(machine: &ShapedMachine, place: u32) -> Option<AnswerRow>
     machine.reply(place).map(|answer| answer_row(answer))
 }
 
-// What a request for the word at `at` would find, by its number.
 #[tactic(auto, unfolding(crate::specs::Parts::lookup_shown))]
 pub(crate) fn lookup_of(machine: &ShapedMachine, at: u32) -> Option<u32>
     ensures { result ≡ parts.lookup_shown machine.now at }

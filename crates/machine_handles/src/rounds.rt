@@ -1,4 +1,4 @@
-//! Requests driven through the machine behind a handle, in rounds.
+//! Requests driven in rounds.
 ghost use Rattle.std.specs.Prelude.{◌≡◌, ◌≢◌, Some, None, IfOk, OnOk, IfErr, OnErr};
 ghost use Rattle.std.specs.List.{list_all};
 ghost use Rattle.std.specs.Option.{option_map};
@@ -18,31 +18,30 @@ use std::alloc::{AllocError, Global};
 /// The most requests of a run.
 const MOST_REQUESTS: usize = 16_777_216;
 
-/// There are more requests than that, or as many rounds as may be were made.
+/// More requests than that, or no more rounds.
 const TOO_MANY: u32 = 104;
 
-/// The latency is higher than it may be.
 const BAD_LATENCY: u32 = 105;
 
-/// What a run of rounds counted. A round is a step of the schedule, and no time of any hardware.
+/// A run's counts. Rounds are a schedule, no hardware's time.
 #[repr(C)]
 #[derive(Clone, Copy)]
 pub struct CountsRow {
-    /// Rounds that were made; of [`drive`] also the one behind them, in which nothing moves.
+    /// Rounds made; of [`drive`] also the last, in which nothing moves.
     pub rounds: u64,
     /// Requests that were accepted.
     pub accepted: u64,
-    /// Requests that were refused with 1, 2 or 11.
+    /// Refused with 1, 2 or 11.
     pub denied: u64,
     /// Accepted requests whose word was at hand.
     pub hits: u64,
-    /// Accepted requests whose word was on its way already.
+    /// Accepted: the word was on its way.
     pub joins: u64,
     /// Accepted requests whose block was asked for.
     pub misses: u64,
-    /// Requests that were refused with 3 to 10 in the round that first asked them.
+    /// Refused with 3 to 10 in the round that first asked them.
     pub stalled: u64,
-    /// Rounds in which the request at hand was refused with 3: its tag is in use.
+    /// Rounds lost with 3: the tag is in use.
     pub lost_tag_in_use: u64,
     /// With 4: the limit of outstanding loads is reached.
     pub lost_replies_full: u64,
@@ -58,8 +57,7 @@ pub struct CountsRow {
     pub lost_bank_full: u64,
     /// Loads that were answered.
     pub values: u64,
-    /// Rounds from each answered load's acceptance to its answer, in all, and 2^64 - 1 if they are
-    /// more.
+    /// Rounds from acceptance to answer of all loads; 2^64 - 1 if more.
     pub waited: u64,
     /// The most of these for one load.
     pub longest: u64,
@@ -74,15 +72,14 @@ pub struct CountsRow {
 pub(crate) enum RoundsFault {
     /// No machine is behind the handle.
     Closed,
-    /// Rounds were begun, and make the machine's events.
+    /// Rounds make the machine's events.
     InRounds,
     /// No rounds were begun.
     NoRounds,
-    /// The latency is higher than it may be.
     BadLatency,
-    /// There are more requests than may be, or as many rounds as may be were made.
+    /// Too many requests, or no more rounds.
     TooMany,
-    /// A row is no load, store, prefetch or eviction.
+    /// A row is no request.
     NoRequest,
     /// There was too little memory.
     OutOfMemory,
@@ -99,21 +96,7 @@ impl From<AllocError> for RoundsFault {
     }
 }
 
-/// Drives these requests through the machine in rounds until nothing is on its way, and counts.
-///
-/// A round makes, in this order: each bank, by number, begins a command if one waits that it hasn't
-/// begun and it isn't busy, and serves its first one if it began that `latency` rounds before; one
-/// answer arrives, from the next bank with one behind the bank that was last, if the input stack has
-/// room; the stack's first word is processed, the first reply taken and the write queue's front
-/// drained, each if possible; and the request at hand is asked once. If it was accepted, or refused
-/// with 1, 2 or 11, the next one follows; otherwise it is asked again in the next round. With `busy`
-/// below `latency` a bank begins a command each `busy` rounds at most (0 counts as 1) while others are on
-/// their way through it; otherwise it has one command at a time.
-///
-/// 0: `counts` is what was counted, the requests are used up and nothing is on its way. 3: the handle
-/// is closed. 107: rounds are under way. 105: `latency` is higher than 1,000. 104: there are more than 16,777,216 requests. 2: a
-/// row is no load, store, prefetch or eviction. 101: there was too little memory. They are looked for
-/// in this order, and after each of them all is as it was.
+/// Drives requests in rounds until nothing is on its way, and counts.
 pub fn drive(
     alloc: Global,
     handle: &mut Handle,
@@ -171,7 +154,6 @@ fn drive_behind(
     made
 }
 
-// Drives a machine, unless rounds make its events.
 fn drive_kept(
     alloc: Global,
     kept: &mut Kept,
@@ -236,7 +218,6 @@ fn drive_machine(
     Ok(summarize_with(alloc, machine, timing, requests.as_slice())?)
 }
 
-// Whether each row says a load, a store, a prefetch or an eviction.
 fn are_requests(rows: &[EventRow]) -> bool
     ensures { result ≡ list_all rounds.is_request_row rows.now }
 {

@@ -6,7 +6,7 @@ pub(crate) const DONE: u32 = 0;
 /// No machine is behind the handle.
 pub(crate) const CLOSED: u32 = 3;
 
-/// There is no such thing, or no event to make.
+/// No such thing, or no event.
 pub(crate) const NOT_THERE: u32 = 0;
 
 /// There is one, or one was made.
@@ -21,5 +21,5 @@ pub(crate) const OUT_OF_MEMORY: u32 = 101;
 /// No rounds were begun.
 pub(crate) const NO_ROUNDS: u32 = 106;
 
-/// Rounds are under way, and make the machine's events.
+/// Rounds make the machine's events.
 pub(crate) const IN_ROUNDS: u32 = 107;

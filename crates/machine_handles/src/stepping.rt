@@ -1,4 +1,4 @@
-//! Rounds of the machine behind a handle that are made one at a time.
+//! Rounds made one at a time.
 ghost use Rattle.std.specs.Prelude.{◌≡◌, ◌≢◌, Some, None, IfOk, OnOk, IfErr, OnErr};
 ghost use Rattle.std.specs.Option.{option_map, unwrap_or};
 ghost use Rattle.machine_handles.specs.Behind.{standing, standing_of};
@@ -17,21 +17,19 @@ use flat_model::{Answer, Event, Word};
 use round_driver::{MOST_LATENCY, MOST_ROUNDS, Note, RoundReport, Rounds, Timing, keeps_whole};
 use std::alloc::{AllocError, Global};
 
-/// What is told of a round. What doesn't apply is 0.
+/// A round; 0 where it doesn't apply.
 #[repr(C)]
 #[derive(Clone, Copy)]
 pub struct RoundRow {
     /// Its number, counted from 1.
     pub round: u64,
-    /// What became of the request: 0 none was offered, 1 it was accepted, 2 the round is lost to it, so
-    /// that it has to be offered again, 3 it is denied, so that no round will change its answer.
+    /// 0 no request, 1 accepted, 2 the round is lost to it, 3 denied.
     pub outcome: u32,
-    /// The number of the cause, if it was refused: 3 to 10 in a lost round, 1, 2 or 11 if it is denied.
+    /// A refusal's cause: 3 to 10 in a lost round, else 1, 2 or 11.
     pub cause: u32,
-    /// What a load, a store or a prefetch found: 0 a hit, 1 a join, 2 a miss. 3 if nothing was looked
-    /// for: none was offered, it was an eviction, or memory has no such word.
+    /// 0 a hit, 1 a join, 2 a miss, 3 not looked for.
     pub found: u32,
-    /// 1 if a load was answered, else 0.
+    /// 1 if a load was answered.
     pub answered: u32,
     /// The tag of that load.
     pub tag: u16,
@@ -39,14 +37,7 @@ pub struct RoundRow {
     pub word: Word,
 }
 
-/// Begins rounds in the machine behind the handle: the next one is round 1, and nothing is counted.
-/// Rounds that were begun before end. What is on its way in the machine stays on its way.
-///
-/// While rounds are under way they alone make the machine's events. `latency` and `busy` say how long
-/// a bank takes for a command, as for [`drive`](crate::drive).
-///
-/// 0: they are begun. 3: the handle is closed. 105: `latency` is higher than 1,000. 101: there was too
-/// little memory. They are looked for in this order, and after each of them all is as it was.
+/// Begins rounds: the next is round 1, and nothing is counted.
 pub fn begin_rounds(alloc: Global, handle: &mut Handle, latency: u32, busy: u32) -> u32
     ensures status { IsToldOfRounds result (begin_fault (standing handle.old) latency) }
     ensures begun { result ≡ 0
@@ -84,13 +75,7 @@ fn begin_in(alloc: Global, kept: &mut Kept, latency: u32, busy: u32) -> Result<(
     Ok(())
 }
 
-/// Makes one round, in which the first of these requests is offered, if there is one. It moves what a
-/// round of [`drive`](crate::drive) moves, and then asks the request once. The other requests are not
-/// looked at.
-///
-/// 0: it was made, and `row` is what is told of it. 3: the handle is closed. 106: no rounds were begun.
-/// 2: the first row is no load, store, prefetch or eviction. 104: 2^48 rounds were made. They are
-/// looked for in this order, and after each of them all is as it was. It takes no memory.
+/// Makes one round, and offers the first of these requests, if any.
 pub fn round(alloc: Global, handle: &mut Handle, requests: &[EventRow], row: &mut RoundRow) -> u32
     ensures status { result
         ≡ fault_status (round_fault (standing handle.old) requests.now) }
@@ -142,7 +127,6 @@ fn round_in(kept: &mut Kept, requests: &[EventRow]) -> Result<RoundRow, RoundsFa
     Ok(row_of(rounds.count(), &report))
 }
 
-// Whether the first row, if there is one, is a request.
 fn is_offer(requests: &[EventRow]) -> bool
     ensures { result ≡ stepping.is_offer requests.now }
 {
@@ -176,7 +160,6 @@ fn row_of(round: u64, report: &RoundReport) -> RoundRow
     }
 }
 
-// What became of a request, by its answer.
 fn outcome_of(answer: Answer) -> u32
     ensures { result ≡ stepping.outcome_of answer }
 {
@@ -187,7 +170,6 @@ fn outcome_of(answer: Answer) -> u32
     }
 }
 
-// The answer of an event that was told, or nothing.
 fn answer_of(note: Option<Note>) -> Answer
     ensures { result ≡ stepping.answer_of note }
 {
@@ -210,8 +192,7 @@ fn found_number(asked: Option<Note>) -> u32
     }
 }
 
-/// What was counted of the rounds that were made since they were begun. 0: `counts` is it. 3: the
-/// handle is closed. 106: no rounds were begun. After 3 and 106 `counts` is as it was.
+/// The rounds' counts since they were begun.
 pub fn round_counts(alloc: Global, handle: &mut Handle, counts: &mut CountsRow) -> u32
     ensures status { result ≡ fault_status (absent (standing handle.old)) }
     ensures counts { counts.new ≡ unwrap_or (counts_in (standing handle.old)) counts.old }
@@ -231,7 +212,6 @@ pub fn round_counts(alloc: Global, handle: &mut Handle, counts: &mut CountsRow) 
     }
 }
 
-// What was counted of the rounds that were begun.
 fn counts_of(kept: &Kept) -> Option<CountsRow>
     ensures { result ≡ counts_in (Some (standing_of kept.now)) }
 {
@@ -241,9 +221,7 @@ fn counts_of(kept: &Kept) -> Option<CountsRow>
     }
 }
 
-/// Ends the rounds that were begun, and gives their memory back: from then on the caller makes the
-/// machine's events. The machine stays as it is. 0: they are ended. 3: the handle is closed. 106: no
-/// rounds were begun.
+/// Ends the rounds, and frees their memory: the caller makes events again.
 pub fn end_rounds(alloc: Global, handle: &mut Handle) -> u32
     ensures status { result ≡ fault_status (absent (standing handle.old)) }
     ensures ended { standing handle.new ≡ ended (standing handle.old) }

@@ -1,11 +1,11 @@
-//! The numbers of a machine, and what it shows, as rows of plain numbers.
+//! A machine's numbers and registers as rows.
 ghost use Rattle.std.specs.Prelude.{◌≡◌};
 ghost use Rattle.machine_handles.specs.Rows.{sizes_of, register_row, field_row, target_row};
 
 use flat_model::Word;
 use machine_core::{FieldView, Owed, RegisterView, Sizes};
 
-/// The numbers of a machine: any within their ranges.
+/// A machine's numbers, in their ranges.
 #[repr(C)]
 #[derive(Clone, Copy)]
 pub struct ShapeRow {
@@ -17,26 +17,25 @@ pub struct ShapeRow {
     pub regs: u32,
     /// Places of the input stack: 1 to 64.
     pub depth: u32,
-    /// Words of memory: 1 to 4,294,967,295, and a multiple of the words of a block.
+    /// Words of memory: 1 to 4,294,967,295, in whole blocks.
     pub words: u32,
     /// Sets of the cache: 1 to 1024.
     pub sets: u32,
     /// Banks of memory: 1 to 16.
     pub banks: u32,
-    /// Commands that wait at a bank at most: from the words of a block divided by the banks,
-    /// rounded up, to 64.
+    /// Commands at a bank: from a block's words divided by the banks, rounded up, to 64.
     pub bank_queue: u32,
-    /// Words that wait in the write queue at most: from the words of a block to 256.
+    /// Words in the write queue: a block's, to 256.
     pub write_queue: u32,
-    /// Loads that are awaited and ready together at most: 1 to 64.
+    /// Loads awaited and ready: 1 to 64.
     pub replies: u32,
 }
 
-/// What a register shows of itself: `valid` and `obsolete` are 0 or 1, and what doesn't apply is 0.
+/// A register; 0 where it doesn't apply.
 #[repr(C)]
 #[derive(Clone, Copy)]
 pub struct RegisterRow {
-    /// 1 if it stands for a block that is missing words.
+    /// 1 if its block is missing words.
     pub valid: u32,
     /// 1 if its block lost its frame.
     pub obsolete: u32,
@@ -44,12 +43,11 @@ pub struct RegisterRow {
     pub block: u32,
     /// The frame of a live register.
     pub frame: u32,
-    /// How many words of the block are processed.
+    /// Processed words of the block.
     pub processed: u32,
 }
 
-/// What a register shows of a word of its block: the first three are 0 or 1, and what doesn't apply
-/// is 0.
+/// A register's word; 0 where it doesn't apply.
 #[repr(C)]
 #[derive(Clone, Copy)]
 pub struct FieldRow {
@@ -61,30 +59,29 @@ pub struct FieldRow {
     pub processed: u32,
     /// How many loads wait.
     pub targets: u32,
-    /// The tag of the first load that waits.
+    /// The first waiting load's tag.
     pub tag: u16,
-    /// The lanes of the buffer that the arriving word mustn't change.
+    /// Lanes of the buffer that the arriving word mustn't change.
     pub code: u8,
-    /// The lanes whose bytes the first load has already.
+    /// Lanes whose bytes that load has.
     pub held_lanes: u8,
-    /// The bytes that it has already: only those in the held lanes count.
+    /// Its bytes: only those in the held lanes count.
     pub held: Word,
 }
 
-/// A load that waits for a word, and the bytes that it has already.
+/// A waiting load, and the bytes that it has.
 #[repr(C)]
 #[derive(Clone, Copy)]
 pub struct TargetRow {
     /// The load's tag.
     pub tag: u16,
-    /// The lanes that the arriving word mustn't give it.
+    /// Lanes that the arriving word mustn't give it.
     pub lanes: u8,
-    /// The bytes that it has already: only those in the lanes count.
+    /// Its bytes: only those in the lanes count.
     pub held: Word,
 }
 
 impl ShapeRow {
-    /// The numbers of the machine that the row asks for.
     pub(crate) fn sizes(&self) -> Sizes
         ensures { result ≡ sizes_of self.now }
     {

@@ -13,20 +13,18 @@ use flat_model::{Lanes, MAX_BANK_QUEUE, MAX_BLOCK_WORDS, MAX_REGS, Word, merge};
 use std::alloc::{AllocError, Global};
 use std::marker::Model;
 
-/// Answers that may stand in a bank before it serves: one for each word that a machine's registers
-/// may wait for.
+/// The most answers before a serve: one for each word that registers may wait for.
 pub const MAX_ANSWERS: usize = MAX_REGS * MAX_BLOCK_WORDS;
 
-// Room for the answer of one more serve.
+// Room for one more.
 const ANSWER_PLACES: usize = MAX_ANSWERS + 1;
 
-/// A bank: its words, the commands that wait, and the answers that nobody has taken.
+/// A bank: words, waiting commands, and untaken answers.
 #[derive(Drop)]
 pub struct MemoryBank {
     words: Vec<Word>,
     queue: HeapCircularBuffer<Command>,
-    // How many of the commands in the queue are reads: counted as they come and go, since who asks
-    // for it asks often.
+    // Reads in the queue: counted, since it is often asked.
     reads: u32,
     answers: Vec<BankAnswer>,
 }
@@ -99,14 +97,13 @@ impl MemoryBank {
         self.answers.len() as u32
     }
 
-    /// Whether neither a command nor an answer stands here.
     pub(crate) fn is_idle(&self) -> bool
         ensures { result ≡ is_idle self.now }
     {
         self.queue.is_empty() && self.answers.is_empty()
     }
 
-    /// The word at `place`: the zero word, where there is none.
+    /// Zero without such a word.
     pub(crate) fn word(&self, place: u32) -> Word
         ensures { result ≡ word_at self.now.words place }
     {
@@ -122,7 +119,6 @@ impl MemoryBank {
         let _ = self.queue.try_push_back(command);
     }
 
-    /// Serves the first command, where there is one.
     pub(crate) fn serve(&mut self) -> bool
         requires { length self.old.answers ≤ MAX_ANSWERS }
         ensures moved { IsTrue result ↔ (0 < length self.old.queue) }
@@ -195,7 +191,7 @@ fn store(words: &mut Vec<Word>, place: u32, word: Word, lanes: Lanes)
     }
 }
 
-// The words of an image that lie in a bank: every `banks`-th, from `bank` on.
+// Every `banks`-th word, from `bank` on.
 fn share(alloc: Global, image: &[Word], banks: usize, bank: usize) -> Result<Vec<Word>, AllocError>
     requires here { bank < banks }
     requires few { banks ≤ MAX_BANKS }

@@ -1,7 +1,7 @@
-//! Interleaved banks of memory, each of which serves its commands first in, first out.
+//! Interleaved banks of memory: word `a` lies in bank `a % banks`, at place `a / banks`.
 //!
-//! Word `a` of memory lies in bank `a % banks`, at place `a / banks`. A bank has its words, a queue
-//! of commands and the answers that it gave and that nobody has taken. Nothing orders two banks.
+//! [`Banks::new`] comes first; its caller is a machine. A bank serves commands first in, first out,
+//! and keeps its answers until they are taken, in any order. Nothing orders two banks.
 #![tactic(auto)]
 
 ghost use Rattle.std.specs.Prelude.{◌≡◌, ◌≢◌, ℕ, ◌+◌, ◌<◌, List, [], ◌∷◌, ◌++◌};
@@ -19,53 +19,53 @@ pub use memory::Banks;
 /// What a bank is asked to do.
 #[derive(Clone, Copy, PartialEq, Eq, Debug)]
 pub enum Command {
-    /// The register in `slot` asks for its word `i`, which lies at `place` of the bank.
+    /// The register in `slot` asks for word `i`.
     Read {
         /// The number of the register that asks.
         slot: u32,
-        /// The number of the word in the register's block.
+        /// Word of the register's block.
         i: u32,
-        /// Where the word lies in the bank, counted from 0.
+        /// Place in the bank, from 0.
         place: u32,
     },
-    /// The bytes of `word` in `lanes` are written at `place` of the bank.
+    /// Writes lanes of a word.
     Write {
-        /// Where the word lies in the bank, counted from 0.
+        /// Place in the bank, from 0.
         place: u32,
-        /// The bytes to be written: only those in the lanes count.
+        /// Only bytes in the lanes count.
         word: Word,
         /// The lanes to be written.
         lanes: Lanes,
     },
 }
 
-/// What a bank answers to a read: the word `i` of the register in `slot`.
+/// The answer to a read.
 #[derive(Clone, Copy, PartialEq, Eq, Debug)]
 pub struct BankAnswer {
     /// The number of the register that asked.
     pub slot: u32,
-    /// The number of the word in the register's block.
+    /// Word of the register's block.
     pub i: u32,
-    /// The word as the bank had it when it served the read.
+    /// As it was when the read was served.
     pub word: Word,
 }
 
-/// Where the cache sends its commands: a row of banks, each with room for some.
+/// Where the cache sends commands: banks, each with some room.
 pub trait Lines {
-    /// The commands sent to each bank, the oldest first.
+    /// Each bank's commands, oldest first.
     ghost sent_to: { Self → ℕ → List Command };
 
     /// How many more commands each bank takes.
     ghost room_of: { Self → ℕ → ℕ };
 
-    /// The second may be what sends made of the first: all else is as it was.
+    /// The second may be what sends made of the first.
     ghost same: { Self → Self → Type 0 };
 
-    /// How many more commands a bank takes: 0 for a bank that isn't there.
+    /// Commands that a bank still takes; 0 without it.
     fn room(&self, bank: u32) -> u32
         ensures { result ≡ room_of self.now bank };
 
-    /// One command goes last to a bank that has room for it, and no other bank changes.
+    /// Sends a command to a bank with room; no other bank changes.
     fn send(&mut self, bank: u32, command: Command)
         requires { 0 < room_of self.old bank }
         ensures same { same self.old self.new }
@@ -75,7 +75,7 @@ pub trait Lines {
             (sent_to self.new b ≡ sent_to self.old b)
             × (room_of self.new b ≡ room_of self.old b) };
 
-    /// No send at all leaves all else as it was.
+    /// No send leaves all as it was.
     ghost same_self: { (a : Self) → same a a };
 
     /// So do sends after sends.

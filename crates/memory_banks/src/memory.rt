@@ -12,7 +12,7 @@ use flat_model::{MAX_BANK_QUEUE, MAX_BANKS, MAX_WORDS, MakeFault, Shape, ShapeFi
 use std::alloc::{AllocError, Global};
 use std::marker::Model;
 
-/// Banks of memory, with their queues of commands and their answers.
+/// A machine's banks.
 #[derive(Drop)]
 pub struct Banks {
     words: u32,
@@ -33,10 +33,9 @@ impl Model for Banks {
 }
 
 impl Banks {
-    /// Banks that hold the image, interleaved, with nothing queued. `BadShape` names the first bad
-    /// number of the shape: `Words` (1 to 1,048,576), `Banks` (1 to 16), `BankQueue` (1 to 64) or
-    /// `Image`, whose length is the words of memory. `OutOfMemory` says that there was too little
-    /// memory. After either nothing is made.
+    /// Banks that hold the image, with nothing queued. `BadShape` names the first bad number:
+    /// `Words` (1 to 1,048,576), `Banks` (1 to 16), `BankQueue` (1 to 64) or `Image`, whose length
+    /// is the words. `OutOfMemory`: too little memory, and none is kept.
     pub fn new(alloc: Global, image: &[Word], shape: &Shape) -> Result<Self, MakeFault>
         ensures ok { IfOk result (λ m. m ≡ record {
           words = shape.now.words;
@@ -52,9 +51,8 @@ impl Banks {
         Ok(Banks::over(alloc, image, shape)?)
     }
 
-    /// Banks that hold the image, for a shape that fits it and whose numbers are in their ranges: the
-    /// words of memory may be as many as 32 bits count. An error says that there was too little
-    /// memory; nothing is made then.
+    /// The same for numbers in their ranges; words may be as many as 32 bits count. An error: too
+    /// little memory.
     pub fn over(alloc: Global, image: &[Word], shape: &Shape) -> Result<Self, AllocError>
         requires some_words { 1 ≤ shape.now.words }
         requires few_words { shape.now.words ≤ MAX_MEMORY }
@@ -77,10 +75,9 @@ impl Banks {
         })
     }
 
-    /// Serves the first command of the bank, in which at most 1,024 answers stand: a read adds its
-    /// answer last to them, a write changes the word at its place. A read of a place that the bank
-    /// doesn't have answers the zero word, and a write there changes no word. `false` says that the
-    /// queue is empty or the bank isn't there, and changes nothing.
+    /// Serves a bank's first command, behind at most 1,024 answers. A read adds an answer last; a
+    /// write changes its word. At a place that isn't there a read answers zeros and a write does
+    /// nothing. `false`: no command or no bank.
     pub fn serve(&mut self, bank: u32) -> bool
         requires { length (bank_at self.old.banks bank).answers ≤ MAX_ANSWERS }
         ensures moved { IsTrue result ↔ (0 < length (bank_at self.old.banks bank).queue) }
@@ -99,8 +96,7 @@ impl Banks {
         }
     }
 
-    /// Takes the answer at `place` out of the bank; later ones move up. `None` says that none
-    /// stands there or the bank isn't there, and changes nothing.
+    /// Takes the answer at `place` out; later ones move up. `None` changes nothing.
     pub fn take_answer(&mut self, bank: u32, place: u32) -> Option<BankAnswer>
         ensures value { result ≡ slice_get (bank_at self.old.banks bank).answers place }
         ensures banks { self.new ≡ with_banks self.old
@@ -114,7 +110,7 @@ impl Banks {
         }
     }
 
-    /// How many commands wait at the bank: 0 for a bank that isn't there.
+    /// Waiting commands; 0 without the bank.
     pub fn queued(&self, bank: u32) -> u32
         ensures value { result ≡ length (bank_at self.now.banks bank).queue }
         ensures within { IsMemory self.now }
@@ -125,7 +121,7 @@ impl Banks {
         }
     }
 
-    /// How many of the commands that wait at the bank are reads: 0 for a bank that isn't there.
+    /// Waiting reads; 0 without the bank.
     pub fn reads(&self, bank: u32) -> u32
         ensures { result ≡ count_by is_read (bank_at self.now.banks bank).queue }
     {
@@ -135,15 +131,14 @@ impl Banks {
         }
     }
 
-    /// The command that waits at `place` of the bank's queue, the one that is served next at 0;
-    /// `None` where none waits there or the bank isn't there.
+    /// The command at `place` of a bank's queue, the next one at 0.
     pub fn command_at(&self, bank: u32, place: u32) -> Option<Command>
         ensures { result ≡ slice_get (bank_at self.now.banks bank).queue place }
     {
         self.banks.get(bank as usize)?.command_at(place)
     }
 
-    /// How many answers stand in the bank: 0 for a bank that isn't there.
+    /// Answers in the bank; 0 without it.
     pub fn answers(&self, bank: u32) -> u32
         ensures { result ≡ length (bank_at self.now.banks bank).answers }
     {
@@ -153,16 +148,14 @@ impl Banks {
         }
     }
 
-    /// The answer that stands at `place` in the bank, which stays there; `None` where none stands
-    /// there or the bank isn't there.
+    /// The answer at `place`; it stays.
     pub fn answer_at(&self, bank: u32, place: u32) -> Option<BankAnswer>
         ensures { result ≡ slice_get (bank_at self.now.banks bank).answers place }
     {
         self.banks.get(bank as usize)?.answer_at(place)
     }
 
-    /// The word of memory at `at`, as it now stands in its bank; `None` exactly where memory has no
-    /// such word.
+    /// The word of memory as it stands in its bank.
     pub fn word(&self, at: u32) -> Option<Word>
         ensures { result ≡ word_in self.now at }
     {
@@ -208,7 +201,6 @@ impl Lines for Banks {
     ghost same_steps = { same_steps };
 }
 
-// The first number that is out of its range, in the order of the checks.
 fn bad_field(image: usize, shape: &Shape) -> Option<ShapeField>
     ensures { result ≡ bad_field image shape.now }
 {
@@ -225,7 +217,6 @@ fn bad_field(image: usize, shape: &Shape) -> Option<ShapeField>
     }
 }
 
-// The banks of an image, each with its share.
 fn opening_banks(alloc: Global, image: &[Word], banks: usize) -> Result<Vec<MemoryBank>, AllocError>
     requires few { banks ≤ MAX_BANKS }
     requires fits { length image.now ≤ MAX_MEMORY }

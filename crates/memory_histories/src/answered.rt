@@ -1,4 +1,4 @@
-//! The bytes of answered stores that a load may still see, by unit of eight aligned addresses.
+//! Bytes of answered stores that a load may still see, by unit of eight aligned addresses.
 
 ghost use Rattle.std.specs.Prelude.{◌≡◌, ◌+◌, ◌≤◌, ◌<◌, ◌++◌, ◌∷◌, [], ℕ, IfOk, OnOk, OnErr, None, map, nat_eq, length, vec_len};
 ghost use Rattle.std.specs.Prelude.{vec_capacity};
@@ -18,7 +18,7 @@ pub struct KeptUnit {
     pub(crate) parts: Vec<StorePart>,
 }
 
-/// A unit, and what is kept of it from now on.
+/// A unit, and what is kept of it now.
 #[derive(Drop)]
 pub struct UnitChange {
     pub(crate) unit: u64,
@@ -35,7 +35,7 @@ pub(crate) fn parts_in(units: &HashMap<u64, KeptUnit>, unit: u64) -> &[StorePart
     }
 }
 
-// What these parts of a store have overwritten in a unit is dropped.
+// Drops what these parts have overwritten.
 fn drop_overwritten(parts: &mut Vec<StorePart>, unit: u64, ending: &[StorePart])
     ensures few { vec_len parts.new ≤ vec_len parts.old }
     ensures room { vec_capacity parts.new ≡ vec_capacity parts.old }
@@ -61,7 +61,7 @@ fn clear_overwritten(parts: &mut [StorePart], unit: u64, ending: &[StorePart])
     }
 }
 
-// What this part of a store has overwritten in its unit is dropped.
+// Drops what this part has overwritten.
 fn drop_under(parts: &mut Vec<StorePart>, part: &StorePart)
     ensures few { vec_len parts.new ≤ vec_len parts.old }
     ensures room { vec_capacity parts.new ≡ vec_capacity parts.old }
@@ -79,7 +79,6 @@ fn clear_under(parts: &mut [StorePart], end: &StorePart)
     }
 }
 
-// A part whose store is answered at this moment.
 fn answered_part(part: StorePart, moment: u64) -> StorePart
     ensures { result ≡ answered_part moment part }
 {
@@ -89,7 +88,7 @@ fn answered_part(part: StorePart, moment: u64) -> StorePart
     }
 }
 
-// Adds those of these parts that lie in the unit.
+// Adds those parts that lie in the unit.
 fn add_joined(
     parts: &mut Vec<StorePart>,
     unit: u64,
@@ -106,7 +105,7 @@ fn add_joined(
     Ok(())
 }
 
-// What is kept of a unit once the store with these parts is answered.
+// A unit once the store with these parts is answered.
 #[tactic(auto, using(crate::proofs::Pieces::after_parts))]
 fn after_answer(
     alloc: Global,
@@ -126,7 +125,7 @@ fn after_answer(
     Ok(KeptUnit { parts })
 }
 
-// What is kept of a unit once this part of a store is answered, which lies in it and is its only one.
+// A unit once its part of a store is answered, the store's only one.
 #[tactic(auto, using(crate::proofs::Pieces::after_part))]
 fn join_part(parts: &mut Vec<StorePart>, part: &StorePart, moment: u64) -> Result<(), AllocError>
     ensures ok { OnOk result
@@ -140,7 +139,6 @@ fn join_part(parts: &mut Vec<StorePart>, part: &StorePart, moment: u64) -> Resul
     Ok(())
 }
 
-// The same of a unit of which nothing is kept.
 fn add_unit(
     alloc: Global,
     units: &mut HashMap<u64, KeptUnit>,
@@ -167,7 +165,7 @@ fn add_unit(
     Ok(())
 }
 
-// What is kept of the units once this part of a store is answered, which is its only one.
+// The same of all units.
 pub(crate) fn answer_part(
     alloc: Global,
     units: &mut HashMap<u64, KeptUnit>,
@@ -192,7 +190,7 @@ fn has_unit(changes: &[UnitChange], unit: u64) -> bool
     changes.iter().any(|change| change.unit == unit)
 }
 
-// What is kept of the units in which these bytes lie, once their store is answered.
+// The units of these bytes once their store is answered.
 pub(crate) fn changes(
     alloc: Global,
     units: &HashMap<u64, KeptUnit>,

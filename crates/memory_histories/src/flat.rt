@@ -20,7 +20,7 @@ use crate::sets::ByteSet;
 use std::alloc::{AllocError, Global};
 use std::collections::HashMap;
 
-/// One byte of an open load, and what it is owed.
+/// A byte of an open load, and what it is owed.
 #[derive(Clone, Copy, PartialEq, Eq, Debug)]
 pub struct OwedByte {
     /// The number of the load.
@@ -31,9 +31,8 @@ pub struct OwedByte {
     pub owed: Owed,
 }
 
-/// A memory that is judged by the flat law, event by event: each operation takes effect at its request.
-///
-/// It keeps the last byte that was stored at each address, and what the open loads are owed.
+/// A memory judged by the flat law: each operation takes effect at its request. It keeps the last
+/// byte of each address, and what open loads are owed.
 #[derive(Drop)]
 pub struct FlatHistory {
     image: Vec<u8>,
@@ -46,8 +45,8 @@ pub struct FlatHistory {
 
 #[tactic(auto, unfolding(crate::specs::FlatShown::shown))]
 impl FlatHistory {
-    /// Memory before the first event. The image is the bytes from address 0 on, and `rest` says what
-    /// stands beyond it. `AllocError` says that there was too little memory: nothing is made.
+    /// Memory before the first event. The image is the bytes from address 0 on, and `rest` says
+    /// what is beyond. `AllocError`: too little memory.
     pub fn new(alloc: Global, image: &[u8], rest: Rest) -> Result<FlatHistory, AllocError>
         ensures { IfOk result (λ m. shown m ≡ opening image.now rest) }
     {
@@ -65,7 +64,7 @@ impl FlatHistory {
         })
     }
 
-    /// Why the history so far with this event would be none of the law, or `None` where it is one.
+    /// Why the history with this event isn't of the law.
     #[inline(always)]
     pub fn fault(&self, event: HistoryEvent) -> Option<HistoryFault>
         ensures { result ≡ flat_fault (shown self.now) event.entry }
@@ -93,8 +92,7 @@ impl FlatHistory {
         }
     }
 
-    /// What the load that is open under a number is owed for the byte at an address, or `None` if no
-    /// such load asks for that byte.
+    /// What an open load is owed for the byte at an address, if it asks for it.
     pub fn owed(&self, number: u64, address: u64) -> Option<Owed>
         ensures { result ≡ option_map (λ l. l.owed) (find (is_at number address) (shown self.now).loads) }
     {
@@ -104,8 +102,7 @@ impl FlatHistory {
         }
     }
 
-    /// What the load that is open under a number may return for the byte at an address, or `None` if
-    /// no such load asks for that byte.
+    /// What an open load may return for the byte at an address, if it asks for it.
     pub fn may_return(&self, number: u64, address: u64) -> Option<ByteSet>
         ensures { IsOwedSet (find (is_at number address) (shown self.now).loads) result }
     {
@@ -115,11 +112,8 @@ impl FlatHistory {
         }
     }
 
-    /// Takes one event of a history.
-    ///
-    /// It is `Ok` exactly where the history so far with this event is one of the law, and there was
-    /// room: memory is then as the event leaves it. After each fault everything is as it was, and a
-    /// refusal names the first fault in the order of [`HistoryFault`].
+    /// Takes one event. `Ok`: the history with it is of the law. A refusal names the first fault in
+    /// the order of [`HistoryFault`].
     #[inline(always)]
     pub fn step(&mut self, event: HistoryEvent) -> Result<(), StepFault>
         ensures ok { OnOk result (flat_step (shown self.old) event.entry ≡ Some (shown self.new)) }
@@ -150,7 +144,6 @@ impl FlatHistory {
         self.stores.iter().any(|store| *store == number)
     }
 
-    // Why the load that is open under this number may not be answered with these bytes.
     fn load_response_fault(&self, number: u64, bytes: &[u8]) -> Option<HistoryFault>
         ensures { result ≡ load_response_fault may_return (filter (is_of number) (shown self.now).loads) bytes.now }
     {
@@ -165,7 +158,6 @@ impl FlatHistory {
         }
     }
 
-    // The change that an event of the law makes.
     #[inline(always)]
     fn change(&mut self, event: HistoryEvent) -> Result<(), AllocError>
         requires moment { (shown self.old).moment < 18446744073709551615 }
@@ -192,7 +184,6 @@ impl FlatHistory {
         Ok(())
     }
 
-    // A load is open under this number from now on.
     fn request_load(&mut self, number: u64, address: u64, length: usize) -> Result<(), AllocError>
         requires { is_inside address length ≡ true }
         ensures ok { OnOk result
@@ -209,7 +200,7 @@ impl FlatHistory {
         Ok(())
     }
 
-    // A store is open under this number from now on, and its bytes stand in memory.
+    // A store is open, and its bytes stand in memory.
     fn request_store(
         &mut self,
         number: u64,
@@ -240,7 +231,6 @@ impl FlatHistory {
     }
 }
 
-// Whether a byte is of the load that is open under this number.
 fn is_of(load: &OwedByte, number: u64) -> bool
     ensures { result ≡ is_of number load.now }
 {
@@ -254,7 +244,6 @@ fn is_at(load: &OwedByte, number: u64, address: u64) -> bool
     is_of(load, number) && load.address == address
 }
 
-// The byte at an address of the load that is open under this number.
 fn owed_byte(loads: &[OwedByte], number: u64, address: u64) -> Option<OwedByte>
     ensures { result ≡ find (is_at number address) loads.now }
 {
@@ -264,14 +253,14 @@ fn owed_byte(loads: &[OwedByte], number: u64, address: u64) -> Option<OwedByte>
         .find(|load| is_at(load, number, address))
 }
 
-// How many bytes the load that is open under this number has: 0 if there is none.
+// 0 if no load is open under this number.
 fn length_of(loads: &[OwedByte], number: u64) -> usize
     ensures { result ≡ length (filter (is_of number) loads.now) }
 {
     loads.iter().filter(|load| is_of(load, number)).count()
 }
 
-// The first of these bytes that the load that is open under this number may not return.
+// The first byte that the open load may not return.
 fn wrong_place(loads: &[OwedByte], number: u64, bytes: &[u8]) -> Option<usize>
     ensures { result ≡ wrong_place may_return (filter (is_of number) loads.now) bytes.now }
 {
@@ -296,7 +285,6 @@ fn is_paid_by(owed: Owed, byte: u8) -> bool
     }
 }
 
-// The set of what a load that is owed this may return.
 fn owed_set(owed: Owed) -> ByteSet
     ensures { result ≡ owed_set owed }
 {
@@ -317,7 +305,7 @@ fn standing(image: &[u8], rest: Rest, written: &HashMap<u64, Owed>, address: u64
     }
 }
 
-// What stands at an address before the first store, where this is the image's byte, if it has one there.
+// What stands there before the first store: the image's byte, or the rest's.
 fn initial(first: Option<u8>, rest: Rest) -> Owed
     ensures { result ≡ initial first rest }
 {
@@ -330,7 +318,6 @@ fn initial(first: Option<u8>, rest: Rest) -> Owed
     }
 }
 
-// Adds the bytes of a load that is requested now.
 fn add_load(
     loads: &mut Vec<OwedByte>,
     memory: (&[u8], Rest, &HashMap<u64, Owed>),
@@ -365,7 +352,6 @@ fn write_byte(written: &mut HashMap<u64, Owed>, address: u64, owed: Owed)
     let _before = written.insert(address, owed);
 }
 
-// The enabled bytes of a store that is requested now stand in memory.
 fn write_bytes(
     written: &mut HashMap<u64, Owed>,
     store: StoreName,
@@ -387,14 +373,12 @@ fn write_bytes(
     }
 }
 
-// No load is open under this number from now on.
 fn end_load(loads: &mut Vec<OwedByte>, number: u64)
     ensures { loads.new.items ≡ filter (λ l. not (is_of number l)) loads.old.items }
 {
     loads.retain(|load| !is_of(load, number));
 }
 
-// No store is open under this number from now on.
 fn end_store(stores: &mut Vec<u64>, number: u64)
     ensures { stores.new.items ≡ filter (λ n. not (is_open number n)) stores.old.items }
 {

@@ -5,16 +5,14 @@ ghost use Rattle.memory_histories.specs.Regular.{is_inside, has_enabled, load_re
 
 use crate::events::{HistoryFault, MAX_LENGTH};
 
-/// Whether an operation of so many bytes has as many as one may have, 1 to 64, and none of them lies at 2^64 or
-/// beyond.
+/// Whether an operation has 1 to 64 bytes, none at 2^64 or beyond.
 pub fn is_inside(address: u64, length: usize) -> bool
     ensures { result ≡ is_inside address length }
 {
     1 <= length && (length <= MAX_LENGTH && u128::from(address) + length as u128 <= 1 << 64)
 }
 
-/// Whether one of a store's bytes is enabled. Bit `k` of `enables` is the enable of byte `k`; bits beyond the
-/// last byte have no meaning.
+/// Whether a byte is enabled. Bit `k` enables byte `k`; bits beyond the last have no meaning.
 #[tactic(auto, using(crate::proofs::Loops::has_enabled_more))]
 pub fn has_enabled(bytes: &[u8], enables: u64) -> bool
     ensures { result ≡ has_enabled bytes.now enables }
@@ -29,9 +27,8 @@ pub fn has_enabled(bytes: &[u8], enables: u64) -> bool
     false
 }
 
-/// Why a load's request is malformed, if it is: of the faults that hold, the first in the order of
-/// [`HistoryFault`]. `inside` says whether its bytes are those of an operation ([`is_inside`]), and `used`
-/// whether a load is open under its number.
+/// Why a load's request is malformed: the first in the order of [`HistoryFault`]. `inside`:
+/// [`is_inside`]. `used`: a load is open under its number.
 pub fn load_request_fault(inside: bool, used: bool) -> Option<HistoryFault>
     ensures { result ≡ load_request_fault inside used }
 {
@@ -44,8 +41,7 @@ pub fn load_request_fault(inside: bool, used: bool) -> Option<HistoryFault>
     }
 }
 
-/// The same of a store's request. `any` says whether one of its bytes is enabled ([`has_enabled`]), and
-/// `used` whether a store is open under its number.
+/// The same of a store's request. `any`: [`has_enabled`].
 pub fn store_request_fault(inside: bool, any: bool, used: bool) -> Option<HistoryFault>
     ensures { result ≡ store_request_fault inside any used }
 {
@@ -60,8 +56,7 @@ pub fn store_request_fault(inside: bool, any: bool, used: bool) -> Option<Histor
     }
 }
 
-/// Why a store's response is malformed, if it is: no store is open under its number. `used` says whether
-/// one is.
+/// The same of a store's response: no store is open under its number.
 pub fn store_response_fault(used: bool) -> Option<HistoryFault>
     ensures { result ≡ store_response_fault used }
 {

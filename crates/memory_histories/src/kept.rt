@@ -1,4 +1,4 @@
-//! What a request and an answer change of the loads and the stores that are open.
+//! What requests and answers change of open operations.
 
 ghost use Rattle.std.specs.Prelude.{◌≡◌, ◌+◌, ◌*◌, ◌≤◌, ◌<◌, [], ◌∷◌, ◌++◌, ◌^◌, IfOk, IfSome, is_some, length, map, take, drop, replicate};
 ghost use Rattle.std.specs.Prelude.{not, vec_len, vec_capacity, slice_get, nat_eq};
@@ -22,7 +22,7 @@ use crate::windows::LoadByte;
 use std::alloc::{AllocError, Global};
 use std::collections::HashMap;
 
-/// One byte of an open load, and what it may return if it is answered now.
+/// A byte of an open load, and what it may return now.
 #[derive(Clone, Copy, PartialEq, Eq, Debug)]
 pub struct OpenByte {
     /// The byte.
@@ -31,7 +31,7 @@ pub struct OpenByte {
     pub may: ByteSet,
 }
 
-// What memory may have had before the first store, where this is the image's byte, if it has one there.
+// What memory may have had before the first store.
 fn initial_set(first: Option<u8>, rest: Rest) -> ByteSet
     ensures { result ≡ initial_set first rest }
 {
@@ -51,7 +51,7 @@ fn initial_at(image: &[u8], rest: Rest, address: u64) -> ByteSet
     initial_set(image.get(address as usize).copied(), rest)
 }
 
-// Whether one of these parts of answered stores has a byte at an address.
+// Whether a part of an answered store has a byte here.
 #[tactic(auto, using(crate::proofs::Pieces::any_there))]
 fn is_covered(answered: &[StorePart], address: u64) -> bool
     ensures { result ≡ is_covered_by (parts_bytes answered.now) address }
@@ -65,7 +65,7 @@ fn is_there(answered: &[StorePart], address: u64) -> bool
     answered.iter().any(|part| part_at(part, address).is_some())
 }
 
-// Adds what a load may return at an address before it sees what answered stores left: nothing, where one of them did.
+// What a load may return before answered stores are seen: nothing, if one had the byte.
 fn push_first(sets: &mut Vec<ByteSet>, memory: (&[u8], Rest), answered: &[StorePart], address: u64)
     requires { vec_len sets.old + 1 ≤ vec_capacity sets.old }
     ensures items { sets.new.items ≡ sets.old.items
@@ -80,8 +80,8 @@ fn push_first(sets: &mut Vec<ByteSet>, memory: (&[u8], Rest), answered: &[StoreP
     }
 }
 
-// Adds what memory had at an address before the first store. (Most bytes that are loaded were stored: a set of none is then written
-// with no look at another.)
+// What memory had before the first store. (Most loaded bytes were stored: a set of none is then
+// written with no look at another.)
 #[inline(never)]
 fn push_initial(sets: &mut Vec<ByteSet>, memory: (&[u8], Rest), address: u64)
     requires { vec_len sets.old + 1 ≤ vec_capacity sets.old }
@@ -93,7 +93,7 @@ fn push_initial(sets: &mut Vec<ByteSet>, memory: (&[u8], Rest), address: u64)
     sets.push_reserved(initial_at(image, rest, address));
 }
 
-// Adds these for so many bytes of a load. Most are those of a whole unit.
+// The same of so many bytes, mostly a whole unit.
 fn add_first_sets(
     sets: &mut Vec<ByteSet>,
     memory: (&[u8], Rest),
@@ -115,7 +115,8 @@ fn add_first_sets(
     }
 }
 
-// The same of a whole unit. The sets are written at once, and those that are to have something are looked up after that.
+// The same of a whole unit: the sets are written at once, and then those that have something are
+// looked up.
 fn add_first_whole(
     sets: &mut Vec<ByteSet>,
     memory: (&[u8], Rest),
@@ -146,7 +147,7 @@ fn push_none(sets: &mut Vec<ByteSet>)
     }
 }
 
-// The eight sets from a place on, which have no byte, have what a load may return in a unit before it sees what answered stores left.
+// The eight empty sets from a place on get what a load may return before answered stores are seen.
 fn fill_behind(
     sets: &mut [ByteSet],
     place: usize,
@@ -184,7 +185,7 @@ fn fill_first(set: &mut ByteSet, memory: (&[u8], Rest), answered: &[StorePart], 
     }
 }
 
-// A set is what memory had at an address before the first store.
+// Makes a set what memory had at first.
 #[inline(never)]
 fn put_initial(set: &mut ByteSet, memory: (&[u8], Rest), address: u64)
     ensures { set.new ≡ initial_set (slice_get memory.entry.0.now address) memory.entry.1 }
@@ -213,7 +214,7 @@ fn add_each_first(
     }
 }
 
-// Adds the sets of those bytes of a load that lie in one unit, as they are if no store is open.
+// The sets of a load's bytes in one unit, without open stores.
 fn add_piece(
     sets: &mut Vec<ByteSet>,
     memory: (&[u8], Rest),
@@ -233,7 +234,7 @@ fn add_piece(
     show_behind(sets.as_mut_slice(), start, address, answered);
 }
 
-// Adds the sets of a load that is requested now, as they are if no store is open. Most lie in one unit.
+// The sets of a requested load, without open stores. Most lie in one unit.
 fn add_sets(
     sets: &mut Vec<ByteSet>,
     memory: (&[u8], Rest, &HashMap<u64, KeptUnit>),
@@ -287,7 +288,7 @@ fn add_pieces(
     }
 }
 
-// A load that is requested now, as it is if no store is open.
+// A requested load, without open stores.
 fn settled_load(
     sets: Vec<ByteSet>,
     memory: (&[u8], Rest, &HashMap<u64, KeptUnit>),
@@ -314,7 +315,7 @@ fn settled_load(
     }
 }
 
-// A load that is requested now. Its sets come into this room.
+// A requested load, with its sets in this room.
 pub(crate) fn open_load(
     room: Vec<ByteSet>,
     memory: (&[u8], Rest, &[StorePart], &HashMap<u64, KeptUnit>),
@@ -338,8 +339,7 @@ pub(crate) fn open_load(
     load
 }
 
-// A part of a store is kept with what the store writes in its unit, and open loads may see it from now on. It is written and read
-// where it stands.
+// Keeps a part of a store, and shows it to open loads. It is written and read where it stands.
 fn add_part(
     stores: &mut Vec<StorePart>,
     loads: &mut [OpenLoad],
@@ -361,7 +361,6 @@ fn add_part(
     show_part(loads, &stores[place]);
 }
 
-// A part is kept with what a store writes in its unit.
 fn push_written(stores: &mut Vec<StorePart>, part: StorePart, from: u64, bytes: &[u8], enables: u64)
     requires room { vec_len stores.old + 1 ≤ vec_capacity stores.old }
     requires unit { part.unit < 2305843009213693952 }
@@ -382,8 +381,8 @@ fn push_written(stores: &mut Vec<StorePart>, part: StorePart, from: u64, bytes: 
     );
 }
 
-// A store is requested at this moment: its parts are kept, and open loads may see them from now on.
-// (Most stores lie in one unit.)
+// A store is requested: its parts are kept, and open loads may see them. (Most stores lie in one
+// unit.)
 pub(crate) fn add_store(
     stores: &mut Vec<StorePart>,
     loads: &mut [OpenLoad],
@@ -433,14 +432,12 @@ fn add_parts(
     }
 }
 
-// Whether one of these parts is of the store that is open under this number.
 fn has_open_part(stores: &[StorePart], number: u64) -> bool
     ensures { result ≡ list_any (is_open_part number) stores.now }
 {
     stores.iter().any(|part| is_open_part(part, number))
 }
 
-// The place of the first of these parts that is.
 fn first_open_part(stores: &[StorePart], number: u64) -> Option<usize>
     ensures place { result ≡ position (is_open_part number) stores.now }
     ensures bound { IfSome result (λ place. place < length stores.now) }
@@ -448,7 +445,7 @@ fn first_open_part(stores: &[StorePart], number: u64) -> Option<usize>
     stores.iter().position(|part| is_open_part(part, number))
 }
 
-// Where the part of the store stands that is open under this number, if it has one alone.
+// Where a store's part stands, if it is the only one.
 pub(crate) fn only_part(stores: &[StorePart], number: u64) -> Option<usize>
     ensures { IfSome result (IsOnly number stores.now) }
 {
@@ -460,7 +457,7 @@ pub(crate) fn only_part(stores: &[StorePart], number: u64) -> Option<usize>
     }
 }
 
-// Whether a store is open under this number. Its only part stands at this place, if it has one alone.
+// Whether a store is open; its only part, if it has one alone, stands here.
 pub(crate) fn has_open_at(stores: &[StorePart], number: u64, place: Option<usize>) -> bool
     requires { IfSome place (IsOnly number stores.now) }
     ensures { result ≡ list_any (is_open number) (parts_bytes stores.now) }
@@ -471,7 +468,6 @@ pub(crate) fn has_open_at(stores: &[StorePart], number: u64, place: Option<usize
     }
 }
 
-// The parts of the store that is open under this number.
 #[tactic(auto, using(crate::proofs::Pieces::filter_open))]
 pub(crate) fn open_store(
     alloc: Global,
@@ -497,7 +493,6 @@ fn open_parts(
         .collect(alloc)
 }
 
-// No store is open under this number from now on.
 #[tactic(auto, using(crate::proofs::Pieces::filter_others))]
 pub(crate) fn end_store(stores: &mut Vec<StorePart>, number: u64)
     ensures { parts_bytes stores.new.items ≡ filter (λ s. not (is_open number s)) (parts_bytes stores.old.items) }

@@ -1,10 +1,9 @@
-//! Histories of a memory: which bytes a load may return, if all that is seen of an operation is its
-//! request and its response.
+//! Histories of a memory: which bytes a load may return, if only requests and responses are seen.
 //!
-//! There are two laws. Under the regular one an operation takes effect at some moment between its
-//! request and its response (`specs/Regular.antt`, byte by byte), and [`RegularMemory`] judges a
-//! history by it as it goes. Under the flat one it takes effect at its request (`specs/Flat.antt`), and
-//! [`FlatHistory`] judges a history by that.
+//! By the regular law an operation takes effect between the two (`specs/Regular.antt`), and
+//! [`RegularMemory`] judges it; by the flat one at its request (`specs/Flat.antt`), and
+//! [`FlatHistory`] judges it. `new` comes first; the caller passes each event to `step`. After a
+//! fault all is as it was.
 #![tactic(auto)]
 
 mod answered;

@@ -16,7 +16,7 @@ use crate::regular::wrong_byte;
 use crate::sets::ByteSet;
 use crate::spares::keep_spare;
 
-/// A load that is open, and of each of its bytes what it may return if it is answered now.
+/// An open load, and what each byte may return now.
 #[derive(Drop)]
 pub struct OpenLoad {
     pub(crate) number: u64,
@@ -46,7 +46,7 @@ fn any_load(loads: &[OpenLoad], number: u64) -> bool
         .any(|load| is_load_of(load, number) && 0 < load.sets.len())
 }
 
-// How many bytes the load that is open under this number has: 0 if there is none.
+// 0 if no load is open under this number.
 fn length_of(loads: &[OpenLoad], number: u64) -> u128
     ensures { result ≡ fold counted 0 (filter (is_load_of number) loads.now) }
 {
@@ -56,7 +56,7 @@ fn length_of(loads: &[OpenLoad], number: u64) -> u128
     )
 }
 
-// Why the load that has so many bytes may not be answered with so many, of which this is the first wrong one.
+// Why a load of so many bytes may not be answered with these.
 fn response_fault(count: u128, given: u128, place: Option<usize>) -> Option<HistoryFault>
     ensures { result ≡ response_fault count given place }
 {
@@ -69,7 +69,6 @@ fn response_fault(count: u128, given: u128, place: Option<usize>) -> Option<Hist
     }
 }
 
-// The place of the first of these loads that is open under this number.
 fn first_load(loads: &[OpenLoad], number: u64) -> Option<usize>
     ensures place { result ≡ position (is_load_of number) loads.now }
     ensures bound { IfSome result (λ place. place < length loads.now) }
@@ -84,7 +83,7 @@ fn has_load(loads: &[OpenLoad], number: u64) -> bool
     loads.iter().any(|load| is_load_of(load, number))
 }
 
-// Where the load stands that is open under this number, if it is one alone.
+// Where the open load stands, if it is one alone.
 pub(crate) fn only_load(loads: &[OpenLoad], number: u64) -> Option<usize>
     ensures { IfSome result (IsOnlyLoad number loads.now) }
 {
@@ -96,7 +95,6 @@ pub(crate) fn only_load(loads: &[OpenLoad], number: u64) -> Option<usize>
     }
 }
 
-// Why this load may not be answered with these bytes.
 fn one_response_fault(load: &OpenLoad, bytes: &[u8]) -> Option<HistoryFault>
     ensures { result ≡ load_response_fault may_have (load_open load.now) bytes.now }
 {
@@ -108,8 +106,7 @@ fn one_response_fault(load: &OpenLoad, bytes: &[u8]) -> Option<HistoryFault>
     )
 }
 
-// Why the load that is open under this number may not be answered with these bytes. It stands at this place, if it is one
-// alone.
+// Why the open load may not be answered so. It stands here, if it is one alone.
 #[inline(always)]
 pub(crate) fn load_response_fault(
     loads: &[OpenLoad],
@@ -138,7 +135,6 @@ fn any_response_fault(loads: &[OpenLoad], number: u64, bytes: &[u8]) -> Option<H
     )
 }
 
-// The first of these bytes that isn't in its set.
 fn first_wrong(sets: &[ByteSet], bytes: &[u8]) -> Option<usize>
     ensures { result ≡ wrong_place has sets.now bytes.now }
 {
@@ -147,7 +143,7 @@ fn first_wrong(sets: &[ByteSet], bytes: &[u8]) -> Option<usize>
         .position(|(set, byte)| !set.holds(*byte))
 }
 
-// The first of these bytes that a load may not return, if it is open under this number.
+// The first byte that the load may not return, if it is open under this number.
 fn wrong_in(load: &OpenLoad, number: u64, bytes: &[u8]) -> Option<usize>
     ensures place { result ≡ wrong_in number load.now bytes.now }
     ensures bound { IfSome result (λ place. place < length bytes.now) }
@@ -170,7 +166,7 @@ fn behind<'a>(load: &OpenLoad, number: u64, bytes: &'a [u8]) -> &'a [u8]
     }
 }
 
-// The first of these bytes that the load that is open under this number may not return.
+// The first byte that the open load may not return.
 fn wrong_place(loads: &[OpenLoad], number: u64, bytes: &[u8]) -> Option<usize>
     ensures { result ≡ wrong_place may_have (filter (is_open_of number) (loads_open loads.now)) bytes.now }
 {
@@ -184,7 +180,7 @@ fn wrong_place(loads: &[OpenLoad], number: u64, bytes: &[u8]) -> Option<usize>
     None
 }
 
-// The set has this byte from now on, if it is one.
+// Adds a byte, if it is one.
 fn add_known(set: &mut ByteSet, lane: Option<u8>)
     ensures { set.new ≡ with_known set.old lane }
 {
@@ -193,7 +189,7 @@ fn add_known(set: &mut ByteSet, lane: Option<u8>)
     }
 }
 
-// The sets beside these lanes once their bytes are stored. Most are those of a whole unit.
+// The sets once these lanes are stored. Most are a whole unit's.
 fn show_lanes(sets: &mut [ByteSet], lanes: &[Option<u8>])
     ensures { sets.new ≡ shown_lanes lanes.now sets.old }
 {
@@ -224,7 +220,7 @@ fn show_each(sets: &mut [ByteSet], lanes: &[Option<u8>])
     }
 }
 
-// The sets from an address on once a part of a store is requested that is near.
+// The sets from an address on, once a part near them is requested.
 fn show_sets(sets: &mut [ByteSet], address: u64, part: &StorePart)
     requires { is_near address (length sets.old) part.now ≡ true }
     ensures { sets.new ≡ shown_sets part.now address sets.old }
@@ -239,7 +235,7 @@ fn show_sets(sets: &mut [ByteSet], address: u64, part: &StorePart)
     }
 }
 
-// Whether one of so many bytes from an address on lies in the unit of a part.
+// Whether one of these bytes lies in the part's unit.
 fn is_near(address: u64, length: usize, part: &StorePart) -> bool
     requires { length < 9223372036854775808 }
     ensures { result ≡ is_near address length part.now }
@@ -258,7 +254,7 @@ fn show_near(sets: &mut [ByteSet], address: u64, part: &StorePart)
     }
 }
 
-// The sets from an address on once these parts are seen.
+// The sets once these parts are seen.
 fn show_seen(sets: &mut [ByteSet], address: u64, parts: &[StorePart])
     ensures { sets.new ≡ all_shown_sets parts.now address sets.old }
 {
@@ -281,14 +277,12 @@ fn show_all(sets: &mut Vec<ByteSet>, address: u64, part: &StorePart)
     show_near(sets.as_mut_slice(), address, part);
 }
 
-// A load may see a part of a store from now on.
 fn show_load(load: &mut OpenLoad, part: &StorePart)
     ensures { load_open load.new ≡ map (after_stores (part_bytes part.now)) (load_open load.old) }
 {
     show_all(&mut load.sets, load.address, part);
 }
 
-// A load may see these parts of stores from now on.
 pub(crate) fn show_parts(load: &mut OpenLoad, parts: &[StorePart])
     ensures { load_open load.new ≡ map (after_stores (parts_bytes parts.now)) (load_open load.old) }
 {
@@ -297,7 +291,6 @@ pub(crate) fn show_parts(load: &mut OpenLoad, parts: &[StorePart])
     }
 }
 
-// Open loads may see a part of a store from now on.
 #[tactic(auto, using(crate::proofs::Opened::one_shown))]
 pub(crate) fn show_part(loads: &mut [OpenLoad], part: &StorePart)
     ensures { loads_open loads.new ≡ map (after_stores (part_bytes part.now)) (loads_open loads.old) }
@@ -307,7 +300,6 @@ pub(crate) fn show_part(loads: &mut [OpenLoad], part: &StorePart)
     }
 }
 
-// The set of a load's byte at an address, if it is open under this number.
 fn set_at(load: &OpenLoad, number: u64, address: u64) -> Option<ByteSet>
     ensures { result ≡ set_at number address load.now }
 {
@@ -318,7 +310,6 @@ fn set_at(load: &OpenLoad, number: u64, address: u64) -> Option<ByteSet>
     }
 }
 
-// The set of the byte at an address of the load that is open under this number.
 pub(crate) fn open_set(loads: &[OpenLoad], number: u64, address: u64) -> Option<ByteSet>
     ensures { result ≡ option_map (λ o. o.may) (find (is_open_at number address) (loads_open loads.now)) }
 {
@@ -336,7 +327,7 @@ fn first_set_at(loads: &[OpenLoad], number: u64, address: u64) -> Option<ByteSet
     None
 }
 
-// No load is open under this number from now on. It stands at this place, if it is one alone.
+// The load is closed. It stands here, if it is one alone.
 pub(crate) fn end_load(
     loads: &mut Vec<OpenLoad>,
     spares: &mut Vec<Vec<ByteSet>>,

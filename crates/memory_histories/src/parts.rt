@@ -1,4 +1,4 @@
-//! Stores by unit of eight aligned addresses: a byte of a unit is its lane.
+//! Stores by unit of eight aligned addresses; a byte is a lane.
 
 ghost use Rattle.std.specs.Prelude.{◌≡◌, ◌*◌, ◌≤◌, ◌<◌, ◌==◌, if◌then◌else◌, true, None, Some, is_some, length, map, take, drop, slice_get};
 ghost use Rattle.std.specs.Prelude.{slice_set, slice_index_or};
@@ -14,18 +14,18 @@ use crate::windows::is_before;
 /// The most units in which one operation lies.
 pub(crate) const MAX_PARTS: usize = 9;
 
-/// Those enabled bytes of a store that lie in one unit, with the window of the store.
+/// A store's enabled bytes in one unit, with its window.
 #[derive(Clone, Copy, PartialEq, Eq, Debug)]
 pub struct StorePart {
     /// The number of the store.
     pub number: u64,
-    /// The unit: its bytes lie from `8 * unit` on.
+    /// Bytes lie from `8 * unit` on.
     pub unit: u64,
-    /// What the store writes in each lane, or `None` where it writes nothing.
+    /// `None`: the store writes nothing here.
     pub lanes: [Option<u8>; 8],
     /// The event that requested it, counted from 0.
     pub began: u64,
-    /// The event that answered it, or `None` while it is open.
+    /// The event that answered it, if any.
     pub ended: Option<u64>,
 }
 
@@ -36,7 +36,6 @@ pub(crate) fn unit_of(address: u64) -> u64
     address / 8
 }
 
-// The byte that a store writes at an address.
 fn stored_lane(from: u64, bytes: &[u8], enables: u64, address: u64) -> Option<u8>
     requires { length bytes.now ≤ 64 }
     ensures { result ≡ lane_at from (lanes_of bytes.now enables) address }
@@ -48,7 +47,6 @@ fn stored_lane(from: u64, bytes: &[u8], enables: u64, address: u64) -> Option<u8
     }
 }
 
-// Byte `place` of a store, if it is enabled.
 fn enabled_byte(bytes: &[u8], enables: u64, place: u64) -> Option<u8>
     requires { place < 64 }
     ensures { result ≡ (if bit_at enables place == 1 then slice_get bytes.now place else None) }
@@ -60,7 +58,6 @@ fn enabled_byte(bytes: &[u8], enables: u64, place: u64) -> Option<u8>
     }
 }
 
-// What a store writes in the lanes of a unit.
 fn stored_lanes(unit: u64, from: u64, bytes: &[u8], enables: u64) -> [Option<u8>; 8]
     requires unit { unit < 2305843009213693952 }
     requires few { length bytes.now ≤ 64 }
@@ -79,8 +76,7 @@ fn stored_lanes(unit: u64, from: u64, bytes: &[u8], enables: u64) -> [Option<u8>
     ]
 }
 
-// The same of a store of eight bytes that begins with its unit, where each byte has the number of its lane. They are written where
-// they are kept.
+// The same of eight bytes that begin with the unit: written where they are kept.
 fn write_whole(lanes: &mut [Option<u8>], bytes: &[u8], enables: u64)
     requires lanes { length lanes.old ≡ 8 }
     requires bytes { length bytes.now ≡ 8 }
@@ -91,14 +87,13 @@ fn write_whole(lanes: &mut [Option<u8>], bytes: &[u8], enables: u64)
     }
 }
 
-// A byte that is stored only if it is enabled.
 fn byte_if(is_enabled: bool, byte: u8) -> Option<u8>
     ensures { result ≡ (if is_enabled then Some byte else None) }
 {
     if is_enabled { Some(byte) } else { None }
 }
 
-// Whether a store of so many bytes from an address on is one of this whole unit.
+// Whether a store is of this whole unit.
 fn is_whole(unit: u64, from: u64, length: usize) -> bool
     requires { unit < 2305843009213693952 }
     ensures from { result ≡ true → from ≡ 8 * unit }
@@ -107,7 +102,7 @@ fn is_whole(unit: u64, from: u64, length: usize) -> bool
     from == 8 * unit && length == 8
 }
 
-// The part of a store that lies in a unit, before it has a byte.
+/// A store's part in a unit, before it has a byte.
 pub(crate) fn empty_part(number: u64, unit: u64, moment: u64) -> StorePart
     ensures { result ≡ empty_part number unit moment }
 {
@@ -120,7 +115,7 @@ pub(crate) fn empty_part(number: u64, unit: u64, moment: u64) -> StorePart
     }
 }
 
-// The part at a place, which lies in this unit, has from now on what a store writes there. Most are of a whole unit.
+// The part at a place gets what a store writes there, mostly a whole unit.
 pub(crate) fn write_part(
     parts: &mut [StorePart],
     place: usize,
@@ -144,7 +139,6 @@ pub(crate) fn write_part(
     }
 }
 
-// Whether a part is of a store that is open under this number.
 pub(crate) fn is_open_part(part: &StorePart, number: u64) -> bool
     ensures { result ≡ is_open_part number part.now }
 {
@@ -205,7 +199,6 @@ pub(crate) fn part_at(part: &StorePart, address: u64) -> Option<u8>
     }
 }
 
-// The lanes of a part from one of them on.
 pub(crate) fn lanes_from(part: &StorePart, lane: u64) -> &[Option<u8>]
     requires { lane < 8 }
     ensures { result.now ≡ drop lane (eight part.now) }
@@ -220,7 +213,7 @@ fn cleared(over: Option<u8>, lane: Option<u8>) -> Option<u8>
     if over.is_some() { None } else { lane }
 }
 
-// Of these lanes those are written over that a store has.
+// Writes over those lanes that a store has.
 #[tactic(auto, using(crate::proofs::Cleared::clear_more, crate::proofs::Cleared::clear_past, crate::proofs::Cleared::clear_all))]
 fn clear_lanes(lanes: &mut [Option<u8>], over: &[Option<u8>])
     ensures { lanes.new ≡ cleared_lanes over.now lanes.old }
@@ -232,7 +225,7 @@ fn clear_lanes(lanes: &mut [Option<u8>], over: &[Option<u8>])
     }
 }
 
-// What is left of a part of a unit once this part of a store is answered.
+// What is left of a part once this one is answered.
 pub(crate) fn without_part(unit: u64, end: &StorePart, part: StorePart) -> StorePart
     ensures { result ≡ without_part unit end.now part }
 {
@@ -243,7 +236,7 @@ pub(crate) fn without_part(unit: u64, end: &StorePart, part: StorePart) -> Store
     left
 }
 
-// What is left of a part of a unit once these parts of a store are answered.
+// The same once these are answered.
 pub(crate) fn without_parts(unit: u64, ending: &[StorePart], part: StorePart) -> StorePart
     ensures { result ≡ without_parts unit ending.now part }
 {

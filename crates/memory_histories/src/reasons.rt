@@ -1,4 +1,4 @@
-//! What a load is owed, and the store that it is owed by.
+//! What a load is owed, and by which store.
 
 /// A store, by its number and its request.
 #[derive(Clone, Copy, PartialEq, Eq, Debug)]
@@ -9,10 +9,10 @@ pub struct StoreName {
     pub requested: u64,
 }
 
-/// What a load is owed for a byte by a flat memory: what stands there at the load's request.
+/// What flat memory owes a load for a byte, from its request on.
 #[derive(Clone, Copy, PartialEq, Eq, Debug)]
 pub enum Owed {
-    /// Anything: no store was requested before, and what memory had before is unknown.
+    /// Anything: nothing was stored, and what was there is unknown.
     Unknown,
     /// The byte that memory had before the first store.
     Initial { byte: u8 },

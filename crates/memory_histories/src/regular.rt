@@ -25,13 +25,12 @@ use crate::spares::take_spare;
 use std::alloc::{AllocError, Global};
 use std::collections::HashMap;
 
-/// A memory that is judged by the regular law, event by event.
+/// A memory judged by the regular law.
 ///
-/// It keeps of each byte the stores that a load may still see, and for each byte of an open load the
-/// set of what it may return: as much memory as the operations that are open and the bytes that were
-/// stored need, and that of eight answered loads at most for later ones, however long the history is. An
-/// event looks at the open operations, and at what is kept of those bytes that lie in the units of eight
-/// aligned addresses of its own operation.
+/// It keeps of each byte the stores that a load may still see, and for each byte of an open load
+/// what it may return. Memory grows with open operations and stored bytes, and by eight answered
+/// loads' room, however long the history is. An event looks at the open operations and at its own
+/// units of eight addresses.
 #[derive(Drop)]
 pub struct RegularMemory {
     image: Vec<u8>,
@@ -45,8 +44,8 @@ pub struct RegularMemory {
 
 #[tactic(auto, unfolding(crate::specs::Shown::kept))]
 impl RegularMemory {
-    /// Memory before the first event. The image is the bytes from address 0 on, and `rest` says what
-    /// stands beyond it. `AllocError` says that there was too little memory: nothing is made.
+    /// Memory before the first event. The image is the bytes from address 0 on, and `rest` says
+    /// what is beyond. `AllocError`: too little memory.
     pub fn new(alloc: Global, image: &[u8], rest: Rest) -> Result<RegularMemory, AllocError>
         ensures { IfOk result (λ m. StandsFor (kept m) (opening image.now rest)) }
     {
@@ -62,26 +61,22 @@ impl RegularMemory {
         })
     }
 
-    /// Why the history so far with this event would be none of the law, or `None` where it is one.
+    /// Why the history with this event isn't of the law.
     pub fn fault(&self, event: HistoryEvent) -> Option<HistoryFault>
         ensures { (w : Windows) → StandsFor (kept self.now) w → result ≡ fault w event.entry }
     {
         self.kept_fault(event)
     }
 
-    /// What the load that is open under a number may return for the byte at an address, if it is
-    /// answered now, or `None` if no such load asks for that byte.
+    /// What an open load may return now for the byte at an address, if it asks for it.
     pub fn may_return(&self, number: u64, address: u64) -> Option<ByteSet>
         ensures { (w : Windows) → StandsFor (kept self.now) w → IsSetOf w number address result }
     {
         self.kept_set(number, address)
     }
 
-    /// Takes one event of a history.
-    ///
-    /// It is `Ok` exactly where the history so far with this event is one of the law, and there was
-    /// room: what is kept is then of the history with the event. After each fault everything is as it
-    /// was, and a refusal names the first fault in the order of [`HistoryFault`].
+    /// Takes one event. `Ok`: the history with it is of the law. A refusal names the first fault in
+    /// the order of [`HistoryFault`].
     #[inline(always)]
     pub fn step(&mut self, event: HistoryEvent) -> Result<(), StepFault>
         ensures ok { (w : Windows) → StandsFor (kept self.old) w
@@ -117,28 +112,25 @@ impl RegularMemory {
         }
     }
 
-    // Where the load stands that is open under a number, if it is one alone.
     fn place_of_load(&self, number: u64) -> Option<usize>
         ensures { IfSome result (IsOnlyLoad number self.now.loads.items) }
     {
         only_load(self.loads.as_slice(), number)
     }
 
-    // Where the only part of the store stands that is open under a number, if it has one alone.
+    // Where a store's only part stands.
     fn place_of_store(&self, number: u64) -> Option<usize>
         ensures { IfSome result (IsOnly number self.now.stores.items) }
     {
         only_part(self.stores.as_slice(), number)
     }
 
-    // Why the request of a load is none of the law.
     fn load_request_fault(&self, number: u64, address: u64, length: usize) -> Option<HistoryFault>
         ensures { result ≡ kept_fault (kept self.now) (LoadRequest number address length) }
     {
         load_request_fault(is_inside(address, length), self.has_open_load(number))
     }
 
-    // Why the request of a store is none of the law.
     fn store_request_fault(
         &self,
         number: u64,
@@ -155,7 +147,7 @@ impl RegularMemory {
         )
     }
 
-    // Why the answer to a store is none of the law, if this is the place of its only part.
+    // Why a store may not be answered; its only part stands here.
     fn store_response_fault(&self, number: u64, place: Option<usize>) -> Option<HistoryFault>
         requires { IfSome place (IsOnly number self.now.stores.items) }
         ensures { result ≡ kept_fault (kept self.now) (StoreResponse number) }
@@ -177,7 +169,6 @@ impl RegularMemory {
         has_open(self.stores.as_slice(), number)
     }
 
-    // The same, if this is the place of its only part.
     fn has_answered_store(&self, number: u64, place: Option<usize>) -> bool
         requires { IfSome place (IsOnly number self.now.stores.items) }
         ensures { result ≡ list_any (is_open number) (kept self.now).stores }
@@ -185,7 +176,6 @@ impl RegularMemory {
         has_open_at(self.stores.as_slice(), number, place)
     }
 
-    // Why the answer to a load is none of the law, if this is the load's place.
     #[inline(always)]
     fn load_response_fault(
         &self,
@@ -205,7 +195,7 @@ impl RegularMemory {
         open_set(self.loads.as_slice(), number, address)
     }
 
-    // Each kind of event is told from the others once, or not at all where the caller knows it.
+    // Each kind is told apart once, or not at all if the caller knows it.
     #[inline(always)]
     fn kept_step(&mut self, event: HistoryEvent) -> Result<(), StepFault>
         ensures ok { OnOk result (kept_step (kept self.old) event.entry ≡ Some (kept self.new)) }
@@ -294,7 +284,7 @@ impl RegularMemory {
         Ok(())
     }
 
-    // An event with a fault is refused, and each one once there is no number left for it.
+    // Refuses an event with a fault, and each one once numbers are used up.
     fn refuse(&self, fault: Option<HistoryFault>) -> Result<(), StepFault>
         ensures none { OnOk result (fault ≡ None) }
         ensures room { OnOk result ((kept self.now).moment < 18446744073709551615) }
@@ -309,7 +299,6 @@ impl RegularMemory {
         Ok(())
     }
 
-    // A load is open under this number from now on.
     fn request_load(&mut self, number: u64, address: u64, length: usize) -> Result<(), AllocError>
         requires { is_inside address length ≡ true }
         ensures ok { OnOk result
@@ -337,7 +326,6 @@ impl RegularMemory {
         Ok(())
     }
 
-    // A store is open under this number from now on.
     fn request_store(
         &mut self,
         number: u64,
@@ -368,7 +356,7 @@ impl RegularMemory {
         Ok(())
     }
 
-    // The store that is open under this number is answered. Its only part stands at this place, if it has one alone.
+    // The store is answered. Its only part stands here, if it has one alone.
     fn answer_store(&mut self, number: u64, place: Option<usize>) -> Result<(), AllocError>
         requires { IfSome place (IsOnly number self.old.stores.items) }
         ensures ok { OnOk result
@@ -387,7 +375,6 @@ impl RegularMemory {
         }
     }
 
-    // The same, if its only part stands at this place.
     fn answer_part(&mut self, number: u64, place: usize) -> Result<(), AllocError>
         requires { IsOnly number self.old.stores.items place }
         ensures ok { OnOk result
@@ -428,7 +415,7 @@ impl RegularMemory {
     }
 }
 
-// The fault of an answer whose first wrong byte stands at this place, if it has one.
+// The fault of a first wrong byte at this place.
 pub(crate) fn wrong_byte(place: Option<usize>) -> Option<HistoryFault>
     ensures { result ≡ wrong_byte place }
 {

@@ -52,7 +52,7 @@ impl ByteSet {
         set
     }
 
-    /// The set of the bytes that are in one of two.
+    /// The bytes in one of two.
     pub fn union(self, other: ByteSet) -> ByteSet
         ensures { result ≡ union self other }
     {
@@ -68,7 +68,6 @@ impl ByteSet {
         }
     }
 
-    // This byte is in the set from now on.
     pub(crate) fn insert(&mut self, byte: u8)
         ensures { self.new ≡ with_byte self.old byte }
     {

@@ -1,5 +1,4 @@
-//! The memory of sets that answered loads leave for later ones: most loads are then requested and answered without an
-//! allocation.
+//! Answered loads leave the memory of their sets for later ones: most loads then allocate nothing.
 
 ghost use Rattle.std.specs.Prelude.{◌≡◌, ◌≤◌, ◌<◌, [], ◌∷◌, ◌++◌, IfOk, vec_len, vec_capacity};
 
@@ -36,7 +35,7 @@ fn emptied(sets: Vec<ByteSet>) -> Vec<ByteSet>
     sets
 }
 
-// Room that no load had before, and for the spares to come.
+// New room, also for the spares to come.
 #[inline(never)]
 fn new_room(
     alloc: Global,
@@ -52,7 +51,6 @@ fn new_room(
     Vec::with_capacity(alloc, length)
 }
 
-// Keeps what an answered load leaves, if there is room for it.
 pub(crate) fn keep_spare(spares: &mut Vec<Vec<ByteSet>>, sets: Vec<ByteSet>)
     ensures kept { vec_len spares.old < vec_capacity spares.old → spares.new.items ≡ spares.old.items ++ sets ∷ [] }
     ensures full { vec_capacity spares.old ≤ vec_len spares.old → spares.new.items ≡ spares.old.items }

@@ -1,4 +1,4 @@
-//! The bytes of operations with their windows, and the regular law over lists of them.
+//! Bytes of operations with their windows, and the regular law over them.
 
 ghost use Rattle.std.specs.Prelude.{◌≡◌, ◌+◌, ◌≤◌, ◌↔◌, ◌++◌, ◌^◌, IsTrue, length, vec_len, vec_capacity, slice_get};
 ghost use Rattle.memory_histories.specs.Windows.{store_bytes, is_of, is_at};
@@ -8,8 +8,8 @@ ghost use Rattle.memory_histories.specs.Regular.{MayReturn};
 
 use crate::events::Rest;
 
-/// One enabled byte of a store, and the window of its store: a store of many bytes is many stores of
-/// a byte, which begin and end together.
+/// A store's enabled byte, with its window. A store of many bytes is many stores of a byte with one
+/// window.
 #[derive(Clone, Copy, PartialEq, Eq, Debug)]
 pub struct StoreByte {
     /// The number of the store.
@@ -20,7 +20,7 @@ pub struct StoreByte {
     pub byte: u8,
     /// The event that requested it, counted from 0.
     pub began: u64,
-    /// The event that answered it, or `None` while it is open.
+    /// The event that answered it, if any.
     pub ended: Option<u64>,
 }
 
@@ -35,8 +35,7 @@ pub struct LoadByte {
     pub began: u64,
 }
 
-/// Whether memory may have had the byte at this address before the first store: it is the image's, or the one
-/// beyond the image.
+/// Whether memory may have had this byte before the first store.
 pub fn is_initial(image: &[u8], rest: Rest, address: u64, byte: u8) -> bool
     ensures { result ≡ is_initial (slice_get image.now address) rest byte }
 {
@@ -55,7 +54,7 @@ fn is_rest(rest: Rest, byte: u8) -> bool
     }
 }
 
-/// Whether an operation was answered before the moment: it isn't if it is open.
+/// Whether an operation was answered before the moment.
 pub fn is_before(ended: Option<u64>, moment: u64) -> bool
     ensures { result ≡ is_before ended moment }
 {
@@ -65,8 +64,8 @@ pub fn is_before(ended: Option<u64>, moment: u64) -> bool
     }
 }
 
-/// Whether another store to the byte was requested after the response of this one, and answered before
-/// the moment: then a load that is requested at this moment can't get what this store left.
+/// Whether another store to the byte was requested after this one's response, and answered before
+/// the moment: a load requested now can't get this one's byte.
 pub fn is_overwritten(stores: &[StoreByte], store: &StoreByte, moment: u64) -> bool
     ensures { result ≡ is_overwritten stores.now store.now moment }
 {
@@ -86,8 +85,8 @@ fn is_left(stores: &[StoreByte], load: &LoadByte, byte: u8) -> bool
     })
 }
 
-/// Whether a store to the byte was answered before the load's request: then the load can't get what memory
-/// had before the first store.
+/// Whether a store to the byte was answered before the load's request: it can't get what was there
+/// at first.
 pub fn is_covered(stores: &[StoreByte], load: &LoadByte) -> bool
     ensures { result ≡ is_covered stores.now load.now }
 {
@@ -101,15 +100,14 @@ pub fn is_of(load: &LoadByte, number: u64) -> bool
     load.number == number
 }
 
-/// Whether a byte is the one at this address of the load that is open under this number.
+/// Whether it is that load's byte at this address.
 pub fn is_at(load: &LoadByte, number: u64, address: u64) -> bool
     ensures { result ≡ is_at number address load.now }
 {
     is_of(load, number) && load.address == address
 }
 
-/// Adds the enabled bytes of a store that is requested at this moment, in the order of memory. Bit `k` of `enables` is
-/// the enable of byte `k`.
+/// Adds a store's enabled bytes in the order of memory. Bit `k` of `enables` is byte `k`'s.
 pub fn add_store(
     stores: &mut Vec<StoreByte>,
     number: u64,
@@ -137,7 +135,6 @@ pub fn add_store(
     }
 }
 
-// Whether a load may return this byte if it is answered now.
 pub(crate) fn may_return_byte(
     image: &[u8],
     rest: Rest,
@@ -151,11 +148,11 @@ pub(crate) fn may_return_byte(
         || (is_initial(image, rest, load.address, byte) && !is_covered(stores, load))
 }
 
-/// Whether a load may return this byte if it is answered now, by the law as it is read aloud: memory
-/// began with this image, and these are the bytes of all stores so far.
+/// Whether a load may return this byte now, by the law as it is read aloud, over the image and the
+/// bytes of all stores.
 ///
-/// It is true whenever hidden moments explain the byte: one for each answered store and for the load,
-/// each within its window, so that the load gets what stands there at its moment.
+/// So it is if hidden moments explain the byte: one for each answered store and for the load, each
+/// within its window.
 pub fn may_return(image: &[u8], rest: Rest, stores: &[StoreByte], load: &LoadByte, byte: u8) -> bool
     ensures law { IsTrue result ↔ MayReturn image.now rest stores.now load.now byte }
     ensures sound { Explains image.now rest stores.now load.now byte → IsTrue result }

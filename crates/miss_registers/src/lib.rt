@@ -1,4 +1,5 @@
-//! The registers that keep what is known of missing blocks.
+//! The registers that keep what is known of missing blocks (MSHRs). [`RegisterTable`] has them; its
+//! caller is the cache unit.
 #![tactic(auto)]
 
 ghost use Rattle.std.specs.Prelude.{◌≡◌, ◌<◌, ◌≤◌, ◌++◌, [], ◌∷◌, length, slice_get};
@@ -16,22 +17,21 @@ use flat_model::{Lanes, Word};
 use std::marker::Model;
 pub use table::RegisterTable;
 
-/// A load that waits for a word, and the bytes that it has already.
+/// A waiting load, and the bytes that it has.
 #[derive(Clone, Copy, PartialEq, Eq, Debug, Default)]
 pub struct Owed {
     /// The load's tag.
     pub tag: u16,
-    /// The bytes that it has already: only those in the lanes count.
+    /// Its bytes: only those in the lanes count.
     pub held: Word,
-    /// The lanes that the arriving word mustn't give it.
+    /// Lanes that the arriving word mustn't give it.
     pub lanes: Lanes,
 }
 
-/// What a register shows of itself. What doesn't apply is 0 or clear: all of a free register, and
-/// the frame of one that isn't live.
+/// What a register shows of itself; 0 or clear if it doesn't apply, as a free one's block.
 #[derive(Clone, Copy, PartialEq, Eq, Debug, Default)]
 pub struct RegisterView {
-    /// Whether it stands for a block that is missing words.
+    /// Whether its block is missing words.
     pub valid: bool,
     /// Whether its block lost its frame.
     pub obsolete: bool,
@@ -39,32 +39,32 @@ pub struct RegisterView {
     pub block: u32,
     /// The frame of a live register.
     pub frame: u32,
-    /// How many words of the block are processed.
+    /// Processed words of the block.
     pub processed: u32,
 }
 
-/// What a register shows of one word of its block. What doesn't apply is 0 or clear.
+/// What it shows of a word; 0 or clear if it doesn't apply.
 #[derive(Clone, Copy, PartialEq, Eq, Debug, Default)]
 pub struct FieldView {
     /// Whether a load waits for the word.
     pub send: bool,
-    /// Whether the word stands in the input stack.
+    /// The word stands in the input stack.
     pub in_stack: bool,
     /// Whether the word was processed.
     pub processed: bool,
-    /// The lanes of the buffer that the arriving word mustn't change.
+    /// Lanes of the buffer that the arriving word mustn't change.
     pub code: Lanes,
-    /// The tag of the first load that waits.
+    /// The first waiting load's tag.
     pub tag: u16,
-    /// The lanes whose bytes that load has already.
+    /// Lanes whose bytes it has.
     pub held_lanes: Lanes,
-    /// The bytes that it has already: only those in the held lanes count.
+    /// Its bytes: only those in the held lanes count.
     pub held: Word,
     /// How many loads wait.
     pub targets: u32,
 }
 
-/// How many loads may wait for one word.
+/// The most loads that wait for a word.
 pub const MAX_WAITING: usize = 4;
 
 /// At most [`MAX_WAITING`] loads, in their order.
@@ -98,7 +98,7 @@ impl OwedList {
         self.items.push(owed);
     }
 
-    /// How many loads there are: four at most.
+    /// At most four.
     pub fn len(&self) -> u32
         ensures count { result ≡ length self.now }
         ensures few { result ≤ MAX_WAITING }
@@ -106,7 +106,7 @@ impl OwedList {
         self.items.len() as u32
     }
 
-    /// The load at a place, counted from 0; None where there is none.
+    /// The load at a place, from 0.
     pub fn get(&self, place: u32) -> Option<Owed>
         ensures { result ≡ slice_get self.now place }
     {
@@ -114,15 +114,15 @@ impl OwedList {
     }
 }
 
-/// What a word that is processed leaves to do.
+/// What a processed word leaves to do.
 #[derive(Drop)]
 pub struct WordEnd {
-    /// The loads that waited for it, in the order in which they were accepted.
+    /// The loads that waited, oldest first.
     pub send: OwedList,
-    /// Its code: the lanes of the buffer that the word mustn't change.
+    /// Lanes of the buffer that it mustn't change.
     pub keep: Lanes,
-    /// The frame that the word goes into, where the register is live.
+    /// The frame that it goes into, if the register is live.
     pub live: Option<u32>,
-    /// Whether it was the last word of its block, so that the register is free now.
+    /// It was the block's last word: the register is free.
     pub last: bool,
 }

@@ -1,24 +1,23 @@
-//! What a register marks for one word of its block.
+//! Marks of a word of a block.
 ghost use Rattle.std.specs.Prelude.{◌≡◌, ◌&&◌, not, true};
 ghost use Rattle.flat_model.specs.Words.{joined};
 ghost use Rattle.miss_registers.specs.Targets as spec;
 
 use flat_model::Lanes;
 
-/// What a register marks for one word of its block, beside the loads that wait for it. All is clear
-/// of a word that has still to come.
+/// A register's marks for a word; clear while it is to come.
 #[derive(Clone, Copy, PartialEq, Eq, Debug, Default)]
 pub struct Marks {
-    /// Whether the word stands in the input stack.
+    /// It stands in the input stack.
     pub in_stack: bool,
     /// Whether it was processed.
     pub processed: bool,
-    /// Its code: the lanes of the buffer that the arriving word mustn't change.
+    /// Lanes of the buffer that it mustn't change.
     pub code: Lanes,
 }
 
 impl Marks {
-    /// Whether the word is still to come: unprocessed, and not in the stack.
+    /// Unprocessed, and not in the stack.
     pub fn is_expected(&self) -> bool
         ensures { result ≡ (not self.now.processed && not self.now.in_stack) }
     {
@@ -39,7 +38,7 @@ impl Marks {
         self.in_stack = true;
     }
 
-    /// The word is processed: it has no other mark from now on.
+    /// Processed: no other mark is left.
     pub fn finish(&mut self)
         ensures { self.new ≡ spec.finished_marks }
     {
@@ -48,7 +47,7 @@ impl Marks {
         self.clear_code();
     }
 
-    /// The arriving word no longer spares any lane of the buffer.
+    /// The word spares no lane of the buffer any more.
     pub fn clear_code(&mut self)
         ensures { self.new ≡ spec.marks_without_code self.old }
     {

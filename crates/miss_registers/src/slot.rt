@@ -15,15 +15,15 @@ use arrayvec::ArrayVec;
 use flat_model::{Lanes, MAX_BLOCK_WORDS};
 use std::marker::Model;
 
-/// A register: the block that it stands for, what is marked for each word, and the loads that wait
-/// for the words, in one list. A free register keeps nothing.
+/// A register: its block, marks for each word, and waiting loads in one list. A free one keeps
+/// nothing.
 #[derive(Drop)]
 pub struct Slot {
     valid: bool,
     obsolete: bool,
     block: u32,
     frame: u32,
-    // What is marked for each word of the block.
+    // For each word of the block.
     marks: ArrayVec<Marks, MAX_BLOCK_WORDS>,
     targets: Targets,
 }
@@ -67,14 +67,14 @@ impl Slot {
         self.valid
     }
 
-    /// Whether the register is live and stands for this block.
+    /// Whether it is live and stands for this block.
     pub fn is_live_for(&self, block: u32) -> bool
         ensures { result ≡ (spec.is_live self.now && self.now.block == block) }
     {
         self.valid && !self.obsolete && self.block == block
     }
 
-    /// Takes the register for a block of so many words, all of them still to come.
+    /// Takes the register; all words are to come.
     pub fn allocate(&mut self, words: u32, block: u32, frame: u32)
         requires { words ≤ MAX_BLOCK_WORDS }
         ensures { self.new ≡ spec.fresh words block frame }
@@ -87,7 +87,7 @@ impl Slot {
         self.targets.clear();
     }
 
-    /// One more load waits for word `i`, last in the word's list.
+    /// Adds a load behind the others.
     pub fn await_word(&mut self, i: u32, owed: Owed)
         requires there { i < length self.old.fields }
         requires room { length (spec.field_of self.old i).waiting < MAX_WAITING }
@@ -96,7 +96,7 @@ impl Slot {
         self.targets.push(i, owed);
     }
 
-    /// The lanes join the code of word `i`.
+    /// The lanes join word `i`'s code.
     pub fn note_store(&mut self, i: u32, lanes: Lanes)
         requires { i < length self.old.fields }
         ensures { self.new ≡ spec.noted self.old i lanes }
@@ -106,7 +106,7 @@ impl Slot {
         set_word(&mut self.marks, i, word);
     }
 
-    /// Answers the loads that wait for word `i`, and frees the register where it was the last word.
+    /// Answers word `i`'s loads, and frees the register behind the last word.
     pub fn finish_word(&mut self, i: u32) -> WordEnd
         requires there { i < length self.old.fields }
         ensures register { self.new ≡ spec.finished self.old i }
@@ -137,7 +137,6 @@ impl Slot {
         }
     }
 
-    // The register is free, and its storage clear.
     fn free(&mut self)
         ensures { self.new ≡ spec.free_register }
     {
@@ -149,7 +148,7 @@ impl Slot {
         self.targets.clear();
     }
 
-    /// Whether word `i` is still to come: unprocessed, and not in the stack.
+    /// Unprocessed, and not in the stack.
     pub fn expects(&self, i: u32) -> bool
         ensures { result ≡ spec.expects self.now i }
     {
@@ -166,7 +165,7 @@ impl Slot {
         set_word(&mut self.marks, i, word);
     }
 
-    /// The register no longer changes the buffer, and its codes are cleared.
+    /// The buffer is changed no more, and codes are clear.
     pub fn make_obsolete(&mut self)
         ensures { self.new ≡ spec.made_obsolete self.old }
     {
@@ -174,7 +173,7 @@ impl Slot {
         clear_codes(self.marks.as_mut_slice());
     }
 
-    /// Whether a load with this tag waits for one of the words.
+    /// Whether a load with this tag waits here.
     pub fn tag_waits(&self, tag: u16) -> bool
         ensures { result ≡ spec.has_tag (spec.tags_of self.now) tag }
     {
@@ -194,7 +193,7 @@ impl Slot {
         }
     }
 
-    /// What the register shows of word `i`; all clear where it has no such word.
+    /// Word `i`; all clear if there is none.
     pub fn field(&self, i: u32) -> FieldView
         ensures { result ≡ shows.shown_field (spec.field_of self.now i) }
     {
@@ -202,7 +201,7 @@ impl Slot {
         shown_word(word, &self.targets.of_word(i))
     }
 
-    /// The code of word `i`, where it isn't processed.
+    /// Word `i`'s code, unless processed.
     pub fn missing_code(&self, i: u32) -> Option<Lanes>
         ensures { result ≡ spec.code_of_missing (spec.field_of self.now i) }
     {
@@ -217,7 +216,7 @@ impl Slot {
         self.targets.of_word(i).len()
     }
 
-    /// The load at a place among those that wait for word `i`.
+    /// The load at a place of word `i`'s.
     pub fn target(&self, i: u32, place: u32) -> Option<Owed>
         ensures { result ≡ slice_get (spec.field_of self.now i).waiting place }
     {
@@ -225,14 +224,13 @@ impl Slot {
     }
 }
 
-// What is marked for a word: nothing for one that isn't there.
+// A word's marks; none without one.
 fn marks_at(marks: &[Marks], i: u32) -> Marks
     ensures { result ≡ slice_index_or marks.now i kept.clear_marks }
 {
     marks.get(i as usize).copied().unwrap_or_default()
 }
 
-// Whether there is such a word, and it is still to come.
 fn is_expected(marks: &[Marks], i: u32) -> bool
     ensures { result ≡ (nat_lt i (length marks.now) && (not (slice_index_or marks.now i kept.clear_marks).processed
         && not (slice_index_or marks.now i kept.clear_marks).in_stack)) }
@@ -250,7 +248,6 @@ fn set_word(marks: &mut ArrayVec<Marks, MAX_BLOCK_WORDS>, i: u32, word: Marks)
     marks.as_mut_slice()[i as usize] = word;
 }
 
-// What is shown of a word that has these marks, and for which these loads wait.
 fn shown_word(word: Marks, waiting: &OwedList) -> FieldView
     ensures { result ≡ shows.shown_field (kept.field_with word waiting.now) }
 {
@@ -281,7 +278,7 @@ fn clear_codes(marks: &mut [Marks])
     }
 }
 
-// In place, since moving all marks costs more than writing those that there are.
+// In place: moving all marks costs more than writing some.
 fn put_clear_marks(marks: &mut ArrayVec<Marks, MAX_BLOCK_WORDS>, words: u32)
     requires { words ≤ MAX_BLOCK_WORDS }
     ensures { marks.new.items ≡ replicate words kept.clear_marks }
@@ -292,7 +289,7 @@ fn put_clear_marks(marks: &mut ArrayVec<Marks, MAX_BLOCK_WORDS>, words: u32)
     }
 }
 
-// A register that isn't live shows no frame.
+// Only a live register shows its frame.
 fn frame_shown(valid: bool, obsolete: bool, frame: u32) -> u32
     ensures { result ≡ (if valid && not obsolete then frame else 0) }
 {

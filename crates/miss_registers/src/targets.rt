@@ -1,4 +1,4 @@
-//! The loads that wait for the words of a register.
+//! Loads that wait for a register's words.
 ghost use Rattle.std.specs.Prelude.{◌≡◌, ◌<◌, ◌≤◌, ◌++◌, [], ◌∷◌, ◌==◌, length, not};
 ghost use Rattle.std.specs.List.{list_any, filter};
 ghost use Rattle.miss_registers.specs.declared.TheConstants.{MAX_WAITING};
@@ -10,10 +10,10 @@ use arrayvec::ArrayVec;
 use flat_model::MAX_BLOCK_WORDS;
 use std::marker::Model;
 
-/// How many loads may wait for the words of a register.
+/// The most loads of a register.
 pub const MAX_TARGETS: usize = MAX_WAITING * MAX_BLOCK_WORDS;
 
-/// A load that waits, with the number of its word in the block.
+/// A waiting load, with its word's number.
 #[derive(Clone, Copy, PartialEq, Eq, Debug, Default)]
 pub struct Target {
     /// The word's number.
@@ -22,7 +22,7 @@ pub struct Target {
     pub owed: Owed,
 }
 
-/// At most [`MAX_TARGETS`] loads, in the order in which they came, whichever word they wait for.
+/// Waiting loads in the order in which they came.
 #[derive(Drop)]
 pub struct Targets {
     items: ArrayVec<Target, MAX_TARGETS>,
@@ -54,7 +54,7 @@ impl Targets {
         self.items.clear();
     }
 
-    /// One more load waits for word `i`, behind all others.
+    /// Adds a load behind all others.
     pub fn push(&mut self, i: u32, owed: Owed)
         requires { length self.old < MAX_TARGETS }
         ensures { self.new ≡ self.old ++ record { i = i; owed = owed } ∷ [] }
@@ -62,7 +62,7 @@ impl Targets {
         self.items.push(Target { i, owed });
     }
 
-    /// The loads that wait for word `i`, in their order.
+    /// Word `i`'s loads, oldest first.
     pub fn of_word(&self, i: u32) -> OwedList
         requires { length (spec.waiting_for i self.now) ≤ MAX_WAITING }
         ensures { result ≡ spec.waiting_for i self.now }
@@ -70,7 +70,7 @@ impl Targets {
         targets_of(self.items.as_slice(), i)
     }
 
-    /// Hands on the loads that wait for word `i`, and keeps the others.
+    /// Hands on word `i`'s loads, and keeps the others.
     pub fn take(&mut self, i: u32) -> OwedList
         requires { length (spec.waiting_for i self.old) ≤ MAX_WAITING }
         ensures taken { result ≡ spec.waiting_for i self.old }

@@ -1,10 +1,9 @@
-//! Machines of the numbers that a shape file or a machine file may say, and sweeps over them: what requests
-//! wait for with several numbers of registers.
+//! Machines of the numbers that a file may say, and sweeps over them: what requests wait for with
+//! several numbers of registers.
 //!
-//! [`new_machine`] makes a machine over an image. [`sweep_row`] gives the counts of one shape, [`sweep`] those of
-//! several, each made by a thread of its own, and [`sweep_machines`] those of machines of any numbers.
-//! [`sweep_rounds`] gives their tables, each of a machine that is driven in rounds with a latency of memory, where
-//! these pump.
+//! [`sweep`] comes first; its caller has a trace's requests. A thread makes each row.
+//! [`sweep_machines`] takes machines of any numbers, and [`sweep_rounds`] drives them in rounds
+//! where these pump.
 #![tactic(auto)]
 
 mod machines;

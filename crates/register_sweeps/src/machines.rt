@@ -10,8 +10,8 @@ use flat_model::{Image, MakeFault};
 use machine_core::{ShapedMachine, Sizes};
 use std::alloc::{AllocError, Global};
 
-/// A new machine of numbers that are in their ranges, over an image. Of an image that is longer than its
-/// memory the machine has what fits. An error says that there was too little memory.
+/// A new machine of numbers in their ranges, over as much of an image as fits. An error: too little
+/// memory.
 pub fn new_machine(alloc: Global, sizes: &Sizes, image: &Image) -> Result<ShapedMachine, AllocError>
     requires sizes { bad_machine sizes.now ≡ None }
     ensures machine { IfOk result (λ machine. machine ≡ machine_over image.now sizes.now) }

@@ -1,12 +1,11 @@
-//! When a request that waits for room needn't be asked again.
+//! When a request that lacks room needn't be asked again.
 
 ghost use Rattle.std.specs.Prelude.{◌≡◌};
 ghost use Rattle.register_sweeps.specs.Lacking as room;
 
 use flat_model::{Answer, Cause, Event};
 
-// Whether a request was refused for want of a register, a frame or places in the write queue, so that it is
-// refused again until a pump makes room.
+// Whether a request lacks a register, a frame or queue places: refused until a pump makes room.
 #[inline(always)]
 pub(crate) fn is_refused_room(event: Event, answer: Answer) -> bool
     ensures { result ≡ room.is_refused_room event answer }
@@ -17,7 +16,6 @@ pub(crate) fn is_refused_room(event: Event, answer: Answer) -> bool
     }
 }
 
-// Whether it is for the block of a word.
 #[inline(always)]
 fn is_of_a_word(event: Event) -> bool
     ensures { result ≡ room.is_of_a_word event }
@@ -28,7 +26,6 @@ fn is_of_a_word(event: Event) -> bool
     )
 }
 
-// Whether it says that there is no room for a block.
 #[inline(always)]
 fn is_lack(cause: Cause) -> bool
     ensures { result ≡ room.is_lack cause }
@@ -39,7 +36,6 @@ fn is_lack(cause: Cause) -> bool
     )
 }
 
-// Whether a pump may have made room for a block.
 #[inline(always)]
 pub(crate) fn may_make_room(told: Option<(Event, Answer)>) -> bool
     ensures { result ≡ room.may_make_room told }
@@ -50,7 +46,7 @@ pub(crate) fn may_make_room(told: Option<(Event, Answer)>) -> bool
     }
 }
 
-// Whether an event leaves frames, registers and the write queue alone.
+// Whether an event changes no frame, register or queue place.
 #[inline(always)]
 fn leaves_room(event: Event) -> bool
     ensures { result ≡ room.leaves_room event }

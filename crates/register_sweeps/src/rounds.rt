@@ -1,4 +1,4 @@
-//! The rows of a sweep in rounds: a machine is driven with times of memory, and its table counted.
+//! The rows of a sweep in rounds.
 
 ghost use Rattle.std.specs.Prelude.{◌≡◌, ◌≢◌, ◌≤◌, ◌<◌, length, map, Some, None, Err, IfOk, IfErr, OnOk, true};
 ghost use Rattle.shape_files.specs.MachineFile.{bad_machine};
@@ -38,10 +38,10 @@ impl fmt::Display for RoundsRow {
     }
 }
 
-/// The table of requests that are driven in rounds through a new machine of numbers that are in their
-/// ranges, over an image, as [`summarize_with`] counts it. The run is over in time.
+/// The table of requests in rounds through a new machine over an image, as [`summarize_with`]
+/// counts it.
 ///
-/// `AllocError` says that there was too little memory.
+/// `AllocError`: too little memory.
 pub fn rounds_table(
     alloc: Global,
     sizes: &Sizes,
@@ -60,7 +60,6 @@ pub fn rounds_table(
     summarize_with(alloc, &mut machine, timing, requests)
 }
 
-// What makes the row of these requests for each machine, with these times of memory.
 #[derive(Drop)]
 struct RoundsRows<'a> {
     timing: Timing,
@@ -85,13 +84,10 @@ impl RowMaker for RoundsRows<'_> {
     }
 }
 
-/// The tables of machines of these numbers, in their order, each by a thread of its own, so all at once: a new
-/// machine, over zeros, is driven in rounds, as [`rounds_table`] has it. Each run is over in
-/// time.
+/// The tables of machines of these numbers, over zeros, in their order, each by a thread.
 ///
-/// `timing` is as that of [`summarize_with`], with a latency of at most [`MOST_LATENCY`](round_driver::MOST_LATENCY).
-/// There may be at most 16,777,216 requests. Turns, gate and faults are those of
-/// [`sweep_machines`](crate::sweep_machines).
+/// The latency is at most [`MOST_LATENCY`](round_driver::MOST_LATENCY), and there are 16,777,216
+/// requests at most. Turns, gate and faults are those of [`sweep_machines`](crate::sweep_machines).
 pub fn sweep_rounds<R: Threads + Sync, G: SweepGate>(
     rt: &R,
     alloc: Global,

@@ -1,4 +1,4 @@
-//! One row of a sweep: a machine serves all requests, and what it took is counted.
+//! One row: a machine serves all requests, and is counted.
 
 ghost use Rattle.std.specs.Prelude.{◌≡◌, ◌+◌, ◌*◌, ◌^◌, ◌<◌, ◌≤◌, length, true, false, IsTrue, Some};
 ghost use Rattle.std.specs.Fmt.{WritesOnOk};
@@ -17,20 +17,19 @@ use machine_core::ShapedMachine;
 use round_driver::keeps_whole;
 use std::fmt;
 
-// As many turns as any weight at least: rows are counted of machines whose weight is below 2^32.
+// As many turns as any weight: a row's machine weighs less than 2^32.
 const MOST_TURNS: u64 = u32::MAX as u64;
 
-/// What a sweep counted with one number of registers.
+/// One number of registers, counted.
 #[derive(Clone, Copy, PartialEq, Eq, Debug, Default)]
 pub struct Row {
     /// Registers of the machine.
     pub regs: u32,
     /// Requests that were accepted.
     pub accepted: u64,
-    /// Requests that were refused for what no pump changes: a place out of memory, no lane, or a
-    /// block that isn't there.
+    /// Refused for what no pump changes: no such word, lane or block.
     pub denied: u64,
-    /// Requests that were not accepted or denied at once.
+    /// Not accepted or denied at once.
     pub stalled: u64,
     /// Pumps that stalled requests waited for.
     pub waited: u64,
@@ -91,7 +90,7 @@ impl Row {
         }
     }
 
-    // Counts an answer to a request, where it ends the request, and says whether it does.
+    // Counts an answer that ends a request, and says whether it does.
     #[inline(always)]
     fn count_end(&mut self, answer: Answer) -> bool
         requires { total self.old < 2 ^ 63 }
@@ -118,7 +117,6 @@ impl Row {
 pub(crate) enum Asked {
     // It was accepted or denied.
     Ended,
-    // It lacks room for its block, which few pumps make.
     LacksRoom,
     // It waits for something else.
     Waits,
@@ -161,8 +159,8 @@ fn ask(machine: &mut ShapedMachine, row: &mut Row, event: Event) -> Asked
     }
 }
 
-// Pumps once, and says whether that may have made room for a block. Like `ask` it is called in each turn, and
-// pays for no frame of its own.
+// Pumps, and says whether that may have made room. Called in each turn, it pays for no frame, as
+// `ask`.
 #[inline(always)]
 #[tactic(auto, unfolding(machine_core::specs::AnyMachine::answered, machine_core::specs::AnyMachine::after_event, machine_core::specs::AnyMachine::pump_tells, machine_core::specs::AnyMachine::pump_leaves))]
 fn pump_once(machine: &mut ShapedMachine, row: &mut Row) -> bool
@@ -176,8 +174,7 @@ fn pump_once(machine: &mut ShapedMachine, row: &mut Row) -> bool
     may_make_room(told)
 }
 
-// A turn of a request that waits: a pump, and then the request is asked. One that lacks room is refused again
-// behind a pump that makes none, and isn't asked: most pumps serve, bring or take a word.
+// A pump, and then the request is asked, unless it still lacks room: most pumps make none.
 #[inline(always)]
 fn turn(machine: &mut ShapedMachine, row: &mut Row, event: Event, asked: Asked) -> Asked
     requires room { total row.old + 4 < 2 ^ 63 }
@@ -197,7 +194,6 @@ fn turn(machine: &mut ShapedMachine, row: &mut Row, event: Event, asked: Asked) 
     ask(machine, row, event)
 }
 
-// Whether an event is a load, a store, a prefetch or an eviction.
 fn is_request(event: Event) -> bool
     ensures { result ≡ is_request event }
 {
@@ -207,9 +203,8 @@ fn is_request(event: Event) -> bool
     )
 }
 
-// How often an event that has to wait is asked again at most: as often as what is on its way weighs.
-// To a whole machine a request ends by then, so for one any higher number does the same, and the
-// machine isn't weighed.
+// The most times that a waiting request is asked again: what is on its way, weighed. A whole
+// machine needs no weighing: any higher number does the same.
 #[tactic(auto, unfolding(machine_core::specs::AnyMachine::weight_of))]
 fn most_turns(machine: &ShapedMachine, event: Event) -> u64
     requires few { most_weight machine.now.sizes < 2 ^ 32 }
@@ -226,7 +221,6 @@ fn most_turns(machine: &ShapedMachine, event: Event) -> u64
     }
 }
 
-// Asks a request again, after a pump each time, until it ends.
 fn ask_again(machine: &mut ShapedMachine, row: &mut Row, event: Event, asked: Asked)
     requires few { most_weight machine.old.sizes < 2 ^ 32 }
     requires room { total row.old < 2 ^ 62 }
@@ -275,7 +269,6 @@ fn run_dry(machine: &mut ShapedMachine, row: &mut Row)
     }
 }
 
-// Serves all requests, and then pumps until there is nothing left to do.
 fn count_all(machine: &mut ShapedMachine, regs: u32, events: &[Event]) -> Row
     requires few { most_weight machine.old.sizes < 2 ^ 32 }
     requires events { length events.now ≤ most_requests }
@@ -291,7 +284,6 @@ fn count_all(machine: &mut ShapedMachine, regs: u32, events: &[Event]) -> Row
     row
 }
 
-// The row of a machine, which says itself that it is whole.
 pub(crate) fn row_from(machine: &mut ShapedMachine, regs: u32, events: &[Event]) -> Row
     requires few { most_weight machine.old.sizes < 2 ^ 32 }
     requires events { length events.now ≤ most_requests }

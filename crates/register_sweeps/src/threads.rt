@@ -1,4 +1,4 @@
-//! A row for each machine, each by a thread of its own.
+//! A row for each machine, each by a thread.
 
 ghost use Rattle.std.specs.Prelude.{◌≡◌, ◌≢◌, ℕ, ◌<◌, length, map, Option, Result, None, Ok, Err, IfOk, IfErr, OnOk, slice_index_or, true};
 ghost use Rattle.std.specs.List.{All, list_any};
@@ -31,10 +31,8 @@ pub(crate) trait RowMaker: Sync {
     // The row of a machine.
     ghost gives: { Self → SizesValue → Self.Row };
 
-    // What a row that was made shows of its machine.
     ghost shows: { Self → SizesValue → Type 0 };
 
-    // Makes the row of a machine whose numbers are in their ranges.
     fn make_row(&self, alloc: Global, sizes: &Sizes) -> Result<Self::Row, AllocError>
         requires can { can self.now }
         requires sizes { bad_machine sizes.now ≡ None }
@@ -56,7 +54,7 @@ impl From<AllocError> for Stop {
     }
 }
 
-// What may have a number out of its range: a shape of the program, or a machine.
+// What may have a number out of its range.
 pub(crate) trait Ranged {
     // The first such number.
     ghost bad: { Self → Option Field };
@@ -82,7 +80,7 @@ impl Ranged for Sizes {
     }
 }
 
-// Sees that none of these has a number out of its range. The first one that has such a number is told, with its place.
+// The first with a number out of its range, with its place.
 pub(crate) fn all_good<S: Ranged>(all: &[S]) -> Result<(), SweepFault>
     ensures good { OnOk result (bad_from S.bad 0 all.now ≡ None) }
     ensures fault { IfErr result (FaultSays S.bad all.now) }
@@ -96,7 +94,6 @@ pub(crate) fn all_good<S: Ranged>(all: &[S]) -> Result<(), SweepFault>
     Ok(())
 }
 
-// The row of a machine, once its gate lets it begin.
 fn row_in_turn<K: RowMaker, G: SweepGate>(
     alloc: Global,
     maker: &K,
@@ -121,7 +118,6 @@ fn row_in_turn<K: RowMaker, G: SweepGate>(
     Err(Stop::TurnLimit)
 }
 
-// What the threads of these machines answer, one for each.
 fn all_answers<R: Threads + Sync, K: RowMaker, G: SweepGate>(
     rt: &R,
     alloc: Global,
@@ -166,7 +162,7 @@ fn one_lacks_memory<A>(answers: &[Result<A, Stop>]) -> bool
         .any(|answer| matches!(answer, Err(Stop::OutOfMemory)))
 }
 
-// The rows of the threads. Want of memory goes before a turn limit.
+// The threads' rows. Want of memory goes before a turn limit.
 fn all_rows<A: Copy>(alloc: Global, answers: &[Result<A, Stop>]) -> Result<Vec<A>, SweepFault>
     ensures rows { IfOk result (λ rows. map Ok rows.items ≡ answers.now) }
     ensures fault { IfErr result IsStop }

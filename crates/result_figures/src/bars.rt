@@ -1,4 +1,4 @@
-//! The figure of what a run counted: a bar for each cause of lost rounds, and what became of the requests.
+//! A run's figure: a bar for each cause of lost rounds.
 
 ghost use Rattle.std.specs.Prelude.{◌≡◌, ◌<◌, ◌^◌, Some};
 ghost use Rattle.std.specs.Fmt.{WritesOnOk};
@@ -16,7 +16,6 @@ use flat_model::Cause;
 use round_driver::{LostRounds, Table};
 use std::fmt;
 
-// Rounds that were lost to a cause, on the line of this place.
 #[derive(Clone, Copy)]
 struct Loss {
     place: u8,
@@ -24,7 +23,7 @@ struct Loss {
     rounds: u64,
 }
 
-// The causes that a machine of this repository refuses with, and the rounds that were lost to them.
+// The causes that this repository's machines refuse with.
 fn losses_of(lost: &LostRounds) -> [Loss; 7]
     ensures { result ≡ bars.losses_of lost.now }
 {
@@ -67,7 +66,6 @@ fn losses_of(lost: &LostRounds) -> [Loss; 7]
     ]
 }
 
-// The most rounds that were lost to one of them.
 fn most_lost(losses: &[Loss]) -> u64
     ensures { result ≡ bars.most_lost 0 losses.now }
 {
@@ -78,7 +76,6 @@ fn most_lost(losses: &[Loss]) -> u64
     most
 }
 
-// The middle of the line of a place.
 fn line_of(place: u8) -> u128
     ensures line { result ≡ bars.line_of place }
     ensures small { result < 2 ^ 20 }
@@ -86,7 +83,6 @@ fn line_of(place: u8) -> u128
     BARS_TOP + BAR_LINE * u128::from(place)
 }
 
-// The number and the name of a cause, beside its bar.
 #[derive(Clone, Copy)]
 struct CauseName(Loss);
 
@@ -103,7 +99,6 @@ impl fmt::Display for CauseName {
     }
 }
 
-// A bar that is so long, on the line of a place.
 #[derive(Clone, Copy)]
 struct Bar {
     place: u8,
@@ -124,7 +119,7 @@ impl fmt::Display for Bar {
     }
 }
 
-// A cause: its name, its bar, which is so long, and behind it its rounds.
+// A cause, its bar's width, and where its number begins.
 #[derive(Clone, Copy)]
 struct LossLine {
     loss: Loss,
@@ -149,7 +144,6 @@ impl fmt::Display for LossLine {
     }
 }
 
-// How long the bar of so many rounds is.
 fn bar_width(rounds: u64, most: u64) -> u128
     ensures width { result ≡ bars.bar_width most rounds }
     ensures small { result < 2 ^ 90 }
@@ -185,7 +179,7 @@ impl<'a> fmt::Display for LossLines<'a> {
     }
 }
 
-// A line of the grid with its number, unless the number is beyond the largest value.
+// A grid line and its number, up to the largest value.
 #[derive(Clone, Copy)]
 struct BarTick {
     most: u64,
@@ -207,7 +201,7 @@ impl fmt::Display for BarTick {
     }
 }
 
-// A line of the grid at this place, and the beginning of its number, which is so large.
+// A grid line at a place, and its number's size.
 #[derive(Clone, Copy)]
 struct BarGrid(u128, u128);
 
@@ -222,7 +216,6 @@ impl fmt::Display for BarGrid {
     }
 }
 
-// The ticks of these multiples of a step.
 fn write_ticks<W: fmt::Write>(
     f: &mut fmt::Formatter<W>,
     most: u64,
@@ -239,7 +232,7 @@ fn write_ticks<W: fmt::Write>(
     Ok(())
 }
 
-// The grid and the numbers of the axis.
+// The axis's grid and numbers, up to the largest value.
 #[derive(Clone, Copy)]
 struct BarTicks(u64);
 
@@ -253,7 +246,6 @@ impl fmt::Display for BarTicks {
     }
 }
 
-// The axis of the bars, and its name.
 #[derive(Clone, Copy)]
 struct BarAxis;
 
@@ -272,7 +264,6 @@ impl fmt::Display for BarAxis {
     }
 }
 
-// A count with its name, on the line of a place.
 #[derive(Clone, Copy)]
 struct Count {
     place: u8,
@@ -333,7 +324,7 @@ impl fmt::Display for Counts {
     }
 }
 
-// The figure of a table whose losses are known, and the most of these.
+// The figure, once its losses and the most of them are known.
 #[derive(Clone, Copy)]
 struct Drawn<'a> {
     most: u64,
@@ -363,9 +354,8 @@ impl<'a> fmt::Display for Drawn<'a> {
     }
 }
 
-/// The figure of a table of rounds as an SVG text: a bar for each cause of lost rounds, with the cause's
-/// number and name, and beside them how many rounds there were, and how many requests that were accepted, or that were hits,
-/// joins and misses.
+/// A run's table as an SVG text: a bar for each cause of lost rounds, and beside them the rounds,
+/// and the requests that were accepted, hits, joins and misses.
 #[derive(Clone, Copy)]
 pub struct LossFigure(pub Table);
 

@@ -19,7 +19,7 @@ impl fmt::Display for Point {
     }
 }
 
-// The size of a text, unless it is the usual one.
+// The size of a text, unless usual.
 #[derive(Clone, Copy)]
 struct Size(u128);
 
@@ -36,7 +36,7 @@ impl fmt::Display for Size {
     }
 }
 
-/// The beginning of a text that begins at a place, and is so large.
+/// The beginning of a text: its left end, its level and its size.
 #[derive(Clone, Copy)]
 pub(crate) struct TextAt(pub(crate) u128, pub(crate) u128, pub(crate) u128);
 
@@ -50,7 +50,7 @@ impl fmt::Display for TextAt {
     }
 }
 
-/// The beginning of a text whose middle is at a place, and that is so large.
+/// The same by its middle.
 #[derive(Clone, Copy)]
 pub(crate) struct MiddleAt(pub(crate) u128, pub(crate) u128, pub(crate) u128);
 
@@ -68,7 +68,7 @@ impl fmt::Display for MiddleAt {
     }
 }
 
-/// The beginning of a text that ends at a place, and is so large.
+/// The same by its right end.
 #[derive(Clone, Copy)]
 pub(crate) struct EndAt(pub(crate) u128, pub(crate) u128, pub(crate) u128);
 
@@ -82,7 +82,7 @@ impl fmt::Display for EndAt {
     }
 }
 
-/// Axes from a point down to a level, and from there to the right.
+/// Axes down to a level and to the right.
 #[derive(Clone, Copy)]
 pub(crate) struct Frame {
     pub(crate) begin: Point,
@@ -102,7 +102,7 @@ impl fmt::Display for Frame {
     }
 }
 
-/// The beginning of a figure that is so high, with its title, its style (CSS) and a white ground.
+/// A figure's beginning: its height, title, style and white ground.
 #[derive(Clone, Copy)]
 pub(crate) struct Opening {
     pub(crate) title: &'static str,

@@ -1,5 +1,6 @@
-//! What the program counts as figures, each an SVG text that a browser shows: [`SweepFigure`] draws rounds by the
-//! number of registers, a line for each latency, and [`LossFigure`] a bar for each cause of lost rounds.
+//! Counts as figures, each an SVG text: [`SweepFigure`] draws rounds by registers, a line for each
+//! latency, and [`LossFigure`] a bar for each cause of lost rounds. Their caller writes them with
+//! `write!`.
 #![tactic(auto)]
 
 mod bars;

@@ -1,13 +1,13 @@
-//! The colours and the marks of lines. Eight lines differ in both, so that they are told apart without colours too. The
-//! colours are those of Okabe and Ito, which differ for each kind of colour blindness, but for a grey in place of yellow.
+//! Colours and marks. Eight lines differ in both, so that colours aren't needed. They are Okabe's
+//! and Ito's, which differ for each colour blindness, but grey for yellow.
 
 ghost use Rattle.std.specs.Prelude.{◌≡◌};
 ghost use Rattle.result_figures.specs.Looks as looks;
 
-/// How many colours, and forms of marks, there are.
+/// Colours, and forms of marks.
 pub const LOOKS: usize = 8;
 
-/// The colour of the line of this place, the first of which is 0. From the ninth on they come again.
+/// The colour of a line, counted from 0; from the ninth on they come again.
 #[tactic(auto, unfolding(crate::specs::Looks::colour_of))]
 pub(crate) fn colour_of(place: usize) -> &'static str
     ensures { result.now ≡ looks.colour_of place }
@@ -24,7 +24,7 @@ pub(crate) fn colour_of(place: usize) -> &'static str
     }
 }
 
-/// The form of its marks, as the steps of a path round a point.
+/// Its marks' form: a path round a point.
 #[tactic(auto, unfolding(crate::specs::Looks::mark_of))]
 pub(crate) fn mark_of(place: usize) -> &'static str
     ensures { result.now ≡ looks.mark_of place }

@@ -1,4 +1,4 @@
-//! Where the points of a sweep lie, and the names of its lines.
+//! Where a sweep's points and names lie.
 
 ghost use Rattle.std.specs.Prelude.{◌≡◌, ◌≤◌, ◌<◌, ◌+◌, ◌^◌};
 ghost use Rattle.result_figures.specs.declared.layout.TheConstants.{PLOT_HEIGHT, PLOT_BOTTOM, NAMES_APART};
@@ -8,7 +8,7 @@ use crate::layout::{COLUMN_WIDTH, FIRST_COLUMN, NAMES_APART, PLOT_BOTTOM, PLOT_H
 use crate::scale::along;
 use register_sweeps::RoundsRow;
 
-/// Where the column of a number of registers lies: those of 1, 2, 4 and 8 side by side.
+/// 1, 2, 4 and 8 registers stand side by side.
 pub(crate) fn column_of(regs: u32) -> u128
     ensures { result ≡ plots.column_of regs }
 {
@@ -24,7 +24,7 @@ pub(crate) fn column_of(regs: u32) -> u128
     FIRST_COLUMN + COLUMN_WIDTH * place
 }
 
-/// How far a value is above the plot's lower end, which is 0.
+/// How far a value lies above 0.
 pub(crate) fn height_of(value: u128, most: u64) -> u128
     requires { value < 2 ^ 72 }
     ensures { result ≡ plots.height_of most value }
@@ -32,7 +32,7 @@ pub(crate) fn height_of(value: u128, most: u64) -> u128
     along(value, most, PLOT_HEIGHT)
 }
 
-/// Where a height is in the picture, whose lines are numbered from its upper end.
+/// A height, counted from the picture's top.
 pub(crate) fn level_of(height: u128) -> u128
     ensures level { result ≡ plots.level_of height }
     ensures inside { result ≤ PLOT_BOTTOM }
@@ -47,7 +47,7 @@ pub(crate) fn row_level(row: &RoundsRow, most: u64) -> u128
     level_of(height_of(u128::from(row.table.rounds), most))
 }
 
-/// The most rounds of rows, and no fewer than these.
+/// The most rounds of rows, and these at least.
 pub(crate) fn most_of(least: u64, rows: &[RoundsRow]) -> u64
     ensures { result ≡ plots.most_of least rows.now }
 {
@@ -58,7 +58,6 @@ pub(crate) fn most_of(least: u64, rows: &[RoundsRow]) -> u64
     most
 }
 
-// The rounds of the last row: 0 if there are none.
 fn last_rounds(rows: &[RoundsRow]) -> u64
     ensures { result ≡ plots.last_rounds 0 rows.now }
 {
@@ -69,15 +68,15 @@ fn last_rounds(rows: &[RoundsRow]) -> u64
     rounds
 }
 
-/// How high the last point of rows is: 0 if there are none.
+/// The last point's height, or 0.
 pub(crate) fn end_of(most: u64, rows: &[RoundsRow]) -> u128
     ensures { result ≡ plots.end_of most rows.now }
 {
     height_of(u128::from(last_rounds(rows)), most)
 }
 
-/// How high the name of a line stands whose end is so high: beside it, but not below `low`, where the name
-/// before it ends, and so low that the names behind it have room below the plot's upper end.
+/// The height of a line's name: at the line's end, but above `low`, where the last name ends, and
+/// with room for the names that follow.
 pub(crate) fn name_height(end: u128, low: u128, behind: usize) -> u128
     ensures height { result ≡ plots.name_height end low behind }
     ensures inside { result ≤ PLOT_HEIGHT }

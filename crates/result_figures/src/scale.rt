@@ -7,17 +7,17 @@ ghost use Rattle.result_figures.specs.Scales as scales;
 use crate::layout::CHARACTER;
 use crate::sizes::{TENS, digits};
 
-/// How many steps of a scale reach its largest value at most.
+/// The most steps to a scale's largest value.
 pub const MOST_STEPS: u128 = 6;
 
-/// The fewest that this is where a scale's numbers stand side by side, however many digits they have.
+/// The fewest of these, however many digits there are.
 pub const FEWEST_STEPS: u128 = 3;
 
-/// The multiples of a step of which a scale has those that aren't beyond its largest value.
+/// The multiples of a step on a scale.
 pub const STEPS: [u8; 7] = [0, 1, 2, 3, 4, 5, 6];
 
-/// How many steps reach the largest value at most, on a scale of this length whose numbers stand side by side: so many that a number has
-/// room for its digits and one more, but no more than six; and no fewer than three, with smaller numbers.
+/// The most steps of a scale of this length with its numbers side by side: each number has room for
+/// a digit more. From 3, with smaller numbers, to 6.
 #[tactic(auto, unfolding(crate::specs::Scales::steps_beside))]
 pub fn steps_beside(most: u64, length: u128) -> u128
     ensures steps { result ≡ scales.steps_beside most length }
@@ -27,7 +27,7 @@ pub fn steps_beside(most: u64, length: u128) -> u128
     (length / room).min(MOST_STEPS).max(FEWEST_STEPS)
 }
 
-// 1, 2 or 5 times this power of ten, the least of which so many steps reach the largest value.
+// The least of 1, 2 or 5 times this power of ten of which so many steps reach the largest value.
 fn step_of(ten: u64, most: u64, steps: u128) -> Option<u128>
     requires { steps ≤ MOST_STEPS }
     ensures step { result ≡ scales.step_of ten most steps }
@@ -60,7 +60,7 @@ fn step_among(tens: &[u64], most: u64, steps: u128) -> u128
     u128::from(most)
 }
 
-/// The step of a scale with this largest value: the least of 1, 2, 5, 10, 20, 50 .. of which so many reach it.
+/// The least of 1, 2, 5, 10, 20, 50 .. of which so many reach the largest value.
 #[tactic(auto, unfolding(crate::specs::Scales::step_for))]
 pub fn step_for(most: u64, steps: u128) -> u128
     requires { steps ≤ MOST_STEPS }
@@ -70,7 +70,7 @@ pub fn step_for(most: u64, steps: u128) -> u128
     step_among(&TENS, most, steps)
 }
 
-/// How far along a scale of this length, whose end is the largest value, a value lies: rounded down.
+/// How far along a scale a value lies, rounded down.
 pub fn along(value: u128, most: u64, length: u128) -> u128
     requires value { value < 2 ^ 72 }
     requires length { length < 2 ^ 16 }

@@ -1,11 +1,11 @@
-//! How many digits a number has, and how large a text is, so that it has room.
+//! Digits of numbers, and sizes of texts.
 
 ghost use Rattle.std.specs.Prelude.{◌≡◌, ◌≤◌, ◌<◌, ◌*◌, ◌^◌, max, length, decimal};
 ghost use Rattle.result_figures.specs.Sizes as sizes;
 
 use crate::layout::TEXT_SIZE;
 
-/// The powers of ten among numbers of 64 bits.
+/// The powers of ten below 2^64.
 pub const TENS: [u64; 20] = [
     1,
     10,
@@ -29,7 +29,7 @@ pub const TENS: [u64; 20] = [
     10_000_000_000_000_000_000,
 ];
 
-// How many of these powers of ten don't exceed a number.
+// How many powers of ten don't exceed a number.
 fn reached(tens: &[u64], n: u64) -> u64
     ensures reached { result ≡ sizes.reached tens.now n }
 {
@@ -42,7 +42,7 @@ fn reached(tens: &[u64], n: u64) -> u64
     count
 }
 
-/// How many digits a number of 64 bits has; 0 has one, as 1 has.
+/// 0 has one digit, as 1 has.
 #[tactic(auto, unfolding(crate::specs::Sizes::digits), using(crate::proofs::Digits::written))]
 pub(crate) fn digits(n: u64) -> u64
     ensures digits { result ≡ sizes.digits n }
@@ -51,8 +51,7 @@ pub(crate) fn digits(n: u64) -> u64
     reached(&TENS, n).max(1)
 }
 
-/// How large a text of so many characters is that has so much room: 30, or less if it would take more room. No character is taken to be
-/// wider than two thirds of the size: 20 at 30.
+/// The size of a text in so much room: 30, or less. A character is taken to be two thirds as wide.
 #[tactic(auto, unfolding(crate::specs::Sizes::size_for))]
 pub(crate) fn size_for(characters: u128, room: u128) -> u128
     requires characters { characters < 2 ^ 72 }
@@ -63,7 +62,6 @@ pub(crate) fn size_for(characters: u128, room: u128) -> u128
     (3 * room / (2 * characters.max(1))).min(TEXT_SIZE)
 }
 
-/// How large a number is that has so much room.
 pub(crate) fn number_size(n: u64, room: u128) -> u128
     requires { room < 2 ^ 16 }
     ensures { result ≡ sizes.number_size n room }

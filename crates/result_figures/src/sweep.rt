@@ -1,4 +1,4 @@
-//! The figure of a sweep: rounds by the number of registers, a line for each latency.
+//! A sweep's figure.
 
 ghost use Rattle.std.specs.Prelude.{◌≡◌, ◌<◌, ◌+◌, ◌^◌, Some, map, length};
 ghost use Rattle.std.specs.Fmt.{WritesOnOk};
@@ -18,16 +18,15 @@ use crate::sizes::{digits, number_size, size_for};
 use register_sweeps::RoundsRow;
 use std::fmt;
 
-/// The rows of a sweep with one latency.
+/// One latency's rows.
 #[derive(Clone, Copy)]
 pub struct SweepLine<'a> {
-    /// Rounds from a command's begin to its service.
+    /// Rounds from begin to service.
     pub latency: u64,
     /// The rows.
     pub rows: &'a [RoundsRow],
 }
 
-// The points of rows as the corners of a line.
 #[derive(Clone, Copy)]
 struct Corners<'a> {
     most: u64,
@@ -45,7 +44,6 @@ impl<'a> fmt::Display for Corners<'a> {
     }
 }
 
-// The marks at the points of rows, as parts of a path.
 #[derive(Clone, Copy)]
 struct Marks<'a> {
     most: u64,
@@ -65,7 +63,6 @@ impl<'a> fmt::Display for Marks<'a> {
     }
 }
 
-// The rounds of rows, each in its column, on a line of the table.
 #[derive(Clone, Copy)]
 struct Rounds<'a> {
     most: u64,
@@ -86,7 +83,7 @@ impl<'a> fmt::Display for Rounds<'a> {
     }
 }
 
-// What ties a line's end, which is so high, to its name.
+// From a line's end, at this height, to its name.
 #[derive(Clone, Copy)]
 struct Tie {
     end: u128,
@@ -104,7 +101,6 @@ impl fmt::Display for Tie {
     }
 }
 
-// The line of a latency, tied to its name.
 #[derive(Clone, Copy)]
 struct Line<'a> {
     most: u64,
@@ -135,7 +131,6 @@ impl<'a> fmt::Display for Line<'a> {
     }
 }
 
-// The marks of a latency: at its points, and in the table.
 #[derive(Clone, Copy)]
 struct LineMarks<'a> {
     most: u64,
@@ -164,14 +159,13 @@ impl<'a> fmt::Display for LineMarks<'a> {
     }
 }
 
-// How large the name of a latency is, which is `latency ` and the latency.
 fn name_size(latency: u64) -> u128
     ensures { result ≡ sweeps.name_size latency }
 {
     size_for(8 + u128::from(digits(latency)), NAME_ROOM)
 }
 
-// The name of a latency: behind its line's end, and in the table.
+// A latency's name, behind its line's end and in the table.
 #[derive(Clone, Copy)]
 struct LineNames {
     latency: u64,
@@ -195,7 +189,7 @@ impl fmt::Display for LineNames {
     }
 }
 
-// All of a latency: its line, its marks, its names and its rounds.
+// A latency's line, marks, names and rounds.
 #[derive(Clone, Copy)]
 struct Latency<'a> {
     most: u64,
@@ -240,7 +234,7 @@ impl<'a> fmt::Display for Latency<'a> {
     }
 }
 
-// A line of the grid with its number, unless the number is beyond the largest value.
+// A grid line and its number, up to the largest value.
 #[derive(Clone, Copy)]
 struct Tick {
     most: u64,
@@ -262,7 +256,7 @@ impl fmt::Display for Tick {
     }
 }
 
-// A line of the grid that is so high, and the beginning of its number, which is so large.
+// A grid line's height, and its number's size.
 #[derive(Clone, Copy)]
 struct Grid(u128, u128);
 
@@ -277,7 +271,6 @@ impl fmt::Display for Grid {
     }
 }
 
-// The ticks of these multiples of a step.
 fn write_ticks<W: fmt::Write>(
     f: &mut fmt::Formatter<W>,
     most: u64,
@@ -294,7 +287,7 @@ fn write_ticks<W: fmt::Write>(
     Ok(())
 }
 
-// The grid and the numbers of the rounds' axis.
+// The axis's grid and numbers, up to the largest value.
 #[derive(Clone, Copy)]
 struct Ticks(u64);
 
@@ -330,7 +323,6 @@ impl fmt::Display for Axes {
     }
 }
 
-// The numbers of registers, each in its column: the head of the table.
 #[derive(Clone, Copy)]
 struct Registers<'a>(&'a [RoundsRow]);
 
@@ -347,14 +339,14 @@ impl<'a> fmt::Display for Registers<'a> {
     }
 }
 
-// Where the table has the line behind this many.
+// Where the table's line stands.
 fn table_level(before: usize) -> u128
     ensures { result ≡ sweeps.table_level before }
 {
     TABLE_HEAD + TABLE_LINE * (before as u128 + 1)
 }
 
-// The latencies, of which `place` stand before these, and no name of these stands below `low`.
+// The latencies from the one at `place` on; their names stand above `low`.
 fn write_latencies<W: fmt::Write>(
     f: &mut fmt::Formatter<W>,
     most: u64,
@@ -415,7 +407,6 @@ fn most_rounds(lines: &[SweepLine<'_>]) -> u64
     most
 }
 
-// The rows of the first latency: none if there is no latency.
 fn first_rows<'a>(lines: &[SweepLine<'a>]) -> &'a [RoundsRow]
     ensures { result.now ≡ sweeps.first_rows (map told lines.now) }
 {
@@ -425,7 +416,7 @@ fn first_rows<'a>(lines: &[SweepLine<'a>]) -> &'a [RoundsRow]
     }
 }
 
-// The figure of latencies whose most rounds, height and registers are known.
+// The figure, once its most rounds, height and registers are known.
 #[derive(Clone, Copy)]
 struct Drawn<'a> {
     most: u64,
@@ -456,12 +447,11 @@ impl<'a> fmt::Display for Drawn<'a> {
     }
 }
 
-/// The figure of a sweep as an SVG text: rounds by the number of registers, a line for each latency, tied to its name; and below the
-/// plot a table of the rounds. Eight lines differ in colour and marks; from the ninth on these come again. The names of lines don't
-/// cross if no latency has fewer rounds at its end than the one before it.
+/// A sweep as an SVG text: rounds by registers, a line for each latency, tied to its name, and a
+/// table of the rounds. Names don't cross if no latency ends with fewer rounds than the one before
+/// it. A number or a name without enough room is set smaller.
 ///
-/// The rows of each latency are those of 1, 2, 4 and 8 registers, in this order. A number or a name that would take more room than
-/// it has is set smaller.
+/// Each latency has the rows of 1, 2, 4 and 8 registers, in this order.
 #[derive(Clone, Copy)]
 pub struct SweepFigure<'a>(pub &'a [SweepLine<'a>]);
 

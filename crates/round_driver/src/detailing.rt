@@ -19,8 +19,6 @@ use flat_model::Event;
 use machine_core::ShapedMachine;
 use std::alloc::{AllocError, Global};
 
-// The details of a run with this table and these outcomes, whose last round ends with so many registers
-// in use.
 fn details_from(
     table: Table,
     told: Told,
@@ -44,11 +42,10 @@ fn details_from(
     }
 }
 
-/// Drives these requests through the machine in rounds, as [`drive_with`](crate::drive_with) does, and
-/// counts what [`summarize_with`](crate::summarize_with) counts and more.
+/// Drives these requests as [`drive_with`](crate::drive_with) does, and counts all details.
 ///
-/// `AllocError` says that there was too little memory; nothing has been asked then. As many counts are
-/// held as the machine has sets, two rounds for each tag, and an outcome for each request.
+/// `AllocError`: too little memory; nothing has been asked. The counts take a place a set, two
+/// rounds a tag and an outcome a request.
 pub fn detail_with(
     alloc: Global,
     machine: &mut ShapedMachine,

@@ -31,7 +31,6 @@ pub struct Finds {
 }
 
 impl Finds {
-    // Counts an accepted request that found this.
     fn count(&mut self, found: Option<Lookup>)
         requires { finds_total self.old < 2 ^ 63 }
         ensures value { self.new ≡ details.with_find self.old found }
@@ -59,7 +58,6 @@ pub struct ByKind {
 }
 
 impl ByKind {
-    // Counts an accepted request that found this.
     fn count(&mut self, event: Event, found: Option<Lookup>)
         requires { kinds_total self.old < 2 ^ 63 }
         ensures value { self.new ≡ details.with_kind self.old event found }
@@ -74,7 +72,7 @@ impl ByKind {
     }
 }
 
-/// Accepted loads, stores and prefetches by the set of their block, and by what they found.
+/// Accepted loads, stores and prefetches by the set of their block.
 #[derive(Drop)]
 pub struct BySet {
     /// Those whose word was at hand.
@@ -86,7 +84,6 @@ pub struct BySet {
 }
 
 impl BySet {
-    // So many sets, in which nothing was found.
     fn new(alloc: Global, sets: usize) -> Result<BySet, AllocError>
         ensures { IfOk result (λ b. b ≡ details.no_sets sets) }
     {
@@ -97,7 +94,6 @@ impl BySet {
         })
     }
 
-    // Counts an accepted request that found this in a set.
     fn count(&mut self, set: usize, found: Option<Lookup>)
         requires { sets_total self.old < 2 ^ 63 }
         ensures value { self.new ≡ details.with_found_in self.old set found }
@@ -112,29 +108,28 @@ impl BySet {
     }
 }
 
-/// What a run of rounds counted beside its table. Words are counted, as everywhere in a run: an
-/// access of a program to two words is two requests.
+/// All that a run of rounds counted. An access of a program to two words is two requests.
 #[derive(Drop)]
 pub struct Details {
     /// The table.
     pub table: Table,
     /// Accepted requests by their kind.
     pub kinds: ByKind,
-    /// Accepted requests by their set: as many places as the cache has sets.
+    /// Accepted requests by the set of their block.
     pub sets: BySet,
-    /// Rounds by the registers in use at their end, from 0 to all that there are.
+    /// Rounds by the registers in use at their end.
     pub registers: Tally,
-    /// Rounds by the loads that were owed a value at their end, from 0 to as many as may be.
+    /// Rounds by the loads that were owed a value at their end.
     pub owed: Tally,
     /// The waits of answered loads from the round that accepted them.
     pub waits: Waits,
-    /// The waits of the same loads from the round that first asked for them.
+    /// The same from the round that first asked for them.
     pub waits_from_asking: Waits,
     /// What became of each request.
     pub outcomes: Outcomes,
 }
 
-// By a load's tag, a round.
+// A round for each tag.
 #[derive(Drop)]
 pub(crate) struct TagRounds {
     rounds: Vec<u64>,
@@ -175,17 +170,17 @@ impl TagRounds {
     }
 }
 
-// What is counted of that which was told, with what it takes to know a load's waits.
+/// What is counted of notes, and what a load's wait takes.
 #[derive(Drop)]
 pub(crate) struct Told {
     pub(crate) kinds: ByKind,
     pub(crate) sets: BySet,
     pub(crate) waits: Waits,
     pub(crate) waits_from_asking: Waits,
-    // The round that accepted each tag's last load, and the one that first asked for it.
+    // When each tag's last load was accepted, and when it was first asked.
     accepted_in: TagRounds,
     asked_in: TagRounds,
-    // The round that first asked the request at hand, if it has stalled.
+    // When the stalled request at hand was first asked.
     stalled_since: Option<u64>,
 }
 
@@ -205,7 +200,6 @@ impl Told {
         })
     }
 
-    // The round that first asked the request at hand.
     fn first_asked(&self, round: u64) -> u64
         ensures { result ≡ details.first_asked self.now round }
     {
@@ -215,7 +209,6 @@ impl Told {
         }
     }
 
-    // Counts what an accepted request found, by its kind and its set.
     fn count_found(&mut self, numbers: MachineNumbers, note: &Note)
         requires room { told_total self.old < 2 ^ 62 }
         requires words { 0 < numbers.block_words }
@@ -232,7 +225,6 @@ impl Told {
         }
     }
 
-    // Counts a request that was accepted.
     fn count_accepted(&mut self, numbers: MachineNumbers, note: &Note)
         requires room { told_total self.old < 2 ^ 62 }
         requires words { 0 < numbers.block_words }
@@ -250,7 +242,6 @@ impl Told {
         self.stalled_since = None;
     }
 
-    // Counts a load that was answered.
     fn count_value(&mut self, tag: u16, round: u64)
         requires room { told_total self.old < 2 ^ 62 }
         requires rounds { told_rounds self.old < 2 ^ 127 }
@@ -264,7 +255,6 @@ impl Told {
         self.waits_from_asking.count(round.saturating_sub(asked));
     }
 
-    // Counts an event with its answer.
     #[tactic(auto, unfolding(crate::specs::Details::counted))]
     fn count(&mut self, numbers: MachineNumbers, note: &Note)
         requires room { told_total self.old < 2 ^ 62 }
@@ -286,7 +276,6 @@ impl Told {
         }
     }
 
-    // Counts what was told of a round.
     pub(crate) fn count_all(&mut self, numbers: MachineNumbers, notes: &[Note])
         requires few { length notes.now ≤ MOST_NOTES }
         requires room { told_total self.old < 2 ^ 61 }
@@ -302,7 +291,6 @@ impl Told {
         }
     }
 
-    // How many loads are owed a value.
     fn owed(&self) -> u64
         ensures { result ≡ details.owed_of self.now }
     {
@@ -310,7 +298,7 @@ impl Told {
     }
 }
 
-// The rounds so far, by how they ended.
+// Rounds by how they ended.
 #[derive(Drop)]
 pub(crate) struct RoundEnds {
     pub(crate) registers: Tally,
@@ -329,7 +317,6 @@ impl RoundEnds {
         })
     }
 
-    // A round ended with so many registers in use, and what was told by then.
     pub(crate) fn count(&mut self, registers: u32, told: &Told)
         requires { ends_total self.old < 2 ^ 62 }
         ensures value { self.new ≡ details.with_end self.old registers (details.owed_of told.now) }

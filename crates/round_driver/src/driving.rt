@@ -23,10 +23,10 @@ use machine_core::ShapedMachine;
 use std::alloc::{AllocError, Global};
 use trace_text::{Failed, Sink, TraceFault, write_whole};
 
-/// The most rounds that may pass between a command's begin and its service.
+/// The highest latency.
 pub const MOST_LATENCY: u64 = 1_000;
 
-// One round: what is told of it stands in `notes`, and the requests that are left come back.
+// Makes one round, told in `notes`, and returns the requests that are left.
 #[tactic(auto, unfolding(crate::specs::Rounds::after_round))]
 pub(crate) fn round<'a>(
     machine: &mut ShapedMachine,
@@ -59,7 +59,7 @@ pub(crate) fn round<'a>(
     }
 }
 
-// Whether the requests are used up, and nothing is on its way.
+/// Whether requests are used up, and nothing is on its way.
 #[tactic(auto, unfolding(machine_core::specs::AnyMachine::weight_of))]
 pub(crate) fn is_over(machine: &ShapedMachine, left: &[Event]) -> bool
     ensures { result ≡ rounds.is_over_at machine.now left.now }
@@ -77,25 +77,22 @@ pub(crate) fn most_rounds(machine: &ShapedMachine, latency: u64, requests: usize
     (requests as u64 + 1) * (most_moves(machine) * (latency + 1))
 }
 
-/// Drives these requests through the machine in rounds, and writes the run: each request whenever it
-/// is asked, and each other event that did something, with its answer, as the lines that
-/// [`check_text`](trace_text::check_text) reads. Returns the number of rounds, the last one counted,
-/// in which nothing moves.
+/// Drives these requests through the machine in rounds, and writes the run as lines that
+/// [`check_text`](trace_text::check_text) reads: each asking, and each other event that did
+/// something, with its answer. Returns the number of rounds; in the last, which counts, nothing
+/// moves. The writer isn't flushed.
 ///
-/// If all of `requests` are loads, stores, prefetches and evictions, they are used up then and nothing
-/// is on its way, after at most `(requests + 1) * (most weight + 1) * (latency + 1)` rounds, with the
-/// most that [`weight`](machine_core::ShapedMachine::weight) can be for the machine's numbers. No run
-/// makes more rounds: another event among the requests never ends, and is asked in each round up to the
-/// last.
+/// Loads, stores, prefetches and evictions are used up then, after at most `(requests + 1) * (most
+/// weight + 1) * (latency + 1)` rounds. Another event among the requests never ends, and is asked
+/// in each round up to this last one.
 ///
-/// `timing` says how long a bank takes for a command, with a latency of at most [`MOST_LATENCY`].
-/// There may be at most 16,777,216 requests. The machine has at most 16 banks, as each one that is
-/// made. The writer isn't flushed.
+/// A latency is at most [`MOST_LATENCY`]. There may be 16,777,216 requests, and the machine has at
+/// most 16 banks.
 ///
-/// `TraceFault::Write` says that a write was refused or took no byte: a front of the run is written.
-/// `TraceFault::OutOfMemory` says that there was too little memory for the lines of a round: the run
-/// up to that round is written. No other fault comes. The machine is then as the round leaves it whose
-/// lines weren't all written.
+/// `TraceFault::Write`: a write was refused or took no byte; a front of the run is written.
+/// `TraceFault::OutOfMemory`: too little memory for the lines of a round; the run before it is
+/// written. No other fault comes. The machine then stands behind the round whose lines weren't all
+/// written.
 pub fn drive_with<W: Sink>(
     alloc: Global,
     machine: &mut ShapedMachine,
@@ -136,10 +133,7 @@ pub fn drive_with<W: Sink>(
     Ok(schedule.round + 1)
 }
 
-/// Drives these requests as [`drive_with`] does, with banks that have one command at a time.
-///
-/// `latency` is how many rounds pass from the one in which a bank begins a command to the one in
-/// which it serves it, [`MOST_LATENCY`] at most.
+/// Drives these requests as [`drive_with`] does, with unpipelined banks.
 pub fn drive<W: Sink>(
     alloc: Global,
     machine: &mut ShapedMachine,
@@ -172,9 +166,9 @@ pub fn drive<W: Sink>(
     )
 }
 
-/// Drives these requests through the machine in rounds, as [`drive_with`] does, and counts.
+/// Drives these requests as [`drive_with`] does, and counts.
 ///
-/// `AllocError` says that there was too little memory; nothing has been asked then.
+/// `AllocError`: too little memory; nothing has been asked.
 pub fn summarize_with(
     alloc: Global,
     machine: &mut ShapedMachine,
@@ -207,10 +201,7 @@ pub fn summarize_with(
     Ok(counter.table_after(schedule.round + 1))
 }
 
-/// Counts these requests as [`summarize_with`] does, with banks that have one command at a time, as
-/// [`drive`] has them.
-///
-/// `AllocError` says that there was too little memory; nothing has been asked then.
+/// Counts as [`summarize_with`] does, with unpipelined banks.
 pub fn summarize(
     alloc: Global,
     machine: &mut ShapedMachine,

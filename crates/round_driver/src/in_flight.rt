@@ -6,10 +6,9 @@ use arrayvec::ArrayVec;
 use flat_model::MAX_BANK_QUEUE;
 use std::marker::Model;
 
-// As many as may stand in a bank's queue.
 const MOST_IN_FLIGHT: usize = MAX_BANK_QUEUE as usize;
 
-// The rounds in which a bank began the commands that it hasn't served, the first one first.
+// When a bank began each command that it hasn't served, the oldest first.
 #[derive(Drop)]
 pub(crate) struct InFlight {
     begun: ArrayVec<u64, MOST_IN_FLIGHT>,
@@ -23,7 +22,6 @@ impl Model for InFlight {
     ghost view = { λ a. a.begun.items };
 }
 
-// No command.
 impl Default for InFlight {
     ghost use Rattle.std.specs.Prelude.{◌≡◌, []};
 
@@ -37,28 +35,25 @@ impl Default for InFlight {
 }
 
 impl InFlight {
-    // How many commands there are.
     pub(crate) fn len(&self) -> u32
         ensures { result ≡ length self.now }
     {
         self.begun.len() as u32
     }
 
-    // The round in which the first one was begun, which is served next.
+    /// When the next command to be served was begun.
     pub(crate) fn first(&self) -> Option<u64>
         ensures { result ≡ slice_get self.now 0 }
     {
         self.begun.first().copied()
     }
 
-    // The round in which the last one was begun.
     pub(crate) fn last(&self) -> Option<u64>
         ensures { result ≡ slice_get self.now (length self.now - 1) }
     {
         self.begun.last().copied()
     }
 
-    // One more, begun in this round.
     pub(crate) fn push(&mut self, round: u64)
         requires { length self.old < MAX_BANK_QUEUE }
         ensures { self.new ≡ self.old ++ round ∷ [] }
@@ -66,7 +61,6 @@ impl InFlight {
         self.begun.push(round);
     }
 
-    // The first one is served.
     pub(crate) fn remove_first(&mut self)
         requires { 0 < length self.old }
         ensures { self.new ≡ drop 1 self.old }

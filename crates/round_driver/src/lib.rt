@@ -1,21 +1,16 @@
-//! Requests driven through a machine in rounds.
+//! Requests driven through a machine in rounds: a schedule, and no hardware's time.
 //!
-//! A machine has no clock: who drives it chooses the order of the steps. [`drive`] and
-//! [`summarize`] choose rounds, and [`detail_with`] counts more of them. A round makes, in this order: each bank, by
-//! number, begins a command if one waits that it hasn't begun and it isn't busy, and serves its first one if it began
-//! that `latency` rounds before; one answer arrives, from the next bank with one behind the bank that was
-//! last, if the input stack has room; the stack's first word is processed, the first reply taken and
-//! the write queue's front drained, each if possible; and the request at hand is asked once. If it
-//! was accepted, or refused with 1, 2 or 11, the next one follows; otherwise it is asked again in the
-//! next round. The run ends once the requests are used up and nothing is on its way.
+//! [`drive`] writes a run, [`summarize`] and [`detail_with`] count it; their caller has all
+//! requests at hand. [`Rounds`] makes one round at a time for a caller who hasn't.
 //!
-//! A bank is busy until it has served its command, unless it is a pipeline: [`Timing`] tells, for
-//! [`drive_with`] and [`summarize_with`].
+//! A round makes these steps. Each bank, by number, begins a waiting command if it isn't busy, and
+//! serves its oldest one begun `latency` rounds before. An answer arrives from the next bank that
+//! has one, if the stack has room. The stack's first word is processed, the first reply taken, the
+//! write queue's front drained. At last the request at hand is asked once. If it is accepted, or
+//! refused with 1, 2 or 11, the next one follows; otherwise it is asked again. A run ends once the
+//! requests are used up and nothing is on its way.
 //!
-//! [`Rounds`] makes one round at a time, for a caller who doesn't know the requests before: a list of requests that is
-//! offered so gives the same run ([`laws::one_at_a_time`]).
-//!
-//! Rounds are a schedule, and tell nothing of any hardware's time.
+//! A bank is busy until it has served its command, unless it is a pipeline ([`Timing`]).
 #![tactic(auto)]
 
 mod detailing;

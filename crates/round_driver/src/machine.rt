@@ -11,7 +11,7 @@ ghost use Rattle.round_driver.specs.Rounds.{most_moves};
 use flat_model::MAX_BANK_QUEUE;
 use machine_core::{ShapedMachine, Sizes};
 
-/// The numbers of a machine that counts of its run depend on.
+/// Numbers of a machine for its counts.
 #[derive(Clone, Copy, PartialEq, Eq, Debug)]
 pub struct MachineNumbers {
     /// Words of a block.
@@ -20,12 +20,12 @@ pub struct MachineNumbers {
     pub sets: u32,
     /// Registers.
     pub regs: usize,
-    /// Loads that may be owed a value at once.
+    /// The most loads that are owed a value at once.
     pub replies: u32,
 }
 
 impl MachineNumbers {
-    /// The set in which the block of the word at `at` lies, if the machine has it.
+    /// The set of the word at `at`, if the machine has it.
     pub fn set_of(self, at: u32) -> usize
         requires words { 0 < self.block_words }
         requires sets { 0 < self.sets }
@@ -35,26 +35,23 @@ impl MachineNumbers {
     }
 }
 
-/// Changes nothing: its contract is what each machine keeps, whatever was asked of it, and on this
-/// rests that every run of requests ends.
+/// Does nothing. Its contract is what every machine keeps; so each run of requests ends.
 pub fn keeps_whole(machine: &ShapedMachine)
     ensures { IsWholeState machine.now }
 {
     let _weight = machine.weight();
 }
 
-// More moves than there can be while nothing new is asked: one more than the most that a machine of
-// these numbers has on its way weighs, and each move makes that lighter.
+// More moves than can follow while nothing is asked: each one makes what is on its way lighter.
 pub(crate) fn most_moves(machine: &ShapedMachine) -> u64
     ensures value { result ≡ most_moves machine.now.sizes }
     ensures few { result ≤ greatest_weight + 1 }
 {
-    // (The numbers of a machine are in their ranges, as this tells.)
     keeps_whole(machine);
     most_moves_for(machine.sizes())
 }
 
-// The same of numbers that are in their ranges.
+// The same of numbers in their ranges.
 fn most_moves_for(sizes: &Sizes) -> u64
     requires { InRange sizes.now }
     ensures value { result ≡ most_moves sizes.now }
@@ -65,7 +62,6 @@ fn most_moves_for(sizes: &Sizes) -> u64
     registers + queued + u64::from(sizes.banks) * u64::from(sizes.bank_queue) + 1
 }
 
-// How many commands wait at a bank.
 #[tactic(auto, unfolding(crate::specs::Machines::command_count))]
 pub(crate) fn command_count(machine: &ShapedMachine, bank: u32) -> u32
     ensures value { result ≡ machines.command_count machine.now bank }
@@ -75,12 +71,11 @@ pub(crate) fn command_count(machine: &ShapedMachine, bank: u32) -> u32
     if count <= MAX_BANK_QUEUE {
         return count;
     }
-    // (Never so, as this tells. It is asked here alone, since to weigh takes long.)
+    // (Never so. It is asked here alone, since to weigh takes long.)
     keeps_whole(machine);
     count
 }
 
-// Whether an answer stands in a bank.
 #[tactic(auto, unfolding(crate::specs::Machines::has_answer))]
 pub(crate) fn has_answer(machine: &ShapedMachine, bank: u32) -> bool
     ensures { result ≡ machines.has_answer machine.now bank }
@@ -88,7 +83,6 @@ pub(crate) fn has_answer(machine: &ShapedMachine, bank: u32) -> bool
     machine.answers(bank) > 0
 }
 
-// Whether the input stack has room for a word.
 #[tactic(auto, unfolding(crate::specs::Machines::has_stack_room))]
 pub(crate) fn has_stack_room(machine: &ShapedMachine) -> bool
     ensures { result ≡ machines.has_stack_room machine.now }
@@ -96,7 +90,6 @@ pub(crate) fn has_stack_room(machine: &ShapedMachine) -> bool
     machine.stack_len() < machine.sizes().depth
 }
 
-// The numbers that counts depend on.
 pub(crate) fn numbers_of(machine: &ShapedMachine) -> MachineNumbers
     ensures { result ≡ details.numbers_of machine.now.sizes }
 {
@@ -109,7 +102,6 @@ pub(crate) fn numbers_of(machine: &ShapedMachine) -> MachineNumbers
     }
 }
 
-// 1 for a register in use, else 0.
 #[tactic(auto, unfolding(crate::specs::Machines::used_at))]
 fn used_at(machine: &ShapedMachine, slot: u32) -> u32
     ensures used { result ≡ machines.used_at machine.now slot }
@@ -121,7 +113,6 @@ fn used_at(machine: &ShapedMachine, slot: u32) -> u32
     }
 }
 
-// How many of the first registers are in use.
 fn used_among(machine: &ShapedMachine, number: u32) -> u32
     ensures { result ≡ machines.used_among machine.now number 0 }
 {
@@ -132,7 +123,6 @@ fn used_among(machine: &ShapedMachine, number: u32) -> u32
     used
 }
 
-// How many registers are in use.
 #[tactic(auto, unfolding(crate::specs::Machines::used_registers))]
 pub(crate) fn used_registers(machine: &ShapedMachine) -> u32
     ensures { result ≡ machines.used_registers machine.now }

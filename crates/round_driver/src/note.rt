@@ -1,9 +1,9 @@
-//! What is told of each event of a run.
+//! Events of a run as they are told.
 
 use flat_model::{Answer, Event};
 use machine_core::Lookup;
 
-/// An event that was made in a round, with its answer.
+/// An event of a round, with its answer.
 #[derive(Clone, Copy, PartialEq, Eq, Debug)]
 pub struct Note {
     /// The round, counted from 1.
@@ -12,9 +12,9 @@ pub struct Note {
     pub event: Event,
     /// Its answer.
     pub answer: Answer,
-    /// What a request found, if it asked for a word of memory.
+    /// What a request for a word found.
     pub found: Option<Lookup>,
-    /// The registers in use behind a miss that was accepted, and 0 for all else.
+    /// Registers in use behind an accepted miss, else 0.
     pub registers: u32,
 }
 

@@ -13,19 +13,19 @@ use std::marker::Model;
 /// What became of a request.
 #[derive(Clone, Copy, PartialEq, Eq, Debug)]
 pub enum Outcome {
-    /// It was accepted, and its word was at hand.
+    /// Accepted: its word was at hand.
     Hit,
-    /// It was accepted, and its word was on its way already.
+    /// Accepted: its word was on its way.
     Join,
-    /// It was accepted, and its block was asked for.
+    /// Accepted: its block was asked for.
     Miss,
-    /// It was accepted, and asks for no word: it is an eviction.
+    /// An eviction that was accepted.
     Evicted,
     /// It was refused with 1, 2 or 11.
     Denied,
 }
 
-/// What became of the requests of a run, in the order of the requests.
+/// What became of each request of a run.
 #[derive(Drop)]
 pub struct Outcomes {
     ended: Vec<Outcome>,
@@ -41,7 +41,7 @@ impl Model for Outcomes {
 }
 
 impl Outcomes {
-    /// The outcomes: at place `n`, from 0, stands what became of the request at place `n`.
+    /// In the order of the requests.
     pub fn as_slice(&self) -> &[Outcome]
         ensures { result.now ≡ self.now }
     {
@@ -49,7 +49,6 @@ impl Outcomes {
     }
 }
 
-// What became of a request that was answered so, and found this.
 fn outcome_by(answer: Answer, found: Option<Lookup>) -> Outcome
     ensures { result ≡ outcomes.outcome_by answer found }
 {
@@ -62,7 +61,6 @@ fn outcome_by(answer: Answer, found: Option<Lookup>) -> Outcome
     }
 }
 
-// Whether an event is a request.
 fn is_request(event: Event) -> bool
     ensures { result ≡ walks.is_request event }
 {
@@ -74,7 +72,7 @@ fn is_request(event: Event) -> bool
     }
 }
 
-// The outcomes so far, and how many there is room for.
+// The outcomes so far, and the room for them.
 #[derive(Drop)]
 pub(crate) struct Recording {
     ended: Vec<Outcome>,
@@ -94,7 +92,6 @@ impl Model for Recording {
 }
 
 impl Recording {
-    // None yet, and room for so many.
     pub(crate) fn new(alloc: Global, room: usize) -> Result<Recording, AllocError>
         ensures { IfOk result (λ r. r ≡ outcomes.nothing_recorded room) }
     {
@@ -102,7 +99,6 @@ impl Recording {
         Ok(Recording { ended, room })
     }
 
-    // Records what became of a request, if there is room.
     fn push(&mut self, outcome: Outcome)
         ensures { self.new ≡ outcomes.with_outcome self.old outcome }
     {
@@ -111,7 +107,6 @@ impl Recording {
         }
     }
 
-    // Records what became of a request, if this ended one.
     #[tactic(auto, unfolding(crate::specs::Outcomes::with_note))]
     fn record(&mut self, note: &Note)
         ensures { self.new ≡ outcomes.with_note self.old note.now }
@@ -121,7 +116,6 @@ impl Recording {
         }
     }
 
-    // Records what was told of a round.
     pub(crate) fn record_all(&mut self, notes: &[Note])
         ensures { self.new ≡ outcomes.with_notes self.old notes.now }
     {

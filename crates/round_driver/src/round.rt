@@ -14,14 +14,13 @@ use arrayvec::ArrayVec;
 use flat_model::{Answer, Event, MAX_BANKS};
 use machine_core::{Lookup, ShapedMachine};
 
-/// The most that is told of a round: of each bank, one arrival, the stack, the replies, the write
-/// queue, and one request.
+/// A round's most notes: of each bank, an arrival, the stack, the replies, the write queue, and a
+/// request.
 pub(crate) const MOST_NOTES: usize = MAX_BANKS as usize + 5;
 
-// What is told of a round.
 pub(crate) type Notes = ArrayVec<Note, MOST_NOTES>;
 
-// Whether an answer says that something was done.
+// Whether something was done.
 fn is_done(answer: Answer) -> bool
     ensures { result ≡ rounds.is_done answer }
 {
@@ -31,7 +30,6 @@ fn is_done(answer: Answer) -> bool
     }
 }
 
-// Whether an answer ends a request.
 pub(crate) fn is_end(answer: Answer) -> bool
     ensures { result ≡ rounds.is_end answer }
 {
@@ -42,7 +40,7 @@ pub(crate) fn is_end(answer: Answer) -> bool
     }
 }
 
-// Makes an event, and tells it if it did something.
+// Makes an event, and notes it if it did something.
 #[tactic(auto, unfolding(crate::specs::Rounds::attempt, machine_core::specs::AnyMachine::answered, machine_core::specs::AnyMachine::after_event))]
 fn attempt(machine: &mut ShapedMachine, schedule: &Schedule, notes: &mut Notes, event: Event)
     requires room { array_vec_len notes.old < MOST_NOTES }
@@ -63,7 +61,6 @@ fn attempt(machine: &mut ShapedMachine, schedule: &Schedule, notes: &mut Notes, 
     }
 }
 
-// A bank that may begin a command begins one that waits.
 #[tactic(auto, unfolding(crate::specs::Rounds::begin))]
 fn begin(machine: &ShapedMachine, schedule: &mut Schedule, notes: &Notes, bank: u32)
     requires bank { bank < MAX_BANKS }
@@ -77,7 +74,6 @@ fn begin(machine: &ShapedMachine, schedule: &mut Schedule, notes: &Notes, bank: 
     }
 }
 
-// A bank serves its command if it was begun long enough ago.
 #[tactic(auto, unfolding(crate::specs::Rounds::serve_due))]
 fn serve_due(machine: &mut ShapedMachine, schedule: &mut Schedule, notes: &mut Notes, bank: u32)
     requires bank { bank < MAX_BANKS }
@@ -95,7 +91,6 @@ fn serve_due(machine: &mut ShapedMachine, schedule: &mut Schedule, notes: &mut N
     }
 }
 
-// Each bank, by number, begins a command and serves one that is due.
 fn bank_turns(machine: &mut ShapedMachine, schedule: &mut Schedule, notes: &mut Notes)
     requires banks { machine.old.sizes.banks ≤ MAX_BANKS }
     requires room { array_vec_len notes.old ≡ 0 }
@@ -113,7 +108,6 @@ fn bank_turns(machine: &mut ShapedMachine, schedule: &mut Schedule, notes: &mut 
     }
 }
 
-// The first of these banks with an answer.
 fn first_with_answer(machine: &ShapedMachine, from: u32, to: u32) -> Option<u32>
     ensures bank { result ≡ rounds.first_with_answer machine.now (to - from) from }
     ensures below { IfSome result (λ b. b < to) }
@@ -126,7 +120,7 @@ fn first_with_answer(machine: &ShapedMachine, from: u32, to: u32) -> Option<u32>
     None
 }
 
-// The first bank with an answer, from the next one on and then from the first on.
+// The first bank with an answer, from the next one on and around.
 fn next_with_answer(machine: &ShapedMachine, next: u32) -> Option<u32>
     requires banks { machine.now.sizes.banks ≤ MAX_BANKS }
     requires next { next ≤ MAX_BANKS }
@@ -139,7 +133,6 @@ fn next_with_answer(machine: &ShapedMachine, next: u32) -> Option<u32>
     }
 }
 
-// The next bank's first answer arrives, if the stack has room.
 #[tactic(auto, unfolding(crate::specs::Rounds::arrive))]
 fn arrive(machine: &mut ShapedMachine, schedule: &mut Schedule, notes: &mut Notes)
     requires banks { machine.old.sizes.banks ≤ MAX_BANKS }
@@ -161,7 +154,6 @@ fn arrive(machine: &mut ShapedMachine, schedule: &mut Schedule, notes: &mut Note
     }
 }
 
-// What a request finds, if it asks for a word.
 #[tactic(auto, unfolding(crate::specs::Machines::found_at))]
 fn finding(machine: &ShapedMachine, event: Event) -> Option<Lookup>
     ensures { result ≡ rounds.finding machine.now event }
@@ -174,7 +166,6 @@ fn finding(machine: &ShapedMachine, event: Event) -> Option<Lookup>
     }
 }
 
-// The registers in use behind a miss that was accepted.
 fn registers_behind(machine: &ShapedMachine, answer: Answer, found: Option<Lookup>) -> u32
     ensures { result ≡ rounds.registers_behind answer found machine.now }
 {
@@ -184,7 +175,7 @@ fn registers_behind(machine: &ShapedMachine, answer: Answer, found: Option<Looku
     }
 }
 
-// Asks a request and tells it, and says whether that ended it.
+// Asks a request, and says whether it ended.
 #[tactic(auto, unfolding(crate::specs::Rounds::ask, machine_core::specs::AnyMachine::answered, machine_core::specs::AnyMachine::after_event))]
 pub(crate) fn ask(
     machine: &mut ShapedMachine,
@@ -211,7 +202,7 @@ pub(crate) fn ask(
     is_end(answer)
 }
 
-// What a round moves before it asks.
+/// What a round moves before it asks.
 #[tactic(auto, unfolding(crate::specs::Rounds::moves))]
 pub(crate) fn moves(machine: &mut ShapedMachine, schedule: &mut Schedule, notes: &mut Notes)
     requires banks { machine.old.sizes.banks ≤ MAX_BANKS }

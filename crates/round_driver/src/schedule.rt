@@ -1,4 +1,4 @@
-//! Which commands are on their way through the banks, and who comes next.
+//! Commands on their way through the banks, and the next bank's turn.
 ghost use Rattle.std.specs.Prelude.{◌≡◌, ◌<◌, length, IsTrue};
 ghost use Rattle.flat_model.specs.declared.limits.TheConstants.{MAX_BANKS, MAX_BANK_QUEUE};
 ghost use Rattle.round_driver.specs.Rounds as rounds;
@@ -7,7 +7,6 @@ use crate::in_flight::InFlight;
 use crate::timing::Timing;
 use flat_model::MAX_BANKS;
 
-/// The most banks of a machine.
 pub(crate) const MOST_BANKS: usize = MAX_BANKS as usize;
 
 // Where a run stands in time.
@@ -17,7 +16,7 @@ pub(crate) struct Schedule {
     pub(crate) timing: Timing,
     // The round under way, counted from 1.
     pub(crate) round: u64,
-    // The commands that each bank has begun and not served.
+    // When each bank began its open commands.
     pub(crate) begun: [InFlight; MOST_BANKS],
     // The bank behind the one whose answer arrived last.
     pub(crate) next: u32,
@@ -36,7 +35,6 @@ impl Schedule {
         }
     }
 
-    // How many commands a bank has begun and not served.
     pub(crate) fn in_flight(&self, bank: u32) -> u32
         requires { bank < MAX_BANKS }
         ensures { result ≡ length (rounds.begun_at self.now bank) }
@@ -44,7 +42,6 @@ impl Schedule {
         self.begun[bank as usize].len()
     }
 
-    // Whether a bank may begin a command.
     pub(crate) fn is_free(&self, bank: u32) -> bool
         requires { bank < MAX_BANKS }
         ensures { result ≡ rounds.is_free self.now bank }
@@ -57,7 +54,6 @@ impl Schedule {
         }
     }
 
-    // A bank begins a command in this round.
     pub(crate) fn begin(&mut self, bank: u32)
         requires bank { bank < MAX_BANKS }
         requires room { length (rounds.begun_at self.old bank) < MAX_BANK_QUEUE }
@@ -66,7 +62,6 @@ impl Schedule {
         self.begun[bank as usize].push(self.round);
     }
 
-    // Whether a bank began its first command as many rounds ago as it takes for one.
     pub(crate) fn is_due(&self, bank: u32) -> bool
         requires { bank < MAX_BANKS }
         ensures { result ≡ rounds.is_due self.now bank }
@@ -77,7 +72,7 @@ impl Schedule {
         }
     }
 
-    // A bank is done with its first command.
+    /// A bank has served its first command.
     pub(crate) fn end(&mut self, bank: u32)
         requires bank { bank < MAX_BANKS }
         requires due { IsTrue (rounds.is_due self.old bank) }

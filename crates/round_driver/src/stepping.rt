@@ -15,22 +15,21 @@ use machine_core::ShapedMachine;
 use std::alloc::{AllocError, Global};
 use std::marker::Model;
 
-/// The most rounds that can be made one at a time: 2^48.
+/// The most rounds that one [`Rounds`] makes: 2^48.
 pub const MOST_ROUNDS: u64 = 281_474_976_710_656;
 
 /// What is told of a round.
 #[derive(Clone, Copy, PartialEq, Eq, Debug)]
 pub struct RoundReport {
-    /// The request that was offered, with its answer and what it found. `None` if none was offered.
+    /// The request that was offered, if any.
     pub asked: Option<Note>,
-    /// The take that answered a load, with its value. `None` if no load was answered.
+    /// The take that answered a load, if any.
     pub answered: Option<Note>,
 }
 
-/// Rounds that are made one at a time beside a machine: where they stand in time, and what was
-/// counted of them.
+/// Rounds that are made one at a time, and their counts.
 ///
-/// They are right as long as nobody else makes the machine's events: a bank's commands are known by
+/// They are right while nobody else makes the machine's events: a bank's commands are known by
 /// their places in its queue.
 #[derive(Drop)]
 pub struct Rounds {
@@ -50,10 +49,9 @@ impl Model for Rounds {
 }
 
 impl Rounds {
-    /// Before the first round. `timing` says how long a bank takes for a command; commands that wait
-    /// in the machine already are begun in the first rounds.
+    /// Before round 1. Commands that wait in the machine are begun in the first rounds.
     ///
-    /// `AllocError` says that there was too little memory. No other call takes memory.
+    /// `AllocError`: too little memory. No other call allocates.
     pub fn new(alloc: Global, timing: Timing) -> Result<Rounds, AllocError>
         ensures { IfOk result (λ rounds. rounds ≡ stepping.first_round timing) }
     {
@@ -71,12 +69,8 @@ impl Rounds {
         self.schedule.round
     }
 
-    /// Makes one round in this machine, which is always the same one, and offers this request in it.
-    /// What moves is moved first, as in [`drive_with`](crate::drive_with), and then the request is
-    /// asked once. If it was refused with 3 to 10, it is for the caller to offer it again.
-    ///
-    /// Fewer than [`MOST_ROUNDS`] rounds were made. The machine has at most 16 banks, as each one that
-    /// is made.
+    /// Makes one round in this machine, always the same one, and asks this request behind the
+    /// moves. A request refused with 3 to 10 is the caller's to offer again.
     pub fn make(&mut self, machine: &mut ShapedMachine, request: Option<Event>) -> RoundReport
         requires banks { machine.old.sizes.banks ≤ MAX_BANKS }
         requires rounds { self.old.schedule.round < MOST_ROUNDS }
@@ -100,7 +94,7 @@ impl Rounds {
         report(request, notes.as_slice())
     }
 
-    /// What was counted of the rounds that were made.
+    /// The counts of the rounds so far.
     pub fn table(&self) -> Table
         ensures { result ≡ stepping.table_so_far self.now }
     {
@@ -108,7 +102,6 @@ impl Rounds {
     }
 }
 
-// What is told of a round by its notes.
 fn report(request: Option<Event>, notes: &[Note]) -> RoundReport
     ensures asked { result.asked ≡ stepping.asked_in request notes.now }
     ensures answered { result.answered ≡ stepping.answered_in notes.now }
@@ -122,7 +115,6 @@ fn report(request: Option<Event>, notes: &[Note]) -> RoundReport
     }
 }
 
-// Whether a load got its value.
 fn is_value(answer: Answer) -> bool
     ensures { result ≡ stepping.is_value answer }
 {

@@ -11,28 +11,28 @@ use flat_model::{Answer, Cause, Event};
 use machine_core::Lookup;
 use std::alloc::{AllocError, Global};
 
-/// What a run of rounds counted. A round is a step of the schedule, and no time of any hardware.
+/// What a run of rounds counted.
 #[derive(Clone, Copy, PartialEq, Eq, Debug, Default)]
 pub struct Table {
-    /// Rounds that were made; of a run of a list also the one behind them, in which nothing moves.
+    /// Rounds made; of a list, also the last one, in which nothing moves.
     pub rounds: u64,
     /// Requests that were accepted.
     pub accepted: u64,
-    /// Requests that were refused with 1, 2 or 11.
+    /// Refused with 1, 2 or 11.
     pub denied: u64,
-    /// Accepted requests whose word was at hand.
+    /// Accepted: the word was at hand.
     pub hits: u64,
-    /// Accepted requests whose word was on its way already.
+    /// Accepted: the word was on its way.
     pub joins: u64,
-    /// Accepted requests whose block was asked for.
+    /// Accepted: the block was asked for.
     pub misses: u64,
-    /// Requests that were refused with 3 to 10 in the round that first asked them.
+    /// Requests that weren't over in the round that first asked them: refused with 3 to 10.
     pub stalled: u64,
-    /// Rounds in which the request at hand was refused, by the cause.
+    /// Rounds lost by the request at hand, by the cause.
     pub lost: LostRounds,
     /// Loads that were answered.
     pub values: u64,
-    /// Rounds from each answered load's acceptance to its answer, in all.
+    /// Rounds from acceptance to answer, of all answered loads.
     pub waited: u128,
     /// The most of these for one load.
     pub longest: u64,
@@ -42,7 +42,7 @@ pub struct Table {
     pub written: u64,
 }
 
-/// Rounds in which the request at hand was refused, by the cause.
+/// Lost rounds by the cause.
 #[derive(Clone, Copy, PartialEq, Eq, Debug, Default)]
 pub struct LostRounds {
     /// 3: the tag is in use.
@@ -64,7 +64,7 @@ pub struct LostRounds {
 }
 
 impl LostRounds {
-    // Counts a round that a cause took, and says whether the cause is one that passes.
+    // Counts a lost round, and says whether the cause passes.
     fn count(&mut self, cause: Cause) -> bool
         requires { tables.lost_total self.old < 2 ^ 63 }
         ensures passes { result ≡ passes cause }
@@ -86,10 +86,9 @@ impl LostRounds {
     }
 }
 
-// How many tags there are: they are numbers of 16 bits.
 pub(crate) const TAGS: usize = u16::MAX as usize + 1;
 
-// The counts so far, when each tag's load was accepted, and whether the request at hand has stalled.
+// The counts so far, when each tag's load was accepted, and whether the request stalled.
 #[derive(Drop)]
 pub(crate) struct Counter {
     pub(crate) table: Table,
@@ -98,7 +97,6 @@ pub(crate) struct Counter {
 }
 
 impl Counter {
-    // Nothing is counted.
     pub(crate) fn new(alloc: Global) -> Result<Counter, AllocError>
         ensures nothing { IfOk result (λ c. counting c ≡ tables.nothing) }
         ensures tags { IfOk result (λ c. TAGS ≤ length c.since.items) }
@@ -111,7 +109,6 @@ impl Counter {
         })
     }
 
-    // Counts what an accepted request found, and the registers in use behind it.
     fn count_found(&mut self, note: &Note)
         requires { total self.old.table < 2 ^ 62 }
         ensures found { counting self.new
@@ -128,7 +125,6 @@ impl Counter {
         self.table.registers = self.table.registers.max(note.registers);
     }
 
-    // Counts a request that was accepted.
     fn count_accepted(&mut self, note: &Note)
         requires room { total self.old.table < 2 ^ 61 }
         requires tags { TAGS ≤ length self.old.since.items }
@@ -146,7 +142,6 @@ impl Counter {
         self.count_found(note);
     }
 
-    // Counts a request that was refused.
     fn count_refused(&mut self, cause: Cause)
         requires { total self.old.table < 2 ^ 61 }
         ensures refused { counting self.new ≡ tables.with_refused (counting self.old) cause }
@@ -165,7 +160,6 @@ impl Counter {
         }
     }
 
-    // Counts a load that was answered.
     fn count_value(&mut self, tag: u16, round: u64)
         requires room { total self.old.table < 2 ^ 61 }
         requires waits { self.old.table.waited < 2 ^ 127 }
@@ -181,7 +175,6 @@ impl Counter {
         self.table.longest = self.table.longest.max(wait);
     }
 
-    // Counts an event with its answer.
     #[tactic(auto, unfolding(crate::specs::Tables::counted))]
     fn count(&mut self, note: &Note)
         requires room { total self.old.table < 2 ^ 61 }
@@ -205,7 +198,6 @@ impl Counter {
         }
     }
 
-    // Counts what was told of a round.
     pub(crate) fn count_all(&mut self, notes: &[Note])
         requires few { length notes.now ≤ MOST_NOTES }
         requires room { total self.old.table < 2 ^ 60 }
@@ -222,7 +214,6 @@ impl Counter {
         }
     }
 
-    // The table of a run of so many rounds.
     pub(crate) fn table_after(&self, rounds: u64) -> Table
         ensures { result ≡ tables.with_rounds (counting self.now) rounds }
     {

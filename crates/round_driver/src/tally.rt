@@ -6,7 +6,7 @@ ghost use Rattle.round_driver.specs.Details.{with_one_at};
 use std::alloc::{AllocError, Global};
 use std::marker::Model;
 
-/// How often each number came, from 0 to a greatest one.
+/// How often each number came, from 0 up.
 #[derive(Drop)]
 pub struct Tally {
     counts: Vec<u64>,
@@ -21,7 +21,6 @@ impl Model for Tally {
 }
 
 impl Tally {
-    // So many numbers, none of which came.
     pub(crate) fn new(alloc: Global, places: usize) -> Result<Tally, AllocError>
         ensures { IfOk result (λ tally. tally ≡ replicate places 0) }
     {
@@ -29,7 +28,7 @@ impl Tally {
         Ok(Tally { counts })
     }
 
-    // A number came once more. One that has no place isn't counted.
+    // Counts a number, if it has a place.
     #[tactic(auto, unfolding(crate::specs::Details::with_one_at))]
     pub(crate) fn count(&mut self, number: usize)
         requires { sum self.old < 2 ^ 63 }
@@ -41,7 +40,7 @@ impl Tally {
         }
     }
 
-    /// The counts: at place `n` stands how often `n` came.
+    /// At place `n`: how often `n` came.
     pub fn as_slice(&self) -> &[u64]
         ensures { result.now ≡ self.now }
     {

@@ -6,7 +6,7 @@ ghost use Rattle.round_driver.specs.Texts as texts;
 use crate::table::{LostRounds, Table};
 use std::fmt;
 
-// The mean of so many rounds for so many loads: whole ones, and hundredths rounded down.
+// Whole rounds, and hundredths rounded down.
 pub(crate) fn mean_of(rounds: u128, loads: u64) -> (u128, u128)
     ensures { result ≡ texts.mean_of rounds loads }
 {
@@ -19,7 +19,6 @@ pub(crate) fn mean_of(rounds: u128, loads: u64) -> (u128, u128)
 }
 
 impl LostRounds {
-    // Writes the counts of all causes.
     #[tactic(auto, unfolding(crate::specs::Texts::lost_text))]
     fn write_counts<W: fmt::Write>(&self, f: &mut fmt::Formatter<W>) -> fmt::Result
         ensures { WritesOnOk W.write_str_gives f.old result (texts.lost_text self.now) f.new }
@@ -32,15 +31,13 @@ impl LostRounds {
 }
 
 impl Table {
-    /// The mean wait of an answered load in rounds: whole ones, and hundredths rounded down. Zeros if
-    /// no load was answered.
+    /// The mean wait: whole rounds, and hundredths rounded down. Zeros without an answered load.
     pub fn mean_wait(&self) -> (u128, u128)
         ensures { result ≡ texts.mean_wait self.now }
     {
         mean_of(self.waited, self.values)
     }
 
-    // Writes what became of the requests.
     #[tactic(auto, unfolding(crate::specs::Texts::requests_text))]
     fn write_requests<W: fmt::Write>(&self, f: &mut fmt::Formatter<W>) -> fmt::Result
         ensures { WritesOnOk W.write_str_gives f.old result (texts.requests_text self.now) f.new }
@@ -51,7 +48,6 @@ impl Table {
         write!(f, " stalled {}", self.stalled)
     }
 
-    // Writes how long the loads waited.
     #[tactic(auto, unfolding(crate::specs::Texts::waits_text))]
     fn write_waits<W: fmt::Write>(&self, f: &mut fmt::Formatter<W>) -> fmt::Result
         ensures { WritesOnOk W.write_str_gives f.old result (texts.waits_text self.now) f.new }
@@ -62,7 +58,6 @@ impl Table {
         write!(f, " longest {}", self.longest)
     }
 
-    // Writes what else the machine did.
     #[tactic(auto, unfolding(crate::specs::Texts::work_text))]
     fn write_work<W: fmt::Write>(&self, f: &mut fmt::Formatter<W>) -> fmt::Result
         ensures { WritesOnOk W.write_str_gives f.old result (texts.work_text self.now) f.new }
@@ -71,9 +66,8 @@ impl Table {
     }
 }
 
-/// `rounds N accepted N denied N hits N joins N misses N stalled N`, the lost rounds by the cause as
-/// `lost 3:N 4:N 5:N 7:N 8:N 9:N 10:N` (6 isn't answered), and
-/// `values N mean N.NN longest N registers N written N`, with one space between them.
+/// `rounds N accepted N denied N hits N joins N misses N stalled N`, `lost 3:N 4:N 5:N 7:N 8:N 9:N
+/// 10:N` and `values N mean N.NN longest N registers N written N`, with one space between them.
 impl fmt::Display for Table {
     ghost output = { λ table. Some (texts.table_text table) };
 

@@ -8,11 +8,10 @@ use crate::tally::Tally;
 use crate::texts::mean_of;
 use std::alloc::{AllocError, Global};
 
-/// How many buckets there are for waits: one for each number of binary digits of 64 bits.
+/// One for each number of binary digits of 64 bits.
 pub const WAIT_BUCKETS: usize = 65;
 
-/// The bucket of a wait: its number of binary digits. So bucket 0 has the waits of 0 rounds, bucket 1
-/// those of 1, bucket 2 those of 2 and 3, bucket 3 those of 4 to 7, and so on.
+/// The bucket of a wait: its number of binary digits. So bucket 3 has the waits of 4 to 7 rounds.
 pub fn wait_bucket(wait: u64) -> usize
     ensures bucket { result ≡ details.bucket_of wait }
     ensures within { result < WAIT_BUCKETS }
@@ -20,7 +19,7 @@ pub fn wait_bucket(wait: u64) -> usize
     (u64::BITS - wait.leading_zeros()) as usize
 }
 
-/// How long the loads waited that were answered, in rounds.
+/// How long answered loads waited, in rounds.
 #[derive(Drop)]
 pub struct Waits {
     /// These loads.
@@ -29,12 +28,11 @@ pub struct Waits {
     pub rounds: u128,
     /// The most of these for one load.
     pub longest: u64,
-    /// The loads by the bucket of their wait ([`wait_bucket`]).
+    /// Loads by [`wait_bucket`].
     pub buckets: Tally,
 }
 
 impl Waits {
-    // No load was answered.
     pub(crate) fn new(alloc: Global) -> Result<Waits, AllocError>
         ensures { IfOk result (λ waits. waits ≡ details.no_waits) }
     {
@@ -46,7 +44,6 @@ impl Waits {
         })
     }
 
-    // Counts a load that waited so long.
     pub(crate) fn count(&mut self, wait: u64)
         requires room { waits_total self.old < 2 ^ 62 }
         requires rounds { self.old.rounds < 2 ^ 127 }
@@ -60,8 +57,7 @@ impl Waits {
         self.buckets.count(wait_bucket(wait));
     }
 
-    /// The mean of the waits in rounds: whole ones, and hundredths rounded down. Zeros if no load was
-    /// answered.
+    /// Whole rounds, and hundredths rounded down; zeros without a load.
     pub fn mean(&self) -> (u128, u128)
         ensures { result ≡ texts.mean_of self.now.rounds self.now.loads }
     {

@@ -1,5 +1,5 @@
-//! The files that say a machine's numbers, each a TOML table of whole numbers: a shape file, for the machines whose
-//! words of a block and places of the stack are fixed, and a machine file, for all that there are.
+//! Files of a machine's numbers, each a TOML table of whole numbers: a shape file, with the words
+//! of a block and places of the stack fixed, and a machine file, with all.
 #![tactic(auto)]
 
 mod machine_file;

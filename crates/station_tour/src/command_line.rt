@@ -7,24 +7,21 @@ use station_checks::Plan;
 use station_parts::MAX_PORTS;
 use std::alloc::{AllocError, Global};
 
-/// What is to be shown of a tour.
 #[derive(PartialEq, Eq, Drop)]
 pub(crate) enum Show {
-    /// What the ports were told, and what the audit found.
+    /// What ports were told, and what the audit found.
     Story,
     /// The journal, as a recorded run.
     Journal,
-    /// The story, and the journal into a file of this name.
+    /// The story, and the journal into this file.
     StoryAndFile(String),
 }
 
-/// What the words of the command line ask for.
 #[derive(Drop)]
 pub(crate) enum Job {
-    /// The ports of a plan are run, and this is told of them.
+    /// Runs a plan's ports, and tells this.
     Tour {
         plan: Plan,
-        /// How many threads they have, if that is said.
         threads: Option<u32>,
         show: Show,
     },
@@ -33,11 +30,11 @@ pub(crate) enum Job {
         stations: u32,
         seed: u64,
     },
-    /// The requests of a plan are served, to tell how many asks a second.
+    /// Tells how many asks a second are served.
     Rates {
         plan: Plan,
     },
-    /// They are served once, and nothing is told.
+    /// Serves once, and tells nothing.
     Once {
         plan: Plan,
         server: Server,
@@ -46,10 +43,10 @@ pub(crate) enum Job {
 
 const NAME: &str = "kroft-station";
 
-// The name of a file that stands for standard output.
+// The file's name for standard output.
 const STANDARD_OUTPUT: &str = "-";
 
-// The most threads of a tour: one for the cache side, one for each port and one for each of its four banks.
+// The most threads: the cache side, each port, and four banks.
 const MOST_THREADS: u32 = MAX_PORTS + 5;
 
 const SOAK: &str = "soak";
@@ -102,7 +99,7 @@ const ASKS: Number = Number {
     help: "How often each port asks, 1 to 4294967295 [default: 12]",
 };
 
-// The asks of a port that are measured are fewer.
+// Measured ports have fewer asks.
 const MEASURED_ASKS: Number = Number {
     most: 10_000,
     help: "How often each port asks, 1 to 10000 [default: 12]",
@@ -182,8 +179,7 @@ fn hand_once<'a>(alloc: Global) -> Result<Arg<'a>, AllocError> {
     arg.conflicts_with("core-once")
 }
 
-// The arguments go into a list and to their command in one call: each call that takes a command and
-// gives it back makes the proof dearer.
+// Arguments go in by one call: each call that hands a command through makes the proof dearer.
 fn rates_arguments<'a>(alloc: Global) -> Result<Vec<Arg<'a>>, AllocError> {
     let mut args = number_arguments(alloc, &[MEASURED_ASKS, SEED])?;
     args.push(core_once(alloc))?;
@@ -245,7 +241,7 @@ fn program<'a>(alloc: Global) -> Result<Command<'a>, AllocError> {
     tour_command(alloc)?.subcommands(commands)
 }
 
-/// Reads the words behind the program's name. Help and the version come as a fault too.
+/// Help and the version come as a fault too.
 pub(crate) fn read_words(alloc: Global, words: &[&str]) -> Result<Job, StationFault> {
     let mut command = program(alloc)?;
     let matches = command.try_get_matches_from_mut(words)?;
@@ -256,7 +252,6 @@ pub(crate) fn read_words(alloc: Global, words: &[&str]) -> Result<Job, StationFa
     })
 }
 
-// The plan for so many ports, with the asks and the seed that are asked for.
 fn plan_of(ports: u32, matches: &ArgMatches<'_>) -> Plan {
     let asks = matches.get_one::<u32>("asks").unwrap_or(12);
     Plan::new(ports, asks, seed_of(matches))
@@ -275,7 +270,6 @@ fn tour_job(alloc: Global, matches: &ArgMatches<'_>) -> Result<Job, AllocError> 
     })
 }
 
-// What is shown, if the journal goes into a file of this name.
 fn show_of(alloc: Global, journal: Option<&str>) -> Result<Show, AllocError> {
     Ok(match journal {
         None => Show::Story,

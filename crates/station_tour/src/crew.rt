@@ -4,13 +4,12 @@ ghost use Rattle.std.specs.Prelude.{◌≡◌, ◌+◌, ◌-◌, ◌<◌, ◌≤
 use ring_station::Crew;
 use std::thread::{Threads, available_parallelism};
 
-/// The fewest threads of a run: one for the cache side, which serves the banks too, and one for all ports.
+/// One for the cache side and the banks, one for all ports.
 pub(crate) const FEWEST_THREADS: u32 = 2;
 
-/// The crew of a run that is to have so many threads, that of the cache side among them: one for each part
-/// if there are enough; and else the cache side's serves the banks, and the others, at least one, are for the
-/// ports. A thread of their own would serve the banks no faster: what they are sent and what they answer would travel
-/// from one processor to another.
+/// The crew of so many threads: one for each part if there are enough; else the cache side serves
+/// the banks, and the others the ports. Own threads would serve banks no faster: words would travel
+/// between processors.
 pub(crate) fn crew_of(threads: u32, ports: u32, banks: u32) -> Crew
     ensures each { ports + banks < threads → (result.port_threads ≡ ports) × (result.bank_threads ≡ banks) }
     ensures shared { threads ≤ ports + banks
@@ -29,8 +28,7 @@ pub(crate) fn crew_of(threads: u32, ports: u32, banks: u32) -> Crew
     }
 }
 
-/// How many threads a run is to have if nobody says so: as many as there are processors for it. More would
-/// only take turns with one another.
+/// As many threads as processors: more would take turns.
 pub(crate) fn threads_here<R: Threads>(rt: &R) -> u32 {
     match available_parallelism(rt) {
         Ok(count) => u32::try_from(count.get()).unwrap_or(u32::MAX),

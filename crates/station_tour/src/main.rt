@@ -1,5 +1,5 @@
-//! Stations: a tour of one, with what its ports were told and what the audit and flat memory say of
-//! it; a soak of many at random; and how many asks a second are served.
+//! Stations: a tour of one, with what its ports were told and the audit found; a soak of many at
+//! random; and how many asks a second are served.
 #![tactic(auto)]
 
 ghost use Rattle.std.specs.Prelude.{◌≡◌, ◌≤◌, true, IfOk};
@@ -31,7 +31,7 @@ use std::sync::Wait;
 use std::thread::Threads;
 use std::{env, fs, io};
 
-// Set by the launcher where standard error is a terminal.
+// Set by the launcher if standard error is a terminal.
 const PROGRESS: &str = "KROFT_PROGRESS";
 
 fn main(rt: HostRuntime) -> ExitCode {
@@ -40,7 +40,7 @@ fn main(rt: HostRuntime) -> ExitCode {
     ExitCode::from(end_with(&rt, &errors, &end))
 }
 
-// Tells what help was asked for, or why the program didn't come to its end. Gives the status.
+// Tells help, or why the program ends early; gives the status.
 fn end_with<P: Print, E: Print>(output: &P, errors: &E, end: &Result<Seen, StationFault>) -> u8
     ensures { ComesTo end.now result }
 {
@@ -61,7 +61,7 @@ fn end_with<P: Print, E: Print>(output: &P, errors: &E, end: &Result<Seen, Stati
     }
 }
 
-// Tells why the program ends. What is told of the command line has an end of line of its own.
+// The command line's texts end their own lines.
 fn tell_fault<E: Print>(errors: &E, fault: &StationFault) -> io::Result<()> {
     match fault {
         StationFault::CommandLine(_) => print!(errors; "{}", FaultText(fault)),
@@ -80,7 +80,6 @@ fn start<R: AllocGlobal + Clock + Env + Files + Print + Threads + Wait + Sync, E
     done(rt, &mut output, &mut errors, &job)
 }
 
-// What the words of the command line ask for.
 fn asked_for<R: AllocGlobal + Env>(rt: &R) -> Result<Job, StationFault> {
     let alloc = rt.alloc();
     let words: Vec<String> = env::args(rt)?.collect(alloc)?;
@@ -92,7 +91,7 @@ fn asked_for<R: AllocGlobal + Env>(rt: &R) -> Result<Job, StationFault> {
     read_words(alloc, &texts)
 }
 
-// Does a job, and sees what was written through to its end.
+// Does a job, and ends what was written.
 fn done<R: AllocGlobal + Clock + Env + Files + Threads + Wait + Sync, W: Write, E: Write>(
     rt: &R,
     output: &mut W,
@@ -140,7 +139,6 @@ fn seen_of<R: AllocGlobal + Clock + Env + Files + Threads + Wait + Sync, W: Writ
     }
 }
 
-// Makes a tour, and shows of it what is asked for.
 fn show_tour<R: AllocGlobal + Clock + Env + Files + Threads + Sync, W: Write, E: Write>(
     rt: &R,
     output: &mut W,
@@ -164,7 +162,6 @@ fn show_tour<R: AllocGlobal + Clock + Env + Files + Threads + Sync, W: Write, E:
     }
 }
 
-// Makes a tour whose journal goes into a file of this name.
 fn tour_into_file<R: AllocGlobal + Clock + Files + Threads + Sync, W: Write, E: Write>(
     rt: &R,
     output: &mut W,
@@ -184,7 +181,6 @@ fn tour_into_file<R: AllocGlobal + Clock + Files + Threads + Sync, W: Write, E: 
     Ok(found)
 }
 
-// What is written of a tour of which this is shown.
 fn pages_of(show: &Show, progress: bool) -> Pages
     ensures story { result.story ≡ shows_story show.now }
     ensures journal { result.journal ≡ shows_journal show.now }

@@ -1,4 +1,4 @@
-//! A gate that makes a port wait behind a refusal.
+//! A gate that holds a refused port back.
 
 use crossbeam_utils::CachePadded;
 use ring_station::{Actor, Gate, Told};
@@ -6,30 +6,29 @@ use station_parts::MAX_PORTS;
 use std::alloc::{AllocError, Global};
 use std::sync::atomic::{AtomicU32, Ordering};
 
-// A port that is refused again and again waits for twice as long each time, and so many times as long
-// at most: a thread that has what is in its way may be without a processor for a while.
+// A port refused again waits twice as long, up to so many times: who could help may lack a
+// processor.
 const MOST_TIMES: u32 = 16;
 
-/// Holds nobody, but that a port lets some turns go by before it offers an ask again.
+/// Holds only a refused port, for some turns.
 #[derive(Drop)]
 pub(crate) struct PatientGate {
     turns: u32,
-    // Only a port's own thread changes its numbers, so each has cache lines of its own: others would
-    // wait for them at every turn.
+    // Each port's own cache lines: others would wait at every turn.
     holds: Vec<CachePadded<Hold>>,
 }
 
 /// What a port waits for.
 #[derive(Drop)]
 struct Hold {
-    // For how many turns it is still held.
+    // Turns still held.
     left: AtomicU32,
-    // For how many it is held if it is refused next.
+    // Turns of the next hold.
     next: AtomicU32,
 }
 
 impl PatientGate {
-    /// A gate for as many ports as a station has at most, with so many turns behind a first refusal.
+    /// A gate for a station's most ports, with so many turns behind a first refusal.
     pub(crate) fn new(alloc: Global, turns: u32) -> Result<PatientGate, AllocError> {
         let mut holds = Vec::with_capacity(alloc, MAX_PORTS as usize)?;
         for _port in 0..MAX_PORTS {
@@ -41,7 +40,6 @@ impl PatientGate {
         Ok(PatientGate { turns, holds })
     }
 
-    // The port's ask was refused for a cause that passes.
     fn hold_back(&self, hold: &Hold) {
         let turns = hold.next.load(Ordering::SeqCst);
         let most = self.turns.saturating_mul(MOST_TIMES);

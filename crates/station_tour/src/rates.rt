@@ -1,4 +1,4 @@
-//! How many asks a second a station serves, by hand and on threads, and how many the core.
+//! How many asks a second a station serves, by hand and on threads, and the core.
 
 ghost use Rattle.std.specs.Prelude.{◌≡◌, ℕ, ◌<◌, ◌≤◌, ◌*◌, max, min, IfOk, length, vec_len};
 ghost use Rattle.station_parts.specs.declared.make.TheConstants.{MAX_ENTRIES};
@@ -30,11 +30,10 @@ use std::thread::Threads;
 use std::time::{Duration, Instant};
 use std::{fmt, io};
 
-// Each rate is the median of so many runs.
+// A rate is their median.
 const RUNS: u32 = 9;
 
-// Each is run once before any of them is run again, so that a machine that is slow for a while is slow
-// for all.
+// Each runs once before any runs again, so that a slow while is slow for all.
 const SERVERS: [Server; 12] = [
     Server::Core,
     Server::Mutex { threads: 2 },
@@ -56,26 +55,24 @@ const SERVERS: [Server; 12] = [
     },
 ];
 
-// The journal of a station on threads takes so many entries for each request. One makes five or six, with
-// those of the offers that are refused. And so small a journal is memory that the C library has had from the
-// station before, where that of the largest one is cleared by the system, page by page, at each run.
+// Journal entries for a request: one makes five or six with refused offers. So small a journal
+// reuses the last station's memory; the system clears a large one page by page at each run.
 const ENTRIES_A_REQUEST: usize = 8;
 
 /// Who serves the requests.
 #[derive(Clone, Copy)]
 pub(crate) enum Server {
-    /// The core, moved by its driver, on one thread.
+    /// The core on one thread.
     Core,
-    /// The core behind a lock, asked by so many threads that share the requests.
+    /// The core behind a lock, asked by so many threads.
     Mutex { threads: u32 },
-    /// A station with one port, stepped by hand on one thread.
+    /// One port, stepped on one thread.
     Hand,
-    /// A station on threads, with so many ports that share the requests, and a thread for each port and
-    /// each bank.
+    /// A thread for each port and each bank.
     Threads { ports: u32 },
-    /// The same, with so many threads that share the ports, and one for all banks.
+    /// These threads share the ports; one is for all banks.
     Shared { ports: u32, threads: u32 },
-    /// The same, with so many threads that share the ports, and none for the banks: the cache side's serves them.
+    /// The same without it: the cache side serves the banks.
     Beside { ports: u32, threads: u32 },
 }
 
@@ -108,7 +105,7 @@ impl Display for Server {
     }
 }
 
-/// A server, and how long it took in each of its runs.
+/// A server's times.
 #[derive(Drop)]
 struct Timing {
     server: Server,
@@ -141,7 +138,7 @@ impl Timing {
     }
 }
 
-/// Tells how many asks a second each server serves. Says whether each audit was clean.
+/// Tells each server's asks a second. Says whether each audit was clean.
 pub(crate) fn tell_rates<R: AllocGlobal + Clock + Threads + Wait + Sync, W: Write>(
     rt: &R,
     out: &mut W,
@@ -154,7 +151,6 @@ pub(crate) fn tell_rates<R: AllocGlobal + Clock + Threads + Wait + Sync, W: Writ
     Ok(all_good)
 }
 
-// Tells the rate of each server that has served so many requests in each of its runs.
 fn tell_medians<W: Write>(out: &mut W, count: u64, timings: &mut [Timing]) -> io::Result<()> {
     writeln!(out, "{count} requests, each rate the median of {RUNS} runs")?;
     for timing in timings {
@@ -164,7 +160,7 @@ fn tell_medians<W: Write>(out: &mut W, count: u64, timings: &mut [Timing]) -> io
     Ok(())
 }
 
-// Runs the servers in turn, each so often as is wanted. Says whether all went well.
+// Runs the servers in turn. Says whether all went well.
 fn run_all<R: AllocGlobal + Clock + Threads + Wait + Sync>(
     rt: &R,
     timings: &mut [Timing],
@@ -177,7 +173,6 @@ fn run_all<R: AllocGlobal + Clock + Threads + Wait + Sync>(
     Ok(all_good)
 }
 
-// Runs each server once. Says whether all went well.
 fn run_each<R: AllocGlobal + Clock + Threads + Wait + Sync>(
     rt: &R,
     timings: &mut [Timing],
@@ -192,7 +187,7 @@ fn run_each<R: AllocGlobal + Clock + Threads + Wait + Sync>(
     Ok(all_good)
 }
 
-/// Serves the requests once. Says whether the audit, if there is one, was clean.
+/// Serves the requests once. Says whether the audit, if any, was clean.
 pub(crate) fn serve_once<R: AllocGlobal + Clock + Threads + Wait + Sync>(
     rt: &R,
     server: Server,
@@ -233,7 +228,6 @@ fn serve<R: AllocGlobal + Clock + Threads + Wait + Sync>(
     }
 }
 
-// Serves the requests once by a station with so many ports on the threads of a crew.
 fn ask_crew<R: AllocGlobal + Clock + Threads + Sync>(
     rt: &R,
     ports: u32,
@@ -245,7 +239,6 @@ fn ask_crew<R: AllocGlobal + Clock + Threads + Sync>(
     ask_on_threads(rt, &plan, &scripts, entries_for(requests), crew)
 }
 
-// How many entries a journal takes that is to serve the requests.
 fn entries_for(requests: &[Ask]) -> u32
     ensures { result ≡ max 1 (min (length requests.now * ENTRIES_A_REQUEST) MAX_ENTRIES) }
 {
@@ -253,8 +246,7 @@ fn entries_for(requests: &[Ask]) -> u32
     entries.clamp(1, MAX_ENTRIES as usize) as u32
 }
 
-// As many requests as sixteen ports have asks. They are of any words, so that each share of them
-// meets as many misses.
+// Sixteen ports' requests, of any words: each share meets as many misses.
 fn requests(alloc: Global, plan: &Plan) -> Result<Vec<Ask>, AllocError>
     ensures { IfOk result (λ asks. asks.items ≡ requests_of plan.now) }
 {

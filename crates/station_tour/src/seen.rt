@@ -1,4 +1,4 @@
-//! What is seen behind a job, and the status that it comes to.
+//! What a job found, and its status.
 ghost use Rattle.std.specs.Prelude.{◌≡◌, ◌↔◌, ◌≤◌, true};
 ghost use Rattle.station_tour.specs.Statuses.{IsGood};
 
@@ -8,19 +8,18 @@ use station_checks::{Findings, Outcome};
 /// What was seen behind a job.
 #[derive(Clone, Copy)]
 pub(crate) enum Seen {
-    /// What was found behind the last segment of a tour.
+    /// The last segment's findings.
     Tour(Findings),
-    /// What the stations of a soak came to.
     Soak(Soaked),
     /// Of the servers that were measured.
     Rates {
-        /// Whether each came to rest, and each audit was clean.
+        /// All came to rest, with clean audits.
         all_good: bool,
     },
 }
 
 impl Seen {
-    /// The status with which the program ends: 1 if something wrong was found, and else 0.
+    /// 1 if something wrong was found, else 0.
     pub(crate) fn status(&self) -> u8
         ensures good { (result ≡ 0) ↔ IsGood self.now }
         ensures few { result ≤ 1 }

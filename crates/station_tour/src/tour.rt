@@ -1,5 +1,5 @@
-//! A tour: the ports of a plan on threads over one cache, and what is told of them. A long one is cut
-//! into segments, behind each of which the station is renewed.
+//! A tour: a plan's ports on threads over one cache, and what is told of them. A long one is cut
+//! into segments; behind each the station is renewed.
 
 ghost use Rattle.std.specs.Prelude.{◌≡◌, ◌≤◌, ◌-◌, ◌/◌, max, min, true, length, vec_len, is_some, Some, IfOk, OnOk, IfNone};
 ghost use Rattle.std.specs.Io.KnownBytes.{Appends};
@@ -28,19 +28,16 @@ use std::rt::Clock;
 use std::thread::Threads;
 use std::time::{Duration, Instant};
 
-// Turns of each thread. A run uses them up only if its journal becomes full, and then in some
-// minutes.
+// A run uses them up only if its journal is full, and then in some minutes.
 const TURNS: u64 = 100_000_000;
 
-// Turns that a port lets go by before it offers an ask again. What is in its way needs steps of the
-// cache side and the banks to pass, and each offer that comes too early fills the journal.
+// Turns before a refused ask is offered again: each offer too early fills the journal.
 const PATIENCE: u32 = 200;
 
-// Asks of all ports between two renewals. A journal takes 64 times as many entries, and an ask makes
-// four to six: so there is room for many that are offered again, as on a machine with much else to do.
+// Asks of all ports between two renewals. The journal takes 64 entries for each; an ask makes four
+// to six. So there is room for many offered again on a busy machine.
 const ASKS_OF_A_SEGMENT: u32 = 16_384;
 
-// What is found where there is nothing to be found.
 const NOTHING_WRONG: Findings = Findings {
     audit: Audit::Clean,
     is_flat: true,
@@ -49,18 +46,16 @@ const NOTHING_WRONG: Findings = Findings {
 
 type TourStation = Station<WAYS, BLOCK_WORDS, REGS, DEPTH>;
 
-/// What is written of a tour, beside what changes from run to run.
+/// What is written beside what changes from run to run.
 #[derive(Clone, Copy)]
 pub(crate) struct Pages {
-    /// What the ports were told, and what the audit found.
+    /// What ports were told, and what the audit found.
     pub(crate) story: bool,
     /// The journal, as a recorded run.
     pub(crate) journal: bool,
-    /// How far the tour is, behind each segment.
     pub(crate) progress: bool,
 }
 
-// How the ports of a tour are run, and what is written of them.
 #[derive(Drop)]
 struct Setting {
     plan: Plan,
@@ -74,7 +69,7 @@ struct Setting {
 struct Course {
     // What is still to be asked.
     parts: ScriptParts,
-    // Memory as the journals so far leave it.
+    // Memory behind the journals so far.
     memory: FlatMemory,
     tally: Tally,
     // How long the threads ran.
@@ -96,9 +91,9 @@ impl Course {
     }
 }
 
-/// Runs the ports on threads, and tells of it. The result is what was found behind the last segment: it is the
-/// first one of which an audit isn't clean, the journal isn't flat, or a port's list isn't the journal's part
-/// of it, or else the one behind which no ask is left. A plan without an ask has none, and nothing is told.
+/// Runs the ports, and tells of it. The findings are the last segment's. It is the first where an
+/// audit isn't clean, the journal isn't flat, or a port's list isn't the journal's part of it; else
+/// the one that leaves no ask. A plan without an ask has none.
 pub(crate) fn tour<R: AllocGlobal + Clock + Threads + Sync, S: Write, J: Write, E: Write>(
     rt: &R,
     story: &mut S,
@@ -131,7 +126,6 @@ pub(crate) fn tour<R: AllocGlobal + Clock + Threads + Sync, S: Write, J: Write, 
     )
 }
 
-// Runs one segment behind the other, up to the last one.
 #[tactic(auto, using(crate::proofs::Showing::grown_by_none))]
 fn tour_segments<R: AllocGlobal + Clock + Threads + Sync, S: Write, J: Write, E: Write>(
     rt: &R,
@@ -158,7 +152,7 @@ fn tour_segments<R: AllocGlobal + Clock + Threads + Sync, S: Write, J: Write, E:
     Ok(NOTHING_WRONG)
 }
 
-// Runs the next asks, and tells of them. The result is what was found behind them, if they are the last ones.
+// Runs the next asks, and tells of them; findings if they are the last.
 fn tour_segment<R: AllocGlobal + Clock + Threads + Sync, S: Write, J: Write, E: Write>(
     rt: &R,
     story: &mut S,
@@ -195,7 +189,7 @@ fn tour_segment<R: AllocGlobal + Clock + Threads + Sync, S: Write, J: Write, E: 
     )
 }
 
-// Looks at what a segment left, and tells of it. The result is what was found, if it is the last one.
+// Looks at a segment and tells; findings if it is the last.
 #[tactic(auto, using(crate::proofs::Showing::goes_on))]
 fn look_and_tell<S: Write, J: Write, E: Write>(
     alloc: Global,
@@ -232,7 +226,6 @@ fn look_and_tell<S: Write, J: Write, E: Write>(
     )
 }
 
-// Tells what is to be told behind a segment in which this was found.
 #[tactic(auto, using(crate::proofs::Showing::grown_by_none, crate::proofs::Showing::ends_in))]
 fn tell_behind<S: Write, J: Write, E: Write>(
     story: &mut S,
@@ -254,7 +247,7 @@ fn tell_behind<S: Write, J: Write, E: Write>(
     Ok(Some(findings))
 }
 
-// Tells, if this is the first segment, what came of the first asks.
+// Tells what came of the first asks, in the first segment.
 fn tell_begin<S: Write>(
     story: &mut S,
     pages: Pages,
@@ -272,14 +265,13 @@ fn tell_begin<S: Write>(
     Ok(())
 }
 
-// How many asks of a port there are between two renewals.
+// A port's asks between two renewals.
 fn asks_of_a_port(plan: &Plan) -> u32
     ensures { result ≡ max (ASKS_OF_A_SEGMENT / plan.now.ports) 1 }
 {
     (ASKS_OF_A_SEGMENT / plan.ports).max(1)
 }
 
-// Runs the scripts on threads, and renews the station behind them.
 #[tactic(auto, using(crate::proofs::Counting::as_many))]
 fn run_segment<R: AllocGlobal + Clock + Threads + Sync>(
     rt: &R,
@@ -301,7 +293,7 @@ fn run_segment<R: AllocGlobal + Clock + Threads + Sync>(
     Ok(segment)
 }
 
-// Looks at what a segment left, and counts it. It wasn't handed out but behind a clean audit.
+// Looks at a segment, and counts it. Its audit was clean if it was handed out.
 fn look_at(
     alloc: Global,
     scripts: &[Vec<Ask>],
@@ -330,7 +322,6 @@ fn look_at(
     )
 }
 
-// How many asks there are in all scripts.
 fn asks_in(scripts: &[Vec<Ask>]) -> u64
     ensures { result ≡ min (asks_in scripts.now) u64.MAX }
 {
@@ -341,7 +332,6 @@ fn asks_in(scripts: &[Vec<Ask>]) -> u64
     asks
 }
 
-// Tells what is to be told behind each segment.
 fn tell_segment<J: Write, E: Write>(
     journal: &mut J,
     errors: &mut E,
@@ -378,7 +368,6 @@ fn tell_course<E: Write>(errors: &mut E, pages: Pages, course: &Course) -> io::R
     Ok(())
 }
 
-// Tells what is to be told behind the last segment.
 fn tell_end<S: Write, E: Write>(
     story: &mut S,
     errors: &mut E,
@@ -406,7 +395,6 @@ fn tell_story_end<S: Write>(story: &mut S, pages: Pages, findings: &Findings) ->
     story.flush()
 }
 
-// Ends the line that tells how far the tour is.
 fn tell_line_end<E: Write>(errors: &mut E, pages: Pages) -> io::Result<()> {
     if pages.progress {
         writeln!(errors)?;

@@ -1,5 +1,5 @@
-//! The worked examples of what no run of the program shows: values of the libraries that it is made
-//! of, streams that fail, threads that are held at gates, refused memory, and the largest sizes.
+//! Worked examples of what no run of the program shows: library values, failing streams, gated
+//! threads, refused memory, largest sizes.
 #![tactic(auto)]
 
 #[cfg(test)]

@@ -1,5 +1,3 @@
-//! What comes of a line: the machine's answer, or what it shows.
-
 ghost use Rattle.std.specs.Prelude.{◌≡◌};
 ghost use Rattle.trace_text.specs.Texts.{after_line, bank_text, settled_text};
 ghost use Rattle.trace_sheets.specs.Sheets.{accepted_text as text_of_accepted};
@@ -16,7 +14,8 @@ use trace_text::{Line, LineText, answer_text, register_text};
 // What comes of a line. It isn't exported, but `pub`, since definitions name it.
 #[derive(Drop)]
 pub enum Came {
-    // An event's answer, and what is seen of the machine before it. Words are made of that only if the prediction is wrong.
+    // The answer, and what was seen of the machine before it: words are made only for a wrong
+    // prediction.
     Answered {
         event: Event,
         answer: Answer,
@@ -76,7 +75,7 @@ impl Came {
     }
 }
 
-// An answer, with what the request found if it was accepted.
+// An answer, with an accepted request's finding.
 pub(crate) fn full_answer(answer: Answer, found: Option<Lookup>) -> LineText
     ensures { result ≡ forms.full_answer answer found }
 {

@@ -24,17 +24,17 @@ use trace_text::{
 /// What becomes of a sheet.
 #[derive(Drop)]
 pub struct Grade {
-    /// Each wrong prediction, as text in two lines: `line N: ` with its line, and `  is ` with what came, and why, in the words
-    /// of [`words_by`]; what is shown has no reason. In another format it is a line of its own.
+    /// A wrong prediction as two lines, `line N: ` with its line, and `  is ` with what came, and
+    /// why, by [`words_by`]; what is shown has no reason. Other formats have a line.
     pub report: Vec<u8>,
     /// How many predictions are right, wrong and open.
     pub score: Score,
 }
 
-/// How many fields a line of a grade has.
+/// A grade's fields.
 pub const CORRECTION_FIELDS: usize = 9;
 
-// A machine that runs through the lines of a sheet, and the grade so far.
+// A machine in a sheet, and the grade so far.
 #[derive(Drop)]
 pub(crate) struct Grading<'a> {
     pub(crate) alloc: Global,
@@ -44,7 +44,6 @@ pub(crate) struct Grading<'a> {
     pub(crate) score: Score,
 }
 
-// Tells a wrong prediction: the number of its line, the line, what came, and why, if there is a reason.
 fn push_correction(
     report: &mut Vec<u8>,
     number: u64,
@@ -69,7 +68,6 @@ fn push_correction(
     Ok(())
 }
 
-// Tells why, if there is a reason, behind what came.
 fn push_why(report: &mut Vec<u8>, why: Option<&[u8]>) -> Result<(), AllocError>
     ensures { OnOk result
         (report.new.items ≡ report.old.items ++ why_text (option_map (λ words. words.now) why.entry)) }
@@ -93,7 +91,6 @@ fn why_field<'b>(why: Option<&'b [u8]>) -> Field<'b>
     }
 }
 
-// A wrong prediction by names, with what came, and why.
 #[tactic(auto, unfolding(crate::specs::Forms::correction_named))]
 fn correction_fields<'b>(
     number: u64,
@@ -118,7 +115,7 @@ fn correction_fields<'b>(
     ]
 }
 
-// Tells a wrong prediction in a format, with what came, and why, in a line of its own or two.
+// Tells a wrong prediction in a format, in a line or two.
 #[tactic(auto, unfolding(crate::specs::Forms::told, named_fields::specs::Formats::in_format))]
 fn push_form<'b>(
     alloc: Global,
@@ -148,7 +145,7 @@ fn push_form<'b>(
     }
 }
 
-// Tells a wrong prediction in a format. The machine stands behind its line, of which this came.
+// The same; the machine stands behind its line.
 fn push_told(
     alloc: Global,
     format: Format,
@@ -199,7 +196,7 @@ fn push_told(
 }
 
 impl<'a> Grading<'a> {
-    // The grade so far. Its report is taken out.
+    // The grade; its report is taken out.
     fn finished(&mut self) -> Grade
         ensures report { result.report.items ≡ self.old.report.now.items }
         ensures score { result.score ≡ self.old.score }
@@ -212,7 +209,7 @@ impl<'a> Grading<'a> {
         }
     }
 
-    // Marks what is predicted in the line of this number, of which this came. The machine stands behind the line.
+    // Marks a line's prediction by what came. The machine stands behind it.
     fn mark(&mut self, number: u64, text: &[u8], said: &[u8], came: &Came) -> Result<(), AllocError>
         requires number { number ≤ MAX_LINES }
         requires few { total self.old.score < MAX_LINES }
@@ -279,23 +276,20 @@ impl<'a> Collector for Grading<'a> {
     }
 }
 
-/// Grades a sheet: a machine runs through its lines, and each prediction is compared with what the machine
-/// answers. The machine runs on by its own answers, whatever was predicted.
+/// Grades a sheet: a machine runs through its lines by its own answers, and each prediction is
+/// compared.
 ///
-/// A line is a line of a trace of at most 64 bytes, and may have ` -> ` and a prediction behind it, 768 bytes
-/// in all. A prediction of an event is an answer as a recorded run has it, `accepted hit`, `accepted join` or
-/// `accepted miss`, or `?`; of `reg`, `bank` and `settled` it is any text of printable bytes. A
-/// prediction is right if it is the machine's answer, with what the request found or without.
+/// A line is one of a trace, to 64 bytes, and may have ` -> ` and a prediction behind it, 768 bytes
+/// in all. Of an event that is an answer, `accepted hit`, `accepted join`, `accepted miss`, or `?`;
+/// of `reg`, `bank` and `settled` any printable text. An answer without its finding is right too.
 ///
-/// A fault gives no grade, and leaves the machine behind the lines before it. The first one in the order of the lines
-/// is answered, as by [`read_requests`](trace_text::read_requests): a line with a prediction that can't be one
-/// is a bad field. What is told of a wrong prediction is told in the format, and why it is wrong in the words that a picture of
-/// the run has for that step ([`words_by`]). [`TraceFault::OutOfMemory`] may come in place of any answer: the machine
-/// stands as it stood if it came before the first read, and else it was for what is told of a wrong prediction, whose line the
-/// machine has made already. [`TraceFault::Write`] never comes.
+/// A fault gives no grade, and leaves the machine behind the lines before it: the first is
+/// answered, as by [`read_requests`](trace_text::read_requests), and an impossible prediction is a
+/// bad field. [`TraceFault::OutOfMemory`] may replace any answer: before the first read the machine
+/// is as it was, else a wrong prediction's line is made already. [`TraceFault::Write`] never comes.
 ///
-/// One buffer of 4,096 bytes is allocated before the first read. The report takes more, and so do the words of a wrong
-/// prediction; a right or open one takes nothing.
+/// 4,096 bytes are allocated before the first read, and more only for the report and for wrong
+/// predictions.
 pub fn grade_sheet<R: Source>(
     alloc: Global,
     format: Format,
@@ -323,7 +317,6 @@ pub fn grade_sheet<R: Source>(
     grade_through(reader, &mut grading, &mut buffer)
 }
 
-// Grades a sheet to its end, through a buffer.
 fn grade_through<R: Source>(
     reader: &mut R,
     grading: &mut Grading,

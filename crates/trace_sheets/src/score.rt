@@ -14,7 +14,7 @@ use std::fmt;
 /// What a prediction is.
 #[derive(Clone, Copy, PartialEq, Eq, Debug)]
 pub enum Mark {
-    /// It is the machine's answer, in full or without what the request found.
+    /// The machine's answer, with or without its finding.
     Right,
     /// It isn't.
     Wrong,
@@ -22,7 +22,7 @@ pub enum Mark {
     Open,
 }
 
-/// How many predictions of a sheet are right, wrong and open. A line without a prediction doesn't count.
+/// Right, wrong and open predictions of a sheet.
 #[derive(Clone, Copy, PartialEq, Eq, Debug, Default)]
 pub struct Score {
     /// Right ones.
@@ -46,7 +46,7 @@ impl Score {
         }
     }
 
-    /// The status with which the program ends: 0 if no prediction is wrong, else 1. What is open isn't wrong.
+    /// 0 if none is wrong, else 1.
     pub fn status(&self) -> u8
         ensures { result ≡ score_status self.now }
     {
@@ -54,7 +54,7 @@ impl Score {
     }
 }
 
-/// `6 of 9 right, 1 open`: of all predictions, the open ones among them.
+/// `6 of 9 right, 1 open`: of all predictions.
 impl fmt::Display for Score {
     ghost output = { λ score. Some (score_text score) };
 
@@ -84,7 +84,7 @@ fn score_fields(score: Score) -> [Field<'static>; CORRECTION_FIELDS]
     ]
 }
 
-/// A score in a format: the last line of a grade.
+/// A grade's last line.
 #[derive(Clone, Copy)]
 pub struct ScoreIn(pub Format, pub Score);
 
@@ -103,7 +103,7 @@ impl fmt::Display for ScoreIn {
     }
 }
 
-/// The names of a grade's fields as a line of its own, if the format has one: what stands before its first line.
+/// The fields' names, before a grade's first line, if the format has them.
 #[derive(Clone, Copy)]
 pub struct GradeHead(pub Format);
 

@@ -12,7 +12,7 @@ ghost use Rattle.trace_sheets.specs.Sheets.{front_of, is_prediction, sheet_line}
 
 use trace_text::{Line, LineFault, MAX_LINE, line_said, pair_said};
 
-// What a line of a sheet says, without its LF: a line of a trace, and the text that is predicted of it, if one is.
+// A sheet's line without LF: a trace's line, and its prediction if any.
 pub(crate) fn sheet_said(text: &[u8]) -> Result<(Line, Option<&[u8]>), LineFault>
     ensures ok { IfOk result
         (λ said. sheet_line text.now ≡ Ok (said.0, option_map (λ s. s.now) said.1)) }
@@ -27,7 +27,6 @@ pub(crate) fn sheet_said(text: &[u8]) -> Result<(Line, Option<&[u8]>), LineFault
     }
 }
 
-// What a line says whose arrow stands at this place.
 fn predicted(text: &[u8], at: usize) -> Result<(Line, Option<&[u8]>), LineFault>
     requires arrow { arrow_in text.now ≡ Some at }
     requires bound { at + 4 ≤ length text.now }
@@ -47,7 +46,6 @@ fn predicted(text: &[u8], at: usize) -> Result<(Line, Option<&[u8]>), LineFault>
     }
 }
 
-// The place at which ` -> ` first stands.
 fn arrow(text: &[u8]) -> Option<usize>
     ensures value { result ≡ arrow_in text.now }
     ensures bound { IfSome result (λ at. at + 4 ≤ length text.now) }
@@ -60,7 +58,6 @@ fn arrow(text: &[u8]) -> Option<usize>
     None
 }
 
-// What a line of a trace says, without its LF.
 fn front(text: &[u8]) -> Result<Line, LineFault>
     ensures line { result ≡ front_of text.now }
     ensures fault { IfErr result IsSaid }
@@ -71,7 +68,7 @@ fn front(text: &[u8]) -> Result<Line, LineFault>
     line_said(text)
 }
 
-// Whether a text may be predicted of a line, behind which it stands.
+// Whether a line may have this prediction.
 fn may_be_predicted(line: Line, text: &[u8], said: &[u8]) -> bool
     requires stands { (at : ℕ) × (arrow_in text.now ≡ Some at) × (front_of (take at text.now) ≡ Ok line)
         × (said.now ≡ drop (at + 4) text.now) }
@@ -83,7 +80,7 @@ fn may_be_predicted(line: Line, text: &[u8], said: &[u8]) -> bool
     }
 }
 
-// Whether an answer, with what the request found or without, stands behind an event.
+// Whether this is an answer to the event, with or without a finding.
 fn is_answer(text: &[u8], said: &[u8]) -> bool
     requires stands { (at : ℕ) × (event : EventValue) × (arrow_in text.now ≡ Some at)
         × (front_of (take at text.now) ≡ Ok (Line.Event event)) × (said.now ≡ drop (at + 4) text.now) }
@@ -106,7 +103,6 @@ pub(crate) fn is_open(said: &[u8]) -> bool
     said == b"?".as_slice()
 }
 
-// Whether it is the answer of a request with what it found.
 fn is_finding(said: &[u8]) -> bool
     ensures { result ≡ sheets.is_finding said.now }
 {
@@ -115,7 +111,6 @@ fn is_finding(said: &[u8]) -> bool
         || said == b"accepted miss".as_slice()
 }
 
-// Whether the line is one of a recorded run.
 fn is_recorded(text: &[u8]) -> bool
     ensures { result ≡ is_ok (pair_of text.now) }
 {

@@ -17,14 +17,13 @@ pub enum Verdict {
     Wrong,
     /// The line only shows something.
     Passed,
-    /// This is no line of a recorded run.
+    /// No line of a recorded run.
     Faulty(LineFault),
 }
 
-/// Judges one line of a run, as `load 1 5 -> accepted` and its line feed, by the flat memory that
-/// the lines before it left. An explained step leaves the memory that flat memory then is, and every
-/// other line leaves it as it was. `AllocError` says that there was too little memory for the word
-/// that a load is owed, and leaves it too.
+/// Judges one line of a run, as `load 1 5 -> accepted` and its line feed. An explained step changes
+/// memory as flat memory does; no other line does. `AllocError`: too little memory, and nothing
+/// changes.
 pub fn judge_line(memory: &mut FlatMemory, line: &[u8]) -> Result<Verdict, AllocError>
     ensures verdict { IfOk result
         (λ verdict. verdict ≡ verdict_of (ended_pair_of line.now) (shown memory.old)) }

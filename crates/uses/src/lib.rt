@@ -1,9 +1,6 @@
-//! How the libraries are used: small callers, each proved from the contracts of what it calls.
-//!
-//! - [`first_load`]: a machine is made, asked and driven until the load has its word.
-//! - [`count_lookups`]: a driver that chooses its own order of memory, and counts hits, joined
-//!   misses and misses.
-//! - [`judge_line`]: a recorded run is judged step by step, as it comes.
+//! How the libraries are used: small callers, each proved from contracts alone. [`first_load`]
+//! drives a machine until a load has its word; [`count_lookups`] chooses its own order of memory;
+//! [`judge_line`] judges a recorded run as it comes.
 #![tactic(auto)]
 
 mod judge;

@@ -14,12 +14,11 @@ pub struct Lookups {
     pub hits: u64,
     /// The word was on its way already.
     pub joins: u64,
-    /// The block was neither in the cache nor on its way.
+    /// Neither in the cache nor on its way.
     pub misses: u64,
 }
 
 impl Lookups {
-    // Counts what a request finds, where there is such a word.
     fn count(&mut self, lookup: Option<Lookup>)
         requires { total self.old < 2 ^ 63 }
         ensures { self.new ≡ counted self.old lookup }
@@ -33,9 +32,8 @@ impl Lookups {
     }
 }
 
-/// Loads the words at these addresses, one after another, and lets one bank move after each: the
-/// last bank first, and of its answers the newest. Each address of memory counts once, as what its
-/// request found.
+/// Loads these words, and lets one bank move after each: the last bank first, and its newest
+/// answer. Each address counts by what its request found.
 pub fn count_lookups(machine: &mut Machine<2, 4, 4, 4>, addresses: &[u32]) -> Lookups
     requires { length addresses.now < 2 ^ 32 }
     ensures total { total result
@@ -53,7 +51,6 @@ pub fn count_lookups(machine: &mut Machine<2, 4, 4, 4>, addresses: &[u32]) -> Lo
     lookups
 }
 
-// One bank serves a command, its newest answer comes and is processed, and a reply is taken.
 fn move_bank(machine: &mut Machine<2, 4, 4, 4>, bank: u32)
     ensures { machine.new.sizes ≡ machine.old.sizes }
 {

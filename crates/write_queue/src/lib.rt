@@ -1,7 +1,7 @@
-//! The words that the cache has given up and that are on their way to memory.
+//! Words that the cache has given up and that go to memory.
 //!
-//! A write queue is a list of entries, the oldest first, and a limit. Several entries may stand in
-//! it for one word; where they have the same lane, the newest one's byte counts.
+//! [`WriteQueue::push`] takes one; its caller is the cache unit. A word may have several entries;
+//! in each lane the newest one's byte counts.
 #![tactic(auto)]
 
 ghost use Rattle.std.specs.List.{list_any};
@@ -14,30 +14,29 @@ use flat_model::{Lanes, MAX_WRITE_QUEUE, MakeFault, ShapeField, Word, merge};
 use std::alloc::Global;
 use std::marker::Model;
 
-/// A word that a given-up block owes to memory: the bytes of `word` in `lanes` are to be written to
-/// the word at `at`, which lies in `block`.
+/// The bytes of `word` in `lanes` go to the word at `at`, in `block`.
 #[derive(Clone, Copy, PartialEq, Eq, Debug, Default)]
 pub struct Queued {
-    /// The number of the block that was given up.
+    /// The block that was given up.
     pub block: u32,
     /// The address of the word in memory.
     pub at: u32,
-    /// The bytes to be written: only those in the lanes count.
+    /// Only bytes in the lanes count.
     pub word: Word,
     /// The lanes to be written.
     pub lanes: Lanes,
 }
 
-/// The newest queued bytes of a word: these bytes in these lanes, and zero bytes elsewhere.
+/// A word's newest queued bytes; zeros elsewhere.
 #[derive(Clone, Copy, PartialEq, Eq, Debug, Default)]
 pub struct Forward {
-    /// The bytes that memory is to have in the lanes.
+    /// Bytes for memory.
     pub word: Word,
-    /// The lanes that one of the queue's entries for the word has.
+    /// Lanes that an entry has.
     pub lanes: Lanes,
 }
 
-/// A queue of at most 256 words that wait to be written to memory, first in, first out.
+/// At most 256 words, first in, first out.
 #[derive(Drop)]
 pub struct WriteQueue {
     waiting: HeapCircularBuffer<Queued>,
@@ -54,8 +53,8 @@ impl Model for WriteQueue {
 }
 
 impl WriteQueue {
-    /// An empty queue for at most `cap` words. `BadShape(WriteQueue)` says that `cap` is 0 or over
-    /// 256, and `OutOfMemory` that there was too little memory. After either nothing is made.
+    /// An empty queue for `cap` words (1 to 256, or `BadShape(WriteQueue)`). `OutOfMemory`: too
+    /// little memory, and none is kept.
     pub fn new(alloc: Global, cap: u32) -> Result<Self, MakeFault>
         ensures ok { IfOk result (λ q. q ≡ queue [] cap) }
         ensures in_range { OnOk result (IsTrue (is_limit cap)) }
@@ -85,7 +84,7 @@ impl WriteQueue {
         (self.waiting.capacity() - self.waiting.len()) as u32
     }
 
-    /// Puts a word last into a queue that has room for it.
+    /// Puts a word last, if there is room.
     pub fn push(&mut self, entry: Queued)
         requires { length self.old.entries < self.old.limit }
         ensures { self.new ≡ queue (self.old.entries ++ entry ∷ []) self.old.limit }
@@ -93,15 +92,14 @@ impl WriteQueue {
         let _ = self.waiting.try_push_back(entry);
     }
 
-    /// The word that has waited longest; `None` where none waits.
+    /// The oldest word, if any.
     pub fn front(&self) -> Option<Queued>
         ensures { result ≡ slice_get self.now.entries 0 }
     {
         self.waiting.front().copied()
     }
 
-    /// Takes out the word that has waited longest. `None` says that none waits, and changes
-    /// nothing.
+    /// Takes the oldest word out. `None` changes nothing.
     pub fn pop(&mut self) -> Option<Queued>
         ensures value { result ≡ slice_get self.old.entries 0 }
         ensures rest { self.new ≡ queue (drop 1 self.old.entries) self.old.limit }
@@ -109,7 +107,7 @@ impl WriteQueue {
         self.waiting.pop_front()
     }
 
-    /// The word that stands at `place`, counted from the oldest; `None` where none stands there.
+    /// The word at `place`, the oldest at 0.
     pub fn get(&self, place: u32) -> Option<Queued>
         ensures { result ≡ slice_get self.now.entries place }
     {
@@ -123,8 +121,7 @@ impl WriteQueue {
         self.waiting.iter().any(|q| q.block == block)
     }
 
-    /// The newest queued bytes of the word at `at`: the lanes of all its entries, in each lane the
-    /// byte of the last entry that has it, and zero bytes elsewhere.
+    /// The newest queued bytes of the word at `at`.
     pub fn newest(&self, at: u32) -> Forward
         ensures { result ≡ spec.newest self.now.entries at }
     {

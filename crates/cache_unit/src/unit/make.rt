@@ -14,11 +14,10 @@ use std::alloc::Global;
 use write_queue::WriteQueue;
 
 impl ShapedUnit {
-    /// A unit that holds no block and waits for nothing.
+    /// An empty unit.
     ///
-    /// `BadShape` names the first number that is out of its range, in the order of [`bad_size`],
-    /// before any memory is asked for. `OutOfMemory` says that there was too little memory; what was
-    /// taken of it is given back.
+    /// `BadShape` names the first number out of its range, by [`bad_size`]. `OutOfMemory`: too
+    /// little memory, and none is kept.
     pub fn new(alloc: Global, sizes: &Sizes) -> Result<Self, MakeFault>
         ensures ok { IfOk result
             (λ u. u ≡ record {

@@ -13,7 +13,7 @@ use flat_model::Cause;
 use memory_banks::Lines;
 
 impl ShapedUnit {
-    // The frame and the register that a miss on the block takes, or the first cause against it.
+    // What a miss takes, or the first cause against it.
     #[inline(always)]
     pub(super) fn find_places<L: Lines>(&self, lines: &L, block: u32) -> Result<Places, Cause>
         requires { block * self.now.sizes.block_words + self.now.sizes.block_words ≤ self.now.sizes.words }
@@ -40,8 +40,8 @@ impl ShapedUnit {
         Ok(Places { frame, slot })
     }
 
-    // Brings an absent block in, where no cause stands against it. Not inlined: a request that hits
-    // or is refused doesn't pay for its locals.
+    // Brings an absent block in, unless a cause forbids it. Not inlined: a hit doesn't pay for its
+    // locals.
     #[inline(never)]
     pub(super) fn fetch<L: Lines>(&mut self, lines: &mut L, block: u32, places: Places)
         requires absent { is_present self.old.cache block ≡ false }

@@ -19,8 +19,7 @@ use miss_registers::{MAX_WAITING, RegisterTable};
 pub(crate) enum Finding {
     /// The word is at hand.
     Here(Word),
-    /// It is on its way to the register in `slot`, for which `waiting` loads wait: `held` are the
-    /// bytes that stand in the lanes of `code` already.
+    /// It is on its way; `held` are the bytes of `code`'s lanes.
     Coming {
         slot: u32,
         held: Word,
@@ -30,9 +29,8 @@ pub(crate) enum Finding {
 }
 
 impl ShapedUnit {
-    /// How many loads are awaited or stand ready: at most the shape's replies. Of every unit it is
-    /// so, besides, that no tag is owed two values, that a block lies in one frame at most and has
-    /// one live register at most, and that each word in the stack is one that its register awaits.
+    /// How many loads are awaited or ready. Of each unit: no tag is owed twice, a block has one
+    /// frame and one live register at most, and each word in the stack is awaited.
     pub fn owed(&self) -> u32
         ensures value { result ≡ length (tags self.now.cache) }
         ensures few { result ≤ self.now.sizes.replies }
@@ -41,15 +39,13 @@ impl ShapedUnit {
         self.registers.awaited() + self.ready.len() as u32
     }
 
-    // Whether a load with this tag waits or stands ready.
     pub(super) fn is_in_use(&self, tag: u16) -> bool
         ensures { result ≡ is_in_use self.now.cache tag }
     {
         has_tag(self.ready.as_slice(), tag) || self.registers.tag_waits(tag)
     }
 
-    // Where a load of the word of a block finds it, whose frame is known. Inlined: a load that hits doesn't
-    // pay for a call.
+    // Where a load finds its word. Inlined: a load that hits doesn't pay for a call.
     #[inline(always)]
     pub(super) fn find_word(&self, block: u32, i: u32, frame: u32) -> Finding
         requires word { i < self.now.sizes.block_words }
@@ -77,8 +73,7 @@ impl ShapedUnit {
         }
     }
 
-    // A load of a block that is present, in this frame: its value is ready, or it waits, unless four
-    // loads wait for its word.
+    // A load of a present block: ready, or waiting unless four loads wait.
     pub(super) fn load_present(&mut self, tag: u16, block: u32, i: u32, frame: u32) -> Answer
         requires word { i < self.old.sizes.block_words }
         requires held { frame_of self.old.cache block ≡ Some frame }
@@ -111,7 +106,6 @@ impl ShapedUnit {
         }
     }
 
-    // A store into a block that is present, in this frame.
     pub(super) fn store_present(&mut self, block: u32, i: u32, frame: u32, word: Word, lanes: Lanes)
         requires word { i < self.old.sizes.block_words }
         requires held { frame_of self.old.cache block ≡ Some frame }
@@ -122,14 +116,13 @@ impl ShapedUnit {
     }
 }
 
-// Whether a reply with this tag stands ready.
 fn has_tag(ready: &[Reply], tag: u16) -> bool
     ensures { result ≡ list_any (λ r. r.tag == tag) ready.now }
 {
     ready.iter().any(|r| r.tag == tag)
 }
 
-// The lanes join the word's code, where it is still on its way to a live register.
+// The lanes join the word's code, while it is on its way.
 fn note_code(registers: &mut RegisterTable, sizes: &Sizes, block: u32, i: u32, lanes: Lanes)
     requires whole { IsWhole sizes.now.block_words sizes.now.regs registers.old }
     requires there { i < sizes.now.block_words }

@@ -15,16 +15,14 @@ use flat_model::{Answer, Cause, Lanes, Word};
 use memory_banks::Lines;
 
 impl ShapedUnit {
-    /// Serves a request of the processor. A block that no frame holds is brought in first, which
-    /// takes a frame and a register and sends a read for each of its words to the lines; then a
-    /// load is answered or waits for its word, and a store's bytes go into the buffer.
+    /// Serves a request. An absent block is brought in first: it takes a frame and a register, and
+    /// sends its reads.
     ///
-    /// Refused, with the unit and the lines unchanged, for the first of these that holds: the word
-    /// is out of range (1); for a store, no lane is set (2); for a load, the tag is awaited or
-    /// stands ready (3), the limit of outstanding loads is reached (4), or, where the block is present, four
-    /// loads wait for the word (5); where the block is absent, no register is free (7), every way
-    /// of its set is pending (8), the write queue has too few free places for the victim's dirty
-    /// words (9), or a bank has too little room for its reads (10).
+    /// Refused for the first that holds. The word is out of range (1). A store has no lane (2). A
+    /// load's tag is owed a value (3), the limit of outstanding loads is reached (4), or, in a
+    /// present block, four loads wait for the word (5). Of an absent block: no register is free (7);
+    /// every way is pending (8); the write queue lacks places for the victim's dirty words (9); a
+    /// bank lacks room for the reads (10).
     #[inline(always)]
     pub fn request<L: Lines>(&mut self, request: Request, lines: &mut L) -> Answer
         ensures { MakesOver L.sent_to L.room_of L.same
@@ -38,9 +36,8 @@ impl ShapedUnit {
         }
     }
 
-    /// What a request for the word at `at` would find now: a hit, a miss that is under way already,
-    /// or a miss. `None` says that memory has no such word. A request may still be refused for want
-    /// of a place; a lookup changes nothing, and counts nothing.
+    /// What a request for the word at `at` would find now; `None` if memory has no such word. It
+    /// may still be refused.
     pub fn find(&self, at: u32) -> Option<Lookup>
         ensures { result ≡ lookup self.now.sizes self.now.cache at }
     {
@@ -52,7 +49,6 @@ impl ShapedUnit {
         Some(self.find_in(block, i))
     }
 
-    // What a request for the word of a block would find.
     fn find_in(&self, block: u32, i: u32) -> Lookup
         requires { i < self.now.sizes.block_words }
         ensures { result ≡ lookup_of self.now.cache block i }
@@ -66,7 +62,7 @@ impl ShapedUnit {
         }
     }
 
-    // Not inlined, as a store and a prefetch aren't: each pays for its own locals alone.
+    // Not inlined, as a store isn't: each pays for its own locals.
     #[inline(never)]
     fn load<L: Lines>(&mut self, tag: u16, at: u32, lines: &mut L) -> Answer
         ensures { MakesOver L.sent_to L.room_of L.same
@@ -137,14 +133,13 @@ impl ShapedUnit {
         at >= self.sizes.words
     }
 
-    // Whether as many loads are awaited and ready as may be.
     fn owes_all(&self) -> bool
         ensures { result ≡ nat_le self.now.sizes.replies (length (tags self.now.cache)) }
     {
         self.owed() >= self.sizes.replies
     }
 
-    // The block of a word, which lies in memory whole where the word does.
+    // The word's block, wholly in memory if the word is.
     fn block_of(&self, at: u32) -> u32
         ensures value { result ≡ block_of self.now.sizes at }
         ensures within { at < self.now.sizes.words
@@ -154,7 +149,6 @@ impl ShapedUnit {
         at / self.sizes.block_words
     }
 
-    // The place of a word in its block.
     fn place_in(&self, at: u32) -> u32
         ensures value { result ≡ place_in self.now.sizes at }
         ensures small { result < self.now.sizes.block_words }
@@ -162,9 +156,8 @@ impl ShapedUnit {
         at % self.sizes.block_words
     }
 
-    // The block's frame; where no frame holds the block it is brought in first, or the first cause
-    // against that is answered and nothing changes. No load waits yet for a word of a block that was
-    // brought in.
+    // The block's frame. An absent block is brought in, or the first cause against that is
+    // answered.
     #[inline(always)]
     fn make_present<L: Lines>(&mut self, lines: &mut L, block: u32) -> Result<u32, Cause>
         requires { block * self.old.sizes.block_words + self.old.sizes.block_words

@@ -16,35 +16,35 @@ use miss_registers::{FieldView, Owed, RegisterTable, RegisterView};
 use write_queue::Queued;
 
 impl ShapedUnit {
-    /// The numbers that the unit was made with.
+    /// The numbers it was made with.
     pub fn sizes(&self) -> &Sizes
         ensures { result.now ≡ self.now.sizes }
     {
         &self.sizes
     }
 
-    /// How many words stand in the input stack.
+    /// Words in the input stack.
     pub fn stack_len(&self) -> u32
         ensures { result ≡ length self.now.cache.stack }
     {
         self.stack.len()
     }
 
-    /// The entry of the input stack at `place`, where there is one.
+    /// The stack's entry at `place`.
     pub fn stack_entry(&self, place: u32) -> Option<Entry>
         ensures { result ≡ slice_get self.now.cache.stack place }
     {
         self.stack.get(place)
     }
 
-    /// How many words stand in the write queue.
+    /// Words in the write queue.
     pub fn queue_len(&self) -> u32
         ensures { result ≡ length self.now.cache.queue }
     {
         self.queue.len()
     }
 
-    /// The entry of the write queue at `place`, where there is one.
+    /// The queue's entry at `place`.
     pub fn queue_entry(&self, place: u32) -> Option<Queued>
         ensures { result ≡ slice_get self.now.cache.queue place }
     {
@@ -58,30 +58,28 @@ impl ShapedUnit {
         self.ready.len() as u32
     }
 
-    /// The value that a take at `place` would answer, where there is one.
+    /// What a take at `place` would answer.
     pub fn reply(&self, place: u32) -> Option<Answer>
         ensures { result ≡ views.reply_view self.now.cache place }
     {
         self.ready.get(place as usize).map(value_of)
     }
 
-    /// What the register in `slot` shows of itself; `None` where there is no such register.
+    /// The register in `slot`, if there is one.
     pub fn register(&self, slot: u32) -> Option<RegisterView>
         ensures { result ≡ views.register_view self.now.cache slot }
     {
         self.registers.register(slot)
     }
 
-    /// What the register in `slot` shows of word `i` of its block; `None` where there is no such
-    /// register or blocks have no such word.
+    /// Word `i` of a register's block, if there is one.
     pub fn field(&self, slot: u32, i: u32) -> Option<FieldView>
         ensures { result ≡ views.field_view self.now.sizes self.now.cache slot i }
     {
         self.registers.field(self.sizes.block_words, slot, i)
     }
 
-    /// The load at `place` among those that wait for word `i` of the register in `slot`, in the
-    /// order in which they were accepted; `None` where there is none.
+    /// The load at `place` among those that wait for a register's word `i`, oldest first.
     pub fn target(&self, slot: u32, i: u32, place: u32) -> Option<Owed>
         ensures { result ≡ views.target_view self.now.cache slot i place }
     {
@@ -95,7 +93,7 @@ impl ShapedUnit {
         self.sizes.sets * self.sizes.ways
     }
 
-    /// The block that the frame holds; `None` where it is free or there is no such frame.
+    /// The block that a frame holds, if any.
     pub fn frame_block(&self, frame: u32) -> Option<u32>
         ensures { result ≡ views.frame_view self.now.cache frame }
     {
@@ -106,7 +104,6 @@ impl ShapedUnit {
         }
     }
 
-    // Whether the frame holds a block that has a word `i`.
     fn has_word(&self, frame: u32, i: u32) -> bool
         ensures { result ≡ is_some (views.cell_view self.now.cache frame i) }
     {
@@ -115,8 +112,7 @@ impl ShapedUnit {
             && i < self.sizes.block_words
     }
 
-    /// The buffer's word `i` of the block that the frame holds; `None` where it holds none or
-    /// blocks have no such word.
+    /// The buffer's word `i` of a frame's block, if there is one.
     pub fn buffer_word(&self, frame: u32, i: u32) -> Option<Word>
         ensures { result ≡ views.word_view self.now.cache frame i }
     {
@@ -127,8 +123,7 @@ impl ShapedUnit {
         }
     }
 
-    /// The dirty lanes of the buffer's word `i` of the block that the frame holds, which are those
-    /// stored into since the frame took it; `None` where it holds none or blocks have no such word.
+    /// That word's dirty lanes: stored since the frame took the block.
     pub fn dirty(&self, frame: u32, i: u32) -> Option<Lanes>
         ensures { result ≡ views.dirty_view self.now.cache frame i }
     {
@@ -139,7 +134,7 @@ impl ShapedUnit {
         }
     }
 
-    /// Whether no register is valid, no lane is dirty and the write queue is empty.
+    /// Whether no register is valid, no lane dirty and the write queue empty.
     pub fn clean(&self) -> bool
         ensures { result ≡ views.is_clean self.now.cache }
     {
@@ -149,7 +144,6 @@ impl ShapedUnit {
     }
 }
 
-// Whether the register in `slot` is valid.
 fn is_valid(registers: &RegisterTable, slot: u32) -> bool
     ensures { result ≡ (regs.register_at registers.now slot).valid }
 {
@@ -172,7 +166,6 @@ fn are_free(registers: &RegisterTable, count: u32) -> bool
     true
 }
 
-// Whether the frame has no dirty lane.
 fn is_clean(directory: &FrameTable, sizes: &Sizes, frame: u32) -> bool
     requires whole { dir.IsWhole sizes.now.ways sizes.now.block_words directory.now }
     requires frame { frame < length directory.now.frames }
@@ -185,7 +178,6 @@ fn is_clean(directory: &FrameTable, sizes: &Sizes, frame: u32) -> bool
     }
 }
 
-// Whether no frame has a dirty lane.
 fn are_clean(directory: &FrameTable, sizes: &Sizes) -> bool
     requires whole { dir.IsWhole sizes.now.ways sizes.now.block_words directory.now }
     requires frames { sizes.now.sets * sizes.now.ways ≡ length directory.now.frames }
@@ -200,7 +192,6 @@ fn are_clean(directory: &FrameTable, sizes: &Sizes) -> bool
     true
 }
 
-// What a take of the reply answers.
 fn value_of(reply: &Reply) -> Answer
     ensures { result ≡ Answer.Value reply.now.tag reply.now.word }
 {

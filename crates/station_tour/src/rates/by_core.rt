@@ -1,4 +1,4 @@
-//! The core, asked and moved on one thread.
+//! The core on one thread.
 
 ghost use Rattle.std.specs.Prelude.{◌≡◌};
 ghost use Rattle.station_tour.specs.Asked.{event_of};
@@ -10,14 +10,14 @@ use ring_station::Ask;
 use station_checks::{BLOCK_WORDS, DEPTH, REGS, WAYS, WORDS, shape};
 use std::alloc::Global;
 
-// Steps for one request, or to the machine's rest, which no request needs.
+// More steps than a request or the machine's rest needs.
 const TURNS: u32 = 1_000_000;
 
 /// The core of the tour's numbers.
 pub(crate) type Core = Machine<WAYS, BLOCK_WORDS, REGS, DEPTH>;
 
-/// Asks each request, again after each step of the driver if what is in its way passes. Says
-/// whether the machine then came to rest.
+/// Asks each request, and again after each driver's step if its cause passes. Says whether the
+/// machine came to rest.
 pub(crate) fn ask_core(alloc: Global, requests: &[Ask]) -> Result<bool, StationFault> {
     let mut core = new_core(alloc)?;
     ask_all(&mut core, requests)
@@ -38,7 +38,7 @@ fn ask_all(core: &mut Core, requests: &[Ask]) -> Result<bool, StationFault> {
     Ok(comes_to_rest(core))
 }
 
-/// Makes the steps of the driver until there is none. Says whether it came to that.
+/// Whether the driver's steps came to an end.
 pub(crate) fn comes_to_rest(core: &mut Core) -> bool {
     for _turn in 0..TURNS {
         if core.pump().is_none() {
@@ -48,7 +48,6 @@ pub(crate) fn comes_to_rest(core: &mut Core) -> bool {
     false
 }
 
-/// Asks, and again after each step of the driver if what is in its way passes.
 pub(crate) fn ask_one(core: &mut Core, event: Event) -> Result<(), StationFault> {
     for _turn in 0..TURNS {
         match core.apply(event) {
@@ -61,7 +60,7 @@ pub(crate) fn ask_one(core: &mut Core, event: Event) -> Result<(), StationFault>
     Err(StationFault::TurnLimit)
 }
 
-/// The event of a port's ask, for the port 0.
+/// The event of port 0's ask.
 pub(crate) fn event_of(ask: Ask) -> Option<Event>
     ensures { result ≡ event_of ask }
 {

@@ -1,4 +1,4 @@
-//! A station with one port, stepped by hand on one thread.
+//! A station with one port, stepped on one thread.
 
 use crate::fault::StationFault;
 use ring_station::{Ask, BankSide, CacheSide, Port, Source, Station, Stepped, Told, station};
@@ -7,11 +7,11 @@ use std::alloc::Global;
 
 type Cache = CacheSide<WAYS, BLOCK_WORDS, REGS, DEPTH>;
 
-// Steps for one ask, or to the station's rest, which none needs.
+// More steps than an ask or the station's rest needs.
 const TURNS: u32 = 1_000_000;
 
-/// Asks each request, again after each step of another part if what is in its way passes, and then
-/// steps until nothing is to be done. Says whether all came to rest.
+/// Asks each request, and again after each other part's step if its cause passes. Says whether all
+/// came to rest.
 pub(crate) fn ask_by_hand(alloc: Global, requests: &[Ask]) -> Result<bool, StationFault> {
     let mut station: Station<WAYS, BLOCK_WORDS, REGS, DEPTH> = station(alloc, shape(), 1, ENTRIES)?;
     let Station {
@@ -25,7 +25,6 @@ pub(crate) fn ask_by_hand(alloc: Global, requests: &[Ask]) -> Result<bool, Stati
     }
 }
 
-// Asks each request, and then steps to the station's rest. Says whether that came.
 fn ask_all(
     cache: &mut Cache,
     port: &mut Port,
@@ -38,7 +37,7 @@ fn ask_all(
     Ok(come_to_rest(cache, port, banks))
 }
 
-// Steps until nothing is to be done. Says whether the station is at rest then.
+// Steps to the end; whether the station is at rest then.
 fn come_to_rest(cache: &mut Cache, port: &mut Port, banks: &mut [BankSide]) -> bool {
     for _turn in 0..TURNS {
         if !move_on(cache, port, banks) {
@@ -70,9 +69,8 @@ fn ask_one(
     Err(StationFault::TurnLimit)
 }
 
-// Makes the first step that is possible, in the order in which the core's driver makes them: a
-// value is told and taken, a word of the stack is processed, a bank's word comes, a bank serves, a
-// word of the write queue goes to its bank. Says whether there was one.
+// Makes the first possible step, as the core's driver: tells and takes a value, processes a word,
+// brings one, serves a command, drains a word.
 fn move_on(cache: &mut Cache, port: &mut Port, banks: &mut [BankSide]) -> bool {
     if cache.step(Source::Reply(0)) == Stepped::Did {
         let _value = port.take();
@@ -87,7 +85,7 @@ fn move_on(cache: &mut Cache, port: &mut Port, banks: &mut [BankSide]) -> bool {
     cache.step(Source::Drain) == Stepped::Did
 }
 
-// Brings the word of the first bank that has one. Says whether there was one.
+// The first bank's word that there is.
 fn bring_word(cache: &mut Cache) -> bool {
     for bank in 0..shape().banks {
         if cache.step(Source::Word(bank)) == Stepped::Did {
@@ -97,7 +95,7 @@ fn bring_word(cache: &mut Cache) -> bool {
     false
 }
 
-// The first bank that can serve a command serves it. Says whether there was one.
+// The first bank that can.
 fn serve_one(banks: &mut [BankSide]) -> bool {
     for bank in 0..banks.len() {
         if banks[bank].step() == Stepped::Did {

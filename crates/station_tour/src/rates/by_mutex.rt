@@ -1,4 +1,4 @@
-//! The core behind a lock, asked by threads.
+//! The core behind a lock.
 
 ghost use Rattle.std.specs.Prelude.{◌<◌, length};
 
@@ -9,8 +9,8 @@ use ring_station::Ask;
 use std::sync::{Mutex, Wait};
 use std::thread::{Threads, map_indices};
 
-/// Asks each script in a thread of its own, which takes the lock for each ask. Says whether all were
-/// answered, and the machine then came to rest.
+/// Asks each script in a thread that takes the lock for each ask. Says whether all were answered,
+/// and the machine came to rest.
 pub(crate) fn ask_behind_mutex<R: AllocGlobal + Threads + Wait + Sync>(
     rt: &R,
     scripts: &[Vec<Ask>],
@@ -20,7 +20,6 @@ pub(crate) fn ask_behind_mutex<R: AllocGlobal + Threads + Wait + Sync>(
     Ok(are_answered && comes_to_rest(&mut core.lock(rt)))
 }
 
-// Asks each script in a thread of its own. Says whether all were answered.
 fn ask_each<R: AllocGlobal + Threads + Wait + Sync>(
     rt: &R,
     core: &Mutex<Core>,
@@ -37,7 +36,7 @@ fn ask_each<R: AllocGlobal + Threads + Wait + Sync>(
     Ok(answered.iter().all(|is_answered| *is_answered))
 }
 
-// Asks the asks of a script one after another. Says whether each was answered for good.
+// Whether each ask was answered for good.
 fn asks_all<R: Wait>(rt: &R, core: &Mutex<Core>, script: &[Ask]) -> bool {
     for ask in script {
         if let Some(event) = event_of(*ask)
@@ -49,7 +48,7 @@ fn asks_all<R: Wait>(rt: &R, core: &Mutex<Core>, script: &[Ask]) -> bool {
     true
 }
 
-// Asks once, with the lock in hand until the answer stands.
+// Holds the lock until the answer stands.
 fn asks_behind<R: Wait>(rt: &R, core: &Mutex<Core>, event: Event) -> bool {
     let mut held = core.lock(rt);
     ask_one(&mut held, event).is_ok()

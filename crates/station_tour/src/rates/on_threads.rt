@@ -1,4 +1,4 @@
-//! A station on the threads of a crew, with a port for each script.
+//! A station on a crew's threads, a port for each script.
 
 ghost use Rattle.std.specs.Prelude.{◌≡◌, length, vec_len};
 ghost use Rattle.station_parts.specs.Station.{AreOneStation};
@@ -10,15 +10,15 @@ use station_checks::{BLOCK_WORDS, DEPTH, Plan, REGS, WAYS, shape};
 use std::rt::Clock;
 use std::thread::Threads;
 
-// Turns of each thread, which a run doesn't use up unless its journal becomes full.
+// A run doesn't use them up unless its journal is full.
 const TURNS: u64 = 100_000_000;
 
-// Turns that a port lets go by before it offers an ask again: so few of them come too early.
+// A port lets them go by before it offers again: few come too early.
 const PATIENCE: u32 = 100;
 
 type RateStation = Station<WAYS, BLOCK_WORDS, REGS, DEPTH>;
 
-/// Runs the scripts to their end, with a journal of so many entries. Says whether the audit is clean.
+/// Runs the scripts with a journal of so many entries. Says whether the audit is clean.
 pub(crate) fn ask_on_threads<R: AllocGlobal + Clock + Threads + Sync>(
     rt: &R,
     plan: &Plan,
@@ -34,7 +34,6 @@ pub(crate) fn ask_on_threads<R: AllocGlobal + Clock + Threads + Sync>(
     runs_clean(rt, &mut station, scripts, crew, &gate)
 }
 
-// Runs the scripts to their end. Says whether the audit is clean.
 fn runs_clean<R: AllocGlobal + Clock + Threads + Sync>(
     rt: &R,
     station: &mut RateStation,

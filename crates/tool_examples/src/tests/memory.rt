@@ -1,6 +1,5 @@
-//! What each call that takes memory leaves where an allocation is refused: it answers want of memory
-//! and nothing else, nothing has changed, and a second call gives the answer of its example. With
-//! memory, as in a whole run of the tests, the first call gives that answer.
+//! Each call that allocates, where an allocation is refused: nothing changes, and a second call
+//! gives the example's answer. With memory the first call does.
 
 use super::sweeps::{REQUESTS, row_of_three_loads, with_registers};
 use flat_model::ShapeField;
@@ -79,7 +78,6 @@ fn a_sweep_in_rounds_may_find_no_memory(rt: HostRuntime) -> Result<(), Fail> {
     Ok(())
 }
 
-/// The stored run: a store comes between a load and its word.
 const STORED_INPUT: &str = "load 1 5
 store 5 1000 ff000000
 serve 1

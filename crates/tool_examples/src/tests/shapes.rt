@@ -76,7 +76,6 @@ fn shape_texts(rt: HostRuntime) -> Result<(), Fail> {
     Ok(())
 }
 
-/// Texts of machine files that are refused, and what is told of them.
 const REFUSED: [(&str, &str); 9] = [
     ("ways =", "machine: not TOML"),
     ("regs = 4", "machine: unknown key regs"),

@@ -1,5 +1,4 @@
-//! What the program answers where its input can't be read or its output can't be written, and how
-//! much it reads at once.
+//! Inputs and outputs that fail, and how much is read at once.
 
 use kroft_command::tool;
 use std::io;
@@ -9,7 +8,7 @@ use std::rt::Files;
 use std::test::Fail;
 use std::thread::Threads;
 
-/// Fails at its first call, and would end at the next.
+// Fails at its first call, and would end at the next.
 #[derive(Drop)]
 struct FailsOnce {
     calls: usize,
@@ -52,7 +51,7 @@ fn a_failed_read_ends_each_job(rt: HostRuntime) -> Result<(), Fail> {
     Ok(())
 }
 
-/// Fails at its first write, or at its first flush behind a write, and would go on at the next.
+/// Fails at its first write, or the first flush behind one, and would go on.
 #[derive(Drop)]
 struct RefusesOnce {
     writes: bool,
@@ -88,7 +87,6 @@ impl Write for RefusesOnce {
     }
 }
 
-/// Asserts what a job says whose output is refused.
 fn is_refused<R: Abort + AllocGlobal + Files + Threads + Sync>(
     rt: &R,
     words: &[&str],
@@ -127,7 +125,7 @@ fn a_refused_write_or_flush_ends_each_job(rt: HostRuntime) -> Result<(), Fail> {
         (&["history", "--values"], "load-request 7 0x1000 1\n"),
         (&["--help"], ""),
         (one_page, "0 0\n"),
-        // The flush behind a page without room goes before that fault.
+        // The flush goes before the page's fault.
         (one_page, "0 0\n0 1000\n"),
     ];
     for (words, input) in jobs {
@@ -137,12 +135,12 @@ fn a_refused_write_or_flush_ends_each_job(rt: HostRuntime) -> Result<(), Fail> {
     Ok(())
 }
 
-/// A text that is a page again and again. Each read gives one page.
+/// A page again and again, one a read.
 #[derive(Drop)]
 struct Repeated<'a> {
     page: &'a [u8],
     pages: u32,
-    /// How many bytes the largest read had room for.
+    /// The largest read's room.
     room: usize,
 }
 
@@ -159,7 +157,7 @@ impl Read for Repeated<'_> {
     }
 }
 
-// A page of 2,176 bytes has to fit at once; what is read is let go before the next one.
+// A page of 2,176 bytes fits at once; what is read is let go before the next one.
 #[test]
 fn one_buffer_of_4096_bytes(rt: HostRuntime) -> Result<(), Fail> {
     let page = "drain -> nothing\n".repeat(rt.alloc(), 128)?;

@@ -1,4 +1,4 @@
-//! Sweeps on threads, in the order that a gate gives them, at their limits and at their largest sizes.
+//! Sweeps on threads, in a gate's order, at their limits and largest sizes.
 
 use flat_model::Event;
 use register_sweeps::{
@@ -14,23 +14,20 @@ use std::sync::atomic::{AtomicBool, AtomicU64, Ordering};
 use std::test::Fail;
 use std::thread::Threads;
 
-/// How often the processor pauses behind an ask to which the gate says no. The thread that asks has a limit of turns, and the one
-/// that it waits for may have no processor for a while.
+/// Pauses behind a gate's no: the thread that asks has a limit of turns, and the other may have no processor.
 const PAUSES: u32 = 64;
 
-/// When a gate lets the thread of a row go on.
 #[derive(Clone, Copy)]
 enum Opens {
     AtOnce,
-    /// For the row at place 0 when the one at place 1 has ended.
+    /// Row 0 goes on when row 1 has ended.
     SecondFirst,
     /// When both rows have asked.
     BothThere,
-    /// At the ask of this number, counted from 1.
+    /// At this ask, counted from 1.
     AtAsk(u64),
 }
 
-/// A gate for two rows, and what it has seen of them.
 #[derive(Drop)]
 struct Gate {
     opens: Opens,
@@ -53,7 +50,7 @@ impl Gate {
         }
     }
 
-    /// At the first ask for a place, waits in it until there was one for the other place too.
+    /// At a place's first ask, waits for the other's.
     fn meet(&self, place: usize) {
         if place >= 2 || self.came[place].swap(true, Ordering::SeqCst) {
             return;
@@ -67,7 +64,7 @@ impl Gate {
         }
     }
 
-    /// Whether the row at place 1 has ended. If it hasn't, the thread that asks takes its time.
+    /// Whether the row at place 1 has ended. If not, the thread that asks takes its time.
     fn has_second_ended(&self) -> bool {
         let has_ended = self.second_ended.load(Ordering::SeqCst);
         if !has_ended {
@@ -78,8 +75,7 @@ impl Gate {
         has_ended
     }
 
-    /// How many asks there were, if one of them is to open the gate; how many rows saw the other one
-    /// begin before they went on, if they wait for it.
+    /// Asks so far, if one opens the gate; else rows that saw the other begin.
     fn seen(&self) -> u64 {
         match self.opens {
             Opens::AtAsk(_) => self.asks.load(Ordering::SeqCst),
@@ -126,8 +122,8 @@ pub fn with_registers(regs: u32) -> ToolShape {
     }
 }
 
-/// The row of the three loads: each takes 13 pumps in all. With one register the second and the third
-/// wait until the register before them is free, with two the third does.
+/// Three loads, each with 13 pumps. With one register the second and third wait for a free one,
+/// with two the third.
 pub fn row_of_three_loads(regs: u32) -> Row {
     let (stalled, waited) = match regs {
         1 => (2, 26),
@@ -145,24 +141,21 @@ pub fn row_of_three_loads(regs: u32) -> Row {
     }
 }
 
-/// The rows of the three loads with one and with two registers.
 const ROWS: &str = "regs 1 accepted 3 denied 0 stalled 2 waited 26 pumps 39 values 3
 regs 2 accepted 3 denied 0 stalled 1 waited 23 pumps 39 values 3
 ";
 
 const SECOND_ROW: &str = "regs 2 accepted 3 denied 0 stalled 1 waited 23 pumps 39 values 3\n";
 
-// The first block's words come in the rounds 12 to 15. With one register the next load is accepted as
-// they have all come, 14 rounds behind the one before it, so each waits 11 rounds. With two the second
-// load's reads are begun in round 13, and the third load, which is accepted in round 15, has its own
-// begun in round 24.
+// The first block's words come in rounds 12 to 15. With one register a load follows 14 rounds
+// behind the last, so each waits 11. With two, the second's reads are begun in round 13, and the
+// third's, accepted in 15, in round 24.
 const ROUNDS: &str = "regs 1 rounds 44 accepted 3 denied 0 hits 0 joins 0 misses 3 stalled 2 \
 lost 3:0 4:0 5:0 7:26 8:0 9:0 10:0 values 3 mean 11.00 longest 11 registers 1 written 0
 regs 2 rounds 38 accepted 3 denied 0 hits 0 joins 0 misses 3 stalled 1 \
 lost 3:0 4:0 5:0 7:12 8:0 9:0 10:0 values 3 mean 17.00 longest 21 registers 2 written 0
 ";
 
-/// The rows, one a line, or the fault.
 fn text_of<D: Display + Drop>(
     alloc: Global,
     rows: Result<Vec<D>, SweepFault>,
@@ -180,7 +173,6 @@ fn text_of<D: Display + Drop>(
     Ok(text)
 }
 
-/// What a sweep of the three loads gives, by pumps or in rounds.
 fn swept<R: Abort + AllocGlobal + Threads + Sync>(
     rt: &R,
     in_rounds: bool,
@@ -202,10 +194,10 @@ fn swept<R: Abort + AllocGlobal + Threads + Sync>(
     text_of(alloc, sweep(rt, alloc, &REQUESTS, shapes, turns, gate))
 }
 
-/// So many turns that a row whose gate waits for the other one doesn't come to its limit, unless that one never begins.
+/// A waiting row doesn't come to so many turns, unless the other one never begins.
 const LONG: u64 = 5_000_000;
 
-// A thread has as many turns as it is given: no fewer and no more.
+// A thread has exactly as many turns as given.
 #[test]
 fn sweep_on_threads(rt: HostRuntime) -> Result<(), Fail> {
     let mut three_ways = with_registers(2);
@@ -254,7 +246,7 @@ write_queue = 256
 replies = 64
 ";
 
-/// The row of one load of the last word, on the largest machine.
+/// One load of the last word, on the largest machine.
 const LAST_LOAD: Row = Row {
     regs: 8,
     accepted: 1,
@@ -265,7 +257,7 @@ const LAST_LOAD: Row = Row {
     values: 1,
 };
 
-/// All calls of the library give this row: alone, as one of two on threads, and of the machine's numbers.
+/// All calls give this row: alone, on threads, and by the machine's numbers.
 #[test]
 fn rows_of_three_loads(rt: HostRuntime) -> Result<(), Fail> {
     for regs in [1, 2] {

@@ -21,8 +21,8 @@ fn a_first_load_gets_the_word_of_the_image(rt: HostRuntime) -> Result<(), Fail> 
     Ok(())
 }
 
-// Word 3 comes first, then 2 and 1: so word 1 is on its way at the second request, and words 3 and
-// 1 are there at the third and the fourth. Memory has no word 64.
+// Words 3, 2, 1 come in this order. So at the second request word 1 is on its way, and at the third
+// and fourth words 3 and 1 are there.
 #[test]
 fn lookups_are_hits_joins_and_misses(rt: HostRuntime) -> Result<(), Fail> {
     let image = image(rt.alloc(), 64)?;

@@ -1,4 +1,4 @@
-//! What the examples share: shapes, images, machines, and the stored run.
+//! What the examples share.
 
 use flat_model::{MakeFault, Shape, Word};
 use machine_core::{Machine, ShapedMachine};
@@ -10,7 +10,7 @@ use std::process::Abort;
 use std::test::Fail;
 use trace_text::Counts;
 
-/// The shape of most examples: 32 words, 2 sets, 2 banks, and queues of 4.
+/// The shape of most examples.
 pub const SMALL_SHAPE: Shape = Shape {
     words: 32,
     sets: 2,
@@ -30,7 +30,7 @@ pub const PROGRAM_SHAPE: Shape = Shape {
     replies: 8,
 };
 
-/// The trace of the stored run: a store comes between a load and its word.
+/// The stored run's trace: a store comes between a load and its word.
 pub const STORED_INPUT: &str = "load 1 5
 store 5 1000 ff000000
 serve 1
@@ -66,7 +66,7 @@ pub const STORED_COUNTS: Counts = Counts {
     refused: 0,
 };
 
-/// Asserts that what a row's case gave is what the row says. The name of the row is told where it isn't.
+/// Asserts that a row's case gave what the row says, and names a row that fails.
 ///
 /// It stands once, since each `assert_eq!` with a text takes the checker some seconds.
 pub fn same<R: Abort, T: PartialEq + Debug + Drop>(rt: &R, name: &str, found: T, wanted: T) {
@@ -86,7 +86,7 @@ pub fn word(b0: u8, b1: u8, b2: u8, b3: u8) -> Word {
     Word { b0, b1, b2, b3 }
 }
 
-/// A word whose first byte is its number, as in [`image`].
+/// A word whose first byte is its number.
 pub fn numbered(b0: u8) -> Word {
     word(b0, 0, 0, 0)
 }
@@ -100,7 +100,7 @@ pub fn image(alloc: Global, words: u8) -> Result<Vec<Word>, AllocError> {
     Ok(image)
 }
 
-/// A machine of the small shape, with one way, 4 words in a block and a stack of 2.
+/// One way, 4 words a block, a stack of 2.
 pub fn small_machine(alloc: Global) -> Result<Machine<1, 4, 2, 2>, MakeFault> {
     let image = image(alloc, 32)?;
     Machine::new(alloc, SMALL_SHAPE, &image)
@@ -112,7 +112,7 @@ pub fn default_machine(alloc: Global) -> Result<ShapedMachine, Fail> {
     Ok(Machine::<2, 4, 4, 4>::new(alloc, PROGRAM_SHAPE, &image)?.into_shaped())
 }
 
-/// What a reader does in a read behind its text.
+/// What a reader does behind its text.
 #[derive(Clone, Copy)]
 pub enum Behind {
     End,
@@ -120,8 +120,8 @@ pub enum Behind {
     Text(&'static str),
 }
 
-/// Gives its text, at most so many bytes in a read, and then does what is behind it, one each in a read,
-/// and the last one in each further read.
+/// Gives its text in pieces of at most so many bytes, and then does what is behind it, one a read;
+/// the last one repeats.
 #[derive(Drop)]
 pub struct Script<'a> {
     text: &'a [u8],
@@ -144,7 +144,6 @@ impl<'a> Script<'a> {
         }
     }
 
-    // What is done in the next read behind the text.
     fn next_behind(&mut self) -> Behind {
         let behind = self.behind[self.done.min(1)];
         self.done = self.done.saturating_add(1);

@@ -1,5 +1,5 @@
-//! What the regular law and the flat one let through and what they refuse, in histories of a few events;
-//! the order of the faults; and what memory may have before the first store.
+//! Histories of a few events by the regular and the flat law; the order of faults; memory before
+//! the first store.
 
 use memory_histories::{
     FlatHistory, HistoryEvent, HistoryFault, Owed, RegularMemory, Rest, StepFault, StoreName,
@@ -35,8 +35,7 @@ fn stored(number: u64) -> HistoryEvent<'static> {
     HistoryEvent::StoreResponse { number }
 }
 
-/// Why a memory refuses an event, or `None` where it takes it. Where it finds too little memory it is
-/// asked again.
+/// Why a memory refuses an event, if so. Without memory it is asked again.
 fn refusal<R: Abort>(
     rt: &R,
     memory: &mut RegularMemory,
@@ -63,7 +62,7 @@ fn takes<R: Abort>(rt: &R, memory: &mut RegularMemory, events: &[HistoryEvent]) 
     }
 }
 
-/// Asserts that an open load of one byte may return these bytes and no others.
+/// Asserts that an open load of a byte may return these bytes alone.
 fn may_return<R: Abort>(rt: &R, memory: &RegularMemory, number: u64, wanted: &[u8]) {
     let set = memory.may_return(number, PLACE);
     assert!(rt; set.is_some());
@@ -74,8 +73,8 @@ fn may_return<R: Abort>(rt: &R, memory: &RegularMemory, number: u64, wanted: &[u
     }
 }
 
-/// A load that overlaps a store sees it, and a later one that overlaps it too doesn't. Once the store
-/// is answered, no load may see what stood there before.
+/// A load that overlaps a store sees it; a later overlapping one doesn't. Once the store is
+/// answered, no load may see what was there before.
 #[test]
 fn new_then_old(rt: HostRuntime) -> Result<(), Fail> {
     let mut memory = RegularMemory::new(rt.alloc(), &[], Rest::Zeros)?;
@@ -84,7 +83,6 @@ fn new_then_old(rt: HostRuntime) -> Result<(), Fail> {
     let overlapping = [loaded(1, &[0x5a]), load(2, 1), loaded(2, &[0])];
     takes(&rt, &mut memory, &overlapping);
     takes(&rt, &mut memory, &[load(3, 1), stored(1), load(4, 1)]);
-    // The third load was requested before the response, and the fourth after it.
     may_return(&rt, &memory, 3, &[0, 0x5a]);
     may_return(&rt, &memory, 4, &[0x5a]);
     let old = refusal(&rt, &mut memory, loaded(4, &[0]));
@@ -93,9 +91,8 @@ fn new_then_old(rt: HostRuntime) -> Result<(), Fail> {
     Ok(())
 }
 
-/// Two stores of a word overlap. A load behind both sees, for each byte, either of them and not what
-/// stood there before; a third store of the first byte alone settles that byte and leaves the second
-/// byte's choice; and a word torn between the two is let through.
+/// Two stores of a word overlap. A load behind both sees either of them in each byte; a third store
+/// settles the first byte alone; a word torn between the two is let through.
 #[test]
 fn overlapping_stores(rt: HostRuntime) -> Result<(), Fail> {
     let mut memory = RegularMemory::new(rt.alloc(), &[], Rest::Zeros)?;
@@ -169,7 +166,6 @@ fn faults_in_order(rt: HostRuntime) -> Result<(), Fail> {
     Ok(())
 }
 
-/// Before the first store there is the image, and beyond it zeros, or nothing is known.
 #[test]
 fn before_the_first_store(rt: HostRuntime) -> Result<(), Fail> {
     let first = HistoryEvent::LoadRequest {
@@ -190,8 +186,7 @@ fn before_the_first_store(rt: HostRuntime) -> Result<(), Fail> {
     Ok(())
 }
 
-/// Why a flat memory refuses an event, or `None` where it takes it. Where it finds too little memory it
-/// is asked again.
+/// As `refusal`, of a flat memory.
 fn flat_refusal<R: Abort>(
     rt: &R,
     memory: &mut FlatHistory,
@@ -211,14 +206,13 @@ fn flat_refusal<R: Abort>(
     }
 }
 
-/// Asserts that a flat memory takes these events.
 fn flat_takes<R: Abort>(rt: &R, memory: &mut FlatHistory, events: &[HistoryEvent]) {
     for (place, event) in events.iter().enumerate() {
         assert_eq!(rt; flat_refusal(rt, memory, *event), None, "event {place}");
     }
 }
 
-/// Asserts that a flat memory may return this byte at this address for an open load, and no other.
+/// Asserts that an open load may return this byte and no other.
 fn flat_returns<R: Abort>(rt: &R, memory: &FlatHistory, number: u64, address: u64, wanted: u8) {
     let set = memory.may_return(number, address);
     assert!(rt; set.is_some());
@@ -229,7 +223,7 @@ fn flat_returns<R: Abort>(rt: &R, memory: &FlatHistory, number: u64, address: u6
     }
 }
 
-/// Asserts that a flat memory has these faults at these events, one after the other, and steps so.
+/// Asserts these faults, one after the other.
 fn flat_faults<R: Abort>(
     rt: &R,
     memory: &mut FlatHistory,
@@ -241,8 +235,7 @@ fn flat_faults<R: Abort>(
     }
 }
 
-/// A load is owed what stood there at its request: a store that is requested before it, answered or
-/// not, and no later one.
+/// A load is owed what stood there at its request: an earlier requested store, answered or not.
 #[test]
 fn effect_at_the_request(rt: HostRuntime) -> Result<(), Fail> {
     let mut memory = FlatHistory::new(rt.alloc(), &[], Rest::Zeros)?;
@@ -287,8 +280,8 @@ fn effect_at_the_request(rt: HostRuntime) -> Result<(), Fail> {
     Ok(())
 }
 
-/// A byte that nobody knows may be anything, each time it is loaded, until a store covers it; an image
-/// and zeros are known.
+/// An unknown byte may be anything at each load, until a store covers it; an image and zeros are
+/// known.
 #[test]
 fn flat_memory_before_the_first_store(rt: HostRuntime) -> Result<(), Fail> {
     let first = HistoryEvent::LoadRequest {
@@ -320,7 +313,7 @@ fn flat_memory_before_the_first_store(rt: HostRuntime) -> Result<(), Fail> {
     Ok(())
 }
 
-/// The faults of the flat law come in the same order, and change nothing.
+/// The flat law's faults have the same order, and change nothing.
 #[test]
 fn flat_faults_in_order(rt: HostRuntime) -> Result<(), Fail> {
     let mut memory = FlatHistory::new(rt.alloc(), &[], Rest::Zeros)?;

@@ -8,10 +8,10 @@ use std::io::{Read, Write};
 use std::test::Fail;
 use trace_text::serve_text;
 
-/// What a reader gave, behind `<`, what a writer took, behind `>`, and a `!` for each flush.
+/// What a reader gave behind `<`, what a writer took behind `>`, `!` for a flush.
 type Log = RefCell<Vec<u8>>;
 
-/// Notes a piece; where the log can't be had, the stream fails.
+// Notes a piece. Without the log the stream fails.
 fn note(log: &Log, mark: u8, bytes: &[u8]) -> io::Result<()> {
     let Ok(mut log) = log.try_borrow_mut() else {
         return Err(io::Error::from(io::ErrorKind::Other));
@@ -43,7 +43,7 @@ impl Read for NotedReader<'_> {
     }
 }
 
-/// Takes at most 16 bytes in each write.
+// Takes at most 16 bytes in each write.
 #[derive(Drop)]
 struct NotedWriter<'a> {
     log: &'a Log,
@@ -61,7 +61,6 @@ impl Write for NotedWriter<'_> {
     }
 }
 
-/// The log of serving these pieces on a new machine.
 fn log_of(alloc: Global, pieces: &[&str]) -> Result<Vec<u8>, Fail> {
     let log = RefCell::new(Vec::new(alloc));
     let mut machine = default_machine(alloc)?;
@@ -75,7 +74,7 @@ fn log_of(alloc: Global, pieces: &[&str]) -> Result<Vec<u8>, Fail> {
     Ok(log.into_inner())
 }
 
-/// What a reader gives in its reads, and the log of serving it.
+/// What a reader gives, and the log of serving it.
 const LOGS: &[(&str, &[&str], &str)] = &[
     (
         "each_answer_is_written_before_the_next_read",

@@ -1,4 +1,4 @@
-//! The parts: what waits in those of a machine, flat memory, the makers, and the cache unit over its banks.
+//! The parts: what waits in them, flat memory, makers, and the unit over its banks.
 
 use super::fixture::{SMALL_SHAPE, ZERO, image, numbered, same, small_machine};
 use super::stories::{ARRIVED, joined, serve_line};
@@ -16,19 +16,14 @@ use std::process::Abort;
 use std::test::Fail;
 use write_queue::{Queued, WriteQueue};
 
-/// What stands at a place of a machine's parts.
 #[derive(Clone, Copy, PartialEq, Eq, Debug)]
 enum Look {
-    /// What waits in this bank at this place.
     Command(u32, u32, Option<Command>),
-    /// Which answer stands in this bank at this place.
     Answer(u32, u32, Option<BankAnswer>),
-    /// What this register owes for this word at this place.
     Target(u32, u32, u32, Option<Owed>),
 }
 
-// The reads of words 4 to 7 for register 0: they lie in banks 0, 1, 0 and 1, two of them in each, at places 2
-// and 3.
+// The reads of words 4 to 7: banks 0, 1, 0, 1, at places 2 and 3.
 const READ_4: Option<Command> = Some(Command::Read {
     slot: 0,
     i: 0,
@@ -53,7 +48,7 @@ const READ_7: Option<Command> = Some(Command::Read {
     place: 3,
 });
 
-// The reads of words 9 and 11, in bank 1.
+// Words 9 and 11 lie in bank 1.
 const READ_9: Option<Command> = Some(Command::Read {
     slot: 0,
     i: 1,
@@ -73,7 +68,6 @@ const WRITE_5: Option<Command> = Some(Command::Write {
     lanes: Lanes::LANE_1,
 });
 
-// The answers to the reads of words 5 and 7.
 const ANSWER_5: Option<BankAnswer> = Some(BankAnswer {
     slot: 0,
     i: 1,
@@ -86,14 +80,14 @@ const ANSWER_7: Option<BankAnswer> = Some(BankAnswer {
     word: Word { b0: 7, ..ZERO },
 });
 
-/// What tag 3 is owed: a byte of it was stored before.
+/// Tag 3's word: one byte was stored before.
 const OWED_TO_TAG_3: Option<Owed> = Some(Owed {
     tag: 3,
     held: Word { b0: 255, ..ZERO },
     lanes: Lanes::LANE_0,
 });
 
-/// A command without the bytes that don't count: those of a write in no lane.
+/// A command without the bytes of a write in no lane.
 fn counted(command: Command) -> Command {
     match command {
         Command::Write { place, word, lanes } => Command::Write {
@@ -126,7 +120,7 @@ const MISSED: &str = "load 1 5 -> accepted\n";
 
 const SERVED: &str = "serve 1 -> moved\n";
 
-/// Asserts what stands in a machine of the small shape that has answered these lines as they say.
+/// Asserts what stands in a machine that answered these lines.
 fn stands<R: Abort>(
     rt: &R,
     alloc: Global,
@@ -143,7 +137,6 @@ fn stands<R: Abort>(
     Ok(())
 }
 
-/// Asserts that the machine answers these lines as they say.
 fn answers<R: Abort>(
     rt: &R,
     alloc: Global,
@@ -160,7 +153,6 @@ fn answers<R: Abort>(
     Ok(())
 }
 
-/// What machines that have answered these lines show.
 const STANDING: &[(&str, &[&str], &[Look])] = &[
     (
         "nothing_waits_at_first",
@@ -223,7 +215,7 @@ const STANDING: &[(&str, &[&str], &[Look])] = &[
         &[Look::Answer(1, 0, ANSWER_5), Look::Answer(1, 1, None)],
     ),
     (
-        // A dirty word of block 1 is drained while the reads of block 2, words 8 to 11, wait.
+        // A dirty word is drained while reads wait.
         "a_write_waits_behind_reads",
         &[
             "prefetch 4 -> accepted\n",
@@ -284,7 +276,7 @@ const VALUE_255: Answer = Answer::Value {
     word: Word { b0: 255, ..ZERO },
 };
 
-/// Events and answers over a memory of the words 0 and 1, and what becomes of their replay.
+/// Events and answers over words 0 and 1, and their replay's end.
 const REPLAYS: &[(&str, &[Event], &[Answer], Result<(), ReplayFault>)] = &[
     (
         "a first load",
@@ -316,7 +308,7 @@ const REPLAYS: &[(&str, &[Event], &[Answer], Result<(), ReplayFault>)] = &[
         &[Answer::Refused(Cause::OutOfRange)],
         Ok(()),
     ),
-    // A value that was stored behind its load isn't the one that the load is owed.
+    // The load isn't owed a value stored behind it.
     (
         "a later value",
         &[LOAD_0, STORE_0, TAKE],
@@ -341,13 +333,11 @@ fn replay(rt: HostRuntime) -> Result<(), Fail> {
     Ok(())
 }
 
-/// The banks of a shape of 32 words.
 fn banks_of(alloc: Global, shape: &Shape) -> Result<Banks, MakeFault> {
     let image = image(alloc, 32)?;
     Banks::new(alloc, &image, shape)
 }
 
-/// The field that a machine of four words a block and of that shape is refused for.
 fn refusal<const WAYS: usize, const REGS: usize, const DEPTH: usize>(
     alloc: Global,
     shape: Shape,
@@ -380,7 +370,7 @@ fn makers_refuse_shapes(rt: HostRuntime) -> Result<(), Fail> {
     Ok(())
 }
 
-/// A machine is refused for its type's numbers before its shape's: each stands beside one that is wrong too.
+/// A type's numbers are judged before the shape's, which are wrong too.
 #[test]
 fn makers_refuse_types(rt: HostRuntime) -> Result<(), Fail> {
     let alloc = rt.alloc();
@@ -411,7 +401,8 @@ fn makers(rt: HostRuntime) -> Result<(), Fail> {
     new_unit(&rt, rt.alloc())
 }
 
-// Each part has a function of its own: a proof's price grows with what has to be let go at each of its ends.
+// Each part has a function of its own: a proof's price grows with what has to be let go at each of
+// its ends.
 fn new_directory<R: Abort>(rt: &R, alloc: Global) -> Result<(), Fail> {
     let directory: Directory<1, 4> = Directory::new(alloc, 2)?;
     same(rt, "a look", directory.look(1), None);
@@ -458,17 +449,15 @@ fn block_that_waits_in_the_write_queue(rt: HostRuntime) -> Result<(), Fail> {
 
 type Unit = CacheUnit<1, 4, 2, 2>;
 
-/// A call of a cache unit, and what it answers or shows.
 #[derive(Clone, Copy, PartialEq, Eq, Debug)]
 enum Call {
     Request(Request, Answer),
-    /// The word of the register in a slot at a place of its block comes.
     Arrive(u32, u32, Word, Answer),
     Process(u32, Answer),
     Take(u32, Answer),
     /// What the register in a slot shows.
     Register(u32, Option<RegisterView>),
-    /// Of a word of a register: whether a load waits for it, the tag of the first one, and how many do.
+    /// Whether a load waits for a word, the first one's tag, and how many do.
     Waits(u32, u32, Option<(bool, u16, u32)>),
 }
 
@@ -511,7 +500,6 @@ const AAADBEEF: Word = Word {
     b3: 0xef,
 };
 
-/// Calls of a unit of the small shape over its banks.
 const CALLS: &[(&str, &[Call])] = &[
     (
         "unit_uses_the_arrived_word",

@@ -1,4 +1,4 @@
-//! Runs with one mismatch of each kind, their texts, and readers that fail.
+//! Runs with each kind of mismatch, their texts, and readers that fail.
 
 use super::fixture::{Behind, Script, ZERO, same};
 use flat_model::{Answer, Event, Image, Lanes, Word};
@@ -229,8 +229,8 @@ const TOLD: &[Told] = &[
         number: 4,
         why: TAKEN,
     },
-    // Byte 0 was stored twice before the load and once after it, byte 1 once after the load with another
-    // value than the one that came, byte 2 never, and byte 3 is right. The store of word 8 is no part of it.
+    // Byte 0 was stored twice before the load and once after, byte 1 once after it, byte 2 never;
+    // byte 3 is right.
     Told {
         name: "a_wrong_word_is_explained_byte_by_byte",
         before: "store 9 1001 0a00000d -> accepted
@@ -258,8 +258,8 @@ load 7 9 -> accepted
         why: "the load of line 3 (tag 7, word 9) is owed 0b000000
 byte 0: owed 0b, stored in line 2; got 0a, which no last store put there: line 1 did, and line 2 overwrote it",
     },
-    // Each byte is told with its own past: the zero that memory began with, a value from before the load, one that came
-    // twice and is told of the last time, and one that stood in another byte and in another word only.
+    // Each byte has its own past: the first zero, a value from before, one that came twice, one
+    // that stood elsewhere.
     Told {
         name: "each_stale_byte_has_its_own_past",
         before: "store 9 1111 0a0b0c0d -> accepted
@@ -278,7 +278,7 @@ byte 1: owed 0b, stored in line 3; got 01, which no last store put there: line 2
 byte 2: owed 0e, stored in line 3; got 0c, which no last store put there: line 5 did, and line 6 overwrote it
 byte 3: owed 0d, stored in line 1; got 0a, which no last store put there: no store ever did",
     },
-    // The load gets the word that two partial stores make behind it, before a third.
+    // Two partial stores make the word behind the load.
     Told {
         name: "a_late_word_is_told_as_one_of_an_atomic_history",
         before: "store 9 1111 01010101 -> accepted
@@ -295,7 +295,7 @@ byte 2: owed 01, stored in line 1; got 02, which no last store put there: line 3
 byte 3: owed 01, stored in line 1; got 02, which no last store put there: line 3 did, and line 5 overwrote it
 the whole word stood there after the load: no run of flat memory from acceptance on; as a history it is atomic",
     },
-    // Each byte stood there after the load, and they stood there at no moment together.
+    // The bytes stood there after the load, never together.
     Told {
         name: "a_torn_word_is_told_as_nothing_more",
         before: "load 7 9 -> accepted
@@ -308,7 +308,7 @@ store 9 1111 02020202 -> accepted
 byte 2: owed 00, of the initial zeros; got 01, which no last store put there: line 2 did, and line 3 overwrote it
 byte 3: owed 00, of the initial zeros; got 02, stored in line 3, after the load",
     },
-    // The word stood there until a store before the load, and for a load that is open no longer.
+    // The word stood there until a store, and for a load no longer open.
     Told {
         name: "a_word_from_before_the_load_is_told_as_nothing_more",
         before: "load 6 9 -> accepted
@@ -323,7 +323,7 @@ store 9 1000 03000000 -> accepted
         why: "the load of line 4 (tag 7, word 9) is owed 02000000
 byte 0: owed 02, stored in line 3; got 01, which no last store put there: line 2 did, and line 3 overwrote it",
     },
-    // A word is remembered for a load that is open, while another load of it is accepted and answered.
+    // A word is kept for an open load while another is answered.
     Told {
         name: "a_late_word_beside_other_loads",
         before: "load 6 9 -> accepted
@@ -343,10 +343,10 @@ the whole word stood there after the load: no run of flat memory from acceptance
     },
 ];
 
-/// How many bytes come at once, at most.
+/// The most bytes at once.
 const PIECES: [usize; 5] = [1, 5, 7, 100, 4096];
 
-/// Asserts that a run over 64 words, with this behind it, is told so, in whatever pieces it comes.
+/// Asserts what is told of a run over 64 words, in pieces of each size.
 fn ends<R: Abort>(
     rt: &R,
     alloc: Global,
@@ -394,7 +394,6 @@ fn mismatches(rt: HostRuntime) -> Result<(), Fail> {
     Ok(())
 }
 
-/// Runs, what their readers do behind them, and what is told of them.
 const ENDS: &[(&str, &str, Behind, Result<&str, TraceFault>, u8)] = &[
     (
         "a_flat_run_is_counted",
@@ -511,7 +510,7 @@ fn ends_of_readings(rt: HostRuntime) -> Result<(), Fail> {
     Ok(())
 }
 
-// A line of 768 bytes is read, and one of 769 isn't, whether it ends or not.
+// 768 bytes are read; 769 aren't.
 #[test]
 fn a_faulty_line_ends_a_reading(rt: HostRuntime) -> Result<(), Fail> {
     let too_long = Err(TraceFault::Line {
@@ -575,8 +574,7 @@ const TAKE: Event = Event::Take { place: 0 };
 
 const VALUE: Answer = Answer::Value { tag: 1, word: ZERO };
 
-/// Lines that an explainer reads, and what it finds. One that it refuses changes nothing: it goes on as if the
-/// line hadn't been.
+/// Lines that an explainer reads, and what it finds. One that it refuses changes nothing.
 const READ: &[(&str, u64, Event, Answer, Option<Reason>)] = &[
     ("a load", 1, LOAD, Answer::Accepted, None),
     (

@@ -1,6 +1,5 @@
-//! What each call of the libraries that takes memory leaves where an allocation is refused: it
-//! answers want of memory and nothing else, nothing has changed, and a second call gives the answer of
-//! its example. With memory, as in a whole run of the tests, the first call gives that answer.
+//! Each call that allocates, where an allocation is refused: nothing changes, and a second call
+//! gives the example's answer. With memory the first call does.
 
 use super::fixture::{
     PROGRAM_SHAPE, SMALL_SHAPE, STORED_COUNTS, STORED_INPUT, STORED_OUTPUT, ZERO, numbered, same,
@@ -18,8 +17,7 @@ use std::test::Fail;
 use trace_text::{CheckEnd, TraceFault, check_text, read_requests, serve_text};
 use write_queue::WriteQueue;
 
-/// Asserts of two calls of a maker that one made something, and that the other did too or found no
-/// memory.
+/// Asserts that one of two calls made something, and that the other did or found no memory.
 fn makes<R: Abort, T: Drop>(rt: &R, first: Result<T, MakeFault>, second: Result<T, MakeFault>) {
     assert!(rt; first.is_ok() || second.is_ok());
     if let Err(fault) = first {
@@ -179,7 +177,6 @@ fn reading_requests_may_find_no_memory(rt: HostRuntime) -> Result<(), Fail> {
     Ok(())
 }
 
-// A refused allocation is told, and a second call gives the answer.
 #[test]
 fn a_reading_may_find_no_memory(rt: HostRuntime) -> Result<(), Fail> {
     let run = "load 1 4 -> accepted\ntake 0 -> value 1 00000000\n";

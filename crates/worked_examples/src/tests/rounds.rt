@@ -43,7 +43,6 @@ const WIDE_SHAPE: Shape = Shape {
     replies: 64,
 };
 
-// The rounds of these requests with latency 20 and this many registers.
 fn rounds_of(alloc: Global, regs: u32, requests: &[Event; 400]) -> Result<u64, Fail> {
     let mut machine = machine(alloc, regs, WIDE_SHAPE)?;
     let table = summarize(alloc, &mut machine, 20, requests)?;
@@ -102,8 +101,8 @@ const EMPTY_TABLE: Table = Table {
 };
 
 const TABLES: &[Rounds] = &[
-    // The load is accepted in round 1. With latency 0 the four banks begin and serve in round 2, and one word
-    // comes in each of the rounds 2 to 5, word 0 first; nothing moves in round 6.
+    // Latency 0: the load is accepted in round 1, the four banks serve in round 2, and words come
+    // in rounds 2 to 5. Nothing moves in round 6.
     Rounds {
         name: "a_load_without_latency",
         latency: 0,
@@ -120,11 +119,10 @@ const TABLES: &[Rounds] = &[
         },
         shown: "rounds 6 accepted 1 denied 0 hits 0 joins 0 misses 1 stalled 0 lost 3:0 4:0 5:0 7:0 8:0 9:0 10:0 values 1 mean 1.00 longest 1 registers 1 written 0",
     },
-    // Latency 2, one register. The load of word 0 is accepted in round 1; the banks begin in round 2
-    // and serve in round 4; its words come in the rounds 4 to 7, word 0 first, so it waits 3 rounds.
-    // The load of word 1 joins in round 2 and waits for round 5; the load of word 4 is asked from round
-    // 3 on, finds the register free in round 7, and its word comes in round 10. An address out of
-    // memory is denied in round 8. The last word comes in round 13, and nothing moves in round 14.
+    // Latency 2, one register: word 0 is asked in round 1, begun in 2, served in 4. Its words come
+    // in rounds 4 to 7, so it waits 3 rounds. Word 1 joins in round 2 and waits for round 5. Word 4
+    // is asked from round 3, finds the register free in round 7, and comes in round 10. An address
+    // outside is denied in round 8. The last word comes in round 13, and nothing moves in round 14.
     Rounds {
         name: "a_table_of_four_requests",
         latency: 2,
@@ -153,9 +151,9 @@ const TABLES: &[Rounds] = &[
         },
         shown: "rounds 14 accepted 3 denied 1 hits 0 joins 1 misses 2 stalled 1 lost 3:0 4:0 5:0 7:4 8:0 9:0 10:0 values 3 mean 3.00 longest 3 registers 1 written 0",
     },
-    // A drain is no request: it never ends, and is asked in each of the (1 + 1) * (44 + 1) rounds that may be
-    // made with latency 0, since a register of four words weighs 16 at most, four replies 4, four queued
-    // words 8, and four banks of four commands 16. The count adds the one in which nothing moves.
+    // A drain is no request, and never ends: it is asked in (1 + 1) * (44 + 1) rounds, and the
+    // count adds the one in which nothing moves. A register of four words weighs 16 at most, four
+    // replies 4, four queued words 8, four banks of four commands 16.
     Rounds {
         name: "a_drain_is_asked_to_the_last_round",
         latency: 0,
@@ -190,7 +188,7 @@ fn tables_of_rounds(rt: HostRuntime) -> Result<(), Fail> {
     Ok(())
 }
 
-// Drives a load of word 0 with latency 0, and says in how many rounds.
+// The rounds of a load of word 0 with latency 0.
 fn rounds_of_a_load(alloc: Global, written: &mut Vec<u8>) -> Result<u64, Fail> {
     let mut machine = machine(alloc, 1, NARROW_SHAPE)?;
     let requests = [Event::Load { tag: 1, at: 0 }];
@@ -226,7 +224,7 @@ process 0 -> moved
     Ok(())
 }
 
-// Forty loads all over memory, each 7 words behind the last one, and behind each an eviction of its block.
+// Forty loads, 7 words apart, each with an eviction behind.
 const LOADS_AND_EVICTIONS: &str = "load 0 0
 evict 0
 load 1 7
@@ -309,10 +307,9 @@ load 39 17
 evict 4
 ";
 
-// The load is accepted in round 1, and the bank begins the first of its four reads in round 2. A pipelined bank begins
-// another each `busy` rounds, so it serves the last one in round 2 + 3 * busy + latency, in which the word
-// arrives and is processed; nothing moves in the next one. A bank that isn't pipelined begins each read in the
-// round behind the one in which it served the last, so every latency + 1 rounds.
+// The load is accepted in round 1, and its first read begun in round 2. A pipelined bank begins
+// another each `busy` rounds, so the last word comes in round 2 + 3 * busy + latency; nothing moves
+// in the next one. Another bank begins a read every latency + 1 rounds.
 #[test]
 fn one_load_through_one_bank(rt: HostRuntime) -> Result<(), Fail> {
     let shape = Shape {
@@ -355,7 +352,6 @@ fn runs_are_flat(rt: HostRuntime) -> Result<(), Fail> {
     Ok(())
 }
 
-// Drives these requests, and says what is on its way behind them.
 fn weight_behind(
     alloc: Global,
     timing: Timing,

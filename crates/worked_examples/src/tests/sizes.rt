@@ -1,4 +1,4 @@
-//! Each call that takes memory, once at its largest size, or over 200,000 items where it has none.
+//! Each call that allocates, at its largest size or over 200,000 items.
 
 use super::fixture::{default_machine, image, same};
 use cache_directory::Directory;
@@ -89,7 +89,6 @@ fn words_that_the_banks_do_not_share_evenly(rt: HostRuntime) -> Result<(), Fail>
     Ok(())
 }
 
-// What the default machine answers to these events.
 fn answers_of_default(alloc: Global, events: &[Event]) -> Result<Vec<Answer>, Fail> {
     let mut machine = default_machine(alloc)?;
     Ok(machine.run(alloc, events)?)
@@ -110,7 +109,6 @@ fn a_long_run(rt: HostRuntime) -> Result<(), Fail> {
     Ok(())
 }
 
-// Loads of one word under each tag below 60,000.
 fn loads_of_many_tags(alloc: Global) -> Result<Vec<Event>, AllocError> {
     let mut loads = Vec::with_capacity(alloc, 60_000)?;
     for tag in 0..60_000u16 {
@@ -154,7 +152,7 @@ fn long_texts(rt: HostRuntime) -> Result<(), Fail> {
     Ok(())
 }
 
-// The last block has a word in each of the 16 banks, and its last word in the last one.
+// The last block's last word lies in the last of 16 banks.
 #[test]
 fn machine_of_the_largest_numbers(rt: HostRuntime) -> Result<(), Fail> {
     let alloc = rt.alloc();
@@ -187,7 +185,7 @@ fn machine_of_the_largest_numbers(rt: HostRuntime) -> Result<(), Fail> {
     Ok(())
 }
 
-// Each tag is owed its word at the same time; once all are taken, the first is owed nothing.
+// Each tag is owed its word at once; once all are taken, none is.
 #[test]
 fn check_of_every_tag(rt: HostRuntime) -> Result<(), Fail> {
     let alloc = rt.alloc();

@@ -1,7 +1,6 @@
-//! Stories of a machine, each told as lines that it is asked and answers.
+//! Stories of a machine, as lines that it is asked and answers.
 //!
-//! A line is one of a trace, with its answer behind the arrow, or one of two that no trace has: `weight`
-//! tells what is on its way, and `pump` makes the driver's event and tells it with its answer.
+//! Beside a trace's lines, `weight` tells what is on its way, and `pump` makes the driver's event.
 
 use super::fixture::{SMALL_SHAPE, image, same};
 use cache_unit::{Sizes, sizes_of};
@@ -13,24 +12,23 @@ use std::process::Abort;
 use std::test::Fail;
 use trace_text::{Line, Pair, read_pair, serve_text};
 
-/// The machines of the stories. All but the last have 4 words in a block and a stack of 2.
+/// All but the last have 4 words a block and a stack of 2.
 #[derive(Clone, Copy)]
 enum Kind {
-    /// One way and two registers, of the small shape.
+    /// One way, two registers.
     Small,
-    /// As the small one, but with two ways.
+    /// Two ways.
     TwoWays,
-    /// As the small one, but with one register.
+    /// One register.
     OneRegister,
-    /// As the small one, but with four registers.
+    /// Four registers.
     FourRegisters,
-    /// As the small one, but with room for eight replies.
+    /// Room for eight replies.
     EightReplies,
     /// One of each, 8 words, and room for two replies.
     Smallest,
 }
 
-/// The small shape with room for eight replies.
 const EIGHT_REPLIES: Shape = Shape {
     replies: 8,
     ..SMALL_SHAPE
@@ -45,14 +43,13 @@ const SMALLEST_SHAPE: Shape = Shape {
     replies: 2,
 };
 
-/// A story that begins with a new machine.
 struct Story {
     name: &'static str,
     kind: Kind,
     lines: &'static [&'static str],
 }
 
-/// The lines that make a block resident, behind its prefetch.
+/// The lines that make a block resident.
 pub const ARRIVED: &str = "serve 0 -> moved
 serve 0 -> moved
 serve 1 -> moved
@@ -67,8 +64,8 @@ arrive 1 0 -> moved
 process 0 -> moved
 ";
 
-/// A load of word 5 misses while a store of the whole word and the eviction of its block follow; the
-/// dirty word is written back, and a second load misses on the same block.
+/// A load misses; a store of the word and the block's eviction follow; the dirty word is written
+/// back, and a second load misses.
 const EVICTED_WHILE_MISSING: &str = "load 1 5 -> accepted
 store 5 1111 ffffffff -> accepted
 evict 1 -> accepted
@@ -85,7 +82,6 @@ load 3 5 -> accepted
 load 4 5 -> accepted
 ";
 
-/// The words below word 5, as they were at first.
 const BELOW_WORD_5: &str = "bank 0 -> 00000000
 bank 1 -> 01000000
 bank 2 -> 02000000
@@ -93,7 +89,7 @@ bank 3 -> 03000000
 bank 4 -> 04000000
 ";
 
-/// The words from word 6 on, as they were at first, and the first that isn't there.
+/// The words from 6 on, and the first beyond memory.
 const FROM_WORD_6: &str = "bank 6 -> 06000000
 bank 7 -> 07000000
 bank 8 -> 08000000
@@ -464,7 +460,7 @@ take 0 -> value 2 09000000
 ",
         ],
     },
-    // The lowest bank serves first, and each word is processed as soon as it is there.
+    // The lowest bank serves first, and words are processed as they come.
     Story {
         name: "thirteen_pumps",
         kind: Kind::Small,
@@ -557,8 +553,7 @@ load 1 8 -> accepted
 ",
         ],
     },
-    // With 8 replies the fifth load is refused for the word until that has come, and each step lowers
-    // the weight.
+    // With 8 replies the fifth load waits for the word, and each step lowers the weight.
     Story {
         name: "four_loads_of_one_word: the fifth waits for the word",
         kind: Kind::EightReplies,
@@ -646,7 +641,7 @@ take 0 -> value 1 11223344
     },
 ];
 
-/// Asks the machine one line of a trace, and writes it with what it answers.
+/// Asks a line of a trace, and writes it with its answer.
 pub fn serve_line<M: AnyMachine>(
     alloc: Global,
     machine: &mut M,
@@ -658,7 +653,7 @@ pub fn serve_line<M: AnyMachine>(
     Ok(())
 }
 
-/// Asks the machine one line, which may be its weight or a pump too, and writes it with what it answers.
+/// As `serve_line`, and `weight` and `pump` too.
 fn tell_line(
     alloc: Global,
     machine: &mut ShapedMachine,
@@ -676,7 +671,6 @@ fn tell_line(
     Ok(())
 }
 
-/// The lines of these pieces as the machine answers them, one after another.
 fn told(alloc: Global, machine: &mut ShapedMachine, lines: &str) -> Result<Vec<u8>, Fail> {
     let mut told = Vec::new(alloc);
     for line in lines.lines() {
@@ -695,7 +689,6 @@ pub fn joined(alloc: Global, pieces: &[&str]) -> Result<String, Fail> {
     Ok(text)
 }
 
-/// The events of these lines, and their answers.
 fn recorded(alloc: Global, lines: &str) -> Result<(Vec<Event>, Vec<Answer>), Fail> {
     let mut events = Vec::new(alloc);
     let mut answers = Vec::new(alloc);
@@ -715,8 +708,7 @@ fn recorded(alloc: Global, lines: &str) -> Result<(Vec<Event>, Vec<Answer>), Fai
     Ok((events, answers))
 }
 
-/// Asserts that a new machine answers the lines of the story as they say, one after another, and another one
-/// its events by one call.
+/// Asserts that a new machine answers the story's lines, and another one its events in one call.
 fn plays<R: Abort, const WAYS: usize, const WORDS: usize, const REGS: usize, const DEPTH: usize>(
     rt: &R,
     alloc: Global,
@@ -738,7 +730,6 @@ fn plays<R: Abort, const WAYS: usize, const WORDS: usize, const REGS: usize, con
     Ok(())
 }
 
-/// Asserts the story of machines with 4 words in a block and a stack of 2.
 fn plays_of<R: Abort, const WAYS: usize, const REGS: usize>(
     rt: &R,
     alloc: Global,

@@ -1,4 +1,4 @@
-//! Traces as text: single lines and pairs, and texts whose readers and writers come in pieces, end or fail.
+//! Traces as text: single lines and pairs, and streams that come in pieces, end or fail.
 
 use super::fixture::{
     Behind, STORED_COUNTS, STORED_INPUT, STORED_OUTPUT, Script, ZERO, default_machine, same,
@@ -15,7 +15,6 @@ use trace_text::{
     read_pair, read_requests, serve_text, written_line, written_pair,
 };
 
-/// Lines with their LF, and what is read of each.
 const LINES: &[(&str, Result<Line, LineFault>)] = &[
     ("drain\n", Ok(Line::Event(Event::Drain))),
     ("reg 3\n", Ok(Line::Register(3))),
@@ -36,7 +35,6 @@ fn single_lines(rt: HostRuntime) -> Result<(), Fail> {
     Ok(())
 }
 
-/// Pairs with their LF, and what is read of each.
 const PAIRS: &[(&str, Result<Pair, LineFault>)] = &[
     ("load 1 5\n", Err(LineFault::Field)),
     ("lod 1 5\n", Err(LineFault::Field)),
@@ -108,7 +106,7 @@ const SHOWN: &[(Event, &str, Answer, &str)] = &[
     ),
 ];
 
-/// Asserts how an event and its answer show, and that they are written so as a line, and read back.
+/// Asserts how an event and its answer show, and that they are read back.
 fn shows<R: Abort>(
     rt: &R,
     alloc: Global,
@@ -148,8 +146,7 @@ fn recorded_pairs(rt: HostRuntime) -> Result<(), Fail> {
     Ok(())
 }
 
-/// A text that is served by a machine of the program's default shape, and what its reader does behind it first
-/// and later.
+/// A text served by a default machine, and what its reader does behind it.
 struct Served {
     name: &'static str,
     text: &'static str,
@@ -168,7 +165,7 @@ const ONE_NOTHING: Counts = Counts {
     refused: 0,
 };
 
-/// Each is read twice: once for its text, and once for the end or the failure behind it.
+/// Each is read twice: for its text, and for the end behind it.
 const SERVED: &[Served] = &[
     Served {
         name: "failing_reader: it fails",
@@ -248,7 +245,7 @@ fn checked_up_to_the_first_end(rt: HostRuntime) {
     }
 }
 
-/// Texts, what their readers do behind the first end, and the requests that are collected of them.
+/// Texts, what their readers do behind them, and the requests collected.
 const COLLECTED: &[(&str, &str, Behind, &[Event])] = &[
     (
         "requests_and_pairs",
@@ -289,7 +286,7 @@ fn collected_requests(rt: HostRuntime) -> Result<(), Fail> {
     Ok(())
 }
 
-/// Takes so many bytes, at most `most` at a time; then it fails, or takes no byte.
+/// Takes so many bytes in pieces, then fails or takes none.
 #[derive(Drop)]
 struct Limited {
     taken: Vec<u8>,
@@ -314,7 +311,6 @@ impl Write for Limited {
     }
 }
 
-// What the whole program writes for it is asked in the examples of the program.
 #[test]
 fn stored_run_in_pieces(rt: HostRuntime) -> Result<(), Fail> {
     for most in [1usize, 2, 3, 7, 64, 4096] {
@@ -338,7 +334,7 @@ fn stored_run_in_pieces(rt: HostRuntime) -> Result<(), Fail> {
     Ok(())
 }
 
-/// How many lines of the stored run stand whole in the first bytes of its input, and their answers.
+/// The stored run's whole lines in so many bytes, and their answers.
 fn answers_to(alloc: Global, input: &[u8]) -> Result<(u64, String), Fail> {
     let whole = input.iter().filter(|byte| **byte == b'\n').count();
     let mut lines = 0u64;
@@ -381,7 +377,7 @@ fn cut_input<R: Abort>(rt: &R, alloc: Global) -> Result<(), Fail> {
     Ok(())
 }
 
-// How many lines a default machine serves of this input, or why not to its end.
+// Serves an input, and says how many lines, or why not to its end.
 fn served_until_its_end(
     alloc: Global,
     input: &[u8],
@@ -393,8 +389,7 @@ fn served_until_its_end(
     Ok(ended.map(|counts| counts.lines))
 }
 
-/// Asserts what comes of the stored run where the writer has so much room and then fails, or takes no
-/// byte, and gives the machine.
+/// Asserts what the stored run gives if the writer has so much room.
 fn serves_until<R: Abort>(
     rt: &R,
     alloc: Global,
@@ -416,8 +411,7 @@ fn serves_until<R: Abort>(
     Ok(machine)
 }
 
-// The line whose text was refused has been applied, and no line behind it: with room for 20 bytes that is the
-// load of line 1, and with room for its LF too the store of line 2.
+// The line whose text was refused has been applied, and none behind it.
 fn failing_writer<R: Abort>(rt: &R, alloc: Global) -> Result<(), Fail> {
     for room in 0..STORED_OUTPUT.len() {
         let code = code_behind(rt, alloc, room)?;
@@ -431,7 +425,7 @@ fn failing_writer<R: Abort>(rt: &R, alloc: Global) -> Result<(), Fail> {
     Ok(())
 }
 
-// The lanes that stores have written of word 1 behind a writer that fails.
+// Word 1's stored lanes behind a failing writer.
 fn code_behind<R: Abort>(rt: &R, alloc: Global, room: usize) -> Result<Lanes, Fail> {
     let machine = serves_until(rt, alloc, room, true)?;
     let field = machine.field(0, 1).ok_or("a word's field")?;
