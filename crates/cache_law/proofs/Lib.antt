@@ -10,3 +10,5 @@ pub mod FormsProcessing
 pub mod Tags
 pub mod EachStep
 pub mod Opening
+pub mod Silent
+pub mod Rooms
