@@ -10,5 +10,7 @@ pub mod FormsProcessing
 pub mod Tags
 pub mod EachStep
 pub mod Opening
+pub mod Silent
+pub mod Rooms
 -- of the parts, for what stands above
 pub use Rattle.cache_directory.proofs.Finds

@@ -9,6 +9,7 @@ use Rattle.machine_core.specs.Words.{Word, Lanes, Event, Cell}
 use Rattle.flat_model.specs.Words.{merged, Lane, byte, has, zero_word}
 use Rattle.memory_banks.specs.Banks.{Bank, bank_at, all_pending, words_after, no_bank, room_in, all_sent, commands_for, pending, answers_to}
 use Rattle.memory_banks.specs.Banks.{after}
+use Rattle.memory_banks.proofs.Behind.{answers_to-append}
 use Rattle.input_stack.specs.declared.Entry.{Entry}
 use Rattle.cache_law.specs.declared.Sizes.{Sizes}
 use Rattle.cache_law.specs.State.{Cache, cell_of, block_of, place_in, register_at, field_at, Target, targets, is_live, live_for}
@@ -22,7 +23,7 @@ use Rattle.machine_core.specs.Machine.{Machine, backing, flat_word, Outcome, app
 use Rattle.machine_core.specs.Sound.{is_for, is_entry_for, IsSound, word_in, own_bank}
 use Rattle.std.specs.List.{range_with_len, list_any, filter}
 use Rattle.std.specs.Option.{option_or}
-use Rattle.flat_model.specs.Flat.{flat_step, stored, word_at}
+use Rattle.flat_model.specs.Flat.{flat_step}
 use Rattle.flat_model.proofs.Lanewise.{byte_word_of, same_word_from, byte-merged, merged-none, merged_held, merged_over, merged_no_lane}
 use Rattle.memory_banks.specs.declared.BankAnswer.{BankAnswer}
 use Rattle.input_stack.specs.Stack.{stack_word}
@@ -42,7 +43,7 @@ use Rattle.cache_law.specs.Steps.{written, arrived, processed}
 use Rattle.cache_law.proofs.FormsEvents.{EvictedBy, evicted-by}
 use Rattle.std.proofs.lemmas.Nat.{mod-mul-add}
 use Rattle.memory_banks.specs.declared.Command.{Command}
-use Rattle.memory_banks.specs.declared.Command.TheVariants.{Read, Write}
+use Rattle.memory_banks.specs.declared.Command.TheVariants.{Read}
 use Rattle.memory_banks.proofs.Sending.{all_sent-length, all_sent-at}
 use Rattle.miss_registers.specs.Registers.{made_obsolete, finished, finished_fields, marked, is_done}
 use Rattle.cache_law.specs.Begun.{begun_register}
@@ -87,20 +88,6 @@ each-set P d (x ∷ xs) zero y own h zero = own
 each-set P d (x ∷ xs) zero y own h (suc t) = h (suc t)
 each-set P d (x ∷ xs) (suc k) y own h zero = h 0
 each-set P d (x ∷ xs) (suc k) y own h (suc t) = each-set (λ n. P (suc n)) d xs k y own (λ n. h (suc n)) t
-
--- ---- commands that are queued behind others
-
-pub after-append : (words : List Word) (xs ys : List Command) → after words (xs ++ ys) ≡ after (after words xs) ys
-after-append words [] ys = refl
-after-append words (Read slot i place ∷ xs) ys = after-append words xs ys
-after-append words (Write place word lanes ∷ xs) ys = after-append (stored words place word lanes) xs ys
-
-pub answers_to-append : (words : List Word) (xs ys : List Command)
-    → answers_to words (xs ++ ys) ≡ answers_to words xs ++ answers_to (after words xs) ys
-answers_to-append words [] ys = refl
-answers_to-append words (Read slot i place ∷ xs) ys =
-    ap (λ l. record { slot = slot; i = i; word = word_at words place } ∷ l) (answers_to-append words xs ys)
-answers_to-append words (Write place word lanes ∷ xs) ys = answers_to-append (stored words place word lanes) xs ys
 
 -- ---- registers that stay for their blocks
 

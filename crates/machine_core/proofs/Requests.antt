@@ -39,7 +39,8 @@ use Rattle.machine_core.specs.Law.{IsLawful}
 use Rattle.machine_core.specs.Machine.{Machine, backing, flat_word, joined_with, flat_due, flat_of, opening, settled, bank_word}
 use Rattle.machine_core.specs.Machine.{flat_word_in}
 use Rattle.memory_banks.proofs.Sending.{all_sent-length, all_sent-at}
-use Rattle.machine_core.proofs.FromForms.{commands, fetched_machine, after-append, answers_to-append, MayMiss, may_able, fetched_at}
+use Rattle.memory_banks.proofs.Behind.{after-append, answers_to-append}
+use Rattle.machine_core.proofs.FromForms.{commands, fetched_machine, MayMiss, may_able, fetched_at}
 use Rattle.machine_core.proofs.FromForms.{like_loaded, like_written, filled-asked, filled-over, filled-other}
 use Rattle.machine_core.proofs.FromForms.{word_asks, due_other, word_from, flat_word-form, Same, bit-le, kept_word, kept_same, AtBanks}
 use Rattle.machine_core.proofs.FromForms.{overlaid-split, dirty_within, dirty_elsewhere}

@@ -1,7 +1,7 @@
 -- What a whole machine keeps, and what follows of it.
-use Rattle.std.proofs.Common.{◌≡◌, ℕ, List, [], ◌∷◌, ◌++◌, slice_set, Option, Some, None, refl, ap, ◌∙◌, subst, zero, suc, ◌+◌, ◌-◌, ◌*◌}
-use Rattle.std.proofs.Common.{◌/◌, ◌%◌, ◌<◌, ◌≤◌, Bool, true, false, cond, ◌==◌, nat_lt, length, get_or, arith, ⊎_elim, lt-ltb, le-ltb}
-use Rattle.std.proofs.Common.{eq-eqb, ne_eqb, mod-lt, div-add-mod', mul-le-mul_right, ◌≢◌, not, is_none, is_some, flat_map}
+use Rattle.std.proofs.Common.{◌≡◌, ℕ, List, [], ◌∷◌, ◌++◌, slice_set, Option, Some, None, refl, ap, ◌∙◌, subst, zero, suc, ◌+◌, ◌-◌}
+use Rattle.std.proofs.Common.{◌%◌, ◌<◌, ◌≤◌, Bool, true, false, cond, ◌==◌, nat_lt, length, get_or, arith, lt-ltb, le-ltb}
+use Rattle.std.proofs.Common.{◌≢◌, not, is_none, is_some, flat_map}
 use Rattle.std.proofs.Common.{length-append}
 use Rattle.machine_core.specs.Words.{Cause, Event, Answer, Moved, Refused, Word, Load, Store, Prefetch, Evict, Arrive, Cell, StrayWord}
 use Rattle.memory_banks.specs.declared.Command.{Command}
@@ -9,21 +9,23 @@ use Rattle.memory_banks.specs.declared.BankAnswer.{BankAnswer}
 use Rattle.memory_banks.specs.Banks.{bank_at, room_in, answers_to, no_bank, all_pending, Bank, pending, opening_banks}
 use Rattle.memory_banks.specs.Memory.{Memory, with_banks, SameButQueues, without_answer}
 use Rattle.memory_banks.proofs.Sending.{banks_sent}
+use Rattle.memory_banks.proofs.Spreading.{spread_evenly}
 use Rattle.cache_law.specs.declared.Sizes.{Sizes}
-use Rattle.cache_law.specs.State.{Cache, UnitState, Field, Register, clear_field, free_register, register_at, live_for, is_pending}
+use Rattle.cache_law.specs.State.{UnitState, Field, Register, clear_field, free_register, register_at, live_for, is_pending}
 use Rattle.cache_law.specs.State.{gathered, targets_of, targets, tags, first_of, opening_cache}
 use Rattle.cache_unit.specs.Makes.{MakesOver}
 use Rattle.cache_law.specs.Causes.{first_cause, dirty_from, dirty_words, addresses, lacks_places, lacks_room, miss_causes, load_cause}
 use Rattle.cache_law.specs.Causes.{store_cause, prefetch_cause, evict_cause}
-use Rattle.cache_law.specs.Steps.{Stepped, unless, arrive_step, evict_step, process_step, take_step, load_step, store_step, prefetch_step}
+use Rattle.cache_law.specs.Steps.{Stepped, unless, arrive_step, evict_step, load_step, store_step, prefetch_step}
 use Rattle.machine_core.specs.Machine.{Machine, joined_with, apply, walked, told, arrive_from, flat_of, MachineState}
 use Rattle.machine_core.specs.Whole.{machine_of, Makes, IsWhole, Serves, or_image}
-use Rattle.std.specs.List.{list_all, list_any, filter, range_with_len}
-use Rattle.std.proofs.lemmas.Bool.{cases_lt, lt-leb}
-use Rattle.std.proofs.lemmas.Nat.{mod-mul-add, mul-le}
+use Rattle.std.specs.List.{list_all, filter, range_with_len}
+use Rattle.std.proofs.lemmas.Bool.{lt-leb}
+use Rattle.std.proofs.lemmas.Nat.{mul-le}
 use Rattle.std.proofs.lemmas.List.{nil_from_length, get_or_past}
 use Rattle.cache_law.specs.Counts.{tally}
 use Rattle.cache_law.proofs.Lists.{live_for-none, tally-append}
+use Rattle.cache_law.proofs.Rooms.{any_false}
 use Rattle.cache_unit.proofs.Numbers.{in_size}
 use Rattle.machine_core.specs.Law.{IsLawful, HasRoom, ServesRequests, IsServed, RequestsAreServed, IsKept, WalkIsKept, IsDriven}
 use Rattle.machine_core.specs.Pump.{total, bank_weight, weight, pumped, after_event, after_pumps}
@@ -72,18 +74,6 @@ joins step unit old answer unit' new e h =
     }
 
 -- ---- events that send nothing
-
-pub evict_silent : (z : Sizes) (c : Cache) (block : ℕ) → (evict_step z c block).sent ≡ []
-unfolding evict_step
-evict_silent z c block = grind arith
-
-pub process_silent : (c : Cache) (place : ℕ) → (process_step c place).sent ≡ []
-unfolding process_step
-process_silent c place = grind arith
-
-pub take_silent : (c : Cache) (place : ℕ) → (take_step c place).sent ≡ []
-unfolding take_step
-take_silent c place = grind arith
 
 -- a step that sends nothing changes no bank
 pub joins_silent : (step : Stepped) (unit : UnitState) (old : Memory) (answer : Answer) (unit' : UnitState) → step.sent ≡ []
@@ -137,46 +127,7 @@ module _ (unit : UnitState) (old : Memory) (events more : List Event) (event : E
 
 -- ---- A machine at weight 0 serves each request, and the driver brings it there.
 
--- ---- how many words of a block lie in one bank
-
-abbrev hits : ℕ → ℕ → ℕ → ℕ → ℕ
-hits n b a k = length (filter (λ at. at % n == b) (range_with_len a k))
-
--- d numbers on, there may be one for bank b: then the next ones are n apart
-hits_apart : (n b : ℕ) → b < n → (k a d q : ℕ) → d < n → a + d ≡ q * n + b → hits n b a k * n + d + 1 ≤ k + n
-hits_apart n b lb zero a d q ld e = omega arith
-hits_apart n b lb (suc k) a zero q ld e =
-    let here = ap (λ x. x % n) (let e' : a ≡ q * n + b = omega arith in e') ∙ mod-mul-add q n b lb in
-    let rest = hits_apart n b lb k (a + 1) (n - 1) (suc q) (omega arith) (omega arith) in
-    rw (eq-eqb (a % n) b here) (omega arith)
-hits_apart n b lb (suc k) a (suc d) q ld e =
-    let rest = hits_apart n b lb k (a + 1) d q (omega arith) (omega arith) in
-    rw (ne_eqb (a % n) b other) (omega arith)
-  where
-    other : a % n ≡ b → ⊥
-    other s = grind arith
-
--- of k numbers side by side, no more than `most` are for one of n banks, where k is at most `most * n`
-pub spread_evenly : (n b a k most : ℕ) → b < n → k ≤ most * n → length (filter (λ at. at % n == b) (range_with_len a k)) ≤ most
-spread_evenly n b a k most lb l =
-    ⊎_elim (λ big. absurd (omega (arith, mul-le-mul_right n big, few))) (λ s. s) (cases_lt most _)
-  where
-    e : a / n * n + a % n ≡ a
-    e = div-add-mod' a n
-
-    r : a % n < n
-    r = mod-lt a (omega (arith, lb))
-
-    few : hits n b a k * n + 1 ≤ k + n
-    few = let r' = r in let e' = e in ⊎_elim
-        (λ s. omega (arith, hits_apart n b lb k a (b + n - a % n) (suc (a / n)) (omega arith) (omega arith)))
-        (λ s. omega (arith, hits_apart n b lb k a (b - a % n) (a / n) (omega arith) (omega arith))) (cases_lt b (a % n))
-
 -- ---- lists of which nothing passes
-
-pub any_false : (p : ℕ → Bool) (a n : ℕ) → ((k : ℕ) → a ≤ k → k < a + n → p k ≡ false) → list_any p (range_with_len a n) ≡ false
-any_false p a zero h = refl
-any_false p a (suc n) h = cc (h a (omega arith) (omega arith), any_false p (a + 1) n (λ k lo hi. h k (omega arith) (omega arith)))
 
 first_fails : (p : ℕ → Bool) (a n : ℕ) → 0 < n → p a ≡ false → list_all p (range_with_len a n) ≡ false
 first_fails p a n l e = grind arith

@@ -1,2 +1,4 @@
 pub mod Places
 pub mod Sending
+pub mod Behind
+pub mod Spreading

@@ -1,6 +1,6 @@
 -- What one turn makes of a part, and the runs of ports and banks from their first turn to their last.
 use Rattle.std.proofs.Common.{◌≡◌, ℕ, ◌+◌, ◌-◌, ◌≤◌, Bool, true, false, cond, List, [], ◌∷◌, ◌++◌, length, refl, sym, ap, ◌∙◌, arith}
-use Rattle.std.proofs.Common.{append-nil, length-append, zero-add}
+use Rattle.std.proofs.Common.{append-nil, length-append, zero-add, ⊎_elim}
 use Rattle.std.specs.Prelude.{Option, Some, None, IfSome, IfNone}
 use Rattle.std.specs.List.{All}
 use Rattle.std.proofs.lemmas.Bool.{leb-true}
@@ -14,12 +14,13 @@ use Rattle.memory_banks.specs.declared.BankAnswer.{BankAnswer}
 use Rattle.station_parts.specs.declared.bank.BankSide.{BankSide}
 use Rattle.station_parts.specs.declared.parts.CacheSide.{CacheSide}
 use Rattle.station_parts.specs.declared.parts.Stepped.{Stepped}
-use Rattle.station_parts.specs.declared.parts.Stepped.TheVariants.{Did, Idle, JournalFull, Faulted}
+use Rattle.station_parts.specs.declared.parts.Stepped.TheVariants.{Idle, JournalFull, Faulted}
 use Rattle.station_parts.specs.SideState.{SideState, Known, OnlyLooks, state_of}
 use Rattle.station_parts.specs.SideSteps.{Effect, asked, arrives, brought, work_of, nothing, effect_of, refusal_of, answer_of}
-use Rattle.station_parts.specs.SideSteps.{StepMakes}
+use Rattle.station_parts.specs.SideSteps.{StepMakes, SideSteps}
+use Rattle.station_parts.specs.Serving.{BankSteps}
 use Rattle.station_parts.specs.Words.{earlier_of, held_of, journal_limit, received_by}
-use Rattle.ring_station.specs.Turns.{IsTurn, SideSteps, BankSteps, IsStuck, bank_turn}
+use Rattle.ring_station.specs.Turns.{IsTurn, IsStuck, bank_turn}
 use Rattle.ring_station.specs.Round.{TurnsRound}
 use Rattle.ring_station.specs.Idle.{turn_of}
 use Rattle.ring_station.specs.declared.crew.BankRun.{BankRun}
@@ -180,9 +181,9 @@ ended_more {still' = still'} {first = first} {old = old} {new = new} ended still
 
 step_serves : (old new : BankSide) (stepped : Stepped) → BankSteps old new stepped
     → length (received_by new) ≤ length (received_by old) + 1
-step_serves old new Did h = omega (arith, ap length h.received, length-append (received_by old) (h.command ∷ []))
-step_serves old new Idle h = omega (arith, ap length h.0.received)
-step_serves old new stepped h = absurd h
+step_serves old new stepped h = ⊎_elim
+    (λ did. let one = h.did did in omega (arith, ap length one.received, length-append (received_by old) (one.command ∷ [])))
+    (λ idle. omega (arith, ap length (h.idle idle).received)) h.answer
 
 pub turn_serves : (may : Bool) (old new : BankSide) (result : Option Stepped) → IsTurn BankSteps may old new result
     → length (received_by new) ≤ length (received_by old) + 1
@@ -193,7 +194,7 @@ turn_serves may old new result h = absurd h
 -- and one that finds none has finished
 pub is_stuck : (may : Bool) (old new : BankSide) (result : Option Stepped) → IsTurn BankSteps may old new result
     → result ≡ Some Idle → IsStuck new
-is_stuck true old new (Some Idle) h e = h.1
+is_stuck true old new (Some Idle) h e = h.stuck refl
 is_stuck false old new (Some stepped) h e = absurd h
 is_stuck may old new result h e = cc
 

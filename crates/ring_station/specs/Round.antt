@@ -7,12 +7,12 @@ use Rattle.station_parts.specs.declared.parts.CacheSide.{CacheSide}
 use Rattle.station_parts.specs.declared.parts.Stepped.{Stepped}
 use Rattle.station_parts.specs.declared.parts.Stepped.TheVariants.{Did}
 use Rattle.station_parts.specs.SideState.{SideState, OnlyLooks, state_of}
-use Rattle.station_parts.specs.SideSteps.{has_item}
+use Rattle.station_parts.specs.SideSteps.{has_item, SideSteps}
 use Rattle.ring_station.specs.declared.round.TheConstants.{OTHER_SOURCES}
 use Rattle.ring_station.specs.declared.round.Round.{Round}
 use Rattle.ring_station.specs.declared.round.Place.{Place}
 use Rattle.ring_station.specs.declared.round.Place.TheVariants.{Ports, Bank, Stack, WriteQueue, Replies}
-use Rattle.ring_station.specs.Turns.{IsTurn, SideSteps}
+use Rattle.ring_station.specs.Turns.{IsTurn}
 
 -- before the first step: at the first port
 abbrev pub first_round : ℕ → ℕ → Round

@@ -6,7 +6,8 @@ ghost use Rattle.station_parts.specs.Ids.{bank_id};
 ghost use Rattle.station_parts.specs.Words.{received_by};
 ghost use Rattle.ring_station.specs.declared.crew.BankRun.{BankRun};
 ghost use Rattle.ring_station.specs.declared.gate.Actor.{Actor};
-ghost use Rattle.ring_station.specs.Turns.{IsTurn, BankSteps, BankHasTurn, BanksHaveTurns, BanksTakeTurns};
+ghost use Rattle.station_parts.specs.Serving.{BankSteps};
+ghost use Rattle.ring_station.specs.Turns.{IsTurn, BankHasTurn, BanksHaveTurns, BanksTakeTurns};
 ghost use Rattle.ring_station.specs.PortRuns.{moves_in};
 ghost use Rattle.ring_station.specs.Ends.{goes_on, not_begun};
 ghost use Rattle.ring_station.specs.Crew.{EachServed, ServesOn, EachServesOn};
@@ -15,7 +16,7 @@ use crate::crew::BankRun;
 use crate::gate::{Actor, Gate};
 use crate::idle::{Idling, Turn, turn_of, turn_of_both};
 use crate::thread_end::{ThreadEnd, ThreadFault};
-use station_parts::{BankSide, Stepped};
+use station_parts::{BankSide, Look, Stepped};
 use std::rt::Clock;
 use std::sync::atomic::{AtomicBool, Ordering};
 
@@ -162,5 +163,5 @@ fn take_turn(may: bool, bank: &mut BankSide) -> Option<Stepped>
     if !may {
         return None;
     }
-    Some(bank.quick_step())
+    Some(bank.step_with(Look::IfNeeded))
 }

@@ -4,7 +4,8 @@ ghost use Rattle.std.specs.List.{All};
 ghost use Rattle.flat_model.specs.declared.limits.TheConstants.{MAX_BANKS};
 ghost use Rattle.station_parts.specs.Ids.{cache_id};
 ghost use Rattle.ring_station.specs.declared.gate.Actor.{Actor};
-ghost use Rattle.ring_station.specs.Turns.{IsTurn, SideSteps};
+ghost use Rattle.station_parts.specs.SideSteps.{SideSteps};
+ghost use Rattle.ring_station.specs.Turns.{IsTurn};
 ghost use Rattle.ring_station.specs.Round.{TurnsRound, HasGoneRound};
 ghost use Rattle.station_parts.specs.Words.{held_of};
 ghost use Rattle.ring_station.specs.PartRuns.{CacheRan, ends_at};
@@ -17,7 +18,7 @@ use crate::gate::{Actor, Gate};
 use crate::idle::{Idling, turn_beside, turn_of};
 use crate::round::Round;
 use crate::thread_end::{ThreadEnd, ThreadFault};
-use station_parts::{CacheSide, Entry, Source, Stepped};
+use station_parts::{CacheSide, Entry, Look, Source, Stepped};
 use std::rt::Clock;
 use std::sync::atomic::{AtomicBool, Ordering};
 
@@ -130,7 +131,7 @@ fn take_turn<const WAYS: usize, const WORDS: usize, const REGS: usize, const DEP
     if !may {
         return None;
     }
-    Some(cache.quick_step(source))
+    Some(cache.step_with(source, Look::IfNeeded))
 }
 
 // Whether the entry at this place of the journal is there, and ends a port.

@@ -10,6 +10,7 @@ mod fault;
 mod gate;
 mod idle;
 mod keeper;
+pub mod laws;
 mod port_thread;
 mod report;
 mod round;
@@ -31,9 +32,8 @@ pub use report::{Run, Stop};
 pub use run::{run_and_audit, run_threads};
 pub use segment::{Segment, run_and_renew};
 pub use segments::run_in_segments;
-pub use station_journal::laws;
 pub use station_parts::{
-    ASK_PLACES, Ask, Audit, BankSide, CacheSide, Entry, MAX_ENTRIES, MAX_NOTED, MAX_PORTS,
+    ASK_PLACES, Ask, Audit, BankSide, CacheSide, Entry, Look, MAX_ENTRIES, MAX_NOTED, MAX_PORTS,
     PORT_TAGS, Port, RawBank, RenewFault, Ring, SideFault, Source, Station, Stepped,
     TELLING_PLACES, Told, audit, renew, station,
 };

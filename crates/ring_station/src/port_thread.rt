@@ -16,7 +16,7 @@ use crate::gate::{Actor, Gate};
 use crate::idle::{Idling, Turn, turn_of_both};
 use crate::talk::{Phase, Talk};
 use crate::thread_end::{ThreadEnd, ThreadFault};
-use station_parts::{Ask, Port, Told};
+use station_parts::{Ask, Look, Port, Told};
 use std::alloc::AllocError;
 use std::rt::Clock;
 
@@ -160,7 +160,7 @@ fn offer_next(script: &[Ask], talk: &mut Talk, port: &mut Port) -> Turn
     ensures one { moves_of port.new ≡ moves_of port.old + moves_in result }
     ensures idle { FindsNothing result Phase.Offering port.new }
 {
-    if port.quick_offer(talk.ask(script)).is_err() {
+    if port.offer_with(talk.ask(script), Look::IfNeeded).is_err() {
         return Turn::Idle;
     }
     talk.note_offer(script);

@@ -1,19 +1,15 @@
 //! Runs of a station on threads.
-ghost use Rattle.std.specs.Prelude.{◌≡◌, ◌≢◌, ◌<◌, ◌≤◌, true, length, map, vec_len, IsTrue, IfOk, OnErr, OnOk, IsErr};
+ghost use Rattle.std.specs.Prelude.{◌≡◌, ◌<◌, ◌≤◌, true, length, map, vec_len, IfOk, OnErr, OnOk, IsErr};
 ghost use Rattle.std.specs.List.{All};
 ghost use Rattle.station_parts.specs.declared.make.TheConstants.{MAX_PORTS};
 ghost use Rattle.flat_model.specs.declared.limits.TheConstants.{MAX_BANKS};
-ghost use Rattle.cache_law.specs.Views.{is_clean};
-ghost use Rattle.station_journal.specs.Journal.{IsBankTrue};
-ghost use Rattle.station_parts.specs.declared.parts.Audit.TheVariants.{Clean, Faulted};
-ghost use Rattle.station_parts.specs.Audited.{IsSeen, audit_of};
-ghost use Rattle.station_parts.specs.Ids.{port_id, bank_id, cache_id};
+ghost use Rattle.station_parts.specs.declared.parts.Audit.TheVariants.{Clean};
 ghost use Rattle.station_parts.specs.New.{IsNewPort};
-ghost use Rattle.station_parts.specs.Promises.{ArePrefixes, IsFlatRun, AreWhole, PaysLoads, HoldFlat};
+ghost use Rattle.station_parts.specs.Promises.{IsAudited, IsCleanStation};
 ghost use Rattle.station_parts.specs.Rest.{is_at_rest};
 ghost use Rattle.station_parts.specs.Runs.{HaveConversed};
-ghost use Rattle.station_parts.specs.Station.{AreOneStation};
-ghost use Rattle.station_parts.specs.Words.{cache_in, journal_of, sizes_in};
+ghost use Rattle.station_parts.specs.Station.{AreOneStation, AreSameParts, AreUnmoved, IsOneStation, IsSameStation, IsUnmoved};
+ghost use Rattle.station_parts.specs.Words.{cache_in, earlier_of};
 ghost use Rattle.ring_station.specs.PartRuns.{BanksRan, CacheRan};
 ghost use Rattle.ring_station.specs.PortRuns.{HaveRun, PortsRan, AreHeard};
 ghost use Rattle.ring_station.specs.Crew.{HasNotBegun, EachRanScript, EachIsSame, EachServed, EachHeard};
@@ -71,14 +67,13 @@ pub fn run_threads<
     turns: u64,
     gate: &G,
 ) -> Result<Vec<Vec<Told>>, RunFault>
-    requires one { AreOneStation station.old.cache station.old.ports.items station.old.banks.items }
+    requires one { IsOneStation station.old }
     requires scripts { length scripts.now ≡ vec_len station.old.ports }
 
-    // They are the same parts, moved by their own calls.
-    ensures same_cache { cache_id station.new.cache ≡ cache_id station.old.cache }
-    ensures same_ports { map port_id station.new.ports.items ≡ map port_id station.old.ports.items }
-    ensures same_banks { map bank_id station.new.banks.items ≡ map bank_id station.old.banks.items }
-    ensures kept { AreOneStation station.new.cache station.new.ports.items station.new.banks.items }
+    ensures same { IsSameStation station.old station.new }
+
+    // What the journal shows is all that the station has noted since it was made, or renewed.
+    ensures earlier { earlier_of station.new.cache ≡ earlier_of station.old.cache }
 
     // In the run each port has offered its script and then Done, and its list is what it took. So an
     // audit of a station that was new owes nothing, and leaves no telling.
@@ -99,18 +94,8 @@ pub fn run_threads<
     // it had.
     ensures within { KeepsTo turns station.old station.new }
 
-    // And an audit has found that nothing is left or owed.
-    ensures seen { OnOk result (IsSeen station.new.cache station.new.ports.items station.new.banks.items) }
-    ensures clean { OnOk result
-        (audit_of station.new.cache station.new.ports.items station.new.banks.items ≡ Clean) }
-    ensures flat { OnOk result
-        (IsFlatRun (sizes_in station.new.cache) (journal_of station.new.cache)) }
-    ensures whole { OnOk result
-        (AreWhole (journal_of station.new.cache) station.new.ports.items) }
-    ensures paid { OnOk result
-        (PaysLoads (sizes_in station.new.cache) (journal_of station.new.cache)) }
-    ensures settled { OnOk result (IsTrue (is_clean (cache_in station.new.cache))
-        → HoldFlat (sizes_in station.new.cache) (journal_of station.new.cache) station.new.banks.items) }
+    // And an audit has found that nothing is left or owed, so the journal is a run of flat memory.
+    ensures clean { OnOk result (IsCleanStation station.new) }
 {
     let run = run_and_audit(rt, alloc, station, scripts, turns, Crew::one_each(), gate)?;
     if let Some(fault) = run.fault() {
@@ -147,17 +132,11 @@ pub fn run_and_audit<
     crew: Crew,
     gate: &G,
 ) -> Result<Run, AllocError>
-    requires one { AreOneStation station.old.cache station.old.ports.items station.old.banks.items }
+    requires one { IsOneStation station.old }
     requires scripts { length scripts.now ≡ vec_len station.old.ports }
 
-    // They are the same parts, moved by their own calls.
-    ensures same_cache { cache_id station.new.cache ≡ cache_id station.old.cache }
-    ensures same_ports { map port_id station.new.ports.items ≡ map port_id station.old.ports.items }
-    ensures same_banks { map bank_id station.new.banks.items ≡ map bank_id station.old.banks.items }
-    ensures kept { AreOneStation station.new.cache station.new.ports.items station.new.banks.items }
-    ensures unmoved_cache { OnErr result (station.new.cache ≡ station.old.cache) }
-    ensures unmoved_ports { OnErr result (station.new.ports.items ≡ station.old.ports.items) }
-    ensures unmoved_banks { OnErr result (station.new.banks.items ≡ station.old.banks.items) }
+    ensures same { IsSameStation station.old station.new }
+    ensures unmoved { OnErr result (IsUnmoved station.old station.new) }
 
     // What each thread did, how it ended, and after how many turns.
     ensures ports { IfOk result (λ run. PortsRan scripts.now turns
@@ -169,22 +148,9 @@ pub fn run_and_audit<
         station.old.banks.items station.new.banks.items run.banks.items) }
 
     // The audit behind them.
-    ensures seen { OnOk result (IsSeen station.new.cache station.new.ports.items station.new.banks.items) }
-    ensures exact { IfOk result (λ run. run.audit
-        ≡ audit_of station.new.cache station.new.ports.items station.new.banks.items) }
-    ensures never { IfOk result (λ run. run.audit ≢ Faulted) }
-    ensures prefixes { OnOk result (ArePrefixes (journal_of station.new.cache) station.new.ports.items) }
-    ensures bank_true { OnOk result
-        (IsBankTrue (sizes_in station.new.cache) (journal_of station.new.cache)) }
-    ensures flat { OnOk result
-        (IsFlatRun (sizes_in station.new.cache) (journal_of station.new.cache)) }
-    ensures whole { IfOk result (λ run. run.audit ≡ Clean
-        → AreWhole (journal_of station.new.cache) station.new.ports.items) }
-    ensures paid { IfOk result (λ run. run.audit ≡ Clean
-        → PaysLoads (sizes_in station.new.cache) (journal_of station.new.cache)) }
-    ensures settled { IfOk result (λ run. run.audit ≡ Clean
-        → IsTrue (is_clean (cache_in station.new.cache))
-        → HoldFlat (sizes_in station.new.cache) (journal_of station.new.cache) station.new.banks.items) }
+    ensures audited { IfOk result (λ run. IsAudited
+        station.new.cache station.new.ports.items station.new.banks.items run.audit) }
+    ensures clean { IfOk result (λ run. run.audit ≡ Clean → IsCleanStation station.new) }
 {
     let Station {
         cache,
@@ -232,13 +198,9 @@ fn run_parts<
 ) -> Result<Ends, AllocError>
     requires one { AreOneStation cache.old ports.old.items banks.old.items }
     requires scripts { length scripts.now ≡ vec_len ports.old }
-    ensures same_cache { cache_id cache.new ≡ cache_id cache.old }
-    ensures same_ports { map port_id ports.new.items ≡ map port_id ports.old.items }
-    ensures same_banks { map bank_id banks.new.items ≡ map bank_id banks.old.items }
-    ensures kept { AreOneStation cache.new ports.new.items banks.new.items }
-    ensures unmoved_cache { OnErr result (cache.new ≡ cache.old) }
-    ensures unmoved_ports { OnErr result (ports.new.items ≡ ports.old.items) }
-    ensures unmoved_banks { OnErr result (banks.new.items ≡ banks.old.items) }
+    ensures same { AreSameParts cache.old cache.new ports.old.items ports.new.items banks.old.items banks.new.items }
+    ensures unmoved { OnErr result
+        (AreUnmoved cache.old cache.new ports.old.items ports.new.items banks.old.items banks.new.items) }
     ensures ports { IfOk result (λ ends. PortsRan scripts.now turns
         ports.old.items ports.new.items ends.lists.items ends.ports.items) }
     ensures heard { IfOk result (λ ends. AreHeard (G.has_heard gate.now) ends.lists.items) }

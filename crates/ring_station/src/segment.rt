@@ -1,14 +1,11 @@
 //! A run of a station that hands its journal out behind it.
-ghost use Rattle.std.specs.Prelude.{◌≡◌, ◌<◌, true, length, map, vec_len, IsTrue, IfOk, IfErr, OnErr, OnOk, IsErr};
-ghost use Rattle.cache_law.specs.Views.{is_clean};
-ghost use Rattle.station_parts.specs.declared.parts.Audit.TheVariants.{Clean};
-ghost use Rattle.station_parts.specs.Audited.{IsSeen, LeavesBanks, audit_of};
-ghost use Rattle.station_parts.specs.Ids.{port_id, bank_id, cache_id};
-ghost use Rattle.station_parts.specs.Promises.{IsFlatRun, AreWhole, PaysLoads, HoldFlat};
+ghost use Rattle.std.specs.Prelude.{◌≡◌, true, length, vec_len, IfOk, IfErr, OnErr, OnOk, IsErr};
+ghost use Rattle.station_parts.specs.Audited.{LeavesBanks};
+ghost use Rattle.station_parts.specs.Promises.{IsCleanStation};
 ghost use Rattle.station_parts.specs.Renewed.{RenewsCache, ResumesPorts, IsRefused};
 ghost use Rattle.station_parts.specs.Rest.{is_at_rest};
-ghost use Rattle.station_parts.specs.Station.{AreOneStation};
-ghost use Rattle.station_parts.specs.Words.{cache_in, earlier_of, journal_of, sizes_in};
+ghost use Rattle.station_parts.specs.Station.{IsOneStation, IsSameStation};
+ghost use Rattle.station_parts.specs.Words.{cache_in, earlier_of};
 ghost use Rattle.ring_station.specs.PortRuns.{AreHeard};
 ghost use Rattle.ring_station.specs.Segments.{HaveRunOn, HandsOut, TellsRenewal, ComesToRenewal};
 ghost use Rattle.ring_station.specs.Within.{KeepsTo};
@@ -58,14 +55,10 @@ pub fn run_and_renew<
     crew: Crew,
     gate: &G,
 ) -> Result<Segment, SegmentFault>
-    requires one { AreOneStation station.old.cache station.old.ports.items station.old.banks.items }
+    requires one { IsOneStation station.old }
     requires scripts { length scripts.now ≡ vec_len station.old.ports }
 
-    // They are the same parts, moved by their own calls.
-    ensures same_cache { cache_id station.new.cache ≡ cache_id station.old.cache }
-    ensures same_ports { map port_id station.new.ports.items ≡ map port_id station.old.ports.items }
-    ensures same_banks { map bank_id station.new.banks.items ≡ map bank_id station.old.banks.items }
-    ensures kept { AreOneStation station.new.cache station.new.ports.items station.new.banks.items }
+    ensures same { IsSameStation station.old station.new }
 
     // Each port has offered its script and then Done, its list is what it took, of which the gate has heard
     // each telling, and it may offer again.
@@ -88,17 +81,7 @@ pub fn run_and_renew<
 
     // An audit has found that nothing is left or owed, and so all that the station has noted since it was
     // made is a run of flat memory.
-    ensures seen { OnOk result (IsSeen station.new.cache station.new.ports.items station.new.banks.items) }
-    ensures clean { OnOk result
-        (audit_of station.new.cache station.new.ports.items station.new.banks.items ≡ Clean) }
-    ensures flat { OnOk result
-        (IsFlatRun (sizes_in station.new.cache) (journal_of station.new.cache)) }
-    ensures whole { OnOk result
-        (AreWhole (journal_of station.new.cache) station.new.ports.items) }
-    ensures paid { OnOk result
-        (PaysLoads (sizes_in station.new.cache) (journal_of station.new.cache)) }
-    ensures settled { OnOk result (IsTrue (is_clean (cache_in station.new.cache))
-        → HoldFlat (sizes_in station.new.cache) (journal_of station.new.cache) station.new.banks.items) }
+    ensures clean { OnOk result (IsCleanStation station.new) }
 {
     let run = run_and_audit(rt, alloc, station, scripts, turns, crew, gate)?;
     if let Some(fault) = run.fault() {
@@ -116,10 +99,8 @@ fn renew_station<const WAYS: usize, const WORDS: usize, const REGS: usize, const
     alloc: Global,
     station: &mut Station<WAYS, WORDS, REGS, DEPTH>,
 ) -> Result<Vec<Entry>, RenewFault>
-    requires { AreOneStation station.old.cache station.old.ports.items station.old.banks.items }
-    ensures same_cache { cache_id station.new.cache ≡ cache_id station.old.cache }
-    ensures same_ports { map port_id station.new.ports.items ≡ map port_id station.old.ports.items }
-    ensures same_banks { map bank_id station.new.banks.items ≡ map bank_id station.old.banks.items }
+    requires { IsOneStation station.old }
+    ensures same { IsSameStation station.old station.new }
     ensures cache { IfOk result
         (λ segment. RenewsCache station.old.cache station.new.cache segment.items) }
     ensures ports { OnOk result (ResumesPorts station.old.ports.items station.new.ports.items) }
@@ -127,17 +108,7 @@ fn renew_station<const WAYS: usize, const WORDS: usize, const REGS: usize, const
     ensures refused { IfErr result (λ fault. IsRefused fault station.old.cache station.new.cache
         station.old.ports.items station.new.ports.items station.old.banks.items station.new.banks.items) }
     ensures unhanded { OnErr result (earlier_of station.new.cache ≡ earlier_of station.old.cache) }
-    ensures seen { OnOk result (IsSeen station.new.cache station.new.ports.items station.new.banks.items) }
-    ensures clean { OnOk result
-        (audit_of station.new.cache station.new.ports.items station.new.banks.items ≡ Clean) }
-    ensures flat { OnOk result
-        (IsFlatRun (sizes_in station.new.cache) (journal_of station.new.cache)) }
-    ensures whole { OnOk result
-        (AreWhole (journal_of station.new.cache) station.new.ports.items) }
-    ensures paid { OnOk result
-        (PaysLoads (sizes_in station.new.cache) (journal_of station.new.cache)) }
-    ensures settled { OnOk result (IsTrue (is_clean (cache_in station.new.cache))
-        → HoldFlat (sizes_in station.new.cache) (journal_of station.new.cache) station.new.banks.items) }
+    ensures clean { OnOk result (IsCleanStation station.new) }
 {
     renew(
         alloc,

@@ -1,13 +1,9 @@
 //! Runs of a station one behind the other, of scripts that are cut into pieces, with a renewal behind each.
-ghost use Rattle.std.specs.Prelude.{◌≡◌, ◌<◌, ◌+◌, ◌*◌, max, true, length, map, vec_len, IsTrue, IfOk, IfErr, OnOk, IsErr};
-ghost use Rattle.cache_law.specs.Views.{is_clean};
-ghost use Rattle.station_parts.specs.declared.parts.Audit.TheVariants.{Clean};
-ghost use Rattle.station_parts.specs.Audited.{IsSeen, audit_of};
-ghost use Rattle.station_parts.specs.Ids.{port_id, bank_id, cache_id};
-ghost use Rattle.station_parts.specs.Promises.{IsFlatRun, AreWhole, PaysLoads, HoldFlat};
+ghost use Rattle.std.specs.Prelude.{◌≡◌, ◌*◌, max, true, length, map, vec_len, IfOk, IfErr, OnOk, IsErr};
+ghost use Rattle.station_parts.specs.Promises.{IsCleanStation};
 ghost use Rattle.station_parts.specs.Rest.{is_at_rest};
-ghost use Rattle.station_parts.specs.Station.{AreOneStation};
-ghost use Rattle.station_parts.specs.Words.{cache_in, journal_of, sizes_in};
+ghost use Rattle.station_parts.specs.Station.{IsOneStation, IsSameStation};
+ghost use Rattle.station_parts.specs.Words.{cache_in};
 ghost use Rattle.ring_station.specs.Segments.{RunsInSegments, StopsBehind, RunsInTurns, StopsInTurns, RunsNext, StopsNext, TellsRenewal};
 ghost use Rattle.ring_station.specs.Segments.{EachIsHeard, longest_of, piece_behind, piece_count};
 ghost use Rattle.ring_station.specs.Within.{KeepsTo};
@@ -56,14 +52,10 @@ pub fn run_in_segments<
     gate: &G,
     keeper: &mut K,
 ) -> Result<(), SegmentFault>
-    requires one { AreOneStation station.old.cache station.old.ports.items station.old.banks.items }
+    requires one { IsOneStation station.old }
     requires scripts { length scripts.now ≡ vec_len station.old.ports }
 
-    // They are the same parts, moved by their own calls.
-    ensures same_cache { cache_id station.new.cache ≡ cache_id station.old.cache }
-    ensures same_ports { map port_id station.new.ports.items ≡ map port_id station.old.ports.items }
-    ensures same_banks { map bank_id station.new.banks.items ≡ map bank_id station.old.banks.items }
-    ensures kept { AreOneStation station.new.cache station.new.ports.items station.new.banks.items }
+    ensures same { IsSameStation station.old station.new }
 
     // Each port has offered its script, piece by piece, and what it took, of which the gate has heard each
     // telling, and what was handed out is kept. Of a run that stopped that is said of the pieces before.
@@ -86,17 +78,7 @@ pub fn run_in_segments<
 
     // The audit behind the last run has found that nothing is left or owed, and so all that the station
     // has noted since it was made is a run of flat memory.
-    ensures seen { OnOk result (IsSeen station.new.cache station.new.ports.items station.new.banks.items) }
-    ensures clean { OnOk result
-        (audit_of station.new.cache station.new.ports.items station.new.banks.items ≡ Clean) }
-    ensures flat { OnOk result
-        (IsFlatRun (sizes_in station.new.cache) (journal_of station.new.cache)) }
-    ensures whole { OnOk result
-        (AreWhole (journal_of station.new.cache) station.new.ports.items) }
-    ensures paid { OnOk result
-        (PaysLoads (sizes_in station.new.cache) (journal_of station.new.cache)) }
-    ensures settled { OnOk result (IsTrue (is_clean (cache_in station.new.cache))
-        → HoldFlat (sizes_in station.new.cache) (journal_of station.new.cache) station.new.banks.items) }
+    ensures clean { OnOk result (IsCleanStation station.new) }
 {
     let asks = asks.max(1);
     let longest = longest_script(scripts);
@@ -142,12 +124,9 @@ fn run_pieces<
     gate: &G,
     keeper: &mut K,
 ) -> Result<(), SegmentFault>
-    requires one { AreOneStation station.old.cache station.old.ports.items station.old.banks.items }
+    requires one { IsOneStation station.old }
     requires scripts { length scripts.now ≡ vec_len station.old.ports }
-    ensures same_cache { cache_id station.new.cache ≡ cache_id station.old.cache }
-    ensures same_ports { map port_id station.new.ports.items ≡ map port_id station.old.ports.items }
-    ensures same_banks { map bank_id station.new.banks.items ≡ map bank_id station.old.banks.items }
-    ensures kept { AreOneStation station.new.cache station.new.ports.items station.new.banks.items }
+    ensures same { IsSameStation station.old station.new }
     ensures runs { OnOk result (RunsNext begin asks scripts.now station.old station.new
         (λ segments. K.kept keeper.old segments keeper.new × EachIsHeard (G.has_heard gate.now) segments)) }
     ensures stops { IfErr result (StopsNext begin asks scripts.now station.old station.new
@@ -156,17 +135,7 @@ fn run_pieces<
     ensures renewal { IfErr result (TellsRenewal station.new) }
     ensures no_turn { turns ≡ 0 → IsErr result }
     ensures within { KeepsTo turns station.old station.new }
-    ensures seen { OnOk result (IsSeen station.new.cache station.new.ports.items station.new.banks.items) }
-    ensures clean { OnOk result
-        (audit_of station.new.cache station.new.ports.items station.new.banks.items ≡ Clean) }
-    ensures flat { OnOk result
-        (IsFlatRun (sizes_in station.new.cache) (journal_of station.new.cache)) }
-    ensures whole { OnOk result
-        (AreWhole (journal_of station.new.cache) station.new.ports.items) }
-    ensures paid { OnOk result
-        (PaysLoads (sizes_in station.new.cache) (journal_of station.new.cache)) }
-    ensures settled { OnOk result (IsTrue (is_clean (cache_in station.new.cache))
-        → HoldFlat (sizes_in station.new.cache) (journal_of station.new.cache) station.new.banks.items) }
+    ensures clean { OnOk result (IsCleanStation station.new) }
 {
     let pieces = cut_scripts(alloc, scripts, begin, asks)?;
     let segment = run_and_renew(rt, alloc, station, &pieces, turns, crew, gate)?;

@@ -30,7 +30,7 @@ use Rattle.std.proofs.lemmas.List.FromFn.{length-map-range_with_len}
 use Rattle.flat_model.specs.declared.Event.{Event}
 use Rattle.memory_banks.specs.Banks.{commands_for}
 use Rattle.miss_registers.proofs.Tags.{count_by-append}
-use Rattle.machine_core.proofs.Whole.{evict_silent, process_silent, take_silent}
+use Rattle.cache_law.proofs.Silent.{evict_silent, process_silent, take_silent}
 
 -- ---- how many reads a journal can have sent
 

@@ -8,7 +8,8 @@ use Rattle.memory_banks.specs.Banks.{Bank, bank_at, room_in}
 use Rattle.cache_law.specs.declared.Sizes.{Sizes}
 use Rattle.cache_law.specs.State.{first_of}
 use Rattle.cache_law.specs.Causes.{addresses, lacks_room}
-use Rattle.machine_core.proofs.Whole.{spread_evenly, any_false}
+use Rattle.memory_banks.proofs.Spreading.{spread_evenly}
+use Rattle.cache_law.proofs.Rooms.{any_false}
 use Rattle.station_journal.specs.Journal.{ample}
 
 -- ---- rooms in which no block is too large

@@ -8,7 +8,7 @@ use Rattle.memory_banks.specs.declared.BankAnswer.{BankAnswer}
 use Rattle.memory_banks.specs.Banks.{commands_for}
 use Rattle.cache_law.specs.State.{Cache, UnitState}
 use Rattle.cache_law.specs.Steps.{Stepped, process_step, drain_step}
-use Rattle.machine_core.proofs.Whole.{process_silent}
+use Rattle.cache_law.proofs.Silent.{process_silent}
 use Rattle.station_journal.specs.declared.journal.Source.{Source}
 use Rattle.station_journal.specs.declared.journal.Source.TheVariants.{Stack}
 use Rattle.station_journal.specs.declared.journal.Source.TheVariants as sources

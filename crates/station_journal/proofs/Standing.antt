@@ -1,6 +1,6 @@
 -- A machine with banks that have served all, as a journal's stand.
 use Rattle.std.proofs.Common.{◌≡◌, ℕ, zero, suc, ◌+◌, ◌<◌, ◌≤◌, cond, ◌==◌, List, [], ◌∷◌, ◌++◌, drop, length, set, slice_get, Some, refl}
-use Rattle.std.proofs.Common.{ap, ◌∙◌, arith, append-nil, length-append, length-set, lt-ltb, eq-eqb, Bool, nat_lt}
+use Rattle.std.proofs.Common.{sym, ap, ◌∙◌, arith, append-nil, length-append, length-set, lt-ltb, eq-eqb, Bool, nat_lt}
 use Rattle.std.proofs.lemmas.Bool.{ne_eqb}
 use Rattle.std.proofs.lemmas.List.{drop-append-le, get_or-set_same, get_or-set_other}
 use Rattle.std.proofs.lemmas.List.FromFn.{length-map-range_with_len, get_or-map-range_with_len}
@@ -12,8 +12,9 @@ use Rattle.flat_model.specs.Flat.{flat_step}
 use Rattle.memory_banks.specs.declared.Command.{Command}
 use Rattle.memory_banks.specs.Banks.{Bank, all_sent, no_bank, bank_at, after, answers_to, commands_for, words_after, pending}
 use Rattle.memory_banks.specs.Banks.{served}
-use Rattle.memory_banks.proofs.Sending.{extended, all_sent-length, all_sent-at}
-pub use Rattle.machine_core.proofs.FromForms.{after-append, answers_to-append}
+use Rattle.memory_banks.specs.Memory.{serve_bank}
+use Rattle.memory_banks.proofs.Behind.{after-append, answers_to-append}
+use Rattle.memory_banks.proofs.Sending.{extended, all_sent-length, all_sent-at, serve-pending}
 use Rattle.cache_law.specs.declared.Sizes.{Sizes}
 use Rattle.cache_law.specs.State.{Cache}
 use Rattle.cache_law.specs.Steps.{Stepped}
@@ -23,7 +24,6 @@ use Rattle.station_journal.specs.Journal.{Stand, opening_stand, zeros, zeros_in}
 use Rattle.station_journal.proofs.FlatFrom.{FlatFrom, makes}
 use Rattle.flat_model.specs.declared.Event.TheVariants.{Serve}
 use Rattle.flat_model.specs.declared.Answer.TheVariants.{Moved}
-use Rattle.machine_core.proofs.Walking.{served-pending}
 
 -- ---- banks that serve all that waits at them
 
@@ -38,6 +38,9 @@ served-after : (b : Bank) (first : Command) (rest : List Command) → b.queue �
     → words_after (served b first rest) ≡ words_after b
 unfolding served
 served-after b first rest e = grind arith
+
+served-pending : (b : Bank) (first : Command) (rest : List Command) → b.queue ≡ first ∷ rest → pending (served b first rest) ≡ pending b
+served-pending b first rest e = ap (λ q. pending (serve_bank b q)) (sym e) ∙ serve-pending b
 
 served-finished : (b : Bank) (first : Command) (rest : List Command) → b.queue ≡ first ∷ rest → finished (served b first rest) ≡ finished b
 served-finished b first rest e = grind (arith, served-after, served-pending)

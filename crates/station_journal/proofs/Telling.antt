@@ -25,7 +25,7 @@ use Rattle.station_journal.specs.Journal.{Stand, opening_stand, come_word, true_
 use Rattle.station_journal.specs.Journal.{moved_on, next_word, step, Brings, is_full, Fits, after_entry}
 use Rattle.station_journal.specs.Law.{TakesABlock, IsFlatJournal, SideIsTrue}
 use Rattle.station_journal.specs.Side.{SideTells, Popped, ComesOf, IsLost}
-use Rattle.station_journal.proofs.Standing.{answers_to-append}
+use Rattle.memory_banks.proofs.Behind.{answers_to-append}
 use Rattle.station_journal.proofs.Recording.{Recorded, arrive_silent}
 use Rattle.station_journal.proofs.Walking.{journal_is_flat, led_as}
 use Rattle.miss_registers.proofs.Tags.{count_by-append}

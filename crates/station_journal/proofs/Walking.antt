@@ -1,6 +1,6 @@
 -- A journal that is true of the banks is a run of flat memory.
 use Rattle.std.proofs.Common.{◌≡◌, ℕ, ◌/◌, ◌%◌, ◌<◌, Bool, true, false, ◌&&◌, List, [], ◌∷◌, Some, None, option_map, refl, sym, ap, ap₂}
-use Rattle.std.proofs.Common.{◌∙◌, arith, mod-lt, lt-ltb, IsTrue, ◌||◌, ◌==◌, not, length, Option, is_none, eq-eqb}
+use Rattle.std.proofs.Common.{◌∙◌, arith, mod-lt, lt-ltb, IsTrue, ◌||◌, ◌==◌, length, Option, is_some, find, eq-eqb}
 use Rattle.std.proofs.Props.{props}
 use Rattle.std.specs.List.{list_all, list_any}
 use Rattle.std.proofs.lemmas.List.{length-replicate, nil_from_length}
@@ -31,36 +31,38 @@ use Rattle.station_journal.proofs.FlatFrom.{FlatFrom, flat_from_opening, opens_f
 use Rattle.station_journal.proofs.Standing.{Stands, Next, opening_stands}
 use Rattle.station_journal.proofs.Stepping.{event_ok}
 use Rattle.station_journal.proofs.Paying.{loads_are_taken}
-use Rattle.flat_model.specs.declared.Word.{Word}
 use Rattle.cache_law.specs.State.{Cache, tags}
-use Rattle.machine_core.proofs.Requests.{flat_in_use}
+use Rattle.miss_registers.proofs.Tags.{list_any-map}
+use Rattle.cache_law.proofs.FormsEvents.{Due, dues, due_in, owed-due, tags-dues}
 
 -- ---- what a unit owes, and its tags
 
--- a machine with this unit
-with_unit : Cache → Machine
-with_unit c = record { cache = c; banks = [] }
+-- a tag is owed something where it is among them
+owed_tags : (c : Cache) (tag : ℕ) → is_some (owed c tag) ≡ list_any (λ t. t == tag) (tags c)
+unfolding due_in
+owed_tags c tag =
+    ap is_some (owed-due c tag) ∙ owing _ ∙ sym (any-find _ (dues c)) ∙ sym (list_any-map (λ t. t == tag) (λ (d : Due). d.tag) _)
+    ∙ ap (list_any (λ t. t == tag)) (tags-dues c)
+  where
+    owing : (o : Option Due) → is_some (option_map (λ (d : Due). d.form) o) ≡ is_some o
+    owing o = grind arith
+
+    any-find : {X : Type 0} (p : X → Bool) (xs : List X) → list_any p xs ≡ is_some (find p xs)
+    any-find p [] = refl
+    any-find p (x ∷ xs) = grind (arith, any-find p xs)
 
 -- a unit without tags owes nothing
 pub none_owed : (c : Cache) → length (tags c) ≡ 0 → (tag : ℕ) → owed c tag ≡ None
-unfolding with_unit
-none_owed c few tag =
-    go _ _ (flat_in_use (with_unit c) tag ∙ (ap (list_any (λ t. t == tag)) (nil_from_length (tags c) few)))
+none_owed c few tag = go _ (owed_tags c tag ∙ (ap (list_any (λ t. t == tag)) (nil_from_length (tags c) few)))
   where
-    go : (f : Form → Word) (o : Option Form) → not (is_none (option_map f o)) ≡ false → o ≡ None
-    go f None e = refl
-    go f _ e = cc
+    go : (o : Option Form) → is_some o ≡ false → o ≡ None
+    go None e = refl
+    go _ e = cc
 
 -- and one that owes nothing has none
 pub no_tags : (c : Cache) → ((tag : ℕ) → owed c tag ≡ None) → length (tags c) ≡ 0
-unfolding with_unit
-no_tags c none = go _ used
+no_tags c none = go _ (λ tag. sym (owed_tags c tag) ∙ ap is_some (none tag))
   where
-    used : (tag : ℕ) → list_any (λ t. t == tag) (tags c) ≡ false
-    used tag =
-        sym (flat_in_use (with_unit c) tag)
-        ∙ ap (λ o. not (is_none (option_map (filled_by (all_pending (with_unit c).banks)) o))) (none tag)
-
     go : (ts : List ℕ) → ((tag : ℕ) → list_any (λ t. t == tag) ts ≡ false) → length ts ≡ 0
     go [] h = refl
     go (t ∷ ts) h =

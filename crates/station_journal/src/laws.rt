@@ -1,7 +1,8 @@
 //! Laws over the definitions alone: what a journal says of flat memory.
 
-ghost use Rattle.std.specs.Prelude.{List};
+ghost use Rattle.std.specs.Prelude.{◌≡◌, List};
 ghost use Rattle.cache_law.specs.declared.Sizes.{Sizes};
+ghost use Rattle.station_journal.specs.declared.asks.TheConstants.{PORT_TAGS};
 ghost use Rattle.station_journal.specs.declared.journal.Entry.{Entry};
 ghost use Rattle.station_journal.specs.Law.{JournalIsFlat, SideIsTrue, RunIsTaken, AsksAreJudged, RunIsAnswered};
 
@@ -35,4 +36,9 @@ pub fn asks_are_judged()
 /// accepted load waits for its value.
 pub fn run_is_answered()
     ensures { RunIsAnswered }
+{}
+
+/// The tags of a port are all that a byte counts, so the core knows its load by `port * 256 + tag`.
+pub fn port_tags_are_bytes()
+    ensures { PORT_TAGS ≡ 256 }
 {}

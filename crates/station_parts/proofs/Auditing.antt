@@ -41,6 +41,7 @@ use Rattle.station_parts.specs.Station.{AreOneStation}
 use Rattle.station_parts.specs.Audited.{IsSeen, holds_item, first_left, audit_of}
 use Rattle.station_parts.specs.declared.parts.Audit.TheVariants.{Faulted, Clean}
 use Rattle.station_parts.specs.Promises.{AreJudged, offered_by, taken_by, words_by, ArePrefixes, AreWhole, IsFlatRun, PaysLoads, HoldFlat}
+use Rattle.station_parts.specs.Promises.{IsAudited, IsFoundClean}
 use Rattle.station_parts.specs.Runs.{list_in, HaveConversed, AreAnswered}
 
 -- ---- a bank's share of zeros
@@ -148,7 +149,7 @@ module _ {W B R D : ℕ} (cache : CacheSide W B R D) (ports : List Port) (banks 
   law : IsLawful z
   law = grind arith
 
-  pub bank_true_here : IsBankTrue z entries
+  bank_true_here : IsBankTrue z entries
   bank_true_here =
       ∥∥₁_elim cache.tells (fit_prop z (true_word z) entries (opening_stand z))
       (λ h. bank_true z law cache.in_range.enough_commands _ _ _ cache.fault _ h comes_of)
@@ -169,13 +170,13 @@ module _ {W B R D : ℕ} (cache : CacheSide W B R D) (ports : List Port) (banks 
   flat_here : IsFlatJournal z entries stand
   flat_here = grind (arith, journal_is_flat, law, bank_true_here)
 
-  pub run_here : IsFlatRun z entries
+  run_here : IsFlatRun z entries
   run_here = record { flat = flat_here.flat; runs = flat_here.runs }
 
-  pub sources_here : IsOfPorts (length ports) entries
+  sources_here : IsOfPorts (length ports) entries
   sources_here = grind (arith, ask_number)
 
-  pub judged_here : AreJudged entries
+  judged_here : AreJudged entries
   judged_here before rest p e =
       asks_are_judged z before rest _ p law cache.in_range.enough_commands (rw e at bank_true_here) (rw e at sources_here)
 
@@ -199,7 +200,7 @@ module _ {W B R D : ℕ} (cache : CacheSide W B R D) (ports : List Port) (banks 
     taken_and_left : taken_by ports p ++ known_tellings port.it ≡ told_of p entries
     taken_and_left = cc (port.has taken [], port.has told_in_all [], seen.told, cache.ports.told p ask_there)
 
-  pub prefixes_here : ArePrefixes entries ports
+  prefixes_here : ArePrefixes entries ports
   prefixes_here =
       record {
         asks = λ p l. (known_items (asks_end p l).it, asks_and_left p l);
@@ -240,7 +241,7 @@ module _ {W B R D : ℕ} (cache : CacheSide W B R D) (ports : List Port) (banks 
 
   -- ---- a clean audit
 
-  pub never_here : audit_of cache ports banks ≢ Faulted
+  never_here : audit_of cache ports banks ≢ Faulted
   never_here q = grind (arith, sound_here)
 
   module _ (clean : audit_of cache ports banks ≡ Clean) where
@@ -252,7 +253,7 @@ module _ {W B R D : ℕ} (cache : CacheSide W B R D) (ports : List Port) (banks 
         (position (λ c. holds_item (known_items c)) cache.answers.items ≡ None)
     none = grind arith
 
-    pub whole_here : AreWhole entries ports
+    whole_here : AreWhole entries ports
     whole_here =
         record {
           asks = λ p l.
@@ -260,7 +261,7 @@ module _ {W B R D : ℕ} (cache : CacheSide W B R D) (ports : List Port) (banks 
           told = λ p l. none_behind _ _ _ (none_at _ _ none.1 p l (port p l)) (taken_and_left p l);
         }
 
-    pub paid_here : PaysLoads z entries
+    paid_here : PaysLoads z entries
     paid_here flat runs =
         subst (λ f. IsPaid f entries) (some_same flat_here.flat flat (sym flat_here.runs ∙ runs)) (flat_here.ends (stand_here.0 ∙ parts.1))
 
@@ -286,12 +287,34 @@ module _ {W B R D : ℕ} (cache : CacheSide W B R D) (ports : List Port) (banks 
           le-div (at / n + 1) (z.words + n - 1 - b) n some (omega arith),
         )
 
-    pub held_here : IsTrue (is_clean cache.unit.cache) → HoldFlat z entries banks
+    held_here : IsTrue (is_clean cache.unit.cache) → HoldFlat z entries banks
     held_here settled flat runs at l =
         let mem = ap (λ f. word_at f.mem at) (some_same flat_here.flat flat (sym flat_here.runs ∙ runs)) in
         slice_get-get_or _ _ zero_word (word_there at l)
         ∙ ap (λ ws. Some (word_at ws (at / z.banks))) (bank_holds _ (mod-lt at cache.in_range.some_banks))
         ∙ ap Some (flat_here.settles (subst IsTrue (sym stand_here.1) settled) at l ∙ mem)
+
+  -- ---- in all
+
+  pub audited_here : IsAudited cache ports banks (audit_of cache ports banks)
+  audited_here = record {
+    seen = seen;
+    exact = refl;
+    never = never_here;
+    prefixes = prefixes_here;
+    bank_true = bank_true_here;
+    flat = run_here;
+    sources = sources_here;
+    judged = judged_here;
+  }
+
+  pub clean_here : audit_of cache ports banks ≡ Clean → IsFoundClean cache ports banks
+  clean_here clean = record {
+    audited = subst (IsAudited cache ports banks) clean audited_here;
+    whole = whole_here clean;
+    paid = paid_here clean;
+    settled = held_here clean;
+  }
 
 -- ---- what was offered and taken before an audit's looks
 

@@ -10,6 +10,7 @@ pub mod Seeing
 pub mod WordFaults
 pub mod AskSteps
 pub mod ReplySteps
+pub mod SameParts
 pub mod Auditing
 pub mod FreeSlots
 pub mod Renewing

@@ -5,9 +5,8 @@ use Rattle.std.proofs.lemmas.Iterator.Adapters.{position_from-zero}
 use Rattle.std.specs.Global.{Vec}
 use Rattle.station_journal.specs.declared.journal.Entry.{Entry}
 use Rattle.station_parts.specs.declared.port.Port.{Port}
-use Rattle.station_parts.specs.declared.parts.CacheSide.{CacheSide}
 use Rattle.station_parts.specs.Segments.{whole_of}
-use Rattle.station_parts.specs.Words.{known_tellings, earlier_of, held_of, journal_of}
+use Rattle.station_parts.specs.Words.{known_tellings}
 use Rattle.station_parts.specs.Audited.{holds_item}
 
 -- one segment more
@@ -29,9 +28,3 @@ still_told k (x ∷ xs) (y ∷ ys) e =
 pub told_alike : (old new : List Port) → map known_tellings new ≡ map known_tellings old
     → position (λ p. holds_item (known_tellings p)) new ≡ position (λ p. holds_item (known_tellings p)) old
 told_alike old new e = grind (arith, position_from-zero, still_told)
-
--- ---- the cache side
-
-pub journal_goes_on : {W B R D : ℕ} (looked new : CacheSide W B R D) → earlier_of new ≡ journal_of looked → held_of new ≡ []
-    → journal_of new ≡ journal_of looked
-journal_goes_on looked new earlier held = grind (arith, append-nil)

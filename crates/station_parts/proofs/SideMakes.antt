@@ -7,8 +7,7 @@ use Rattle.cache_law.specs.declared.Sizes.{Sizes}
 use Rattle.cache_law.specs.State.{Cache}
 use Rattle.cache_law.specs.Views.{is_empty}
 use Rattle.cache_law.specs.Steps as unit
-use Rattle.cache_law.specs.Sound.{IsSound}
-use Rattle.cache_law.proofs.Requesting.{each_step}
+use Rattle.cache_law.specs.UnitForms.{StepForms}
 use Rattle.station_journal.specs.declared.asks.Ask.{Ask}
 use Rattle.station_journal.specs.declared.asks.Ask.TheVariants.{Load, Store, Prefetch, Evict, Done}
 use Rattle.station_journal.specs.declared.asks.Told.{Told}
@@ -21,7 +20,8 @@ use Rattle.station_parts.specs.Asking.{event_for, asked_step}
 use Rattle.station_parts.specs.declared.parts.CacheSide.{CacheSide}
 use Rattle.station_parts.specs.SideState.{Known, KnowsMore, SideState, OnlyLooks, state_of}
 use Rattle.station_parts.specs.SideSteps.{Effect, noted, asked, has_work, work_of}
-use Rattle.station_parts.specs.SideSteps.{answer_of, Makes, EventForms, EntriesForms, StepMakes, words_from}
+use Rattle.station_parts.specs.SideSteps.{answer_of, Makes, EventForms, EntriesForms, StepMakes, SideSteps, words_from, refusal_of}
+use Rattle.station_parts.specs.Ids.{cache_id}
 use Rattle.station_parts.proofs.Rows.{Popper, Pusher, same_length, beyond, only-here, only-none}
 
 -- there is no work
@@ -72,13 +72,13 @@ module _ {W B R D : ℕ} (s : CacheSide W B R D) (place : ℕ) where
       grind (arith, append-nil, known_more s.answers.items news place pops)
 
 -- and makes of the forms what its event does
-pub asked_forms : (z : Sizes) (c : Cache) → IsSound z c → (room : ℕ → ℕ) (port : ℕ) (ask : Ask) → ask ≢ Done
+pub asked_forms : {z : Sizes} {c : Cache} → StepForms z c → (room : ℕ → ℕ) (port : ℕ) (ask : Ask) → ask ≢ Done
     → EventForms z c (event_for port ask) [] (asked_step z room port c ask).answer (asked_step z room port c ask).cache
-asked_forms z c h room port (Load tag at) n = (each_step z c h).request room _
-asked_forms z c h room port (Store at word lanes) n = (each_step z c h).request room _
-asked_forms z c h room port (Prefetch at) n = (each_step z c h).request room _
-asked_forms z c h room port (Evict block) n = (each_step z c h).evict block
-asked_forms z c h room port Done n = absurd (n refl)
+asked_forms forms room port (Load tag at) n = forms.request room _
+asked_forms forms room port (Store at word lanes) n = forms.request room _
+asked_forms forms room port (Prefetch at) n = forms.request room _
+asked_forms forms room port (Evict block) n = forms.evict block
+asked_forms forms room port Done n = absurd (n refl)
 
 -- ---- work that is known stays
 
@@ -94,6 +94,16 @@ module _ (s : SideState) (k l : Known) (more : KnowsMore k l) where
   work_stays (sources.Reply place) e = grind arith
 
 -- a step that knew of work before it looked isn't idle
-pub not_idle_at_work : (source : Source) (s t : SideState) (result : Stepped) → StepMakes source s t result
+not_idle_at_work : (source : Source) (s t : SideState) (result : Stepped) → StepMakes source s t result
     → has_work source s s.known ≡ true → result ≢ Idle
 not_idle_at_work source s t result m work e = grind (arith, work_stays, s.known, m.looks)
+
+-- the step of a side that isn't refused
+pub side_steps : {W B R D : ℕ} (source : Source) (old new : CacheSide W B R D) (result : Stepped) → refusal_of (state_of old) ≡ None
+    → StepMakes source (state_of old) (state_of new) result → cache_id new ≡ cache_id old → SideSteps source old new result
+side_steps source old new result none makes same = record {
+  refused = rw none tt;
+  makes = rw none makes;
+  busy = λ work. not_idle_at_work source (state_of old) (state_of new) result makes work;
+  same = same;
+}

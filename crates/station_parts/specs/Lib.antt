@@ -8,6 +8,7 @@ pub mod Runs
 pub mod Ids
 pub mod Station
 pub mod Words
+pub mod Offering
 pub mod Serving
 pub mod SideState
 pub mod SideSteps

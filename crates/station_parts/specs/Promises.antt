@@ -1,19 +1,25 @@
 -- What an audit promises of a journal, beside what ports offered and took and what banks hold.
-use Rattle.std.specs.Prelude.{◌≡◌, ℕ, ◌<◌, ◌/◌, ◌%◌, List, [], ◌++◌, length, map, slice_get, slice_index_or, Some}
+use Rattle.std.specs.Prelude.{◌≡◌, ◌≢◌, ℕ, ◌<◌, ◌/◌, ◌%◌, IsTrue, List, [], ◌++◌, length, map, slice_get, slice_index_or, Some}
 use mathlib.Core.List.{IsPrefix}
 use Rattle.flat_model.specs.declared.Word.{Word}
 use Rattle.flat_model.specs.Flat.{Flat, opening, word_at, flat_run}
 use Rattle.cache_law.specs.declared.Sizes.{Sizes}
+use Rattle.cache_law.specs.Views.{is_clean}
 use Rattle.station_journal.specs.declared.asks.Ask.{Ask}
 use Rattle.station_journal.specs.declared.asks.Told.{Told}
 use Rattle.station_journal.specs.declared.journal.Entry.{Entry}
-use Rattle.station_journal.specs.Journal.{zeros, events_of, answers_of}
-use Rattle.station_journal.specs.Parts.{asks_of, told_of}
+use Rattle.station_journal.specs.Journal.{zeros, events_of, answers_of, IsBankTrue}
+use Rattle.station_journal.specs.Parts.{asks_of, told_of, IsOfPorts}
 use Rattle.station_journal.specs.Conversation.{verdicts_in, requests_in}
 use Rattle.station_journal.specs.Law.{IsPaid}
 use Rattle.station_parts.specs.declared.port.Port.{Port}
 use Rattle.station_parts.specs.declared.bank.BankSide.{BankSide}
-use Rattle.station_parts.specs.Words.{offered, taken, words_of}
+use Rattle.station_parts.specs.declared.parts.Audit.{Audit}
+use Rattle.station_parts.specs.declared.parts.Audit.TheVariants.{Faulted, Clean}
+use Rattle.station_parts.specs.declared.parts.CacheSide.{CacheSide}
+use Rattle.station_parts.specs.declared.parts.Station.{Station}
+use Rattle.station_parts.specs.Audited.{IsSeen, audit_of}
+use Rattle.station_parts.specs.Words.{offered, taken, words_of, journal_of, sizes_in, cache_in}
 
 -- what port p has offered, and what it has taken
 abbrev pub offered_by : List Port → ℕ → List Ask
@@ -61,3 +67,28 @@ abbrev pub HoldFlat : Sizes → List Entry → List BankSide → Type 0
 HoldFlat z entries banks =
     (flat : Flat) → LeavesFlat z entries flat → (at : ℕ) → at < z.words
     → slice_get (words_by banks (at % z.banks)) (at / z.banks) ≡ Some (word_at flat.mem at)
+
+-- ---- behind an audit
+
+-- it has found this
+pub record IsAudited {W B R D : ℕ} (cache : CacheSide W B R D) (ports : List Port) (banks : List BankSide) (found : Audit) : Type 0 where
+  -- each popping end knows all items of its ring, and the answer is by these
+  pub seen : IsSeen cache ports banks
+  pub exact : found ≡ audit_of cache ports banks
+  pub never : found ≢ Faulted
+  -- the journal is true
+  pub prefixes : ArePrefixes (journal_of cache) ports
+  pub bank_true : IsBankTrue (sizes_in cache) (journal_of cache)
+  pub flat : IsFlatRun (sizes_in cache) (journal_of cache)
+  pub sources : IsOfPorts (length ports) (journal_of cache)
+  pub judged : AreJudged (journal_of cache)
+
+-- it has found that nothing is left and nothing owed
+pub record IsFoundClean {W B R D : ℕ} (cache : CacheSide W B R D) (ports : List Port) (banks : List BankSide) : Type 0 where
+  pub audited : IsAudited cache ports banks Clean
+  pub whole : AreWhole (journal_of cache) ports
+  pub paid : PaysLoads (sizes_in cache) (journal_of cache)
+  pub settled : IsTrue (is_clean (cache_in cache)) → HoldFlat (sizes_in cache) (journal_of cache) banks
+
+abbrev pub IsCleanStation : {W B R D : ℕ} → Station W B R D → Type 0
+IsCleanStation s = IsFoundClean s.cache s.ports.items s.banks.items

@@ -1,11 +1,14 @@
 -- What a turn of a bank does.
-use Rattle.std.specs.Prelude.{◌≡◌, ◌≤◌, ◌+◌, ℕ, zero, suc, Bool, true, false, List, [], ◌∷◌, ◌++◌, length, replicate}
+use Rattle.std.specs.Prelude.{◌≡◌, ◌⊎◌, ◌≤◌, ◌+◌, ℕ, zero, suc, Bool, true, false, List, [], ◌∷◌, ◌++◌, length, replicate}
 use mathlib.Core.List.{IsPrefix}
 use Rattle.flat_model.specs.Words.{zero_word}
 use Rattle.memory_banks.specs.declared.Command.{Command}
 use Rattle.memory_banks.specs.declared.Command.TheVariants.{Read, Write}
 use Rattle.memory_banks.specs.Banks.{after, answers_to}
 use Rattle.station_parts.specs.declared.bank.BankSide.{BankSide}
+use Rattle.station_parts.specs.declared.parts.Stepped.{Stepped}
+use Rattle.station_parts.specs.declared.parts.Stepped.TheVariants.{Did, Idle}
+use Rattle.station_parts.specs.Ids.{bank_id}
 use Rattle.station_parts.specs.Words.{received_by, sent_by, words_of, known_commands, answer_places}
 
 -- with these known commands, and so many free places for answers, the bank can serve one
@@ -40,3 +43,14 @@ pub record ServesNone (old new : BankSide) : Type 0 where
 pub record IsServedFromZeros (b : BankSide) : Type 0 where
   pub words : words_of b ≡ after (replicate (length (words_of b)) zero_word) (received_by b)
   pub answers : sent_by b ≡ answers_to (replicate (length (words_of b)) zero_word) (received_by b)
+
+-- a step of the bank serves one command, or none
+pub record BankSteps (old new : BankSide) (stepped : Stepped) : Type 0 where
+  pub same : bank_id new ≡ bank_id old
+  pub answer : (stepped ≡ Did) ⊎ (stepped ≡ Idle)
+  pub did : stepped ≡ Did → ServesOne old new
+  pub idle : stepped ≡ Idle → ServesNone old new
+  pub meaning : IsServedFromZeros new
+  -- it is idle if it can't serve what it knows of, and only then
+  pub stuck : stepped ≡ Idle → can_serve (known_commands new) (answer_places new) ≡ false
+  pub works : can_serve (known_commands old) (answer_places old) ≡ true → stepped ≡ Did

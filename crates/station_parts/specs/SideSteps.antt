@@ -1,6 +1,6 @@
 -- What a step of the cache side makes.
 use Rattle.std.specs.Prelude.{◌≡◌, ℕ, ◌+◌, ◌%◌, ◌/◌, Bool, true, false, ◌&&◌, not, if◌then◌else◌, nat_lt, nat_le, List, [], ◌∷◌, ◌++◌}
-use Rattle.std.specs.Prelude.{length, Option, Some, None, is_some, slice_get}
+use Rattle.std.specs.Prelude.{◌≢◌, length, Option, Some, None, is_some, slice_get, IfSome, IfNone, IsTrue}
 use Rattle.std.specs.List.{count_by}
 use Rattle.flat_model.specs.declared.Cause.{Cause}
 use Rattle.flat_model.specs.declared.Cause.TheVariants.{StrayWord}
@@ -30,11 +30,13 @@ use Rattle.station_journal.specs.declared.journal.SideFault.{SideFault}
 use Rattle.station_journal.specs.declared.journal.SideFault.TheVariants.{Uncalled, Stray}
 use Rattle.station_journal.specs.Parts.{asks_of, told_of}
 use Rattle.station_journal.specs.declared.asks.TheConstants.{PORT_TAGS}
+use Rattle.station_parts.specs.declared.parts.CacheSide.{CacheSide}
 use Rattle.station_parts.specs.declared.parts.Stepped.{Stepped}
 use Rattle.station_parts.specs.declared.parts.Stepped.TheVariants.{Did, Idle, JournalFull, Faulted}
+use Rattle.station_parts.specs.Ids.{cache_id}
 use Rattle.station_parts.specs.Rows.{only}
 use Rattle.station_parts.specs.Asking.{event_for, asked_step}
-use Rattle.station_parts.specs.SideState.{Known, KnowsMore, SideState}
+use Rattle.station_parts.specs.SideState.{Known, KnowsMore, SideState, state_of}
 
 -- ---- whether there is work
 
@@ -184,3 +186,11 @@ pub record StepMakes (source : Source) (old new : SideState) (result : Stepped) 
   pub answer : result ≡ answer_of (has_work source old looked) (effect_of source old looked).fault
   pub makes : Makes (effect_of source old looked) old looked new
   pub forms : EntriesForms old.sizes old.cache (effect_of source old looked).entries (effect_of source old looked)
+
+-- one step of the cache side: it is refused, and then the side stays as it is, or makes what its source's work makes. It isn't idle if
+-- there was work before it looked
+pub record SideSteps {W B R D : ℕ} (source : Source) (old new : CacheSide W B R D) (result : Stepped) : Type 0 where
+  pub refused : IfSome (refusal_of (state_of old)) (λ refusal. (result ≡ refusal) × (new ≡ old))
+  pub makes : IfNone (refusal_of (state_of old)) (StepMakes source (state_of old) (state_of new) result)
+  pub busy : IsTrue (has_work source (state_of old) (state_of old).known) → result ≢ Idle
+  pub same : cache_id new ≡ cache_id old

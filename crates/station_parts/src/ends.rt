@@ -6,12 +6,12 @@ ghost use Rattle.station_parts.specs.Rows.{known_at, room_at, list_of, PopsAt, L
 
 use rtrb::{Consumer, Producer};
 
-/// When an end looks at its far end before it is used. A look costs the more the more often the far
-/// end moves, since what it reads was written by another processor.
-#[derive(Clone, Copy, PartialEq, Eq)]
-pub(crate) enum Look {
+/// When an end of a ring looks at how far its other end has come. A look costs the more the more often
+/// that moves, since what it reads was written by another processor.
+#[derive(Clone, Copy, PartialEq, Eq, Debug)]
+pub enum Look {
     /// Before each use.
-    First,
+    All,
     /// If what is known isn't enough.
     IfNeeded,
 }
@@ -19,7 +19,7 @@ pub(crate) enum Look {
 impl Look {
     /// Whether to look if so much is known and so much is needed.
     pub(crate) fn is_due(self, known: usize, needed: usize) -> bool {
-        self == Look::First || known < needed
+        self == Look::All || known < needed
     }
 }
 

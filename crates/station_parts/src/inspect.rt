@@ -1,24 +1,21 @@
 //! The audit.
-ghost use Rattle.std.specs.Prelude.{◌≡◌, ◌≢◌, IsTrue, List, ◌++◌, ◌≤◌, ◌<◌, length, map, position, IfSome, ◌^◌};
+ghost use Rattle.std.specs.Prelude.{◌≡◌, List, ◌++◌, ◌≤◌, ◌<◌, length, map, position, IfSome, ◌^◌};
 ghost use Rattle.std.specs.Option.{ForSome};
 ghost use Rattle.std.specs.Global.{Vec};
 ghost use Rattle.station_parts.specs.declared.make.TheConstants.{MAX_PORTS};
 ghost use Rattle.flat_model.specs.declared.limits.TheConstants.{MAX_BANKS};
 ghost use Rattle.rtrb.specs.Ring.{received, sent, known_items, known_free};
-ghost use Rattle.cache_law.specs.Views.{is_clean};
-ghost use Rattle.station_journal.specs.Journal.{IsBankTrue};
-ghost use Rattle.station_journal.specs.Parts.{IsOfPorts};
 ghost use Rattle.station_journal.specs.declared.asks.Ask.{Ask};
 ghost use Rattle.station_journal.specs.declared.asks.Told.{Told};
-ghost use Rattle.station_parts.specs.declared.parts.Audit.TheVariants.{Faulted, Clean};
-ghost use Rattle.station_parts.specs.Promises.{ArePrefixes, AreJudged, IsFlatRun, AreWhole, PaysLoads, HoldFlat};
+ghost use Rattle.station_parts.specs.declared.parts.Audit.TheVariants.{Clean};
+ghost use Rattle.station_parts.specs.Promises.{IsAudited, IsFoundClean};
 ghost use Rattle.station_parts.specs.Runs.{HaveConversed, AreAnswered};
 ghost use Rattle.station_parts.specs.Rings.{pushes_to, pops_from};
-ghost use Rattle.station_parts.specs.Ids.{PortId, BankId, port_id, bank_id, cache_id, line_ring};
-ghost use Rattle.station_parts.specs.Station.{AreOneStation};
+ghost use Rattle.station_parts.specs.Ids.{PortId, BankId, port_id, bank_id, line_ring};
+ghost use Rattle.station_parts.specs.Station.{AreOneStation, AreSameParts};
 ghost use Rattle.station_parts.specs.Rows.{come_to, sent_over, brought_by};
-ghost use Rattle.station_parts.specs.Words.{journal_of, sizes_in, cache_in, told_in_all, commanded, offered, offered_before, taken};
-ghost use Rattle.station_parts.specs.Words.{known_tellings, known_places, answer_places, received_by, sent_by, words_of, known_commands};
+ghost use Rattle.station_parts.specs.Words.{journal_of, told_in_all, commanded, offered, offered_before, taken, known_tellings};
+ghost use Rattle.station_parts.specs.Words.{known_places, answer_places, received_by, sent_by, words_of, known_commands};
 ghost use Rattle.station_parts.specs.Audited.{IsSeen, AreAtMost, line_places, LeavesCache, LeavesPorts, LeavesBanks, holds_item};
 ghost use Rattle.station_parts.specs.Audited.{first_ring, first_left, audit_of};
 
@@ -46,36 +43,20 @@ pub fn audit<const WAYS: usize, const WORDS: usize, const REGS: usize, const DEP
     requires { AreOneStation cache.old ports.old banks.old }
 
     // The parts are as they were, but for what their ends know, and no end knows less.
-    ensures same_cache { cache_id cache.new ≡ cache_id cache.old }
-    ensures same_ports { map port_id ports.new ≡ map port_id ports.old }
-    ensures same_banks { map bank_id banks.new ≡ map bank_id banks.old }
+    ensures same { AreSameParts cache.old cache.new ports.old ports.new banks.old banks.new }
     ensures cache { LeavesCache cache.old cache.new }
     ensures ports { LeavesPorts ports.old ports.new }
     ensures banks { LeavesBanks banks.old banks.new }
 
-    // Each popping end knows all items of its ring, and the answer is by these.
-    ensures seen { IsSeen cache.new ports.new banks.new }
-    ensures exact { result ≡ audit_of cache.new ports.new banks.new }
-    ensures never { result ≢ Faulted }
-
-    // The journal is true.
-    ensures prefixes { ArePrefixes (journal_of cache.new) ports.new }
-    ensures bank_true { IsBankTrue (sizes_in cache.new) (journal_of cache.new) }
-    ensures flat { IsFlatRun (sizes_in cache.new) (journal_of cache.new) }
-    ensures sources { IsOfPorts (length ports.new) (journal_of cache.new) }
-    ensures judged { AreJudged (journal_of cache.new) }
+    // The journal is true; and if nothing is left and nothing is owed, it has all that was offered and told.
+    ensures audited { IsAudited cache.new ports.new banks.new result }
+    ensures clean { result ≡ Clean → IsFoundClean cache.new ports.new banks.new }
 
     // Ports that have had their whole conversations, as after a run of the threads, have taken all
     // that they were told, and nothing is owed.
     ensures answered { (scripts : List (Vec Ask)) (lists : List (Vec Told))
         → HaveConversed scripts ports.old lists
         → AreAnswered result (journal_of cache.new) lists }
-
-    // Nothing is left and nothing is owed.
-    ensures whole { result ≡ Clean → AreWhole (journal_of cache.new) ports.new }
-    ensures paid { result ≡ Clean → PaysLoads (sizes_in cache.new) (journal_of cache.new) }
-    ensures settled { result ≡ Clean → IsTrue (is_clean (cache_in cache.new))
-        → HoldFlat (sizes_in cache.new) (journal_of cache.new) banks.new }
 {
     look_everywhere(cache, ports, banks);
     found(cache, ports, banks)
@@ -88,9 +69,7 @@ fn look_everywhere<const WAYS: usize, const WORDS: usize, const REGS: usize, con
     banks: &mut [BankSide],
 )
     requires { AreOneStation cache.old ports.old banks.old }
-    ensures same_cache { cache_id cache.new ≡ cache_id cache.old }
-    ensures same_ports { map port_id ports.new ≡ map port_id ports.old }
-    ensures same_banks { map bank_id banks.new ≡ map bank_id banks.old }
+    ensures same { AreSameParts cache.old cache.new ports.old ports.new banks.old banks.new }
     ensures cache { LeavesCache cache.old cache.new }
     ensures ports { LeavesPorts ports.old ports.new }
     ensures banks { LeavesBanks banks.old banks.new }

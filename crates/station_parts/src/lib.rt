@@ -8,6 +8,7 @@ mod asking;
 mod bank;
 mod ends;
 mod inspect;
+pub mod laws;
 mod lines;
 mod looks;
 mod make;
@@ -23,6 +24,7 @@ mod texts;
 mod views;
 
 pub use bank::BankSide;
+pub use ends::Look;
 pub use inspect::audit;
 pub use make::{MAX_ENTRIES, MAX_NOTED, MAX_PORTS, station};
 pub use parts::{Audit, CacheSide, Ring, Station, Stepped};

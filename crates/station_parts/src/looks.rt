@@ -44,7 +44,7 @@ impl<const WAYS: usize, const WORDS: usize, const REGS: usize, const DEPTH: usiz
         ensures same { cache_id self.new ≡ cache_id self.old }
         ensures places { result ≡ telling_places self.new port }
     {
-        look_at(&mut self.tellings, port, Look::First)
+        look_at(&mut self.tellings, port, Look::All)
     }
 
     /// How many words of a bank are known, after a look, and not taken.
@@ -72,7 +72,7 @@ impl<const WAYS: usize, const WORDS: usize, const REGS: usize, const DEPTH: usiz
         ensures same { cache_id self.new ≡ cache_id self.old }
         ensures places { result ≡ command_places self.new bank }
     {
-        self.row.look(bank, Look::First, 1)
+        self.row.look(bank, Look::All, 1)
     }
 
     /// The cache unit, to be seen: its registers, its stack, its write queue and its ready values.

@@ -28,74 +28,26 @@ pub struct Port {
 }
 
 impl Port {
-    ghost use Rattle.std.specs.Prelude.{◌≡◌, ◌<◌, ◌≤◌, ◌+◌, ◌++◌, ◌∷◌, [], true, false, length, OnOk, OnErr, IfErr, IsOk, IsErr, IfSome};
-    ghost use Rattle.std.specs.Prelude.{IfNone, IsSome, slice_get};
+    ghost use Rattle.std.specs.Prelude.{◌≡◌, ◌<◌, ◌≤◌, ◌++◌, ◌∷◌, [], false, length, IfSome, IfNone, IsSome, slice_get};
     ghost use mathlib.Core.List.{IsPrefix};
     ghost use Rattle.station_parts.specs.Ids.{port_id};
+    ghost use Rattle.station_parts.specs.Offering.{Offers};
     ghost use Rattle.station_parts.specs.Words.{offered, offered_before, taken, has_ended, known_places, known_tellings};
 
-    /// Offers an ask to the cache side, after a look at how many free places the ring has.
+    /// Offers an ask to the cache side, after a look at how many free places the ring has: the offer of
+    /// [`Port::offer_with`] with [`Look::All`].
+    pub fn offer(&mut self, ask: Ask) -> Result<(), Ask>
+        ensures { Offers ask self.old self.new result }
+    {
+        self.offer_with(ask, Look::All)
+    }
+
+    /// Offers an ask to the cache side, by an end that looks so at how many free places the ring has.
     ///
     /// The ask comes back, and nothing was offered, if no free place is known, or if the port has
     /// offered `Done` before. Behind a renewal of its station it may offer again.
-    pub fn offer(&mut self, ask: Ask) -> Result<(), Ask>
-        ensures same { port_id self.new ≡ port_id self.old }
-        ensures before { offered_before self.new ≡ offered_before self.old }
-        ensures offered { OnOk result (offered self.new ≡ offered self.old ++ ask ∷ []) }
-        ensures back { IfErr result (λ given. given ≡ ask) }
-        ensures kept { OnErr result (offered self.new ≡ offered self.old) }
-
-        // The ask comes back for these two reasons, and for no other.
-        ensures full { OnErr result (has_ended self.old ≡ false → known_places self.new ≡ 0) }
-        ensures ended { has_ended self.old ≡ true → IsErr result }
-        ensures goes { has_ended self.old ≡ false → 0 < known_places self.old → IsOk result }
-
-        ensures places { OnOk result (known_places self.old ≤ known_places self.new + 1) }
-        ensures kept_places { OnErr result (known_places self.old ≤ known_places self.new) }
-        ensures taken { taken self.new ≡ taken self.old }
-        ensures tellings { known_tellings self.new ≡ known_tellings self.old }
-    {
-        self.offer_with(ask, Look::First)
-    }
-
-    /// The offer of [`Port::offer`], which looks at the far end only if no free place is known.
-    pub fn quick_offer(&mut self, ask: Ask) -> Result<(), Ask>
-        ensures same { port_id self.new ≡ port_id self.old }
-        ensures before { offered_before self.new ≡ offered_before self.old }
-        ensures offered { OnOk result (offered self.new ≡ offered self.old ++ ask ∷ []) }
-        ensures back { IfErr result (λ given. given ≡ ask) }
-        ensures kept { OnErr result (offered self.new ≡ offered self.old) }
-
-        // The ask comes back for these two reasons, and for no other.
-        ensures full { OnErr result (has_ended self.old ≡ false → known_places self.new ≡ 0) }
-        ensures ended { has_ended self.old ≡ true → IsErr result }
-        ensures goes { has_ended self.old ≡ false → 0 < known_places self.old → IsOk result }
-
-        ensures places { OnOk result (known_places self.old ≤ known_places self.new + 1) }
-        ensures kept_places { OnErr result (known_places self.old ≤ known_places self.new) }
-        ensures taken { taken self.new ≡ taken self.old }
-        ensures tellings { known_tellings self.new ≡ known_tellings self.old }
-    {
-        self.offer_with(ask, Look::IfNeeded)
-    }
-
-    // The offer, by an end that looks so.
-    fn offer_with(&mut self, ask: Ask, look: Look) -> Result<(), Ask>
-        ensures same { port_id self.new ≡ port_id self.old }
-        ensures before { offered_before self.new ≡ offered_before self.old }
-        ensures offered { OnOk result (offered self.new ≡ offered self.old ++ ask ∷ []) }
-        ensures back { IfErr result (λ given. given ≡ ask) }
-        ensures kept { OnErr result (offered self.new ≡ offered self.old) }
-
-        // The ask comes back for these two reasons, and for no other.
-        ensures full { OnErr result (has_ended self.old ≡ false → known_places self.new ≡ 0) }
-        ensures ended { has_ended self.old ≡ true → IsErr result }
-        ensures goes { has_ended self.old ≡ false → 0 < known_places self.old → IsOk result }
-
-        ensures places { OnOk result (known_places self.old ≤ known_places self.new + 1) }
-        ensures kept_places { OnErr result (known_places self.old ≤ known_places self.new) }
-        ensures taken { taken self.new ≡ taken self.old }
-        ensures tellings { known_tellings self.new ≡ known_tellings self.old }
+    pub fn offer_with(&mut self, ask: Ask, look: Look) -> Result<(), Ask>
+        ensures { Offers ask self.old self.new result }
     {
         if self.ended || count_places(&mut self.asks, look) == 0 {
             return Err(ask);

@@ -1,17 +1,14 @@
 //! How a station goes on with a new journal.
-ghost use Rattle.std.specs.Prelude.{◌≡◌, ◌≤◌, ◌<◌, ◌+◌, [], nat_lt, false, map, vec_capacity, IsTrue, IfOk, IfErr, OnOk};
+ghost use Rattle.std.specs.Prelude.{◌≡◌, ◌≤◌, ◌<◌, ◌+◌, [], nat_lt, false, map, vec_capacity, IfOk, IfErr, OnOk};
 ghost use Rattle.std.specs.List.{All};
-ghost use Rattle.cache_law.specs.Views.{is_clean};
-ghost use Rattle.station_journal.specs.Journal.{IsBankTrue};
 ghost use Rattle.station_parts.specs.declared.make.TheConstants.{MAX_NOTED};
-ghost use Rattle.station_parts.specs.declared.parts.Audit.TheVariants.{Clean};
-ghost use Rattle.station_parts.specs.Audited.{IsSeen, LeavesBanks, audit_of};
-ghost use Rattle.station_parts.specs.Ids.{port_id, bank_id, cache_id};
-ghost use Rattle.station_parts.specs.Promises.{IsFlatRun, AreWhole, PaysLoads, HoldFlat};
+ghost use Rattle.station_parts.specs.Audited.{LeavesBanks};
+ghost use Rattle.station_parts.specs.Ids.{port_id};
+ghost use Rattle.station_parts.specs.Promises.{IsFoundClean};
 ghost use Rattle.station_parts.specs.Renewed.{noted_after, GoesOn, RenewsCache, ResumesPorts, IsRefused};
-ghost use Rattle.station_parts.specs.Station.{AreOneStation};
+ghost use Rattle.station_parts.specs.Station.{AreOneStation, AreSameParts};
 ghost use Rattle.station_parts.specs.Words.{offered, offered_before, taken, has_ended, known_places, known_tellings, told_in_all};
-ghost use Rattle.station_parts.specs.Words.{journal_of, earlier_of, held_of, cache_in, sizes_in};
+ghost use Rattle.station_parts.specs.Words.{journal_of, earlier_of, held_of};
 
 use crate::bank::BankSide;
 use crate::inspect::audit;
@@ -68,10 +65,7 @@ pub fn renew<const WAYS: usize, const WORDS: usize, const REGS: usize, const DEP
 ) -> Result<Vec<Entry>, RenewFault>
     requires { AreOneStation cache.old ports.old banks.old }
 
-    // They are the same parts.
-    ensures same_cache { cache_id cache.new ≡ cache_id cache.old }
-    ensures same_ports { map port_id ports.new ≡ map port_id ports.old }
-    ensures same_banks { map bank_id banks.new ≡ map bank_id banks.old }
+    ensures same { AreSameParts cache.old cache.new ports.old ports.new banks.old banks.new }
 
     // The journal at hand is handed out, and nothing else has changed.
     ensures cache { IfOk result (λ segment. RenewsCache cache.old cache.new segment.items) }
@@ -82,14 +76,7 @@ pub fn renew<const WAYS: usize, const WORDS: usize, const REGS: usize, const DEP
         (λ fault. IsRefused fault cache.old cache.new ports.old ports.new banks.old banks.new) }
 
     // It comes only behind an audit that found nothing left and nothing owed.
-    ensures seen { OnOk result (IsSeen cache.new ports.new banks.new) }
-    ensures clean { OnOk result (audit_of cache.new ports.new banks.new ≡ Clean) }
-    ensures bank_true { OnOk result (IsBankTrue (sizes_in cache.new) (journal_of cache.new)) }
-    ensures flat { OnOk result (IsFlatRun (sizes_in cache.new) (journal_of cache.new)) }
-    ensures whole { OnOk result (AreWhole (journal_of cache.new) ports.new) }
-    ensures paid { OnOk result (PaysLoads (sizes_in cache.new) (journal_of cache.new)) }
-    ensures settled { OnOk result (IsTrue (is_clean (cache_in cache.new))
-        → HoldFlat (sizes_in cache.new) (journal_of cache.new) banks.new) }
+    ensures clean { OnOk result (IsFoundClean cache.new ports.new banks.new) }
 {
     if is_worn_out(cache) {
         return Err(RenewFault::WornOut);

@@ -1,12 +1,13 @@
 //! The steps of the cache side.
-ghost use Rattle.std.specs.Prelude.{◌≡◌, ◌≢◌, ◌<◌, length, None, IfSome, IfNone, IsTrue};
+ghost use Rattle.std.specs.Prelude.{◌≡◌, ◌<◌, length, None};
 ghost use Rattle.station_parts.specs.Ids.{cache_id};
 ghost use Rattle.station_parts.specs.SideState.{state_of};
-ghost use Rattle.station_parts.specs.SideSteps.{has_work, refusal_of, StepMakes};
+ghost use Rattle.station_parts.specs.SideSteps.{SideSteps, StepMakes};
 
 use crate::asking::{answer_ask, event_for, value_told, verdict_of};
 use crate::ends::{Look, look_at, pop_at, push_at};
 use crate::parts::{CacheSide, Stepped};
+use cache_unit::laws::each_step_makes_forms;
 use flat_model::{Answer, Event};
 use station_journal::{Ask, Entry, PORT_TAGS, SideFault, Source};
 
@@ -16,8 +17,20 @@ impl<const WAYS: usize, const WORDS: usize, const REGS: usize, const DEPTH: usiz
     REGS,
     DEPTH,
 > {
-    /// Looks at the far ends of the rings that a source needs, and makes one step with the source's
-    /// first item, or the one at its place. The journal notes it, with what the unit answered.
+    /// Looks at the far ends of the rings that a source needs, and makes one step with its first item: the
+    /// step of [`CacheSide::step_with`] with [`Look::All`].
+    pub fn step(&mut self, source: Source) -> Stepped
+        ensures { SideSteps source self.old self.new result }
+    {
+        self.step_with(source, Look::All)
+    }
+
+    /// Makes one step with a source's first item, or the one at its place, by ends that look so at what is
+    /// known of the source and where there is room. The journal notes it, with what the unit answered.
+    ///
+    /// With [`Look::IfNeeded`] an end looks if no item of the source is known, no place for what it tells,
+    /// or fewer places at a bank than a block has words. So the step takes fewer cache lines from the
+    /// processors that write at the far ends.
     ///
     /// In this order:
     /// - `Faulted` if the side is faulted, and then nothing changes;
@@ -32,43 +45,8 @@ impl<const WAYS: usize, const WORDS: usize, const REGS: usize, const DEPTH: usiz
     /// - else `Did`: an ask is told its verdict, and a ready value goes to the port that its tag names.
     ///   A refusal with `BankFull` says that the room known at a bank was too small. `Done` is noted as
     ///   [`Entry::Ended`], and told nothing.
-    pub fn step(&mut self, source: Source) -> Stepped
-        ensures refused { IfSome (refusal_of (state_of self.old))
-            (λ refusal. (result ≡ refusal) × (self.new ≡ self.old)) }
-        ensures makes { IfNone (refusal_of (state_of self.old))
-            (StepMakes source (state_of self.old) (state_of self.new) result) }
-        ensures busy { IsTrue (has_work source (state_of self.old) (state_of self.old).known)
-            → result ≢ Stepped.Idle }
-        ensures same { cache_id self.new ≡ cache_id self.old }
-    {
-        self.step_with(source, Look::First)
-    }
-
-    /// The step of [`CacheSide::step`], with a look at a far end only if what is known of it isn't
-    /// enough: if no item of the source is known, no place for what it tells, or fewer places at a bank
-    /// than a block has words. So it takes fewer cache lines from the processors that write at the far
-    /// ends. Its contract is that of `step`.
-    pub fn quick_step(&mut self, source: Source) -> Stepped
-        ensures refused { IfSome (refusal_of (state_of self.old))
-            (λ refusal. (result ≡ refusal) × (self.new ≡ self.old)) }
-        ensures makes { IfNone (refusal_of (state_of self.old))
-            (StepMakes source (state_of self.old) (state_of self.new) result) }
-        ensures busy { IsTrue (has_work source (state_of self.old) (state_of self.old).known)
-            → result ≢ Stepped.Idle }
-        ensures same { cache_id self.new ≡ cache_id self.old }
-    {
-        self.step_with(source, Look::IfNeeded)
-    }
-
-    // The step, by ends that look so.
-    fn step_with(&mut self, source: Source, look: Look) -> Stepped
-        ensures refused { IfSome (refusal_of (state_of self.old))
-            (λ refusal. (result ≡ refusal) × (self.new ≡ self.old)) }
-        ensures makes { IfNone (refusal_of (state_of self.old))
-            (StepMakes source (state_of self.old) (state_of self.new) result) }
-        ensures busy { IsTrue (has_work source (state_of self.old) (state_of self.old).known)
-            → result ≢ Stepped.Idle }
-        ensures same { cache_id self.new ≡ cache_id self.old }
+    pub fn step_with(&mut self, source: Source, look: Look) -> Stepped
+        ensures { SideSteps source self.old self.new result }
     {
         if self.fault.is_some() {
             return Stepped::Faulted;
@@ -95,6 +73,7 @@ impl<const WAYS: usize, const WORDS: usize, const REGS: usize, const DEPTH: usiz
         if place >= self.unit.stack_len() {
             return Stepped::Idle;
         }
+        each_step_makes_forms();
         let answer = self.unit.process(place);
         self.journal.push_reserved(Entry::Step {
             source: Source::Stack(place),
@@ -117,6 +96,7 @@ impl<const WAYS: usize, const WORDS: usize, const REGS: usize, const DEPTH: usiz
         if self.row.look(front.at % self.shape.banks, look, 1) == 0 {
             return Stepped::Idle;
         }
+        each_step_makes_forms();
         let answer = self.unit.drain(&mut self.row);
         self.journal.push_reserved(Entry::Step {
             source: Source::Drain,
@@ -144,6 +124,7 @@ impl<const WAYS: usize, const WORDS: usize, const REGS: usize, const DEPTH: usiz
             return Stepped::Did;
         }
         self.row.look_all(self.shape.banks, look, WORDS);
+        each_step_makes_forms();
         let answer = answer_ask(&mut self.unit, &mut self.row, port, ask);
         push_at(&mut self.tellings, port, verdict_of(answer));
         self.journal.push_reserved(Entry::Step {
@@ -168,6 +149,7 @@ impl<const WAYS: usize, const WORDS: usize, const REGS: usize, const DEPTH: usiz
         if look_at(&mut self.tellings, port, look) == 0 {
             return Stepped::Idle;
         }
+        each_step_makes_forms();
         let answer = self.unit.take(place);
         push_at(&mut self.tellings, port, value_told(tag, word));
         self.journal.push_reserved(Entry::Step {
@@ -195,6 +177,7 @@ impl<const WAYS: usize, const WORDS: usize, const REGS: usize, const DEPTH: usiz
             self.fault = Some(SideFault::Uncalled { bank });
             return Stepped::Faulted;
         }
+        each_step_makes_forms();
         let Answer::Moved = self.unit.arrive(word.slot, word.i, word.word) else {
             self.fault = Some(SideFault::Stray {
                 bank,

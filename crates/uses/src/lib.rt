@@ -1,12 +1,15 @@
 //! How the libraries are used: small callers, each proved from contracts alone. [`first_load`]
 //! drives a machine until a load has its word; [`count_lookups`] chooses its own order of memory;
-//! [`judge_line`] judges a recorded run as it comes.
+//! [`judge_line`] judges a recorded run as it comes; [`load_form`] and [`take_form`] tell what a
+//! unit owes for a load before its word has come.
 #![tactic(auto)]
 
+mod forms;
 mod judge;
 mod load;
 mod own_order;
 
+pub use forms::{load_form, take_form};
 pub use judge::{Verdict, judge_line};
 pub use load::first_load;
 pub use own_order::{Lookups, count_lookups};

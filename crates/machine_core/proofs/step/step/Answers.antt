@@ -1,4 +1,5 @@
-use Rattle.machine_core.proofs.Whole.{evict_silent, process_silent, take_silent, joins_silent}
+use Rattle.cache_law.proofs.Silent.{evict_silent, process_silent, take_silent}
+use Rattle.machine_core.proofs.Whole.{joins_silent}
 use Rattle.machine_core.proofs.step.step.Goals as goal
 
 pub returns-in-Evict : goal.returns-in-Evict

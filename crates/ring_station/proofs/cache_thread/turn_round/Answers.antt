@@ -1,5 +1,6 @@
 use Rattle.std.proofs.Common.{subst}
-use Rattle.ring_station.specs.Turns.{IsTurn, SideSteps}
+use Rattle.station_parts.specs.SideSteps.{SideSteps}
+use Rattle.ring_station.specs.Turns.{IsTurn}
 use Rattle.ring_station.proofs.cache_thread.turn_round.Goals as goal
 
 pub returns-clause-turn : goal.returns-clause-turn

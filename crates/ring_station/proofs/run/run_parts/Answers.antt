@@ -1,8 +1,11 @@
-use Rattle.std.proofs.Common.{arith, rules, ◌≡◌, map, length, ap, ◌∙◌, lit<}
+use Rattle.std.proofs.Common.{arith, rules, ◌≡◌, ℕ, List, map, length, refl, ap, ◌∙◌, lit<}
 use Rattle.std.specs.Global.{Vec}
 use Rattle.std.proofs.lemmas.List.{length-map}
 use Rattle.station_parts.specs.declared.port.Port.{Port}
 use Rattle.station_parts.specs.declared.bank.BankSide.{BankSide}
+use Rattle.station_parts.specs.declared.parts.CacheSide.{CacheSide}
+use Rattle.station_parts.specs.Station.{AreUnmoved}
+use Rattle.station_parts.proofs.SameParts.{same_parts, still_same}
 use Rattle.ring_station.specs.declared.crew.PortRun.{PortRun}
 use Rattle.ring_station.specs.declared.crew.BankRun.{BankRun}
 use Rattle.ring_station.proofs.CrewRunning.{map_same, ports_back, banks_back, port_ids, bank_ids, enlisted_count, lists_heard}
@@ -46,21 +49,17 @@ returns g c =
     let banks = banks_back _ _ c.run_crew-end.new.banks.items _ _ _
     (c.enlist_banks.ensures.banks ∙ ap (λ (v : Vec BankSide). v.items) c.replace-2.ensures.value)
     ran.banks c.dismiss_banks.ensures.banks c.dismiss_banks.ensures.ends in
-    let same_ports = port_ids (c.requires.scripts ∙ all_ports.ok.0) ports in
-    let same_banks = bank_ids banks in
     record {
-      same_cache = ran.cache.same;
-      same_ports = same_ports;
-      same_banks = same_banks;
-      kept = rw (ran.cache.same, same_ports, same_banks) c.requires.one;
-      unmoved_cache = tt;
-      unmoved_ports = tt;
-      unmoved_banks = tt;
+      same = same_parts ran.cache.same (port_ids (c.requires.scripts ∙ all_ports.ok.0) ports) (bank_ids banks) c.requires.one;
+      unmoved = tt;
       ports = ports;
       heard = lists_heard (g.G.Gate.has_heard _) c.run_crew-end.new.ports.items _ back.lists ran.heard;
       cache = rw (← all_ports.ok.0, ← enlisted_count (λ (r : PortRun). r.port) c.enlist_ports.new.runs all_ports went) ran.cache;
       banks = banks;
     }
+
+unmoved : {W B R D : ℕ} (c : CacheSide W B R D) (ps : List Port) (bs : List BankSide) → AreUnmoved c c ps ps bs bs
+unmoved c ps bs = record { cache = refl; ports = refl; banks = refl }
 
 -- want of memory leaves all as it was
 pub returns-in_err-cache : goal.returns-in_err-cache
@@ -73,4 +72,6 @@ returns-in_err-cache g c =
     let banks =
     c.dismiss_banks.ensures.banks ∙ ap (λ (v : Vec BankRun). map (λ r. r.bank) v.items) err.unmoved_banks
     ∙ c.enlist_banks.ensures.banks ∙ ap (λ (v : Vec BankSide). v.items) c.replace-2.ensures.value in
-    rw (ports, banks, err.unmoved_cache) (search (rules, c.requires.one))
+    let old = c.args in
+    let same = still_same {cache = old.cache.now} {ports = old.ports.now.items} {banks = old.banks.now.items} c.requires.one in
+    rw (ports, banks, err.unmoved_cache) (search (rules, same, unmoved old.cache.now old.ports.now.items old.banks.now.items))

@@ -9,7 +9,7 @@ returns-clause-lists g c = have_run c.in_ok-run.ensures.ports (is_good c.in_ok-r
 
 pub returns-clause-conversed : goal.returns-clause-conversed
 returns-clause-conversed g c =
-    have_conversed _ _ _ _ (c.requires.scripts ∙ c.args.station.now.ports.ok.0) c.run_and_audit.ensures.same_ports
+    have_conversed _ _ _ _ (c.requires.scripts ∙ c.args.station.now.ports.ok.0) c.run_and_audit.ensures.same.ports
     (returns-clause-lists g c)
 
 pub returns-clause-rests : goal.returns-clause-rests
@@ -25,16 +25,7 @@ returns-clause-no_turn g c none =
     absurd (omega (arith, cache.0, none))
 
 pub returns-clause-clean : goal.returns-clause-clean
-returns-clause-clean g c = sym c.in_ok-run.ensures.exact ∙ (is_good c.in_ok-run.run' (sym c.fault.ensures ∙ c.in_default.is)).audit
-
-pub returns-clause-whole : goal.returns-clause-whole
-returns-clause-whole g c = c.in_ok-run.ensures.whole (is_good c.in_ok-run.run' (sym c.fault.ensures ∙ c.in_default.is)).audit
-
-pub returns-clause-paid : goal.returns-clause-paid
-returns-clause-paid g c = c.in_ok-run.ensures.paid (is_good c.in_ok-run.run' (sym c.fault.ensures ∙ c.in_default.is)).audit
-
-pub returns-clause-settled : goal.returns-clause-settled
-returns-clause-settled g c = c.in_ok-run.ensures.settled (is_good c.in_ok-run.run' (sym c.fault.ensures ∙ c.in_default.is)).audit
+returns-clause-clean g c = c.in_ok-run.ensures.clean (is_good c.in_ok-run.run' (sym c.fault.ensures ∙ c.in_default.is)).audit
 
 pub returns-clause-within : goal.returns-clause-within
 returns-clause-within g c =

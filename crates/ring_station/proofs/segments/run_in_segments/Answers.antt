@@ -2,6 +2,7 @@ use Rattle.std.proofs.Common.{refl, sym, ◌∙◌, inl, inr, [], arith}
 use Rattle.std.proofs.Math.Nat.{zero-mul}
 use Rattle.std.proofs.lemmas.Result.{err_from_is_err_and}
 use Rattle.station_parts.specs.Ids.{port_id}
+use Rattle.station_parts.proofs.SameParts.{still_same, same_still}
 use Rattle.ring_station.proofs.Ending.{long_alike}
 use Rattle.ring_station.proofs.RunningOn.{come_further, stops_there, turns_to_the_end, runs_in_segments, keeps_in_all, none_heard}
 use Rattle.ring_station.proofs.RunningOn.{both_heard}
@@ -9,10 +10,7 @@ use Rattle.ring_station.proofs.segments.run_in_segments.Goals as goal
 
 pub loop-begin-init : goal.loop-begin-init
 loop-begin-init g c = record {
-  same_cache = refl;
-  same_ports = refl;
-  same_banks = refl;
-  one = c.requires.one;
+  same = still_same c.requires.one;
   scripts = c.requires.scripts;
   more = inl refl;
   so_far = record {
@@ -30,11 +28,8 @@ loop-begin-preserved g c =
     let old = c.loop-begin.station.ports in
     let new = c.run_pieces.new.station.ports in
     record {
-      same_cache = ran.same_cache ∙ before.same_cache;
-      same_ports = ran.same_ports ∙ before.same_ports;
-      same_banks = ran.same_banks ∙ before.same_banks;
-      one = ran.kept;
-      scripts = before.scripts ∙ old.ok.0 ∙ sym (long_alike port_id new.items old.items ran.same_ports) ∙ sym new.ok.0;
+      same = same_still before.same ran.same;
+      scripts = before.scripts ∙ old.ok.0 ∙ sym (long_alike port_id new.items old.items ran.same.ports) ∙ sym new.ok.0;
       more = inr (omega (arith, c.longest_script-longest.ensures));
       so_far = come_further before.so_far ran.runs ran.within
           (both_heard (g.G.Gate.has_heard _) g.K.Keeper.kept _ _ _ (g.met.K.Keeper.kept_more _ _ _));
@@ -46,7 +41,7 @@ returns-in_err-run_pieces-clause-stops g c =
     let before = c.loop-begin.invariant in
     let stop = c.in_err-run_pieces.ensures in
     rw (told.1, ← c.max-asks.ensures, told.2)
-    (stops_there before.so_far stop.stops stop.within before.same_ports stop.same_ports
+    (stops_there before.so_far stop.stops stop.within before.same.ports stop.same.ports
     (both_heard (g.G.Gate.has_heard _) g.K.Keeper.kept _ _ _ (g.met.K.Keeper.kept_more _ _ _))).0
 
 pub returns-in_err-run_pieces-clause-stops_within : goal.returns-in_err-run_pieces-clause-stops_within
@@ -55,7 +50,7 @@ returns-in_err-run_pieces-clause-stops_within g c =
     let before = c.loop-begin.invariant in
     let stop = c.in_err-run_pieces.ensures in
     rw (told.1, ← c.max-asks.ensures, told.2)
-    (stops_there before.so_far stop.stops stop.within before.same_ports stop.same_ports
+    (stops_there before.so_far stop.stops stop.within before.same.ports stop.same.ports
     (both_heard (g.G.Gate.has_heard _) g.K.Keeper.kept _ _ _ (g.met.K.Keeper.kept_more _ _ _))).1
 
 pub returns-then-longest-begin-clause-each_within : goal.returns-then-longest-begin-clause-each_within

@@ -13,10 +13,10 @@ returns-clause-followed g c first h =
 
 pub returns-clause-exact : goal.returns-clause-exact
 returns-clause-exact g c =
-    c.audit.ensures.exact
+    c.audit.ensures.audited.exact
     ∙ ap₂ (λ ports banks. audit_of c.audit.new.cache ports banks)
-    (still_one port_id _ _ _ _ c.audit.ensures.same_ports c.from_mut.ensures.value)
-    (still_one bank_id _ _ _ _ c.audit.ensures.same_banks c.from_mut-2.ensures.value)
+    (still_one port_id _ _ _ _ c.audit.ensures.same.ports c.from_mut.ensures.value)
+    (still_one bank_id _ _ _ _ c.audit.ensures.same.banks c.from_mut-2.ensures.value)
 
 pub run_threads-requires-after_bounds : goal.run_threads-requires-after_bounds
 run_threads-requires-after_bounds g c κs within = lit< tt

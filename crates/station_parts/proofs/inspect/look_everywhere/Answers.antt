@@ -1,5 +1,6 @@
-use Rattle.std.proofs.Common.{[], slice_index_or, ap}
+use Rattle.std.proofs.Common.{[], slice_index_or, ap, arith}
 use Rattle.station_parts.proofs.Porting.{ports_looked}
+use Rattle.station_parts.proofs.SameParts.{same_parts}
 use Rattle.station_parts.proofs.inspect.look_everywhere.Goals as goal
 
 pub invariant_of-cache-clause-tells : goal.invariant_of-cache-clause-tells
@@ -12,3 +13,6 @@ pub invariant_of-cache-clause-ports : goal.invariant_of-cache-clause-ports
 invariant_of-cache-clause-ports g c =
     ports_looked _ _ _ _ _ c.look_asks.ensures.rings c.look_tellings.ensures.rings c.args.cache.now.ports
     (λ p. ap (λ l. slice_index_or l p []) c.look_asks.ensures.received) (λ p. ap (λ l. slice_index_or l p []) c.look_tellings.ensures.sent)
+
+pub returns-clause-same : goal.returns-clause-same
+returns-clause-same g c = same_parts (grind arith) (grind arith) (grind arith) c.requires

@@ -1,5 +1,5 @@
 use Rattle.std.proofs.Common.{◌∙◌, arith, append-nil, length-set}
-use Rattle.station_journal.proofs.Standing.{after-append, answers_to-append}
+use Rattle.memory_banks.proofs.Behind.{after-append, answers_to-append}
 use Rattle.station_parts.proofs.Turning.{front_is}
 use Rattle.station_parts.proofs.bank.BankSide.step_with.Goals as goal
 

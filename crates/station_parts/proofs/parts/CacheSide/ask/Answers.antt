@@ -116,4 +116,4 @@ returns-clause-makes g c =
     (grind (arith, append-nil, c.in-Some.ensures.pops.known)) event d no_words c.requires.sound
     (grind (arith, first, c.look_at.ensures.room)) (grind (arith, first))
     (grind (arith, append-nil, only_asked port ask event d.answer not_done refl, told))
-    (asked_forms s.sizes s.cache made.sound free port ask not_done)
+    (asked_forms (c.each_step_makes_forms.ensures s.sizes s.cache made.sound) free port ask not_done)

@@ -4,7 +4,6 @@ use Rattle.std.proofs.Math.Logic.{∥∥₁_map}
 use Rattle.std.proofs.lemmas.Bool.{ltb-true}
 use Rattle.flat_model.specs.declared.Answer.TheVariants.{Moved}
 use Rattle.cache_law.specs.State.{UnitState}
-use Rattle.cache_law.proofs.Requesting.{each_step}
 use Rattle.station_journal.specs.declared.journal.Source.TheVariants as sources
 use Rattle.station_journal.proofs.Bringing.{none_popped, side_stray, side_word, counts}
 use Rattle.station_journal.proofs.Sourcing.{word_is_of}
@@ -113,4 +112,4 @@ returns-clause-makes g c =
     (word.works c.args.self.now _ _ _ pops (omega (arith, c.stack_len.ensures)))
     (word.work_is c.args.self.now _ _ _ pops ∙ ap (arrives s bank a) none)
     (grind (arith, append-nil, word.arrive_silent s.sizes s.cache a.slot a.i a.word))
-    (rw (only-here bank _) ((each_step s.sizes s.cache unit.sound).arrive a.slot a.i a.word))
+    (rw (only-here bank _) ((c.each_step_makes_forms.ensures s.sizes s.cache unit.sound).arrive a.slot a.i a.word))

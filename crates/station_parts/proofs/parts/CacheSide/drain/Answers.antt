@@ -2,7 +2,6 @@ use Rattle.std.proofs.Common.{append-nil, ◌∙◌, refl, ap, arith}
 use Rattle.std.proofs.Math.Logic.{∥∥₁_map}
 use Rattle.flat_model.specs.declared.Event.TheVariants as events
 use Rattle.cache_law.specs.declared.Sizes.{Sizes}
-use Rattle.cache_law.proofs.Requesting.{each_step}
 use Rattle.station_journal.specs.declared.journal.Source.TheVariants as sources
 use Rattle.station_journal.proofs.Sides.{side_drain, side_looked}
 use Rattle.station_parts.specs.Rows.{free_at}
@@ -53,4 +52,4 @@ returns-clause-makes g c =
     let free = free_at c.look.new.self.lines.items in
     steps sources.Drain s _ (record s.known { command_places = free }) (grind (arith, append-nil)) events.Drain
     _ no_words c.requires.sound (grind (arith, c.queue_entry.ensures)) refl (grind (arith, append-nil))
-    ((each_step s.sizes s.cache c.drain-answer.ensures.made.sound).drain free)
+    ((c.each_step_makes_forms.ensures s.sizes s.cache c.drain-answer.ensures.made.sound).drain free)

@@ -1,8 +1,7 @@
 use Rattle.std.proofs.Common.{refl, arith, append-nil, eq-eqb}
 use Rattle.std.proofs.lemmas.Bool.{lt-ltb, le-ltb}
 use Rattle.std.proofs.Math.Logic.{∥∥₁_map}
-use Rattle.cache_law.proofs.Requesting.{each_step}
-use Rattle.machine_core.proofs.Whole.{process_silent}
+use Rattle.cache_law.proofs.Silent.{process_silent}
 use Rattle.station_journal.proofs.Sides.{side_process}
 use Rattle.station_parts.specs.SideState.{state_of}
 use Rattle.station_parts.specs.SideSteps.{no_words}
@@ -29,4 +28,4 @@ returns-clause-makes g c =
     let s = state_of c.args.self.now in
     steps _ s _ s.known (grind (arith, append-nil)) _ _ no_words
     c.requires.sound (lt-ltb _ _ (omega (arith, c.stack_len.ensures))) refl (grind (arith, append-nil, process_silent s.cache c.args.place))
-    ((each_step s.sizes s.cache c.process-answer.ensures.sound).process _)
+    ((c.each_step_makes_forms.ensures s.sizes s.cache c.process-answer.ensures.sound).process _)

@@ -1,8 +1,7 @@
 use Rattle.std.proofs.Common.{◌∙◌, Some, refl, sym, ap, arith, append-nil}
 use Rattle.std.proofs.Math.Logic.{∥∥₁_map}
 use Rattle.cache_law.specs.Steps.{take_step}
-use Rattle.cache_law.proofs.Requesting.{each_step}
-use Rattle.machine_core.proofs.Whole.{take_silent}
+use Rattle.cache_law.proofs.Silent.{take_silent}
 use Rattle.station_journal.specs.declared.journal.Source.TheVariants as sources
 use Rattle.station_parts.specs.Rows.{room_at}
 use Rattle.station_parts.specs.SideState.{state_of}
@@ -59,4 +58,4 @@ returns-clause-makes g c =
     (shown_taken s.cache place v.tag v.word value) c.value_told.ensures in
     steps _ s _ (record s.known { telling_places = (room_at c.look_at.new.ends.items) }) (grind (arith, append-nil)) _
     _ no_words c.requires.sound (grind (arith, value)) refl (grind (arith, append-nil, take_silent s.cache place, told))
-    ((each_step s.sizes s.cache c.take-answer.ensures.sound).take place)
+    ((c.each_step_makes_forms.ensures s.sizes s.cache c.take-answer.ensures.sound).take place)
