@@ -1,5 +1,6 @@
 -- What a machine file says: the answer for every text.
-use Rattle.std.specs.Prelude.{ℕ, ℤ, ◌≡◌, ◌⊎◌, ◌^◌, ◌-◌, Bool, true, false, not, if◌then◌else◌, List, ◌++◌, map, take, Option, Some, None, IsSome}
+use Rattle.std.specs.Prelude.{ℕ, ℤ, ◌≡◌, ◌⊎◌, ◌^◌, ◌-◌, Bool, true, false, not, if◌then◌else◌, List, ◌++◌, map, take}
+use Rattle.std.specs.Prelude.{Option, Some, None, IsSome}
 use Rattle.std.specs.Prelude.{codes, decimal}
 use Rattle.std.specs.List.{list_any, find}
 use Rattle.std.specs.Str.{bytes_eq}
