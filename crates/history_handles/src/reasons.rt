@@ -13,14 +13,14 @@ use history_reasons::{FoundReason, Reason};
 use memory_histories::{HistoryEvent, HistoryFault};
 use std::alloc::Global;
 
-/// What [`wrong_place`](crate::wrong_place) says, and why: the first byte from there on, in its
-/// unit, that the regular law explains, with its last store and the last to overwrite that before
-/// the load. Last is by the order of requests.
+/// What [`wrong_place`](crate::wrong_place) says, and why. Told is the first byte from there on, in
+/// its unit, that the regular law explains. With it come its last store and the last one to
+/// overwrite that before the load, by the order of requests.
 ///
 /// 16: `row` tells it. Others: as there, and `row` stays.
 ///
 /// The regular and the flat law have a byte as unit. Below 8,192 stored bytes no byte has a reason
-/// exactly if the regular law allows all of the unit: then `row` has the first wrong place, and 4
+/// exactly if the regular law allows all of the unit. Then `row` has the first wrong place, and 4
 /// by the atomic law, 0 by the flat. Later the last 4,096 to 8,191 are kept, and give 3 or 0.
 #[tactic(auto, using(crate::proofs::Whys::is_why))]
 pub fn why(

@@ -22,9 +22,9 @@ pub enum Form {
     /// registers and frames. The first, the last and each hundredth step have all lines. Empty
     /// places aren't shown, and of memory only changed words.
     Screens,
-    /// A value change dump (VCD), a unit of time a step: event and answer, whether another was
-    /// recorded, registers in use, obsolete ones, their blocks, and how much stands in the input
-    /// stack, the write queue, the banks and the ready replies.
+    /// A value change dump (VCD), a unit of time a step: event and answer, and whether another was
+    /// recorded. Also registers in use, obsolete ones and their blocks. And how much stands in the
+    /// input stack, the write queue, the banks and the ready replies.
     Waveform,
 }
 

@@ -227,9 +227,9 @@ fn push_memory(places: &mut Vec<Place>, sizes: &Sizes) -> Result<(), AllocError>
     Ok(())
 }
 
-/// A picture's places in the order of drawing: registers with words and waiting loads, frames with
-/// words, the input stack, the write queue, each bank's commands and answers, the ready values, and
-/// the first words of memory.
+/// A picture's places in the order of drawing. Registers come with words and waiting loads, frames
+/// with words. Then come the input stack, the write queue, each bank's commands and answers, the
+/// ready values, and the first words of memory.
 pub(crate) fn places_of(alloc: Global, sizes: &Sizes) -> Result<Vec<Place>, AllocError>
     ensures { IfOk result (λ places. places.items ≡ spots.places_in sizes.now) }
 {

@@ -8,8 +8,9 @@
 //! A byte has at most 256 values, so a run may be of any length. Words that stores left at words of
 //! open loads tell a late value from one that never stood there: [`WrongWord::stood_since`].
 //!
-//! A program writes what it gets, with a line feed, and ends with its `status()`: 0 for a flat run,
-//! 1 for a [`Mismatch`], and the fault's own for a [`TraceFault`](trace_text::TraceFault).
+//! A program writes what it gets, with a line feed, and ends with its `status()`. That is 0 for a
+//! flat run, 1 for a [`Mismatch`], and the fault's own for a
+//! [`TraceFault`](trace_text::TraceFault).
 #![tactic(auto)]
 
 mod explain;

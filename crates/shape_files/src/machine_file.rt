@@ -155,7 +155,7 @@ pub fn bad_number(sizes: &Sizes) -> Option<ShapeField>
 /// Reads a machine file: a TOML table of whole numbers. A missing key has the number of the
 /// program's machine without a file.
 ///
-/// Text that is no TOML is found first, then the unknown key whose bytes come first, then what is
+/// Text that is no TOML is found first, then the unknown key whose bytes come first. Then what is
 /// no whole number, then what is out of range, both in the order of [`MACHINE_FIELDS`]. Reading
 /// takes memory, and so does an unknown key's name.
 pub fn read_machine(alloc: Global, text: &str) -> Result<Sizes, MachineFault>
