@@ -64,7 +64,7 @@ pub(crate) fn serve_on<R: Clock, G: Gate>(
     }
 }
 
-/// Turns had, and what the last one came to.
+/// Turns had, and the last one.
 #[derive(Clone, Copy)]
 pub(crate) struct Served {
     pub(crate) turns: u64,

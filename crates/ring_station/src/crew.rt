@@ -21,7 +21,7 @@ pub struct Crew {
 }
 
 impl Crew {
-    /// A thread for each port and each bank.
+    /// One for each port and bank.
     pub fn one_each() -> Crew
         ensures ports { result.port_threads ≡ usize.MAX }
         ensures banks { result.bank_threads ≡ usize.MAX }

@@ -19,7 +19,7 @@ pub trait Gate: Sync {
     ghost use Rattle.station_journal.specs.declared.asks.Told.{Told};
     ghost use Rattle.ring_station.specs.declared.gate.Actor.{Actor};
 
-    /// By it contracts say that the gate was asked.
+    /// What the gate may answer; by it contracts say that it was asked.
     ghost can_answer: { Self → Actor → Bool → Type 0 } = { λ gate actor answer. Unit {0} };
 
     /// What holds of a telling that it heard.

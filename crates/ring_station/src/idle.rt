@@ -27,7 +27,7 @@ const HELD_TURNS_A_YIELD: u64 = 128;
 
 const HELD_TURNS_A_NAP: u64 = 1_024;
 
-// In nanoseconds. The system adds some 50,000. On a busy machine the longest sleep saves the turns.
+// In nanoseconds. The system adds some 50,000. On a busy machine the longest sleep makes the turns last.
 const FIRST_NAP: u64 = 20_000;
 
 const LONGEST_NAP: u64 = 1_000_000;

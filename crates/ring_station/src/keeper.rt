@@ -16,7 +16,7 @@ pub trait Keeper {
         ensures kept { OnOk result (kept self.old (segment ∷ []) self.new) }
         ensures refused { OnErr result (kept self.old [] self.new) };
 
-    /// Given none, it may stay.
+    /// Given none, it may stay as it is.
     ghost kept_none: { (a : Self) → kept a [] a };
 
     /// Lists one behind the other are one.

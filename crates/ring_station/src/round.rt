@@ -63,7 +63,6 @@ impl Round {
         self.is_at_banks() || stepped != Some(Stepped::Did)
     }
 
-    /// The next step's.
     pub(crate) fn source(&self) -> Source
         ensures { result ≡ source_of self.now }
     {

@@ -31,13 +31,12 @@ use std::mem::replace;
 use std::rt::Clock;
 use std::thread::Threads;
 
-/// Runs a new or renewed station to the end of its scripts, one for each port, each part on its own thread.
-/// Returns what each port took in the run, in order. The audit was `Clean`: the journal is a run of flat
-/// memory.
+/// Runs a new or renewed station to the end of its scripts, each part on its own thread. Returns what each port
+/// took in the run, in order. The audit was `Clean`: the journal is a run of flat memory.
 ///
 /// A thread has `turns` turns. In each it asks the gate, and makes at most one step. A port offers one ask at a
-/// time, again after a refusal for a cause that may pass (3 to 10), and `Done` behind its script. A script with
-/// `Done` in it comes to no end.
+/// time, again after a refusal for a cause that may pass (3 to 10), and `Done` behind its script. The cache
+/// side ends behind the ports, and the banks last. A script with `Done` in it comes to no end.
 ///
 /// `OutOfMemory`: too little memory. `TurnLimit`: a thread used up its turns, which stops no other, or the
 /// journal was full. The station then may be audited, and not run again. After `Ok` it may be renewed, and run
@@ -86,7 +85,7 @@ pub fn run_threads<
     Ok(run.lists)
 }
 
-/// The run of [`run_threads`], told whole, on the threads of a crew.
+/// The run of [`run_threads`], on the threads of a crew.
 ///
 /// Parts that share a thread take turns in rounds, each with its own count. Banks beside the cache side have a
 /// turn when its round comes to them, and when it found nothing. Fewer threads are faster on fewer processors,
@@ -182,7 +181,7 @@ fn run_parts<
     ensures banks { IfOk result
         (λ ends. BanksRan turns banks.old.items banks.new.items ends.banks.items) }
 {
-    // All memory is found before any part moves.
+    // Memory is found before any part moves.
     let mut port_runs = Vec::with_capacity(alloc, ports.len())?;
     let mut bank_runs = Vec::with_capacity(alloc, banks.len())?;
     let mut lists = Vec::with_capacity(alloc, ports.len())?;

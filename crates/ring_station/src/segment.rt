@@ -35,7 +35,7 @@ pub struct Segment {
 /// ports have ended, must be renewed before it runs again. After either it may be audited, and no journal was
 /// handed out.
 ///
-/// One script for each port. One with `Done` in it comes to no end.
+/// A script with `Done` in it comes to no end.
 pub fn run_and_renew<
     R: Clock + Threads + Sync,
     G: Gate,
@@ -84,6 +84,7 @@ pub fn run_and_renew<
     })
 }
 
+// Renews a station whose parts are in the order of their numbers.
 fn renew_station<const WAYS: usize, const WORDS: usize, const REGS: usize, const DEPTH: usize>(
     alloc: Global,
     station: &mut Station<WAYS, WORDS, REGS, DEPTH>,

@@ -18,7 +18,7 @@ use std::alloc::{AllocError, Global};
 use std::rt::Clock;
 use std::thread::Threads;
 
-/// Runs scripts, one for each port, in the memory of a piece: `asks` asks of each, 0 counting as 1. Each run is
+/// Runs scripts in the memory of a piece: `asks` asks of each, 0 counting as 1. Each run is
 /// [`run_and_renew`]'s, with `turns` turns and `Done` behind each piece, and what it gave goes to the keeper.
 /// There is one run at least; short scripts end in empty pieces.
 ///
@@ -82,6 +82,7 @@ pub fn run_in_segments<
     }
 }
 
+// How many asks the longest script has.
 fn longest_script(scripts: &[Vec<Ask>]) -> usize
     ensures { result ≡ longest_of scripts.now }
 {

@@ -2,7 +2,7 @@
 
 use thiserror::Error;
 
-/// Why a thread stopped before its part was done.
+/// Why a thread stopped early.
 #[derive(Clone, Copy, PartialEq, Eq, Debug, Error)]
 pub enum ThreadFault {
     /// It used up its turns.

@@ -21,7 +21,7 @@ use std::rt::Clock;
 use std::sync::atomic::AtomicBool;
 use std::thread::{Threads, for_each_chunk_mut, join_mut};
 
-/// Runs all parts to their ends. Without threads for the banks the cache side's serves them.
+/// Runs all parts to their ends.
 pub(crate) fn run_all<
     R: Clock + Threads + Sync,
     G: Gate,

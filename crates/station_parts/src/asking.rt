@@ -19,7 +19,7 @@ fn core_tag(port: u32, tag: u8) -> u16
     port as u16 * PORT_TAGS + u16::from(tag)
 }
 
-/// The event that an ask is; Done is none.
+/// Done is none.
 pub(crate) fn event_for(port: u32, ask: Ask) -> Event
     requires few_ports { port < MAX_PORTS }
     requires not_done { ask ≢ Ask.Done }
