@@ -23,7 +23,7 @@ pub fn loads_are_taken()
     ensures { RunIsTaken }
 {}
 
-/// Up to each entry of a true journal, a port's k-th verdict is on its k-th ask.
+/// Up to each entry of a true journal, a port's k-th verdict is on its k-th ask, Done apart.
 pub fn asks_are_judged()
     ensures { AsksAreJudged }
 {}

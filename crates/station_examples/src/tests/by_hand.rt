@@ -63,7 +63,7 @@ struct Story {
     stages: &'static [Stage],
     /// In the end.
     fault: Option<SideFault>,
-    /// If it has to be in the end.
+    /// Whether it has to be, in the end. It may be if this is `false`.
     settled: bool,
 }
 
@@ -582,7 +582,7 @@ fn make_move(
     }
 }
 
-// Up to the first that doesn't.
+// Up to the first that comes out otherwise.
 fn make_moves(
     cache: &mut SmallCache,
     port: &mut Port,

@@ -87,7 +87,7 @@ static TURNS_OF_RUNS: [Turn; 3] = [
 
 const WANT_OF_MEMORY: SegmentFault = SegmentFault::Run(RunFault::OutOfMemory);
 
-// One port loads a word three times, before and after the other stores it.
+// Both ports load the word; then one stores it, and loads it.
 const ONE_BY_ONE: [Expected; 3] = [
     Expected {
         lists: [&[Told::Accepted, VALUE], &[Told::Accepted, VALUE]],
