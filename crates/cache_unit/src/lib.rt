@@ -15,6 +15,7 @@ mod victim;
 pub use cache_law::{Lookup, Reply, Request, Sizes, laws};
 pub use fixed::CacheUnit;
 pub use limits::{bad_field, bad_size, sizes_of};
+pub use memory_banks::Lines;
 pub use unit::ShapedUnit;
 
 #[derive(Clone, Copy)]

@@ -3,9 +3,8 @@ ghost use Rattle.cache_law.specs.declared.Request.TheVariants as requests;
 ghost use Rattle.cache_law.specs.FormLaws.{RequestForms, TakenForms};
 
 use cache_unit::laws::each_step_makes_forms;
-use cache_unit::{CacheUnit, Request};
+use cache_unit::{CacheUnit, Lines, Request};
 use flat_model::Answer;
-use memory_banks::Lines;
 
 type Unit = CacheUnit<2, 4, 4, 4>;
 
