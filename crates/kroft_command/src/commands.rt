@@ -210,7 +210,7 @@ fn commands<'a>(alloc: Global, takes_file: bool) -> Result<Vec<Command<'a>>, All
 fn base<'a>(alloc: Global) -> Result<Command<'a>, AllocError> {
     Command::new(alloc, PROGRAM)
         .version("0.1.0")
-        .about("A lockup-free cache that goes on serving while blocks are missing")
+        .about("A non-blocking cache with several misses outstanding")
         .after_help(PROGRAM_NOTES)
         .no_binary_name(true)
         .subcommand_required(true)
