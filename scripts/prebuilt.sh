@@ -97,6 +97,12 @@ made_of() {
   return 1
 }
 
+# copy_for_library FOLDER: copies what ./kroft-lib and the bindings read of a checkout whose library is built.
+copy_for_library() {
+  built=$(made_of kroft_c "$(sum_of kroft_c)") && mkdir -p -- "$1" &&
+    tar -cf - kroft-lib crates.txt scripts packaging include bindings crates/*/src "$built" | tar -xf - -C "$1"
+}
+
 # write_sources FOLDER CRATE..: prints the SOURCES of a folder that holds what was just made of these crates.
 write_sources() {
   folder=$1

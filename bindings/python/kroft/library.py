@@ -145,28 +145,21 @@ class AccessRow(c.Structure):
 
 def places() -> Iterator[Path]:
     """Where the library may be, the first that counts first: the folder or file that KROFT_LIB names, and then nowhere
-    else; the lib folder of the prefix that this package is installed in, and that of Python's; dist/x86_64-linux of the
-    repository that this package lies in, or was installed from; /usr/local/lib and /usr/lib."""
+    else; this package, into which pip puts it; the lib folder of the prefix that the package is installed in, and that of
+    Python's; dist/x86_64-linux of the repository that the package lies in; /usr/local/lib and /usr/lib."""
     named = os.environ.get("KROFT_LIB")
     if named:
         yield Path(named) if Path(named).is_file() else Path(named) / NAME
         return
     folder = Path(__file__).resolve().parent
+    yield folder / NAME
     is_installed = folder.parent.name in ("site-packages", "dist-packages")  # in PREFIX/lib/pythonN
     for prefix in [*([folder.parents[3]] if is_installed else []), Path(sys.prefix), Path(sys.base_prefix)]:
         yield prefix / "lib" / NAME
-    for repository in _repositories(folder):
-        yield repository / "dist" / "x86_64-linux" / NAME
+    if folder.parent.parts[-2:] == ("bindings", "python"):
+        yield folder.parents[2] / "dist" / "x86_64-linux" / NAME
     for prefix in [Path("/usr/local"), Path("/usr")]:
         yield prefix / "lib" / NAME
-
-
-def _repositories(folder: Path) -> Iterator[Path]:
-    if folder.parent.parts[-2:] == ("bindings", "python"):
-        yield folder.parents[2]
-    installed_from = folder / "repository.txt"
-    if installed_from.is_file():
-        yield Path(installed_from.read_text("utf-8"))
 
 
 def declare(library: c.CDLL) -> c.CDLL:

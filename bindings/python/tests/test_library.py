@@ -25,24 +25,25 @@ class Places(unittest.TestCase):
         self.assertEqual(self.with_variable("/some/folder"), [Path("/some/folder") / NAME])
         self.assertEqual(self.with_variable(str(HERE)), [HERE])
 
-    def test_the_prefix_comes_before_the_repository(self) -> None:
+    def test_the_package_and_the_prefix_come_before_the_repository(self) -> None:
         found = self.with_variable("")
-        repository = HERE.parents[3] / "dist" / "x86_64-linux" / NAME
-        self.assertEqual(found[0], Path(sys.prefix) / "lib" / NAME)
-        self.assertIn(repository, found)
+        self.assertEqual(found[:2], [PACKAGE / NAME, Path(sys.prefix) / "lib" / NAME])
+        is_in_repository = PACKAGE.parent.parts[-2:] == ("bindings", "python")
+        in_repositories = [PACKAGE.parents[2] / "dist" / "x86_64-linux" / NAME] if is_in_repository else []
+        self.assertEqual([place for place in found if place.parent.name == "x86_64-linux"], in_repositories)
 
     def test_the_system_comes_last(self) -> None:
         found = self.with_variable("")
         self.assertEqual(found[-2:], [Path("/usr/local/lib") / NAME, Path("/usr/lib") / NAME])
         known = {Path(sys.prefix), Path(sys.base_prefix), Path("/usr/local"), Path("/usr")}
-        others = [place for place in found if place.parent.name == "lib" and place.parents[1] not in known]
+        others = [place for place in found[1:] if place.parent.name == "lib" and place.parents[1] not in known]
         self.assertEqual(others, [])
 
-    def test_the_prefix_of_the_package_comes_first(self) -> None:
+    def test_the_prefix_of_the_package_comes_before_others(self) -> None:
         for packages, at_first in [("site-packages", Path("/opt/some")), ("dist-packages", Path("/opt/some")), ("target", Path(sys.prefix))]:
             module = f"/opt/some/lib/python3.9/{packages}/kroft/library.py"
             with self.subTest(packages=packages), mock.patch.object(kroft.library, "__file__", module):
-                self.assertEqual(self.with_variable("")[0], at_first / "lib" / NAME)
+                self.assertEqual(self.with_variable("")[1], at_first / "lib" / NAME)
 
     @staticmethod
     def ended(script: str, folder: Path, variable: str) -> "subprocess.CompletedProcess[str]":
