@@ -120,7 +120,8 @@ function faultOf(answer) {
   const fault = /^line (\d+): (.*)/.exec(answer.told);
   if (fault) return { line: Number(fault[1]), text: fault[2] };
   const mismatch = /^mismatch at line (\d+)/.exec(answer.said);
-  return mismatch ? { line: Number(mismatch[1]), text: 'flat memory never answers so', isRead: true } : null;
+  // (beside a line that has its answer there is little room)
+  return mismatch ? { line: Number(mismatch[1]), text: 'not flat', told: 'flat memory never answers so', isRead: true } : null;
 }
 
 // ---- lines that are written by a button

@@ -130,10 +130,10 @@ function putAnswers(answers, fault) {
     const line = document.createElement('span');
     line.className = 'fault';
     line.textContent = fault.text;
-    line.title = fault.text;
+    line.title = fault.told ?? fault.text;
     box.textContent = before.map((it) => `${it}\n`).join('') + '\n'.repeat(fault.line - 1 - before.length);
     box.append(line, '\n');
-    beside = [...before, ...Array(fault.line - 1 - before.length).fill(''), fault.text];
+    beside = [...before, ...Array(fault.line - 1 - before.length).fill(''), line.title];
   }
   scrolled();
   putHere();

@@ -112,6 +112,7 @@ td.word { text-align: center; }
 }
 @media print {
   .controls > :not(h1) { display: none; }
+  #line { height: auto !important; }
   .scrolls, #machine .scrolls { max-height: none; min-height: 0; overflow: visible; }
   #machine > section, .bank, .register { break-inside: avoid; }
   .changed, .read { print-color-adjust: exact; -webkit-print-color-adjust: exact; }
