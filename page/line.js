@@ -4,21 +4,24 @@
 // Only the columns in sight are drawn.
 const LABELS = 92;
 const LEGEND = 17;
+// The widest that a column gets.
+const WIDEST = 240;
 // Behind the last column, for names.
 const MARGIN = 130;
+const FONT = '14px Arial, "Liberation Sans", sans-serif';
 
 const CAUSES = [
   ['command', 'its bank', '--bank'],
   ['answer', 'arrival', '--arrival'],
   ['stack', 'processing', '--stack'],
   ['ready', 'being taken', '--ready'],
-  ['refused 3', 'its tag', '--refused'],
-  ['refused 4', 'a place for its reply', '--refused'],
-  ['refused 5', 'a place at the word', '--refused'],
-  ['refused 7', 'a register', '--refused'],
-  ['refused 8', 'a way', '--refused'],
-  ['refused 9', 'the write queue', '--refused'],
-  ['refused 10', 'room at a bank', '--refused'],
+  ['refused 3', 'its tag', '--refused', '-'],
+  ['refused 4', 'a place for its reply', '--refused', '-|'],
+  ['refused 5', 'a place at the word', '--refused', '\\'],
+  ['refused 7', 'a register', '--refused', '/'],
+  ['refused 8', 'a way', '--refused', '/\\'],
+  ['refused 9', 'the write queue', '--refused', '|'],
+  ['refused 10', 'room at a bank', '--refused', '|/'],
 ];
 
 class Line {
@@ -46,7 +49,8 @@ class Line {
       ['queue', 14],
     ];
     this.top = {};
-    let y = LEGEND;
+    this.legend = this.layOutLegend();
+    let y = LEGEND * (1 + this.legend.at(-1).row);
     for (const [name, height] of groups) {
       this.top[name] = y;
       y += Math.max(height, name === 'loads' && height === 0 ? 0 : 14) + 2;
@@ -54,11 +58,25 @@ class Line {
     return y;
   }
 
+  // What the legend says, in as many rows as it needs: each cause that there is, and what a value looks like.
+  layOutLegend() {
+    this.pen.font = FONT;
+    const named = [...CAUSES.filter(([cause]) => this.story.loads.causes.has(cause)), ['', 'has its value', '--value']];
+    let x = LABELS;
+    let row = 0;
+    return named.map(([, name, colour, hatching]) => {
+      const width = this.pen.measureText(name).width + 34;
+      if (x > LABELS && x + width > this.width) [x, row] = [LABELS, row + 1];
+      x += width;
+      return { name, colour, hatching, row, x: x - width, end: x };
+    });
+  }
+
   resize() {
-    const height = this.layOut();
     const width = this.canvas.clientWidth;
-    const scale = window.devicePixelRatio || 1;
     this.width = width;
+    const height = this.layOut();
+    const scale = window.devicePixelRatio || 1;
     this.height = height;
     this.canvas.style.height = `${height}px`;
     document.documentElement.style.setProperty('--line-of-time', `${height}px`);
@@ -76,7 +94,7 @@ class Line {
   }
 
   zoom(by) {
-    this.column = Math.max(2, Math.min(60, this.column * by));
+    this.column = Math.max(2, Math.min(WIDEST, this.column * by));
     this.draw();
   }
 
@@ -113,7 +131,7 @@ class Line {
   paint() {
     const { pen } = this;
     pen.clearRect(0, 0, this.width, this.height);
-    pen.font = '14px Arial, "Liberation Sans", sans-serif';
+    pen.font = FONT;
     pen.textBaseline = 'middle';
     this.paintNames();
     this.chooseRows();
@@ -158,10 +176,10 @@ class Line {
     const x = this.x(this.run.now);
     if (behind) {
       pen.fillStyle = this.colour('--mark');
-      pen.fillRect(x, LEGEND - 2, this.column, this.height);
+      pen.fillRect(x, this.top.loads - 2, this.column, this.height);
     } else {
       pen.fillStyle = this.colour('--edge');
-      pen.fillRect(Math.round(x + this.column / 2) - 1, LEGEND - 2, 2, this.height);
+      pen.fillRect(Math.round(x + this.column / 2) - 1, this.top.loads - 2, 2, this.height);
     }
   }
 
@@ -182,7 +200,19 @@ class Line {
 
   paintLoads() { for (const load of this.inRows) this.paintLoad(load); }
 
-  paintLoadNames() { for (const load of this.inRows) this.paintName(load); }
+  paintLoadNames() {
+    // what stands in each row: bars, and then names
+    this.filled = new Map(this.inRows.map((load) => [load.row, []]));
+    for (const load of this.inRows) this.fill(load, this.x(load.asked), this.x(load.end + 1));
+    for (const load of this.inRows) this.paintName(load);
+  }
+
+  fill(load, from, to) { this.filled.get(load.row).push([from, to]); }
+
+  // Whether nothing stands there in the load's row.
+  isFree(load, from, to) {
+    return from >= LABELS && to <= this.width && this.filled.get(load.row).every(([a, z]) => to <= a || z <= from);
+  }
 
   rowOf(load) { return this.top.loads + this.rowNumber.get(load.row) * this.loadHeight; }
 
@@ -192,28 +222,32 @@ class Line {
     for (const { from, to, cause } of load.parts) {
       const row = CAUSES.find(([name]) => name === cause);
       this.bar(from, to, y, height, row ? row[2] : '--refused');
-      if (cause.startsWith('refused')) this.hatch(from, to, y, height);
+      if (row && row[3]) this.hatch(row[3], Math.max(this.x(from), LABELS), Math.min(this.x(to + 1), this.width), y, height);
     }
     if (load.taken) this.bar(load.end, load.end, y, height, '--value');
   }
 
-  // Slanted lines, so that a refusal is told from a wait without colours.
-  hatch(from, to, y, height) {
+  // Lines of one or two directions, so that a refusal is told from a wait, and from one of another cause, without colours.
+  hatch(directions, left, right, y, height) {
     const { pen } = this;
     pen.save();
     pen.beginPath();
-    const left = Math.max(this.x(from), LABELS);
-    const right = Math.min(this.x(to + 1), this.width);
     pen.rect(left, y, Math.max(0, right - left), height);
     pen.clip();
     pen.strokeStyle = this.colour('--back');
     pen.beginPath();
-    for (let x = left - height; x < right; x += 6) {
-      pen.moveTo(x, y + height);
-      pen.lineTo(x + height, y);
+    for (const direction of directions) {
+      const lean = { '/': height, '\\': -height }[direction] ?? 0;
+      if (direction === '-') pen.rect(left - 1, y + height / 3, right - left + 2, height / 3);
+      else for (let x = left - height; x < right + height; x += 6) this.stroke(x, y + height, x + lean, y);
     }
     pen.stroke();
     pen.restore();
+  }
+
+  stroke(x0, y0, x1, y1) {
+    this.pen.moveTo(x0, y0);
+    this.pen.lineTo(x1, y1);
   }
 
   // The load's name, and whom it overtook: in its bar, or beside one that is too short.
@@ -228,19 +262,22 @@ class Line {
       this.pen.fillStyle = this.colour('--refused');
       this.pen.fillRect(from - 3, this.rowOf(load), width(name), this.loadHeight - 2);
     }
+    const put = (x, words, colour) => {
+      this.text(words, x, y, colour);
+      this.fill(load, x, x + width(words));
+    };
     if (from + width(name) + width(over) < end) {
       this.text(name, from, y, '--on-bar');
       this.text(over, end - width(over) + 3, y, '--on-bar');
     } else if (from + width(name) < end) {
       this.text(name, from, y, '--on-bar');
-      if (end + width(over) < Math.min(this.width, this.x(load.until))) this.text(over, end + 4, y, '--over');
+      if (over && this.isFree(load, end + 4, end + width(over))) put(end + 4, over, '--over');
     } else {
       const needed = width(name) + (over ? width(over) : 0);
-      const isRoomBehind = end + needed < Math.min(this.width, this.x(load.until));
-      const x = isRoomBehind ? end + 4 : this.x(load.asked) - needed;
-      if (!isRoomBehind && x < Math.max(LABELS, this.x(load.since + 1))) return;
-      this.text(name, x, y);
-      this.text(over, x + width(name), y, '--over');
+      const x = [end + 4, this.x(load.asked) - needed].find((it) => this.isFree(load, it, it + needed - 4));
+      if (x === undefined) return;
+      put(x, name);
+      if (over) put(x + width(name), over, '--over');
     }
   }
 
@@ -283,19 +320,16 @@ class Line {
   }
 
   paintLegend() {
-    let x = LABELS;
     this.text('waits for', 6, 9, '--soft');
-    for (const [cause, name, colour] of CAUSES) {
-      if (!this.story.loads.causes.has(cause)) continue;
+    for (const { name, colour, hatching, row, x } of this.legend) {
       this.pen.fillStyle = this.colour(colour);
-      this.pen.fillRect(x, 4, 14, 11);
-      this.text(name, x + 18, 9, '--soft');
-      x += this.pen.measureText(name).width + 34;
+      this.pen.fillRect(x, 4 + row * LEGEND, 14, 11);
+      if (hatching) this.hatch(hatching, x, x + 14, 4 + row * LEGEND, 11);
+      this.text(name, x + 18, 9 + row * LEGEND, '--soft');
     }
-    this.pen.fillStyle = this.colour('--value');
-    this.pen.fillRect(x, 4, 14, 11);
-    this.text('has its value', x + 18, 9, '--soft');
-    if (this.folded > 0) this.text(`${this.folded} more rows of loads are folded`, x + 130, 9, '--soft');
+    const { end, row } = this.legend.at(-1);
+    const words = `${this.folded} more rows of loads are folded`;
+    if (this.folded > 0 && end + this.pen.measureText(words).width < this.width) this.text(words, end, 9 + row * LEGEND, '--soft');
   }
 
   // What the line shows at the cursor, in words.

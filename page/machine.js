@@ -17,6 +17,9 @@ class Picture {
     this.drawn = new Map();
     this.marked = [];
     this.used = new Set();
+    // whether it shows what waiting loads will get, and the registers that frames wait for
+    this.isWhole = false;
+    this.waitsFor = new Map();
     for (const [, , , , changes] of run.steps) for (const [k, text] of changes) if (text !== '') this.used.add(places[k]);
     this.makeFrames();
     this.makeRegisters();
@@ -41,8 +44,28 @@ class Picture {
       head.append(...range(sizes.blockWords).map((i) => element('th', '', `+${i}`)));
     }
     for (const cell of head.children) cell.scope = 'col';
+    this.giveWidths(head);
     const rows = range(sizes.sets).filter((set) => sizes.sets <= 4 || this.isSetUsed(set));
     find('frames-table').append(element('thead', '', head), element('tbody', '', ...rows.map((set) => this.frameRow(set))));
+  }
+
+  // A column is as wide as the longest text in it, and a table that is wider than its box is scrolled.
+  giveWidths(head) {
+    const digits = (number) => 9 * String(number).length;
+    const widths = { set: 32 + digits(sizes.sets - 1), name: 17 + digits(sizes.frames - 1), title: this.longestBlock() };
+    for (const [kind, width] of Object.entries(widths)) {
+      for (const cell of head.querySelectorAll(`.${kind}`)) cell.style.width = `${width}px`;
+    }
+    find('frames-table').style.minWidth = `${widths.set + sizes.ways * (widths.name + widths.title + 69 * sizes.blockWords)}px`;
+  }
+
+  // How wide the longest name of a block is in a frame.
+  longestBlock() {
+    const pen = document.createElement('canvas').getContext('2d');
+    pen.font = `italic ${getComputedStyle(document.body).font}`;
+    const names = this.run.steps.flatMap(([, , , , changes]) => changes.filter(([k]) => lettersOf[k] === 'f').map(([, text]) => text));
+    const longest = names.reduce((a, b) => (b.length > a.length ? b : a), '');
+    return Math.max(64, Math.ceil(pen.measureText(longest.replace(', pending', ' ..')).width) + 6);
   }
 
   isSetUsed(set) { return range(sizes.ways).some((way) => this.used.has(`f${set * sizes.ways + way}`)); }
@@ -122,11 +145,13 @@ class Picture {
     const changed = new Set(this.run.changed().map((k) => places[k]));
     for (const it of this.marked) it.classList.remove('changed', 'read');
     this.marked = [];
+    this.waitsFor = new Map(range(sizes.registers).map((slot) => [frameOf(this.run.text(`r${slot}`)), slot]));
     for (const [name, spot] of this.spots) this.drawSpot(name, spot, changed.has(name));
     for (const slot of range(sizes.registers)) this.drawRegister(slot);
     this.drawRequest();
     this.drawStored(changed);
     for (const bank of range(sizes.banks)) this.drawBank(bank);
+    this.markCame();
     this.markRead();
     this.showMarked();
   }
@@ -136,7 +161,7 @@ class Picture {
     const shown = text === '' ? (isChanged ? '-' : '') : this.nameOf(name, text);
     if (this.drawn.get(name) !== shown) {
       this.drawn.set(name, shown);
-      if (name[0] === 'c' && text !== '') this.drawWord(spot, text);
+      if (name[0] === 'c' && text !== '') this.drawWord(spot, shown);
       else spot.textContent = shown;
       spot.classList.toggle('pending', text.endsWith(', pending'));
       if (spot.parentNode.tagName === 'LI' && !'bg'.includes(name[0])) spot.parentNode.hidden = shown === '';
@@ -150,19 +175,37 @@ class Picture {
     this.marked.push(spot);
   }
 
-  // What is shown of a text at a place. A frame's word is drawn by itself.
+  // What is shown of a text at a place.
   nameOf(name, text) {
     const [first, second] = numbersOf[placeNumber.get(name)];
     switch (name[0]) {
       case 'r': return registerName(text);
       case 'w': return fieldName(text, addressIn(blockOf(this.run.text(`r${first}`)) ?? 0, second));
-      case 'l': return loadName(text);
+      case 'l': return loadName(text, this.isWhole);
+      case 'c': return this.wordName(first, second, text);
       case 'f': return text.replace(', pending', ' ..');
       case 's': case 'a': return entryName(text, this.run.addressFor(text));
       case 'q': return queuedName(text);
       case 'm': return commandName(text, first);
       case 'v': return replyName(text);
       default: return text;
+    }
+  }
+
+  // A frame's word: of one that is still to come the bytes that are there.
+  wordName(frame, i, text) {
+    const slot = this.waitsFor.get(frame);
+    const there = slot === undefined ? '1111' : bytesThere(this.run.text(`w${slot}.${i}`));
+    return masked(there, text.slice(0, 8), '..') + text.slice(8);
+  }
+
+  // A word that came is another one also if its digits are those that stood there.
+  markCame() {
+    for (const k of this.run.changed()) {
+      const [slot, i] = numbersOf[k];
+      if (lettersOf[k] !== 'w' || bytesThere(this.run.before(places[k])) === '1111' || bytesThere(this.run.texts[k]) !== '1111') continue;
+      const spot = this.spots.get(`c${frameOf(this.run.before(`r${slot}`))}.${i}`);
+      if (spot && spot.textContent !== '' && !spot.classList.contains('changed')) this.mark(spot, 'changed');
     }
   }
 

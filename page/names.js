@@ -35,8 +35,8 @@ const addressAt = (bank, place) => place * sizes.banks + bank;
 
 // ---- the program's texts, in parts
 
-// The bytes of a word that a mask names, and __ for each other one.
-const masked = (mask, word) => range(4).map((k) => (mask[k] === '1' ? word.slice(2 * k, 2 * k + 2) : '__')).join('');
+// The bytes of a word that a mask names, and for each other one __, or .. where it is still to come.
+const masked = (mask, word, other = '__') => range(4).map((k) => (mask[k] === '1' ? word.slice(2 * k, 2 * k + 2) : other)).join('');
 
 // A register's block, or null.
 function blockOf(text) {
@@ -53,12 +53,13 @@ function registerName(text) {
 function fieldName(text, at) {
   return text === '' ? '' : `${at} ${text}`;
 }
-function loadName(text) {
+// A load, with the bytes that it has; and what it will get, if that is wanted.
+function loadName(text, isWhole) {
   const found = /^tag (\d+)(?: is owed (\w{8})(?:, holds (\d{4}) (\w{8}))?)?$/.exec(text);
   if (!found) return text;
   const [, tag, owed, mask, held] = found;
   if (!owed) return `t${tag}`;
-  return mask ? `t${tag}: ${owed} has ${masked(mask, held)}` : `t${tag}: ${owed}`;
+  return `t${tag}: ${masked(mask ?? '0000', held ?? owed, '..')}${isWhole ? ` will be ${owed}` : ''}`;
 }
 function entryName(text, at) {
   const found = /^register (\d+), word \d+: (\w{8})$/.exec(text);
@@ -89,6 +90,16 @@ function requestName(event) {
     .replace(/^evict (\d+)$/, 'evict block $1').replace(/^serve (\d+)$/, 'serve bank $1')
     .replace(/^arrive (\d+) (\d+)$/, 'arrive from bank $1, answer $2').replace(/^process (\d+)$/, 'process stack $1')
     .replace(/^take (\d+)$/, 'take value $1');
+}
+// The bytes of a word in a frame that are there, by what its register says of it: all, or those of its code while it is to come.
+function bytesThere(text) {
+  const found = /^(?:missing|in stack)(?:, code (\d{4}))?$/.exec(text);
+  return found ? found[1] ?? '0000' : '1111';
+}
+// The frame that a register waits for, or null.
+function frameOf(text) {
+  const found = /^valid, block \d+, frame (\d+)/.exec(text);
+  return found ? Number(found[1]) : null;
 }
 // A word of a frame: its digits, and which of its bytes memory doesn't have yet.
 function cellParts(text) {

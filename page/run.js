@@ -210,11 +210,8 @@ class Story {
     this.loads.all.forEach((load, n) => {
       let row = n < most ? n : before.findIndex(({ end }) => end < load.asked - 1);
       if (row < 0) row = before.length;
-      load.since = before[row] ? before[row].end : -Infinity;
-      if (before[row]) before[row].until = load.asked;
       before[row] = load;
       load.row = row;
-      load.until = Infinity;
     });
     this.rows = Math.max(most, before.length);
   }

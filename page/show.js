@@ -46,6 +46,13 @@ function toggle(button, box) {
 const switches = { 'show-memory': 'memory-box', 'show-lines': 'lines-box', 'show-keys': 'keys' };
 for (const [button, box] of Object.entries(switches)) find(button).onclick = () => toggle(button, box);
 
+function showValues() {
+  picture.isWhole = !picture.isWhole;
+  find('show-values').setAttribute('aria-pressed', picture.isWhole);
+  draw();
+}
+find('show-values').onclick = showValues;
+
 find('to-first').onclick = () => move(0);
 find('back').onclick = () => move(run.now - 1);
 find('next').onclick = () => move(run.now + 1);
@@ -66,7 +73,7 @@ const keys = {
   Home: () => move(0), End: () => move(run.last), ' ': play,
   PageUp: () => move(run.now - 10), PageDown: () => move(run.now + 10),
   '+': () => line.zoom(1.25), '-': () => line.zoom(0.8),
-  m: () => toggle('show-memory', 'memory-box'), r: () => toggle('show-lines', 'lines-box'),
+  m: () => toggle('show-memory', 'memory-box'), r: () => toggle('show-lines', 'lines-box'), v: showValues,
 };
 document.addEventListener('keydown', (event) => {
   if (event.ctrlKey || event.altKey || event.metaKey || !keys[event.key]) return;
@@ -81,6 +88,13 @@ function follow() {
 window.addEventListener('hashchange', follow);
 window.addEventListener('resize', () => { line.resize(); arrows.draw(movesOf(run)); });
 matchMedia('(prefers-color-scheme: dark)').addEventListener('change', () => line.resize());
+// (on paper the line of time is dark on white too)
+for (const [kind, isPaper] of [['beforeprint', true], ['afterprint', false]]) {
+  window.addEventListener(kind, () => {
+    document.documentElement.classList.toggle('paper', isPaper);
+    line.resize();
+  });
+}
 find('slider').max = run.last;
 find('last').textContent = run.last;
 follow();

@@ -2,8 +2,10 @@
 
 import concurrent.futures
 import json
+import os
 import pathlib
 import random
+import shutil
 import signal
 import socket
 import subprocess
@@ -62,12 +64,12 @@ def no_files(served):
         same(f"the path {path}", status, 404)
         same(f"the text of {path}", b"Kroft" in body or b"secret" in body or b"root:" in body, False)
     for name in (str(secret), "../secret", "/dev/zero"):
-        for asked in ({"shape": name}, {"shape": {"words": name}}, {"shape": {name: 1}}, {"job": name},
-                      {"job": ["run", "--shape", name]}, {"latency": name}):
+        for asked in ({"machine": name}, {"machine": {"words": name}}, {"machine": {name: 1}}, {"job": name},
+                      {"job": ["run", "--machine", name]}, {"latency": name}):
             status, _, body = served.answer(**asked)
             same(f"{asked}", status in (400, 200) and b"secret" not in body, True)
-    shapes = [{"shape": {"words": words}} for words in (True, 1.5, -1, 10**30)]
-    for asked in (*shapes, {"given": 1}, {"given": None}, {"shape": []}, {"job": "help"}, {"job": "run --shape x"}, {"job": None},
+    machines = [{"machine": {"words": words}} for words in (True, 1.5, -1, 10**30)]
+    for asked in (*machines, {"given": 1}, {"given": None}, {"machine": []}, {"job": "help"}, {"job": "run --machine x"}, {"job": None},
                   {"job": {}}):
         same(f"{asked}", served.answer(**asked)[0], 400)
     same("half a character", served.answer(given="\ud800")[0], 400)
@@ -104,7 +106,7 @@ def too_large(served):
     status, _, body = served.answer(given=line * (1_000_000 // len(line)))
     same("1 MB of lines", (status, json.loads(body)["status"] if status == 200 else 0) in ((200, 0), (422, 0)), True)
     same("more than 1 MB", served.answer(given=line * (1_100_000 // len(line)))[0], 413)
-    same("a body that was cut", served.ask("POST", path, {**json_body, "Content-Length": "500"}, b"{}")[0], 400)
+    same("a body that was cut", served.ask("POST", path, {**json_body, "Content-Length": "500"}, b"{}", is_cut=True)[0], 400)
     served.is_well()
 
 
@@ -112,8 +114,8 @@ def too_long(served):
     """An answer that would take longer, or more memory, than it may."""
     begin = time.monotonic()
     given = "".join(f"load {k % 60000} {k * 37 % 1048576}\n" for k in range(50000))
-    shape = {"words": 1048576, "sets": 1024, "banks": 1, "bank_queue": 64}
-    status, _, _ = served.answer(job="drive", given=given, latency=1000, shape=shape)
+    machine = {"words": 1048576, "sets": 1024, "banks": 1, "bank_queue": 64}
+    status, _, _ = served.answer(job="drive", given=given, latency=1000, machine=machine)
     spent = time.monotonic() - begin
     same("a long answer", status in (422, 200), True)
     same("its time", spent < 15, True)
@@ -222,6 +224,74 @@ def a_thousand_at_once(served):
     same("what is left running", served.children(), [])
 
 
+LONG = "".join(f"load {k % 60000} {k % 64}\n" for k in range(60000))
+
+
+def clients_that_left(served):
+    """An answer that nobody waits for any more is ended, and one that is waited for comes at once."""
+    body = json.dumps({"job": "drive", "given": LONG, "machine": {}, "latency": 1000}).encode()
+    head = (f"POST /{served.token}/answer HTTP/1.1\r\nHost: 127.0.0.1:{served.port}\r\nContent-Type: application/json\r\n"
+            f"Content-Length: {len(body)}\r\n\r\n")
+    held = [served.connect() for _ in range(8)]
+    for it in held:
+        it.sendall(head.encode() + body)
+    until = time.monotonic() + 20
+    while len(served.children()) < 4 and time.monotonic() < until:
+        time.sleep(0.01)
+    for it in held:
+        it.close()
+    left = time.monotonic()
+    served.is_well()
+    same("its time", time.monotonic() - left < 2.5, True)
+    while served.children() and time.monotonic() < left + 2.5:
+        time.sleep(0.01)
+    same("what is left running", served.children(), [])
+
+
+def silent_connections(served):
+    """Connections that say nothing, as many as there may be, hold nobody up."""
+    held = [served.connect() for _ in range(32)]
+    time.sleep(1)
+    begun = time.monotonic()
+    for _ in range(8):
+        served.is_well()
+    same("the time of eight answers", time.monotonic() - begun < 6, True)
+    for it in held:
+        it.close()
+
+
+def without_a_program():
+    """It is said at once if the program doesn't run here."""
+    for path in ("/nonexistent", "/etc/passwd", "/bin/cat"):
+        said = subprocess.run([TOP / "kroft-page"], capture_output=True, text=True, timeout=30, env={**os.environ, "KROFT": path})
+        same(f"with {path}", (said.returncode, said.stdout, said.stderr.count("\n")), (1, "", 1))
+        same(f"with {path}", said.stderr.startswith(f"kroft-page: {path} doesn't run here: "), True)
+
+
+def as_in_a_container(folder):
+    """The files that the Dockerfile takes are all that the page needs, and listening on all addresses asks for token and host still."""
+    lines = [line.split() for line in (TOP / "Dockerfile").read_text().splitlines()]
+    for names in (words[1:] for words in lines if words[:1] == ["COPY"]):
+        for name in names[:-1]:
+            to = folder / "kroft" / names[-1]
+            to.mkdir(parents=True, exist_ok=True)
+            copied = TOP / name
+            shutil.copytree(copied, to, dirs_exist_ok=True) if copied.is_dir() else shutil.copy2(copied, to)
+    entry = next(json.loads(" ".join(words[1:])) for words in lines if words[:1] == ["ENTRYPOINT"])
+    (folder / "temporary").mkdir()
+    with socket.create_server(("127.0.0.1", 0)) as free:
+        entry[-1] = str(free.getsockname()[1])
+    program = folder / next(words[1] for words in lines if words[:1] == ["ENV"]).partition("=/")[2]
+    with Served(folder / "temporary", entry, folder / "kroft", KROFT=str(program)) as served:
+        same("the port", str(served.port), entry[-1])
+        served.is_well()
+        listening = [line.split()[1] for line in pathlib.Path("/proc/net/tcp").read_text().splitlines()[1:] if line.split()[3] == "0A"]
+        same("where it listens", f"00000000:{served.port:04X}" in listening, True)
+        other_hosts(served)
+        same("another address's host", served.ask(headers={"Host": f"{socket.gethostname()}:{served.port}"})[0], 403)
+        served.end()
+
+
 def is_running(number):
     try:
         return pathlib.Path(f"/proc/{number}/stat").read_text().rpartition(")")[2].split()[0] != "Z"
@@ -231,8 +301,7 @@ def is_running(number):
 
 def busy(served, pool):
     """The processes of an answer that takes long, once they run, and the answer."""
-    given = "".join(f"load {k % 60000} {k % 64}\n" for k in range(60000))
-    asked = pool.submit(served.answer, job="drive", given=given, latency=1000)
+    asked = pool.submit(served.answer, job="drive", given=LONG, latency=1000)
     until = time.monotonic() + 20
     while not (running := served.children()) and not asked.done() and time.monotonic() < until:
         time.sleep(0.01)

@@ -94,8 +94,14 @@ def read_screens(text):
     return steps
 
 
-def masked(mask, word):
-    return "".join(word[2 * k : 2 * k + 2] if mask[k] == "1" else "__" for k in range(4))
+def masked(mask, word, other="__"):
+    return "".join(word[2 * k : 2 * k + 2] if mask[k] == "1" else other for k in range(4))
+
+
+def bytes_there(text):
+    """Which bytes of a word stand in its frame, by what its register says of it."""
+    found = re.fullmatch(r"(?:missing|in stack)(?:, code (\d{4}))?", text)
+    return (found[1] or "0000") if found else "1111"
 
 
 class Expected:
@@ -124,10 +130,27 @@ class Expected:
         who = f"block {block} in f{frame}" if state == "valid" else f"obsolete: block {block}"
         return f"{who}, {came} of 4 came"
 
-    def load(self, text):
+    def load(self, text, is_whole):
         tag, owed, _, mask, held = re.fullmatch(
             r"tag (\d+) is owed (\w{8})(, holds (\d{4}) (\w{8}))?", text).groups()
-        return f"t{tag}: {owed}" + (f" has {masked(mask, held)}" if mask else "")
+        return f"t{tag}: {masked(mask or '0000', held or owed, '..')}" + (f" will be {owed}" if is_whole else "")
+
+    @staticmethod
+    def waited_for(step, name):
+        """The word of a register that a frame's word waits for, or None."""
+        frame, word = re.fullmatch(r"frame (\d+) word (\d+)", name).groups()
+        found = [it for it, text in step.texts.items() if re.fullmatch(rf"valid, block \d+, frame {frame}, .*", text)]
+        return f"{found[0]} word {word}" if found else None
+
+    def frame_word(self, step, name, text):
+        there = bytes_there(step.texts.get(self.waited_for(step, name), ""))
+        return masked(there, text[:8], "..") + text[8:]
+
+    def has_come(self, number, name):
+        """Whether the step brought a frame's word, or the last of its bytes."""
+        before, now = self.steps[max(0, number - 1)], self.steps[number]
+        word = self.waited_for(before, name)
+        return bytes_there(before.texts.get(word, "")) != "1111" and bytes_there(now.texts.get(word, "")) == "1111"
 
     def command(self, bank, text):
         kind, place, rest = re.fullmatch(r"(read|write) place (\d+): (.*)", text).groups()
@@ -136,19 +159,19 @@ class Expected:
             return f"read word {at}, r{re.fullmatch(r'register (.*), word .*', rest)[1]}"
         return f"write word {at}: {masked(*rest.split())}"
 
-    def shown(self, step, name, text):
+    def shown(self, step, name, text, is_whole):
         """What stands at a place, as the page has it."""
         if text == "":
             return "-"
         numbers = [int(it) for it in re.findall(r"\d+", name)]
         if name.startswith("register"):
             if "load" in name:
-                return self.load(text)
+                return self.load(text, is_whole)
             if "word" in name:
                 return f"{4 * self.block_of(step, numbers[0]) + numbers[1]} {text}"
             return self.register(text)
         if name.startswith("frame"):
-            return text if "word" in name else text.replace(", pending", " .. italic")
+            return self.frame_word(step, name, text) if "word" in name else text.replace(", pending", " .. italic")
         if name.startswith("input stack") or "answer" in name:
             return self.entry(step, text)
         if name.startswith("write queue"):
@@ -161,7 +184,7 @@ class Expected:
         return text
 
     def entries(self, number, with_memory):
-        """All entries of a step: their texts, and how they are marked."""
+        """All entries of a step: their texts, and how they are marked. With memory they have what waiting loads will get, too."""
         step = self.steps[number]
         names = {f"register {k}": "free" for k in range(self.shape["regs"])}
         if with_memory:
@@ -171,12 +194,13 @@ class Expected:
         read = self.read(step)
         found = {}
         for name, text in names.items():
-            mark = "read" if name in read else "changed" if name in step.changed else ""
+            is_changed = name in step.changed or (name.startswith("frame ") and "word" in name and self.has_come(number, name))
+            mark = "read" if name in read else "changed" if is_changed else ""
             if name.startswith("memory ") and name in step.changed:
                 at = int(name.split()[1])
                 found[f"bank {at % self.shape['banks']} stored"] = [f"memory, word {at}: {text}", "changed"]
             if with_memory or not name.startswith("memory "):
-                found[name] = [self.shown(step, name, text), mark]
+                found[name] = [self.shown(step, name, text, with_memory), mark]
         return found
 
     def read(self, step):

@@ -1,9 +1,10 @@
 """A page to work in: a trace on the left, what ./kroft says of it on the right, in a browser of this machine.
 
-    ./kroft-page [--port N]
+    ./kroft-page [--port N] [--listen 0.0.0.0]
 
 Prints the page's address, and serves it until it is interrupted. All that is answered is answered by the program ./kroft.
-It listens on 127.0.0.1 alone, the address has a token, and no request names a file."""
+It listens on 127.0.0.1 alone, the address has a token, and no request names a file. --listen 0.0.0.0 is for a container, whose
+port is published to 127.0.0.1 of its host under the same number."""
 
 import argparse
 import hmac
@@ -12,6 +13,7 @@ import json
 import os
 import pathlib
 import secrets
+import select
 import shutil
 import signal
 import socket
@@ -19,6 +21,7 @@ import subprocess
 import sys
 import tempfile
 import threading
+import time
 
 TOP = pathlib.Path(__file__).resolve().parent.parent
 
@@ -31,12 +34,17 @@ MEMORY = 512 * 1024
 # How many answers are worked at, and how many connections are open, at a time.
 AT_A_TIME = 4
 CONNECTIONS = 32
-# How long a request may take to come, and a finished answer to go.
+# How long a request may take to come, and a finished answer to go; and how long a connection may keep silent when others wait.
 PATIENCE = 10
+SILENCE = 0.5
+# How often it is looked whether a client is still there.
+LOOK = 0.1
+# The port, if none is given and this one is free: a browser keeps drafts by it.
+PORT = 19810
 # How many pictures are kept.
 PICTURES = 8
 
-SHAPE_KEYS = ("words", "sets", "ways", "regs", "banks", "bank_queue", "write_queue", "replies")
+MACHINE_KEYS = ("block_words", "ways", "registers", "stack", "words", "sets", "banks", "bank_queue", "write_queue", "replies")
 JOBS = {
     "run": ["run"],
     "check": ["check"],
@@ -45,10 +53,14 @@ JOBS = {
     "drive": ["drive", "--summary"],
     "show": ["show"],
     "grade": ["grade"],
+    "sweep csv": ["sweep", "--format", "csv"],
+    "sweep svg": ["sweep", "--svg"],
+    "drive csv": ["drive", "--summary", "--format", "csv"],
+    "drive svg": ["drive", "--summary", "--svg"],
 }
 # What an older program may lack.
 MAY_LACK = ("grade",)
-WITH_LATENCY = ("sweep", "drive")
+WITH_LATENCY = ("sweep", "drive", "sweep csv", "sweep svg", "drive csv", "drive svg")
 
 PAGE_POLICY = ("default-src 'none'; script-src 'self'; style-src 'self'; connect-src 'self'; frame-src 'self'; base-uri 'none'; "
                "form-action 'none'; frame-ancestors 'none'")
@@ -77,30 +89,30 @@ class Program:
         self.lock = threading.Lock()
         self.is_closed = False
 
-    def answer(self, words, given, shape):
-        """What the program says: its status, and its two outputs."""
-        if not self.free.acquire(timeout=2 * SECONDS):
-            raise Refusal(503, "too many answers at a time")
+    def answer(self, words, given, machine, is_gone):
+        """What the program says: its status, and its two outputs. It is ended once nobody waits for them."""
+        until = time.monotonic() + 2 * SECONDS
+        while not self.free.acquire(timeout=LOOK):
+            if time.monotonic() > until or is_gone():
+                raise Refusal(503, "too many answers at a time")
         try:
             with tempfile.TemporaryDirectory(dir=self.folder) as name:
-                return self.call(pathlib.Path(name), words, given, shape)
+                return self.call(pathlib.Path(name), words, given, machine, is_gone)
         finally:
             self.free.release()
 
-    def call(self, folder, words, given, shape):
+    def call(self, folder, words, given, machine, is_gone):
         """Both outputs go to files, whose size the system bounds."""
         (folder / "given").write_bytes(given)
-        if shape:
-            (folder / "shape.toml").write_text("".join(f"{key} = {number}\n" for key, number in shape.items()))
-            words = [*words, "--shape", "shape.toml"]
+        if machine:
+            (folder / "machine.toml").write_text("".join(f"{key} = {number}\n" for key, number in machine.items()))
+            words = [*words, "--machine", "machine.toml"]
         limits = (f'ulimit -v {MEMORY} && ulimit -t {SECONDS} && ulimit -f {MOST_SAID // 512} && ulimit -c 0 && '
                   'exec "$0" "$@"')
         with open(folder / "given", "rb") as source, open(folder / "said", "wb") as said, open(folder / "told", "wb") as told:
             process = self.start(["sh", "-c", limits, self.path, *words], cwd=folder, stdin=source, stdout=said, stderr=told)
             try:
-                status = process.wait(timeout=SECONDS)
-            except subprocess.TimeoutExpired:
-                status = None
+                status = self.wait(process, is_gone)
             finally:
                 self.end(process)
         if status is None or status < 0:
@@ -108,15 +120,32 @@ class Program:
         texts = [(folder / name).read_bytes().decode("utf-8", "replace") for name in ("said", "told")]
         return {"status": status, "said": texts[0], "told": texts[1]}
 
+    @staticmethod
+    def wait(process, is_gone):
+        """The status, or none if it takes too long or nobody waits for it."""
+        until = time.monotonic() + SECONDS
+        while time.monotonic() < until and not is_gone():
+            try:
+                return process.wait(timeout=LOOK)
+            except subprocess.TimeoutExpired:
+                pass
+        return None
+
+    def said(self, words, given=b""):
+        return self.answer(words, given, {}, lambda: False)
+
+    def check(self):
+        """Ends all with a line if the program doesn't run."""
+        try:
+            said = self.said(["run"], b"load 1 4\n")
+        except Refusal as refusal:
+            said = {"said": "", "told": str(refusal)}
+        if said["said"] != "load 1 4 -> accepted\n":
+            sys.exit(f"kroft-page: {self.path} doesn't run here: {' '.join(said['told'].split())}")
+
     def jobs(self):
         """The jobs that the program has."""
-        return [job for job, words in JOBS.items() if job not in MAY_LACK or self.has(words[0])]
-
-    def has(self, command):
-        try:
-            return self.answer([command, "--help"], b"", {})["status"] == 0
-        except Refusal:
-            return False
+        return [job for job, words in JOBS.items() if job not in MAY_LACK or self.said([words[0], "--help"])["status"] == 0]
 
     def start(self, words, **options):
         with self.lock:
@@ -146,37 +175,37 @@ class Program:
                     pass
 
 
-def whole_number(value, most):
-    if type(value) is not int or not 0 <= value <= most:
-        raise Refusal(400, "a number is no whole number, or too large")
+def whole_number(name, value):
+    if type(value) is not int or not 0 <= value < 2**32:
+        raise Refusal(400, f"{name} is no whole number, or too large")
     return value
 
 
 def read_asked(body):
-    """What a request for an answer says: the job, the input, the shape, and the numbers of memory's rounds."""
+    """What a request for an answer says: the job, the input, the machine, and the numbers of memory's rounds."""
     try:
         asked = json.loads(body)
     except (ValueError, RecursionError):
         raise Refusal(400, "the body is no JSON") from None
-    if not isinstance(asked, dict) or not isinstance(asked.get("given"), str) or not isinstance(asked.get("shape", {}), dict):
-        raise Refusal(400, "the body has no input or no shape")
+    if not isinstance(asked, dict) or not isinstance(asked.get("given"), str) or not isinstance(asked.get("machine", {}), dict):
+        raise Refusal(400, "the body has no input or no machine")
     job = asked.get("job")
     if not isinstance(job, str) or job not in JOBS:
         raise Refusal(400, "no such job")
-    shape = asked.get("shape", {})
-    if not set(shape) <= set(SHAPE_KEYS):
-        raise Refusal(400, "a shape has no such key")
-    shape = {key: whole_number(shape[key], 4_294_967_295) for key in SHAPE_KEYS if key in shape}
+    machine = asked.get("machine", {})
+    if not set(machine) <= set(MACHINE_KEYS):
+        raise Refusal(400, "a machine has no such key")
+    machine = {key: whole_number(key, machine[key]) for key in MACHINE_KEYS if key in machine}
     words = list(JOBS[job])
     if job in WITH_LATENCY:
         for key in ("latency", "busy"):
             if asked.get(key) is not None:
-                words += [f"--{key}", str(whole_number(asked[key], 4_294_967_295))]
+                words += [f"--{key}", str(whole_number(key, asked[key]))]
     try:
         given = asked["given"].encode()
     except UnicodeError:
         raise Refusal(400, "the input is no text") from None
-    return job, words, given, shape
+    return job, words, given, machine
 
 
 class Pages:
@@ -199,8 +228,8 @@ class Pages:
 
     @staticmethod
     def examples():
-        """The traces, recorded runs and shape files of examples/, and the exercises."""
-        kinds = ("*.trace", "*.recorded", "*.toml", "exercises/*.sheet")
+        """The traces, recorded runs and machines of examples/, and the exercises."""
+        kinds = ("*.trace", "*.recorded", "*.toml", "machines/*.toml", "exercises/*.sheet")
         files = [it for kind in kinds for it in sorted((TOP / "examples").glob(kind))]
         return [{"name": it.name, "text": it.read_text()} for it in files if it.stat().st_size <= MOST_GIVEN]
 
@@ -238,6 +267,7 @@ class Handler(http.server.BaseHTTPRequestHandler):
     def setup(self):
         super().setup()
         self.clock = None
+        self.server.silent[self] = time.monotonic()
         self.begin_waiting()
 
     def begin_waiting(self):
@@ -253,10 +283,19 @@ class Handler(http.server.BaseHTTPRequestHandler):
 
     def finish(self):
         self.clock.cancel()
+        self.server.silent.pop(self, None)
         super().finish()
+
+    def is_gone(self):
+        """Whether the other side has closed the connection, or broken it."""
+        try:
+            return bool(select.select([self.connection], [], [], 0)[0]) and not self.connection.recv(1, socket.MSG_PEEK)
+        except OSError:
+            return True
 
     def name_of(self):
         """What the request asks for, if it comes from this machine's own page."""
+        self.server.silent.pop(self, None)
         if self.headers.get_all("Host", []) not in self.server.hosts:
             raise Refusal(403, "the page is for this machine alone")
         origin = self.headers.get_all("Origin", [])
@@ -322,27 +361,29 @@ class Handler(http.server.BaseHTTPRequestHandler):
             raise Refusal(404, "there is no such page")
         if self.headers.get_content_type() != "application/json":
             raise Refusal(415, "the body is no JSON")
-        job, words, given, shape = read_asked(self.body())
+        job, words, given, machine = read_asked(self.body())
         if job not in self.server.jobs:
             raise Refusal(400, "no such job")
         if len(given) > MOST_GIVEN:
             raise Refusal(413, "the input has more than a megabyte")
-        said = self.server.program.answer(words, given, shape)
+        said = self.server.program.answer(words, given, machine, self.is_gone)
         if job == "show" and said["status"] == 0:
             said = {**said, "said": "", "picture": self.server.pages.keep(said["said"])}
         self.reply(200, "application/json", json.dumps(said).encode())
 
 
 class Server(http.server.ThreadingHTTPServer):
-    """The page's server, on this machine alone."""
+    """The page's server, for this machine alone."""
 
     daemon_threads = True
     block_on_close = False
     request_queue_size = 1024
 
-    def __init__(self, port, program):
-        super().__init__(("127.0.0.1", port), Handler)
+    def __init__(self, listen, port, program):
+        super().__init__((listen, port), Handler)
         self.program = program
+        # the connections whose requests haven't come yet, and since when
+        self.silent = {}
         self.jobs = program.jobs()
         self.pages = Pages(self.jobs)
         self.token = secrets.token_urlsafe(16)
@@ -363,10 +404,20 @@ class Server(http.server.ThreadingHTTPServer):
         self.server_name, self.server_port = self.server_address[:2]
 
     def process_request(self, request, client_address):
-        if not self.room.acquire(blocking=False):
+        if not self.has_room():
             self.shutdown_request(request)
             return
         super().process_request(request, client_address)
+
+    def has_room(self):
+        """Whether there is room for a connection: one that says nothing goes first."""
+        if self.room.acquire(blocking=False):
+            return True
+        for handler, since in list(self.silent.items()):
+            if since < time.monotonic() - SILENCE:
+                handler.cut()
+                return self.room.acquire(timeout=SILENCE)
+        return False
 
     def process_request_thread(self, request, client_address):
         try:
@@ -386,6 +437,16 @@ def find_program():
     if found.returncode != 0:
         sys.exit(found.returncode)
     return found.stdout.strip()
+
+
+def server_at(listen, port, program):
+    """The server at this port, or at the usual one or any other that is free."""
+    if port is None:
+        try:
+            return Server(listen, PORT, program)
+        except OSError:
+            port = 0
+    return Server(listen, port, program)
 
 
 ENDS = (signal.SIGINT, signal.SIGTERM, signal.SIGHUP)
@@ -411,7 +472,8 @@ def ignore_ends():
 
 def main():
     parser = argparse.ArgumentParser(prog="kroft-page", description=__doc__, formatter_class=argparse.RawDescriptionHelpFormatter)
-    parser.add_argument("--port", type=int, default=0, metavar="N", help="the port; any free one if none is given")
+    parser.add_argument("--port", type=int, metavar="N", help=f"the port; {PORT} or any free one if none is given")
+    parser.add_argument("--listen", default="127.0.0.1", choices=["127.0.0.1", "0.0.0.0"], help="0.0.0.0 is for a container alone")
     words = parser.parse_args()
     if sys.stdout is None:
         sys.exit("kroft-page: standard output is closed, so that the page's address can't be told")
@@ -423,7 +485,8 @@ def main():
                 signal.signal(number, interrupted)
         folder = tempfile.mkdtemp(prefix="kroft-page-")
         program = Program(find_program(), folder)
-        server = Server(words.port, program)
+        program.check()
+        server = server_at(words.listen, words.port, program)
         print(server.address, flush=True)
         server.serve_forever(poll_interval=0.2)
     except KeyboardInterrupt:

@@ -7,7 +7,6 @@ import re
 import signal
 import socket
 import subprocess
-import time
 
 import ending
 from counting import Different, same
@@ -24,21 +23,20 @@ def as_from_a_terminal():
 class Served:
     """A page that is served."""
 
-    def __init__(self, folder):
-        environment = {**os.environ, "TMPDIR": str(folder)}
+    def __init__(self, folder, command=(TOP / "kroft-page",), place=None, **environment):
         self.folder, self.process = folder, None
         try:
             with ending.beginning():
-                self.begin(environment)
+                self.begin(command, cwd=place, env={**os.environ, "TMPDIR": str(folder), **environment})
             self.find()
         except BaseException:
             self.__exit__()
             raise
 
-    def begin(self, environment):
+    def begin(self, command, **options):
         # A shell without job control starts what it runs beside it with SIGINT ignored, and that is inherited.
-        self.process = subprocess.Popen([TOP / "kroft-page"], stdout=subprocess.PIPE, stderr=subprocess.PIPE, text=True, env=environment,
-                                        preexec_fn=as_from_a_terminal)
+        self.process = subprocess.Popen(command, stdout=subprocess.PIPE, stderr=subprocess.PIPE, text=True, preexec_fn=as_from_a_terminal,
+                                        **options)
 
     def find(self):
         self.address = self.process.stdout.readline().strip()
@@ -80,17 +78,13 @@ class Served:
         made = socket.create_connection(("127.0.0.1", self.port), timeout=20)
         return made
 
-    def send(self, data, pause=0.0):
-        """Sends these bytes, a piece at a time if there is a pause, and gives all that comes back."""
+    def send(self, data, is_cut=True):
+        """Sends these bytes, and nothing more if they are cut there, and gives all that comes back."""
         with self.connect() as made:
             try:
-                if pause:
-                    for byte in data:
-                        made.send(bytes([byte]))
-                        time.sleep(pause)
-                else:
-                    made.sendall(data)
-                made.shutdown(socket.SHUT_WR)
+                made.sendall(data)
+                if is_cut:
+                    made.shutdown(socket.SHUT_WR)
             except OSError:
                 pass
             said = b""
@@ -101,20 +95,20 @@ class Served:
                 pass
             return said
 
-    def ask(self, method="GET", path=None, headers=None, body=b""):
+    def ask(self, method="GET", path=None, headers=None, body=b"", is_cut=False):
         """The status, the head and the body of a request."""
         named = {"Host": f"127.0.0.1:{self.port}", **(headers or {})}
         if body and "Content-Length" not in named:
             named["Content-Length"] = str(len(body))
         head = f"{method} {path if path is not None else f'/{self.token}/'} HTTP/1.1\r\n"
         head += "".join(f"{name}: {value}\r\n" for name, value in named.items() if value is not None)
-        said = self.send(head.encode("latin-1") + b"\r\n" + body)
+        said = self.send(head.encode("latin-1") + b"\r\n" + body, is_cut)
         found = re.match(rb"HTTP/1\.\d (\d+)", said)
         head, _, body = said.partition(b"\r\n\r\n")
         return int(found[1]) if found else None, head.decode("latin-1"), body
 
     def answer(self, headers=None, **asked):
-        body = json.dumps({"job": "run", "given": "load 1 4\n", "shape": {}, **asked}).encode()
+        body = json.dumps({"job": "run", "given": "load 1 4\n", "machine": {}, **asked}).encode()
         return self.ask("POST", f"/{self.token}/answer", {"Content-Type": "application/json", **(headers or {})}, body)
 
     def is_well(self):

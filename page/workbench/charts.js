@@ -48,8 +48,11 @@ function listOf(row) {
   return table;
 }
 
+// A table with these heads.
+const textsOf = (heads, lines) => tableOf(lines.map((line) => heads.map((head, k) => [head, line[k]])));
+
 // Bars of one count, one for each name; their lengths are in the proportion of the numbers.
-const BAR = { height: 26, names: 110, length: 260, numbers: 80 };
+const BAR = { height: 26, names: 70, length: 260, numbers: 80 };
 function chartOf(title, bars, names = BAR.names) {
   const height = (bars.length + 1) * BAR.height;
   const width = names + BAR.length + BAR.numbers;
@@ -67,21 +70,39 @@ function chartOf(title, bars, names = BAR.names) {
   return svg;
 }
 
-// The counts of a sweep that a chart is drawn of, over the registers, unless all are 0.
-const OF_SWEEPS = ['stalled', 'waited', 'pumps', 'rounds', 'mean', 'longest', 'lost 7', 'lost 8', 'lost 10'];
+// Why an event is refused: the number, the name that figures and formats have, and the cause.
+const CAUSES = [
+  [1, 'out of range', 'it is outside memory'],
+  [2, 'no lanes', 'the store names no byte'],
+  [3, 'tag in use', 'the tag is owed a value that wasn\'t taken yet'],
+  [4, 'replies full', 'the limit of outstanding loads is reached'],
+  [5, 'targets full', 'four loads wait for the word already'],
+  [6, 'block queued', 'this machine never answers it'],
+  [7, 'no register', 'all registers are in use'],
+  [8, 'set pending', 'every way of the set waits for words'],
+  [9, 'queue full', 'the write queue has too few places for the dirty words'],
+  [10, 'bank full', 'a bank has too little room for the commands'],
+  [11, 'not present', 'no frame holds the block'],
+  [12, 'stack full', 'the input stack is full'],
+  [13, 'stray word', 'no register waits for the word; a whole machine never answers it'],
+];
+// A count's name, as a chart has it.
+function titleOf(name) {
+  const cause = CAUSES.find(([number]) => name === `lost ${number}`);
+  return cause ? `${name}: ${cause[1]}` : name;
+}
+
+// The charts of a sweep, over the registers: of these counts, and of each cause of lost rounds, unless all are 0.
+const OF_SWEEPS = ['rounds', 'stalled', 'waited', 'pumps', 'mean', 'longest'];
 function sweepCharts(rows) {
   const named = rows.map((row) => new Map(row));
-  return OF_SWEEPS.filter((name) => named.some((row) => Number(row.get(name) ?? 0) > 0))
-    .map((name) => chartOf(name, named.map((row) => [`regs ${row.get('regs')}`, row.get(name)])));
+  const lost = [...named[0].keys()].filter((name) => name.startsWith('lost '));
+  return [...OF_SWEEPS, ...lost].filter((name) => named.some((row) => Number(row.get(name) ?? 0) > 0))
+    .map((name) => chartOf(titleOf(name), named.map((row) => [`regs ${row.get('regs')}`, row.get(name)])));
 }
-// Why a request is refused that is asked again, by the names that figures and formats have.
-const CAUSES = {
-  3: 'tag in use', 4: 'replies full', 5: 'targets full', 7: 'no register', 8: 'set pending', 9: 'queue full', 10: 'bank full',
-};
 function driveCharts(row) {
   const counts = new Map(row);
   const of = (names) => names.filter((name) => counts.has(name)).map((name) => [name, counts.get(name)]);
-  const lost = [...counts.keys()].filter((name) => name.startsWith('lost '));
-  const causes = of(lost).map(([name, number]) => [`${name.slice(5)}: ${CAUSES[name.slice(5)] ?? ''}`, number]);
+  const causes = of([...counts.keys()].filter((name) => name.startsWith('lost '))).map(([name, number]) => [titleOf(name).slice(5), number]);
   return [chartOf('accepted requests', of(['hits', 'joins', 'misses'])), chartOf('rounds lost, by cause', causes, 230)];
 }

@@ -18,6 +18,13 @@ function kindOf(text, canGrade) {
 // The lines without their predictions.
 const traceOfSheet = (text) => linesOf(text).map((line) => `${line.split(ARROW, 1)[0]}\n`).join('');
 
+// The lines of a sheet before the first that is open: what stands behind would tell its answer.
+function beforeOpen(text) {
+  const lines = linesOf(text);
+  const open = lines.findIndex((line) => line.endsWith(`${ARROW}?`));
+  return open < 0 ? lines : lines.slice(0, open);
+}
+
 // What the grader wrote of each line: `line N: ..`, and below it what the answer is.
 function wrongLines(said) {
   const found = new Map();

@@ -100,6 +100,39 @@
     .filter((it) => isSeen(it) && it.textContent.trim() !== '' && parseFloat(getComputedStyle(it).fontSize) < 14)
     .map((it) => it.id || it.className);
   window.pageSize = () => [document.documentElement.scrollHeight, document.documentElement.scrollWidth];
+  // What stands over another text: labels of ways, names in the line of time over names or bars; and names of blocks that are cut.
+  window.covered = () => {
+    const isOver = (a, b) => a.left < b.right - 1 && b.left < a.right - 1 && a.top < b.bottom - 3 && b.top < a.bottom - 3;
+    const labels = [...document.querySelectorAll('#arrows rect')].map((it) => it.getBoundingClientRect());
+    const texts = [];
+    const walker = document.createTreeWalker(document.getElementById('machine'), NodeFilter.SHOW_TEXT);
+    for (let it = walker.nextNode(); it; it = walker.nextNode()) {
+      const range = document.createRange();
+      range.selectNodeContents(it);
+      const boxes = [...document.querySelectorAll('.scrolls')].filter((of) => of.contains(it)).map((of) => of.getBoundingClientRect());
+      const isShown = (r) => boxes.every((box) => r.top >= box.top - 3 && r.bottom <= box.bottom + 3);
+      if (it.textContent.trim() !== '' && !it.parentNode.closest('#arrows')) texts.push(...[...range.getClientRects()].filter(isShown));
+    }
+    const names = [];
+    const text = line.text;
+    line.text = (words, x, y, colour) => {
+      const right = Math.min(line.width, x + line.pen.measureText(words).width);
+      if (words !== '' && right > x) names.push({ words, left: x, right, top: y - 7, bottom: y + 7 });
+      text.call(line, words, x, y, colour);
+    };
+    line.paint();
+    line.text = text;
+    const bars = line.inRows.map((it) => ({ tag: it.tag, left: Math.max(92, line.x(it.asked)), right: line.x(it.end + 1), top: line.rowOf(it),
+      bottom: line.rowOf(it) + line.loadHeight - 2 }));
+    const found = labels.filter((it, k) => [...labels.slice(k + 1), ...texts].some((of) => isOver(it, of))).map(() => 'a label');
+    names.forEach((it, k) => {
+      if (names.slice(k + 1).some((of) => isOver(it, of))) found.push(it.words);
+      const isOfAnother = (bar) => isOver(it, bar) && !it.words.startsWith(`t${bar.tag}:`) && !it.words.startsWith('overtakes');
+      if (bars.some(isOfAnother)) found.push(`${it.words} over a bar`);
+    });
+    const cut = [...document.querySelectorAll('td.block, td.word, #frames-table th')].filter((it) => it.scrollWidth > it.clientWidth + 1);
+    return [...found, ...cut.map((it) => it.textContent)];
+  };
   // How many marks of all steps lie outside of what their lists show.
   window.hiddenMarks = () => {
     let hidden = 0;

@@ -13,8 +13,8 @@ pub(crate) const PAGE_HEAD: &str = "<!DOCTYPE html>
   --head: #e9edf1; --mark: #fff0a8; --edge: #a86f00; --key: #0747a6; --read: #b9f0cd; --read-edge: #0a6b35;
   --bank: #8ab4e8; --arrival: #b79cf0; --stack: #f2b56b; --ready: #a9dcbd; --value: #4cb87a; --refused: #d9534f;
   --register: #6b8fc4; --obsolete: #9aa2ab; --queue: #d98fb3; --on-bar: #101418; --over: #9c2b00; --faint: #c2cad2; }
-@media (prefers-color-scheme: dark) {
-  :root { --back: #12161a; --text: #e8edf2; --soft: #a9b4bf; --line: #3a434c; --box: #191f25; --head: #232b33;
+@media screen and (prefers-color-scheme: dark) {
+  :root:not(.paper) { --back: #12161a; --text: #e8edf2; --soft: #a9b4bf; --line: #3a434c; --box: #191f25; --head: #232b33;
     --mark: #544400; --edge: #f0bd3c; --key: #8cc4ff; --read: #0f4a2a; --read-edge: #5fdc93;
     --bank: #3d6fae; --arrival: #7a5cc0; --stack: #a8691a; --ready: #2f6e4c; --value: #2fa866; --refused: #c0433f;
     --register: #4f76b0; --obsolete: #6d7680; --queue: #9c4f76; --on-bar: #ffffff; --over: #ffa46b; --faint: #4a545e; }
@@ -60,9 +60,9 @@ td.changed { padding: 0; box-shadow: inset 0 0 0 2px var(--edge); }
 .dirty { font-weight: 700; text-decoration: underline 2px; color: var(--key); }
 .at { color: var(--soft); }
 
-#request { display: flex; gap: 4px; overflow: hidden; min-height: 20px; align-items: center; }
+#request { display: flex; flex-wrap: wrap; gap: 2px 4px; overflow: hidden; min-height: 20px; align-items: center; }
 #request b { white-space: nowrap; }
-#request span { border: 1px solid var(--line); border-radius: 3px; padding: 0 5px; background: var(--back); white-space: nowrap; }
+#request span { border: 1px solid var(--line); border-radius: 3px; padding: 0 3px; background: var(--back); white-space: nowrap; }
 #ready-list { display: flex; flex-wrap: wrap; gap: 2px 8px; min-height: 20px; }
 .scrolls { overflow: auto; }
 #frames .scrolls { max-height: 106px; } #registers-list { max-height: 226px; min-height: 217px; }
@@ -72,7 +72,7 @@ li { break-inside: avoid; display: flex; gap: 4px; min-height: 18px; }
 h3 { font-size: 14px; line-height: 18px; margin: 0; color: var(--soft); white-space: nowrap; }
 table { border-collapse: collapse; width: 100%; table-layout: fixed; }
 th { text-align: left; font-weight: 400; color: var(--soft); white-space: nowrap; padding: 0 2px; overflow: hidden; }
-th.set { width: 41px; } th.name { width: 26px; padding-left: 5px; } th.title { width: 64px; }
+th.name { padding-left: 5px; }
 td { border: 1px solid var(--line); padding: 0; height: 20px; background: var(--back); }
 tbody th[scope=row] { padding-left: 4px; }
 td.block { white-space: nowrap; overflow: hidden; }
@@ -105,11 +105,17 @@ td.word { text-align: center; }
   button { min-height: 36px; min-width: 42px; }
   #banks-list { grid-template-columns: repeat(2, minmax(0, 1fr)); max-height: none; }
   #frames .scrolls, #registers-list, .bank-lists { max-height: none; }
-  #frames table { min-width: 770px; }
 }
 @media (max-width: 700px) {
   #banks-list { grid-template-columns: minmax(0, 1fr); }
   #memory-list { grid-template-columns: repeat(4, 1fr); }
+}
+@media print {
+  .controls > :not(h1) { display: none; }
+  #line { height: auto !important; }
+  .scrolls, #machine .scrolls { max-height: none; min-height: 0; overflow: visible; }
+  #machine > section, .bank, .register { break-inside: avoid; }
+  .changed, .read { print-color-adjust: exact; -webkit-print-color-adjust: exact; }
 }
 @media (prefers-reduced-motion: no-preference) { #arrows path.moved { animation: move 0.35s ease-out; } }
 @keyframes move { from { stroke-dasharray: 0 400; } to { stroke-dasharray: 400 0; } }
@@ -129,11 +135,12 @@ td.word { text-align: center; }
 <button id='narrower' aria-label='narrower columns in the line of time'>-</button>
 <button id='show-memory' aria-pressed='false' aria-controls='memory-box'>memory</button>
 <button id='show-lines' aria-pressed='false' aria-controls='lines-box'>reg lines</button>
+<button id='show-values' aria-pressed='false'>values</button>
 <button id='show-keys' aria-pressed='false' aria-controls='keys'>keys</button>
 </div>
 <p id='told' aria-live='polite'><b id='event'></b> <b id='recorded'></b> <span id='words'></span></p>
 <p id='keys' hidden>left, right: a step; Home, End: first and last; space: play; page up, page down: ten steps; + and -:
-wider and narrower columns; m: memory; r: the registers as a trace shows them. A click in the line of time goes there.</p>
+wider and narrower columns; m: memory; r: the registers as a trace shows them; v: the values that waiting loads will get. A click in the line of time goes there.</p>
 </header>
 <canvas id='line' role='img' aria-label='line of time'></canvas>
 <main id='machine'>
@@ -197,8 +204,8 @@ const addressAt = (bank, place) => place * sizes.banks + bank;
 
 // ---- the program's texts, in parts
 
-// The bytes of a word that a mask names, and __ for each other one.
-const masked = (mask, word) => range(4).map((k) => (mask[k] === '1' ? word.slice(2 * k, 2 * k + 2) : '__')).join('');
+// The bytes of a word that a mask names, and for each other one __, or .. where it is still to come.
+const masked = (mask, word, other = '__') => range(4).map((k) => (mask[k] === '1' ? word.slice(2 * k, 2 * k + 2) : other)).join('');
 
 // A register's block, or null.
 function blockOf(text) {
@@ -215,12 +222,13 @@ function registerName(text) {
 function fieldName(text, at) {
   return text === '' ? '' : `${at} ${text}`;
 }
-function loadName(text) {
+// A load, with the bytes that it has; and what it will get, if that is wanted.
+function loadName(text, isWhole) {
   const found = /^tag (\\d+)(?: is owed (\\w{8})(?:, holds (\\d{4}) (\\w{8}))?)?$/.exec(text);
   if (!found) return text;
   const [, tag, owed, mask, held] = found;
   if (!owed) return `t${tag}`;
-  return mask ? `t${tag}: ${owed} has ${masked(mask, held)}` : `t${tag}: ${owed}`;
+  return `t${tag}: ${masked(mask ?? '0000', held ?? owed, '..')}${isWhole ? ` will be ${owed}` : ''}`;
 }
 function entryName(text, at) {
   const found = /^register (\\d+), word \\d+: (\\w{8})$/.exec(text);
@@ -251,6 +259,16 @@ function requestName(event) {
     .replace(/^evict (\\d+)$/, 'evict block $1').replace(/^serve (\\d+)$/, 'serve bank $1')
     .replace(/^arrive (\\d+) (\\d+)$/, 'arrive from bank $1, answer $2').replace(/^process (\\d+)$/, 'process stack $1')
     .replace(/^take (\\d+)$/, 'take value $1');
+}
+// The bytes of a word in a frame that are there, by what its register says of it: all, or those of its code while it is to come.
+function bytesThere(text) {
+  const found = /^(?:missing|in stack)(?:, code (\\d{4}))?$/.exec(text);
+  return found ? found[1] ?? '0000' : '1111';
+}
+// The frame that a register waits for, or null.
+function frameOf(text) {
+  const found = /^valid, block \\d+, frame (\\d+)/.exec(text);
+  return found ? Number(found[1]) : null;
 }
 // A word of a frame: its digits, and which of its bytes memory doesn't have yet.
 function cellParts(text) {
@@ -476,11 +494,8 @@ class Story {
     this.loads.all.forEach((load, n) => {
       let row = n < most ? n : before.findIndex(({ end }) => end < load.asked - 1);
       if (row < 0) row = before.length;
-      load.since = before[row] ? before[row].end : -Infinity;
-      if (before[row]) before[row].until = load.asked;
       before[row] = load;
       load.row = row;
-      load.until = Infinity;
     });
     this.rows = Math.max(most, before.length);
   }
@@ -493,21 +508,24 @@ class Story {
 // Only the columns in sight are drawn.
 const LABELS = 92;
 const LEGEND = 17;
+// The widest that a column gets.
+const WIDEST = 240;
 // Behind the last column, for names.
 const MARGIN = 130;
+const FONT = '14px Arial, \"Liberation Sans\", sans-serif';
 
 const CAUSES = [
   ['command', 'its bank', '--bank'],
   ['answer', 'arrival', '--arrival'],
   ['stack', 'processing', '--stack'],
   ['ready', 'being taken', '--ready'],
-  ['refused 3', 'its tag', '--refused'],
-  ['refused 4', 'a place for its reply', '--refused'],
-  ['refused 5', 'a place at the word', '--refused'],
-  ['refused 7', 'a register', '--refused'],
-  ['refused 8', 'a way', '--refused'],
-  ['refused 9', 'the write queue', '--refused'],
-  ['refused 10', 'room at a bank', '--refused'],
+  ['refused 3', 'its tag', '--refused', '-'],
+  ['refused 4', 'a place for its reply', '--refused', '-|'],
+  ['refused 5', 'a place at the word', '--refused', '\\\\'],
+  ['refused 7', 'a register', '--refused', '/'],
+  ['refused 8', 'a way', '--refused', '/\\\\'],
+  ['refused 9', 'the write queue', '--refused', '|'],
+  ['refused 10', 'room at a bank', '--refused', '|/'],
 ];
 
 class Line {
@@ -535,7 +553,8 @@ class Line {
       ['queue', 14],
     ];
     this.top = {};
-    let y = LEGEND;
+    this.legend = this.layOutLegend();
+    let y = LEGEND * (1 + this.legend.at(-1).row);
     for (const [name, height] of groups) {
       this.top[name] = y;
       y += Math.max(height, name === 'loads' && height === 0 ? 0 : 14) + 2;
@@ -543,11 +562,25 @@ class Line {
     return y;
   }
 
+  // What the legend says, in as many rows as it needs: each cause that there is, and what a value looks like.
+  layOutLegend() {
+    this.pen.font = FONT;
+    const named = [...CAUSES.filter(([cause]) => this.story.loads.causes.has(cause)), ['', 'has its value', '--value']];
+    let x = LABELS;
+    let row = 0;
+    return named.map(([, name, colour, hatching]) => {
+      const width = this.pen.measureText(name).width + 34;
+      if (x > LABELS && x + width > this.width) [x, row] = [LABELS, row + 1];
+      x += width;
+      return { name, colour, hatching, row, x: x - width, end: x };
+    });
+  }
+
   resize() {
-    const height = this.layOut();
     const width = this.canvas.clientWidth;
-    const scale = window.devicePixelRatio || 1;
     this.width = width;
+    const height = this.layOut();
+    const scale = window.devicePixelRatio || 1;
     this.height = height;
     this.canvas.style.height = `${height}px`;
     document.documentElement.style.setProperty('--line-of-time', `${height}px`);
@@ -565,7 +598,7 @@ class Line {
   }
 
   zoom(by) {
-    this.column = Math.max(2, Math.min(60, this.column * by));
+    this.column = Math.max(2, Math.min(WIDEST, this.column * by));
     this.draw();
   }
 
@@ -602,7 +635,7 @@ class Line {
   paint() {
     const { pen } = this;
     pen.clearRect(0, 0, this.width, this.height);
-    pen.font = '14px Arial, \"Liberation Sans\", sans-serif';
+    pen.font = FONT;
     pen.textBaseline = 'middle';
     this.paintNames();
     this.chooseRows();
@@ -647,10 +680,10 @@ class Line {
     const x = this.x(this.run.now);
     if (behind) {
       pen.fillStyle = this.colour('--mark');
-      pen.fillRect(x, LEGEND - 2, this.column, this.height);
+      pen.fillRect(x, this.top.loads - 2, this.column, this.height);
     } else {
       pen.fillStyle = this.colour('--edge');
-      pen.fillRect(Math.round(x + this.column / 2) - 1, LEGEND - 2, 2, this.height);
+      pen.fillRect(Math.round(x + this.column / 2) - 1, this.top.loads - 2, 2, this.height);
     }
   }
 
@@ -671,7 +704,19 @@ class Line {
 
   paintLoads() { for (const load of this.inRows) this.paintLoad(load); }
 
-  paintLoadNames() { for (const load of this.inRows) this.paintName(load); }
+  paintLoadNames() {
+    // what stands in each row: bars, and then names
+    this.filled = new Map(this.inRows.map((load) => [load.row, []]));
+    for (const load of this.inRows) this.fill(load, this.x(load.asked), this.x(load.end + 1));
+    for (const load of this.inRows) this.paintName(load);
+  }
+
+  fill(load, from, to) { this.filled.get(load.row).push([from, to]); }
+
+  // Whether nothing stands there in the load's row.
+  isFree(load, from, to) {
+    return from >= LABELS && to <= this.width && this.filled.get(load.row).every(([a, z]) => to <= a || z <= from);
+  }
 
   rowOf(load) { return this.top.loads + this.rowNumber.get(load.row) * this.loadHeight; }
 
@@ -681,28 +726,32 @@ class Line {
     for (const { from, to, cause } of load.parts) {
       const row = CAUSES.find(([name]) => name === cause);
       this.bar(from, to, y, height, row ? row[2] : '--refused');
-      if (cause.startsWith('refused')) this.hatch(from, to, y, height);
+      if (row && row[3]) this.hatch(row[3], Math.max(this.x(from), LABELS), Math.min(this.x(to + 1), this.width), y, height);
     }
     if (load.taken) this.bar(load.end, load.end, y, height, '--value');
   }
 
-  // Slanted lines, so that a refusal is told from a wait without colours.
-  hatch(from, to, y, height) {
+  // Lines of one or two directions, so that a refusal is told from a wait, and from one of another cause, without colours.
+  hatch(directions, left, right, y, height) {
     const { pen } = this;
     pen.save();
     pen.beginPath();
-    const left = Math.max(this.x(from), LABELS);
-    const right = Math.min(this.x(to + 1), this.width);
     pen.rect(left, y, Math.max(0, right - left), height);
     pen.clip();
     pen.strokeStyle = this.colour('--back');
     pen.beginPath();
-    for (let x = left - height; x < right; x += 6) {
-      pen.moveTo(x, y + height);
-      pen.lineTo(x + height, y);
+    for (const direction of directions) {
+      const lean = { '/': height, '\\\\': -height }[direction] ?? 0;
+      if (direction === '-') pen.rect(left - 1, y + height / 3, right - left + 2, height / 3);
+      else for (let x = left - height; x < right + height; x += 6) this.stroke(x, y + height, x + lean, y);
     }
     pen.stroke();
     pen.restore();
+  }
+
+  stroke(x0, y0, x1, y1) {
+    this.pen.moveTo(x0, y0);
+    this.pen.lineTo(x1, y1);
   }
 
   // The load's name, and whom it overtook: in its bar, or beside one that is too short.
@@ -717,19 +766,22 @@ class Line {
       this.pen.fillStyle = this.colour('--refused');
       this.pen.fillRect(from - 3, this.rowOf(load), width(name), this.loadHeight - 2);
     }
+    const put = (x, words, colour) => {
+      this.text(words, x, y, colour);
+      this.fill(load, x, x + width(words));
+    };
     if (from + width(name) + width(over) < end) {
       this.text(name, from, y, '--on-bar');
       this.text(over, end - width(over) + 3, y, '--on-bar');
     } else if (from + width(name) < end) {
       this.text(name, from, y, '--on-bar');
-      if (end + width(over) < Math.min(this.width, this.x(load.until))) this.text(over, end + 4, y, '--over');
+      if (over && this.isFree(load, end + 4, end + width(over))) put(end + 4, over, '--over');
     } else {
       const needed = width(name) + (over ? width(over) : 0);
-      const isRoomBehind = end + needed < Math.min(this.width, this.x(load.until));
-      const x = isRoomBehind ? end + 4 : this.x(load.asked) - needed;
-      if (!isRoomBehind && x < Math.max(LABELS, this.x(load.since + 1))) return;
-      this.text(name, x, y);
-      this.text(over, x + width(name), y, '--over');
+      const x = [end + 4, this.x(load.asked) - needed].find((it) => this.isFree(load, it, it + needed - 4));
+      if (x === undefined) return;
+      put(x, name);
+      if (over) put(x + width(name), over, '--over');
     }
   }
 
@@ -772,19 +824,16 @@ class Line {
   }
 
   paintLegend() {
-    let x = LABELS;
     this.text('waits for', 6, 9, '--soft');
-    for (const [cause, name, colour] of CAUSES) {
-      if (!this.story.loads.causes.has(cause)) continue;
+    for (const { name, colour, hatching, row, x } of this.legend) {
       this.pen.fillStyle = this.colour(colour);
-      this.pen.fillRect(x, 4, 14, 11);
-      this.text(name, x + 18, 9, '--soft');
-      x += this.pen.measureText(name).width + 34;
+      this.pen.fillRect(x, 4 + row * LEGEND, 14, 11);
+      if (hatching) this.hatch(hatching, x, x + 14, 4 + row * LEGEND, 11);
+      this.text(name, x + 18, 9 + row * LEGEND, '--soft');
     }
-    this.pen.fillStyle = this.colour('--value');
-    this.pen.fillRect(x, 4, 14, 11);
-    this.text('has its value', x + 18, 9, '--soft');
-    if (this.folded > 0) this.text(`${this.folded} more rows of loads are folded`, x + 130, 9, '--soft');
+    const { end, row } = this.legend.at(-1);
+    const words = `${this.folded} more rows of loads are folded`;
+    if (this.folded > 0 && end + this.pen.measureText(words).width < this.width) this.text(words, end, 9 + row * LEGEND, '--soft');
   }
 
   // What the line shows at the cursor, in words.
@@ -820,6 +869,9 @@ class Picture {
     this.drawn = new Map();
     this.marked = [];
     this.used = new Set();
+    // whether it shows what waiting loads will get, and the registers that frames wait for
+    this.isWhole = false;
+    this.waitsFor = new Map();
     for (const [, , , , changes] of run.steps) for (const [k, text] of changes) if (text !== '') this.used.add(places[k]);
     this.makeFrames();
     this.makeRegisters();
@@ -844,8 +896,28 @@ class Picture {
       head.append(...range(sizes.blockWords).map((i) => element('th', '', `+${i}`)));
     }
     for (const cell of head.children) cell.scope = 'col';
+    this.giveWidths(head);
     const rows = range(sizes.sets).filter((set) => sizes.sets <= 4 || this.isSetUsed(set));
     find('frames-table').append(element('thead', '', head), element('tbody', '', ...rows.map((set) => this.frameRow(set))));
+  }
+
+  // A column is as wide as the longest text in it, and a table that is wider than its box is scrolled.
+  giveWidths(head) {
+    const digits = (number) => 9 * String(number).length;
+    const widths = { set: 32 + digits(sizes.sets - 1), name: 17 + digits(sizes.frames - 1), title: this.longestBlock() };
+    for (const [kind, width] of Object.entries(widths)) {
+      for (const cell of head.querySelectorAll(`.${kind}`)) cell.style.width = `${width}px`;
+    }
+    find('frames-table').style.minWidth = `${widths.set + sizes.ways * (widths.name + widths.title + 69 * sizes.blockWords)}px`;
+  }
+
+  // How wide the longest name of a block is in a frame.
+  longestBlock() {
+    const pen = document.createElement('canvas').getContext('2d');
+    pen.font = `italic ${getComputedStyle(document.body).font}`;
+    const names = this.run.steps.flatMap(([, , , , changes]) => changes.filter(([k]) => lettersOf[k] === 'f').map(([, text]) => text));
+    const longest = names.reduce((a, b) => (b.length > a.length ? b : a), '');
+    return Math.max(64, Math.ceil(pen.measureText(longest.replace(', pending', ' ..')).width) + 6);
   }
 
   isSetUsed(set) { return range(sizes.ways).some((way) => this.used.has(`f${set * sizes.ways + way}`)); }
@@ -925,11 +997,13 @@ class Picture {
     const changed = new Set(this.run.changed().map((k) => places[k]));
     for (const it of this.marked) it.classList.remove('changed', 'read');
     this.marked = [];
+    this.waitsFor = new Map(range(sizes.registers).map((slot) => [frameOf(this.run.text(`r${slot}`)), slot]));
     for (const [name, spot] of this.spots) this.drawSpot(name, spot, changed.has(name));
     for (const slot of range(sizes.registers)) this.drawRegister(slot);
     this.drawRequest();
     this.drawStored(changed);
     for (const bank of range(sizes.banks)) this.drawBank(bank);
+    this.markCame();
     this.markRead();
     this.showMarked();
   }
@@ -939,7 +1013,7 @@ class Picture {
     const shown = text === '' ? (isChanged ? '-' : '') : this.nameOf(name, text);
     if (this.drawn.get(name) !== shown) {
       this.drawn.set(name, shown);
-      if (name[0] === 'c' && text !== '') this.drawWord(spot, text);
+      if (name[0] === 'c' && text !== '') this.drawWord(spot, shown);
       else spot.textContent = shown;
       spot.classList.toggle('pending', text.endsWith(', pending'));
       if (spot.parentNode.tagName === 'LI' && !'bg'.includes(name[0])) spot.parentNode.hidden = shown === '';
@@ -953,19 +1027,37 @@ class Picture {
     this.marked.push(spot);
   }
 
-  // What is shown of a text at a place. A frame's word is drawn by itself.
+  // What is shown of a text at a place.
   nameOf(name, text) {
     const [first, second] = numbersOf[placeNumber.get(name)];
     switch (name[0]) {
       case 'r': return registerName(text);
       case 'w': return fieldName(text, addressIn(blockOf(this.run.text(`r${first}`)) ?? 0, second));
-      case 'l': return loadName(text);
+      case 'l': return loadName(text, this.isWhole);
+      case 'c': return this.wordName(first, second, text);
       case 'f': return text.replace(', pending', ' ..');
       case 's': case 'a': return entryName(text, this.run.addressFor(text));
       case 'q': return queuedName(text);
       case 'm': return commandName(text, first);
       case 'v': return replyName(text);
       default: return text;
+    }
+  }
+
+  // A frame's word: of one that is still to come the bytes that are there.
+  wordName(frame, i, text) {
+    const slot = this.waitsFor.get(frame);
+    const there = slot === undefined ? '1111' : bytesThere(this.run.text(`w${slot}.${i}`));
+    return masked(there, text.slice(0, 8), '..') + text.slice(8);
+  }
+
+  // A word that came is another one also if its digits are those that stood there.
+  markCame() {
+    for (const k of this.run.changed()) {
+      const [slot, i] = numbersOf[k];
+      if (lettersOf[k] !== 'w' || bytesThere(this.run.before(places[k])) === '1111' || bytesThere(this.run.texts[k]) !== '1111') continue;
+      const spot = this.spots.get(`c${frameOf(this.run.before(`r${slot}`))}.${i}`);
+      if (spot && spot.textContent !== '' && !spot.classList.contains('changed')) this.mark(spot, 'changed');
     }
   }
 
@@ -1248,6 +1340,13 @@ function toggle(button, box) {
 const switches = { 'show-memory': 'memory-box', 'show-lines': 'lines-box', 'show-keys': 'keys' };
 for (const [button, box] of Object.entries(switches)) find(button).onclick = () => toggle(button, box);
 
+function showValues() {
+  picture.isWhole = !picture.isWhole;
+  find('show-values').setAttribute('aria-pressed', picture.isWhole);
+  draw();
+}
+find('show-values').onclick = showValues;
+
 find('to-first').onclick = () => move(0);
 find('back').onclick = () => move(run.now - 1);
 find('next').onclick = () => move(run.now + 1);
@@ -1268,7 +1367,7 @@ const keys = {
   Home: () => move(0), End: () => move(run.last), ' ': play,
   PageUp: () => move(run.now - 10), PageDown: () => move(run.now + 10),
   '+': () => line.zoom(1.25), '-': () => line.zoom(0.8),
-  m: () => toggle('show-memory', 'memory-box'), r: () => toggle('show-lines', 'lines-box'),
+  m: () => toggle('show-memory', 'memory-box'), r: () => toggle('show-lines', 'lines-box'), v: showValues,
 };
 document.addEventListener('keydown', (event) => {
   if (event.ctrlKey || event.altKey || event.metaKey || !keys[event.key]) return;
@@ -1283,6 +1382,13 @@ function follow() {
 window.addEventListener('hashchange', follow);
 window.addEventListener('resize', () => { line.resize(); arrows.draw(movesOf(run)); });
 matchMedia('(prefers-color-scheme: dark)').addEventListener('change', () => line.resize());
+// (on paper the line of time is dark on white too)
+for (const [kind, isPaper] of [['beforeprint', true], ['afterprint', false]]) {
+  window.addEventListener(kind, () => {
+    document.documentElement.classList.toggle('paper', isPaper);
+    line.resize();
+  });
+}
 find('slider').max = run.last;
 find('last').textContent = run.last;
 follow();
