@@ -1,3 +1,3 @@
 mod TagSlots
-mod LinesRead
-mod Endings
+mod LinesTaken
+mod Ends

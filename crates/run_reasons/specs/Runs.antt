@@ -1,15 +1,13 @@
 -- How a recorded run is read, up to the first line that flat memory can't answer.
-use Rattle.std.specs.Prelude.{◌≡◌, ℕ, ◌+◌, ◌<◌, ◌≤◌, None, Result, Ok, Err, List, [], ◌∷◌, ◌++◌, length}
+use Rattle.std.specs.Prelude.{◌≡◌, ℕ, ◌+◌, None, Result, Ok, Err, List, [], ◌∷◌, ◌++◌, length}
 use Rattle.flat_model.specs.declared.Word.{Word}
 use Rattle.flat_model.specs.Flat.{opening, flat_step}
 use Rattle.trace_text.specs.Codes.{line_feed}
-use Rattle.trace_text.specs.Streams.{HasNoEnd, Came, Moves}
-use Rattle.trace_text.specs.Reading.{IsGood, Good, BeginsFaulty}
+use Rattle.trace_text.specs.Reading.{IsGood, ReadIntoWithin, ReadWholeWithin, ReadStopsWithin}
 use Rattle.trace_text.specs.Pairs.{pair_of}
 use Rattle.trace_text.specs.Recorded.{recorded}
 use Rattle.trace_text.specs.Checks.{pair_fault, JudgedFrom, IsJudgedFrom}
 use Rattle.trace_text.specs.declared.check.CheckEnd.TheVariants as check
-use Rattle.trace_text.specs.declared.lines.LineFault.TheVariants.{NotEnded}
 use Rattle.trace_text.specs.declared.fault.TheConstants.{MAX_PAIR}
 use Rattle.trace_text.specs.declared.fault.TraceFault.{TraceFault}
 use Rattle.trace_text.specs.declared.fault.TraceFault.TheVariants as fault
@@ -18,8 +16,6 @@ use Rattle.run_reasons.specs.Reasons.{mismatch_at}
 use Rattle.run_reasons.specs.declared.reason.Mismatch.{Mismatch}
 use Rattle.run_reasons.specs.declared.explain.Explanation.{Explanation}
 use Rattle.run_reasons.specs.declared.explain.Explanation.TheVariants as explained
-use Rattle.run_reasons.specs.declared.lines.Stop.{Stop}
-use Rattle.run_reasons.specs.declared.lines.Stop.TheVariants as stop
 
 -- how many lines can be numbered
 abbrev pub most_lines : ℕ
@@ -31,13 +27,6 @@ most_lines = 18446744073709551615
 abbrev pub IsFlat : List Word → List (List ℕ) → ℕ → Type 0
 IsFlat words texts steps = JudgedFrom (opening words) texts steps None (origins_of words texts).flat
 
--- These bytes are the lines of a flat run of so many steps, and the start of another line.
-pub record IsFlatText (words : List Word) (bytes : List ℕ) (texts : List (List ℕ)) (pending : List ℕ) (steps : ℕ) : Type 0 where
-  pub good : Good pair_fault MAX_PAIR bytes texts pending
-  pub short : length pending ≤ MAX_PAIR
-  pub unfinished : HasNoEnd pending
-  pub flat : IsFlat words texts steps
-
 -- The line behind these lines, with its LF, is the first that flat memory can't answer, and this is why.
 pub record IsMismatch (words : List Word) (texts : List (List ℕ)) (found : List ℕ) (m : Mismatch) : Type 0 where
   pub text : List ℕ
@@ -48,66 +37,22 @@ pub record IsMismatch (words : List Word) (texts : List (List ℕ)) (found : Lis
   pub why : m ≡ mismatch_at (origins_of words texts) (length texts + 1) m.event m.answer
   pub checked : IsJudgedFrom (opening words) (texts ++ text ∷ []) (check.Mismatch m.line) (origins_of words texts).flat
 
--- Behind these lines stand bytes at which a reading ends: a line that is no step of flat memory, the first faulty one, or
--- one too many.
-abbrev pub EndsAt : List Word → List (List ℕ) → List ℕ → Stop → Type 0
-EndsAt words texts found (stop.Mismatch m) = IsMismatch words texts found m
-EndsAt words texts found (stop.Fault (fault.Line n f)) = (n ≡ length texts + 1) × BeginsFaulty pair_fault MAX_PAIR found f
-EndsAt words texts found (stop.Fault fault.TooManyLines) = (length texts ≡ most_lines) × (0 < length found)
-EndsAt words texts found (stop.Fault fault.OutOfMemory) = Unit {0}
-EndsAt words texts found (stop.Fault fault.Read) = ⊥
-EndsAt words texts found (stop.Fault fault.Write) = ⊥
-
--- These bytes are the lines of a flat run, and then such bytes, whatever follows.
-pub record EndsIn (words : List Word) (bytes : List ℕ) (why : Stop) : Type 0 where
-  pub texts : List (List ℕ)
-  pub found : List ℕ
-  pub more : List ℕ
-  pub steps : ℕ
-  pub good : Good pair_fault MAX_PAIR bytes texts (found ++ more)
-  pub flat : IsFlat words texts steps
-  pub ends : EndsAt words texts found why
-
 -- ---- what was read
-
--- Up to here, before a read or at the end, the lines of a flat run came, and the start of another line.
-pub record ReadSoFar {R : Type 0} (gave : R → List ℕ → R → Type 0) (words : List Word) (r r' : R) (texts : List (List ℕ)) (pending : List ℕ)
-    (steps : ℕ) : Type 0 where
-  pub bytes : List ℕ
-  pub read : Moves (Came gave) r bytes r'
-  pub text : IsFlatText words bytes texts pending steps
-
--- Up to here one piece more came, and in it the reading ends.
-pub record ReadInto {R : Type 0} (gave : R → List ℕ → R → Type 0) (words : List Word) (r r' : R) (why : Stop) : Type 0 where
-  pub before : List (List ℕ)
-  pub pending : List ℕ
-  pub steps : ℕ
-  pub last : R
-  pub so_far : ReadSoFar gave words r last before pending steps
-  pub piece : List ℕ
-  pub gives : Came gave last piece r'
-  pub ends : EndsIn words (so_far.bytes ++ piece) why
 
 -- How the reading of a recorded run ends, over memory of these words.
 abbrev pub Explains : {R : Type 0} (gave : R → List ℕ → R → Type 0) (failed : R → R → Type 0) (words : List Word) (r r' : R)
     → Result Explanation TraceFault → Type 0
-Explains {R} gave failed words r r' (Ok (explained.Flat steps)) = (texts : List (List ℕ)) × (last : R) ×
-    ReadSoFar gave words r last texts [] steps × gave last [] r'
-Explains gave failed words r r' (Ok (explained.Mismatch m)) = ReadInto gave words r r' (stop.Mismatch m)
-Explains {R} gave failed words r r' (Err fault.Read) = (texts : List (List ℕ)) × (pending : List ℕ) × (steps : ℕ) × (last : R) ×
-    ReadSoFar gave words r last texts pending steps × failed last r'
--- the input ended within a line
-Explains {R} gave failed words r r' (Err (fault.Line n NotEnded)) = (texts : List (List ℕ)) × (pending : List ℕ) × (steps : ℕ) ×
-    (last : R) × ReadSoFar gave words r last texts pending steps × gave last [] r' × (0 < length pending) × (n ≡ length texts + 1)
-Explains gave failed words r r' (Err (fault.Line n f)) = ReadInto gave words r r' (stop.Fault (fault.Line n f))
-Explains gave failed words r r' (Err fault.TooManyLines) = ReadInto gave words r r' (stop.Fault fault.TooManyLines)
+-- all lines were read, and are a flat run
+Explains gave failed words r r' (Ok (explained.Flat steps)) = (texts : List (List ℕ)) ×
+    ReadWholeWithin gave pair_fault MAX_PAIR most_lines r r' texts × IsFlat words texts steps
+-- the lines of a flat run, and behind them the first that isn't, in the piece that came last
+Explains gave failed words r r' (Ok (explained.Mismatch m)) = (texts : List (List ℕ)) × (found : List ℕ) × (more : List ℕ) × (steps : ℕ) ×
+    ReadIntoWithin gave pair_fault MAX_PAIR most_lines r r' texts (found ++ more) × IsFlat words texts steps ×
+    IsMismatch words texts found m
 Explains gave failed words r r' (Err fault.OutOfMemory) = Unit {0}
-Explains gave failed words r r' (Err fault.Write) = ⊥
-
--- what a reading gives that ends so
-abbrev pub explained_by : Stop → Result Explanation TraceFault
-explained_by (stop.Mismatch m) = Ok (explained.Mismatch m)
-explained_by (stop.Fault f) = Err f
+-- the lines before the fault are a flat run
+Explains gave failed words r r' (Err f) = (texts : List (List ℕ)) × (steps : ℕ) ×
+    ReadStopsWithin gave failed pair_fault MAX_PAIR most_lines r r' texts f × IsFlat words texts steps
 
 -- the status with which a program ends that tells it
 abbrev pub status_of : Explanation → ℕ

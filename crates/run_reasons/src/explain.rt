@@ -1,18 +1,17 @@
 //! A recorded run is read as it comes, and its first mismatch explained.
 
-ghost use Rattle.std.specs.Prelude.{◌≡◌, ◌<◌, ℕ, List, [], length, Some};
-ghost use Rattle.flat_model.specs.declared.Word.{Word};
+ghost use Rattle.std.specs.Prelude.{◌≡◌, Some};
 ghost use Rattle.flat_model.specs.Images.{memory_from};
-ghost use Rattle.run_reasons.specs.Runs.{Explains, explained_by, status_of};
-ghost use Rattle.run_reasons.specs.Lines.{HasRead, EndsWith};
+ghost use Rattle.run_reasons.specs.Lines.{explained_by};
+ghost use Rattle.run_reasons.specs.Runs.{Explains, status_of};
 ghost use Rattle.run_reasons.specs.Texts.{explanation_text};
 
-use crate::lines::{Lines, Stop};
+use crate::lines::Explaining;
 use crate::reason::Mismatch;
 use flat_model::Image;
 use std::alloc::Global;
 use std::fmt;
-use trace_text::{BUFFER_LEN, Source, TraceFault};
+use trace_text::{BUFFER_LEN, MAX_PAIR, Source, Stop, TraceFault, read_lines_within};
 
 /// What became of a recorded run.
 #[derive(Clone, Copy, PartialEq, Eq, Debug)]
@@ -50,14 +49,14 @@ impl fmt::Display for Explanation {
     }
 }
 
-impl Stop {
-    // What a reading gives that ends so.
-    fn explained(self) -> Result<Explanation, TraceFault>
-        ensures { result ≡ explained_by self }
+impl Explaining {
+    // What is told where the reading stopped at a line.
+    fn told(&self) -> Result<Explanation, TraceFault>
+        ensures { result ≡ explained_by self.now.mismatch }
     {
-        match self {
-            Stop::Mismatch(mismatch) => Ok(Explanation::Mismatch(mismatch)),
-            Stop::Fault(fault) => Err(fault),
+        match self.mismatch {
+            Some(mismatch) => Ok(Explanation::Mismatch(mismatch)),
+            None => Err(TraceFault::OutOfMemory),
         }
     }
 }
@@ -88,45 +87,13 @@ pub fn explain_text<R: Source>(
 ) -> Result<Explanation, TraceFault>
     ensures { Explains R.gave R.failed (memory_from image.now words) reader.old reader.new result }
 {
-    let mut lines = Lines::new(alloc, image, words)?;
+    let mut explaining = Explaining::new(alloc, image, words)?;
     let mut buffer = vec![in alloc; 0u8; BUFFER_LEN]?;
-    read_through(reader, &mut lines, &mut buffer)
-}
-
-// Reads on through a buffer, up to the end or the first line that ends the reading.
-fn read_through<R: Source>(
-    reader: &mut R,
-    lines: &mut Lines,
-    buffer: &mut [u8],
-) -> Result<Explanation, TraceFault>
-    requires room { 0 < length buffer.old }
-    requires begun { (words : List Word) × HasRead words [] lines.old }
-    ensures { (words : List Word) → HasRead words [] lines.old
-        → Explains R.gave R.failed words reader.old reader.new result }
-{
-    'pieces: loop {
-        let given = match reader.read_some(buffer) {
-            Ok(given) => given,
-            Err(_) => return Err(TraceFault::Read),
-        };
-        if given == 0 {
-            return lines.end();
-        }
-        if let Err(stop) = lines.read(&buffer[..given]) {
-            return stop.explained();
-        }
-    }
-}
-
-impl Lines {
-    // What is told where the input ends behind these lines.
-    fn end(&self) -> Result<Explanation, TraceFault>
-        requires { (words : List Word) × (before : List ℕ) × HasRead words before self.now }
-        ensures { EndsWith self.now result }
-    {
-        match self.unfinished() {
-            Some(fault) => Err(fault),
-            None => Ok(Explanation::Flat { steps: self.steps }),
-        }
+    match read_lines_within(reader, &mut explaining, MAX_PAIR, u64::MAX, &mut buffer) {
+        Ok(()) => Ok(Explanation::Flat {
+            steps: explaining.steps,
+        }),
+        Err(Stop::Fault(fault)) => Err(fault),
+        Err(Stop::Halted) => explaining.told(),
     }
 }

@@ -153,6 +153,8 @@ module _ {R C : Type 0} {gave : R → List ℕ → R → Type 0} {f : List ℕ �
           piece = more;
           gives = gives;
           good = good_then (good_more more p.so_far.good) (rw (sym same) q.good);
+          added = q.texts;
+          behind = refl;
           within = omega (arith, number, q.within);
         };
         took = q.kept c p.texts (sym p.number) p.took;

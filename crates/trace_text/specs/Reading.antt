@@ -58,7 +58,7 @@ pub record ReadSoFarWithin {R : Type 0} (gave : R → List ℕ → R → Type 0)
   pub within : length texts ≤ limit
   pub room : 0 < length pending → length texts < limit
 
--- Up to here one piece more came, and these good lines are the first of all that came.
+-- Up to here one piece more came, and these good lines are the first of all that came, with those of the earlier pieces.
 pub record ReadIntoWithin {R : Type 0} (gave : R → List ℕ → R → Type 0) (fault_in : List ℕ → Option LineFault) (most limit : ℕ) (r r' : R)
     (texts : List (List ℕ)) (rest : List ℕ) : Type 0 where
   pub before : List (List ℕ)
@@ -68,6 +68,8 @@ pub record ReadIntoWithin {R : Type 0} (gave : R → List ℕ → R → Type 0) 
   pub piece : List ℕ
   pub gives : Came gave last piece r'
   pub good : Good fault_in most (so_far.bytes ++ piece) texts rest
+  pub added : List (List ℕ)
+  pub behind : texts ≡ before ++ added
   pub within : length texts ≤ limit
 
 -- All was read, up to the first end: these good lines.
