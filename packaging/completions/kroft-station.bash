@@ -2,19 +2,19 @@
 _kroft_station() {
   local word=${COMP_WORDS[COMP_CWORD]} before=${COMP_WORDS[COMP_CWORD - 1]} command= k
   COMPREPLY=()
-  case $before in
-    --ports) COMPREPLY=($(compgen -W '' -- "$word")); return ;;
-    --asks) COMPREPLY=($(compgen -W '' -- "$word")); return ;;
-    --seed) COMPREPLY=($(compgen -W '' -- "$word")); return ;;
-    --threads) COMPREPLY=($(compgen -W '' -- "$word")); return ;;
-    --journal) mapfile -t COMPREPLY < <(compgen -f -- "$word"); compopt -o filenames 2>/dev/null; return ;;
-    --stations) COMPREPLY=($(compgen -W '' -- "$word")); return ;;
-  esac
   for ((k = 1; k < COMP_CWORD; k++)); do
     case ${COMP_WORDS[k]} in
     soak|rates) command=${COMP_WORDS[k]} ;;
     esac
   done
+  case $command:$before in
+    *:--ports) COMPREPLY=($(compgen -W '' -- "$word")); return ;;
+    *:--asks) COMPREPLY=($(compgen -W '' -- "$word")); return ;;
+    *:--seed) COMPREPLY=($(compgen -W '' -- "$word")); return ;;
+    *:--threads) COMPREPLY=($(compgen -W '' -- "$word")); return ;;
+    *:--journal) mapfile -t COMPREPLY < <(compgen -f -- "$word"); compopt -o filenames 2>/dev/null; return ;;
+    *:--stations) COMPREPLY=($(compgen -W '' -- "$word")); return ;;
+  esac
   case $command in
     soak) k='--stations --seed -h --help' ;;
     rates) k='--asks --seed --core-once --hand-once -h --help' ;;

@@ -2,25 +2,25 @@
 _kroft() {
   local word=${COMP_WORDS[COMP_CWORD]} before=${COMP_WORDS[COMP_CWORD - 1]} command= k
   COMPREPLY=()
-  case $before in
-    --shape) mapfile -t COMPREPLY < <(compgen -f -- "$word"); compopt -o filenames 2>/dev/null; return ;;
-    --machine) mapfile -t COMPREPLY < <(compgen -f -- "$word"); compopt -o filenames 2>/dev/null; return ;;
-    --image) mapfile -t COMPREPLY < <(compgen -f -- "$word"); compopt -o filenames 2>/dev/null; return ;;
-    --format) COMPREPLY=($(compgen -W 'text csv json' -- "$word")); return ;;
-    --latency) COMPREPLY=($(compgen -W '' -- "$word")); return ;;
-    --busy) COMPREPLY=($(compgen -W '' -- "$word")); return ;;
-    --registers) COMPREPLY=($(compgen -W '' -- "$word")); return ;;
-    --log) COMPREPLY=($(compgen -W 'lackey din' -- "$word")); return ;;
-    --from) COMPREPLY=($(compgen -W 'lackey din' -- "$word")); return ;;
-    --words) COMPREPLY=($(compgen -W '' -- "$word")); return ;;
-    --law) COMPREPLY=($(compgen -W 'flat atomic regular' -- "$word")); return ;;
-    --unit) COMPREPLY=($(compgen -W '1 2 4 8' -- "$word")); return ;;
-  esac
   for ((k = 1; k < COMP_CWORD; k++)); do
     case ${COMP_WORDS[k]} in
     run|check|sweep|explain|grade|drive|requests|show|history) command=${COMP_WORDS[k]} ;;
     esac
   done
+  case $command:$before in
+    *:--shape) mapfile -t COMPREPLY < <(compgen -f -- "$word"); compopt -o filenames 2>/dev/null; return ;;
+    *:--machine) mapfile -t COMPREPLY < <(compgen -f -- "$word"); compopt -o filenames 2>/dev/null; return ;;
+    *:--image) mapfile -t COMPREPLY < <(compgen -f -- "$word"); compopt -o filenames 2>/dev/null; return ;;
+    *:--format) COMPREPLY=($(compgen -W 'text csv json' -- "$word")); return ;;
+    *:--latency) COMPREPLY=($(compgen -W '' -- "$word")); return ;;
+    *:--busy) COMPREPLY=($(compgen -W '' -- "$word")); return ;;
+    *:--registers) COMPREPLY=($(compgen -W '' -- "$word")); return ;;
+    *:--log) COMPREPLY=($(compgen -W 'lackey din' -- "$word")); return ;;
+    *:--from) COMPREPLY=($(compgen -W 'lackey din' -- "$word")); return ;;
+    *:--words) COMPREPLY=($(compgen -W '' -- "$word")); return ;;
+    *:--law) COMPREPLY=($(compgen -W 'flat atomic regular' -- "$word")); return ;;
+    *:--unit) COMPREPLY=($(compgen -W '1 2 4 8' -- "$word")); return ;;
+  esac
   case $command in
     run) k='--shape --machine --image -h --help' ;;
     check) k='--shape --machine --image --all-answered --format -h --help' ;;

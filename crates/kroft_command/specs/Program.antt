@@ -7,8 +7,8 @@ use Rattle.std.specs.String.{string_bytes}
 use Rattle.std.specs.Global.{Global, Vec}
 use Rattle.std.specs.declared.string.String.{String}
 use Rattle.kroft_jobs.specs.Words.{Sizes, Image, CheckEnd, MAX_LINE, MAX_PAIR, TraceFault, LineFault, Counts, Access, LogFault, AccessGroup}
-use Rattle.kroft_jobs.specs.Words.{AccessCounts, Event, PAGE_WORDS, Format, Details, Table, Timing, Form, ShowFault, Explanation, RoundsRow}
-use Rattle.kroft_jobs.specs.Words.{MachineFault, ShapeFault, ToolShape, Score}
+use Rattle.kroft_jobs.specs.Words.{AccessCounts, Event, PAGE_WORDS, Format, VerdictFormat, Details, Table, Timing, Form, ShowFault}
+use Rattle.kroft_jobs.specs.Words.{Explanation, RoundsRow, MachineFault, ShapeFault, ToolShape, Score}
 use Rattle.register_sweeps.specs.Machine.{MachineState}
 use Rattle.toml.specs.Parse.{parse_document}
 use Rattle.flat_model.specs.Flat.{Flat}
@@ -210,7 +210,7 @@ module _ {R W : Type 0} (gave : R → List ℕ → R → Type 0) (failed : R →
       × (result ≡ told (λ counts. 0) of_trace served)
 
   -- A recorded run is judged, and the verdict put.
-  unfoldable pub Checks : (format : Format) (sizes : Sizes) (image : Image) → Ending R W
+  unfoldable pub Checks : (format : VerdictFormat) (sizes : Sizes) (image : Image) → Ending R W
   Checks format sizes image input input' =
       Answers took refused unflushed
       (λ text status. (texts : List (List ℕ)) × (end : CheckEnd) × (last : Flat)
@@ -219,7 +219,7 @@ module _ {R W : Type 0} (gave : R → List ℕ → R → Type 0) (failed : R →
       (λ fault. (f : TraceFault) × ReadFails gave failed pair_fault MAX_PAIR input input' f × (fault ≡ of_trace f))
 
   -- It is judged, and which of its loads weren't answered is told behind the verdict.
-  unfoldable pub ChecksAnswered : (format : Format) (sizes : Sizes) (image : Image) → Ending R W
+  unfoldable pub ChecksAnswered : (format : VerdictFormat) (sizes : Sizes) (image : Image) → Ending R W
   ChecksAnswered format sizes image input input' =
       Answers took refused unflushed
       (λ text status. (texts : List (List ℕ)) × (end : CheckEnd) × (last : Flat) × (tags : List ℕ)
@@ -228,12 +228,12 @@ module _ {R W : Type 0} (gave : R → List ℕ → R → Type 0) (failed : R →
       × (tags ≡ tags_owed last) × (text ≡ line (answered_in format end tags)) × (status ≡ answered_status end tags))
       (λ fault. (f : TraceFault) × ReadFails gave failed pair_fault MAX_PAIR input input' f × (fault ≡ of_trace f))
 
-  unfoldable pub checks_by : (all_answered : Bool) → (format : Format) (sizes : Sizes) (image : Image) → Ending R W
+  unfoldable pub checks_by : (all_answered : Bool) → (format : VerdictFormat) (sizes : Sizes) (image : Image) → Ending R W
   checks_by false = Checks
   checks_by true = ChecksAnswered
 
   -- A recorded run is explained, and the explanation put.
-  unfoldable pub ExplainsRun : (format : Format) (sizes : Sizes) (image : Image) → Ending R W
+  unfoldable pub ExplainsRun : (format : VerdictFormat) (sizes : Sizes) (image : Image) → Ending R W
   ExplainsRun format sizes image input input' =
       Answers took refused unflushed
       (λ text status. (why : Explanation) × Explains gave failed (memory_from image sizes.words) input input' (Ok why)

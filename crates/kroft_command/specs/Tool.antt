@@ -17,7 +17,7 @@ use Rattle.kroft_command.specs.declared.command_line.Task.TheVariants.{Sweep, Dr
 use Rattle.kroft_command.specs.declared.command_line.ImageName.TheVariants as image
 use Rattle.history_text.specs.declared.laws.HistoryLaw.{HistoryLaw}
 use Rattle.history_text.specs.declared.laws.HistoryLaw.TheVariants.{Atomic}
-use Rattle.named_fields.specs.declared.format.Format.TheVariants.{Text}
+use Rattle.named_fields.specs.declared.format.VerdictFormat.TheVariants.{Text}
 use Rattle.access_logs.specs.Faults.{no_room_text}
 use Rattle.access_logs.specs.declared.fault.LogFault.TheVariants as log
 use Rattle.shape_files.specs.MachineFile.{machine_fault_text}

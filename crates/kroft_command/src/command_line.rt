@@ -17,7 +17,7 @@ use clap::{ArgMatches, Error};
 use history_text::HistoryLaw;
 use kroft_jobs::RequestText;
 use memory_histories::Rest;
-use named_fields::Format;
+use named_fields::{Format, VerdictFormat};
 use round_driver::{MOST_LATENCY, Timing};
 use run_pictures::Form;
 use shape_files::REGISTER_COUNTS;
@@ -158,7 +158,7 @@ pub(crate) enum Task {
         /// Whether open loads are a fault.
         all_answered: bool,
         /// How the verdict is written.
-        format: Format,
+        format: VerdictFormat,
     },
     /// Serve its requests with several numbers of registers.
     Sweep {
@@ -172,7 +172,7 @@ pub(crate) enum Task {
     /// Say why a run isn't flat memory's.
     Explain {
         /// How the explanation is written.
-        format: Format,
+        format: VerdictFormat,
     },
     /// Grade the predictions that stand behind its lines.
     Grade {
@@ -222,7 +222,7 @@ pub(crate) struct HistoryTask {
     /// Whether lines are written, with what loads may have returned.
     pub values: bool,
     /// How the verdict is written.
-    pub format: Format,
+    pub format: VerdictFormat,
 }
 
 /// Where memory's beginning is read from.
@@ -297,7 +297,15 @@ fn words_or_most(asked: Option<u32>) -> u32
     }
 }
 
-// How what is found is written.
+// How a verdict or an explanation is written.
+fn verdict_format_of(rest: &ArgMatches<'_>) -> VerdictFormat {
+    match rest.get_str("format") {
+        Some("json") => VerdictFormat::Json,
+        _ => VerdictFormat::Text,
+    }
+}
+
+// How counts and grades are written.
 fn format_of(rest: &ArgMatches<'_>) -> Format {
     match rest.get_str("format") {
         Some("csv") => Format::Csv,
@@ -367,7 +375,7 @@ fn check_task(rest: &ArgMatches<'_>) -> Task
 {
     Task::Check {
         all_answered: rest.get_flag("all-answered"),
-        format: format_of(rest),
+        format: verdict_format_of(rest),
     }
 }
 
@@ -464,7 +472,7 @@ fn sweep_conflict(timings: &Timings, registers: &Registers) -> Option<&'static s
 fn history_conflict(asked: HistoryTask) -> Option<&'static str>
     ensures { IfNone result (IsJudged asked) }
 {
-    if asked.values && asked.format != Format::Text {
+    if asked.values && asked.format != VerdictFormat::Text {
         return Some("the argument '--values' cannot be used with '--format <FORMAT>'");
     }
     match asked.law {
@@ -573,7 +581,7 @@ fn history_task(rest: &ArgMatches<'_>) -> Task
         rest: beyond,
         all_answered: rest.get_flag("all-answered"),
         values: rest.get_flag("values"),
-        format: format_of(rest),
+        format: verdict_format_of(rest),
     })
 }
 
@@ -608,7 +616,7 @@ fn task_of(subcommand: Subcommand, rest: &ArgMatches<'_>) -> Task
         Subcommand::Check => check_task(rest),
         Subcommand::Sweep => sweep_task(rest),
         Subcommand::Explain => Task::Explain {
-            format: format_of(rest),
+            format: verdict_format_of(rest),
         },
         Subcommand::Grade => Task::Grade {
             format: format_of(rest),

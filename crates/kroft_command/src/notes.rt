@@ -93,8 +93,7 @@ load was accepted. Memory begins with zeros, or as the run's did with its --imag
 --help' describes images); of a shape or machine file only the words matter.
 A load that was accepted and never answered is no mismatch. With --all-answered it is a fault: a flat
 run that ends with K such loads is told as 'flat run, N steps, K loads open: tags T U ..'.
-With --format csv a line of names goes before a row with verdict, steps, line (and open, a list); with
---format json they are an object.
+With --format json it is an object: verdict, steps, line (and open, a list).
 It is no grader: a flat run may be none of this machine, since most answers ('accepted', 'refused 7',
 'moved') are those of some cache. 'kroft grade' compares predictions with the machine's own answers.
 
@@ -143,8 +142,8 @@ first line that flat memory doesn't explain, and says why: which load the value 
 what it is owed, and which lines stored its bytes. A faulty line ends it too. On a pipe that is
 still being written the answer comes with the line; a run may have any number of lines.
 Writes 'flat run, N steps', or 'mismatch at line N: LINE' and its reason, in at most seven lines.
-With --format csv a line of names goes before a row, with --format json it is an object: the line, its
-event and answer, the reason by a name, its numbers, and the lines that each byte comes from.
+With --format json it is an object: the line, its event and answer, the reason by a name, its numbers,
+and the lines that each byte comes from.
 Memory begins with zeros, or as the run's did with its --image ('kroft run --help' describes images);
 of a shape or machine file only the words matter.
 
@@ -170,8 +169,8 @@ Writes each wrong line with its number, and below it what the answer is, and why
 'kroft show' has for this step; and at the end how many of all predictions are right, and how many
 are open. What is open isn't wrong. With an image ('kroft run --help' describes them) the values are
 those that memory has.
-With --format csv a line of names goes before a row for each wrong line, with --format json each is an
-object; the score is the last of them, and their 'kind' tells it apart.
+With --format csv a line of names goes before a row with the score alone. With --format json each wrong
+line is an object; the score is the last of them, and their 'kind' tells it apart.
 
 Statuses: 0 no prediction is wrong, 1 some are, 2 the command line is wrong, 3 the machine's file is wrong,
 4 a line is faulty, the image is wrong or a stream failed, 5 there is too little memory.
@@ -330,8 +329,7 @@ undecided: ', why, and in which unit.
 
 With --values each line is written as well, and behind the response of an open load ' ->' and a space
 and a set for each byte: the bytes that it may be with a | between them, or ?? if it may be any.
-With --format csv a line of names goes before a row with what is found, with --format json it is an
-object; neither goes with --values.
+With --format json what is found is an object; it doesn't go with --values.
 
 Statuses: 0 the history is one of the law, 1 it isn't (or, with --all-answered, operations are
 open), 2 the command line is wrong, 4 a line is faulty, the image can't be read or a stream failed,

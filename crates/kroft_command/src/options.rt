@@ -110,18 +110,19 @@ const BUSY_BANKS: CommandOption = CommandOption {
     ..FLAG
 };
 
-// How what is found is written.
-const FORMAT: CommandOption = CommandOption {
+// A verdict is no row of figures, so it has no table.
+const VERDICT_FORMAT: CommandOption = CommandOption {
     name: "format",
     value_name: "FORMAT",
-    value: Value::Word(&["text", "csv", "json"]),
+    value: Value::Word(&["text", "json"]),
     help: "How the verdict is written [default: text]",
     ..FLAG
 };
 
 const COUNTS_FORMAT: CommandOption = CommandOption {
+    value: Value::Word(&["text", "csv", "json"]),
     help: "How the counts are written [default: text]",
-    ..FORMAT
+    ..VERDICT_FORMAT
 };
 
 // What wrote a log.
@@ -145,7 +146,7 @@ pub(crate) static CHECK: [CommandOption; 5] = [
         help: "End with status 1 if loads are open at the end, and tell their tags",
         ..FLAG
     },
-    FORMAT,
+    VERDICT_FORMAT,
 ];
 
 /// The image changes no counts. Without a latency no bank is busy.
@@ -187,7 +188,7 @@ pub(crate) static EXPLAIN: [CommandOption; 4] = [
     IMAGE,
     CommandOption {
         help: "How the explanation is written [default: text]",
-        ..FORMAT
+        ..VERDICT_FORMAT
     },
 ];
 
@@ -198,7 +199,7 @@ pub(crate) static GRADE: [CommandOption; 4] = [
     IMAGE,
     CommandOption {
         help: "How the grade is written [default: text]",
-        ..FORMAT
+        ..COUNTS_FORMAT
     },
 ];
 
@@ -312,7 +313,7 @@ pub(crate) static HISTORY: [CommandOption; 7] = [
         help: "Write each line, and behind a load's response what it may have returned",
         ..FLAG
     },
-    FORMAT,
+    VERDICT_FORMAT,
 ];
 
 /// The argument of an option.

@@ -27,7 +27,7 @@ use kroft_jobs::{
     AnsweredIn, CheckIn, LatencyRows, RequestText, Verdict, detail_requests, drive_requests,
     put_text, serve, summarize_requests, sweep_in_rounds, sweep_latencies, sweep_registers,
 };
-use named_fields::Format;
+use named_fields::{Format, VerdictFormat};
 use register_sweeps::{RoundsRow, Row, Sizes};
 use result_figures::{LossFigure, SweepFigure, SweepLine};
 use result_formats::{
@@ -85,7 +85,7 @@ pub(crate) fn run<I: Source, O: Sink>(
 fn check<I: Source, O: Sink>(
     alloc: Global,
     sizes: &Sizes,
-    format: Format,
+    format: VerdictFormat,
     image: &Image,
     input: &mut I,
     output: &mut O,
@@ -103,7 +103,7 @@ fn check<I: Source, O: Sink>(
 fn check_answered<I: Source, O: Sink>(
     alloc: Global,
     sizes: &Sizes,
-    format: Format,
+    format: VerdictFormat,
     image: &Image,
     input: &mut I,
     output: &mut O,
@@ -124,7 +124,7 @@ pub(crate) fn check_by<I: Source, O: Sink>(
     sizes: &Sizes,
     image: &Image,
     all_answered: bool,
-    format: Format,
+    format: VerdictFormat,
     input: &mut I,
     output: &mut O,
 ) -> Result<u8, ToolFault>
@@ -143,7 +143,7 @@ pub(crate) fn check_by<I: Source, O: Sink>(
 pub(crate) fn explain<I: Source, O: Sink>(
     alloc: Global,
     sizes: &Sizes,
-    format: Format,
+    format: VerdictFormat,
     image: &Image,
     input: &mut I,
     output: &mut O,

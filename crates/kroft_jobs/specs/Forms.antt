@@ -1,7 +1,7 @@
 -- What a check found, by names.
 use Rattle.std.specs.Prelude.{ℕ, List, [], ◌∷◌, ◌++◌, codes}
-use Rattle.named_fields.specs.Formats.{Named, absent, counted, worded, numbers, alone_in}
-use Rattle.kroft_jobs.specs.Words.{Format, CheckEnd}
+use Rattle.named_fields.specs.Formats.{Named, absent, counted, worded, numbers, verdict_in}
+use Rattle.kroft_jobs.specs.Words.{CheckEnd, VerdictFormat}
 use Rattle.trace_text.specs.declared.check.CheckEnd.TheVariants.{Flat, Mismatch}
 use Rattle.kroft_jobs.specs.Jobs.{verdict_text}
 use Rattle.kroft_jobs.specs.Answering.{answered_text}
@@ -23,8 +23,8 @@ answered_named end tags = check_named end ++ open_named end tags ∷ []
 
 -- ---- in a format
 
-unfoldable pub check_in : Format → CheckEnd → List ℕ
-check_in format end = alone_in format (verdict_text end) (check_named end)
+unfoldable pub check_in : VerdictFormat → CheckEnd → List ℕ
+check_in format end = verdict_in format (verdict_text end) (check_named end)
 
-unfoldable pub answered_in : Format → CheckEnd → List ℕ → List ℕ
-answered_in format end tags = alone_in format (answered_text end tags) (answered_named end tags)
+unfoldable pub answered_in : VerdictFormat → CheckEnd → List ℕ → List ℕ
+answered_in format end tags = verdict_in format (answered_text end tags) (answered_named end tags)

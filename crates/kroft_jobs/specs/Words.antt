@@ -27,6 +27,7 @@ pub use Rattle.shape_files.specs.declared.shape_file.ToolShape.{ToolShape}
 pub use Rattle.run_reasons.specs.declared.explain.Explanation.{Explanation}
 -- of what is written
 pub use Rattle.named_fields.specs.declared.format.Format.{Format}
+pub use Rattle.named_fields.specs.declared.format.VerdictFormat.{VerdictFormat}
 pub use Rattle.run_pictures.specs.declared.drawing.Form.{Form}
 pub use Rattle.run_pictures.specs.declared.show.ShowFault.{ShowFault}
 pub use Rattle.trace_sheets.specs.declared.score.Score.{Score}

@@ -6,7 +6,7 @@ ghost use Rattle.kroft_jobs.specs.Forms as forms;
 
 use crate::answered::AnsweredVerdict;
 use crate::jobs::Verdict;
-use named_fields::{Field, Format, Object, OneRow};
+use named_fields::{Field, Object, VerdictFormat};
 use std::fmt;
 use trace_text::CheckEnd;
 
@@ -48,38 +48,36 @@ fn answered_fields(end: CheckEnd, tags: &[u16]) -> [Field<'_>; 4]
 
 /// A verdict in a format, with its steps or its line.
 #[derive(Clone, Copy)]
-pub struct CheckIn(pub Format, pub CheckEnd);
+pub struct CheckIn(pub VerdictFormat, pub CheckEnd);
 
 impl fmt::Display for CheckIn {
     ghost output = { λ it. Some (forms.check_in it.0 it.1) };
 
-    #[tactic(auto, unfolding(crate::specs::Forms::check_in, named_fields::specs::Formats::alone_in))]
+    #[tactic(auto, unfolding(crate::specs::Forms::check_in, named_fields::specs::Formats::verdict_in))]
     fn fmt<W: fmt::Write>(&self, f: &mut fmt::Formatter<W>) -> fmt::Result {
         let verdict = Verdict(self.1);
         let fields = check_fields(self.1);
         match self.0 {
-            Format::Text => write!(f, "{verdict}"),
-            Format::Csv => write!(f, "{}", OneRow(&fields)),
-            Format::Json => write!(f, "{}", Object(&fields)),
+            VerdictFormat::Text => write!(f, "{verdict}"),
+            VerdictFormat::Json => write!(f, "{}", Object(&fields)),
         }
     }
 }
 
 /// The same, and behind a flat run the tags of its open loads.
 #[derive(Clone, Copy)]
-pub struct AnsweredIn<'a>(pub Format, pub &'a AnsweredVerdict);
+pub struct AnsweredIn<'a>(pub VerdictFormat, pub &'a AnsweredVerdict);
 
 impl<'a> fmt::Display for AnsweredIn<'a> {
     ghost output = { λ it. Some (forms.answered_in it.0 it.1.now.end it.1.now.tags.items) };
 
-    #[tactic(auto, unfolding(crate::specs::Forms::answered_in, named_fields::specs::Formats::alone_in))]
+    #[tactic(auto, unfolding(crate::specs::Forms::answered_in, named_fields::specs::Formats::verdict_in))]
     fn fmt<W: fmt::Write>(&self, f: &mut fmt::Formatter<W>) -> fmt::Result {
         let answered = self.1;
         let named = answered_fields(answered.end, answered.tags.as_slice());
         match self.0 {
-            Format::Text => write!(f, "{answered}"),
-            Format::Csv => write!(f, "{}", OneRow(&named)),
-            Format::Json => write!(f, "{}", Object(&named)),
+            VerdictFormat::Text => write!(f, "{answered}"),
+            VerdictFormat::Json => write!(f, "{}", Object(&named)),
         }
     }
 }

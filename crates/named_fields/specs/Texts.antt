@@ -1,14 +1,7 @@
--- Texts with others between them, and strings as an object and as a table have them.
+-- Strings as an object has them.
 use Rattle.std.specs.Prelude.{ℕ, ◌==◌, Bool, ◌&&◌, if◌then◌else◌, nat_le, List, [], ◌∷◌, ◌++◌, codes}
 use Rattle.std.specs.List.{flat_map}
 use Rattle.flat_model.specs.Texts.{byte_text}
-
--- the texts of these, with a text between them
-abbrev pub separated : {X : Type 0} → List ℕ → (X → List ℕ) → List X → List ℕ
-separated between text [] = []
-separated between text (x ∷ xs) = text x ++ flat_map (λ y. between ++ text y) xs
-
--- ---- strings
 
 -- a text that has no quote, no backslash and nothing but printable bytes, as a string
 abbrev pub quoted : List ℕ → List ℕ
@@ -30,11 +23,3 @@ escaped_byte b =
 -- a text as a string of an object: any byte may stand in it
 unfoldable pub escaped : List ℕ → List ℕ
 escaped text = quoted (flat_map escaped_byte text)
-
--- a byte within a quoted cell of a table
-unfoldable pub doubled_byte : ℕ → List ℕ
-doubled_byte b = if b == 34 then codes "\"\"" else if is_printable b then b ∷ [] else numbered b
-
--- a text as a quoted cell of a table: commas may stand in it, and a quote stands twice
-unfoldable pub doubled : List ℕ → List ℕ
-doubled text = quoted (flat_map doubled_byte text)

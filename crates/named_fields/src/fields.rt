@@ -6,7 +6,7 @@ ghost use Rattle.std.specs.Fmt.{WritesOnOk};
 ghost use Rattle.named_fields.specs.Formats as formats;
 ghost use Rattle.named_fields.specs.Formats.{said, joined_fields, absent, counted, counted_if, worded, written, numbers, bytes};
 
-use crate::figures::{Figure, MemberValue};
+use crate::figures::Figure;
 use std::fmt;
 
 /// A figure with its name: letters, digits and `_`.
@@ -171,7 +171,7 @@ impl<'a> fmt::Display for Member<'a> {
 
     fn fmt<W: fmt::Write>(&self, f: &mut fmt::Formatter<W>) -> fmt::Result {
         let name = self.0.name;
-        let value = MemberValue(self.0.figure);
+        let value = self.0.figure;
         write!(f, "\"{name}\":{value}")
     }
 }
@@ -224,19 +224,4 @@ fn write_object<W: fmt::Write>(f: &mut fmt::Formatter<W>, fields: &[Field<'_>]) 
 {
     let members = Members(fields);
     write!(f, "{{{members}}}")
-}
-
-/// Fields as a table of one row: a line of names, and below it the line of figures, without its end.
-#[derive(Clone, Copy)]
-pub struct OneRow<'a>(pub &'a [Field<'a>]);
-
-impl<'a> fmt::Display for OneRow<'a> {
-    ghost output = { λ row. Some (formats.one_row_text (map said row.0.now)) };
-
-    #[tactic(auto, unfolding(crate::specs::Formats::one_row_text))]
-    fn fmt<W: fmt::Write>(&self, f: &mut fmt::Formatter<W>) -> fmt::Result {
-        let names = Header(self.0);
-        let figures = Values(self.0);
-        write!(f, "{names}\n{figures}")
-    }
 }

@@ -3,7 +3,7 @@
 ghost use Rattle.std.specs.Prelude.{Some};
 ghost use Rattle.named_fields.specs.Formats as formats;
 
-use crate::strings::{Doubled, Escaped, Numbers, QuotedBytes, SpacedBytes};
+use crate::strings::{Escaped, Numbers, QuotedBytes};
 use flat_model::{Answer, Event, TwoDigits, Word};
 use std::fmt;
 
@@ -42,11 +42,11 @@ pub enum Figure<'a> {
     Missing,
 }
 
-/// As a cell of a table. A list has spaces between its items. A [`Figure::Quoted`] text stands in quotes, with each quote in it
-/// doubled, and a byte that isn't printable ASCII as `\u00` and its two hexadecimal digits. Nothing stands where the field
-/// doesn't apply.
+/// As the value of an object's member, and as a cell of a table, which has numbers alone. Words, bytes, events, answers and texts
+/// are strings; in a text, a byte that isn't printable ASCII is `\u00` and its two hexadecimal digits. A field that doesn't apply
+/// is `null`.
 impl<'a> fmt::Display for Figure<'a> {
-    ghost output = { λ figure. Some (formats.cell_text figure) };
+    ghost output = { λ figure. Some (formats.value_text figure) };
 
     fn fmt<W: fmt::Write>(&self, f: &mut fmt::Formatter<W>) -> fmt::Result {
         match *self {
@@ -56,52 +56,15 @@ impl<'a> fmt::Display for Figure<'a> {
             }
             Figure::Truth(true) => f.write_str("true"),
             Figure::Truth(false) => f.write_str("false"),
-            Figure::Name(name) => f.write_str(name),
-            Figure::OfWord(word) => write!(f, "{word}"),
-            Figure::OfByte(byte) => write!(f, "{}", TwoDigits(byte)),
-            Figure::OfEvent(event) => write!(f, "{event}"),
-            Figure::OfAnswer(answer) => write!(f, "{answer}"),
-            Figure::Numbers(numbers) => write!(
-                f,
-                "{}",
-                Numbers {
-                    between: " ",
-                    numbers
-                }
-            ),
-            Figure::Bytes(bytes) => write!(f, "{}", SpacedBytes(bytes)),
-            Figure::Quoted(text) => write!(f, "{}", Doubled(text)),
-            Figure::Missing => Ok(()),
-        }
-    }
-}
-
-// As the value of an object's member: `null` where the field doesn't apply.
-#[derive(Clone, Copy)]
-pub(crate) struct MemberValue<'a>(pub(crate) Figure<'a>);
-
-impl<'a> fmt::Display for MemberValue<'a> {
-    ghost output = { λ value. Some (formats.value_text value.0) };
-
-    fn fmt<W: fmt::Write>(&self, f: &mut fmt::Formatter<W>) -> fmt::Result {
-        match self.0 {
-            Figure::Missing => f.write_str("null"),
             Figure::Name(name) => write!(f, "\"{name}\""),
             Figure::OfWord(word) => write!(f, "\"{word}\""),
             Figure::OfByte(byte) => write!(f, "\"{}\"", TwoDigits(byte)),
             Figure::OfEvent(event) => write!(f, "\"{event}\""),
             Figure::OfAnswer(answer) => write!(f, "\"{answer}\""),
-            Figure::Numbers(numbers) => write!(
-                f,
-                "[{}]",
-                Numbers {
-                    between: ",",
-                    numbers
-                }
-            ),
+            Figure::Numbers(numbers) => write!(f, "[{}]", Numbers(numbers)),
             Figure::Bytes(bytes) => write!(f, "[{}]", QuotedBytes(bytes)),
             Figure::Quoted(text) => write!(f, "{}", Escaped(text)),
-            figure => write!(f, "{figure}"),
+            Figure::Missing => f.write_str("null"),
         }
     }
 }

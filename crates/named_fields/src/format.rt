@@ -1,6 +1,6 @@
 //! The formats.
 
-/// How results are written.
+/// How counts and grades are written.
 #[derive(Clone, Copy, PartialEq, Eq, Debug)]
 pub enum Format {
     /// Lines for people.
@@ -8,5 +8,14 @@ pub enum Format {
     /// A table: a line with the names, and a line of figures for each result.
     Csv,
     /// Objects: one for each result, on a line of its own.
+    Json,
+}
+
+/// How a verdict or an explanation is written.
+#[derive(Clone, Copy, PartialEq, Eq, Debug)]
+pub enum VerdictFormat {
+    /// Lines for people.
+    Text,
+    /// An object, on one line.
     Json,
 }

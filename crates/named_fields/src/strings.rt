@@ -1,11 +1,10 @@
-//! Strings as an object and as a table have them, and lists.
+//! Strings and lists as an object has them.
 
 ghost use Rattle.std.specs.Prelude.{◌≡◌, ◌<◌, ◌++◌, ◌∷◌, [], Some, codes, decimal};
 ghost use Rattle.std.specs.List.{flat_map};
 ghost use Rattle.std.specs.Fmt.{WritesOnOk};
-ghost use Rattle.flat_model.specs.Texts as texts;
-ghost use Rattle.named_fields.specs.Formats.{quoted_byte};
-ghost use Rattle.named_fields.specs.Texts.{separated, numbered, is_printable, escaped, escaped_byte, doubled, doubled_byte};
+ghost use Rattle.named_fields.specs.Formats.{joined, quoted_byte};
+ghost use Rattle.named_fields.specs.Texts.{numbered, is_printable, escaped, escaped_byte};
 
 use flat_model::TwoDigits;
 use std::fmt;
@@ -57,26 +56,6 @@ impl fmt::Display for EscapedByte {
     }
 }
 
-// A byte within a quoted cell of a table.
-#[derive(Clone, Copy)]
-struct DoubledByte(u8);
-
-impl fmt::Display for DoubledByte {
-    ghost output = { λ byte. Some (doubled_byte byte.0) };
-
-    #[tactic(auto, unfolding(crate::specs::Texts::doubled_byte))]
-    fn fmt<W: fmt::Write>(&self, f: &mut fmt::Formatter<W>) -> fmt::Result {
-        let byte = self.0;
-        if byte == b'"' {
-            f.write_str("\"\"")
-        } else if is_printable(byte) {
-            write_printable(f, byte)
-        } else {
-            write_numbered(f, byte)
-        }
-    }
-}
-
 // The bytes within a string of an object.
 #[derive(Clone, Copy)]
 struct EscapedBytes<'a>(&'a [u8]);
@@ -88,22 +67,6 @@ impl<'a> fmt::Display for EscapedBytes<'a> {
         for byte in self.0 {
             let escaped = EscapedByte(*byte);
             write!(f, "{escaped}")?;
-        }
-        Ok(())
-    }
-}
-
-// The bytes within a quoted cell of a table.
-#[derive(Clone, Copy)]
-struct DoubledBytes<'a>(&'a [u8]);
-
-impl<'a> fmt::Display for DoubledBytes<'a> {
-    ghost output = { λ bytes. Some (flat_map doubled_byte bytes.0.now) };
-
-    fn fmt<W: fmt::Write>(&self, f: &mut fmt::Formatter<W>) -> fmt::Result {
-        for byte in self.0 {
-            let doubled = DoubledByte(*byte);
-            write!(f, "{doubled}")?;
         }
         Ok(())
     }
@@ -123,83 +86,32 @@ impl<'a> fmt::Display for Escaped<'a> {
     }
 }
 
-// A text as a quoted cell of a table.
-#[derive(Clone, Copy)]
-pub(crate) struct Doubled<'a>(pub(crate) &'a [u8]);
-
-impl<'a> fmt::Display for Doubled<'a> {
-    ghost output = { λ text. Some (doubled text.0.now) };
-
-    #[tactic(auto, unfolding(crate::specs::Texts::doubled))]
-    fn fmt<W: fmt::Write>(&self, f: &mut fmt::Formatter<W>) -> fmt::Result {
-        let bytes = DoubledBytes(self.0);
-        write!(f, "\"{bytes}\"")
-    }
-}
-
 // ---- lists
 
-// Numbers, with a text between them.
+// Numbers, with commas between them.
 #[derive(Clone, Copy)]
-pub(crate) struct Numbers<'a> {
-    pub(crate) between: &'static str,
-    pub(crate) numbers: &'a [u16],
-}
+pub(crate) struct Numbers<'a>(pub(crate) &'a [u16]);
 
 impl<'a> fmt::Display for Numbers<'a> {
-    ghost output = { λ list. Some (separated list.between.now decimal list.numbers.now) };
+    ghost output = { λ list. Some (joined decimal list.0.now) };
 
     fn fmt<W: fmt::Write>(&self, f: &mut fmt::Formatter<W>) -> fmt::Result {
-        match self.numbers {
+        match self.0 {
             [] => Ok(()),
             [first, rest @ ..] => {
                 write!(f, "{first}")?;
-                write_numbers(f, self.between, rest)
+                write_numbers(f, rest)
             }
         }
     }
 }
 
 // The numbers behind the first.
-fn write_numbers<W: fmt::Write>(
-    f: &mut fmt::Formatter<W>,
-    between: &str,
-    numbers: &[u16],
-) -> fmt::Result
-    ensures { WritesOnOk W.write_str_gives f.old result (flat_map (λ n. between.now ++ decimal n) numbers.now) f.new }
+fn write_numbers<W: fmt::Write>(f: &mut fmt::Formatter<W>, numbers: &[u16]) -> fmt::Result
+    ensures { WritesOnOk W.write_str_gives f.old result (flat_map (λ n. codes "," ++ decimal n) numbers.now) f.new }
 {
     for number in numbers {
-        write!(f, "{between}{number}")?;
-    }
-    Ok(())
-}
-
-// Bytes in two digits each, with spaces between them.
-#[derive(Clone, Copy)]
-pub(crate) struct SpacedBytes<'a>(pub(crate) &'a [u8]);
-
-impl<'a> fmt::Display for SpacedBytes<'a> {
-    ghost output = { λ list. Some (separated (codes " ") texts.byte_text list.0.now) };
-
-    fn fmt<W: fmt::Write>(&self, f: &mut fmt::Formatter<W>) -> fmt::Result {
-        match self.0 {
-            [] => Ok(()),
-            [first, rest @ ..] => {
-                let digits = TwoDigits(*first);
-                write!(f, "{digits}")?;
-                write_spaced(f, rest)
-            }
-        }
-    }
-}
-
-// The bytes behind the first.
-fn write_spaced<W: fmt::Write>(f: &mut fmt::Formatter<W>, bytes: &[u8]) -> fmt::Result
-    ensures { WritesOnOk W.write_str_gives f.old result (flat_map (λ b. codes " " ++ texts.byte_text b) bytes.now) f.new }
-{
-    for byte in bytes {
-        let digits = TwoDigits(*byte);
-        write!(f, " {digits}")?;
+        write!(f, ",{number}")?;
     }
     Ok(())
 }
@@ -209,7 +121,7 @@ fn write_spaced<W: fmt::Write>(f: &mut fmt::Formatter<W>, bytes: &[u8]) -> fmt::
 pub(crate) struct QuotedBytes<'a>(pub(crate) &'a [u8]);
 
 impl<'a> fmt::Display for QuotedBytes<'a> {
-    ghost output = { λ list. Some (separated (codes ",") quoted_byte list.0.now) };
+    ghost output = { λ list. Some (joined quoted_byte list.0.now) };
 
     fn fmt<W: fmt::Write>(&self, f: &mut fmt::Formatter<W>) -> fmt::Result {
         match self.0 {

@@ -4,9 +4,9 @@ use Rattle.flat_model.specs.Causes.{cause_name}
 use Rattle.flat_model.specs.Flat.{number}
 use Rattle.flat_model.specs.declared.Answer.{Answer}
 use Rattle.flat_model.specs.declared.Answer.TheVariants.{Refused}
-use Rattle.named_fields.specs.Formats.{Named, named, absent, counted, counted_if, worded, alone_in}
+use Rattle.named_fields.specs.Formats.{Named, named, absent, counted, counted_if, worded, verdict_in}
 use Rattle.named_fields.specs.declared.figures.Figure.TheVariants.{Truth, OfWord, OfEvent, OfAnswer}
-use Rattle.named_fields.specs.declared.format.Format.{Format}
+use Rattle.named_fields.specs.declared.format.VerdictFormat.{VerdictFormat}
 use Rattle.run_reasons.specs.Texts.{explanation_text}
 use Rattle.run_reasons.specs.declared.explain.Explanation.{Explanation}
 use Rattle.run_reasons.specs.declared.explain.Explanation.TheVariants as explained
@@ -154,5 +154,5 @@ explanation_named e =
     ending_named e
     ++ (front_named (mismatch_in e) (reason_in e) ++ (bytes_named (wrong_in (reason_in e)) ++ atomic_named (wrong_in (reason_in e)) ∷ []))
 
-unfoldable pub explanation_in : Format → Explanation → List ℕ
-explanation_in format e = alone_in format (explanation_text e) (explanation_named e)
+unfoldable pub explanation_in : VerdictFormat → Explanation → List ℕ
+explanation_in format e = verdict_in format (explanation_text e) (explanation_named e)

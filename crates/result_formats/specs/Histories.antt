@@ -1,9 +1,9 @@
 -- What became of a history, by names.
 use Rattle.std.specs.Prelude.{ℕ, Bool, true, false, Option, Some, None, List, [], ◌∷◌, ◌++◌, codes}
 use Rattle.atomic_histories.specs.Judge.{bytes_of}
-use Rattle.named_fields.specs.Formats.{Named, named, absent, counted, counted_if, worded, written, bytes, alone_in}
+use Rattle.named_fields.specs.Formats.{Named, named, absent, counted, counted_if, worded, written, bytes, verdict_in}
 use Rattle.named_fields.specs.declared.figures.Figure.TheVariants.{OfByte}
-use Rattle.named_fields.specs.declared.format.Format.{Format}
+use Rattle.named_fields.specs.declared.format.VerdictFormat.{VerdictFormat}
 use Rattle.history_text.specs.Answers.{bytes_in_set, alternatives_text, law_text, kind_text, end_text}
 use Rattle.history_text.specs.Choice.{name_of}
 use Rattle.history_text.specs.declared.answers.Refusal.{Refusal}
@@ -167,5 +167,5 @@ history_named law end =
     end_named law end ++ (operation_named (refusal_in end)
     ++ (why_named (address_in end) (cause_in (refusal_in end)) ++ stores_named (cause_in (refusal_in end))))
 
-unfoldable pub history_in : Format → HistoryLaw → HistoryEnd → List ℕ
-history_in format law end = alone_in format (end_text (name_of law) end) (history_named law end)
+unfoldable pub history_in : VerdictFormat → HistoryLaw → HistoryEnd → List ℕ
+history_in format law end = verdict_in format (end_text (name_of law) end) (history_named law end)

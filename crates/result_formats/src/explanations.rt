@@ -6,7 +6,7 @@ ghost use Rattle.result_formats.specs.Explanations as explanations;
 
 use crate::origins::{ByteOrigins, BytePlace, origins_in};
 use flat_model::Answer;
-use named_fields::{Field, Figure, Format, Object, OneRow};
+use named_fields::{Field, Figure, Object, VerdictFormat};
 use run_reasons::{Explanation, Mismatch, Reason, WrongWord};
 use std::fmt;
 
@@ -346,19 +346,18 @@ fn explanation_fields(explanation: &Explanation) -> [Field<'static>; EXPLANATION
 
 /// What became of a recorded run, in a format.
 #[derive(Clone, Copy)]
-pub struct ExplanationIn(pub Format, pub Explanation);
+pub struct ExplanationIn(pub VerdictFormat, pub Explanation);
 
 impl fmt::Display for ExplanationIn {
     ghost output = { λ it. Some (explanations.explanation_in it.0 it.1) };
 
-    #[tactic(auto, unfolding(crate::specs::Explanations::explanation_in, named_fields::specs::Formats::alone_in))]
+    #[tactic(auto, unfolding(crate::specs::Explanations::explanation_in, named_fields::specs::Formats::verdict_in))]
     fn fmt<W: fmt::Write>(&self, f: &mut fmt::Formatter<W>) -> fmt::Result {
         let explanation = self.1;
         let fields = explanation_fields(&explanation);
         match self.0 {
-            Format::Text => write!(f, "{explanation}"),
-            Format::Csv => write!(f, "{}", OneRow(&fields)),
-            Format::Json => write!(f, "{}", Object(&fields)),
+            VerdictFormat::Text => write!(f, "{explanation}"),
+            VerdictFormat::Json => write!(f, "{}", Object(&fields)),
         }
     }
 }

@@ -11,7 +11,7 @@ use history_text::{
     Alternatives, HistoryEnd, HistoryLaw, HistoryVerdict, LawName, OperationKind, OverwrittenByte,
     Refusal, RefusalCause, bytes_in_set,
 };
-use named_fields::{Field, Figure, Format, Object, OneRow};
+use named_fields::{Field, Figure, Object, VerdictFormat};
 use std::alloc::{AllocError, Global};
 use std::fmt;
 
@@ -377,57 +377,30 @@ fn sources_in(alloc: Global, cause: Option<&RefusalCause>) -> Result<String, All
     }
 }
 
-// What became of a history, with the bytes that a load may return and where they come from.
-#[tactic(auto, unfolding(crate::specs::Histories::history_in, named_fields::specs::Formats::alone_in))]
-fn written_in<'a>(
+/// What became of a history under a law, in a format, with no line feed at its end. `AllocError` says that there was too
+/// little memory.
+#[tactic(auto, unfolding(crate::specs::Histories::history_in, named_fields::specs::Formats::verdict_in))]
+pub fn history_in(
     alloc: Global,
-    format: Format,
+    format: VerdictFormat,
     law: HistoryLaw,
     end: &HistoryEnd,
-    allowed: &'a [u8],
-    sources: &'a [u8],
 ) -> Result<String, AllocError>
-    requires allowed { allowed.now ≡ histories.allowed_in (histories.cause_in (histories.refusal_in end.now)) }
-    requires sources { sources.now ≡ histories.sources_in (histories.cause_in (histories.refusal_in end.now)) }
     ensures { IfOk result (λ text. string_bytes text ≡ histories.history_in format law end.now) }
 {
-    let fields = history_fields(law, end, allowed, sources);
     match format {
-        Format::Text => {
+        VerdictFormat::Text => {
             let law = law.name();
             let verdict = HistoryVerdict { law, end };
             format!(in alloc; "{verdict}")
         }
-        Format::Csv => {
-            let row = OneRow(&fields);
-            format!(in alloc; "{row}")
-        }
-        Format::Json => {
+        VerdictFormat::Json => {
+            let cause = cause_in(refusal_in(end));
+            let allowed = allowed_in(cause);
+            let sources = sources_in(alloc, cause)?;
+            let fields = history_fields(law, end, allowed.as_slice(), sources.as_bytes());
             let object = Object(&fields);
             format!(in alloc; "{object}")
         }
     }
-}
-
-/// What became of a history under a law, in a format, with no line feed at its end. `AllocError` says that there was too
-/// little memory.
-pub fn history_in(
-    alloc: Global,
-    format: Format,
-    law: HistoryLaw,
-    end: &HistoryEnd,
-) -> Result<String, AllocError>
-    ensures { IfOk result (λ text. string_bytes text ≡ histories.history_in format law end.now) }
-{
-    let cause = cause_in(refusal_in(end));
-    let allowed = allowed_in(cause);
-    let sources = sources_in(alloc, cause)?;
-    written_in(
-        alloc,
-        format,
-        law,
-        end,
-        allowed.as_slice(),
-        sources.as_bytes(),
-    )
 }

@@ -1,8 +1,9 @@
 -- What is told of a wrong prediction and of a score, in a format.
 use Rattle.std.specs.Prelude.{ℕ, ◌+◌, Option, Some, None, List, [], ◌∷◌, ◌++◌, codes, decimal}
 use Rattle.machine_core.specs.Words.{Answer, Accepted, Lookup}
-use Rattle.named_fields.specs.Formats.{Named, absent, counted, worded, written, in_format, head_in_format}
+use Rattle.named_fields.specs.Formats.{Named, absent, counted, worded, written, row_text, object_text, head_in_format}
 use Rattle.named_fields.specs.declared.format.Format.{Format}
+use Rattle.named_fields.specs.declared.format.Format.TheVariants.{Text, Csv, Json}
 use Rattle.trace_text.specs.Codes.{line_feed}
 use Rattle.trace_text.specs.Texts.{answer_text}
 use Rattle.trace_sheets.specs.Sheets.{accepted_text}
@@ -46,10 +47,11 @@ correction_named number text said is why =
     ∷ written (codes "predicted") said ∷ written (codes "is") is ∷ why_named why
     ∷ absent (codes "right") ∷ absent (codes "wrong") ∷ absent (codes "open") ∷ []
 
--- a line of the report, with its LF
+-- what the report has of it, with its LF: a table has nothing
 unfoldable pub told : Format → ℕ → List ℕ → List ℕ → List ℕ → Option (List ℕ) → List ℕ
-told format number text said is why =
-    in_format format (correction_text number text is why) (correction_named number text said is why) ++ line_feed ∷ []
+told Text number text said is why = correction_text number text is why ++ line_feed ∷ []
+told Csv number text said is why = []
+told Json number text said is why = object_text (correction_named number text said is why) ++ line_feed ∷ []
 
 -- ---- the score
 
@@ -60,15 +62,20 @@ total s = s.right + s.wrong + s.left_open
 abbrev pub score_text : Score → List ℕ
 score_text s = decimal s.right ++ codes " of " ++ decimal (total s) ++ codes " right, " ++ decimal s.left_open ++ codes " open"
 
+-- the row of a sheet
+abbrev pub marks_named : Score → List Named
+marks_named s = counted (codes "right") s.right ∷ counted (codes "wrong") s.wrong ∷ counted (codes "open") s.left_open ∷ []
+
 unfoldable pub score_named : Score → List Named
 score_named s =
     worded (codes "kind") (codes "score") ∷ absent (codes "line") ∷ absent (codes "text")
-    ∷ absent (codes "predicted") ∷ absent (codes "is") ∷ absent (codes "why")
-    ∷ counted (codes "right") s.right ∷ counted (codes "wrong") s.wrong ∷ counted (codes "open") s.left_open ∷ []
+    ∷ absent (codes "predicted") ∷ absent (codes "is") ∷ absent (codes "why") ∷ marks_named s
 
 -- what stands before the first line
 unfoldable pub grade_head : Format → List ℕ
-grade_head format = head_in_format format (score_named (record { right = 0; wrong = 0; left_open = 0 }))
+grade_head format = head_in_format format (marks_named (record { right = 0; wrong = 0; left_open = 0 }))
 
 unfoldable pub score_in : Format → Score → List ℕ
-score_in format s = in_format format (score_text s) (score_named s)
+score_in Text s = score_text s
+score_in Csv s = row_text (marks_named s)
+score_in Json s = object_text (score_named s)

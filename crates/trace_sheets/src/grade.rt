@@ -14,7 +14,7 @@ use crate::came::{Came, full_answer};
 use crate::score::{Mark, Score};
 use crate::sheet::sheet_said;
 use machine_core::ShapedMachine;
-use named_fields::{Field, Format, Object, Values};
+use named_fields::{Field, Format, Object};
 use run_pictures::words_by;
 use std::alloc::{AllocError, Global};
 use trace_text::{
@@ -25,7 +25,7 @@ use trace_text::{
 #[derive(Drop)]
 pub struct Grade {
     /// A wrong prediction as two lines, `line N: ` with its line, and `  is ` with what came, and
-    /// why, by [`words_by`]; what is shown has no reason. Other formats have a line.
+    /// why, by [`words_by`]; what is shown has no reason. An object is a line, and a table has none.
     pub report: Vec<u8>,
     /// How many predictions are right, wrong and open.
     pub score: Score,
@@ -115,8 +115,8 @@ fn correction_fields<'b>(
     ]
 }
 
-// Tells a wrong prediction in a format, in a line or two.
-#[tactic(auto, unfolding(crate::specs::Forms::told, named_fields::specs::Formats::in_format))]
+// Tells a wrong prediction in a format, in a line or two. A table has the score alone.
+#[tactic(auto, unfolding(crate::specs::Forms::told))]
 fn push_form<'b>(
     alloc: Global,
     format: Format,
@@ -131,14 +131,11 @@ fn push_form<'b>(
     ensures { OnOk result (report.new.items ≡ report.old.items
         ++ told format number text.now said.now is.now (option_map (λ words. words.now) why.entry)) }
 {
-    let fields = correction_fields(number, text, said, is, why);
     match format {
         Format::Text => push_correction(report, number, text, is, why),
-        Format::Csv => {
-            let row = format!(in alloc; "{}\n", Values(&fields))?;
-            report.extend_from_slice(row.as_bytes())
-        }
+        Format::Csv => Ok(()),
         Format::Json => {
+            let fields = correction_fields(number, text, said, is, why);
             let object = format!(in alloc; "{}\n", Object(&fields))?;
             report.extend_from_slice(object.as_bytes())
         }

@@ -66,11 +66,23 @@ impl fmt::Display for Score {
     }
 }
 
-// A score by names.
+// A score by names, as a row.
+fn mark_fields(score: Score) -> [Field<'static>; 3]
+    ensures { map said result ≡ forms.marks_named score }
+{
+    [
+        Field::count("right", score.right),
+        Field::count("wrong", score.wrong),
+        Field::count("open", score.left_open),
+    ]
+}
+
+// The same as an object has it.
 #[tactic(auto, unfolding(crate::specs::Forms::score_named))]
 fn score_fields(score: Score) -> [Field<'static>; CORRECTION_FIELDS]
     ensures { map said result ≡ score_named score }
 {
+    let [right, wrong, left_open] = mark_fields(score);
     [
         Field::called("kind", "score"),
         Field::missing("line"),
@@ -78,9 +90,9 @@ fn score_fields(score: Score) -> [Field<'static>; CORRECTION_FIELDS]
         Field::missing("predicted"),
         Field::missing("is"),
         Field::missing("why"),
-        Field::count("right", score.right),
-        Field::count("wrong", score.wrong),
-        Field::count("open", score.left_open),
+        right,
+        wrong,
+        left_open,
     ]
 }
 
@@ -91,14 +103,13 @@ pub struct ScoreIn(pub Format, pub Score);
 impl fmt::Display for ScoreIn {
     ghost output = { λ it. Some (forms.score_in it.0 it.1) };
 
-    #[tactic(auto, unfolding(crate::specs::Forms::score_in, named_fields::specs::Formats::in_format))]
+    #[tactic(auto, unfolding(crate::specs::Forms::score_in))]
     fn fmt<W: fmt::Write>(&self, f: &mut fmt::Formatter<W>) -> fmt::Result {
         let score = self.1;
-        let fields = score_fields(score);
         match self.0 {
             Format::Text => write!(f, "{score}"),
-            Format::Csv => write!(f, "{}", Values(&fields)),
-            Format::Json => write!(f, "{}", Object(&fields)),
+            Format::Csv => write!(f, "{}", Values(&mark_fields(score))),
+            Format::Json => write!(f, "{}", Object(&score_fields(score))),
         }
     }
 }
@@ -112,7 +123,7 @@ impl fmt::Display for GradeHead {
 
     #[tactic(auto, unfolding(crate::specs::Forms::grade_head, named_fields::specs::Formats::head_in_format))]
     fn fmt<W: fmt::Write>(&self, f: &mut fmt::Formatter<W>) -> fmt::Result {
-        let fields = score_fields(Score {
+        let fields = mark_fields(Score {
             right: 0,
             wrong: 0,
             left_open: 0,
