@@ -1,5 +1,5 @@
 //! Runs of a station on threads.
-ghost use Rattle.std.specs.Prelude.{◌≡◌, ◌<◌, ◌≤◌, true, length, map, vec_len, IfOk, OnErr, OnOk, IsErr};
+ghost use Rattle.std.specs.Prelude.{◌≡◌, ◌<◌, ◌≤◌, true, length, map, vec_len, IfErr, IfOk, OnErr, OnOk, IsErr};
 ghost use Rattle.std.specs.List.{All};
 ghost use Rattle.station_parts.specs.declared.make.TheConstants.{MAX_PORTS};
 ghost use Rattle.flat_model.specs.declared.limits.TheConstants.{MAX_BANKS};
@@ -14,7 +14,7 @@ ghost use Rattle.ring_station.specs.PartRuns.{BanksRan, CacheRan};
 ghost use Rattle.ring_station.specs.PortRuns.{HaveRun, PortsRan, AreHeard};
 ghost use Rattle.ring_station.specs.Crew.{HasNotBegun, EachRanScript, EachIsSame, EachServed, EachHeard};
 ghost use Rattle.ring_station.specs.Ends.{not_begun};
-ghost use Rattle.ring_station.specs.Run.{HaveFinished};
+ghost use Rattle.ring_station.specs.Run.{FailsBy, HaveFinished};
 ghost use Rattle.ring_station.specs.Within.{KeepsTo};
 
 use crate::crew::{
@@ -89,6 +89,9 @@ pub fn run_threads<
     ensures rests { OnOk result (is_at_rest (cache_in station.new.cache) ≡ true) }
     ensures banks { OnOk result (HaveFinished station.new.banks.items) }
     ensures no_turn { turns ≡ 0 → IsErr result }
+
+    // Its fault is that of what the threads and the audit came to, or memory was short before any part moved.
+    ensures fault { IfErr result (FailsBy scripts.now turns station.old station.new) }
 
     // However it ends, no part did more than its turns let it, and each port took what it took behind what
     // it had.

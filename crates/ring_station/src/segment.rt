@@ -7,7 +7,7 @@ ghost use Rattle.station_parts.specs.Rest.{is_at_rest};
 ghost use Rattle.station_parts.specs.Station.{IsOneStation, IsSameStation};
 ghost use Rattle.station_parts.specs.Words.{cache_in, earlier_of};
 ghost use Rattle.ring_station.specs.PortRuns.{AreHeard};
-ghost use Rattle.ring_station.specs.Segments.{HaveRunOn, HandsOut, TellsRenewal, ComesToRenewal};
+ghost use Rattle.ring_station.specs.Segments.{HaveRunOn, HandsOut, TellsRenewal, TellsRun, ComesToRenewal};
 ghost use Rattle.ring_station.specs.Within.{KeepsTo};
 
 use crate::crew::Crew;
@@ -73,6 +73,9 @@ pub fn run_and_renew<
     // A renewal's fault comes behind a run to its end, and says what kept the station from being renewed.
     ensures ran { IfErr result (ComesToRenewal scripts.now station.old.ports.items station.new.ports.items) }
     ensures renewal { IfErr result (TellsRenewal station.new) }
+
+    // A run's fault is that of what its threads and the audit came to.
+    ensures run { IfErr result (TellsRun scripts.now turns station.old station.new) }
     ensures no_turn { turns ≡ 0 → IsErr result }
 
     // However it ends, no part did more than its turns let it, and each port took what it took behind what
