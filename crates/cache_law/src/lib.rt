@@ -1,5 +1,5 @@
-//! The laws of a cache unit: its state, its steps, what always holds, and what steps make of bytes
-//! on their way. Its caller is `cache_unit`; [`Sizes`] comes first.
+//! The laws of a cache unit: its state, its steps, what always holds. [`Sizes`] comes first; the
+//! caller is `cache_unit`.
 #![tactic(auto)]
 
 ghost use Rattle.std.specs.Prelude.{◌≡◌};
@@ -12,30 +12,30 @@ use flat_model::{Lanes, Shape, Word};
 /// The numbers of a unit and its machine.
 #[derive(Clone, Copy, PartialEq, Eq, Debug)]
 pub struct Sizes {
-    /// Frames of each set: 1 to 16.
+    /// Of each set: 1 to 16.
     pub ways: u32,
-    /// Words of a block: 1 to 16.
+    /// 1 to 16.
     pub block_words: u32,
-    /// Registers for missing blocks: 1 to 64.
+    /// For missing blocks: 1 to 64.
     pub regs: u32,
-    /// Places of the input stack: 1 to 64.
+    /// Of the input stack: 1 to 64.
     pub depth: u32,
-    /// Words of memory: 1 to 4,294,967,295, in whole blocks.
+    /// Whole blocks: 1 to 4,294,967,295.
     pub words: u32,
-    /// Sets of frames: 1 to 1024.
+    /// 1 to 1024.
     pub sets: u32,
-    /// Banks of memory: 1 to 16.
+    /// 1 to 16.
     pub banks: u32,
-    /// Commands that wait at a bank: a bank's share of a block, to 64.
+    /// A bank's share of a block, to 64.
     pub bank_queue: u32,
-    /// Words in the write queue: a block's, to 256.
+    /// A block's words, to 256.
     pub write_queue: u32,
     /// Loads awaited or ready: 1 to 64.
     pub replies: u32,
 }
 
 impl Sizes {
-    /// Those of the numbers that a [`Shape`] has.
+    /// Those of a [`Shape`].
     pub fn shape(&self) -> Shape
         ensures { result ≡ shape_of self.now }
     {
@@ -50,32 +50,32 @@ impl Sizes {
     }
 }
 
-/// What the processor asks of the cache.
+/// What the processor asks.
 #[derive(Clone, Copy, PartialEq, Eq, Debug)]
 pub enum Request {
-    /// The word at `at`, under a tag.
+    /// The word at `at`.
     Load { tag: u16, at: u32 },
-    /// Writes the lanes of `word`.
+    /// The lanes of `word`.
     Store { at: u32, word: Word, lanes: Lanes },
-    /// Wants the word's block in the cache.
+    /// The word's block in the cache.
     Prefetch { at: u32 },
 }
 
-/// A value that stands ready for the processor.
+/// A ready value.
 #[derive(Clone, Copy, PartialEq, Eq, Debug, Default)]
 pub struct Reply {
-    /// The tag of the load that it answers.
+    /// Its load's tag.
     pub tag: u16,
-    /// The word that the load gets.
+    /// The load's word.
     pub word: Word,
 }
 
-/// What a request for a word finds.
+/// What a request finds.
 #[derive(Clone, Copy, PartialEq, Eq, Debug)]
 pub enum Lookup {
     /// The word is at hand.
     Hit,
-    /// The word is on its way: a load waits for it, and it doesn't change a store's bytes.
+    /// On its way: loads wait, stores' bytes stay.
     Join,
     /// No frame holds the block.
     Miss,

@@ -1,4 +1,4 @@
-//! The access of each number.
+//! Accesses by number.
 ghost use Rattle.std.specs.Prelude.{◌≡◌, ◌≤◌, ◌<◌, ◌%◌, ◌/◌, ◌*◌, ◌+◌, ◌^◌, ◌≢◌, ℕ, length};
 ghost use Rattle.flat_judge.specs.Traffic.{
   IsOf,
@@ -18,27 +18,25 @@ use crate::Traffic;
 use rand_core::utils::{NextWord, fill_bytes_via_u32, next_u64_via_u32};
 use rand_pcg::Pcg32;
 
-/// An access: a load or a store of some bytes of one block.
+/// A load or store of bytes of one block.
 #[repr(C)]
 #[derive(Clone, Copy, PartialEq, Eq, Debug)]
 pub struct Access {
-    /// Who asks: less than the plan's requesters.
+    /// Below the plan's requesters.
     pub requester: u32,
-    /// How many bytes it has.
+    /// Bytes.
     pub length: u32,
-    /// This requester's earlier accesses: a bench sees by it who doesn't get on.
+    /// This requester's earlier accesses.
     pub turn: u64,
-    /// The address of its first byte.
+    /// Its first byte.
     pub address: u64,
-    /// Bytes that a store writes, bit `k` for byte `k`. 0: a load.
+    /// A store's bytes, bit `k` for byte `k`; 0: a load.
     pub enables: u64,
 }
 
 impl Traffic {
-    /// The access of a number.
-    ///
-    /// Requesters take turns. The accesses of a burst go to one block. A store without bytes
-    /// becomes a load.
+    /// The access of a number. Requesters take turns; a burst keeps to a block. A store without
+    /// bytes becomes a load.
     #[tactic(auto, unfolding(crate::specs::Traffic::access_of))]
     pub fn access(&self, seed: u64, number: u64) -> Access
         ensures access { result ≡ access_of self.now.plan seed number }
@@ -59,7 +57,6 @@ impl Traffic {
         }
     }
 
-    // Its distance from the first byte.
     #[tactic(auto, using(crate::proofs::Standing::piece_fits))]
     fn place(&self, block: u32, offset: u32, length: u32) -> u64
         requires there { block < self.now.plan.blocks }
@@ -133,7 +130,6 @@ impl Traffic {
     }
 }
 
-// Where a piece of a block begins.
 #[tactic(auto, using(crate::proofs::Standing::piece_below, crate::proofs::Standing::pieces_some))]
 fn piece(place: u32, bytes: u32, piece: u32) -> u32
     requires some { 1 ≤ piece }
@@ -158,7 +154,6 @@ fn lowest(number: u64, bits: u32) -> u64
     }
 }
 
-// Draws of an access, and the generator behind them.
 #[derive(Drop)]
 struct Drawn {
     place: u32,

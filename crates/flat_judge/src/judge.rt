@@ -9,29 +9,21 @@ use crate::rows::{AnswerRow, EventRow};
 use crate::table::{Due, TAGS, due_word, set_due};
 use flat_model::{Answer, Event, Word, may_answer, merge};
 
-/// Flat memory gives this answer.
 const EXPLAINED: u32 = 0;
 
-/// Flat memory never gives this answer.
 const NOT_FLAT: u32 = 1;
 
-/// There is no step to judge.
 const NO_STEP: u32 = 2;
 
-/// What memory and the table have for an event.
 #[derive(Clone, Copy)]
 pub(crate) struct Found {
-    /// Whether memory has the event's word.
     pub(crate) inside: bool,
-    /// What the event's tag is owed.
     pub(crate) owed: Option<Word>,
 }
 
-/// One step of a run, over memory's words and what each tag is owed.
-///
-/// 0: flat memory gives this answer, and `words` and `due` are as it leaves them. It writes only
-/// the tag's entry: 1 with the owed word behind a load, 0 with the value behind a take. 1: flat
-/// memory never gives it. 2: a row says nothing, or `due` hasn't an entry for each tag.
+/// One step over memory's words and what tags are owed. 0: made; of `due` only the tag's entry is
+/// written. 1: flat memory never answers so. 2: a row says nothing, or `due` isn't [`TAGS`] long. 1
+/// and 2 change nothing.
 pub fn flat_step(words: &mut [Word], due: &mut [Due], event: &EventRow, answer: &AnswerRow) -> u32
     ensures status { result
         ≡ status_of (judged words.old due.old (event_of event.now) (answer_of answer.now)) }

@@ -1,12 +1,8 @@
-//! The judge of flat memory: [`flat_step`] judges one step, over words and a table that the caller
-//! keeps.
+//! The judge of flat memory. [`flat_step`] comes first: it judges a step, over words and a table of
+//! the caller, a test bench mostly in C.
 //!
-//! Its caller is a test bench, mostly in C. Rows and results are plain numbers. Each number, row
-//! and length has an answer. Nothing allocates. After a refusal all is as it was.
-//!
-//! Traffic for a bench: a [`Plan`] says how loads and stores are drawn, so that caches find them
-//! hard. [`Traffic::access`] and [`fill_bytes`] depend on plan, seed and number alone, so a bench
-//! keeps nothing.
+//! Each number, row and length has an answer. Nothing allocates. A [`Plan`] draws traffic that
+//! caches find hard.
 #![tactic(auto)]
 
 mod access;

@@ -1,33 +1,32 @@
-//! What traffic is like.
+//! A plan of traffic.
 ghost use Rattle.std.specs.Prelude.{◌≡◌, true, is_some, IfSome};
 ghost use Rattle.flat_judge.specs.Plan.{is_plan, has_memory, has_widths, has_requesters, Memory, Widths, Requesters};
 
-/// What traffic is like. Shares are in 256ths: 0 never, 256 and more always.
+/// What traffic is like. Shares are in 256ths, 256 and more always.
 #[repr(C)]
 #[derive(Clone, Copy, PartialEq, Eq, Debug)]
 pub struct Plan {
-    /// Memory's first byte: a multiple of `block_bytes`.
+    /// A multiple of `block_bytes`.
     pub base: u64,
-    /// Memory's blocks: 1 or more, none past the last 64-bit address.
+    /// 1 or more, none past the last 64-bit address.
     pub blocks: u32,
     /// A multiple of `widest`.
     pub block_bytes: u32,
-    /// Bytes of the widest access: 1, 2, 4, .. 64. Others are an eighth of it at least.
+    /// The widest access: a power of 2 to 64. Others have an eighth or more.
     pub widest: u32,
-    /// The cache's sets, 1 or more: blocks conflict whose numbers differ by a multiple of it.
+    /// 1 or more: blocks a multiple apart conflict.
     pub sets: u32,
-    /// The share of bursts to blocks of set 0.
+    /// Share of bursts to set 0.
     pub conflicts: u32,
-    /// Accesses in a row to one block: 1 or more.
+    /// Accesses in a block: 1 or more.
     pub burst: u32,
-    /// How many take turns: 1 or more.
+    /// 1 or more.
     pub requesters: u32,
-    /// Not 0: an access is one byte, and each requester has its own in each block. So blocks are
-    /// shared and bytes aren't. A block needs a byte for each requester.
+    /// Not 0: accesses are of one byte, in each block a requester's own.
     pub apart: u32,
-    /// The share of stores.
+    /// Share of stores.
     pub stores: u32,
-    /// The share of stores that may leave bytes out. One that leaves out all is a load.
+    /// Share of stores that may leave bytes out.
     pub partial: u32,
 }
 
@@ -56,7 +55,6 @@ impl Plan {
             && u64::from(self.blocks) * u64::from(self.block_bytes) - 1 <= u64::MAX - self.base
     }
 
-    // Whether the widest access cuts a block evenly.
     #[tactic(auto, unfolding(crate::specs::Plan::has_widths))]
     fn has_widths(&self) -> bool
         ensures test { result ≡ has_widths self.now }
@@ -69,7 +67,6 @@ impl Plan {
             && self.block_bytes % self.widest == 0
     }
 
-    // Whether somebody asks, and has a byte where bytes are apart.
     #[tactic(auto, unfolding(crate::specs::Plan::has_requesters))]
     fn has_requesters(&self) -> bool
         ensures test { result ≡ has_requesters self.now }
@@ -82,10 +79,10 @@ impl Plan {
     }
 }
 
-/// The traffic of a plan.
+/// A plan's traffic.
 #[derive(Clone, Copy, PartialEq, Eq, Debug)]
 pub struct Traffic {
-    /// What it is like.
+    /// Its plan.
     pub plan: Plan,
     ghost memory: { Memory plan },
     ghost widths: { Widths plan },

@@ -1,4 +1,4 @@
-//! Why a step isn't one of flat memory.
+//! Why a step isn't flat memory's.
 ghost use Rattle.std.specs.Prelude.{◌≡◌, ℕ, true, Some};
 ghost use Rattle.flat_model.specs.Flat.{Flat};
 ghost use Rattle.flat_model.specs.Memory.{Finds};
@@ -14,18 +14,18 @@ use crate::rows::{AnswerRow, EventRow};
 use crate::table::{Due, TAGS};
 use flat_model::{Answer, Event, Word, may_answer};
 
-/// Why an answer isn't flat memory's, or why there is no step.
+/// Why a step isn't accepted. For the first three only that refusal is flat.
 #[derive(Clone, Copy)]
 pub enum Reason {
-    /// Memory has no such word: only a refusal for that is flat.
+    /// Memory has no such word.
     OutOfRange,
-    /// The store names no lane: only a refusal for that is flat.
+    /// The store names no lane.
     NoLanes,
-    /// The load's tag is owed a word: only a refusal for that is flat.
+    /// The load's tag is owed a word.
     TagInUse,
     /// The tag is owed nothing.
     NothingOwed,
-    /// The tag is owed this other word.
+    /// The tag is owed this word.
     WrongWord(Word),
     /// The event never gets this answer.
     OtherAnswer,
@@ -33,17 +33,12 @@ pub enum Reason {
     NoEvent,
     /// The answer's row says nothing.
     NoAnswer,
-    /// `due` hasn't an entry for each tag.
+    /// `due` isn't [`TAGS`] long.
     NoTable,
 }
 
-/// Why a step isn't accepted. It changes neither words nor table.
-///
-/// 0: it is. 1: memory has no such word. 2: a store without a lane. 3: the load's tag is owed a
-/// word. (After 1 to 3 only a refusal for that cause is flat.) 4: the taken tag is owed nothing. 5:
-/// it is owed another word, `owed`. 6: the event never gets such an answer. 7: the event's row says
-/// nothing. 8: the answer's row says nothing. 9: `due` hasn't an entry for each tag. 7, 8 and 9
-/// come before 1 to 6. Only 5 writes `owed`.
+/// Why a step isn't accepted: 0 if it is, else 1 to 9, in [`Reason`]'s order. 7 to 9 come first.
+/// Only 5 writes `owed`.
 pub fn flat_why(
     words: &[Word],
     due: &[Due],
@@ -66,7 +61,6 @@ pub fn flat_why(
     number(reason)
 }
 
-// Why there is no step to judge, if so.
 fn why(words: &[Word], due: &[Due], event: &EventRow, answer: &AnswerRow) -> Option<Reason>
     ensures { result
         ≡ why_step words.now due.now (event_of event.now) (answer_of answer.now) }
@@ -83,7 +77,6 @@ fn why(words: &[Word], due: &[Due], event: &EventRow, answer: &AnswerRow) -> Opt
     why_not(words, due, event, answer)
 }
 
-// Why the answer isn't flat memory's, if so.
 fn why_not(words: &[Word], due: &[Due], event: Event, answer: Answer) -> Option<Reason>
     ensures { result ≡ why_pair (flat words.now due.now) event answer }
 {

@@ -1,4 +1,4 @@
-//! Events and answers as rows of plain numbers.
+//! Events and answers as plain numbers.
 ghost use Rattle.std.specs.Prelude.{◌≡◌};
 ghost use Rattle.flat_judge.specs.Rows.{event_of, lanes_of, answer_of, event_row, answer_row, plain_event};
 
@@ -11,43 +11,41 @@ const ZERO_WORD: Word = Word {
     b3: 0,
 };
 
-/// An event by its kind: 0 load, 1 store, 2 prefetch, 3 evict, 4 drain, 5 serve, 6 arrive, 7
-/// process, 8 take. Numbers that the kind doesn't carry aren't read.
+/// Kinds: 0 load, 1 store, 2 prefetch, 3 evict, 4 drain, 5 serve, 6 arrive, 7 process, 8 take.
+/// Other kinds' numbers aren't read.
 #[repr(C)]
 #[derive(Clone, Copy)]
 pub struct EventRow {
     /// 0 to 8.
     pub kind: u32,
-    /// The tag of a load.
+    /// A load's tag.
     pub tag: u16,
-    /// A store's lanes, bit `k` for byte `k`. Bits 4 to 7 are dropped.
+    /// A store's, bit `k` for byte `k`; bits 4 to 7 are dropped.
     pub lanes: u8,
-    /// The word of a load, store or prefetch; the block of an eviction; the bank of a serve or
-    /// arrive.
+    /// The word, the evicted block, or the bank.
     pub at: u32,
-    /// The place of an arrive, process or take.
+    /// The place.
     pub place: u32,
-    /// The word of a store.
+    /// A store's word.
     pub word: Word,
 }
 
-/// An answer by its kind: 0 accepted, 1 moved, 2 value, 3 nothing, 4 refused. Numbers that the kind
-/// doesn't carry aren't read.
+/// Kinds: 0 accepted, 1 moved, 2 value, 3 nothing, 4 refused.
 #[repr(C)]
 #[derive(Clone, Copy)]
 pub struct AnswerRow {
     /// 0 to 4.
     pub kind: u32,
-    /// The number of a refusal's cause: 1 to 13.
+    /// Of a refusal: 1 to 13.
     pub cause: u32,
-    /// The tag of a value.
+    /// A value's tag.
     pub tag: u16,
-    /// The word of a value.
+    /// A value's word.
     pub word: Word,
 }
 
 impl EventRow {
-    /// `None` for a kind past the last.
+    /// `None` for other kinds.
     pub fn event(&self) -> Option<Event>
         ensures { result ≡ event_of self.now }
     {
@@ -83,7 +81,7 @@ fn lanes_of(byte: u8) -> Lanes
 }
 
 impl AnswerRow {
-    /// `None` for a kind past the last, and for a cause that isn't 1 to 13.
+    /// `None` for other kinds or causes.
     pub fn answer(&self) -> Option<Answer>
         ensures { result ≡ answer_of self.now }
     {

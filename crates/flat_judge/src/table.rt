@@ -5,21 +5,20 @@ ghost use Rattle.flat_judge.specs.Table.{due_in, owed_by, owed_or, tags_owed, ow
 
 use flat_model::Word;
 
-/// A table's entries: one for each tag.
+/// Entries of a table.
 pub const TAGS: usize = u16::MAX as usize + 1;
 
-/// What a tag is owed: `word`, if `owed` isn't 0.
+/// What a tag is owed.
 #[repr(C)]
 #[derive(Clone, Copy)]
 pub struct Due {
-    /// 0 if nothing is owed.
+    /// 0 for nothing.
     pub owed: u32,
-    /// The word that is owed.
+    /// The owed word.
     pub word: Word,
 }
 
-/// Whether a tag is owed a word. 1: it is `word`. 0: nothing, or no entry; `word` stays. The table
-/// may have any length.
+/// Whether a tag is owed a word: 1 writes it, 0 doesn't. `due` may have any length, here and below.
 pub fn flat_owed(due: &[Due], tag: u16, word: &mut Word) -> u32
     ensures status { result ≡ (if is_some (due_in due.now tag) then 1 else 0) }
     ensures word { word.new ≡ owed_or word.old (due_in due.now tag) }
@@ -33,8 +32,7 @@ pub fn flat_owed(due: &[Due], tag: u16, word: &mut Word) -> u32
     }
 }
 
-/// How many tags are owed a word, and the tag at place `n` among them, by number; without one `tag`
-/// stays. The table may have any length.
+/// How many tags are owed words, and the `n`th from 0, if any.
 #[tactic(auto, unfolding(crate::specs::Table::tags_owed))]
 pub fn flat_open(due: &[Due], n: u32, tag: &mut u16) -> u32
     ensures count { result ≡ length (tags_owed due.now) }
@@ -43,7 +41,6 @@ pub fn flat_open(due: &[Due], n: u32, tag: &mut u16) -> u32
     open_below(due, TAGS as u32, n, tag)
 }
 
-// The same of the tags below a number.
 fn open_below(due: &[Due], tags: u32, n: u32, nth: &mut u16) -> u32
     requires { tags ≤ TAGS }
     ensures count { result ≡ length (owed_below due.now tags) }

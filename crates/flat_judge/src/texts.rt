@@ -1,10 +1,8 @@
-//! The texts of reasons.
+//! Texts of reasons.
 ghost use Rattle.std.specs.Prelude.{◌≡◌, ◌<◌, length};
 ghost use Rattle.flat_judge.specs.Texts.{text_of, written};
 
-/// Writes the text of a reason of [`crate::flat_why`] with a 0 behind it, and returns its length
-/// without the 0. If both don't fit, the buffer stays. 64 bytes fit every text; a number without a
-/// reason has one too.
+/// Writes a reason's text and a 0, or nothing if they don't fit. Returns its length without the 0.
 pub fn why_text(reason: u32, text: &mut [u8]) -> u32
     ensures length { result ≡ length (text_of reason) }
     ensures fits { result < 64 }

@@ -1,22 +1,17 @@
-//! Traffic as C asks for it.
+//! Traffic for C.
 ghost use Rattle.std.specs.Prelude.{◌≡◌, length};
 ghost use Rattle.flat_judge.specs.Traffic.{access_of, bytes_behind, row_behind, status_of};
 
 use crate::{Access, Plan, fill_bytes};
 
-// The access was written.
 const DRAWN: u32 = 0;
 
-// The plan's numbers aren't as their descriptions say.
 const NO_PLAN: u32 = 1;
 
-// There is no room for the widest access.
 const NO_ROOM: u32 = 2;
 
-/// Writes the access of a number, and a store's bytes.
-///
-/// 0: done. 1: a number of the plan is out of its range. 2: `bytes` is shorter than the widest
-/// access.
+/// Writes an access and a store's bytes. 0: done. 1: the plan is out of range. 2: `bytes` is
+/// shorter than the widest access.
 pub fn traffic(plan: &Plan, seed: u64, number: u64, access: &mut Access, bytes: &mut [u8]) -> u32
     ensures status { result ≡ status_of plan.now (length bytes.old) }
     ensures access { access.new ≡ row_behind access.old result (access_of plan.now seed number) }

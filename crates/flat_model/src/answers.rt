@@ -1,4 +1,4 @@
-//! Which answers flat memory may give to an event.
+//! Which answers flat memory may give.
 
 ghost use Rattle.std.specs.Prelude.{◌≡◌};
 ghost use Rattle.flat_model.specs.Flat.{Flat, may_answer, load_refusals, store_refusals, prefetch_refusals, is_owed};
@@ -6,13 +6,11 @@ ghost use Rattle.flat_model.specs.Memory.{Finds, MovesOnly};
 
 use crate::{Answer, Cause, Event, Word};
 
-/// Whether flat memory may give this answer to the event, by what the two find there.
+/// Whether flat memory may give this answer, by what it has there.
 ///
-/// `inside` says whether there is a word at the address that a load, a store or a prefetch points at,
-/// and `owed` is the word that the tag of a load, or of the value that is taken, is owed. Where the
-/// event points at no word, or no tag is named, it doesn't matter what they say.
-///
-/// So words that are kept otherwise than in a [`crate::FlatMemory`] are judged by the same table.
+/// `inside`: the address of a load, store or prefetch has a word. `owed`: what the load's or the
+/// value's tag is owed. Other events don't read them. Words kept otherwise than in a
+/// [`crate::FlatMemory`] are judged so too.
 pub fn may_answer(event: Event, answer: Answer, inside: bool, owed: Option<Word>) -> bool
     ensures { (s : Flat) → Finds s event answer inside owed → result ≡ may_answer s event answer }
 {
@@ -41,7 +39,6 @@ pub fn may_answer(event: Event, answer: Answer, inside: bool, owed: Option<Word>
     }
 }
 
-// Whether this answer to an event that points at no word and takes nothing is one of flat memory.
 fn may_move(event: Event, answer: Answer) -> bool
     ensures { MovesOnly event → (s : Flat) → result ≡ may_answer s event answer }
 {
@@ -53,7 +50,6 @@ fn may_move(event: Event, answer: Answer) -> bool
     }
 }
 
-// Whether the word is the one that is owed.
 fn is_owed(owed: Option<Word>, word: Word) -> bool
     ensures { result ≡ is_owed owed word }
 {
@@ -63,7 +59,6 @@ fn is_owed(owed: Option<Word>, word: Word) -> bool
     }
 }
 
-// Whether a load may be refused for this cause.
 fn load_refused(inside: bool, owed: bool, cause: Cause) -> bool
     ensures { result ≡ load_refusals inside owed cause }
 {
@@ -74,7 +69,6 @@ fn load_refused(inside: bool, owed: bool, cause: Cause) -> bool
     }
 }
 
-// Whether a store may be refused for this cause.
 fn store_refused(inside: bool, any_lane: bool, cause: Cause) -> bool
     ensures { result ≡ store_refusals inside any_lane cause }
 {
@@ -85,7 +79,6 @@ fn store_refused(inside: bool, any_lane: bool, cause: Cause) -> bool
     }
 }
 
-// Whether a prefetch may be refused for this cause.
 fn prefetch_refused(inside: bool, cause: Cause) -> bool
     ensures { result ≡ prefetch_refusals inside cause }
 {

@@ -1,5 +1,4 @@
-//! The causes of refusal as one table: their names, what they say, which of them end a request or pass, and
-//! which events may be refused so.
+//! The causes of refusal as one table.
 
 ghost use Rattle.std.specs.Prelude.{◌≡◌};
 ghost use Rattle.flat_model.specs.Causes as table;
@@ -7,7 +6,7 @@ ghost use Rattle.flat_model.specs.Causes as table;
 use crate::{Cause, Event};
 
 impl Cause {
-    /// The name of the cause in words: `tag in use`.
+    /// As `tag in use`.
     pub fn name(self) -> &'static str
         ensures { result.now ≡ table.cause_name self }
     {
@@ -28,7 +27,7 @@ impl Cause {
         }
     }
 
-    /// What is in the way, as a half sentence: `all registers are in use`.
+    /// As `all registers are in use`.
     pub fn words(self) -> &'static str
         ensures { result.now ≡ table.cause_words self }
     {
@@ -49,22 +48,22 @@ impl Cause {
         }
     }
 
-    /// Whether a request that is refused so has ended: nothing that moves makes room for it.
+    /// Whether the request has ended: no move makes room for it.
     pub fn ends_request(self) -> bool
         ensures { result ≡ table.ends_request self }
     {
         matches!(self, Cause::OutOfRange | Cause::NoLanes | Cause::NotPresent)
     }
 
-    /// Whether a request that is refused so is asked again: room for it comes as things move on. The
-    /// last two causes, which no request is refused for, neither pass nor end one.
+    /// Whether to ask again: moves make room. The last two causes, which refuse no request, neither
+    /// pass nor end one.
     pub fn passes(self) -> bool
         ensures { result ≡ table.passes self }
     {
         matches!(self, Cause::TagInUse) || self.is_of_a_load()
     }
 
-    /// Whether an event of this kind may ever be refused so, wherever it points.
+    /// Whether it may ever refuse events of this kind.
     pub fn may_refuse(self, event: Event) -> bool
         ensures { result ≡ table.may_refuse event self }
     {
@@ -86,7 +85,6 @@ impl Cause {
         }
     }
 
-    // Whether it stands against bringing a block in.
     pub(crate) fn is_of_a_miss(self) -> bool
         ensures { result ≡ table.is_of_a_miss self }
     {
@@ -100,7 +98,6 @@ impl Cause {
         )
     }
 
-    // Whether it stands against a load of a tag that is owed nothing.
     pub(crate) fn is_of_a_load(self) -> bool
         ensures { result ≡ table.is_of_a_load self }
     {

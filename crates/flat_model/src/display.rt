@@ -1,4 +1,4 @@
-//! Words, masks, events and answers as a trace shows them.
+//! Words, masks, events and answers as in a trace.
 ghost use Rattle.std.specs.Prelude.{Some, [], ◌∷◌, ◌≡◌, ◌<◌};
 ghost use Rattle.std.specs.Fmt.{WritesOnOk};
 ghost use Rattle.flat_model.specs.Texts as texts;
@@ -20,7 +20,6 @@ impl fmt::Display for Word {
     }
 }
 
-// The two digits of a byte.
 fn write_byte<W: fmt::Write>(f: &mut fmt::Formatter<W>, byte: u8) -> fmt::Result
     ensures { WritesOnOk W.write_str_gives f.old result (texts.byte_text byte) f.new }
 {
@@ -28,7 +27,7 @@ fn write_byte<W: fmt::Write>(f: &mut fmt::Formatter<W>, byte: u8) -> fmt::Result
     f.write_char(hex_digit(byte % 16))
 }
 
-/// A byte to be shown: two lower-case hexadecimal digits, the higher one first.
+/// Shown as two lower-case hexadecimal digits.
 #[derive(Clone, Copy, PartialEq, Eq, Debug)]
 pub struct TwoDigits(pub u8);
 
@@ -60,14 +59,13 @@ impl fmt::Display for Lanes {
     }
 }
 
-// The digit of one lane of a mask.
 fn write_lane<W: fmt::Write>(f: &mut fmt::Formatter<W>, is_set: bool) -> fmt::Result
     ensures { WritesOnOk W.write_str_gives f.old result (texts.bit_text is_set ∷ []) f.new }
 {
     f.write_str(if is_set { "1" } else { "0" })
 }
 
-/// The event's line of a trace, without its line feed: `store 5 1000 07000000`.
+/// Its line of a trace, without line feed: `store 5 1000 07000000`.
 impl fmt::Display for Event {
     ghost output = { λ event. Some (texts.event_text event) };
 
@@ -86,8 +84,7 @@ impl fmt::Display for Event {
     }
 }
 
-/// What a trace shows of the answer: `accepted`, `moved`, `nothing`, `value 1 07000000`, and
-/// `refused` with the cause's number.
+/// As `accepted`, `value 1 07000000`, or `refused 3` for cause 3.
 impl fmt::Display for Answer {
     ghost output = { λ answer. Some (texts.answer_text answer) };
 

@@ -1,4 +1,4 @@
-//! Faults as they are told.
+//! Texts of faults.
 
 ghost use Rattle.std.specs.Prelude.{Some, ◌≡◌};
 ghost use Rattle.flat_model.specs.Faults as texts;
@@ -6,11 +6,11 @@ ghost use Rattle.flat_model.specs.Faults as texts;
 use crate::{MakeFault, ReplayFault, ShapeField, StepFault};
 use std::fmt;
 
-/// A fault's text, of which a contract knows each byte.
+/// A fault's exact text.
 #[derive(Drop)]
 pub struct FaultText<'a, F>(pub &'a F);
 
-/// `Sets is out of range`, with the name of the field, or `out of memory`.
+/// As `Sets is out of range`, or `out of memory`.
 impl fmt::Display for FaultText<'_, MakeFault> {
     ghost output = { λ told. Some (texts.make_fault_text told.0.now) };
 
@@ -22,7 +22,6 @@ impl fmt::Display for FaultText<'_, MakeFault> {
     }
 }
 
-// The name of a number of a machine.
 fn name_of(field: ShapeField) -> &'static str
     ensures { result.now ≡ texts.field_name field }
 {
@@ -43,7 +42,7 @@ fn name_of(field: ShapeField) -> &'static str
     }
 }
 
-/// What was wrong, with the place of the answer that flat memory doesn't give.
+/// What was wrong, and at which place.
 impl fmt::Display for FaultText<'_, ReplayFault> {
     ghost output = { λ told. Some (texts.replay_fault_text told.0.now) };
 

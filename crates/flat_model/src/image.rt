@@ -9,18 +9,17 @@ ghost use Rattle.flat_model.specs.Images.{byte_in, bytes_word, number_word, word
 use crate::{FlatMemory, Word};
 use std::alloc::{AllocError, Global};
 
-/// What memory begins with, whatever its size is.
+/// What memory begins with, whatever its size.
 #[derive(Drop)]
 pub enum Image {
     /// Zeros.
     Zeros,
-    /// Each word holds its own address as a little-endian number: word 4 is `04000000`.
+    /// Each word is its address, little-endian: word 4 is `04000000`.
     Address,
-    /// These bytes, in the order of memory, and zeros behind them. What memory has no room for isn't there.
+    /// These bytes in order, then zeros. What has no room is left out.
     Bytes(Vec<u8>),
 }
 
-// So many words of zeros.
 fn zero_words(alloc: Global, words: u32) -> Result<Vec<Word>, AllocError>
     ensures memory { IfOk result (λ memory. memory.items ≡ replicate words zero_word) }
     ensures words { IfOk result (λ memory. length memory.items ≡ words) }
@@ -28,7 +27,6 @@ fn zero_words(alloc: Global, words: u32) -> Result<Vec<Word>, AllocError>
     vec![in alloc; Word::default(); words as usize]
 }
 
-// The word with the bytes of a number, the lowest first.
 fn number_word(number: u32) -> Word
     ensures { result ≡ number_word number }
 {
@@ -40,7 +38,6 @@ fn number_word(number: u32) -> Word
     }
 }
 
-// The byte at a place, or zero behind the last one.
 fn byte_in(bytes: &[u8], place: usize) -> u8
     ensures { result ≡ byte_in bytes.now place }
 {
@@ -50,7 +47,6 @@ fn byte_in(bytes: &[u8], place: usize) -> u8
     }
 }
 
-// The word at an address of these bytes.
 fn bytes_word(bytes: &[u8], at: u32) -> Word
     ensures { result ≡ bytes_word bytes.now at }
 {
@@ -64,7 +60,6 @@ fn bytes_word(bytes: &[u8], at: u32) -> Word
 }
 
 impl Image {
-    // The word at an address.
     fn word(&self, at: u32) -> Word
         ensures { result ≡ word_in self.now at }
     {
@@ -75,7 +70,6 @@ impl Image {
         }
     }
 
-    // The words from the first on, one by one.
     #[tactic(auto, using(crate::proofs::Images::words_first, crate::proofs::Images::words_more, crate::proofs::Images::words_length))]
     fn words_below(&self, alloc: Global, words: u32) -> Result<Vec<Word>, AllocError>
         ensures memory { IfOk result (λ memory. memory.items ≡ words_below self.now words) }
@@ -88,7 +82,7 @@ impl Image {
         Ok(memory)
     }
 
-    /// The bytes that it was made of; none for zeros and addresses, which any memory may have.
+    /// The bytes it was made of; none for the others.
     pub fn bytes(&self) -> &[u8]
         ensures { result.now ≡ bytes_of self.now }
     {
@@ -98,7 +92,7 @@ impl Image {
         }
     }
 
-    /// What a memory of so many words begins with. `AllocError` says that there was too little memory.
+    /// The first words of a memory of this size. `AllocError`: too little memory.
     pub fn memory(&self, alloc: Global, words: u32) -> Result<Vec<Word>, AllocError>
         ensures memory { IfOk result (λ memory. memory.items ≡ memory_from self.now words) }
         ensures words { IfOk result (λ memory. length memory.items ≡ words) }
@@ -109,7 +103,7 @@ impl Image {
         }
     }
 
-    /// The same as flat memory, in which no tag is owed a word.
+    /// The same as flat memory; no tag is owed a word.
     pub fn flat_memory(&self, alloc: Global, words: u32) -> Result<FlatMemory, AllocError>
         ensures shown { IfOk result (λ flat. shown flat ≡ opening (memory_from self.now words)) }
         ensures words { IfOk result (λ flat. length (shown flat).mem ≡ words) }

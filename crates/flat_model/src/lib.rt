@@ -1,9 +1,8 @@
-//! Words and lanes of memory, the events and answers of the machine, and the flat memory that
-//! they speak of.
+//! Words and lanes of memory, a machine's events and answers, and the flat memory they speak of.
 //!
-//! These are plain types that every other crate uses. What they mean as flat memory stands in
-//! `specs/Flat.antt`: which answers an event may get, and what each pair of them changes. An [`Image`] is
-//! what memory begins with: zeros, each word's own address, or the bytes of a file.
+//! All other crates use these plain types. `specs/Flat.antt` says which answers an event may get,
+//! and what each changes. [`FlatMemory::new`] comes first; [`FlatMemory::replay`] judges a run. An
+//! [`Image`] is what memory begins with.
 #![tactic(auto)]
 
 ghost use Rattle.std.specs.Prelude.{⊤, ◌≡◌, ◌==◌, [], ◌∷◌, codes, bit_and, if◌then◌else◌};
@@ -32,25 +31,24 @@ pub use memory::{FlatMemory, ReplayFault, StepFault};
 use std::alloc::AllocError;
 use thiserror::Error;
 
-/// A word of memory: four bytes in memory order, byte 0 first. C has it as four bytes too.
+/// Four bytes in memory order, also in C.
 #[repr(C)]
 #[derive(Clone, Copy, PartialEq, Eq, Debug, Default)]
 pub struct Word {
-    /// Byte 0, the first in memory.
+    /// The first byte.
     pub b0: u8,
     /// Byte 1.
     pub b1: u8,
     /// Byte 2.
     pub b2: u8,
-    /// Byte 3, the last in memory.
+    /// The last byte.
     pub b3: u8,
 }
 
-/// A set of the four lanes of a word: bit `k` stands for the lane of byte `k`.
+/// A set of a word's lanes: bit `k` for byte `k`.
 ///
-/// Only these four bits have a meaning. The public field and `from_bits_retain` keep any others
-/// that they are given: they name no lane, a merge passes them over and [`Lanes::has_any`] doesn't
-/// count them, but two sets that differ in them are not `==`.
+/// Bits 4 to 7, which `from_bits_retain` keeps, name no lane. A merge and [`Lanes::has_any`] pass
+/// them over, but `==` compares them.
 #[derive(Clone, Copy, PartialEq, Eq, Debug, Default)]
 pub struct Lanes(pub u8);
 
@@ -58,16 +56,16 @@ impl Lanes {
     /// The lane of byte 0.
     pub const LANE_0: Lanes = Lanes(1);
 
-    /// The lane of byte 1.
+    /// Of byte 1.
     pub const LANE_1: Lanes = Lanes(2);
 
-    /// The lane of byte 2.
+    /// Of byte 2.
     pub const LANE_2: Lanes = Lanes(4);
 
-    /// The lane of byte 3.
+    /// Of byte 3.
     pub const LANE_3: Lanes = Lanes(8);
 
-    /// The four lanes with their names, lane 0 first.
+    /// The lanes' names, lane 0 first.
     pub const FLAGS: &'static [Flag<Lanes>] = &[
         Flag {
             name: "LANE_0",
@@ -123,7 +121,7 @@ impl Lanes {
         Lanes(0)
     }
 
-    /// Whether one of the four lanes is set.
+    /// Whether a lane is set.
     pub fn has_any(self) -> bool
         ensures { result ≡ has_any self }
     {
@@ -133,7 +131,7 @@ impl Lanes {
             || self.contains(Lanes::LANE_3)
     }
 
-    /// Whether all four lanes are set.
+    /// Whether all four are set.
     pub fn has_all(self) -> bool
         ensures { result ≡ has_all self }
     {
@@ -153,14 +151,13 @@ impl Lanes {
     }
 }
 
-// One byte of a merge.
 fn byte_in(under: u8, over: u8, lanes: Lanes, lane: Lanes) -> u8
     ensures { result ≡ (if bit_and lanes.0 lane.0 == lane.0 then over else under) }
 {
     if lanes.contains(lane) { over } else { under }
 }
 
-/// The bytes of `over` in the lanes, and those of `under` elsewhere.
+/// `over` in the lanes, else `under`.
 #[tactic(auto, unfolding(crate::specs::Words::merged, crate::specs::Words::has))]
 pub fn merge(under: Word, over: Word, lanes: Lanes) -> Word
     ensures { result ≡ merged under over lanes }
@@ -173,19 +170,19 @@ pub fn merge(under: Word, over: Word, lanes: Lanes) -> Word
     }
 }
 
-/// Why an event is refused. Of the causes that hold, the first in the order of the event's own
-/// list is answered, and every refusal leaves everything unchanged.
+/// Why an event is refused: the first that holds in the event's own list. A refusal changes
+/// nothing.
 #[derive(Clone, Copy, PartialEq, Eq, Debug)]
 pub enum Cause {
-    /// The word or block number isn't below the number of words or blocks.
+    /// No word or block has this number.
     OutOfRange = 1,
-    /// A store has no lane set.
+    /// A store sets no lane.
     NoLanes = 2,
-    /// The tag is awaited or stands ready.
+    /// The tag is awaited or ready.
     TagInUse = 3,
-    /// As many loads are awaited and ready as there may be.
+    /// No more loads may be awaited and ready.
     RepliesFull = 4,
-    /// Four loads wait for the word already.
+    /// Four loads wait for the word.
     TargetsFull = 5,
     /// Never answered; the number isn't used again.
     BlockQueued = 6,
@@ -193,29 +190,28 @@ pub enum Cause {
     NoRegister = 7,
     /// Every way of the set is pending.
     SetPending = 8,
-    /// The write queue has too few free places for the words that a frame would give up.
+    /// The write queue has too little room for the words of a frame.
     QueueFull = 9,
-    /// A bank has too little room for the commands that it would be sent.
+    /// A bank has too little room for the commands.
     BankFull = 10,
     /// No frame holds the block.
     NotPresent = 11,
     /// The input stack is full.
     StackFull = 12,
-    /// No register waits for the word: the register is free or isn't there, its block has no such
-    /// word, or the word is processed or stands in the input stack already.
+    /// No register waits for the word, or it is processed or stacked already.
     StrayWord = 13,
 }
 
 #[tactic(auto, unfolding(crate::specs::Flat::cause_of))]
 impl Cause {
-    /// The number of the cause, 1 to 13, by which a trace shows it.
+    /// 1 to 13, as a trace shows it.
     pub fn number(self) -> u8
         ensures { result ≡ number self }
     {
         self as u8
     }
 
-    /// The cause of a number, or `None` where no cause has it.
+    /// The cause of a number.
     pub fn from_number(number: u32) -> Option<Cause>
         ensures { result ≡ cause_of number }
     {
@@ -238,24 +234,24 @@ impl Cause {
     }
 }
 
-/// One step that the machine is asked to make.
+/// A step that the machine is asked for.
 #[derive(Clone, Copy, PartialEq, Eq, Debug)]
 pub enum Event {
-    /// The processor asks for the word at `at`, under a tag.
+    /// Asks for the word at `at`, under a tag.
     Load { tag: u16, at: u32 },
-    /// The processor writes the bytes of `word` in the lanes at `at`.
+    /// Writes the lanes of `word` at `at`.
     Store { at: u32, word: Word, lanes: Lanes },
-    /// The block of the word at `at` is wanted in the cache.
+    /// Wants the word's block in the cache.
     Prefetch { at: u32 },
-    /// The block is given up.
+    /// Gives the block up.
     Evict { block: u32 },
-    /// The front of the write queue goes to its bank.
+    /// Sends the front of the write queue to its bank.
     Drain,
     /// The bank serves its first command.
     Serve { bank: u32 },
     /// The bank's answer at `place` comes to the input stack.
     Arrive { bank: u32, place: u32 },
-    /// The entry of the input stack at `place` is processed.
+    /// The input stack's entry at `place` is processed.
     Process { place: u32 },
     /// The ready reply at `place` is taken.
     Take { place: u32 },
@@ -264,79 +260,73 @@ pub enum Event {
 /// What the machine answers.
 #[derive(Clone, Copy, PartialEq, Eq, Debug)]
 pub enum Answer {
-    /// A request or an eviction was accepted.
+    /// The request or eviction is accepted.
     Accepted,
     /// Something moved on.
     Moved,
-    /// A reply was taken: the word that the load under `tag` was owed.
+    /// The reply taken: what the load of `tag` was owed.
     Value { tag: u16, word: Word },
-    /// There was nothing to do.
+    /// Nothing was to do.
     Nothing,
-    /// Refused for this cause, with everything unchanged.
+    /// Refused, with everything unchanged.
     Refused(Cause),
 }
 
-/// The numbers of a machine that are given when it is made.
+/// A machine's numbers at run time.
 #[derive(Clone, Copy, PartialEq, Eq, Debug)]
 pub struct Shape {
-    /// Words of memory: 1 to 1,048,576, and a multiple of the words of a block.
+    /// Words of memory: 1 to 1,048,576, in whole blocks.
     pub words: u32,
-    /// Sets of the cache: 1 to 1024.
+    /// Sets: 1 to 1024.
     pub sets: u32,
-    /// Banks of memory: 1 to 16.
+    /// Banks: 1 to 16.
     pub banks: u32,
-    /// Commands that wait at a bank at most: from the words of a block divided by the banks,
-    /// rounded up, to 64.
+    /// Commands that wait at a bank: its share of a block, rounded up, to 64.
     pub bank_queue: u32,
-    /// Words that wait in the write queue at most: from the words of a block to 256.
+    /// Words in the write queue: a block's, to 256.
     pub write_queue: u32,
-    /// Loads that are awaited and ready together at most: 1 to 64.
+    /// Loads awaited and ready: 1 to 64.
     pub replies: u32,
 }
 
-/// A number of a part or a machine that can be out of its range, in the order of the checks.
-///
-/// A part checks those of its own numbers, and a part without blocks takes a block as one word.
+/// A number out of its range, in the order of checks. To a part without blocks a block is one word.
 #[derive(Clone, Copy, PartialEq, Eq, Debug)]
 pub enum ShapeField {
-    /// Words of a block: 1 to 16.
+    /// 1 to 16.
     BlockWords,
-    /// Ways of a set: 1 to 8 as a const argument, 1 to 16 at run time.
+    /// Const 1 to 8, at run time 1 to 16.
     Ways,
-    /// Registers: 1 to 16 as a const argument, 1 to 64 at run time.
+    /// Const 1 to 16, at run time 1 to 64.
     Regs,
-    /// Places of the input stack: 1 to 16 as a const argument, 1 to 64 at run time.
+    /// Of the input stack: const 1 to 16, at run time 1 to 64.
     Depth,
-    /// Words of memory, a multiple of the words of a block: 1 to 1,048,576, and 1 to 4,294,967,295 of a machine whose
-    /// numbers are all given at run time.
+    /// Whole blocks: 1 to 1,048,576, or 4,294,967,295 with all numbers at run time.
     Words,
-    /// Sets of the cache: 1 to 1024.
+    /// 1 to 1024.
     Sets,
-    /// Banks of memory: 1 to 16.
+    /// 1 to 16.
     Banks,
-    /// Commands that wait at a bank at most: from the words of a block divided by the banks,
-    /// rounded up, to 64.
+    /// A bank's share of a block, rounded up, to 64.
     BankQueue,
-    /// Words that wait in the write queue at most: from the words of a block to 256.
+    /// A block's words, to 256.
     WriteQueue,
-    /// Loads that are awaited and ready together at most: 1 to 64.
+    /// 1 to 64.
     Replies,
-    /// Ports of a station, a machine that runs on threads: 1 to 16.
+    /// Of a station, a machine on threads: 1 to 16.
     Ports,
-    /// Entries of a station's journal: 1 to 1,048,576.
+    /// A station's entries: 1 to 1,048,576.
     Journal,
-    /// Words of the image that memory begins with: as many as memory has.
+    /// As many words as memory has.
     Image,
 }
 
-/// Why a part can't be made. A bad field is named first, before any memory is asked for, and
-/// after each of these nothing is made.
+/// Why nothing is made. Fields are checked before memory is taken.
 #[derive(Clone, Copy, PartialEq, Eq, Debug, Error)]
 #[error("{}", FaultText(self))]
 pub enum MakeFault {
-    /// The first field, in the order of the checks, that is out of its range.
+    /// The first field out of its range.
     BadShape(ShapeField),
-    /// There was too little memory.
+    /// Too little memory.
     OutOfMemory,
 }
 

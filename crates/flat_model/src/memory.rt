@@ -1,4 +1,4 @@
-//! Flat memory as a value, and the replay of a run of events and answers over it.
+//! Flat memory as a value, and the replay of a run over it.
 
 ghost use Rattle.std.specs.Prelude.{◌≡◌, ◌≢◌, Err, ◌+◌, true, length, replicate, None, Some, nat_lt, slice_get, IfOk, IfErr, OnOk, OnErr};
 ghost use Rattle.std.specs.Prelude.{◌<◌, ◌≤◌};
@@ -16,16 +16,15 @@ use std::alloc::{AllocError, Global};
 use std::collections::HashMap;
 use thiserror::Error;
 
-/// Why a replay failed. After each of these the memory is as it was.
+/// Why a replay failed. The memory is as it was.
 #[derive(Clone, Copy, PartialEq, Eq, Debug, Error)]
 #[error("{}", FaultText(self))]
 pub enum ReplayFault {
-    /// There are not as many answers as events.
+    /// Not as many answers as events.
     Lengths,
-    /// The answer at this place, counted from 0, is the first that flat memory doesn't give to
-    /// its event.
+    /// The first answer, counted from 0, that flat memory doesn't give.
     Mismatch { place: usize },
-    /// There was too little memory.
+    /// Too little memory.
     OutOfMemory,
 }
 
@@ -40,13 +39,13 @@ impl From<AllocError> for ReplayFault {
     }
 }
 
-/// Why a step couldn't be made. After each of these the memory is as it was.
+/// Why no step was made. The memory is as it was.
 #[derive(Clone, Copy, PartialEq, Eq, Debug, Error)]
 #[error("{}", FaultText(self))]
 pub enum StepFault {
-    /// Flat memory doesn't give this answer to the event.
+    /// Flat memory doesn't answer so.
     Mismatch,
-    /// There was too little memory for the word that a load is owed.
+    /// Too little memory for an owed word.
     OutOfMemory,
 }
 
@@ -61,7 +60,7 @@ impl From<AllocError> for StepFault {
     }
 }
 
-/// The words of memory, and for each tag that is owed one the word that it is owed.
+/// Memory's words, and what each tag is owed.
 #[derive(Drop)]
 pub struct FlatMemory {
     words: Vec<Word>,
@@ -70,9 +69,8 @@ pub struct FlatMemory {
 
 #[tactic(auto, unfolding(crate::specs::Memory::shown))]
 impl FlatMemory {
-    /// Memory with these words, in which no tag is owed a word. The image has fewer than 2^32
-    /// words, so that each has an address. `AllocError` says that there was too little memory:
-    /// nothing is made.
+    /// Memory with these words, fewer than 2^32; no tag is owed one. `AllocError`: too little
+    /// memory.
     pub fn new(alloc: Global, image: &[Word]) -> Result<FlatMemory, AllocError>
         ensures { IfOk result (λ m. shown m ≡ opening image.now) }
     {
@@ -81,8 +79,7 @@ impl FlatMemory {
         Ok(FlatMemory { words, due })
     }
 
-    /// Memory of so many words of zeros, in which no tag is owed a word. `AllocError` says that there
-    /// was too little memory: nothing is made.
+    /// Memory with so many zeros.
     pub fn zeros(alloc: Global, words: u32) -> Result<FlatMemory, AllocError>
         ensures shown { IfOk result (λ m. shown m ≡ opening (replicate words zero_word)) }
         ensures words { IfOk result (λ m. length (shown m).mem ≡ words) }
@@ -92,29 +89,22 @@ impl FlatMemory {
         Ok(FlatMemory { words, due })
     }
 
-    /// The word at an address, or `None` where memory has no such word.
+    /// `None` outside memory.
     pub fn word(&self, at: u32) -> Option<Word>
         ensures { result ≡ slice_get (shown self.now).mem at }
     {
         self.words.get(at as usize).copied()
     }
 
-    /// The word that a tag is owed, or `None` where it is owed none.
+    /// What a tag is owed.
     pub fn due_word(&self, tag: u16) -> Option<Word>
         ensures { result ≡ (shown self.now).due tag }
     {
         self.due.get(&tag).copied()
     }
 
-    /// Makes one step of a run: an event and the answer that it got.
-    ///
-    /// It is `Ok` exactly where the answer is one that flat memory may give to the event, and the
-    /// memory is then as that pair leaves it. [`StepFault::Mismatch`] says that it is none. Only an
-    /// accepted load may need more memory, for the word that its tag is owed from now on:
-    /// [`StepFault::OutOfMemory`] says that there was too little. After both the memory is as it was.
-    ///
-    /// So a run that isn't kept in lists is judged as it goes, as [`FlatMemory::replay`] judges a
-    /// whole one.
+    /// Makes one step of a run: an event and its answer. [`StepFault::Mismatch`] says that it isn't
+    /// flat. Only an accepted load takes memory, for the word owed.
     pub fn step(&mut self, event: Event, answer: Answer) -> Result<(), StepFault>
         ensures ok { OnOk result
             (flat_step (shown self.old) event answer ≡ Some (shown self.new)) }
@@ -129,12 +119,8 @@ impl FlatMemory {
         Ok(())
     }
 
-    /// Goes through a run of events and answers, pair by pair, from this memory on.
-    ///
-    /// It is `Ok` exactly where each answer is one that flat memory may give to its event, in the
-    /// state that the pairs before it left, and the memory is then as the last pair left it.
-    /// [`ReplayFault::Lengths`] is found before anything else, all memory is taken before the
-    /// first pair is looked at, and after every fault the memory is as it was.
+    /// Makes the steps of a whole run. [`ReplayFault::Lengths`] is found first, and all memory is
+    /// taken before a pair is looked at.
     pub fn replay(
         &mut self,
         alloc: Global,
@@ -156,7 +142,6 @@ impl FlatMemory {
         Ok(())
     }
 
-    // Makes the steps of a run, up to the first pair that is none.
     fn follow(&mut self, events: &[Event], answers: &[Answer]) -> Result<(), ReplayFault>
         requires lengths { length events.now ≡ length answers.now }
         requires room { count_by is_load events.now ≤ spare self.old.due }
@@ -175,7 +160,6 @@ impl FlatMemory {
         Ok(())
     }
 
-    // Makes room for the tag that a pair adds to those that are owed a word, if it adds one.
     fn make_room(&mut self, event: Event, answer: Answer) -> Result<(), AllocError>
         ensures same { shown self.new ≡ shown self.old }
         ensures room { OnOk result (more_owed event answer ≤ spare self.new.due) }
@@ -187,7 +171,6 @@ impl FlatMemory {
         }
     }
 
-    // A copy with room for so many tags more.
     fn copy_with_room(&self, alloc: Global, room: usize) -> Result<FlatMemory, AllocError>
         ensures same { IfOk result (λ m. shown m ≡ shown self.now) }
         ensures room { IfOk result (λ m. room ≤ spare m.due) }
@@ -198,14 +181,12 @@ impl FlatMemory {
         Ok(FlatMemory { words, due })
     }
 
-    // Whether there is a word at this address.
     fn has_word(&self, at: u32) -> bool
         ensures { result ≡ nat_lt at (length (shown self.now).mem) }
     {
         (at as usize) < self.words.len()
     }
 
-    // Whether this answer to the event is one of flat memory.
     fn may_answer(&self, event: Event, answer: Answer) -> bool
         ensures { result ≡ may_answer (shown self.now) event answer }
     {
@@ -224,7 +205,6 @@ impl FlatMemory {
         may_answer(event, answer, inside, owed)
     }
 
-    // The change that a pair of flat memory makes.
     fn change(&mut self, event: Event, answer: Answer)
         requires may { may_answer (shown self.old) event answer ≡ true }
         requires room { more_owed event answer ≤ spare self.old.due }
@@ -239,7 +219,6 @@ impl FlatMemory {
         }
     }
 
-    // The tag is owed the word at an address.
     fn owe(&mut self, tag: u16, at: u32)
         requires inside { at < length (shown self.old).mem }
         requires room { 0 < spare self.old.due }
@@ -252,7 +231,6 @@ impl FlatMemory {
         let _owed = self.due.insert(tag, word);
     }
 
-    // The bytes of a word are written in these lanes.
     fn store(&mut self, at: u32, word: Word, lanes: Lanes)
         requires { at < length (shown self.old).mem }
         ensures mem { (shown self.new).mem ≡ stored (shown self.old).mem at word lanes }
@@ -262,7 +240,6 @@ impl FlatMemory {
         self.words[at as usize] = merge(old, word, lanes);
     }
 
-    // The tag is owed nothing.
     fn pay(&mut self, tag: u16)
         ensures shown { shown self.new
             ≡ record { mem = (shown self.old).mem; due = with_due (shown self.old).due tag None } }
@@ -272,7 +249,7 @@ impl FlatMemory {
     }
 }
 
-// How many events are loads: no other event makes a tag that is owed a word.
+// No other event makes a tag owed.
 fn loads_in(events: &[Event]) -> usize
     ensures { result ≡ count_by is_load events.now }
 {

@@ -1,5 +1,4 @@
-//! The operators of lanes. They are written by hand, since those that `bitflag_items!` writes say
-//! nothing of what they give.
+//! By hand, since what `bitflag_items!` writes says nothing of its results.
 #![tactic(auto, unfolding(crate::specs::Words::joined))]
 
 ghost use Rattle.std.specs.Prelude.{◌≡◌, ◌-◌, bit_and};
@@ -11,7 +10,7 @@ use std::ops::{
     BitAnd, BitAndAssign, BitOr, BitOrAssign, BitXor, BitXorAssign, Not, Sub, SubAssign,
 };
 
-/// The lanes of either set.
+/// Either set.
 impl BitOr for Lanes {
     type Output = Lanes;
 
@@ -30,7 +29,7 @@ impl BitOrAssign for Lanes {
     }
 }
 
-/// The lanes of both sets.
+/// Both sets.
 impl BitAnd for Lanes {
     type Output = Lanes;
 
@@ -49,7 +48,7 @@ impl BitAndAssign for Lanes {
     }
 }
 
-/// The lanes of one set alone.
+/// One set alone.
 impl BitXor for Lanes {
     type Output = Lanes;
 
@@ -68,7 +67,7 @@ impl BitXorAssign for Lanes {
     }
 }
 
-/// The lanes of the first set that the second doesn't have.
+/// Without the second's lanes.
 impl Sub for Lanes {
     type Output = Lanes;
 
@@ -87,7 +86,7 @@ impl SubAssign for Lanes {
     }
 }
 
-/// The lanes, of the four, that the set doesn't have.
+/// The other lanes of the four.
 impl Not for Lanes {
     type Output = Lanes;
 

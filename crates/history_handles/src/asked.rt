@@ -15,14 +15,11 @@ use crate::status::{
 use memory_histories::{ByteSet, HistoryEvent, HistoryFault};
 use std::alloc::Global;
 
-/// What the load that is open under a number may return for the byte at an address, if it is answered
-/// now: bit `k` of byte `n` of `set` says whether it may return byte `8n + k`.
+/// What an open load may return for one byte alone, if answered now: bit `k` of `set[n]` is byte
+/// `8n + k`.
 ///
-/// 1: `set` is it. 0: no such load asks for that byte. 2: `set` hasn't 32 bytes. 3: the handle is
-/// closed. By the atomic law it is the set of this byte alone, and of a byte that the load asks for there may
-/// be no verdict: 105 says that too many ways would have to be followed at its unit, or that more than 65,536
-/// words are kept of what stood there before, and 101 that there was too little memory. After each but 1 `set`
-/// is as it was; the history is so after each.
+/// 1: `set` has it. 0: no such load asks for that byte. 2: `set` hasn't 32 bytes. 3: closed. 105,
+/// 101: by the atomic law, as of [`load_response`](crate::load_response). Only 1 writes `set`.
 #[tactic(auto, using(crate::proofs::Telling::is_set))]
 pub fn may_return(
     alloc: Global,
@@ -47,7 +44,6 @@ pub fn may_return(
     told_set(found, set)
 }
 
-// Tells a set, if there is one.
 fn told_set(found: Result<Option<ByteSet>, JudgeFault>, set: &mut [u8]) -> u32
     requires { length set.old ≡ OCTETS }
     ensures { IsRowTold result set.old set.new found }
@@ -62,15 +58,11 @@ fn told_set(found: Result<Option<ByteSet>, JudgeFault>, set: &mut [u8]) -> u32
     }
 }
 
-/// What [`load_response`](crate::load_response) would say of these bytes if there is room for it, and the first of them that
-/// the load may not return. It isn't told.
+/// What [`load_response`](crate::load_response) would say of these bytes, were there room, and the
+/// first wrong one.
 ///
-/// 16: the load may not return the byte at `place`, counted from 0; by the atomic law it is the first that
-/// lies in the lowest unit whose bytes it may not return. 0, 14, 15, 105 and 3 as of [`load_response`], and
-/// 101 by the atomic law alone: there was too little memory; `place` is then as it was. The history is as it
-/// was after each.
-///
-/// [`load_response`]: crate::load_response
+/// 16: the byte at `place`, from 0; by the atomic law the first in the lowest wrong unit. 0, 14,
+/// 15, 105, 3: as there. 101: by the atomic law alone. Only 16 writes `place`.
 #[tactic(auto, using(crate::proofs::Telling::is_place))]
 pub fn wrong_place(
     alloc: Global,
@@ -94,7 +86,6 @@ pub fn wrong_place(
     told_place(found, place)
 }
 
-// Tells a fault by its number, and the place of a wrong byte.
 fn told_place(found: Option<JudgeFault>, place: &mut u64) -> u32
     ensures { IsFaultTold result place.old place.new found }
 {
@@ -117,8 +108,7 @@ fn told_cause(cause: HistoryFault, place: &mut u64) -> u32
     }
 }
 
-/// How many loads and how many stores are open. 0: `loads` and `stores` say it. 3: the handle is
-/// closed, and they are as they were.
+/// How many loads and stores are open. 0: told. 3: closed, nothing is written.
 pub fn unanswered(
     alloc: Global,
     handle: &mut HistoryHandle,
@@ -139,8 +129,7 @@ pub fn unanswered(
     DONE
 }
 
-/// The load at place `n` among those that are open, in the order of their requests. 1: `operation` is
-/// it. 0: there is none. 3: the handle is closed. After 0 and 3 `operation` is as it was.
+/// The open load at place `n`, in the order of requests. 1: told. 0: none. 3: closed.
 pub fn unanswered_load(
     alloc: Global,
     handle: &mut HistoryHandle,
@@ -160,8 +149,7 @@ pub fn unanswered_load(
     told(found, operation)
 }
 
-/// The store at place `n` among those that are open, in the order of their requests. 1: `operation` is
-/// it. 0: there is none. 3: the handle is closed. After 0 and 3 `operation` is as it was.
+/// The open store at place `n`, in the order of requests. 1: told. 0: none. 3: closed.
 pub fn unanswered_store(
     alloc: Global,
     handle: &mut HistoryHandle,
@@ -181,7 +169,6 @@ pub fn unanswered_store(
     told(found, operation)
 }
 
-// Tells an operation, if there is one.
 fn told(found: Option<Operation>, operation: &mut Operation) -> u32
     ensures { IsOperationTold result operation.old operation.new (Some found) }
 {

@@ -1,4 +1,4 @@
-//! The events of a history behind a handle.
+//! Events of a history behind a handle.
 ghost use Rattle.std.specs.Prelude.{Option};
 ghost use Rattle.memory_histories.specs.declared.events.HistoryEvent.TheVariants.{LoadRequest, LoadResponse, StoreRequest, StoreResponse};
 ghost use Rattle.history_handles.specs.Session.{Session};
@@ -12,10 +12,9 @@ use std::alloc::Global;
 
 /// A load of `length` bytes from `address` on is requested under this number.
 ///
-/// 0: the history with it is one of its law. 11: it has no byte or more than 64, or runs beyond the
-/// last address. 13: a load is open under the number. 104: the history has 2^64 - 1 events; never by the
-/// atomic law. 101: there was too little memory. 3: the handle is closed. After each but 0 the history
-/// is as it was.
+/// 0: taken. 3: closed. 11: 0 bytes, more than 64, or beyond the last address. 13: the number has
+/// an open load. 101: too little memory. 104: 2^64 - 1 events were taken; never by the atomic law.
+/// After each but 0 nothing has changed.
 pub fn load_request(
     alloc: Global,
     handle: &mut HistoryHandle,
@@ -38,16 +37,12 @@ pub fn load_request(
     )
 }
 
-/// The load that is open under this number is answered with these bytes.
+/// The load open under this number is answered with these bytes.
 ///
-/// 0: the history with it is one of its law. 14: no load is open under the number. 15: the load was
-/// requested with another length. 16: the load may not return one of the bytes. 105: there is no
-/// verdict, since too many ways would have to be followed at one of its units, or more than 65,536 words
-/// are kept of what stood there before ([`undecided`] says at which, and once it is forgotten there is
-/// one); the atomic law alone says so. 104, 101 and 3 as of [`load_request`]. After each but 0 the
-/// history is as it was.
-///
-/// [`undecided`]: crate::undecided
+/// 0: taken. 14: no such load. 15: another length was requested. 16: it may not return one of the
+/// bytes. 105, by the atomic law alone: too many ways to follow at a unit, or more than 65,536
+/// words are kept of it; [`undecided`](crate::undecided) tells which. Others, and what they leave:
+/// as of [`load_request`].
 pub fn load_response(alloc: Global, handle: &mut HistoryHandle, number: u64, bytes: &[u8]) -> u32
     ensures { (b : Option Session)
         → IsBehind handle.old b
@@ -56,12 +51,9 @@ pub fn load_response(alloc: Global, handle: &mut HistoryHandle, number: u64, byt
     tell(alloc, handle, HistoryEvent::LoadResponse { number, bytes })
 }
 
-/// A store is requested under this number: of these bytes from `address` on, those whose enable is
-/// set. Bit `k` of `enables` is the enable of byte `k`; bits beyond the last byte have no meaning.
+/// A store of these bytes from `address` on is requested; bit `k` of `enables` enables byte `k`.
 ///
-/// 0: the history with it is one of its law. 11: it has no byte or more than 64, or runs beyond the
-/// last address. 12: no byte is enabled. 13: a store is open under the number. 104, 101 and 3 as of
-/// [`load_request`]. After each but 0 the history is as it was.
+/// 0: taken. 12: no byte is enabled. Others as of [`load_request`], with stores.
 pub fn store_request(
     alloc: Global,
     handle: &mut HistoryHandle,
@@ -86,10 +78,9 @@ pub fn store_request(
     )
 }
 
-/// The store that is open under this number is answered.
+/// The store open under this number is answered.
 ///
-/// 0: the history with it is one of its law. 14: no store is open under the number. 105 as of
-/// [`load_response`]. 104, 101 and 3 as of [`load_request`]. After each but 0 the history is as it was.
+/// 0: taken. 14: no such store. Others as of [`load_response`].
 pub fn store_response(alloc: Global, handle: &mut HistoryHandle, number: u64) -> u32
     ensures { (b : Option Session)
         → IsBehind handle.old b
@@ -98,8 +89,7 @@ pub fn store_response(alloc: Global, handle: &mut HistoryHandle, number: u64) ->
     tell(alloc, handle, HistoryEvent::StoreResponse { number })
 }
 
-// Tells the history behind a handle an event. It is compiled into each of its callers, where the kind of the event is known: an
-// event is then never written to memory to be told from the others again.
+// Compiled into each caller, which knows the event's kind: the event is never written to memory.
 #[inline(always)]
 #[tactic(auto, using(crate::proofs::Telling::is_taken, crate::proofs::Telling::is_not_taken))]
 fn tell(alloc: Global, handle: &mut HistoryHandle, event: HistoryEvent) -> u32

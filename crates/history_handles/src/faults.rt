@@ -1,20 +1,19 @@
-//! Why a judge didn't take an event, or forgot nothing.
+//! Why a judge takes no event, or forgets nothing.
 use atomic_histories::AtomicFault;
 use memory_histories::{HistoryFault, StepFault};
 use std::alloc::AllocError;
 
-/// Why an event was not taken: all laws' faults as one.
+/// The faults of all laws.
 #[derive(Clone, Copy, PartialEq, Eq, Debug)]
 pub enum JudgeFault {
-    /// The history with this event is none of its law.
+    /// The law forbids it.
     Refused(HistoryFault),
-    /// There is no verdict: too many ways would have to be followed at the unit that begins at this
-    /// address, or more than 65,536 words are kept of what stood there before. The atomic law alone says
-    /// so.
+    /// No verdict, by the atomic law alone: the unit at `address` has too many ways to follow, or
+    /// more than 65,536 kept words.
     Undecided { address: u64 },
-    /// The history has as many events as can be counted: 2^64 - 1. The atomic law never says so.
+    /// 2^64 - 1 events were taken; never by the atomic law.
     TooLong,
-    /// There was too little memory.
+    /// Too little memory.
     OutOfMemory,
 }
 
@@ -48,12 +47,10 @@ impl From<AtomicFault> for JudgeFault {
     }
 }
 
-/// Why no unit was forgotten.
 #[derive(Clone, Copy)]
 pub(crate) enum ForgetFault {
-    /// The law judges each byte for itself, and forgets none.
+    /// The law judges each byte for itself.
     NoUnits,
-    /// There was too little memory.
     OutOfMemory,
 }
 

@@ -1,8 +1,7 @@
-//! A handle: what a caller in C holds of a history.
+//! What a caller in C holds of a history.
 //!
-//! The history lies in memory of its own, and the handle says where. Two functions touch the pointer, `taken` and `keep`, and one
-//! reads the mark; each is proved by hand, and what is said of them names no pointer: the history is taken out as a box, and a box
-//! is kept.
+//! `taken` and `keep` touch the pointer, and `mark` reads the mark: each is proved by hand.
+//! Contracts name no pointer, but boxes taken out and kept.
 ghost use Rattle.std.specs.Prelude.{◌≡◌, ◌≢◌, IfSome, IsNone, None, Some, is_some};
 ghost use Rattle.history_handles.specs.declared.history.OpenHistory.{OpenHistory};
 ghost use Rattle.history_handles.specs.contracts.history.OpenHistory.{the_row};
@@ -11,7 +10,7 @@ use crate::history::OpenHistory;
 use std::alloc::Global;
 use std::marker::Model;
 
-/// What C may know of a history: where it is.
+/// Where a history is: all that C may know.
 #[repr(C)]
 #[derive(Drop)]
 pub struct Opaque {
@@ -22,10 +21,10 @@ pub struct Opaque {
 #[repr(C)]
 #[derive(Drop)]
 pub struct HistoryHandle {
-    /// 0 if no history is behind it.
+    /// 0 if closed.
     pub open: u32,
     at: *mut Opaque,
-    /// The history, while the handle is open.
+    /// The history, while open.
     pub ghost history: { OpenHistory } by { the_row.coded },
 }
 
@@ -42,7 +41,6 @@ impl Model for HistoryHandle {
 impl HistoryHandle {
     ghost use Rattle.history_handles.specs.Behind.{behind};
 
-    /// Takes the history out; the handle is then closed.
     pub(crate) fn take(&mut self, alloc: Global) -> Option<Box<OpenHistory, Global>>
         ensures history { IfSome result (λ b. behind self.old ≡ Some b.value) }
         ensures closed { IsNone result → behind self.old ≡ None }
@@ -55,7 +53,6 @@ impl HistoryHandle {
         }
     }
 
-    /// Whether a history is behind it.
     pub(crate) fn is_open(&mut self) -> bool
         ensures open { result ≡ is_some (behind self.old) }
         ensures same { behind self.new ≡ behind self.old }
@@ -63,7 +60,6 @@ impl HistoryHandle {
         self.mark() != 0
     }
 
-    /// The mark: 0 if no history is behind it.
     fn mark(&mut self) -> u32
         ensures { (result ≡ self.old.open) × (self.new ≡ self.old) }
     {
@@ -78,7 +74,6 @@ impl HistoryHandle {
         unsafe { Box::from_raw(alloc, self.at as *mut OpenHistory) }
     }
 
-    /// Keeps a history in a closed handle.
     pub(crate) fn keep(&mut self, history: Box<OpenHistory, Global>)
         requires closed { behind self.old ≡ None }
         ensures { behind self.new ≡ Some history.value }

@@ -1,4 +1,4 @@
-//! A history with the operations that are open.
+//! A history and its open operations.
 ghost use Rattle.std.specs.Prelude.{◌≡◌, ◌<◌, true, None, IfOk, IfErr, OnOk, OnErr, length, slice_get};
 ghost use Rattle.history_handles.specs.History.{Passes, has_units};
 ghost use Rattle.history_handles.specs.Session.{Session, session_opening, session_after, session_refusing, session_forgetting};
@@ -19,15 +19,13 @@ use std::alloc::{AllocError, Global};
 pub struct OpenHistory {
     pub(crate) law: Law,
     pub(crate) judge: Judge,
-    /// Where the unit begins for whose sake an answer was undecided, if none was taken and no unit was
-    /// forgotten since.
+    /// The unit that left an answer undecided, until an event is taken or a unit forgotten.
     pub(crate) undecided: Option<u64>,
-    /// The stores as they were seen, and the operations that are open.
+    /// Stores as they were seen, and open operations.
     pub(crate) log: StoreLog,
 }
 
 impl OpenHistory {
-    // A history without an event.
     pub(crate) fn new(
         alloc: Global,
         law: Law,
@@ -46,8 +44,6 @@ impl OpenHistory {
         })
     }
 
-    // Takes one event. After each fault everything is as it was, but for the note of where an answer was
-    // undecided.
     #[inline(always)]
     pub(crate) fn step(&mut self, event: HistoryEvent) -> Result<(), JudgeFault>
         ensures ok { (s : Session)
@@ -69,7 +65,6 @@ impl OpenHistory {
         }
     }
 
-    // Takes one event; after each fault everything is as it was.
     #[inline(always)]
     fn taken(&mut self, event: HistoryEvent) -> Result<(), JudgeFault>
         ensures ok { (s : Session)
@@ -89,7 +84,6 @@ impl OpenHistory {
         Ok(())
     }
 
-    // Makes room for what one event adds beside the judge.
     fn make_room(&mut self) -> Result<(), AllocError>
         ensures same { (s : Session) → IsKept self.old s → IsKept self.new s }
         ensures judge { self.new.judge ≡ self.old.judge }
@@ -98,43 +92,37 @@ impl OpenHistory {
         self.log.make_room()
     }
 
-    // How many loads are open.
     pub(crate) fn open_load_count(&self) -> usize
         ensures { (s : Session) → IsKept self.now s → result ≡ length s.loads }
     {
         self.log.open_load_count()
     }
 
-    // How many stores are open.
     pub(crate) fn open_store_count(&self) -> usize
         ensures { (s : Session) → IsKept self.now s → result ≡ length s.stores }
     {
         self.log.open_store_count()
     }
 
-    // The load at this place among those that are open, in the order of their requests.
     pub(crate) fn open_load(&self, place: usize) -> Option<Operation>
         ensures { (s : Session) → IsKept self.now s → result ≡ slice_get s.loads place }
     {
         row_of(self.log.open_load(place))
     }
 
-    // The store at this place among those that are open, in the order of their requests.
     pub(crate) fn open_store(&self, place: usize) -> Option<Operation>
         ensures { (s : Session) → IsKept self.now s → result ≡ slice_get s.stores place }
     {
         row_of(self.log.open_store(place))
     }
 
-    // The load that is open under a number.
     fn load_under(&self, number: u64) -> Option<Operation>
         ensures { (s : Session) → IsKept self.now s → result ≡ load_under s.loads number }
     {
         row_of(self.log.load_under(number))
     }
 
-    // Of the bytes of the answer to the load that is open under this number, from a place on and within one unit, the first
-    // for which there is a reason.
+    // The first, from a place on within one unit.
     pub(crate) fn reason(&self, number: u64, bytes: &[u8], place: usize) -> Option<FoundReason>
         ensures { (s : Session)
             → IsKept self.now s
@@ -146,7 +134,6 @@ impl OpenHistory {
             .unit_reason(unit_bytes(self.law), number, load.address, bytes, place)
     }
 
-    // Whether bytes of a unit for none of which there is a reason are wrong together alone.
     pub(crate) fn is_together(&self) -> bool
         ensures { (s : Session)
             → IsKept self.now s
@@ -156,7 +143,6 @@ impl OpenHistory {
         is_atomic(self.law) && self.log.is_whole()
     }
 
-    // Why an event isn't taken for which there is no room.
     #[tactic(auto, using(crate::proofs::Found::not_taken, crate::proofs::Found::no_room))]
     fn fault_without_room(&self, event: HistoryEvent) -> JudgeFault
         ensures { (s : Session)
@@ -169,7 +155,6 @@ impl OpenHistory {
         }
     }
 
-    // Notes where an answer was undecided.
     fn note(&mut self, fault: JudgeFault)
         ensures { (s : Session)
             → IsKept self.old s
@@ -180,14 +165,13 @@ impl OpenHistory {
         }
     }
 
-    // What a step would say of an event, if there is room for it: `None` if it would be taken.
+    // `None` if a step would take it, were there room.
     pub(crate) fn fault(&self, event: HistoryEvent) -> Option<JudgeFault>
         ensures { (s : Session) → IsKept self.now s → IsFound self.now.judge s.history event.entry result }
     {
         self.judge.fault(event)
     }
 
-    // What the load that is open under a number may return for the byte at an address.
     pub(crate) fn may_return(
         &self,
         number: u64,
@@ -200,7 +184,6 @@ impl OpenHistory {
         self.judge.may_return(number, address)
     }
 
-    // Forgets the unit in which the byte at an address lies.
     pub(crate) fn forget(&mut self, address: u64) -> Result<(), ForgetFault>
         ensures ok { (s : Session)
             → IsKept self.old s
@@ -214,7 +197,6 @@ impl OpenHistory {
     }
 }
 
-// How many bytes a unit of a law has: each byte is one, but by the atomic law.
 fn unit_bytes(law: Law) -> u64
     ensures bytes { result ≡ unit_bytes law }
     ensures some { 0 < result }

@@ -11,19 +11,18 @@ use atomic_histories::{AtomicMemory, DEFAULT_LIMIT, UnitSize};
 use memory_histories::{ByteSet, FlatHistory, HistoryEvent, RegularMemory, Rest};
 use std::alloc::{AllocError, Global};
 
-/// A law by which a history can be judged.
+/// A law that judges histories.
 #[derive(Clone, Copy)]
 pub enum Law {
-    /// An operation takes effect at some moment between its request and its response, each byte for itself.
+    /// Each byte takes effect at some moment between request and response.
     Regular,
     /// An operation takes effect at its request.
     Flat,
-    /// An operation takes effect at one moment between its request and its response, in each aligned unit of
-    /// this size that it touches.
+    /// An operation takes effect in each aligned unit at one moment between request and response.
     Atomic(UnitSize),
 }
 
-/// A history that is judged by one of the laws.
+/// A history judged by one law.
 #[derive(Drop)]
 pub enum Judge {
     /// By the regular law.
@@ -35,7 +34,6 @@ pub enum Judge {
 }
 
 impl Judge {
-    // A history without an event, over the bytes of an image and what stands beyond it.
     #[tactic(auto, using(crate::proofs::AtomicJudge::opened))]
     pub(crate) fn new(
         alloc: Global,
@@ -55,7 +53,7 @@ impl Judge {
         }
     }
 
-    // What a step would say of an event, if there is room for it: `None` if it would be taken.
+    // `None` if a step would take it, were there room.
     pub(crate) fn fault(&self, event: HistoryEvent) -> Option<JudgeFault>
         ensures { (h : History) → IsOf self.now h → IsFound self.now h event.entry result }
     {
@@ -66,7 +64,6 @@ impl Judge {
         }
     }
 
-    // What the load that is open under a number may return for the byte at an address.
     pub(crate) fn may_return(
         &self,
         number: u64,
@@ -81,7 +78,6 @@ impl Judge {
         }
     }
 
-    // Takes one event.
     #[inline(always)]
     pub(crate) fn step(&mut self, event: HistoryEvent) -> Result<(), JudgeFault>
         ensures ok { (h : History)
@@ -99,7 +95,6 @@ impl Judge {
         }
     }
 
-    // Forgets the unit in which the byte at an address lies.
     pub(crate) fn forget(&mut self, address: u64) -> Result<(), ForgetFault>
         ensures ok { (h : History)
             → IsOf self.old h

@@ -1,8 +1,7 @@
-//! Histories behind handles: what a caller in another language holds of a history that is judged as it
-//! goes, and the calls on it.
+//! Histories behind handles: what C holds of a history that is judged as it goes.
 //!
-//! A [`HistoryHandle`] is a mark and a pointer. All zeros are a closed one. Every function is total:
-//! each number and each length has an answer. What a call says is a number.
+//! [`open_history`] comes first and [`free_history`] last. Each call answers a number, whatever
+//! numbers and lengths it gets. A [`HistoryHandle`] of zeros is closed. The caller is `kroft_c`.
 #![tactic(auto)]
 
 mod asked;

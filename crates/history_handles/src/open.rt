@@ -1,4 +1,4 @@
-//! A history is opened and freed.
+//! Opening and freeing a history.
 ghost use Rattle.std.specs.Prelude.{◌≡◌, ◌≢◌, None, IfErr, OnOk, OnErr};
 ghost use Rattle.history_handles.specs.Behind.{behind};
 ghost use Rattle.history_handles.specs.Opening.{chosen, law_of, unit_of, of_bytes, rest_of, open_fault, open_number, fault_or_memory};
@@ -12,14 +12,11 @@ use atomic_histories::UnitSize;
 use memory_histories::Rest;
 use std::alloc::{AllocError, Global};
 
-/// Why a history isn't opened.
 #[derive(Clone, Copy)]
 pub(crate) enum OpenFault {
-    /// A history is behind the handle already.
     OpenAlready,
-    /// No law has this number, or no memory begins so.
+    /// No law has this number or unit, or `rest` is neither.
     NoLaw,
-    /// There was too little memory.
     OutOfMemory,
 }
 
@@ -34,15 +31,14 @@ impl From<AllocError> for OpenFault {
     }
 }
 
-/// Opens a history without an event behind a closed handle, to be judged by a law (0: the regular
-/// one; 1: the flat one; 2: the atomic one) under which so many bytes are read and written as one: a
-/// `unit` of 1 for the first two, and of 1, 2, 4 or 8 for the atomic one, whose units are aligned.
-/// Memory begins as the bytes of the image, from address 0 on, and beyond them as `rest` says (0:
-/// zeros; 1: nothing is known).
+/// Opens an empty history behind a closed handle.
 ///
-/// 0: it stands behind the handle. 102: a history is behind the handle already. 103: no law has this
-/// number or this unit, or `rest` is neither. 101: there was too little memory. They are looked for in this order,
-/// and after each of them the handle is as it was, and no memory is kept.
+/// `law` 0 is regular, 1 flat, 2 atomic. `unit`: bytes read and written as one, 1, and also 2, 4 or
+/// 8 by the atomic law, aligned. Memory begins with the image from address 0 on; beyond it `rest` 0
+/// says zeros, 1 unknown.
+///
+/// 0: opened. 102: open already. 103: no such law, unit or rest. 101: too little memory. They are
+/// looked for in this order; after each the handle is as it was.
 pub fn open_history(
     alloc: Global,
     handle: &mut HistoryHandle,
@@ -61,8 +57,7 @@ pub fn open_history(
     }
 }
 
-/// Gives the history up, with all its memory. 0: it is given up, and the handle is closed. 3: the
-/// handle was closed already.
+/// Frees a history and closes the handle. 0: done. 3: closed already.
 pub fn free_history(alloc: Global, handle: &mut HistoryHandle) -> u32
     ensures status { result ≡ told_status (behind handle.old) }
     ensures closed { behind handle.new ≡ None }
@@ -76,7 +71,6 @@ pub fn free_history(alloc: Global, handle: &mut HistoryHandle) -> u32
     }
 }
 
-// Puts a history behind a closed handle.
 fn open_into(
     alloc: Global,
     handle: &mut HistoryHandle,
@@ -102,7 +96,6 @@ fn open_into(
     Ok(())
 }
 
-// The law and the rest that these numbers choose.
 fn chosen(law: u32, unit: u32, rest: u32) -> Option<(Law, Rest)>
     ensures { result ≡ chosen law unit rest }
 {
@@ -123,7 +116,6 @@ fn law_of(law: u32, unit: u32) -> Option<Law>
     }
 }
 
-// A law under which each byte is read and written for itself.
 fn of_bytes(law: Law, unit: u32) -> Option<Law>
     ensures { result ≡ of_bytes law unit }
 {

@@ -1,4 +1,4 @@
-//! Why the answer to a load is wrong.
+//! Why a load's answer is wrong.
 ghost use Rattle.std.specs.Prelude.{◌≡◌, Option};
 ghost use Rattle.memory_histories.specs.declared.events.HistoryEvent.TheVariants.{LoadResponse};
 ghost use Rattle.history_handles.specs.Session.{Session};
@@ -13,19 +13,15 @@ use history_reasons::{FoundReason, Reason};
 use memory_histories::{HistoryEvent, HistoryFault};
 use std::alloc::Global;
 
-/// What [`wrong_place`](crate::wrong_place) says of these bytes, and why the load may not return them: the first byte for
-/// which there is a reason, of those from that place on that lie in one unit, with who stored it last, and who overwrote
-/// that store last before the load's request, by the numbers of the stores and of the events that requested them (how many
-/// events were taken before). It isn't told. Which store is the last goes by the order of the requests.
+/// What [`wrong_place`](crate::wrong_place) says, and why. Told is the first byte from there on, in
+/// its unit, that the regular law explains. With it come its last store and the last one to
+/// overwrite that before the load, by the order of requests.
 ///
-/// 16: `row` has the byte's place and the reason. 0, 14, 15, 105, 101 and 3 as of `wrong_place`, and `row` is as it was.
+/// 16: `row` tells it. Others: as there, and `row` stays.
 ///
-/// The reason is the regular law's, of that byte alone, and depends on the history alone. By the regular and the flat law
-/// each byte is a unit. While fewer than 8,192 bytes were stored, there is none exactly if the regular law allows each byte
-/// of the unit: then by the atomic law it is 4, they stood there together at no moment, and by the flat law none (0); `row`
-/// has the first wrong place. Then the first stores are forgotten, 4,096 bytes at a time, and the last 4,096 to 8,191 are
-/// left: a byte's reason is 3 if one of them had the byte and the load may see none of those that had it, and otherwise
-/// there is none (0).
+/// The regular and the flat law have a byte as unit. Below 8,192 stored bytes no byte has a reason
+/// exactly if the regular law allows all of the unit. Then `row` has the first wrong place, and 4
+/// by the atomic law, 0 by the flat. Later the last 4,096 to 8,191 are kept, and give 3 or 0.
 #[tactic(auto, using(crate::proofs::Whys::is_why))]
 pub fn why(
     alloc: Global,
@@ -51,7 +47,6 @@ pub fn why(
     told_row(found, together, reason, row)
 }
 
-// The place of the byte that is wrong, if one is.
 fn place_of(found: Option<JudgeFault>) -> usize
     ensures { result ≡ place_of found }
 {
@@ -61,7 +56,6 @@ fn place_of(found: Option<JudgeFault>) -> usize
     }
 }
 
-// Tells the row of a byte that is wrong, and else the number of why not.
 fn told_row(
     found: Option<JudgeFault>,
     together: bool,
@@ -80,7 +74,6 @@ fn told_row(
     }
 }
 
-// The row of the byte for which there is a reason, or else of the first wrong one.
 fn reason_row(place: u64, together: bool, reason: Option<FoundReason>) -> ReasonRow
     ensures { result ≡ reason_row place together reason }
 {
@@ -97,7 +90,6 @@ fn reason_row(place: u64, together: bool, reason: Option<FoundReason>) -> Reason
     }
 }
 
-// A byte's reason as a row.
 fn byte_row(place: u64, reason: Reason) -> ReasonRow
     ensures { result ≡ byte_row place reason }
 {

@@ -1,4 +1,4 @@
-//! What goes over as rows of plain numbers: operations, and sets of bytes.
+//! Operations, reasons and sets as plain numbers.
 ghost use Rattle.std.specs.Prelude.{◌≡◌, ◌+◌, ◌*◌, ◌≤◌, length};
 ghost use Rattle.memory_histories.specs.Sets.{has};
 ghost use Rattle.std.specs.Option.{option_map};
@@ -7,19 +7,18 @@ ghost use Rattle.history_handles.specs.Rows.{row_of, weight_in, octet, IsOctets}
 use history_reasons::OpenOperation;
 use memory_histories::ByteSet;
 
-/// An operation that is open: requested, and not yet answered.
+/// An open operation.
 #[repr(C)]
 #[derive(Clone, Copy, PartialEq, Eq, Debug)]
 pub struct Operation {
     /// Its number.
     pub number: u64,
-    /// The address of its first byte.
+    /// Its first byte's address.
     pub address: u64,
-    /// How many bytes it has.
+    /// Its bytes.
     pub length: u64,
 }
 
-// An open operation as a row.
 pub(crate) fn row_of(operation: Option<OpenOperation>) -> Option<Operation>
     ensures { result ≡ option_map row_of operation }
 {
@@ -33,30 +32,28 @@ pub(crate) fn row_of(operation: Option<OpenOperation>) -> Option<Operation>
     }
 }
 
-/// Why a load may not return a byte, or the bytes of a unit together. Of a store that isn't told number and event are 0.
+/// Why a load may not return a byte, or a unit's bytes together. A store that isn't told is 0.
 #[repr(C)]
 #[derive(Clone, Copy, PartialEq, Eq, Debug)]
 pub struct ReasonRow {
-    /// The place of the byte in the answer.
+    /// The byte's place in the answer.
     pub place: u64,
-    /// The number of the last store that put the byte there.
+    /// The last store that put the byte there.
     pub stored: u64,
-    /// The event that requested it: how many were taken before.
+    /// How many events were taken before its request.
     pub stored_at: u64,
-    /// The number of the last store that overwrote it before the load's request.
+    /// The last store that overwrote it before the load's request.
     pub overwritten_by: u64,
-    /// The event that requested that one.
+    /// How many events were taken before its request.
     pub overwritten_at: u64,
-    /// 0: none is told. 1: the byte was never there. 2: memory had it before the first store, and it was
-    /// overwritten. 3: a store put it there, and it was overwritten. 4: the load may return each byte of the unit for
-    /// itself, and they stood there together at no moment.
+    /// 0: none. 1: the byte was never there. 2: it was memory's first, and 3: a store's, then
+    /// overwritten. 4: each byte may come, but they never stood together.
     pub reason: u32,
 }
 
-/// How many bytes the row of a set has: bit `k` of byte `n` says whether byte `8n + k` is in the set.
+/// Bytes of a set: bit `k` of byte `n` is byte `8n + k`.
 pub const OCTETS: usize = 32;
 
-// This weight if the byte is in the set, else 0.
 fn weight_in(set: ByteSet, byte: u8, weight: u8) -> u8
     ensures weight { result ≡ weight_in (has set) byte weight }
     ensures most { result ≤ weight }
@@ -65,7 +62,6 @@ fn weight_in(set: ByteSet, byte: u8, weight: u8) -> u8
 }
 
 #[tactic(auto, unfolding(crate::specs::Rows::octet))]
-// Which of the eight bytes from `first` on are in the set.
 fn octet(set: ByteSet, first: u8) -> u8
     requires { first ≤ 248 }
     ensures { result ≡ octet (has set) first }
@@ -81,7 +77,6 @@ fn octet(set: ByteSet, first: u8) -> u8
     low + high
 }
 
-// Writes a set into its row.
 pub(crate) fn write_set(set: ByteSet, row: &mut [u8])
     requires { length row.old ≡ OCTETS }
     ensures { IsOctets row.new (has set) }

@@ -1,4 +1,4 @@
-//! The judges' answers by each law, in the words that all laws share.
+//! Each law's answers in the words that all share.
 ghost use Rattle.std.specs.Prelude.{◌≡◌, None, IfErr, OnOk, OnErr};
 ghost use Rattle.memory_histories.specs.Windows.{Windows, windows_after};
 ghost use Rattle.memory_histories.specs.Regular.{fault};
@@ -15,7 +15,6 @@ use atomic_histories::AtomicMemory;
 use memory_histories::{ByteSet, FlatHistory, HistoryEvent, HistoryFault, RegularMemory};
 use std::alloc::AllocError;
 
-// A fault of a law that finds faults alone.
 pub(crate) fn found(fault: Option<HistoryFault>) -> Option<JudgeFault>
     ensures { IsExactlyFound fault result }
 {
@@ -25,7 +24,6 @@ pub(crate) fn found(fault: Option<HistoryFault>) -> Option<JudgeFault>
     }
 }
 
-// The regular law takes one event.
 #[inline(always)]
 pub(crate) fn step_regular(
     memory: &mut RegularMemory,
@@ -43,7 +41,6 @@ pub(crate) fn step_regular(
     Ok(())
 }
 
-// The flat law takes one event.
 #[inline(always)]
 pub(crate) fn step_flat(memory: &mut FlatHistory, event: HistoryEvent) -> Result<(), JudgeFault>
     ensures ok { (f : Flat)
@@ -58,7 +55,6 @@ pub(crate) fn step_flat(memory: &mut FlatHistory, event: HistoryEvent) -> Result
     Ok(())
 }
 
-// The atomic law takes one event.
 #[inline(always)]
 #[tactic(auto, using(crate::proofs::AtomicJudge::still))]
 pub(crate) fn step_atomic(memory: &mut AtomicMemory, event: HistoryEvent) -> Result<(), JudgeFault>
@@ -76,7 +72,6 @@ pub(crate) fn step_atomic(memory: &mut AtomicMemory, event: HistoryEvent) -> Res
     Ok(())
 }
 
-// What it would say of an event.
 #[tactic(auto, using(crate::proofs::AtomicJudge::lawful))]
 pub(crate) fn found_atomic(memory: &AtomicMemory, event: HistoryEvent) -> Option<JudgeFault>
     ensures { (a : Atomic)
@@ -89,7 +84,6 @@ pub(crate) fn found_atomic(memory: &AtomicMemory, event: HistoryEvent) -> Option
     }
 }
 
-// What it shows for one byte of an open load.
 pub(crate) fn set_atomic(
     memory: &AtomicMemory,
     number: u64,
@@ -103,7 +97,6 @@ pub(crate) fn set_atomic(
     Ok(set)
 }
 
-// It forgets the unit in which the byte at an address lies.
 #[tactic(auto, using(crate::proofs::AtomicJudge::forgot, crate::proofs::AtomicJudge::still))]
 pub(crate) fn forget_atomic(memory: &mut AtomicMemory, address: u64) -> Result<(), AllocError>
     ensures ok { (a : Atomic)

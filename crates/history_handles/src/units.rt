@@ -1,4 +1,4 @@
-//! Units of the atomic law: at which one there is no verdict, and that it is forgotten.
+//! Undecided units, and forgetting them.
 ghost use Rattle.std.specs.Prelude.{◌≡◌, None, Option};
 ghost use Rattle.history_handles.specs.Session.{Session};
 ghost use Rattle.history_handles.specs.Behind.{behind, IsBehind};
@@ -9,12 +9,11 @@ use crate::handle::HistoryHandle;
 use crate::status::{CLOSED, DONE, FOUND, NO_LAW, NOT_THERE, OUT_OF_MEMORY};
 use std::alloc::Global;
 
-/// Forgets the unit in which the byte at an address lies, of a history by the atomic law. From there on its
-/// bytes are unknown: whatever a load returns there is allowed, and no answer is undecided for its sake. The
-/// other units are judged on.
+/// Forgets the atomic law's unit at an address: loads may then return anything from its bytes.
+/// Other units are judged on.
 ///
-/// 0: it is forgotten. 103: the law has no units. 101: there was too little memory. 3: the handle is closed.
-/// After each but 0 the history is as it was.
+/// 0: done. 3: closed. 101: too little memory. 103: the law has no units. After each but 0 the
+/// history is as it was.
 pub fn forget(alloc: Global, handle: &mut HistoryHandle, address: u64) -> u32
     ensures status { (b : Option Session) → IsBehind handle.old b → IsForgetStatus result b }
     ensures history { (b : Option Session)
@@ -33,11 +32,10 @@ pub fn forget(alloc: Global, handle: &mut HistoryHandle, address: u64) -> u32
     }
 }
 
-/// Where the unit begins for whose sake an answer was undecided, if no event was taken and no unit was
-/// forgotten since.
+/// Where the unit begins that left an answer undecided, until an event is taken or a unit
+/// forgotten.
 ///
-/// 1: it begins at `address`. 0: there is none. 3: the handle is closed. After 0 and 3 `address` is as it
-/// was; the history is so after each.
+/// 1: told. 0: none. 3: closed. Only 1 writes `address`.
 pub fn undecided(alloc: Global, handle: &mut HistoryHandle, address: &mut u64) -> u32
     ensures address { (b : Option Session)
         → IsBehind handle.old b

@@ -1,4 +1,4 @@
-//! The answers of a judge of histories, and their texts.
+//! Answers of a judge of histories, and their texts.
 ghost use Rattle.std.specs.Prelude.{◌≡◌, ◌<◌, ◌++◌, Some, codes};
 ghost use Rattle.std.specs.Fmt.{WritesOnOk};
 ghost use Rattle.std.specs.List.{flat_map};
@@ -17,38 +17,38 @@ use std::fmt;
 pub enum LawName {
     /// An operation takes effect at its request.
     Flat,
-    /// It takes effect at a moment between its request and its response, in each unit of memory at once.
+    /// At a moment between request and response, in each unit at once.
     Atomic,
-    /// So does each of its bytes, and each load for itself.
+    /// So does each byte, and each load for itself.
     Regular,
 }
 
-/// Whether an operation is a load or a store.
+/// A load or a store.
 #[derive(Clone, Copy, PartialEq, Eq, Debug)]
 pub enum OperationKind {
-    /// It is a load.
+    /// A load.
     Load,
-    /// It is a store.
+    /// A store.
     Store,
 }
 
 /// Where a byte that a load may return comes from.
 #[derive(Clone, Copy, PartialEq, Eq, Debug)]
 pub enum ByteSource {
-    /// Memory had it before the first store.
+    /// Memory had it at first.
     Initial,
     /// A store put it there.
     Store {
         /// The store's number.
         number: u64,
-        /// The line that requested it, counted from 1.
+        /// The line of its request, counted from 1.
         line: u64,
     },
-    /// It isn't known: the store, or that memory had it before, lies too far back.
+    /// Too far back to be known.
     Unknown,
 }
 
-/// A byte that a load may return, and where it comes from.
+/// A byte that a load may return.
 #[derive(Clone, Copy, PartialEq, Eq, Debug)]
 pub struct AllowedByte {
     /// The byte.
@@ -57,7 +57,7 @@ pub struct AllowedByte {
     pub source: ByteSource,
 }
 
-/// A byte that a load returned, and the last store that overwrote it before the load's request.
+/// A byte that a load returned, and its overwriter: the last store to it before the load.
 #[derive(Clone, Copy, PartialEq, Eq, Debug)]
 pub struct OverwrittenByte {
     /// The byte.
@@ -68,87 +68,84 @@ pub struct OverwrittenByte {
     pub number: u64,
 }
 
-/// Why a line's event is none of the law.
+/// Why an event is none of the law.
 #[derive(Drop, Debug)]
 pub enum RefusalCause {
-    /// The operation has no byte or more than 64, or runs beyond the last address.
+    /// 0 bytes, more than 64, or beyond the last address.
     OutOfRange {
         address: u64,
         length: u64,
     },
     /// No byte of the store is enabled.
     NoByteEnabled,
-    /// An operation of this kind is open under the number.
+    /// Such an operation is open under the number.
     NumberInUse,
-    /// No operation of this kind is open under the number.
+    /// No such operation is open under the number.
     NotOpen,
     /// The load was requested with another length.
     WrongLength {
         requested: u64,
         returned: u64,
     },
-    /// The byte at this address is the first that the load may not return.
+    /// The first byte that the load may not return.
     WrongByte {
-        /// The byte's address.
+        /// Its address.
         address: u64,
-        /// The byte that the load returned.
+        /// What the load returned.
         returned: u8,
-        /// Those that it may return.
+        /// What it may return.
         allowed: ByteSet,
-        /// The same in their order, each with all that it may come from: memory before the first store, and then stores
-        /// in the order of their lines.
+        /// The same in order, each with all its sources: memory first, then stores by line.
         sources: Vec<AllowedByte>,
-        /// Who overwrote the byte that it returned, if it stood there before.
+        /// Who overwrote the returned byte.
         overwritten: Option<OverwrittenByte>,
     },
-    /// At no moment between the load's request and its response its bytes of the unit that has this
-    /// address stood there.
+    /// The load's bytes in this unit stood there together at no moment.
     NoMoment {
-        /// The address of the first byte of the load that lies in the unit.
+        /// The load's first byte in the unit.
         address: u64,
-        /// Of its bytes in the unit the first that it may not return for itself, and who overwrote that, if it stood there
-        /// before.
+        /// Its first byte there that is wrong for itself, and who overwrote it.
         overwritten: Option<OverwrittenByte>,
     },
 }
 
-/// The first line of a history that is none of the law.
+/// The first line that is none of the law.
 #[derive(Drop, Debug)]
 pub struct Refusal {
-    /// The line's number, counted from 1.
+    /// Its number, counted from 1.
     pub line: u64,
-    /// What its operation is.
+    /// The operation's kind.
     pub kind: OperationKind,
     /// The operation's number.
     pub number: u64,
-    /// Why it is none of the law.
+    /// Why.
     pub cause: RefusalCause,
 }
 
-/// What became of a history that could be read.
+/// What became of a readable history.
 #[derive(Drop, Debug)]
 pub enum HistoryEnd {
     /// It is one of the law.
     OfLaw {
-        /// How many of its lines are events.
+        /// Its events.
         events: u64,
-        /// How many operations are not answered.
+        /// Its open operations.
         open: u64,
     },
     /// It is none, from this line on.
     Refused(Refusal),
-    /// From this line on the judge doesn't know.
+    /// The judge can't tell, from this line on.
     Undecided {
-        /// The line's number, counted from 1.
+        /// The line, counted from 1.
         line: u64,
-        /// The address at which the unit begins of which it doesn't.
+        /// Where the undecided unit begins.
         address: u64,
     },
 }
 
 impl HistoryEnd {
-    /// The status with which a program ends that tells it: 0 for a history of the law; 1 if it is none,
-    /// or if all operations must be answered and some are open; 6 if it isn't known.
+    /// A program's status: 0 for the law, 1 if it is none, or operations are open that must be
+    /// answered, 6 if undecided.
     pub fn status(&self, all_answered: bool) -> u8
         ensures { result ≡ verdict_status all_answered self.now }
     {
@@ -162,16 +159,16 @@ impl HistoryEnd {
     }
 }
 
-/// What became of a history under a law, as a program tells it.
+/// What became of a history under a law.
 #[derive(Clone, Copy)]
 pub struct HistoryVerdict<'a> {
     /// The law.
     pub law: LawName,
-    /// What became of the history.
+    /// What became of it.
     pub end: &'a HistoryEnd,
 }
 
-/// The bytes of a set, in their order.
+/// A set's bytes in order.
 pub fn bytes_in_set(set: ByteSet) -> ArrayVec<u8, 256>
     ensures { result.items ≡ set_bytes set }
 {
@@ -184,7 +181,7 @@ pub fn bytes_in_set(set: ByteSet) -> ArrayVec<u8, 256>
     bytes
 }
 
-/// Behind the byte: ` (store 3, line 12)` or ` (memory at first)`, or nothing if it isn't known.
+/// As ` (store 3, line 12)`, ` (memory at first)`, or nothing.
 impl fmt::Display for ByteSource {
     ghost output = { λ source. Some (source_text source) };
 
@@ -197,7 +194,7 @@ impl fmt::Display for ByteSource {
     }
 }
 
-/// `5a (store 3, line 12)`.
+/// As `5a (store 3, line 12)`.
 impl fmt::Display for AllowedByte {
     ghost output = { λ allowed. Some (allowed_text allowed) };
 
@@ -208,7 +205,7 @@ impl fmt::Display for AllowedByte {
     }
 }
 
-/// Bytes with their sources, of which one is meant: `5a (store 3, line 12) or ff (store 4, line 15)`.
+/// As `5a (store 3, line 12) or ff (store 4, line 15)`.
 #[derive(Clone, Copy)]
 pub struct Alternatives<'a>(pub &'a [AllowedByte]);
 
@@ -226,7 +223,6 @@ impl<'a> fmt::Display for Alternatives<'a> {
     }
 }
 
-// Those behind the first.
 fn write_alternatives<W: fmt::Write>(
     f: &mut fmt::Formatter<W>,
     alternatives: &[AllowedByte],
@@ -240,7 +236,6 @@ fn write_alternatives<W: fmt::Write>(
     Ok(())
 }
 
-// Who overwrote the byte that came, if it stood there before.
 #[derive(Clone, Copy)]
 struct Overwritten(Option<OverwrittenByte>);
 
@@ -259,7 +254,6 @@ impl fmt::Display for Overwritten {
     }
 }
 
-// The same with the byte's address.
 #[derive(Clone, Copy)]
 struct OverwrittenThere(Option<OverwrittenByte>);
 
@@ -279,7 +273,6 @@ impl fmt::Display for OverwrittenThere {
     }
 }
 
-// These bytes, with a text between them.
 pub(crate) fn write_joined<W: fmt::Write>(
     f: &mut fmt::Formatter<W>,
     between: &str,
@@ -297,7 +290,6 @@ pub(crate) fn write_joined<W: fmt::Write>(
     }
 }
 
-// The bytes behind the first.
 fn write_more<W: fmt::Write>(f: &mut fmt::Formatter<W>, between: &str, bytes: &[u8]) -> fmt::Result
     ensures { WritesOnOk W.write_str_gives f.old result (flat_map (λ c. between.now ++ byte_text c) bytes.now) f.new }
 {
@@ -308,7 +300,7 @@ fn write_more<W: fmt::Write>(f: &mut fmt::Formatter<W>, between: &str, bytes: &[
     Ok(())
 }
 
-// An address in hexadecimal digits.
+// In hexadecimal digits.
 #[derive(Clone, Copy)]
 struct Address(u64);
 
@@ -388,7 +380,6 @@ impl fmt::Display for RefusalCause {
     }
 }
 
-// What a load returned that stood at no moment in its unit.
 fn write_no_moment<W: fmt::Write>(
     f: &mut fmt::Formatter<W>,
     address: u64,
@@ -405,7 +396,7 @@ fn write_no_moment<W: fmt::Write>(
     )
 }
 
-/// `line 9: load 7 isn't open`.
+/// As `line 9: load 7 isn't open`.
 impl fmt::Display for Refusal {
     ghost output = { λ refusal. Some (refusal_text refusal) };
 
@@ -418,7 +409,6 @@ impl fmt::Display for Refusal {
     }
 }
 
-// How many operations are open, if some are.
 #[derive(Clone, Copy)]
 struct StillOpen(u64);
 
@@ -434,7 +424,7 @@ impl fmt::Display for StillOpen {
     }
 }
 
-/// One line, without a line feed at its end.
+/// One line, without line feed.
 impl<'a> fmt::Display for HistoryVerdict<'a> {
     ghost output = { λ verdict. Some (verdict_text verdict) };
 

@@ -1,4 +1,4 @@
-//! An event of a history that owns its bytes.
+//! An event that owns its bytes.
 
 ghost use Rattle.std.specs.Prelude.{◌≡◌};
 ghost use Rattle.history_text.specs.Lines.{plain, seen};
@@ -6,7 +6,7 @@ ghost use Rattle.history_text.specs.Lines.{plain, seen};
 use arrayvec::ArrayVec;
 use memory_histories::{HistoryEvent, MAX_LENGTH};
 
-/// The bytes of an operation, in the order of memory.
+/// An operation's bytes, in memory's order.
 pub type OperationBytes = ArrayVec<u8, MAX_LENGTH>;
 
 /// A [`HistoryEvent`] that owns its bytes.
@@ -23,8 +23,8 @@ pub enum OwnedEvent {
         number: u64,
         bytes: OperationBytes,
     },
-    /// A store is requested: of these bytes from `address` on, those whose enable is set. Bit `k` of
-    /// `enables` is the enable of byte `k`.
+    /// A store of these bytes from `address` on is requested; bit `k` of `enables` enables byte
+    /// `k`.
     StoreRequest {
         number: u64,
         address: u64,
@@ -38,7 +38,7 @@ pub enum OwnedEvent {
 }
 
 impl OwnedEvent {
-    /// The event, as a judge takes it.
+    /// As a judge takes it.
     pub fn event(&self) -> HistoryEvent<'_>
         ensures { plain result ≡ seen self.now }
     {

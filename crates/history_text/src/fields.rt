@@ -1,4 +1,4 @@
-//! The fields of a line: numbers, bytes and enables.
+//! Fields of a line.
 ghost use Rattle.std.specs.Prelude.{◌≡◌, ◌+◌, ◌^◌, ◌<◌, ◌≤◌, ◌∷◌, length, IfSome, IfNone};
 ghost use Rattle.std.specs.Option.{option_map};
 ghost use Rattle.trace_text.specs.Fields.{number_of, bit_of};
@@ -9,7 +9,6 @@ use crate::events::OperationBytes;
 use arrayvec::ArrayVec;
 use trace_text::{begins_badly, byte, hexadecimal};
 
-// The number of these decimal digits.
 fn decimal(text: &[u8]) -> Option<u64>
     ensures { result ≡ number_of most_number text.now }
 {
@@ -29,7 +28,7 @@ fn decimal(text: &[u8]) -> Option<u64>
     Some(value as u64)
 }
 
-// A number of 64 bits: hexadecimal behind `0x`, and else decimal.
+// Hexadecimal behind `0x`, else decimal.
 pub(crate) fn value(text: &[u8]) -> Option<u64>
     ensures { result ≡ value_of text.now }
 {
@@ -39,7 +38,6 @@ pub(crate) fn value(text: &[u8]) -> Option<u64>
     }
 }
 
-// The first two digits, and those behind them.
 fn first_pair(text: &[u8]) -> Option<(u8, u8, &[u8])>
     ensures some { IfSome result (λ pair. text.now ≡ pair.0 ∷ pair.1 ∷ pair.2.now) }
     ensures none { IfNone result (length text.now ≤ 1) }
@@ -50,7 +48,6 @@ fn first_pair(text: &[u8]) -> Option<(u8, u8, &[u8])>
     }
 }
 
-// The bytes of these digits, two digits a byte.
 fn digit_pairs(text: &[u8]) -> Option<OperationBytes>
     requires { length text.now ≤ 128 }
     ensures { option_map (λ bytes. bytes.items) result ≡ bytes_in text.now }
@@ -64,7 +61,6 @@ fn digit_pairs(text: &[u8]) -> Option<OperationBytes>
     if rest.is_empty() { Some(bytes) } else { None }
 }
 
-// 1 to 64 bytes.
 pub(crate) fn bytes(text: &[u8]) -> Option<OperationBytes>
     ensures { option_map (λ bytes. bytes.items) result ≡ bytes_of text.now }
 {
@@ -86,7 +82,7 @@ fn bit(byte: u8) -> Option<u64>
     }
 }
 
-// The enables of these digits: the first is the lowest bit.
+// The first digit is the lowest bit.
 fn enable_bits(digits: &[u8]) -> Option<u64>
     requires { length digits.now ≤ 64 }
     ensures value { result ≡ enables_in digits.now }
@@ -101,7 +97,7 @@ fn enable_bits(digits: &[u8]) -> Option<u64>
     }
 }
 
-// One digit for each of so many bytes; all are enabled if there is no such field.
+// With no such field all are enabled.
 pub(crate) fn enables(count: usize, digits: Option<&[u8]>) -> Option<u64>
     requires { count ≤ 64 }
     ensures { result ≡ enables_of count (option_map (λ text. text.now) digits.entry) }

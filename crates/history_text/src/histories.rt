@@ -1,4 +1,4 @@
-//! A history is read as it comes, and judged.
+//! A history is judged as it comes.
 
 ghost use Rattle.std.specs.Prelude.{◌≡◌, ◌<◌, [], length};
 ghost use Rattle.history_text.specs.Histories.{HasRead, Judges, ended_by};
@@ -14,7 +14,6 @@ use std::alloc::Global;
 use trace_text::{BUFFER_LEN, Source, TraceFault};
 
 impl Stop {
-    // What a reading gives that ends so.
     pub(crate) fn ended(self) -> Result<HistoryEnd, TraceFault>
         ensures { result ≡ ended_by self }
     {
@@ -26,22 +25,15 @@ impl Stop {
     }
 }
 
-/// Reads a history as it comes, up to the first line that is none of the judge's law, and says what
-/// became of it. Each line is read as by [`read_history_line`](crate::read_history_line), and has at
-/// most 768 bytes, LF not counted. The judge is a new one, which has taken no event, and the notes, of no line yet,
-/// are of the memory that it judges. Of a wrong byte it is told which stores are concerned ([`RefusalCause`](crate::RefusalCause)).
+/// Reads a history up to the first line that is none of the law or can't be read, and says what
+/// became of it. Lines are read as by [`read_history_line`](crate::read_history_line), with 768
+/// bytes at most. Judge and notes are new ones of the same memory.
 ///
-/// Nothing is read behind the piece in which that line ends: so on a pipe that is still being written
-/// the answer comes with the line. A faulty line ends the reading at once too.
+/// Nothing is read behind the piece in which that line ends, so a pipe's answer comes with the
+/// line. A fault gives no answer. [`TraceFault::TooManyLines`] says that line 2^64 begins.
+/// [`TraceFault::OutOfMemory`] may come in place of any answer, [`TraceFault::Write`] never.
 ///
-/// A fault gives no answer: [`TraceFault::Line`] with the number of the line, counted from 1, that
-/// can't be read; [`TraceFault::Read`] if the reader failed; [`TraceFault::TooManyLines`] if line 2^64
-/// begins. [`TraceFault::OutOfMemory`] may come in place of any answer, and [`TraceFault::Write`] never
-/// comes.
-///
-/// Beside what the judge keeps, one buffer of 4,096 bytes is kept, the number, address and length
-/// of each open load, and the notes, which have at most 8,191 bytes of stores. So a history has no limit of lines but
-/// their number's.
+/// Beside the judge's memory: a buffer of 4,096 bytes, the open loads, and 8,191 bytes of stores.
 pub fn judge_history<R: Source, J: HistoryJudge + Drop>(
     alloc: Global,
     reader: &mut R,
@@ -59,7 +51,6 @@ pub fn judge_history<R: Source, J: HistoryJudge + Drop>(
     read_through(reader, &mut lines, &mut buffer)
 }
 
-// Reads on through a buffer, up to the end or the first line that ends the reading.
 fn read_through<R: Source, J: HistoryJudge>(
     reader: &mut R,
     lines: &mut Lines<J>,

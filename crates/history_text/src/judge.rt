@@ -12,16 +12,16 @@ use memory_histories::{
 };
 use std::alloc::AllocError;
 
-/// Why a judge didn't take an event.
+/// Why a judge took no event.
 #[derive(Clone, Copy, PartialEq, Eq, Debug)]
 pub enum JudgeFault {
-    /// The history with this event is none of the law.
+    /// The law forbids it.
     Refused(HistoryFault),
-    /// The judge can't tell: it would have to keep too much of the unit that begins at this address.
+    /// It would have to keep too much of the unit at this address.
     Undecided { address: u64 },
     /// 2^64 - 1 events were taken.
     TooLong,
-    /// There was too little memory.
+    /// Too little memory.
     OutOfMemory,
 }
 
@@ -55,24 +55,21 @@ impl From<AtomicFault> for JudgeFault {
     }
 }
 
-/// A judge of histories by one law, event by event.
+/// A judge of histories by one law.
 pub trait HistoryJudge {
-    // The law that it judges by.
+    // The law.
     ghost law: { Self → Law };
 
-    // From one state to the other, it took these events, all of the law.
+    // It took these events, all of the law.
     ghost took: { Self → List Event → Self → Type 0 };
 
-    // In this state it can't tell what an event makes of the history, for the sake of the unit that begins at
-    // an address.
+    // It can't judge this event, for the unit at an address.
     ghost undecides: { Self → Event → ℕ → Type 0 };
 
-    // In this state, behind these events, it tells this set of what the open load of a number may return for
-    // the byte at an address, or none.
+    // Behind these events it tells this set, or none, for an address and a load's number.
     ghost tells: { Self → List Event → ℕ → ℕ → Option Set → Type 0 };
 
-    /// Takes the next event of a history. It is `Ok` only if the history with this event is one of the
-    /// law. After each fault the judge has taken what it had taken before.
+    /// Takes the next event.
     fn judge(&mut self, event: HistoryEvent) -> Result<(), JudgeFault>
         ensures ok { OnOk result ((start : Self) (events : List Event) → took start events self.old
             → took start (events ++ plain event.entry ∷ []) self.new
@@ -86,16 +83,14 @@ pub trait HistoryJudge {
         ensures unchanged { OnErr result ((start : Self) (events : List Event)
             → took start events self.old → took start events self.new) };
 
-    /// What the load that is open under a number may return for the byte at an address, if it is
-    /// answered now, whatever its other bytes are, or `None` if no such load asks for that byte, or the law
-    /// knows no byte for itself.
+    /// What an open load may return for the byte at an address, whatever its others are. `None`: no
+    /// such load, or the law knows no byte for itself.
     fn allowed(&self, number: u64, address: u64) -> Option<ByteSet>
         ensures { (start : Self) (events : List Event) → took start events self.now
             → (law start).allows events number address result };
 
-    /// All that the load that is open under a number may return for the byte at an address, with some other
-    /// bytes, if it is answered now, or `None` if no such load asks for that byte, or the judge can't tell.
-    /// `AllocError` says that there was too little memory.
+    /// What an open load may return for the byte at an address, with some others. `None`: no such
+    /// load, or the judge can't tell. `AllocError`: too little memory.
     fn may_answer(&self, number: u64, address: u64) -> Result<Option<ByteSet>, AllocError>
         ensures returns { IfOk result (λ set. (start : Self) (events : List Event)
             → took start events self.now → (law start).returns events number address set) }

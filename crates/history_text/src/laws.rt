@@ -15,10 +15,8 @@ use memory_histories::{FlatHistory, RegularMemory, Rest};
 use std::alloc::Global;
 use trace_text::{Sink, Source, TraceFault};
 
-/// Judges a history by the regular law, as [`judge_history`] does: memory began with the bytes of this
-/// image from address 0 on, and `rest` says what stood beyond them.
-///
-/// A fault is as there, and [`TraceFault::OutOfMemory`] may come before anything is read.
+/// [`judge_history`] by the regular law. Memory begins with the image, from address 0 on, and then
+/// as `rest` says.
 pub fn judge_by_regular_law<R: Source>(
     alloc: Global,
     reader: &mut R,
@@ -32,10 +30,8 @@ pub fn judge_by_regular_law<R: Source>(
     judge_history(alloc, reader, memory, notes)
 }
 
-/// Judges a history by the flat law, as [`judge_history`] does: an operation takes effect at its request,
-/// memory began with the bytes of this image from address 0 on, and `rest` says what stood beyond them.
-///
-/// A fault is as there, and [`TraceFault::OutOfMemory`] may come before anything is read.
+/// [`judge_history`] by the flat law: operations take effect at their request. Memory begins with
+/// the image, then as `rest` says.
 pub fn judge_by_flat_law<R: Source>(
     alloc: Global,
     reader: &mut R,
@@ -49,13 +45,11 @@ pub fn judge_by_flat_law<R: Source>(
     judge_history(alloc, reader, memory, notes)
 }
 
-/// Judges a history by the atomic law, as [`judge_history`] does: each operation takes effect at one moment
-/// between its request and its response, in each aligned unit of this size. Memory began with the bytes of
-/// this image from address 0 on, and `rest` says what stood beyond them.
+/// [`judge_history`] by the atomic law, with aligned units of this size. Memory begins with the
+/// image, then as `rest` says.
 ///
-/// [`HistoryEnd::Undecided`] names a unit at which too many ways would have to be followed: to more than
-/// `limit` pairs of a word and the stores in effect, or with too many words before now. A fault
-/// is as there, and [`TraceFault::OutOfMemory`] may come before anything is read.
+/// [`HistoryEnd::Undecided`]: a unit would have more than `limit` pairs of a word and the stores in
+/// effect to follow, or too many earlier words.
 pub fn judge_by_atomic_law<R: Source>(
     alloc: Global,
     reader: &mut R,
@@ -71,19 +65,19 @@ pub fn judge_by_atomic_law<R: Source>(
     judge_history(alloc, reader, memory, notes)
 }
 
-/// A law to choose, with what its judge has to be told.
+/// A law, and what its judge is told.
 #[derive(Clone, Copy, PartialEq, Eq, Debug)]
 pub enum HistoryLaw {
     /// An operation takes effect at its request.
     Flat,
-    /// It takes effect at a moment between its request and its response, in each unit at once.
+    /// At a moment between request and response, in each unit at once.
     Atomic {
-        /// The size of a unit.
+        /// A unit's size.
         unit: UnitSize,
-        /// To how many pairs of a word and the stores in effect ways are followed at a unit.
+        /// Most pairs of a word and the stores in effect that are followed at a unit.
         limit: usize,
     },
-    /// So does each of its bytes, and each load for itself.
+    /// So does each byte, and each load for itself.
     Regular,
 }
 
@@ -100,7 +94,7 @@ impl HistoryLaw {
     }
 }
 
-/// Judges a history by the law that is chosen, as that law's own function does.
+/// Judges a history as the law's own function does.
 pub fn judge_by_law<R: Source>(
     alloc: Global,
     reader: &mut R,
@@ -119,7 +113,6 @@ pub fn judge_by_law<R: Source>(
     }
 }
 
-// Writes a history with what its loads may have returned by the regular law.
 fn write_by_regular_law<R: Source, W: Sink>(
     alloc: Global,
     reader: &mut R,
@@ -135,7 +128,6 @@ fn write_by_regular_law<R: Source, W: Sink>(
     write_values(alloc, reader, writer, memory, notes)
 }
 
-// By the flat law.
 fn write_by_flat_law<R: Source, W: Sink>(
     alloc: Global,
     reader: &mut R,
@@ -151,7 +143,6 @@ fn write_by_flat_law<R: Source, W: Sink>(
     write_values(alloc, reader, writer, memory, notes)
 }
 
-// By the atomic law.
 fn write_by_atomic_law<R: Source, W: Sink>(
     alloc: Global,
     reader: &mut R,
@@ -169,10 +160,7 @@ fn write_by_atomic_law<R: Source, W: Sink>(
     write_values(alloc, reader, writer, memory, notes)
 }
 
-/// Judges a history by the law that is chosen, and writes its lines with what the loads may have returned,
-/// as [`write_values`] does.
-///
-/// A fault is as there, and [`TraceFault::OutOfMemory`] may come before anything is read.
+/// [`judge_by_law`], and [`write_values`] of what loads may have returned.
 pub fn write_values_by_law<R: Source, W: Sink>(
     alloc: Global,
     reader: &mut R,

@@ -1,8 +1,9 @@
-//! Histories of a memory as text: a history is read line by line, and judged as it comes.
+//! Histories of a memory as text, judged as they come.
 //!
-//! A line of a history is an event, as `load-request 7 0x1000 4`, and [`read_history_line`] reads one.
-//! [`judge_history`] reads a whole history, has each event judged by a [`HistoryJudge`], and says what
-//! became of it: a [`HistoryEnd`], which has a program's status, and whose text under a law is a [`HistoryVerdict`].
+//! [`judge_by_law`] comes first: it reads a whole history, and says in a [`HistoryEnd`] what became
+//! of it. The caller is `kroft_command`. [`judge_history`] takes any [`HistoryJudge`].
+//! [`read_history_line`] reads one line, as `load-request 7 0x1000 4`. [`HistoryVerdict`] is the
+//! text of an end.
 #![tactic(auto)]
 
 mod answers;

@@ -1,4 +1,4 @@
-//! The lines of a history.
+//! Lines of a history.
 ghost use Rattle.std.specs.Prelude.{◌≡◌, ◌==◌, IfErr};
 ghost use Rattle.std.specs.Option.{option_map};
 ghost use Rattle.trace_text.specs.Lines.{IsSaid};
@@ -10,7 +10,6 @@ use crate::events::OwnedEvent;
 use crate::fields::{bytes, enables, value};
 use trace_text::{LineFault, cut};
 
-// The first word of a line.
 #[derive(Clone, Copy)]
 enum Command {
     LoadRequest,
@@ -19,7 +18,6 @@ enum Command {
     StoreResponse,
 }
 
-// The command of this name.
 #[tactic(auto, unfolding(crate::specs::Lines::command_named))]
 fn command_named(name: &[u8]) -> Option<Command>
     ensures { result ≡ command_of name.now }
@@ -117,26 +115,22 @@ fn is_blank(text: &[u8]) -> bool
     text.iter().all(|byte| *byte == b' ')
 }
 
-// Whether a line is passed over.
 fn is_passed_over(text: &[u8]) -> bool
     ensures { result ≡ is_skipped text.now }
 {
     is_blank(text) || is_comment(text)
 }
 
-/// What a line of a history says, without its LF: an event, or `None` for a line that is passed
-/// over, which is blank or begins with `#`.
+/// What a line says, without its LF. `None`: it is blank or begins with `#`.
 ///
-/// A command and its fields have exactly one space between them: `load-request ID ADDRESS LENGTH`,
-/// `load-response ID BYTES`, `store-request ID ADDRESS BYTES`, maybe with ` ENABLES` behind it, and
-/// `store-response ID`. A number has at most 64 bits: decimal, with no zero before other digits, or
-/// hexadecimal behind `0x`. `BYTES` are 1 to 64 bytes in the order of memory, two digits each, and
-/// `ENABLES` is a digit `0` or `1` for each byte, the first byte's first; without it all are enabled.
-/// Hexadecimal digits are `0` to `9` and `a` to `f`.
+/// Lines are `load-request ID ADDRESS LENGTH`, `load-response ID BYTES`, `store-request ID ADDRESS
+/// BYTES`, maybe with ` ENABLES`, and `store-response ID`, with one space between fields. Numbers
+/// have 64 bits: decimal with no zero in front, or hexadecimal behind `0x`. `BYTES` are 1 to 64 in
+/// memory's order, two digits `0` to `9`, `a` to `f` each. `ENABLES` is `0` or `1` for each byte in
+/// that order; without it all are enabled.
 ///
-/// [`LineFault::Unknown`] says that what stands up to the first space is no command, and
-/// [`LineFault::Field`] that a field is missing, one too many, malformed or too large, or a space too
-/// many. No other fault comes.
+/// [`LineFault::Unknown`]: no command stands up to the first space. [`LineFault::Field`]: anything
+/// else. No other fault comes.
 #[tactic(auto, unfolding(crate::specs::Lines::line_of))]
 pub fn read_history_line(text: &[u8]) -> Result<Option<OwnedEvent>, LineFault>
     ensures said { seen_in result ≡ line_of text.now }

@@ -1,4 +1,4 @@
-//! The stores of a history as its lines go, to name those that are to blame for a wrong byte.
+//! A history's stores, to name those that made a byte wrong.
 
 ghost use Rattle.std.specs.Prelude.{◌≡◌, ◌<◌, ◌++◌, Some, None, OnOk, IfOk, map, slice_get};
 ghost use Rattle.memory_histories.specs.Windows.{Windows};
@@ -19,8 +19,7 @@ use history_reasons::{FoundReason, Reason, Source, StoreLog};
 use memory_histories::{ByteSet, LoadByte, Rest, StoreByte};
 use std::alloc::{AllocError, Global};
 
-/// The stores and the open loads of a history, whose moments are its lines, to say of a wrong byte which stores are
-/// concerned. As many bytes of stores are kept as a [`StoreLog`] does.
+/// A history's stores, as far back as a [`StoreLog`] has them, and open loads. Moments are lines.
 #[derive(Drop)]
 pub struct StoreNotes {
     alloc: Global,
@@ -30,9 +29,9 @@ pub struct StoreNotes {
 }
 
 impl StoreNotes {
-    /// Before the first line: of a memory that begins with this image, and beyond it as `rest` says. In each aligned unit of
-    /// this size an operation takes effect at once, and `at_request` says that it does so at its request, as by the flat law.
-    /// `AllocError` says that there was too little memory: nothing is made.
+    /// Before the first line. Memory begins with the image, then as `rest` says. Aligned units of
+    /// this size take effect at once, and at the request if `at_request`, as by the flat law.
+    /// `AllocError`: too little memory.
     pub fn new(
         alloc: Global,
         image: &[u8],
@@ -52,7 +51,6 @@ impl StoreNotes {
         })
     }
 
-    // Makes room for what one line adds. The notes are of the same history after both.
     pub(crate) fn make_room(&mut self) -> Result<(), AllocError>
         ensures same { (t : Telling) (w : Windows) → AreNotesOf self.old t w → AreNotesOf self.new t w }
         ensures room { OnOk result (HasRoom self.new.log) }
@@ -60,7 +58,6 @@ impl StoreNotes {
         self.log.make_room()
     }
 
-    // A line passes that is no event.
     pub(crate) fn pass(&mut self)
         ensures { (t : Telling) (w : Windows) → AreNotesOf self.old t w → w.moment < 18446744073709551615
             → AreNotesOf self.new t (line_then w None) }
@@ -68,7 +65,6 @@ impl StoreNotes {
         self.log.pass();
     }
 
-    // Notes an event that was taken.
     pub(crate) fn note(&mut self, event: &OwnedEvent)
         requires room { HasRoom self.old.log }
         ensures { (t : Telling) (w : Windows) → AreNotesOf self.old t w → w.moment < 18446744073709551615
@@ -77,7 +73,6 @@ impl StoreNotes {
         self.log.note(event.event());
     }
 
-    // Why an answer is wrong at a place, if these bytes are allowed there.
     pub(crate) fn wrong_byte(
         &self,
         load: OpenLoad,
@@ -109,7 +104,6 @@ impl StoreNotes {
         })
     }
 
-    // Of the bytes in a set, which an open load may return at an address, each with what it comes from.
     pub(crate) fn alternatives(
         &self,
         number: u64,
@@ -123,7 +117,6 @@ impl StoreNotes {
         self.alternatives_among(number, address, bytes.as_slice())
     }
 
-    // Of these bytes.
     fn alternatives_among(
         &self,
         number: u64,
@@ -141,7 +134,6 @@ impl StoreNotes {
         Ok(all)
     }
 
-    // Where an open load may get a byte from at an address.
     fn sources_under(&self, number: u64, address: u64, byte: u8) -> Result<Vec<Source>, AllocError>
         ensures { IfOk result (λ sources. (t : Telling) (w : Windows) → AreNotesOf self.now t w
             → sources.items ≡ sources_under t w number address byte) }
@@ -152,7 +144,6 @@ impl StoreNotes {
         }
     }
 
-    // Where a load may get a byte from.
     fn sources_of(&self, load: &LoadByte, byte: u8) -> Result<Vec<Source>, AllocError>
         ensures { IfOk result (λ sources. (t : Telling) (w : Windows) → AreNotesOf self.now t w
             → sources.items ≡ sources_of t.at_request w load.now byte) }
@@ -163,8 +154,6 @@ impl StoreNotes {
         }
     }
 
-    // Of the bytes of an answer from a place on that lie in one unit, the first that the regular law doesn't allow, and
-    // who overwrote it, if it stood there before.
     pub(crate) fn overwritten(
         &self,
         load: OpenLoad,
@@ -181,14 +170,12 @@ impl StoreNotes {
     }
 }
 
-// The line at which a store was requested.
 fn line_number(store: &StoreByte) -> u64
     ensures { result ≡ line_number store.now }
 {
     store.began.saturating_add(1)
 }
 
-// A source by its number and line.
 fn source_named(source: &Source) -> ByteSource
     ensures { result ≡ source_named source.now }
 {
@@ -201,7 +188,6 @@ fn source_named(source: &Source) -> ByteSource
     }
 }
 
-// Adds a byte with each of its sources, or without one if none is known.
 fn add_alternatives(
     all: &mut Vec<AllowedByte>,
     byte: u8,
@@ -217,7 +203,6 @@ fn add_alternatives(
     add_sources(all, byte, sources)
 }
 
-// Adds a byte with each of its sources.
 fn add_sources(all: &mut Vec<AllowedByte>, byte: u8, sources: &[Source]) -> Result<(), AllocError>
     ensures { OnOk result (all.new.items ≡ all.old.items
         ++ map (named_with byte) sources.now) }
@@ -229,7 +214,6 @@ fn add_sources(all: &mut Vec<AllowedByte>, byte: u8, sources: &[Source]) -> Resu
     Ok(())
 }
 
-// The store that overwrote a byte, by the reason why it may not be returned.
 fn overwriter_of(reason: Reason) -> Option<StoreByte>
     ensures { result ≡ overwriter_of reason }
 {
@@ -240,14 +224,12 @@ fn overwriter_of(reason: Reason) -> Option<StoreByte>
     }
 }
 
-// The byte at a place.
 fn byte_at(bytes: &[u8], place: usize) -> Option<u8>
     ensures { result ≡ slice_get bytes.now place }
 {
     bytes.get(place).copied()
 }
 
-// The byte of an answer for which a reason was found, and who overwrote it.
 fn overwritten_of(
     load: OpenLoad,
     bytes: &[u8],
@@ -265,7 +247,6 @@ fn overwritten_of(
     }
 }
 
-// This byte, if there is one and this store overwrote it.
 fn overwritten_by(
     load: OpenLoad,
     place: usize,

@@ -5,7 +5,7 @@ ghost use Rattle.register_sweeps.specs.Lacking as room;
 
 use flat_model::{Answer, Cause, Event};
 
-// Whether a request lacks a register, a frame or queue places: refused until a pump makes room.
+// It is refused until a pump makes room.
 #[inline(always)]
 pub(crate) fn is_refused_room(event: Event, answer: Answer) -> bool
     ensures { result ≡ room.is_refused_room event answer }
@@ -46,7 +46,6 @@ pub(crate) fn may_make_room(told: Option<(Event, Answer)>) -> bool
     }
 }
 
-// Whether an event changes no frame, register or queue place.
 #[inline(always)]
 fn leaves_room(event: Event) -> bool
     ensures { result ≡ room.leaves_room event }

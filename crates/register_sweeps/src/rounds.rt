@@ -38,10 +38,8 @@ impl fmt::Display for RoundsRow {
     }
 }
 
-/// The table of requests in rounds through a new machine over an image, as [`summarize_with`]
-/// counts it.
-///
-/// `AllocError`: too little memory.
+/// The requests' table, as [`summarize_with`] counts it, of rounds through a new machine over an
+/// image. `AllocError`: too little memory.
 pub fn rounds_table(
     alloc: Global,
     sizes: &Sizes,

@@ -17,10 +17,10 @@ use machine_core::ShapedMachine;
 use round_driver::keeps_whole;
 use std::fmt;
 
-// As many turns as any weight: a row's machine weighs less than 2^32.
+// A row's machine weighs less than 2^32.
 const MOST_TURNS: u64 = u32::MAX as u64;
 
-/// One number of registers, counted.
+/// What was counted with one number of registers.
 #[derive(Clone, Copy, PartialEq, Eq, Debug, Default)]
 pub struct Row {
     /// Registers of the machine.
@@ -49,7 +49,6 @@ impl fmt::Display for Row {
     }
 }
 
-// Writes a count behind its name.
 fn write_count<W: fmt::Write>(f: &mut fmt::Formatter<W>, name: &str, count: u64) -> fmt::Result
     ensures { WritesOnOk W.write_str_gives f.old result (sweep.count_text name.now count) f.new }
 {
@@ -57,7 +56,6 @@ fn write_count<W: fmt::Write>(f: &mut fmt::Formatter<W>, name: &str, count: u64)
 }
 
 impl Row {
-    // Writes what became of the requests.
     fn write_requests<W: fmt::Write>(&self, f: &mut fmt::Formatter<W>) -> fmt::Result
         ensures { WritesOnOk W.write_str_gives f.old result (sweep.requests_text self.now) f.new }
     {
@@ -66,7 +64,6 @@ impl Row {
         write_count(f, "stalled", self.stalled)
     }
 
-    // Writes what the machine did.
     fn write_work<W: fmt::Write>(&self, f: &mut fmt::Formatter<W>) -> fmt::Result
         ensures { WritesOnOk W.write_str_gives f.old result (sweep.work_text self.now) f.new }
     {
@@ -75,7 +72,6 @@ impl Row {
         write_count(f, "values", self.values)
     }
 
-    // Counts a pump by what it told.
     #[inline(always)]
     fn count_pump(&mut self, told: Option<(Event, Answer)>)
         requires { total self.old < 2 ^ 63 }
@@ -90,7 +86,6 @@ impl Row {
         }
     }
 
-    // Counts an answer that ends a request, and says whether it does.
     #[inline(always)]
     fn count_end(&mut self, answer: Answer) -> bool
         requires { total self.old < 2 ^ 63 }
@@ -112,13 +107,10 @@ impl Row {
     }
 }
 
-// How a request stands once it was asked.
 #[derive(Clone, Copy)]
 pub(crate) enum Asked {
-    // It was accepted or denied.
     Ended,
     LacksRoom,
-    // It waits for something else.
     Waits,
 }
 
@@ -138,7 +130,6 @@ impl Asked {
     }
 }
 
-// Asks a request once.
 #[inline(always)]
 #[tactic(auto, unfolding(machine_core::specs::AnyMachine::answered, machine_core::specs::AnyMachine::after_event))]
 fn ask(machine: &mut ShapedMachine, row: &mut Row, event: Event) -> Asked
@@ -240,7 +231,6 @@ fn ask_again(machine: &mut ShapedMachine, row: &mut Row, event: Event, asked: As
     }
 }
 
-// Serves a request to its end.
 fn serve(machine: &mut ShapedMachine, row: &mut Row, event: Event)
     requires few { most_weight machine.old.sizes < 2 ^ 32 }
     requires room { total row.old < 2 ^ 61 }
@@ -257,7 +247,6 @@ fn serve(machine: &mut ShapedMachine, row: &mut Row, event: Event)
     }
 }
 
-// Pumps until there is nothing left to do.
 #[tactic(auto, unfolding(machine_core::specs::AnyMachine::weight_of))]
 fn run_dry(machine: &mut ShapedMachine, row: &mut Row)
     requires few { most_weight machine.old.sizes < 2 ^ 32 }

@@ -1,4 +1,4 @@
-//! Sweeps: one row for each machine, each by a thread of its own.
+//! Sweeps: a row for each machine, by a thread of its own.
 
 ghost use Rattle.std.specs.Prelude.{⊤, ◌≡◌, ◌≢◌, ◌∷◌, [], ◌≤◌, ◌<◌, Bool, length, map, Some, None, Err, IfOk, IfErr, OnOk, true, false};
 ghost use Rattle.std.specs.List.{list_all};
@@ -24,20 +24,20 @@ use thiserror::Error;
 #[derive(Clone, Copy, PartialEq, Eq, Debug, Error)]
 #[error("{}", FaultText(self))]
 pub enum SweepFault {
-    /// The first shape or machine, counted from 0, that has a number out of its range, and the first such
-    /// number. It is found before any thread begins.
+    /// The first number out of its range, of the first such shape or machine, from 0. No thread
+    /// began.
     BadShape { place: usize, field: ShapeField },
-    /// The thread of a row used up its turns before its gate let it begin.
+    /// A thread's turns ended before its gate let it begin.
     TurnLimit,
-    /// There was too little memory.
+    /// Too little memory.
     OutOfMemory,
 }
 
-/// A fault's text, of which a contract knows each byte.
+/// A fault's exact text.
 #[derive(Drop)]
 pub struct FaultText<'a>(pub &'a SweepFault);
 
-/// `shape 2: Sets is out of range`, `turn limit` or `out of memory`.
+/// As `shape 2: Sets is out of range`.
 impl fmt::Display for FaultText<'_> {
     ghost output = { λ told. Some (sweep_fault_text told.0.now) };
 
@@ -64,12 +64,12 @@ impl From<AllocError> for SweepFault {
     }
 }
 
-/// Says when the rows of a sweep may begin, and is told when they have ended.
+/// Says when rows may begin, and is told when they ended.
 pub trait SweepGate: Sync {
-    /// Whether the gate lets every row begin, whenever it is asked.
+    /// It lets every row begin.
     ghost is_open: { Self → Bool } = { λ gate. false };
 
-    /// Whether the thread of the row at this place may begin it. It asks once in each turn.
+    /// Whether the row at this place may begin. Asked once in each turn.
     fn may(&self, place: usize) -> bool
         ensures begins { is_open self.now ≡ true → result ≡ true };
 
@@ -77,7 +77,7 @@ pub trait SweepGate: Sync {
     fn ended(&self, place: usize);
 }
 
-/// A gate that lets every row begin.
+/// Lets every row begin.
 #[derive(Drop)]
 pub struct OpenGate;
 
@@ -93,7 +93,6 @@ impl SweepGate for OpenGate {
     fn ended(&self, _place: usize) {}
 }
 
-// The row of a machine whose numbers are in their ranges.
 fn row_of(alloc: Global, sizes: &Sizes, events: &[Event]) -> Result<Row, AllocError>
     requires events { length events.now ≤ most_requests }
     requires sizes { bad_machine sizes.now ≡ None }
@@ -103,7 +102,6 @@ fn row_of(alloc: Global, sizes: &Sizes, events: &[Event]) -> Result<Row, AllocEr
     Ok(row_from(&mut machine, sizes.regs, events))
 }
 
-// What makes the row of these requests for each machine.
 #[derive(Drop)]
 struct PumpedRows<'a> {
     events: &'a [Event],
@@ -123,14 +121,11 @@ impl RowMaker for PumpedRows<'_> {
     }
 }
 
-/// The row of one shape: a new machine of it, over zeros, serves the requests one after another,
-/// and is pumped until there is nothing left to do. A request that is refused for want of room is
-/// asked again after each pump, until it is accepted or denied.
+/// One shape's row: a new machine over zeros serves the events and is pumped dry. A request that
+/// lacks room is asked again after each pump, until accepted or denied.
 ///
-/// There may be at most 16,777,216 events; they are meant to be loads, stores, prefetches and
-/// evictions. `BadShape` names the first field that is out of its range, at place 0, before any
-/// memory is asked for; `OutOfMemory` says that there was too little memory for the machine.
-/// `TurnLimit` never comes: no thread waits here.
+/// At most 16,777,216 events, meant to be requests. `BadShape` has place 0, and comes before memory
+/// is asked for. `TurnLimit` never comes.
 pub fn sweep_row(alloc: Global, shape: &ToolShape, events: &[Event]) -> Result<Row, SweepFault>
     requires { length events.now ≤ most_requests }
     ensures row { IfOk result
@@ -146,7 +141,6 @@ pub fn sweep_row(alloc: Global, shape: &ToolShape, events: &[Event]) -> Result<R
     Ok(row_of(alloc, &shape.sizes(), events)?)
 }
 
-// The machines of these shapes, whose fields are in range.
 fn machines_of(alloc: Global, shapes: &[ToolShape]) -> Result<Vec<Sizes>, AllocError>
     ensures { IfOk result (λ machines. machines.items ≡ map sizes_of shapes.now) }
 {
@@ -157,16 +151,13 @@ fn machines_of(alloc: Global, shapes: &[ToolShape]) -> Result<Vec<Sizes>, AllocE
     Ok(machines)
 }
 
-/// The rows of machines of these numbers, in their order, each by a thread of its own, so all at once.
+/// The rows of these machines, in their order, each by a thread, all at once.
 ///
-/// The thread of the row at a place has `turns` turns. In each it asks the gate whether it may
-/// begin; once it may, it makes its row as [`sweep_row`] does, and tells the gate that it has ended.
-/// There may be at most 16,777,216 events, as for [`sweep_row`].
+/// Each thread has `turns` turns, and asks the gate in each. Once it may, it makes its row as
+/// [`sweep_row`] does, and tells the gate.
 ///
-/// `BadShape` names the first machine with a number out of its range, and the first such number, before
-/// any thread begins. `OutOfMemory` says that there was too little memory, and goes before
-/// `TurnLimit`, which says that a thread used up its turns before its gate let it begin: it never comes where
-/// the gate is open and there are turns at all. A fault gives no row, and all threads have ended then.
+/// `BadShape` comes before any thread begins. `OutOfMemory` goes before `TurnLimit`. Behind a fault
+/// no row is given, and all threads have ended.
 pub fn sweep_machines<R: Threads + Sync, G: SweepGate>(
     rt: &R,
     alloc: Global,
@@ -187,8 +178,7 @@ pub fn sweep_machines<R: Threads + Sync, G: SweepGate>(
     rows_on_threads(rt, alloc, &PumpedRows { events }, machines, turns, gate)
 }
 
-/// The rows of the machines of these shapes, in their order, as [`sweep_machines`] makes them. Its faults are
-/// those of [`sweep_machines`], where a shape's fields have the ranges of a shape file.
+/// [`sweep_machines`] for shapes, whose fields have the ranges of a shape file.
 pub fn sweep<R: Threads + Sync, G: SweepGate>(
     rt: &R,
     alloc: Global,

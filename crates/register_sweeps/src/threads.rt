@@ -153,7 +153,6 @@ fn all_answers<R: Threads + Sync, K: RowMaker, G: SweepGate>(
     )
 }
 
-// Whether a thread had too little memory.
 fn one_lacks_memory<A>(answers: &[Result<A, Stop>]) -> bool
     ensures { result ≡ list_any lacks_memory answers.now }
 {
@@ -184,7 +183,6 @@ fn all_rows<A: Copy>(alloc: Global, answers: &[Result<A, Stop>]) -> Result<Vec<A
     Ok(rows)
 }
 
-// The rows of these machines, in their order.
 pub(crate) fn rows_on_threads<R: Threads + Sync, K: RowMaker, G: SweepGate>(
     rt: &R,
     alloc: Global,

@@ -20,9 +20,8 @@ use station_parts::{BankSide, Look, Stepped};
 use std::rt::Clock;
 use std::sync::atomic::{AtomicBool, Ordering};
 
-/// Runs the banks of a thread, the first of which has this number: in each turn each of them whose run goes
-/// on serves a command, one bank after another. A bank's run is over once the cache side has set the flag
-/// and a step of the bank after that finds nothing to serve.
+/// Runs banks from number `start` on, each a command a turn. A bank ends when it finds nothing to serve after
+/// the flag was set.
 pub(crate) fn run_bank_thread<R: Clock, G: Gate>(
     rt: &R,
     gate: &G,
@@ -39,7 +38,7 @@ pub(crate) fn run_bank_thread<R: Clock, G: Gate>(
     serve_on(rt, gate, start, 0, turns, done, runs);
 }
 
-/// Goes on so with the banks of a thread, each of which has had so many turns.
+/// Goes on so behind `had` turns.
 pub(crate) fn serve_on<R: Clock, G: Gate>(
     rt: &R,
     gate: &G,
@@ -56,8 +55,7 @@ pub(crate) fn serve_on<R: Clock, G: Gate>(
 {
     let mut idling = Idling::of_side();
     for turn in had..turns {
-        // The flag is read before the steps, since a command that is sent before it is set is seen
-        // by a step after that.
+        // Read first: the steps then see each command sent before the flag was set.
         let is_done = done.load(Ordering::SeqCst);
         let Some(made) = turn_of_banks(gate, start, is_done, turn, runs) else {
             return;
@@ -66,16 +64,14 @@ pub(crate) fn serve_on<R: Clock, G: Gate>(
     }
 }
 
-/// How many turns each of the banks has had that the cache side's thread serves, and what the last one
-/// came to, if there was one.
+/// Turns had, and the last one.
 #[derive(Clone, Copy)]
 pub(crate) struct Served {
     pub(crate) turns: u64,
     pub(crate) made: Option<Turn>,
 }
 
-/// Gives a turn, if one is due, to each of the banks that the cache side's thread serves, which come first.
-/// The cache side hasn't set its flag yet.
+/// A turn of the banks on the cache side's thread, if due.
 pub(crate) fn serve_beside<G: Gate>(
     gate: &G,
     is_due: bool,
@@ -103,7 +99,6 @@ pub(crate) fn serve_beside<G: Gate>(
     }
 }
 
-// A turn of each bank of a thread. `None` if the runs of all of them are over behind it.
 fn turn_of_banks<G: Gate>(
     gate: &G,
     start: usize,
@@ -126,7 +121,7 @@ fn turn_of_banks<G: Gate>(
     all
 }
 
-// A turn of a bank, if its run goes on. `None` if it is over behind it.
+// `None` if its run is over.
 fn turn_of_bank<G: Gate>(
     gate: &G,
     number: u32,
@@ -155,7 +150,6 @@ fn turn_of_bank<G: Gate>(
     Some(turn_of(stepped))
 }
 
-// Makes a step, if the gate allows it: what it answered, and `None` if it doesn't.
 fn take_turn(may: bool, bank: &mut BankSide) -> Option<Stepped>
     ensures same { bank_id bank.new ≡ bank_id bank.old }
     ensures turn { IsTurn BankSteps may bank.old bank.new result }

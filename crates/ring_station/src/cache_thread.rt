@@ -22,7 +22,7 @@ use station_parts::{CacheSide, Entry, Look, Source, Stepped};
 use std::rt::Clock;
 use std::sync::atomic::{AtomicBool, Ordering};
 
-/// Runs the cache side, and beside it those banks that its thread serves, to the end of each.
+/// Runs the cache side, and the banks on its thread.
 pub(crate) fn run_cache<
     R: Clock,
     G: Gate,
@@ -50,12 +50,10 @@ pub(crate) fn run_cache<
     end
 }
 
-// Goes round the sources that have an item, a step a turn, until every port is done and the unit is at rest; then it
-// sets the flag. It must not set it in another case: banks end by it. A journal that has no room
-// has none in a later turn either, so a step that finds it full is the last.
+// The flag is set only when every port is done and the unit is at rest, since banks end by it. A full journal
+// never gets room.
 //
-// The banks of this thread have a turn whenever the round comes to them, and behind each turn in which the cache side
-// made no step. The result says how many they have had, too.
+// The result counts the banks' turns too.
 fn go_round<
     R: Clock,
     G: Gate,
@@ -103,8 +101,6 @@ fn go_round<
     (ThreadEnd::stopped(turns, ThreadFault::TurnLimit), had)
 }
 
-// Goes on to the next source of which an item is known and makes a step there, if the gate allows it: what it
-// answered, and `None` if it doesn't.
 fn turn_round<const WAYS: usize, const WORDS: usize, const REGS: usize, const DEPTH: usize>(
     may: bool,
     round: &mut Round,
@@ -119,7 +115,6 @@ fn turn_round<const WAYS: usize, const WORDS: usize, const REGS: usize, const DE
     stepped
 }
 
-// Makes a step at the source, if the gate allows it: what it answered, and `None` if it doesn't.
 fn take_turn<const WAYS: usize, const WORDS: usize, const REGS: usize, const DEPTH: usize>(
     may: bool,
     source: Source,
@@ -134,7 +129,6 @@ fn take_turn<const WAYS: usize, const WORDS: usize, const REGS: usize, const DEP
     Some(cache.step_with(source, Look::IfNeeded))
 }
 
-// Whether the entry at this place of the journal is there, and ends a port.
 fn has_ended_port<const WAYS: usize, const WORDS: usize, const REGS: usize, const DEPTH: usize>(
     cache: &CacheSide<WAYS, WORDS, REGS, DEPTH>,
     place: u32,
@@ -144,7 +138,6 @@ fn has_ended_port<const WAYS: usize, const WORDS: usize, const REGS: usize, cons
     matches!(cache.entry(place), Some(Entry::Ended { .. }))
 }
 
-// How many ports have still to end, if one more has or hasn't.
 fn still_open(ports: u32, has_ended: bool) -> u32
     ensures { result ≡ (if has_ended then ports - 1 else ports) }
 {

@@ -1,4 +1,4 @@
-//! How many threads a run has, and what they have in hand.
+//! The threads of a run.
 ghost use Rattle.std.specs.Prelude.{◌≡◌, ◌<◌, ◌≤◌, ◌==◌, if◌then◌else◌, [], map, vec_len, vec_capacity};
 ghost use Rattle.std.specs.List.{All};
 ghost use Rattle.ring_station.specs.Crew.{HasNotBegun};
@@ -9,22 +9,19 @@ use crate::thread_end::ThreadEnd;
 use station_parts::{BankSide, Port, Told};
 use std::alloc::Global;
 
-/// How many threads a run has for its ports, and how many for its banks. The cache side has one of its
-/// own. The parts of a thread are next to each other, and as many as in the others, but for the last.
-///
-/// More threads than ports or banks are one for each. No thread for the ports counts as one. Without a
-/// thread for the banks the cache side's thread serves them all: then what goes between the unit and its
-/// banks doesn't travel from one processor to another.
+/// How many threads share the ports and the banks; the cache side has its own. Parts of a thread are
+/// neighbours, in equal shares but for the last. At most one for each part.
 #[derive(Clone, Copy, PartialEq, Eq, Debug)]
 pub struct Crew {
-    /// Threads that share the ports.
+    /// 0 counts as 1.
     pub port_threads: usize,
-    /// Threads that share the banks; with none, the cache side's own thread serves them.
+    /// With 0 the cache side's thread serves the banks, which keeps what goes between them on one
+    /// processor.
     pub bank_threads: usize,
 }
 
 impl Crew {
-    /// A thread for each port and one for each bank, however many there are.
+    /// One for each port and bank.
     pub fn one_each() -> Crew
         ensures ports { result.port_threads ≡ usize.MAX }
         ensures banks { result.bank_threads ≡ usize.MAX }
@@ -35,7 +32,6 @@ impl Crew {
         }
     }
 
-    /// How many of so many banks the cache side's thread serves: all if they have no thread, and else none.
     pub(crate) fn beside_cache(self, banks: usize) -> usize
         ensures within { result ≤ banks }
         ensures exact { result ≡ (if self.bank_threads == 0 then banks else 0) }
@@ -44,8 +40,7 @@ impl Crew {
     }
 }
 
-/// A port, how far it has come with its script, what it took in its run, and how the run stands behind
-/// its last turn.
+/// A port, its place in its script, what it took, and its end so far.
 #[derive(Drop)]
 pub(crate) struct PortRun {
     pub(crate) port: Port,
@@ -54,14 +49,13 @@ pub(crate) struct PortRun {
     pub(crate) end: ThreadEnd,
 }
 
-/// A bank, and how its run stands behind its last turn.
+/// A bank, and its end so far.
 #[derive(Drop)]
 pub(crate) struct BankRun {
     pub(crate) bank: BankSide,
     pub(crate) end: ThreadEnd,
 }
 
-/// Gives each port to a run of its own.
 pub(crate) fn enlist_ports(alloc: Global, ports: Vec<Port>, runs: &mut Vec<PortRun>)
     requires empty { runs.old.items ≡ [] }
     requires room { vec_len ports ≤ vec_capacity runs.old }
@@ -78,7 +72,6 @@ pub(crate) fn enlist_ports(alloc: Global, ports: Vec<Port>, runs: &mut Vec<PortR
     }
 }
 
-/// Takes each port back, what it took, and how its run ended.
 pub(crate) fn dismiss_ports(
     runs: Vec<PortRun>,
     ports: &mut Vec<Port>,
@@ -99,7 +92,6 @@ pub(crate) fn dismiss_ports(
     }
 }
 
-/// Gives each bank to a run of its own.
 pub(crate) fn enlist_banks(banks: Vec<BankSide>, runs: &mut Vec<BankRun>)
     requires empty { runs.old.items ≡ [] }
     requires room { vec_len banks ≤ vec_capacity runs.old }
@@ -114,7 +106,6 @@ pub(crate) fn enlist_banks(banks: Vec<BankSide>, runs: &mut Vec<BankRun>)
     }
 }
 
-/// Takes each bank back, and how its run ended.
 pub(crate) fn dismiss_banks(
     runs: Vec<BankRun>,
     banks: &mut Vec<BankSide>,

@@ -1,23 +1,22 @@
-//! Why a run of the threads gives no lists.
+//! Why a run gives no lists.
 
 use station_parts::RenewFault;
 use std::alloc::AllocError;
 use std::fmt;
 use thiserror::Error;
 
-/// Why a run gave no lists. The station stands where the steps of its threads left it, and may be
-/// audited.
+/// The station stands where its steps left it, and may be audited.
 #[derive(Clone, Copy, PartialEq, Eq, Debug, Error)]
 #[error("{}", FaultText(self))]
 pub enum RunFault {
-    /// A thread used up its turns before it came to its end, or the cache side found its journal full, or
-    /// the audit isn't `Clean`: [`Run::stop`](crate::Run::stop) tells these apart.
+    /// Turns used up, a full journal, or an audit that isn't `Clean`, as [`Run::stop`](crate::Run::stop)
+    /// tells.
     TurnLimit,
-    /// There was too little memory. It goes before `TurnLimit`, where both hold.
+    /// Goes before `TurnLimit`.
     OutOfMemory,
 }
 
-/// A fault's text, of which a contract knows each byte.
+/// A fault's text.
 #[derive(Drop)]
 pub struct FaultText<'a, F>(pub &'a F);
 
@@ -47,17 +46,16 @@ impl From<AllocError> for RunFault {
     }
 }
 
-/// Why a run gave no lists and no journal.
+/// Why a run gave no journal.
 #[derive(Clone, Copy, PartialEq, Eq, Debug, Error)]
 #[error("{}", FaultText(self))]
 pub enum SegmentFault {
     /// The run came to no end.
     Run(RunFault),
-    /// It came to its end, and the station wasn't renewed.
+    /// It ended, and the station wasn't renewed.
     Renewal(RenewFault),
 }
 
-/// The text of the fault that it holds.
 impl fmt::Display for FaultText<'_, SegmentFault> {
     ghost use Rattle.std.specs.Prelude.{Some};
     ghost use Rattle.ring_station.specs.Faults.{segment_fault_text};

@@ -1,4 +1,4 @@
-//! How a thread spends a turn in which it made no step.
+//! How a thread spends a turn without a step.
 ghost use Rattle.std.specs.Prelude.{◌≡◌};
 ghost use Rattle.ring_station.specs.Idle.{turn_of, joint_turn, turn_of_both, turn_beside, idling_from, idling_behind};
 ghost use Rattle.ring_station.specs.Idle.{rest_behind, held_rest, idle_rest, nap_of};
@@ -9,51 +9,37 @@ use std::rt::Clock;
 use std::thread;
 use std::time::Duration;
 
-// There may be fewer processors than threads, and mostly each thread waits for another one. So a thread
-// that finds nothing leaves its processor to another one in the first few such turns in a row; but the cache
-// side, for which all others wait, not in the very first one.
+// A thread that finds nothing yields its processor, but the cache side, for which all others wait, not at once.
 const CACHE_TURNS_AT_ONCE: u64 = 1;
 
-// How many these turns are. A Linux that has a thread pay for each yield with a slice of its time, as 6.18
-// does, would keep one that yields in every turn from its processor for seconds, beside a program that never yields.
+// Linux 6.18 takes a slice of time for each yield: seconds, beside a program that never yields.
 const TURNS_WITH_A_YIELD: u64 = 16;
 
-// How often the processor pauses in each later turn: it looks less often, and so takes fewer cache lines from
-// those that write them.
+// Fewer looks take fewer cache lines from their writers.
 const PAUSES: u32 = 4;
 
-// In one of so many such turns a thread sleeps: so it leaves the processors to those that have
-// something to do, and many turns are over soon all the same.
 const TURNS_A_NAP: u64 = 256;
 
-// The cache side makes so many turns before the first that may be a sleep.
 const CACHE_TURNS_AWAKE: u64 = 256;
 
-// A thread that the gate holds waits for no other one, so its turns go by fast. It leaves its
-// processor at one in so many of them, and sleeps at one in so many.
+// A held thread waits for no other, so it yields and sleeps less.
 const HELD_TURNS_A_YIELD: u64 = 128;
 
 const HELD_TURNS_A_NAP: u64 = 1_024;
 
-// How long a thread sleeps at first, by how much longer each time, and at most, in nanoseconds. The
-// system mostly adds 50,000. On a busy machine whom it waits for may have no processor for long, and the longest
-// sleep is what then keeps it from using up its turns.
+// In nanoseconds. The system adds some 50,000. On a busy machine the longest sleep makes the turns last.
 const FIRST_NAP: u64 = 20_000;
 
 const LONGEST_NAP: u64 = 1_000_000;
 
-/// What a turn came to.
 #[derive(Clone, Copy)]
 pub(crate) enum Turn {
-    /// A step was made.
     Moved,
-    /// The gate let the thread make none.
+    /// The gate allowed none.
     Held,
-    /// There was nothing to do.
     Idle,
 }
 
-/// What a turn came to that answered this; `None` if the gate let the part make no step.
 pub(crate) fn turn_of(stepped: Option<Stepped>) -> Turn
     ensures { result ≡ turn_of stepped }
 {
@@ -65,8 +51,6 @@ pub(crate) fn turn_of(stepped: Option<Stepped>) -> Turn
 }
 
 impl Turn {
-    /// What a turn of two parts that share a thread came to: a step of one is a step of both, and both are
-    /// held only if each is.
     fn with(self, other: Turn) -> Turn
         ensures { result ≡ joint_turn self other }
     {
@@ -78,8 +62,7 @@ impl Turn {
     }
 }
 
-/// What a turn of two parts that share a thread came to. `None` is for a part whose run is over, so that
-/// there is nothing to wait for.
+/// Of two parts on one thread; `None` for one whose run is over.
 pub(crate) fn turn_of_both(one: Option<Turn>, other: Option<Turn>) -> Option<Turn>
     ensures { result ≡ turn_of_both one other }
 {
@@ -89,7 +72,6 @@ pub(crate) fn turn_of_both(one: Option<Turn>, other: Option<Turn>) -> Option<Tur
     }
 }
 
-/// What a turn came to, with that of the parts beside it, if they had one.
 pub(crate) fn turn_beside(one: Turn, other: Option<Turn>) -> Turn
     ensures { result ≡ turn_beside one other }
 {
@@ -99,32 +81,27 @@ pub(crate) fn turn_beside(one: Turn, other: Option<Turn>) -> Turn
     }
 }
 
-// How a thread spends the rest of a turn.
 #[derive(Clone, Copy)]
 enum Rest {
     GoOn,
     Pause,
-    // Its processor goes to another thread that waits for one.
     Yield,
-    // For so many nanoseconds.
+    // Nanoseconds.
     Sleep(u64),
 }
 
-/// How many turns in a row went by without a step.
+/// Turns in a row without a step.
 #[derive(Drop)]
 pub(crate) struct Idling {
-    // Turns in which the gate held the thread.
     held: u64,
-    // Turns in which there was nothing to do.
     idle: u64,
-    // So many of these at first are without a pause.
+    // The first, without a pause.
     at_once: u64,
-    // Turns before the first that may be a sleep.
+    // Before the first sleep.
     awake: u64,
 }
 
 impl Idling {
-    /// Before the first turn of the cache side.
     pub(crate) fn of_cache() -> Idling
         ensures { result ≡ idling_from CACHE_TURNS_AT_ONCE CACHE_TURNS_AWAKE }
     {
@@ -136,7 +113,7 @@ impl Idling {
         }
     }
 
-    /// Before the first turn of a port or a bank.
+    /// A port's or a bank's.
     pub(crate) fn of_side() -> Idling
         ensures { result ≡ idling_from 0 0 }
     {
@@ -148,7 +125,6 @@ impl Idling {
         }
     }
 
-    /// Ends a turn.
     pub(crate) fn end_turn<R: Clock>(&mut self, rt: &R, turn: Turn)
         ensures { self.new ≡ idling_behind turn self.old }
     {
@@ -169,7 +145,6 @@ impl Idling {
         }
     }
 
-    // How the thread spends the rest of this turn, which is among those that were counted.
     fn rest_behind(&self, turn: Turn) -> Rest
         ensures { result ≡ rest_behind turn self.now }
     {
@@ -181,7 +156,6 @@ impl Idling {
     }
 }
 
-// Behind so many turns in a row in which the gate held the thread.
 fn held_rest(held: u64) -> Rest
     ensures { result ≡ held_rest held }
 {
@@ -194,8 +168,6 @@ fn held_rest(held: u64) -> Rest
     }
 }
 
-// Behind so many turns in a row in which there was nothing to do, the first of which are without a pause and
-// without a sleep.
 fn idle_rest(idle: u64, at_once: u64, awake: u64) -> Rest
     ensures { result ≡ idle_rest idle at_once awake }
 {
@@ -210,7 +182,7 @@ fn idle_rest(idle: u64, at_once: u64, awake: u64) -> Rest
     }
 }
 
-// How long a thread sleeps for this time in a row, in nanoseconds.
+// Nanoseconds.
 fn nap(time: u64) -> u64
     ensures { result ≡ nap_of time }
 {

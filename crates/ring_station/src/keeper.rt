@@ -1,27 +1,25 @@
-//! Where the segments of many runs go.
+//! Where segments go.
 ghost use Rattle.std.specs.Prelude.{◌≡◌, ◌++◌, ◌∷◌, [], List, OnOk, OnErr};
 ghost use Rattle.ring_station.specs.declared.segment.Segment.{Segment};
 
 use crate::segment::Segment;
 use std::alloc::AllocError;
 
-/// Takes the segments of [`run_in_segments`](crate::run_in_segments), each as soon as its station is
-/// renewed. One that looks at them and lets them go needs no memory for all of them: it says by `kept` what
-/// it makes of them.
+/// Takes the segments of [`run_in_segments`](crate::run_in_segments), each as its station is renewed. It may
+/// look at them and let them go.
 pub trait Keeper {
-    /// From the first to the second it was given these segments and no others, oldest first.
+    /// Just these were given between the two, oldest first.
     ghost kept: { Self → List Segment → Self → Type 0 };
 
-    /// Takes a segment behind those that it was given before. An error says that there was too little
-    /// memory for it, and then it isn't kept.
+    /// Keeps a segment behind those before. `AllocError`: too little memory, and it isn't kept.
     fn keep(&mut self, segment: Segment) -> Result<(), AllocError>
         ensures kept { OnOk result (kept self.old (segment ∷ []) self.new) }
         ensures refused { OnErr result (kept self.old [] self.new) };
 
-    /// One that was given none may be as it was.
+    /// Given none, it may stay as it is.
     ghost kept_none: { (a : Self) → kept a [] a };
 
-    /// Segments that were given behind others are one list with them.
+    /// Lists one behind the other are one.
     ghost kept_more: { (a b c : Self) (xs ys : List Segment) → kept a xs b → kept b ys c
         → kept a (xs ++ ys) c };
 }

@@ -1,4 +1,4 @@
-//! Laws over the definitions alone, of a station's journal and of its limits.
+//! Laws of journals and limits.
 
 pub use station_journal::laws::{
     asks_are_judged, journal_is_flat, loads_are_taken, port_tags_are_bytes, run_is_answered,

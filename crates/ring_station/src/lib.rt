@@ -1,6 +1,6 @@
-//! A station on threads of its own: ports, a cache side and banks, joined by rings alone, with no
-//! lock between them, and an audit that finds with all parts in hand whether the cache side's journal
-//! is a run of flat memory, and each port has asked and was told just what stands in it.
+//! A station on threads of its own: ports, a cache side and banks, joined by rings alone, without a lock. First
+//! call: [`run_threads`], which audits the journal too; [`run_and_renew`] and [`run_in_segments`] hand it out.
+//! The caller brings the scripts.
 #![tactic(auto)]
 
 mod bank_thread;

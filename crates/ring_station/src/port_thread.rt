@@ -1,4 +1,4 @@
-//! The thread of a port, or of several.
+//! The thread of several ports.
 ghost use Rattle.std.specs.Prelude.{◌≡◌, ◌↔◌, ◌<◌, ◌≤◌, ◌+◌, List, length, true, false, Ok, IfOk, OnErr, IfSome, None};
 ghost use Rattle.std.specs.List.{All};
 ghost use Rattle.station_journal.specs.declared.asks.Told.{Told};
@@ -20,8 +20,7 @@ use station_parts::{Ask, Look, Port, Told};
 use std::alloc::AllocError;
 use std::rt::Clock;
 
-/// Runs the ports of a thread, the first of which has this number: in each turn each of them whose run goes
-/// on offers an ask of its script, or takes a telling, which goes into its list; one port after another.
+/// Runs ports from number `start` on, each an offer or a telling a turn.
 pub(crate) fn run_port_thread<R: Clock, G: Gate>(
     rt: &R,
     gate: &G,
@@ -46,7 +45,6 @@ pub(crate) fn run_port_thread<R: Clock, G: Gate>(
     }
 }
 
-// A turn of each port of a thread. `None` if the runs of all of them are over behind it.
 fn turn_of_ports<G: Gate>(
     gate: &G,
     start: usize,
@@ -72,7 +70,7 @@ fn turn_of_ports<G: Gate>(
     all
 }
 
-// A turn of a port, if its run goes on. `None` if it is over behind it.
+// `None` if its run is over.
 fn turn_of_port<G: Gate>(
     gate: &G,
     number: u32,
@@ -115,7 +113,6 @@ fn turn_of_port<G: Gate>(
     Some(made)
 }
 
-// Offers or takes once, if the gate allows it and there is something to offer or take.
 fn take_turn<G: Gate>(
     may: bool,
     gate: &G,
@@ -133,7 +130,6 @@ fn take_turn<G: Gate>(
     ensures owed { talk.new.owed ≤ talk.old.owed + 1 }
     ensures placed { talk.new.phase ≡ Phase.Awaiting → talk.new.next < length script.now }
 
-    // If the gate says no, all stays as it is; else just one item goes over a ring, or there was none.
     ensures held { may ≡ false
         → (result ≡ Ok Turn.Held) × (port.new ≡ port.old) × (list.new ≡ list.old) × (talk.new ≡ talk.old) }
     ensures one { IfOk result (λ made. moves_of port.new ≡ moves_of port.old + moves_in made) }
@@ -150,7 +146,6 @@ fn take_turn<G: Gate>(
     }
 }
 
-// Offers the next ask, if there is a free place for it.
 fn offer_next(script: &[Ask], talk: &mut Talk, port: &mut Port) -> Turn
     requires { talk.old.phase ≡ Phase.Offering }
     ensures on { (first : Port) (list : List Told) → IsOnItsWay script.now talk.old first port.old list
@@ -167,7 +162,7 @@ fn offer_next(script: &[Ask], talk: &mut Talk, port: &mut Port) -> Turn
     Turn::Moved
 }
 
-// Takes a telling, if one is known and there is memory to note it.
+// Memory first: what can't be noted stays in the ring.
 fn take_one<G: Gate>(
     gate: &G,
     number: u32,

@@ -1,4 +1,4 @@
-//! What a run of a station came to.
+//! What a run came to.
 ghost use Rattle.std.specs.Prelude.{◌≡◌};
 ghost use Rattle.std.specs.Option.{option_map};
 ghost use Rattle.std.specs.List.{list_all, list_any};
@@ -14,34 +14,31 @@ use station_parts::{Audit, Told};
 pub enum Stop {
     /// A thread found no memory.
     OutOfMemory,
-    /// The cache side found its journal full.
+    /// The cache side's journal was full.
     JournalFull,
     /// A thread used up its turns.
     TurnLimit,
-    /// Every thread came to its end, and the audit isn't `Clean`. No run has shown it.
+    /// All threads ended, and the audit isn't `Clean`. No run has shown it.
     NotClean,
 }
 
-/// What a run of a station came to: how each part's run ended, what each port took, and what an audit found
-/// behind them all.
+/// How each part ended, and what was taken and found.
 #[derive(Drop)]
 pub struct Run {
-    /// For each port what it took in the run, in order, however its run ended.
+    /// By port: what it took, in order.
     pub lists: Vec<Vec<Told>>,
-    /// How the run of each port ended.
+    /// By port.
     pub ports: Vec<ThreadEnd>,
-    /// How the run of the cache side ended.
+    /// The cache side.
     pub cache: ThreadEnd,
-    /// How the run of each bank ended.
+    /// By bank.
     pub banks: Vec<ThreadEnd>,
-    /// What the audit found.
+    /// Behind all threads.
     pub audit: Audit,
 }
 
 impl Run {
-    /// Why `run_threads` would give no lists: `OutOfMemory` if a thread found no memory; else
-    /// `TurnLimit`, if one stopped for another reason or the audit isn't `Clean`. `None` if every
-    /// thread came to its end and the audit is `Clean`.
+    /// The fault of `run_threads`; `None` if all ended and the audit is `Clean`.
     pub fn fault(&self) -> Option<RunFault>
         ensures { result ≡ fault_of self.now }
     {
@@ -54,9 +51,7 @@ impl Run {
         }
     }
 
-    /// What kept the run from its end, the first of [`Stop`]'s reasons that holds. `None` if every thread
-    /// came to its end and the audit is `Clean`. [`Run::fault`] tells a full journal, and an audit that
-    /// isn't clean, as `TurnLimit`.
+    /// The first of [`Stop`]'s reasons; [`Run::fault`] calls the last three `TurnLimit`.
     pub fn stop(&self) -> Option<Stop>
         ensures stop { result ≡ stop_of self.now }
         ensures fault { option_map told_as result ≡ fault_of self.now }
@@ -74,21 +69,18 @@ impl Run {
         }
     }
 
-    // Whether some thread found no memory.
     fn lacks_memory(&self) -> bool
         ensures { result ≡ lacks self.now }
     {
         lacks_memory(&self.cache) || do_lack_memory(&self.ports) || do_lack_memory(&self.banks)
     }
 
-    // Whether every thread came to its end, and nothing is left or owed.
     fn is_whole(&self) -> bool
         ensures { result ≡ is_whole self.now }
     {
         self.audit == Audit::Clean && self.are_over()
     }
 
-    // Whether every thread came to its end.
     fn are_over(&self) -> bool
         ensures { result ≡ are_over self.now }
     {

@@ -1,4 +1,4 @@
-//! The round of the cache side: its sources, one after the other.
+//! The cache side's round.
 ghost use Rattle.std.specs.Prelude.{◌≡◌, ◌<◌, true, false};
 ghost use Rattle.station_parts.specs.Ids.{cache_id};
 ghost use Rattle.station_parts.specs.SideState.{state_of, OnlyLooks};
@@ -7,13 +7,10 @@ ghost use Rattle.ring_station.specs.Round.{place_behind, port_behind, behind_por
 
 use station_parts::{CacheSide, Source, Stepped};
 
-// The stack, the write queue and the replies.
 const OTHER_SOURCES: u64 = 3;
 
-// Where the round stands.
 #[derive(Clone, Copy)]
 enum Place {
-    // At the port that is asked next.
     Ports,
     Bank(u32),
     Stack,
@@ -21,31 +18,25 @@ enum Place {
     Replies,
 }
 
-/// Where the next step takes its work from: the ports in turn, and behind each ask of one, and behind the
-/// last port, each bank, the stack, the write queue and the replies.
+/// The ports in turn, and behind each ask, and behind the last port, each bank, the stack, the write queue and
+/// the replies. A port has one ask at a time; elsewhere the round stays until a step finds nothing. Behind each
+/// word of a bank it processes one of the stack, which has few places.
 ///
-/// A port has one ask at a time. Any other source may have more to do, and there the round stays until
-/// a step finds nothing. Behind each word of a bank a word of the stack is processed, which has few
-/// places.
-///
-/// The banks come behind each ask, and not behind those of all ports, since an ask is refused if too much
-/// is under way, and asked again then. A source of which no item is known is passed by. What is known of the
-/// ports is what a look at all of their rings has found, at the first one, and so of the banks: what far
-/// ends have written comes from other processors, and one read doesn't wait for another if no push or
-/// pop stands between them.
+/// The banks come behind each ask, since it is refused and asked again if too much is under way. All ports'
+/// rings are looked at together, and all banks': such reads don't wait for one another.
 #[derive(Drop)]
 pub(crate) struct Round {
     ports: u32,
     banks: u32,
-    // The port that is asked next.
+    // Asked next.
     port: u32,
     place: Place,
-    // Whether the bank at this place has just given a word.
+    // A bank has just given one.
     has_word: bool,
 }
 
 impl Round {
-    /// A round that begins with the first of so many ports.
+    /// At the first port.
     pub(crate) fn new(ports: u32, banks: u32) -> Round
         ensures first { result ≡ first_round ports banks }
         ensures within { 0 < ports → 0 < banks → StandsWithin result }
@@ -59,22 +50,19 @@ impl Round {
         }
     }
 
-    // Whether the round stands before the first bank.
     fn is_at_banks(&self) -> bool
         ensures { result ≡ is_at_banks self.now }
     {
         !self.has_word && matches!(self.place, Place::Bank(0))
     }
 
-    /// Whether the banks beside the cache side have a turn before its next step: if the round comes to them, and
-    /// behind a turn in which no step was made.
+    /// Whether the banks beside the cache side have a turn now.
     pub(crate) fn are_banks_due(&self, stepped: Option<Stepped>) -> bool
         ensures { result ≡ are_banks_due self.now stepped }
     {
         self.is_at_banks() || stepped != Some(Stepped::Did)
     }
 
-    /// The source of the next step.
     pub(crate) fn source(&self) -> Source
         ensures { result ≡ source_of self.now }
     {
@@ -90,8 +78,7 @@ impl Round {
         }
     }
 
-    /// Goes on to the next source of which an item is known, at most once round all. If the cache side may
-    /// make no step, all stays as it is.
+    /// Goes to the next source with a known item, at most once round.
     pub(crate) fn seek<
         const WAYS: usize,
         const WORDS: usize,
@@ -116,14 +103,12 @@ impl Round {
         }
     }
 
-    // How many places there are at most from one at which the round stands to its next time there.
     fn most_places(&self) -> u64
         ensures { result ≡ most_places self.now }
     {
         u64::from(self.ports) + 2 * (u64::from(self.banks) + OTHER_SOURCES)
     }
 
-    // Looks at the rings of all ports, or of all banks, if the round stands at the first one.
     fn look<const WAYS: usize, const WORDS: usize, const REGS: usize, const DEPTH: usize>(
         &self,
         cache: &mut CacheSide<WAYS, WORDS, REGS, DEPTH>,
@@ -138,7 +123,6 @@ impl Round {
         }
     }
 
-    /// Goes on behind a step of that source; if there was none, it stays where it is.
     pub(crate) fn go_on(&mut self, stepped: Option<Stepped>)
         ensures on { self.new ≡ round_after stepped self.old }
         ensures stays { StandsWithin self.old → StandsWithin self.new }
@@ -148,7 +132,6 @@ impl Round {
         }
     }
 
-    // Goes on behind a step that did something, or behind none or one that found nothing.
     fn go_on_behind(&mut self, did: bool)
         ensures { self.new ≡ round_behind did self.old }
     {
@@ -167,7 +150,6 @@ impl Round {
         }
     }
 
-    // Goes on from a port that was asked, or had nothing to ask.
     fn leave_port(&mut self, did: bool)
         ensures { self.new ≡ behind_port did (port_behind self.old.ports self.old.port) self.old }
     {

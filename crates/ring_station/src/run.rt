@@ -1,4 +1,4 @@
-//! Runs of a station on threads.
+//! Runs on threads.
 ghost use Rattle.std.specs.Prelude.{◌≡◌, ◌<◌, ◌≤◌, true, length, map, vec_len, IfErr, IfOk, OnErr, OnOk, IsErr};
 ghost use Rattle.std.specs.List.{All};
 ghost use Rattle.station_parts.specs.declared.make.TheConstants.{MAX_PORTS};
@@ -31,27 +31,16 @@ use std::mem::replace;
 use std::rt::Clock;
 use std::thread::Threads;
 
-/// Runs a station, new or renewed, to the end of its scripts: a thread for each port, which offers its
-/// script and then `Done`; one for the cache side; and one for each bank. All threads have ended when it
-/// returns. The result has a list for each port: what it took in the run, in order. It comes only
-/// where an audit behind the threads is `Clean`, and then the journal is a run of flat memory that
-/// has all that was offered and told, and nothing is due.
+/// Runs a new or renewed station to the end of its scripts, each part on its own thread. Returns what each port
+/// took in the run, in order. The audit was `Clean`: the journal is a run of flat memory.
 ///
-/// A thread has so many turns. In a turn it asks the gate, and makes at most one step of its part;
-/// a turn in which the gate lets it make none counts too. A port offers one ask at a time, and
-/// offers it again if it is refused for a cause that may pass (3 to 10); it is done when each of its
-/// accepted loads has its value. The cache side goes round its sources until each port has said
-/// `Done` and nothing is under way; the banks end after it.
+/// A thread has `turns` turns. In each it asks the gate, and makes at most one step. A port offers one ask at a
+/// time, again after a refusal for a cause that may pass (3 to 10), and `Done` behind its script. The cache
+/// side ends behind the ports, and the banks last. A script with `Done` in it comes to no end.
 ///
-/// `OutOfMemory` says that there was too little memory, and then `TurnLimit` that a thread used up
-/// its turns, which stops no other one, or that the cache side found its journal full; without a turn
-/// no thread comes to its end. After either the station stands where the steps left it: it may be
-/// audited, and not run again; behind a run that is `Ok` it may be renewed, and then run again.
-/// [`run_and_audit`] tells which thread it was, and what each port had taken; and it runs on fewer
-/// threads, if ports or banks are to share one. If a thread can't be
-/// made, the parts run one after another, and that mostly ends with `TurnLimit`.
-///
-/// There is one script for each port. A script with `Done` in it comes to no end.
+/// `OutOfMemory`: too little memory. `TurnLimit`: a thread used up its turns, which stops no other, or the
+/// journal was full. The station then may be audited, and not run again. After `Ok` it may be renewed, and run
+/// again. If a thread can't be made, the parts run one after another, mostly to `TurnLimit`.
 pub fn run_threads<
     R: Clock + Threads + Sync,
     G: Gate,
@@ -72,11 +61,8 @@ pub fn run_threads<
 
     ensures same { IsSameStation station.old station.new }
 
-    // What the journal shows is all that the station has noted since it was made, or renewed.
     ensures earlier { earlier_of station.new.cache ≡ earlier_of station.old.cache }
 
-    // In the run each port has offered its script and then Done, and its list is what it took. So an
-    // audit of a station that was new owes nothing, and leaves no telling.
     ensures lists { IfOk result
         (λ lists. HaveRun scripts.now station.old.ports.items station.new.ports.items lists.items) }
     ensures conversed { IfOk result
@@ -84,20 +70,13 @@ pub fn run_threads<
         → HaveConversed scripts.now station.new.ports.items lists.items) }
     ensures heard { IfOk result (λ lists. AreHeard (G.has_heard gate.now) lists.items) }
 
-    // Then nothing is under way in the unit, and each bank's last step found nothing to serve. A run
-    // without a turn comes to no end.
     ensures rests { OnOk result (is_at_rest (cache_in station.new.cache) ≡ true) }
     ensures banks { OnOk result (HaveFinished station.new.banks.items) }
     ensures no_turn { turns ≡ 0 → IsErr result }
 
-    // Its fault is that of what the threads and the audit came to, or memory was short before any part moved.
     ensures fault { IfErr result (FailsBy scripts.now turns station.old station.new) }
-
-    // However it ends, no part did more than its turns let it, and each port took what it took behind what
-    // it had.
     ensures within { KeepsTo turns station.old station.new }
 
-    // And an audit has found that nothing is left or owed, so the journal is a run of flat memory.
     ensures clean { OnOk result (IsCleanStation station.new) }
 {
     let run = run_and_audit(rt, alloc, station, scripts, turns, Crew::one_each(), gate)?;
@@ -107,18 +86,13 @@ pub fn run_threads<
     Ok(run.lists)
 }
 
-/// The run of [`run_threads`], told whole: how each port, the cache side and each bank ended, what each
-/// port took however it ended, and what an audit found behind them. It says nothing else of a run that
-/// came to no end, which [`Run::fault`] tells.
+/// The run of [`run_threads`], on the threads of a crew.
 ///
-/// The crew says how many threads the ports and the banks have: as in `run_threads` with
-/// [`Crew::one_each`]. Ports that share a thread, or banks that do, take their turns in rounds, one after
-/// another. Banks beside the cache side have theirs when it comes to them on its round, and when it has found
-/// nothing. Each part has its own count of turns, and one whose run is over leaves the others to go on.
-/// Fewer threads are faster if there are fewer processors than threads, since each change of a processor from
-/// one thread to another takes as long as many turns.
+/// Parts that share a thread take turns in rounds, each with its own count. Banks beside the cache side have a
+/// turn when its round comes to them, and when it found nothing. Fewer threads are faster on fewer processors,
+/// since a change of thread costs many turns.
 ///
-/// Want of memory before the threads begin leaves every part as it was.
+/// `AllocError`: too little memory before the threads began, and every part is as it was.
 pub fn run_and_audit<
     R: Clock + Threads + Sync,
     G: Gate,
@@ -141,7 +115,6 @@ pub fn run_and_audit<
     ensures same { IsSameStation station.old station.new }
     ensures unmoved { OnErr result (IsUnmoved station.old station.new) }
 
-    // What each thread did, how it ended, and after how many turns.
     ensures ports { IfOk result (λ run. PortsRan scripts.now turns
         station.old.ports.items station.new.ports.items run.lists.items run.ports.items) }
     ensures heard { IfOk result (λ run. AreHeard (G.has_heard gate.now) run.lists.items) }
@@ -150,7 +123,6 @@ pub fn run_and_audit<
     ensures banks { IfOk result (λ run. BanksRan turns
         station.old.banks.items station.new.banks.items run.banks.items) }
 
-    // The audit behind them.
     ensures audited { IfOk result (λ run. IsAudited
         station.new.cache station.new.ports.items station.new.banks.items run.audit) }
     ensures clean { IfOk result (λ run. run.audit ≡ Clean → IsCleanStation station.new) }
@@ -171,7 +143,6 @@ pub fn run_and_audit<
     })
 }
 
-// What the ports took, and how each thread ended.
 #[derive(Drop)]
 struct Ends {
     lists: Vec<Vec<Told>>,
@@ -180,7 +151,6 @@ struct Ends {
     banks: Vec<ThreadEnd>,
 }
 
-// Runs all parts to the end of their threads.
 fn run_parts<
     R: Clock + Threads + Sync,
     G: Gate,
@@ -212,7 +182,7 @@ fn run_parts<
     ensures banks { IfOk result
         (λ ends. BanksRan turns banks.old.items banks.new.items ends.banks.items) }
 {
-    // All of this memory is found before any part moves.
+    // Memory is found before any part moves.
     let mut port_runs = Vec::with_capacity(alloc, ports.len())?;
     let mut bank_runs = Vec::with_capacity(alloc, banks.len())?;
     let mut lists = Vec::with_capacity(alloc, ports.len())?;
@@ -243,8 +213,6 @@ fn run_parts<
     })
 }
 
-// Makes room in the ports' lists and runs all parts. The result is how the thread of the cache side
-// ended.
 #[tactic(auto, using(crate::proofs::CrewRunning::still_not_begun))]
 fn run_crew<
     R: Clock + Threads + Sync,
@@ -282,8 +250,7 @@ fn run_crew<
     Ok(run_all(rt, gate, scripts, turns, crew, cache, ports, banks))
 }
 
-// Makes room for a verdict on each ask of a script, and as many values. So a port mostly needs no
-// more memory once it runs.
+// A verdict for each ask, and as many values.
 fn reserve_lists(scripts: &[Vec<Ask>], ports: &mut Vec<PortRun>) -> Result<(), AllocError>
     requires { length scripts.now ≡ vec_len ports.old }
     ensures { EachIsSame ports.old.items ports.new.items }

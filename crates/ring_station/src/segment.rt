@@ -1,4 +1,4 @@
-//! A run of a station that hands its journal out behind it.
+//! A run that hands the journal out.
 ghost use Rattle.std.specs.Prelude.{◌≡◌, true, length, vec_len, IfOk, IfErr, OnErr, OnOk, IsErr};
 ghost use Rattle.station_parts.specs.Audited.{LeavesBanks};
 ghost use Rattle.station_parts.specs.Promises.{IsCleanStation};
@@ -19,26 +19,23 @@ use std::alloc::Global;
 use std::rt::Clock;
 use std::thread::Threads;
 
-/// What a run gave, behind which its station was renewed.
+/// What a run gave before a renewal.
 #[derive(Drop)]
 pub struct Segment {
-    /// For each port what it took in the run, in order.
+    /// By port: what it took, in order.
     pub lists: Vec<Vec<Told>>,
-    /// The journal that was handed out, oldest entry first.
+    /// Oldest entry first.
     pub journal: Vec<Entry>,
 }
 
-/// The run of [`run_and_audit`](crate::run_and_audit), and behind it a renewal: the journal is handed out, a
-/// new one is begun, and the station may be run again. So it lasts: whoever cuts the ports' scripts into
-/// parts and runs them one behind the other needs the memory of one part. The journals that were handed
-/// out are, one behind the other, one journal of one station, and a run of flat memory.
+/// The run of [`run_and_audit`](crate::run_and_audit), and a renewal behind it: the journal is handed out, and
+/// the station may run again. One behind the other, these journals are one run of flat memory.
 ///
-/// [`SegmentFault::Run`] says that the run came to no end, by the fault that `run_threads` has for it; and
-/// [`SegmentFault::Renewal`] that it did, and why the station wasn't renewed then. After either the station
-/// may be audited; after the latter it may also be renewed, if there is memory then, and it must not be run
-/// before, since its ports have ended. After neither was a journal handed out.
+/// [`SegmentFault::Run`]: the run came to no end. [`SegmentFault::Renewal`]: it did, and the station, whose
+/// ports have ended, must be renewed before it runs again. After either it may be audited, and no journal was
+/// handed out.
 ///
-/// There is one script for each port. A script with `Done` in it comes to no end.
+/// A script with `Done` in it comes to no end.
 pub fn run_and_renew<
     R: Clock + Threads + Sync,
     G: Gate,
@@ -60,8 +57,6 @@ pub fn run_and_renew<
 
     ensures same { IsSameStation station.old station.new }
 
-    // Each port has offered its script and then Done, its list is what it took, of which the gate has heard
-    // each telling, and it may offer again.
     ensures lists { IfOk result (λ run. HaveRunOn scripts.now
         station.old.ports.items station.new.ports.items run.lists.items) }
     ensures heard { IfOk result (λ run. AreHeard (G.has_heard gate.now) run.lists.items) }
@@ -70,7 +65,6 @@ pub fn run_and_renew<
     ensures unhanded { OnErr result (earlier_of station.new.cache ≡ earlier_of station.old.cache) }
     ensures rests { OnOk result (is_at_rest (cache_in station.new.cache) ≡ true) }
 
-    // A renewal's fault comes behind a run to its end, and says what kept the station from being renewed.
     ensures ran { IfErr result (ComesToRenewal scripts.now station.old.ports.items station.new.ports.items) }
     ensures renewal { IfErr result (TellsRenewal station.new) }
 
@@ -78,12 +72,8 @@ pub fn run_and_renew<
     ensures run { IfErr result (TellsRun scripts.now turns station.old station.new) }
     ensures no_turn { turns ≡ 0 → IsErr result }
 
-    // However it ends, no part did more than its turns let it, and each port took what it took behind what
-    // it had.
     ensures within { KeepsTo turns station.old station.new }
 
-    // An audit has found that nothing is left or owed, and so all that the station has noted since it was
-    // made is a run of flat memory.
     ensures clean { OnOk result (IsCleanStation station.new) }
 {
     let run = run_and_audit(rt, alloc, station, scripts, turns, crew, gate)?;

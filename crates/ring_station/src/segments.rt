@@ -1,4 +1,4 @@
-//! Runs of a station one behind the other, of scripts that are cut into pieces, with a renewal behind each.
+//! Runs in pieces.
 ghost use Rattle.std.specs.Prelude.{◌≡◌, ◌*◌, max, true, length, map, vec_len, IfOk, IfErr, OnOk, IsErr};
 ghost use Rattle.station_parts.specs.Promises.{IsCleanStation};
 ghost use Rattle.station_parts.specs.Rest.{is_at_rest};
@@ -18,21 +18,15 @@ use std::alloc::{AllocError, Global};
 use std::rt::Clock;
 use std::thread::Threads;
 
-/// Runs long scripts in the memory of a part of them: each script is cut into pieces of so many asks, 0
-/// counting as 1, and the first pieces of all ports are run, then the next ones, until every script is used
-/// up. Behind each run the station is renewed, as by [`run_and_renew`], and what the run gave goes to the
-/// keeper. A port whose script is used up before those of others runs empty pieces; scripts without any
-/// ask are one run of empty pieces. So there are as many runs as the longest script has pieces, and one
-/// at least.
+/// Runs scripts in the memory of a piece: `asks` asks of each, 0 counting as 1. Each run is
+/// [`run_and_renew`]'s, with `turns` turns and `Done` behind each piece, and what it gave goes to the keeper.
+/// There is one run at least; short scripts end in empty pieces.
 ///
-/// Each port offers `Done` behind each of its pieces, and in each run each thread has so many turns.
+/// The first fault ends it. Want of memory for the pieces or in the keeper is
+/// [`RunFault::OutOfMemory`](crate::RunFault). The keeper has the segments of the runs before; one that it
+/// refused is lost, and its journal counts as handed out.
 ///
-/// The first fault of a run or of a renewal ends it, as `run_and_renew` tells it, and so does want of memory
-/// for the pieces or in the keeper, which is [`RunFault::OutOfMemory`](crate::RunFault). The segments of the
-/// runs before are with the keeper then; only the one that the keeper refused is lost, and its journal
-/// counts among those that the station handed out.
-///
-/// There is one script for each port. A script with `Done` in it comes to no end.
+/// A script with `Done` in it comes to no end.
 pub fn run_in_segments<
     R: Clock + Threads + Sync,
     G: Gate,
@@ -57,8 +51,6 @@ pub fn run_in_segments<
 
     ensures same { IsSameStation station.old station.new }
 
-    // Each port has offered its script, piece by piece, and what it took, of which the gate has heard each
-    // telling, and what was handed out is kept. Of a run that stopped that is said of the pieces before.
     ensures runs { OnOk result (RunsInSegments (max asks 1) scripts.now station.old station.new
         (λ segments. K.kept keeper.old segments keeper.new × EachIsHeard (G.has_heard gate.now) segments)) }
     ensures stops { IfErr result (StopsBehind (max asks 1) scripts.now station.old station.new
@@ -68,8 +60,6 @@ pub fn run_in_segments<
     ensures fault { IfErr result (FailsBehind turns (max asks 1) scripts.now station.old station.new) }
     ensures no_turn { turns ≡ 0 → IsErr result }
 
-    // In each run no part did more than its turns let it, and each port took what it took behind what it had;
-    // and so in all of them. Of runs that stopped it is said of the last one too.
     ensures each_within { OnOk result (RunsInTurns turns (max asks 1) scripts.now station.old station.new
         (λ segments. K.kept keeper.old segments keeper.new × EachIsHeard (G.has_heard gate.now) segments)) }
     ensures stops_within { IfErr result (StopsInTurns turns (max asks 1) scripts.now station.old station.new
@@ -77,8 +67,6 @@ pub fn run_in_segments<
     ensures within { OnOk result
         (KeepsTo (piece_count (max asks 1) scripts.now * turns) station.old station.new) }
 
-    // The audit behind the last run has found that nothing is left or owed, and so all that the station
-    // has noted since it was made is a run of flat memory.
     ensures clean { OnOk result (IsCleanStation station.new) }
 {
     let asks = asks.max(1);
@@ -104,7 +92,6 @@ fn longest_script(scripts: &[Vec<Ask>]) -> usize
         .fold(0, |longest, script| longest.max(script.len()))
 }
 
-// Runs the pieces behind so many asks, and gives what they did to the keeper.
 fn run_pieces<
     R: Clock + Threads + Sync,
     G: Gate,
@@ -144,7 +131,6 @@ fn run_pieces<
     Ok(keeper.keep(segment)?)
 }
 
-// The next piece of each script, behind so many asks.
 fn cut_scripts(
     alloc: Global,
     scripts: &[Vec<Ask>],
@@ -161,7 +147,6 @@ fn cut_scripts(
     Ok(pieces)
 }
 
-// So many asks of a script behind those before, or as many as there are.
 fn cut(alloc: Global, script: &[Ask], begin: usize, asks: usize) -> Result<Vec<Ask>, AllocError>
     ensures { IfOk result (λ piece. piece.items ≡ piece_behind begin asks script.now) }
 {

@@ -1,4 +1,4 @@
-//! How far a port has come with its script.
+//! How far a port is in its script.
 ghost use Rattle.std.specs.Prelude.{◌≡◌, ◌<◌, ◌≤◌, ◌+◌, ◌++◌, ◌∷◌, [], List, length, true, if◌then◌else◌};
 ghost use Rattle.station_journal.specs.declared.asks.Ask.{Ask};
 ghost use Rattle.station_journal.specs.declared.asks.Told.{Told};
@@ -7,22 +7,21 @@ ghost use Rattle.ring_station.specs.Scripts.{ask_at, HasTalked};
 
 use station_parts::{Ask, Told};
 
-/// What a port does in its next turn.
+/// A port's next turn.
 #[derive(Clone, Copy, PartialEq, Eq)]
 pub(crate) enum Phase {
-    /// It offers the next ask of its script, or Done behind the last one.
+    /// An ask of its script, or Done.
     Offering,
-    /// It takes what it is told, until that is the verdict on its ask.
+    /// Tellings, until the verdict on its ask.
     Awaiting,
-    /// It has offered Done, and takes the values that are still to come.
+    /// Values still to come, after Done.
     Closing,
-    /// It was told what none of its asks calls for, and does nothing more. The cache side of its
-    /// station never tells it such a thing, but the port can't know that.
+    /// Nothing more: it was told what none of its asks calls for. The cache side never does that, but the
+    /// port can't know.
     Astray,
 }
 
-/// The place in the script of the ask that is offered next or waits for its verdict, and how many
-/// values of accepted loads are still to come.
+/// The ask that is offered or awaits its verdict, and how many values are owed.
 #[derive(Clone, Copy)]
 pub(crate) struct Talk {
     pub(crate) phase: Phase,
@@ -31,7 +30,6 @@ pub(crate) struct Talk {
 }
 
 impl Talk {
-    /// Before the first turn.
     pub(crate) fn new() -> Talk
         ensures talked { (script : List Ask) → HasTalked script result.phase result.next result.owed [] [] }
         ensures phase { result.phase ≡ Phase.Offering }
@@ -44,14 +42,12 @@ impl Talk {
         }
     }
 
-    /// The ask that is offered next.
     pub(crate) fn ask(&self, script: &[Ask]) -> Ask
         ensures { result ≡ ask_at script.now self.now.next }
     {
         script.get(self.next).copied().unwrap_or(Ask::Done)
     }
 
-    /// That ask was offered.
     pub(crate) fn note_offer(&mut self, script: &[Ask])
         requires { self.old.phase ≡ Phase.Offering }
         ensures talked { (offered : List Ask) (taken : List Told)
@@ -68,7 +64,6 @@ impl Talk {
         };
     }
 
-    /// The port was told this.
     pub(crate) fn note(&mut self, script: &[Ask], told: Told)
         requires owed { self.old.owed < u64.MAX }
         requires placed { self.old.phase ≡ Phase.Awaiting → self.old.next < length script.now }
@@ -89,7 +84,6 @@ impl Talk {
         }
     }
 
-    // The ask that waits for its verdict was told this one.
     fn note_verdict(&mut self, ask: Ask, verdict: Told)
         requires next { self.old.next < usize.MAX }
         requires owed { self.old.owed < u64.MAX }
@@ -106,7 +100,6 @@ impl Talk {
         }
     }
 
-    /// Whether all was offered and all was told.
     pub(crate) fn is_over(&self) -> bool
         ensures { result ≡ true → (script offered : List Ask) (taken : List Told)
             → HasTalked script self.now.phase self.now.next self.now.owed offered taken
@@ -116,8 +109,7 @@ impl Talk {
     }
 }
 
-// Whether a port goes on in its script after this verdict. After any other one, a refusal for a
-// cause that may pass, it offers the ask again.
+// Any other verdict is a refusal that may pass.
 fn is_final(verdict: Told) -> bool
     ensures { result ≡ is_final verdict }
 {

@@ -1,4 +1,4 @@
-//! The threads of a run: one for the cache side, and as many for the ports and the banks as their crew says.
+//! The threads of a run.
 ghost use Rattle.std.specs.Prelude.{◌≡◌, ◌≤◌, ◌+◌, length, vec_len};
 ghost use Rattle.std.specs.Fork.{AcceptsChunksMut, ChangesChunks, AllInChunks};
 ghost use Rattle.std.specs.List.{All};
@@ -21,9 +21,7 @@ use std::rt::Clock;
 use std::sync::atomic::AtomicBool;
 use std::thread::{Threads, for_each_chunk_mut, join_mut};
 
-/// Runs the cache side in a thread of its own, and the ports and the banks in those of the crew, and joins
-/// them all; the cache side's thread serves the banks if the crew has none for them. The result is how the
-/// run of the cache side ended; the ports and the banks note their own.
+/// Runs all parts to their ends.
 pub(crate) fn run_all<
     R: Clock + Threads + Sync,
     G: Gate,
@@ -79,7 +77,6 @@ pub(crate) fn run_all<
     cache_end
 }
 
-// Runs the banks, and beside them the ports.
 fn run_sides<R: Clock + Threads + Sync, G: Gate>(
     rt: &R,
     gate: &G,
@@ -177,7 +174,6 @@ fn run_banks<R: Clock + Threads + Sync, G: Gate>(
     );
 }
 
-// Hands the parts out to so many threads, each of which begins with the part of a number.
 fn for_each_share<R: Threads + Sync, T: Send, F: Fn(usize, &mut [T]) + Sync>(
     rt: &R,
     parts: &mut [T],
@@ -192,7 +188,6 @@ fn for_each_share<R: Threads + Sync, T: Send, F: Fn(usize, &mut [T]) + Sync>(
     for_each_chunk_mut(rt, parts, size, run);
 }
 
-// How many of these parts a thread has, if they share so many.
 fn parts_a_thread(parts: usize, threads: usize) -> usize
     ensures { result ≡ parts_a_thread parts threads }
 {

@@ -1,4 +1,4 @@
-//! The events of a trace or of a recorded run.
+//! Events of a trace or a recorded run.
 ghost use Rattle.std.specs.Prelude.{◌≡◌, ℕ, ◌<◌, List, OnOk, IfOk, IfErr};
 ghost use Rattle.trace_text.specs.declared.fault.TheConstants.{MAX_LINE, MAX_LINES, MAX_PAIR};
 ghost use Rattle.trace_text.specs.Lines.{IsSaid};
@@ -13,14 +13,14 @@ use trace_text::{
     Uncollected, answer_text, line_said, pair_said, read_lines,
 };
 
-/// An event that a machine is asked, and the answer that was recorded with it, if one was.
+/// An event, with the answer that was recorded.
 #[derive(Clone, Copy, PartialEq, Eq, Debug)]
 pub struct Asked {
     pub event: Event,
     pub recorded: Option<Answer>,
 }
 
-// What a line says, without its LF: it is one of a trace, or one of a recorded run.
+// A line of a trace, or of a recorded run.
 #[tactic(auto, unfolding(crate::specs::Asked::said_of))]
 fn said(text: &[u8]) -> Result<Pair, LineFault>
     ensures pair { result ≡ all.said_of text.now }
@@ -38,7 +38,6 @@ fn said(text: &[u8]) -> Result<Pair, LineFault>
     }
 }
 
-// What is asked in a line, if it has an event.
 fn asked_in(pair: Pair) -> Option<Asked>
     ensures { result ≡ all.asked_with pair.line pair.answer }
 {
@@ -51,7 +50,6 @@ fn asked_in(pair: Pair) -> Option<Asked>
     }
 }
 
-/// The recorded answer, if it isn't the machine's.
 #[tactic(auto, unfolding(crate::specs::Asked::other_answer))]
 pub(crate) fn other_answer(answer: Answer, recorded: Option<Answer>) -> Option<Answer>
     ensures { result ≡ all.other_answer answer recorded }
@@ -64,7 +62,7 @@ pub(crate) fn other_answer(answer: Answer, recorded: Option<Answer>) -> Option<A
     }
 }
 
-// What is asked in the lines so far: all is counted, and kept as long as it isn't too much.
+// All is counted, and kept as long as it isn't too much.
 #[derive(Drop)]
 pub(crate) struct AskedSoFar {
     pub(crate) count: usize,
@@ -72,7 +70,6 @@ pub(crate) struct AskedSoFar {
 }
 
 impl AskedSoFar {
-    // Counts what is asked, and keeps it if it isn't too much.
     fn gather(&mut self, asked: Option<Asked>) -> Result<(), Uncollected>
         requires few { self.old.count < MAX_LINES }
         ensures ok { OnOk result (all.GathersOne self.old asked self.new) }
@@ -117,15 +114,12 @@ impl Collector for AskedSoFar {
     }
 }
 
-/// The events of a trace or of a recorded run, in order, each with its answer if that was recorded. `None` says that
-/// there are more than are drawn. Lines that only show something are passed over.
+/// The events in order, with recorded answers. `None`: more than are drawn. Lines that only show
+/// something are passed over.
 ///
-/// A line is read as by [`read_line`], and if it is none of a trace as by [`read_pair`]. Of a line that is neither the
-/// trace's fault is answered, or, if it has more than 64 bytes, the recorded run's. The text is read to its end, so a
-/// faulty line goes before too many events. The order of the faults is that of
-/// [`read_requests`](trace_text::read_requests).
-///
-/// One buffer of 4,096 bytes is allocated before the first read. The events that are kept take more.
+/// A line that neither [`read_line`] nor [`read_pair`] reads has the trace's fault, or the run's if
+/// it has more than 64 bytes. The text is read to its end, so a faulty line goes before too many
+/// events.
 pub(crate) fn read_asked<R: Source>(
     alloc: Global,
     reader: &mut R,

@@ -6,21 +6,21 @@ ghost use Rattle.run_pictures.specs.Words as words;
 use flat_model::Event;
 use machine_core::{BankAnswer, Entry, Lookup, Queued, ShapedMachine};
 
-/// What the words of an event say of the machine before it that can't be seen behind it: [`words_by`](crate::words_by) takes it.
+/// What [`words_by`](crate::words_by) can't see behind an event.
 #[derive(Clone, Copy)]
 pub struct Before {
-    /// What a load, store or prefetch finds of its word; nothing of other events, and outside memory.
+    /// What a load, store or prefetch finds of its word.
     pub found: Option<Lookup>,
-    /// The write queue's front, if a word waits there.
+    /// The write queue's front.
     pub front: Option<Queued>,
-    /// The answer of a bank that is to arrive, if the event names one.
+    /// The bank's answer that is to arrive.
     pub answer: Option<BankAnswer>,
-    /// The word of the input stack that is to be processed, if the event names one.
+    /// The stack's word that is to be processed.
     pub entry: Option<Entry>,
 }
 
 impl Before {
-    /// What is seen of a machine that is to be asked an event. It allocates nothing.
+    /// Sees a machine that is to be asked an event. Allocates nothing.
     #[tactic(auto, unfolding(crate::specs::Words::seen))]
     pub fn new(machine: &ShapedMachine, event: Event) -> Before
         ensures { result ≡ words.seen machine.now event }

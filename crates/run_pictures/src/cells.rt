@@ -46,7 +46,7 @@ fn register_at(alloc: Global, machine: &ShapedMachine, slot: u32) -> Result<Stri
     }
 }
 
-// The same register, as a trace shows it.
+// As a trace shows it.
 fn line_at(alloc: Global, machine: &ShapedMachine, slot: u32) -> Result<String, AllocError>
     ensures { IfOk result
         (λ text. cells.IsLineAt machine.now slot (string_bytes text)) }
@@ -59,7 +59,6 @@ fn line_at(alloc: Global, machine: &ShapedMachine, slot: u32) -> Result<String, 
     }
 }
 
-// Whether a register stands for a block that is missing words.
 #[tactic(auto, unfolding(crate::specs::Cells::is_used, machine_core::specs::AnyMachine::register_shown))]
 fn is_used(machine: &ShapedMachine, slot: u32) -> bool
     ensures { result ≡ cells.is_used machine.now slot }
@@ -70,7 +69,6 @@ fn is_used(machine: &ShapedMachine, slot: u32) -> bool
     }
 }
 
-// Where a word of a register is on its way.
 fn way_of(field: FieldView) -> &'static str
     ensures { result.now ≡ cells.way_text field }
 {
@@ -134,7 +132,6 @@ fn load_text(alloc: Global, load: Owed, due: Option<Word>) -> Result<String, All
     }
 }
 
-// Whether loads may wait for a word of a register.
 #[tactic(auto, unfolding(crate::specs::Cells::is_awaited, machine_core::specs::AnyMachine::field_shown))]
 fn is_awaited(machine: &ShapedMachine, slot: u32, i: u32) -> bool
     ensures { result ≡ cells.is_awaited machine.now slot i }
@@ -166,7 +163,6 @@ fn load_at(
     }
 }
 
-// Whether a register waits for words of a block that still has its frame.
 #[tactic(auto, unfolding(crate::specs::Cells::is_live_for, machine_core::specs::AnyMachine::register_shown))]
 fn is_live_for(machine: &ShapedMachine, slot: u32, block: u32) -> bool
     ensures { result ≡ cells.is_live_for machine.now slot block }
@@ -177,7 +173,6 @@ fn is_live_for(machine: &ShapedMachine, slot: u32, block: u32) -> bool
     }
 }
 
-/// Whether words of a block that a frame holds are on their way.
 #[tactic(auto, unfolding(crate::specs::Cells::is_pending))]
 pub(crate) fn is_pending(machine: &ShapedMachine, block: u32) -> bool
     ensures { result ≡ cells.is_pending machine.now block }
@@ -319,8 +314,8 @@ fn memory_text(alloc: Global, word: Option<Word>) -> Result<String, AllocError>
     }
 }
 
-/// The text of a place: empty if nothing stands there. `flat` is what the machine's loads are owed.
-/// `AllocError` says that there was too little memory.
+/// The text of a place, empty for nothing. `flat` is what loads are owed. `AllocError`: too little
+/// memory.
 #[tactic(auto, unfolding(machine_core::specs::AnyMachine::bank_shown))]
 pub fn text_at(
     alloc: Global,

@@ -1,4 +1,4 @@
-//! A run as it is drawn, in one of three forms.
+//! A run in one of three forms.
 
 ghost use Rattle.std.specs.Prelude.{◌≡◌, OnOk, IfOk};
 ghost use Rattle.std.specs.String.{string_bytes};
@@ -12,25 +12,22 @@ use flat_model::Image;
 use machine_core::ShapedMachine;
 use std::alloc::{AllocError, Global};
 
-/// As what a run is drawn.
+/// The form of a drawing.
 #[derive(Clone, Copy, PartialEq, Eq, Debug)]
 pub enum Form {
-    /// A page of HTML, with its style and its script, that stands alone and steps through the run.
+    /// An HTML page that stands alone and steps through the run.
     Page,
-    /// Lines of at most 80 columns, with an empty line between the steps. A line begins with `*` if the
-    /// step changed it, and its text is `-` if nothing stands there any more. A step has the lines that
-    /// it changed, and those of the registers and frames in which they lie; the first and the last step,
-    /// and each whose number is a multiple of 100, have all lines. Places where nothing stands aren't
-    /// shown, and of memory only the words that a step changed.
+    /// Lines of at most 80 columns, with an empty line between steps. `*` marks what the step
+    /// changed, and `-` what is gone. A step has the lines that it changed, with all of their
+    /// registers and frames. The first, the last and each hundredth step have all lines. Empty
+    /// places aren't shown, and of memory only changed words.
     Screens,
-    /// A waveform, as a value change dump (VCD), with one unit of time a step: its event and answer, and
-    /// whether another answer was recorded; which registers stand for blocks, which of these are obsolete, their
-    /// blocks, and how many words, commands, answers and values stand in the input stack, the write queue, the banks
-    /// and the ready replies.
+    /// A value change dump (VCD), a unit of time a step: event and answer, and whether another was
+    /// recorded. Also registers in use, obsolete ones and their blocks. And how much stands in the
+    /// input stack, the write queue, the banks and the ready replies.
     Waveform,
 }
 
-// A run as it is drawn.
 #[derive(Drop)]
 pub(crate) enum Drawing {
     Page(Page),
@@ -39,7 +36,6 @@ pub(crate) enum Drawing {
 }
 
 impl Drawing {
-    // The drawing of a machine over an image, before its first event.
     pub(crate) fn new(
         alloc: Global,
         machine: &ShapedMachine,
@@ -55,7 +51,6 @@ impl Drawing {
         }
     }
 
-    // Draws a step, behind which the machine stands.
     pub(crate) fn draw(
         &mut self,
         alloc: Global,
@@ -72,7 +67,6 @@ impl Drawing {
         }
     }
 
-    // The whole text.
     pub(crate) fn finish(self) -> Result<String, AllocError>
         ensures { IfOk result (λ text. string_bytes text ≡ whole_text self) }
     {

@@ -16,17 +16,15 @@ use std::alloc::{AllocError, Global};
 /// The most events that are drawn.
 pub const MOST_EVENTS: usize = 10_000;
 
-/// After how many events screens have the whole machine again.
+/// Screens have the whole machine again after so many events.
 pub const WHOLE_EVERY: usize = 100;
 
-// Whether the step of this number, of so many, has the whole machine.
 fn is_whole(count: usize, number: usize) -> bool
     ensures { result ≡ is_whole count number }
 {
     number == count || number % WHOLE_EVERY == 0
 }
 
-// Makes the event that is asked, and draws it as the step of this number, of so many.
 #[tactic(auto, unfolding(machine_core::specs::AnyMachine::after_event))]
 fn draw_event(
     alloc: Global,
@@ -58,7 +56,6 @@ fn draw_event(
     drawing.draw(alloc, machine, &step)
 }
 
-// Makes each event that is asked, and draws it.
 fn draw_events(
     alloc: Global,
     machine: &mut ShapedMachine,
@@ -75,7 +72,6 @@ fn draw_events(
     Ok(())
 }
 
-/// The text of the walk of a machine over all that is asked, from an image on.
 pub(crate) fn draw_run(
     alloc: Global,
     machine: &mut ShapedMachine,

@@ -11,7 +11,6 @@ use flat_model::{Answer, Event, FlatMemory, Image};
 use machine_core::ShapedMachine;
 use std::alloc::{AllocError, Global};
 
-/// The picture as it stands, and the places that it has.
 #[derive(Drop)]
 pub(crate) struct Film {
     flat: FlatMemory,
@@ -19,7 +18,6 @@ pub(crate) struct Film {
     texts: Vec<String>,
 }
 
-// The text of each place.
 fn texts_of(
     alloc: Global,
     machine: &ShapedMachine,
@@ -36,7 +34,6 @@ fn texts_of(
     Ok(texts)
 }
 
-/// Whether the place of this number has another text than before, or a first one.
 #[tactic(auto, unfolding(crate::specs::Pictures::is_changed))]
 pub(crate) fn is_changed(before: &[String], after: &[String], k: usize) -> bool
     ensures { result ≡ pictures.is_changed before.now after.now k }
@@ -50,7 +47,6 @@ pub(crate) fn is_changed(before: &[String], after: &[String], k: usize) -> bool
     }
 }
 
-// The step of flat memory that goes with an event and its answer.
 fn step_flat(flat: &mut FlatMemory, event: Event, answer: Answer) -> Result<(), AllocError>
     ensures { OnOk result (flat_step (shown flat.old) event answer ≡ Some (shown flat.new)) }
 {
@@ -58,7 +54,6 @@ fn step_flat(flat: &mut FlatMemory, event: Event, answer: Answer) -> Result<(), 
 }
 
 impl Film {
-    /// The film of a machine in which nothing has happened, over an image, before its first event.
     pub(crate) fn new(
         alloc: Global,
         machine: &ShapedMachine,
@@ -77,21 +72,19 @@ impl Film {
         })
     }
 
-    /// The places of its pictures.
     pub(crate) fn places(&self) -> &[Place]
         ensures { result.now ≡ self.now.places.items }
     {
         self.places.as_slice()
     }
 
-    /// The text of each place, as it stands.
     pub(crate) fn texts(&self) -> &[String]
         ensures { result.now ≡ self.now.texts.items }
     {
         self.texts.as_slice()
     }
 
-    /// Draws the machine behind an event. The texts of the picture before come back.
+    /// Returns the texts of the picture before.
     pub(crate) fn advance(
         &mut self,
         alloc: Global,

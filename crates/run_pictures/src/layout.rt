@@ -6,21 +6,19 @@ ghost use Rattle.run_pictures.specs.Layouts.{fitted};
 
 use machine_core::Sizes;
 
-// How many frames there are.
 pub(crate) fn frames_in(sizes: &Sizes) -> u32
     ensures { result ≡ layouts.frames_in sizes.now }
 {
     sizes.sets.saturating_mul(sizes.ways)
 }
 
-// How many answers a bank may have: the registers ask for each word of their blocks once.
+// The registers ask for each word of their blocks once.
 pub(crate) fn answers_in(sizes: &Sizes) -> u32
     ensures { result ≡ fitted (sizes.now.regs * sizes.now.block_words) }
 {
     sizes.regs.saturating_mul(sizes.block_words)
 }
 
-// The block of the word at an address.
 #[tactic(auto, using(crate::proofs::Words::quotients))]
 pub(crate) fn block_in(sizes: &Sizes, at: u32) -> u32
     ensures { result ≡ block_of sizes.now at }
@@ -28,7 +26,6 @@ pub(crate) fn block_in(sizes: &Sizes, at: u32) -> u32
     at.checked_div(sizes.block_words).unwrap_or(0)
 }
 
-// The set in which a block may be.
 #[tactic(auto, using(crate::proofs::Words::quotients))]
 pub(crate) fn set_in(sizes: &Sizes, block: u32) -> u32
     ensures { result ≡ layouts.set_in sizes.now block }
@@ -36,7 +33,6 @@ pub(crate) fn set_in(sizes: &Sizes, block: u32) -> u32
     block.checked_rem(sizes.sets).unwrap_or(block)
 }
 
-// The set to which a frame belongs.
 #[tactic(auto, using(crate::proofs::Words::quotients))]
 pub(crate) fn set_of_frame(sizes: &Sizes, frame: u32) -> u32
     ensures { result ≡ layouts.set_of_frame sizes.now frame }
@@ -44,7 +40,6 @@ pub(crate) fn set_of_frame(sizes: &Sizes, frame: u32) -> u32
     frame.checked_div(sizes.ways).unwrap_or(0)
 }
 
-// The bank in which the word at an address lies.
 #[tactic(auto, using(crate::proofs::Words::quotients))]
 pub(crate) fn bank_in(sizes: &Sizes, at: u64) -> u64
     ensures { result ≡ layouts.bank_in sizes.now at }

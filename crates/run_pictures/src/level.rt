@@ -5,16 +5,12 @@ ghost use Rattle.run_pictures.specs.Waves as waves;
 
 use std::fmt;
 
-/// What a signal stands at. It is written as it stands in front of the signal.
+/// Written in front of the signal.
 #[derive(Clone, Copy)]
 pub(crate) enum Level {
-    /// One bit.
     Bit(bool),
-    /// A number.
     Number(u32),
-    /// A word.
     Kind(&'static str),
-    /// No number.
     Unset,
 }
 
@@ -33,7 +29,6 @@ impl fmt::Display for Level {
 }
 
 impl Level {
-    /// The level of a number, if there is one.
     pub(crate) fn known(number: Option<u32>) -> Level
         ensures { waves.level_text result ≡ waves.known_text number }
     {

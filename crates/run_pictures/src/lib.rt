@@ -1,10 +1,12 @@
-//! The machine at each event of a trace, drawn: as a page, as screens of text, and as a waveform.
+//! The machine at each event of a trace, drawn.
 //!
-//! A picture is a row of [`Place`]s, and the text of each: a register, a word of a frame, an entry of
-//! a queue. [`show_text`] reads a trace or a recorded run, applies its events to a machine and draws it before the first
-//! of them and behind each: as a page of HTML that steps through the pictures, as lines for a
-//! terminal, or as a waveform. Whatever is drawn is what a machine shows of its state. What a step did, or why it
-//! didn't, stands beside it in words: [`words_by`] gives them to others too.
+//! [`show_text`] comes first: it reads a trace or a recorded run, and applies its events to a
+//! machine. It draws that before the first and behind each, as a page of HTML, as lines for a
+//! terminal, or as a waveform. Its caller is `kroft_jobs`.
+//!
+//! A picture is a row of [`Place`]s, each with its text: a register, a word of a frame, an entry of
+//! a queue. All of it is what a machine shows of its state. [`words_by`] says what a step did, or
+//! why it didn't.
 #![tactic(auto)]
 
 mod asked;

@@ -20,7 +20,6 @@ pub(crate) struct Page {
     text: String,
 }
 
-// The numbers that the page is laid out by.
 fn push_sizes(text: &mut String, sizes: &Sizes) -> Result<(), AllocError>
     ensures { OnOk result (string_bytes text.new ≡ string_bytes text.old ++ pages.sizes_text sizes.now) }
 {
@@ -29,7 +28,6 @@ fn push_sizes(text: &mut String, sizes: &Sizes) -> Result<(), AllocError>
     write!(text, "const blockWords = {words};\nconst ways = {ways};\n")
 }
 
-// The names of the places, in their order.
 fn push_names(text: &mut String, places: &[Place]) -> Result<(), AllocError>
     ensures { OnOk result
         (string_bytes text.new ≡ string_bytes text.old ++ flat_map pages.place_line places.now) }
@@ -40,7 +38,6 @@ fn push_names(text: &mut String, places: &[Place]) -> Result<(), AllocError>
     Ok(())
 }
 
-// The list of the places.
 fn push_places(text: &mut String, places: &[Place]) -> Result<(), AllocError>
     ensures { OnOk result
         (string_bytes text.new ≡ string_bytes text.old ++ pages.places_text places.now) }
@@ -50,7 +47,6 @@ fn push_places(text: &mut String, places: &[Place]) -> Result<(), AllocError>
     text.push_str("];\n")
 }
 
-// The number of a place with what stands there now.
 fn push_cell(text: &mut String, texts: &[String], k: usize) -> Result<(), AllocError>
     ensures { OnOk result
         (string_bytes text.new ≡ string_bytes text.old ++ pages.cell_text k (slice_get texts.now k)) }
@@ -61,7 +57,6 @@ fn push_cell(text: &mut String, texts: &[String], k: usize) -> Result<(), AllocE
     }
 }
 
-// The same, if that is another text than before.
 #[tactic(auto, unfolding(crate::specs::Pages::change_text))]
 fn push_change(
     text: &mut String,
@@ -79,7 +74,6 @@ fn push_change(
     }
 }
 
-// The places that have another text than before, and the end of a step.
 fn push_changes(text: &mut String, before: &[String], after: &[String]) -> Result<(), AllocError>
     ensures { OnOk result
         (string_bytes text.new ≡ string_bytes text.old ++ pages.changes_text before.now after.now) }
@@ -90,7 +84,6 @@ fn push_changes(text: &mut String, before: &[String], after: &[String]) -> Resul
     text.push_str("]],\n")
 }
 
-// The picture before the first event: all places where something stands.
 fn push_first(text: &mut String, texts: &[String]) -> Result<(), AllocError>
     ensures { OnOk result (string_bytes text.new ≡ string_bytes text.old ++ pages.first_text texts.now) }
 {
@@ -98,7 +91,6 @@ fn push_first(text: &mut String, texts: &[String]) -> Result<(), AllocError>
     push_changes(text, &[], texts)
 }
 
-// The event of a step, its answer, its words, and the recorded answer if that is another.
 fn push_event(text: &mut String, step: &Step) -> Result<(), AllocError>
     ensures { OnOk result
         (string_bytes text.new ≡ string_bytes text.old ++ pages.event_line step.now.made (string_bytes step.now.words)) }
@@ -113,7 +105,6 @@ fn push_event(text: &mut String, step: &Step) -> Result<(), AllocError>
 }
 
 impl Page {
-    /// The page of a machine over an image, before its first event.
     pub(crate) fn new(
         alloc: Global,
         machine: &ShapedMachine,
@@ -130,7 +121,6 @@ impl Page {
         Ok(Page { film, text })
     }
 
-    /// Draws a step, behind which the machine stands.
     pub(crate) fn draw(
         &mut self,
         alloc: Global,
@@ -147,7 +137,6 @@ impl Page {
         push_changes(&mut self.text, before.as_slice(), self.film.texts())
     }
 
-    /// The whole text.
     pub(crate) fn finish(self) -> Result<String, AllocError>
         ensures { IfOk result (λ text. string_bytes text ≡ string_bytes self.text ++ PAGE_END.now) }
     {

@@ -55,7 +55,6 @@ impl fmt::Display for Place {
     }
 }
 
-// The letter of a place, and its numbers.
 fn name_of(place: Place) -> Numbered
     ensures { text_of result ≡ spots.name_text place }
 {
@@ -75,7 +74,6 @@ fn name_of(place: Place) -> Numbered
     }
 }
 
-// The loads that may wait for a word.
 fn push_loads(places: &mut Vec<Place>, slot: u32, i: u32) -> Result<(), AllocError>
     ensures { OnOk result (places.new.items ≡ places.old.items ++ spots.of_each (spots.load_place slot i) MAX_WAITING) }
 {
@@ -85,7 +83,6 @@ fn push_loads(places: &mut Vec<Place>, slot: u32, i: u32) -> Result<(), AllocErr
     Ok(())
 }
 
-// A word of a register.
 fn push_field(places: &mut Vec<Place>, slot: u32, i: u32) -> Result<(), AllocError>
     ensures { OnOk result (places.new.items ≡ places.old.items ++ spots.field_places slot i) }
 {
@@ -93,7 +90,6 @@ fn push_field(places: &mut Vec<Place>, slot: u32, i: u32) -> Result<(), AllocErr
     push_loads(places, slot, i)
 }
 
-// The words of a register.
 fn push_fields(places: &mut Vec<Place>, sizes: &Sizes, slot: u32) -> Result<(), AllocError>
     ensures { OnOk result (places.new.items ≡ places.old.items ++ spots.of_each (spots.field_places slot) sizes.now.block_words) }
 {
@@ -103,7 +99,6 @@ fn push_fields(places: &mut Vec<Place>, sizes: &Sizes, slot: u32) -> Result<(), 
     Ok(())
 }
 
-// A register.
 fn push_register(places: &mut Vec<Place>, sizes: &Sizes, slot: u32) -> Result<(), AllocError>
     ensures { OnOk result (places.new.items ≡ places.old.items ++ spots.register_places sizes.now slot) }
 {
@@ -121,7 +116,6 @@ fn push_registers(places: &mut Vec<Place>, sizes: &Sizes) -> Result<(), AllocErr
     Ok(())
 }
 
-// The words of a frame.
 fn push_cells(places: &mut Vec<Place>, sizes: &Sizes, frame: u32) -> Result<(), AllocError>
     ensures { OnOk result (places.new.items ≡ places.old.items ++ spots.of_each (spots.cell_place frame) sizes.now.block_words) }
 {
@@ -131,7 +125,6 @@ fn push_cells(places: &mut Vec<Place>, sizes: &Sizes, frame: u32) -> Result<(), 
     Ok(())
 }
 
-// A frame.
 fn push_frame(places: &mut Vec<Place>, sizes: &Sizes, frame: u32) -> Result<(), AllocError>
     ensures { OnOk result (places.new.items ≡ places.old.items ++ spots.frame_places sizes.now frame) }
 {
@@ -169,7 +162,6 @@ fn push_queue(places: &mut Vec<Place>, sizes: &Sizes) -> Result<(), AllocError>
     Ok(())
 }
 
-// The commands that may wait at a bank.
 fn push_commands(places: &mut Vec<Place>, sizes: &Sizes, bank: u32) -> Result<(), AllocError>
     ensures { OnOk result (places.new.items ≡ places.old.items ++ spots.of_each (spots.command_place bank) sizes.now.bank_queue) }
 {
@@ -179,7 +171,6 @@ fn push_commands(places: &mut Vec<Place>, sizes: &Sizes, bank: u32) -> Result<()
     Ok(())
 }
 
-// The answers that may stand in a bank.
 fn push_answers(places: &mut Vec<Place>, sizes: &Sizes, bank: u32) -> Result<(), AllocError>
     ensures { OnOk result
         (places.new.items
@@ -192,7 +183,6 @@ fn push_answers(places: &mut Vec<Place>, sizes: &Sizes, bank: u32) -> Result<(),
     Ok(())
 }
 
-// A bank.
 fn push_bank(places: &mut Vec<Place>, sizes: &Sizes, bank: u32) -> Result<(), AllocError>
     ensures { OnOk result (places.new.items ≡ places.old.items ++ spots.bank_places sizes.now bank) }
 {
@@ -218,7 +208,6 @@ fn push_replies(places: &mut Vec<Place>, sizes: &Sizes) -> Result<(), AllocError
     Ok(())
 }
 
-// How many words of memory are drawn.
 fn memory_shown(words: u32) -> u32
     ensures { result ≡ spots.memory_shown words }
 {
@@ -238,10 +227,9 @@ fn push_memory(places: &mut Vec<Place>, sizes: &Sizes) -> Result<(), AllocError>
     Ok(())
 }
 
-/// The places of a machine's picture, in the order in which they are drawn: the registers with their
-/// words and waiting loads, the frames with their words, the input stack, the write queue, the commands
-/// and answers of each bank, the ready values, and the first 256 words of memory. `AllocError` says that
-/// there was too little memory.
+/// A picture's places in the order of drawing. Registers come with words and waiting loads, frames
+/// with words. Then come the input stack, the write queue, each bank's commands and answers, the
+/// ready values, and the first words of memory.
 pub(crate) fn places_of(alloc: Global, sizes: &Sizes) -> Result<Vec<Place>, AllocError>
     ensures { IfOk result (λ places. places.items ≡ spots.places_in sizes.now) }
 {

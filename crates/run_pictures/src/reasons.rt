@@ -13,12 +13,11 @@ use flat_model::{Answer, Cause, Event, Word};
 use machine_core::{BankAnswer, Entry, Lookup, Queued, ShapedMachine, Sizes};
 use std::alloc::{AllocError, Global};
 
-/// What an event did, or why it didn't, in words: the sentence that a picture of the run has for this step.
+/// What an event did, or why it didn't, as a sentence without full stop.
 ///
-/// It speaks of the machine before the event. What can't be seen of that behind it stands in `before`, which
-/// [`Before::new`] reads of the machine before it is asked; and then the machine stands behind the event, which it
-/// answered with `answer`. A refusal, and an event that found nothing to do, left it as it was. The sentence has the
-/// numbers that it rests on, as the block that is asked for or the places that are free, and ends without a full stop.
+/// It speaks of the machine before the event: [`Before::new`] reads `before` there. `machine`
+/// stands behind the event, which it answered with `answer`. The sentence has the numbers that it
+/// rests on, as the block or the free places. `AllocError`: too little memory.
 pub fn words_by(
     alloc: Global,
     machine: &ShapedMachine,
@@ -38,14 +37,13 @@ pub fn words_by(
     }
 }
 
-// A sentence as text.
 fn written(alloc: Global, sentence: Numbered) -> Result<String, AllocError>
     ensures { IfOk result (λ text. string_bytes text ≡ text_of sentence) }
 {
     format!(in alloc; "{sentence}")
 }
 
-// The block that a request or an eviction is about: block 0 for other events.
+// Block 0 for events without one.
 pub(crate) fn block_about(sizes: &Sizes, event: Event) -> u32
     ensures { result ≡ words.block_about sizes.now event }
 {
@@ -67,7 +65,6 @@ fn accepted(sizes: &Sizes, event: Event, found: Option<Lookup>) -> Numbered
     }
 }
 
-// An accepted request, by what it found.
 fn requested(block: u32, event: Event, found: Option<Lookup>) -> Numbered
     ensures { text_of result ≡ words.request_words block event found }
 {
@@ -125,7 +122,6 @@ fn drained(alloc: Global, sizes: &Sizes, front: Option<Queued>) -> Result<String
     }
 }
 
-// A word that leaves the write queue.
 fn sent(alloc: Global, sizes: &Sizes, front: Queued) -> Result<String, AllocError>
     ensures { IfOk result (λ text. string_bytes text ≡ words.sent_words sizes.now front) }
 {
@@ -170,7 +166,6 @@ fn taken(alloc: Global, tag: u16, word: Word) -> Result<String, AllocError>
     format!(in alloc; "the load of tag {tag} is answered {word}")
 }
 
-// Why there was nothing to do.
 fn idle(event: Event) -> Numbered
     ensures { text_of result ≡ words.idle_words event }
 {
@@ -188,7 +183,6 @@ fn idle(event: Event) -> Numbered
     }
 }
 
-// Why it was refused.
 fn refused(
     alloc: Global,
     machine: &ShapedMachine,
@@ -206,7 +200,7 @@ fn refused(
     }
 }
 
-// Why it was refused, if no more of the machine is to be told than its numbers.
+// What the machine's numbers alone explain.
 fn limited(sizes: &Sizes, event: Event, cause: Cause) -> Numbered
     ensures { text_of result ≡ words.limit_words sizes.now event cause }
 {
@@ -264,7 +258,6 @@ fn block_outside(sizes: &Sizes, block: u32) -> Numbered
     )
 }
 
-// Whether the value of a tag stands ready at a place.
 #[tactic(auto, unfolding(crate::specs::Words::is_ready))]
 fn is_ready(machine: &ShapedMachine, tag: u16, place: u32) -> bool
     ensures { result ≡ words.is_ready machine.now tag place }
@@ -275,7 +268,6 @@ fn is_ready(machine: &ShapedMachine, tag: u16, place: u32) -> bool
     }
 }
 
-// Whether it stands ready anywhere.
 #[tactic(auto, unfolding(crate::specs::Words::has_value))]
 fn has_value(machine: &ShapedMachine, tag: u16) -> bool
     ensures { result ≡ words.has_value machine.now tag }
@@ -283,7 +275,6 @@ fn has_value(machine: &ShapedMachine, tag: u16) -> bool
     (0..machine.replies_len()).any(|place| is_ready(machine, tag, place))
 }
 
-// Why no load may have a tag.
 #[tactic(auto, unfolding(crate::specs::Words::tag_words))]
 fn tag_taken(machine: &ShapedMachine, tag: u16) -> Numbered
     ensures { text_of result ≡ words.tag_words machine.now tag }

@@ -15,7 +15,7 @@ use machine_core::ShapedMachine;
 use std::alloc::{AllocError, Global};
 use std::fmt;
 
-// What a place is called on a screen; nothing for one that isn't shown there.
+// Nothing for a place that isn't shown.
 fn label_of(place: Place) -> Numbered
     ensures { text_of result ≡ screens.label_text place }
 {
@@ -35,7 +35,6 @@ fn label_of(place: Place) -> Numbered
     }
 }
 
-// The same as text.
 fn label_text(alloc: Global, place: Place) -> Result<String, AllocError>
     ensures { IfOk result (λ label. string_bytes label ≡ screens.label_text place) }
 {
@@ -43,15 +42,13 @@ fn label_text(alloc: Global, place: Place) -> Result<String, AllocError>
     format!(in alloc; "{label}")
 }
 
-// Whether nothing stands at a place of this text.
 fn is_idle(text: &str) -> bool
     ensures { result ≡ screens.is_idle text.now }
 {
     matches!(text, "" | "free")
 }
 
-// Whether a place is shown: memory only where it changed, and other places where something stands or
-// stood.
+// Memory only where it changed, other places where something stands or stood.
 fn is_shown(place: Place, text: &str, is_changed: bool) -> bool
     ensures { result ≡ screens.is_shown place text.now is_changed }
 {
@@ -62,7 +59,6 @@ fn is_shown(place: Place, text: &str, is_changed: bool) -> bool
     }
 }
 
-// The register that a place is of, if it is of one.
 fn register_of(place: Place) -> Option<u32>
     ensures { result ≡ screens.register_of place }
 {
@@ -74,7 +70,6 @@ fn register_of(place: Place) -> Option<u32>
     }
 }
 
-// The frame that a place is of, if it is of one.
 fn frame_of(place: Place) -> Option<u32>
     ensures { result ≡ screens.frame_of place }
 {
@@ -84,7 +79,7 @@ fn frame_of(place: Place) -> Option<u32>
     }
 }
 
-// What is written of a picture: all of it, or what changed, and all of the registers and frames in which it lies.
+// All of a picture, or what changed, with all of its registers and frames.
 #[derive(Drop)]
 struct Part {
     is_whole: bool,
@@ -106,7 +101,6 @@ fn push_owner(owners: &mut Vec<u32>, owner: Option<u32>, is_changed: bool) -> Re
     Ok(())
 }
 
-// The register of the place of this number, if that place changed.
 #[tactic(auto, unfolding(crate::specs::Screens::register_at))]
 fn push_register(
     registers: &mut Vec<u32>,
@@ -125,7 +119,6 @@ fn push_register(
     }
 }
 
-// The frame of the place of this number, if that place changed.
 #[tactic(auto, unfolding(crate::specs::Screens::frame_at))]
 fn push_frame(
     frames: &mut Vec<u32>,
@@ -144,7 +137,6 @@ fn push_frame(
     }
 }
 
-// The registers in which something changed.
 fn registers_changed(
     alloc: Global,
     places: &[Place],
@@ -161,7 +153,6 @@ fn registers_changed(
     Ok(registers)
 }
 
-// The frames in which something changed.
 fn frames_changed(
     alloc: Global,
     places: &[Place],
@@ -194,7 +185,6 @@ fn is_among(number: Option<u32>, numbers: &[u32]) -> bool
 }
 
 impl Part {
-    // Whether a place is written.
     fn has(&self, place: Place, is_changed: bool) -> bool
         ensures { result ≡ screens.is_written self.now.is_whole self.now.registers.items self.now.frames.items place is_changed }
     {
@@ -205,7 +195,6 @@ impl Part {
     }
 }
 
-// The line of a place.
 fn push_line(
     alloc: Global,
     screen: &mut String,
@@ -229,7 +218,6 @@ fn push_line(
     write!(screen, "{mark} {label:<18} {shown}\n")
 }
 
-// The text of the place of this number, if it is there.
 fn text_at(texts: &[String], k: usize) -> &str
     ensures { result.now ≡ screens.text_of (slice_get texts.now k) }
 {
@@ -239,7 +227,6 @@ fn text_at(texts: &[String], k: usize) -> &str
     }
 }
 
-// The line of the place of this number. It is marked if its text is another one than before.
 #[tactic(auto, unfolding(crate::specs::Screens::line_at))]
 fn push_line_at(
     alloc: Global,
@@ -264,7 +251,6 @@ fn push_line_at(
     }
 }
 
-// The lines of the places, in their order.
 fn push_lines(
     alloc: Global,
     screen: &mut String,
@@ -285,7 +271,6 @@ fn push_lines(
     Ok(())
 }
 
-// A picture, whole or not.
 fn push_picture(
     alloc: Global,
     screen: &mut String,
@@ -307,7 +292,7 @@ fn push_picture(
     push_lines(alloc, screen, &part, places, before, after)
 }
 
-// The line of a recorded answer that isn't the machine's, or nothing.
+// Nothing where no other answer was recorded.
 #[derive(Clone, Copy)]
 struct RecordedLine {
     answer: Option<Answer>,
@@ -324,7 +309,6 @@ impl fmt::Display for RecordedLine {
     }
 }
 
-// The lines above a picture: which step it is, and what it did.
 fn push_head(screen: &mut String, step: &Step) -> Result<(), AllocError>
     ensures { OnOk result
         (string_bytes screen.new
@@ -344,7 +328,6 @@ fn push_head(screen: &mut String, step: &Step) -> Result<(), AllocError>
     )
 }
 
-/// Screens, up to that of the step that was drawn last.
 #[derive(Drop)]
 pub(crate) struct Screens {
     film: Film,
@@ -352,7 +335,6 @@ pub(crate) struct Screens {
 }
 
 impl Screens {
-    /// The screen of a machine over an image, before its first event.
     pub(crate) fn new(
         alloc: Global,
         machine: &ShapedMachine,
@@ -373,7 +355,6 @@ impl Screens {
         Ok(Screens { film, text })
     }
 
-    /// Draws a step, behind which the machine stands.
     pub(crate) fn draw(
         &mut self,
         alloc: Global,
@@ -398,7 +379,6 @@ impl Screens {
         )
     }
 
-    /// The whole text.
     pub(crate) fn finish(self) -> String
         ensures { string_bytes result ≡ string_bytes self.text }
     {

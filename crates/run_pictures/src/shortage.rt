@@ -11,7 +11,7 @@ use flat_model::Event;
 use machine_core::{Queued, ShapedMachine, Sizes};
 use std::alloc::{AllocError, Global};
 
-/// Why an event was refused that would have queued a frame's dirty words.
+/// Why an event was refused that would have queued dirty words.
 pub(crate) fn queue_full(
     alloc: Global,
     machine: &ShapedMachine,
@@ -34,7 +34,6 @@ pub(crate) fn queue_full(
     }
 }
 
-// How many places of the write queue are free.
 #[tactic(auto, unfolding(crate::specs::Words::free_places))]
 fn free_places(machine: &ShapedMachine) -> u32
     ensures { result ≡ words.free_places machine.now }
@@ -45,7 +44,6 @@ fn free_places(machine: &ShapedMachine) -> u32
         .saturating_sub(machine.queue_len())
 }
 
-// Whether a word of a frame has bytes that memory doesn't have.
 #[tactic(auto, unfolding(crate::specs::Words::is_dirty))]
 fn is_dirty(machine: &ShapedMachine, frame: u32, i: u32) -> bool
     ensures { result ≡ words.is_dirty machine.now frame i }
@@ -56,7 +54,6 @@ fn is_dirty(machine: &ShapedMachine, frame: u32, i: u32) -> bool
     }
 }
 
-// How many such words a frame has.
 #[tactic(auto, unfolding(crate::specs::Words::dirty_count))]
 fn dirty_count(machine: &ShapedMachine, frame: u32) -> usize
     ensures { result ≡ words.dirty_count machine.now frame }
@@ -65,7 +62,6 @@ fn dirty_count(machine: &ShapedMachine, frame: u32) -> usize
     (0..words).filter(|i| is_dirty(machine, frame, *i)).count()
 }
 
-// Whether a block in a frame of a set has all its words.
 #[tactic(auto, unfolding(crate::specs::Words::is_whole_in))]
 fn is_whole_in(machine: &ShapedMachine, set: u32, frame: u32, block: u32) -> bool
     ensures { result ≡ words.is_whole_in machine.now set frame block }
@@ -73,8 +69,7 @@ fn is_whole_in(machine: &ShapedMachine, set: u32, frame: u32, block: u32) -> boo
     set_of_frame(machine.sizes(), frame) == set && !is_pending(machine, block)
 }
 
-// Whether a frame may be the one that an event gives up: an eviction that of its block, and a miss
-// one of its set that waits for no word.
+// An eviction takes its block's frame; a miss one of its set that waits for no word.
 #[tactic(auto, unfolding(crate::specs::Words::may_go))]
 fn may_go(machine: &ShapedMachine, event: Event, frame: u32) -> bool
     ensures { result ≡ words.may_go machine.now event frame }
@@ -92,7 +87,6 @@ fn may_go(machine: &ShapedMachine, event: Event, frame: u32) -> bool
     }
 }
 
-// How many frames may go.
 #[tactic(auto, unfolding(crate::specs::Words::count_that_may_go))]
 fn count_that_may_go(machine: &ShapedMachine, event: Event) -> usize
     ensures { result ≡ words.count_that_may_go machine.now event }
@@ -103,7 +97,6 @@ fn count_that_may_go(machine: &ShapedMachine, event: Event) -> usize
         .count()
 }
 
-// The first frame that may go.
 #[tactic(auto, unfolding(crate::specs::Words::first_that_may_go))]
 fn first_that_may_go(machine: &ShapedMachine, event: Event) -> Option<u32>
     ensures { result ≡ words.first_that_may_go machine.now event }
@@ -112,7 +105,7 @@ fn first_that_may_go(machine: &ShapedMachine, event: Event) -> Option<u32>
     (0..frames).find(|frame| may_go(machine, event, *frame))
 }
 
-// The frame that goes, if no other may. Which frame of a set was taken first isn't shown.
+// `None` if several may go: which came first isn't shown.
 #[tactic(auto, unfolding(crate::specs::Words::victim))]
 fn victim(machine: &ShapedMachine, event: Event) -> Option<u32>
     ensures { result ≡ words.victim machine.now event }
@@ -124,7 +117,6 @@ fn victim(machine: &ShapedMachine, event: Event) -> Option<u32>
     }
 }
 
-/// Why an event was refused that would have sent commands to banks.
 pub(crate) fn bank_full(
     alloc: Global,
     machine: &ShapedMachine,
@@ -139,7 +131,6 @@ pub(crate) fn bank_full(
     }
 }
 
-// The bank of the write queue's front takes no command.
 fn no_room(alloc: Global, sizes: &Sizes, front: Option<Queued>) -> Result<String, AllocError>
     ensures { IfOk result (λ text. string_bytes text ≡ words.no_room_words sizes.now front) }
 {
@@ -152,7 +143,6 @@ fn no_room(alloc: Global, sizes: &Sizes, front: Option<Queued>) -> Result<String
     }
 }
 
-// A bank takes too few commands for the reads of a block.
 fn bank_short(alloc: Global, machine: &ShapedMachine, block: u32) -> Result<String, AllocError>
     ensures { IfOk result
         (λ text. string_bytes text ≡ words.short_words machine.now block (words.short_bank machine.now block)) }
@@ -163,7 +153,6 @@ fn bank_short(alloc: Global, machine: &ShapedMachine, block: u32) -> Result<Stri
     }
 }
 
-// This bank takes too few.
 fn shortage(
     alloc: Global,
     machine: &ShapedMachine,
@@ -178,7 +167,6 @@ fn shortage(
     format!(in alloc; "bank {bank} has room for {room} commands, and is to be sent {reads}")
 }
 
-// Whether a word of a block lies in a bank.
 fn lies_in(sizes: &Sizes, block: u32, bank: u32, i: u32) -> bool
     ensures { result ≡ words.lies_in sizes.now block bank i }
 {
@@ -186,7 +174,6 @@ fn lies_in(sizes: &Sizes, block: u32, bank: u32, i: u32) -> bool
     bank_in(sizes, first + u64::from(i)) == u64::from(bank)
 }
 
-// How many words of a block lie in a bank.
 #[tactic(auto, unfolding(crate::specs::Words::reads_in))]
 fn reads_in(sizes: &Sizes, block: u32, bank: u32) -> usize
     ensures { result ≡ words.reads_in sizes.now block bank }
@@ -196,7 +183,6 @@ fn reads_in(sizes: &Sizes, block: u32, bank: u32) -> usize
         .count()
 }
 
-// How many more commands a bank takes.
 #[tactic(auto, unfolding(crate::specs::Words::room_at))]
 fn room_at(machine: &ShapedMachine, bank: u32) -> u32
     ensures { result ≡ words.room_at machine.now bank }
@@ -207,7 +193,6 @@ fn room_at(machine: &ShapedMachine, bank: u32) -> u32
         .saturating_sub(machine.commands(bank))
 }
 
-// Whether a bank has too little room for the reads of a block.
 #[tactic(auto, unfolding(crate::specs::Words::is_short))]
 fn is_short(machine: &ShapedMachine, block: u32, bank: u32) -> bool
     ensures { result ≡ words.is_short machine.now block bank }
@@ -215,7 +200,6 @@ fn is_short(machine: &ShapedMachine, block: u32, bank: u32) -> bool
     (room_at(machine, bank) as usize) < reads_in(machine.sizes(), block, bank)
 }
 
-// The first such bank.
 #[tactic(auto, unfolding(crate::specs::Words::short_bank))]
 fn short_bank(machine: &ShapedMachine, block: u32) -> Option<u32>
     ensures { result ≡ words.short_bank machine.now block }

@@ -14,23 +14,23 @@ use std::fmt;
 use thiserror::Error;
 use trace_text::{Source, TraceFault};
 
-/// Why a trace isn't drawn.
+/// Why a run isn't drawn.
 #[derive(Clone, Copy, PartialEq, Eq, Debug, Error)]
 #[error("{}", FaultText(self))]
 pub enum ShowFault {
-    /// What the trace says, or a failed read.
+    /// A fault of the text or its reader.
     Trace(TraceFault),
-    /// The trace has more than 10,000 events.
+    /// More than 10,000 events.
     TooManyEvents,
-    /// There was too little memory.
+    /// Too little memory.
     OutOfMemory,
 }
 
-/// A fault's text, of which a contract knows each byte.
+/// A fault's exact text.
 #[derive(Drop)]
 pub struct FaultText<'a>(pub &'a ShowFault);
 
-/// The fault of the trace as it tells itself, `too many events: 10000 at most are shown`, or `out of memory`.
+/// The trace fault's own, `too many events: 10000 at most are shown`, or `out of memory`.
 impl fmt::Display for FaultText<'_> {
     ghost output = { λ told. Some (show_fault_text told.0.now) };
 
@@ -67,22 +67,19 @@ impl From<TraceFault> for ShowFault {
     }
 }
 
-/// Draws the walk of a machine over the events of a trace or of a recorded run: the text of the machine
-/// before the first of them, and behind each. Lines that only show something are passed over. An answer
-/// that was recorded is compared with the machine's own, which is drawn; if it is another one, it is told
-/// beside that. What loads are owed is drawn from memory of the image on, so the machine is one in which
-/// nothing has happened, over this image.
+/// Draws a machine's walk over the events of a trace or a recorded run: before the first and behind
+/// each. Lines that only show something are passed over. A recorded answer that isn't the machine's
+/// stands beside it.
 ///
-/// A line is read as by [`read_line`](trace_text::read_line), and if it is none of a trace as by
-/// [`read_pair`](trace_text::read_pair). `Trace` is the first fault, in the order of
-/// [`read_requests`](trace_text::read_requests), of a faulty line for one, and goes before the other
-/// faults: a line that is neither has the trace's fault, or, if it has more than 64 bytes, the recorded
-/// run's. `TooManyEvents` says that there are more than 10,000 events, and `OutOfMemory` that there was
-/// too little memory to draw.
+/// The machine must be new and over this image: what loads are owed is drawn from it.
 ///
-/// The machine is left behind the last of the events, if they are drawn. If the trace has a fault or too many events it stands
-/// as it stood, since no event is applied before all are read; if there was too little memory to draw, it is left behind some
-/// first ones of them.
+/// A line that neither [`read_line`](trace_text::read_line) nor
+/// [`read_pair`](trace_text::read_pair) reads has the trace's fault, or the run's if it has more
+/// than 64 bytes. `Trace` goes before `TooManyEvents` and `OutOfMemory`, in the order of
+/// [`read_requests`](trace_text::read_requests).
+///
+/// No event is applied before all are read, so after `Trace` and `TooManyEvents` the machine is as
+/// it was. After `OutOfMemory` it stands behind some first events.
 pub fn show_text<R: Source>(
     alloc: Global,
     reader: &mut R,

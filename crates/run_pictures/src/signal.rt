@@ -124,7 +124,6 @@ impl Signal {
     }
 }
 
-// The kind of an event, or that none was made yet.
 fn event_word(made: Option<Made>) -> &'static str
     ensures { result.now ≡ waves.event_word made }
 {
@@ -150,7 +149,6 @@ fn event_kind(event: Event) -> &'static str
     }
 }
 
-// The kind of an answer, or that there is none yet.
 fn answer_word(made: Option<Made>) -> &'static str
     ensures { result.now ≡ waves.answer_word made }
 {
@@ -209,7 +207,6 @@ fn cause_of(made: Option<Made>) -> Option<u32>
     }
 }
 
-// Whether another answer was recorded.
 fn is_other(made: Option<Made>) -> bool
     ensures { result ≡ waves.is_other made }
 {
@@ -246,7 +243,6 @@ fn block_number(register: Option<RegisterView>) -> u32
     }
 }
 
-// The signals of an event.
 fn push_event(signals: &mut Vec<Signal>) -> Result<(), AllocError>
     ensures { OnOk result (signals.new.items ≡ signals.old.items ++ waves.event_signals) }
 {
@@ -261,7 +257,6 @@ fn push_event(signals: &mut Vec<Signal>) -> Result<(), AllocError>
     Ok(())
 }
 
-// The signals of a register.
 fn push_register(signals: &mut Vec<Signal>, slot: u32) -> Result<(), AllocError>
     ensures { OnOk result (signals.new.items ≡ signals.old.items ++ waves.register_signals slot) }
 {
@@ -281,7 +276,6 @@ fn push_registers(signals: &mut Vec<Signal>, sizes: &Sizes) -> Result<(), AllocE
     Ok(())
 }
 
-// The signals of a bank.
 fn push_bank(signals: &mut Vec<Signal>, bank: u32) -> Result<(), AllocError>
     ensures { OnOk result (signals.new.items ≡ signals.old.items ++ waves.bank_signals bank) }
 {
@@ -300,8 +294,7 @@ fn push_banks(signals: &mut Vec<Signal>, sizes: &Sizes) -> Result<(), AllocError
     Ok(())
 }
 
-/// The signals of a machine, in the order in which they are declared. `AllocError` says that there was
-/// too little memory.
+/// A machine's signals in the order of declaration.
 pub(crate) fn signals_of(alloc: Global, sizes: &Sizes) -> Result<Vec<Signal>, AllocError>
     ensures { IfOk result (λ signals. signals.items ≡ waves.signals_in sizes.now) }
 {

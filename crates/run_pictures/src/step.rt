@@ -12,7 +12,7 @@ use machine_core::ShapedMachine;
 use std::alloc::{AllocError, Global};
 use std::fmt;
 
-/// A recorded answer that isn't the machine's, if there is one. It is written as the answer, or as nothing.
+/// A recorded answer, if it isn't the machine's. Written as the answer, or as nothing.
 #[derive(Clone, Copy)]
 pub(crate) struct Other {
     pub(crate) answer: Option<Answer>,
@@ -32,11 +32,10 @@ impl fmt::Display for Other {
 /// An event that was made.
 #[derive(Clone, Copy)]
 pub(crate) struct Made {
-    /// The event.
     pub(crate) event: Event,
     /// The machine's answer.
     pub(crate) answer: Answer,
-    /// The answer that was recorded, if it is another one.
+    /// If it isn't the machine's.
     pub(crate) other: Option<Answer>,
 }
 
@@ -54,7 +53,6 @@ pub(crate) struct Step {
 }
 
 impl Step {
-    /// The step of an event that was made. The machine stands behind it.
     pub(crate) fn new(
         alloc: Global,
         machine: &ShapedMachine,

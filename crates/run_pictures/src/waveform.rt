@@ -20,7 +20,6 @@ fn signal_at(signals: &[Signal], k: usize) -> Option<Signal>
     }
 }
 
-// The declaration of the signal of this number.
 #[tactic(auto, unfolding(crate::specs::Waves::declaration_at))]
 fn push_declaration(wave: &mut String, signals: &[Signal], k: usize) -> Result<(), AllocError>
     ensures { OnOk result
@@ -48,7 +47,6 @@ fn push_each_declaration(wave: &mut String, signals: &[Signal]) -> Result<(), Al
     Ok(())
 }
 
-// The text before the first values.
 fn declarations(alloc: Global, signals: &[Signal]) -> Result<String, AllocError>
     ensures { IfOk result (λ wave. string_bytes wave ≡ waves.declarations_text signals.now) }
 {
@@ -58,7 +56,6 @@ fn declarations(alloc: Global, signals: &[Signal]) -> Result<String, AllocError>
     Ok(wave)
 }
 
-// The values of all signals, as they are written in front of them.
 fn values_of(
     alloc: Global,
     machine: &ShapedMachine,
@@ -75,7 +72,6 @@ fn values_of(
     Ok(values)
 }
 
-// The value of a signal.
 fn value_text(
     alloc: Global,
     machine: &ShapedMachine,
@@ -89,7 +85,6 @@ fn value_text(
     format!(in alloc; "{level}")
 }
 
-// The value of the signal of this number.
 fn push_value(wave: &mut String, values: &[String], k: usize) -> Result<(), AllocError>
     ensures { OnOk result
         (string_bytes wave.new ≡ string_bytes wave.old ++ waves.value_line k (slice_get values.now k)) }
@@ -100,7 +95,6 @@ fn push_value(wave: &mut String, values: &[String], k: usize) -> Result<(), Allo
     }
 }
 
-// The same, if it isn't that of before.
 #[tactic(auto, unfolding(crate::specs::Waves::change_text))]
 fn push_change(
     wave: &mut String,
@@ -118,7 +112,6 @@ fn push_change(
     }
 }
 
-// The values that aren't those of before, if there was one.
 fn push_changes(wave: &mut String, before: &[String], values: &[String]) -> Result<(), AllocError>
     ensures { OnOk result
         (string_bytes wave.new ≡ string_bytes wave.old ++ waves.changes_text before.now values.now) }
@@ -129,7 +122,6 @@ fn push_changes(wave: &mut String, before: &[String], values: &[String]) -> Resu
     Ok(())
 }
 
-// The text before the first event: the declarations, and the values.
 fn opening_text(alloc: Global, signals: &[Signal], values: &[String]) -> Result<String, AllocError>
     ensures { IfOk result
         (λ text. string_bytes text
@@ -143,7 +135,6 @@ fn opening_text(alloc: Global, signals: &[Signal], values: &[String]) -> Result<
     Ok(text)
 }
 
-/// A waveform, up to the event that was drawn last.
 #[derive(Drop)]
 pub(crate) struct Waveform {
     signals: Vec<Signal>,
@@ -152,7 +143,6 @@ pub(crate) struct Waveform {
 }
 
 impl Waveform {
-    /// The waveform of a machine before its first event.
     pub(crate) fn new(alloc: Global, machine: &ShapedMachine) -> Result<Waveform, AllocError>
         ensures { IfOk result (λ wave. waves.WaveOpens machine.now wave) }
     {
@@ -166,7 +156,6 @@ impl Waveform {
         })
     }
 
-    /// Draws a step, behind which the machine stands.
     pub(crate) fn draw(
         &mut self,
         alloc: Global,
@@ -185,7 +174,6 @@ impl Waveform {
         Ok(())
     }
 
-    /// The whole text.
     pub(crate) fn finish(self) -> String
         ensures { string_bytes result ≡ string_bytes self.text }
     {

@@ -16,14 +16,13 @@ use flat_model::{Answer, Event, FlatMemory, Image, Lanes, StepFault, Word, merge
 use std::alloc::{AllocError, Global};
 use thiserror::Error;
 
-/// Why a line wasn't read. After each of these the explainer is as it was.
+/// Why a line wasn't read. The explainer is as it was.
 #[derive(Clone, Copy, PartialEq, Eq, Debug, Error)]
 pub enum ReadFault {
     /// Flat memory can't answer so.
     #[error("flat memory can't answer so at line {}", .0.line)]
     Mismatch(Mismatch),
-    /// There was too little memory for the word that a load is owed, or for those that a store
-    /// overwrites or leaves.
+    /// Too little memory for the words of a load or store.
     #[error("out of memory")]
     OutOfMemory,
 }
@@ -39,8 +38,7 @@ impl From<AllocError> for ReadFault {
     }
 }
 
-/// Flat memory behind the lines so far, with the line that last stored each byte, what became of each
-/// tag, which words its open load may have got since it was accepted, and which values were overwritten.
+/// Flat memory behind the lines so far, and where its bytes came from.
 #[derive(Drop)]
 pub struct Explainer {
     flat: FlatMemory,
@@ -53,7 +51,6 @@ pub struct Explainer {
     ghost all_counts: { vec_len tags.counts ≡ words },
 }
 
-// So many words that no line has stored.
 fn no_stores(alloc: Global, words: u32) -> Result<Vec<Stores>, AllocError>
     ensures items { IfOk result (λ v. v.items ≡ replicate words no_stores) }
     ensures len { IfOk result (λ v. vec_len v ≡ words) }
@@ -69,8 +66,7 @@ impl Explainer {
     ghost use Rattle.run_reasons.specs.Reasons.{reason_of, reason_here, place_reason, value_reason};
     ghost use Rattle.run_reasons.specs.Shown.{shown, more_overwritten, more_left, ReadFaultIs};
 
-    /// Memory of so many words of an image, before any line. `AllocError` says that there was too
-    /// little memory: nothing is made.
+    /// An image's first words, before any line. `AllocError`: too little memory.
     pub fn new(alloc: Global, image: &Image, words: u32) -> Result<Explainer, AllocError>
         ensures { IfOk result (λ e. shown e ≡ beginning (memory_from image.now words)) }
     {
@@ -87,12 +83,8 @@ impl Explainer {
         })
     }
 
-    /// Reads the line of this number: an event and the answer that it got. A line that only shows
-    /// something is passed over by its caller, and counted.
-    ///
-    /// It is `Ok` exactly if flat memory can answer so, and the origins are then those that the line
-    /// leaves. [`ReadFault::Mismatch`] says why it can't. Only an accepted load or store may need more
-    /// memory: [`ReadFault::OutOfMemory`] says that there was too little. After both nothing has changed.
+    /// Reads an event and its answer. The caller passes over lines that only show something, but
+    /// counts them. Only an accepted load or store takes memory.
     pub fn read(&mut self, line: u64, event: Event, answer: Answer) -> Result<(), ReadFault>
         ensures flat { OnOk result
             (flat_step (shown self.old).flat event answer ≡ Some (shown self.new).flat) }
@@ -118,7 +110,6 @@ impl Explainer {
         }
     }
 
-    // Makes room for the values that a line overwrites, and for the word that it leaves, if it does.
     fn make_room(&mut self, event: Event, answer: Answer) -> Result<(), AllocError>
         ensures same { shown self.new ≡ shown self.old }
         ensures room { OnOk result (more_overwritten event answer ≤ spare self.new.past.values) }
@@ -134,7 +125,6 @@ impl Explainer {
         }
     }
 
-    // The word that an event may overwrite; zeros for any event but a store.
     fn word_under(&self, event: Event) -> Word
         ensures { result ≡ word_under (shown self.now).flat event }
     {
@@ -144,7 +134,6 @@ impl Explainer {
         }
     }
 
-    // Notes what flat memory's step, which is made, says of stores, tags and of what stood under it.
     fn note(&mut self, line: u64, event: Event, answer: Answer, old: Word)
         requires room { more_overwritten event answer ≤ spare self.old.past.values }
         requires left { vec_len self.old.tags.left + more_left event answer ≤ vec_capacity self.old.tags.left }
@@ -176,7 +165,6 @@ impl Explainer {
         }
     }
 
-    // A load of this address, accepted in this line.
     fn accepted_load(&self, line: u64, at: u32) -> AcceptedLoad
         ensures { result ≡ accepted_load (shown self.now) line at }
     {
@@ -188,28 +176,24 @@ impl Explainer {
         }
     }
 
-    // The word at an address; zeros outside memory.
     fn word_at(&self, at: u32) -> Word
         ensures { result ≡ word_at (shown self.now).flat.mem at }
     {
         self.flat.word(at).unwrap_or_default()
     }
 
-    // The lines that last stored the bytes of a word; none outside memory.
     fn stores_at(&self, at: u32) -> Stores
         ensures { result ≡ stores_at (shown self.now).stores at }
     {
         self.stores.get(at as usize).copied().unwrap_or_default()
     }
 
-    // What became of a tag.
     fn use_of(&self, tag: u16) -> TagUse
         ensures { result ≡ (shown self.now).tags tag }
     {
         self.tags.use_of(tag)
     }
 
-    // The bytes in these lanes are stored in this line.
     fn store(&mut self, line: u64, at: u32, lanes: Lanes)
         requires { at < length (shown self.old).flat.mem }
         ensures flat { (shown self.new).flat ≡ (shown self.old).flat }
@@ -224,7 +208,6 @@ impl Explainer {
         self.stores[at as usize] = old.stored_in(line, lanes);
     }
 
-    // The bytes of this word in these lanes are overwritten in this line.
     fn overwrite(&mut self, line: u64, at: u32, lanes: Lanes, old: Word)
         requires { 4 ≤ spare self.old.past.values }
         ensures flat { (shown self.new).flat ≡ (shown self.old).flat }
@@ -239,7 +222,6 @@ impl Explainer {
         self.past.overwrite(line, lanes, at, old, put);
     }
 
-    // Why flat memory can't answer so, where it can't.
     fn reason(&self, event: Event, answer: Answer) -> Reason
         ensures { result ≡ reason_of (shown self.now) event answer }
     {
@@ -264,7 +246,6 @@ impl Explainer {
         }
     }
 
-    // Why a request for a word can't be answered so: by where the word lies, or else this reason.
     fn place_reason(&self, at: u32, answer: Answer, other: Reason) -> Reason
         ensures { result ≡ place_reason (shown self.now) at answer other }
     {
@@ -278,7 +259,6 @@ impl Explainer {
         other
     }
 
-    // Why a take can't be answered so.
     fn take_reason(&self, answer: Answer) -> Reason
         ensures { (place : ℕ) → result ≡ reason_here (shown self.now) (Event.Take place) answer }
     {
@@ -288,7 +268,6 @@ impl Explainer {
         }
     }
 
-    // Why a value can't be taken.
     fn value_reason(&self, tag: u16, got: Word) -> Reason
         ensures { result
             ≡ value_reason (shown self.now) tag got ((shown self.now).tags tag) }

@@ -1,4 +1,4 @@
-//! Where the words of flat memory come from.
+//! Where flat memory's words come from.
 
 ghost use Rattle.std.specs.Prelude.{◌≡◌, ◌==◌, bit_and, if◌then◌else◌};
 ghost use Rattle.run_reasons.specs.Origins.{stored_in, later_store, later_stores};
@@ -6,30 +6,29 @@ ghost use Rattle.run_reasons.specs.Origins.{stored_in, later_store, later_stores
 use bitflags::Flags;
 use flat_model::{Lanes, Word};
 
-/// The lines in which the bytes of a word were last stored. Lines are counted from 1: a byte of line
-/// 0 is one that memory began with.
+/// The lines, from 1, that last stored a word's bytes. Line 0 is what memory began with.
 #[derive(Clone, Copy, PartialEq, Eq, Debug, Default)]
 pub struct Stores {
-    /// The line that last stored byte 0.
+    /// Of byte 0.
     pub b0: u64,
-    /// The line that last stored byte 1.
+    /// Of byte 1.
     pub b1: u64,
-    /// The line that last stored byte 2.
+    /// Of byte 2.
     pub b2: u64,
-    /// The line that last stored byte 3.
+    /// Of byte 3.
     pub b3: u64,
 }
 
-/// A load at the line in which it was accepted.
+/// A load as it was accepted.
 #[derive(Clone, Copy, PartialEq, Eq, Debug)]
 pub struct AcceptedLoad {
-    /// The load's line.
+    /// Its line.
     pub line: u64,
-    /// The address of the word that it asked for.
+    /// The address of its word.
     pub at: u32,
-    /// The word that stood there: this is what the load is owed.
+    /// The word there: what it is owed.
     pub word: Word,
-    /// The lines that had stored that word's bytes.
+    /// The lines that had stored it.
     pub stores: Stores,
 }
 
@@ -38,16 +37,15 @@ pub struct AcceptedLoad {
 pub enum TagUse {
     /// No load has had it.
     Never,
-    /// A load has it, whose value hasn't been taken.
+    /// Its load's value hasn't been taken.
     Loaded(AcceptedLoad),
-    /// The value of its last load was taken in this line.
+    /// Its last load's value was taken.
     Taken {
-        /// The line with the value.
+        /// In this line.
         line: u64,
     },
 }
 
-// The line that last stored a byte, after the line `line` has stored the bytes in these lanes.
 fn store_line(old: u64, line: u64, lanes: Lanes, lane: Lanes) -> u64
     ensures { result ≡ (if bit_and lanes.0 lane.0 == lane.0 then line else old) }
 {
@@ -55,7 +53,7 @@ fn store_line(old: u64, line: u64, lanes: Lanes, lane: Lanes) -> u64
 }
 
 impl Stores {
-    /// The lines after the bytes in these lanes were stored in the line `line`.
+    /// The lines behind a store of these lanes in `line`.
     #[tactic(auto, unfolding(crate::specs::Origins::stored_in, flat_model::specs::Words::has))]
     pub fn stored_in(self, line: u64, lanes: Lanes) -> Stores
         ensures { result ≡ stored_in line lanes self }
@@ -68,8 +66,7 @@ impl Stores {
         }
     }
 
-    /// Of these lines, those behind `load` that stored the bytes of `got` where they stand in `now`
-    /// still; 0 for each other byte.
+    /// Those behind `load` that stored bytes of `got` which `now` has; else 0.
     pub fn later_stores(self, load: u64, now: Word, got: Word) -> Stores
         ensures { result ≡ later_stores load now got self }
     {
@@ -82,7 +79,6 @@ impl Stores {
     }
 }
 
-// The line behind `load` that stored the byte that came, if it stands there still; else 0.
 fn later_store(load: u64, now: u8, got: u8, store: u64) -> u64
     ensures { result ≡ later_store load now got store }
 {

@@ -11,16 +11,16 @@ use flat_model::{Lanes, Word};
 use std::alloc::{AllocError, Global};
 use std::collections::HashMap;
 
-/// A value that stood in a byte until a store overwrote it.
+/// A byte's value that a store overwrote.
 #[derive(Clone, Copy, PartialEq, Eq, Debug)]
 pub struct Overwritten {
-    /// The line that had put it there: 0 for a byte that memory began with.
+    /// The line that put it there; 0 for memory's first.
     pub put: u64,
-    /// The line of the next store to the byte.
+    /// The line of the next store.
     pub by: u64,
 }
 
-/// Of each byte of a word that came: when this value was last overwritten there, if it ever was.
+/// When each byte of a word that came was last overwritten there, if ever.
 #[derive(Clone, Copy, PartialEq, Eq, Debug)]
 pub struct Pasts {
     /// Of byte 0.
@@ -33,7 +33,6 @@ pub struct Pasts {
     pub b3: Option<Overwritten>,
 }
 
-// One of the bytes of a word.
 #[derive(Clone, Copy)]
 enum Byte {
     First,
@@ -43,7 +42,6 @@ enum Byte {
 }
 
 impl Byte {
-    // Its number.
     fn place(self) -> u64
         ensures value { result ≡ place_of (lane_of self) }
         ensures few { result < 4 }
@@ -56,7 +54,6 @@ impl Byte {
         }
     }
 
-    // Whether it is among these lanes.
     #[tactic(auto, unfolding(flat_model::specs::Words::has))]
     fn is_in(self, lanes: Lanes) -> bool
         ensures { result ≡ has lanes (lane_of self) }
@@ -69,7 +66,6 @@ impl Byte {
         }
     }
 
-    // Its value in a word.
     fn of(self, word: Word) -> u8
         ensures { result ≡ byte word (lane_of self) }
     {
@@ -81,7 +77,6 @@ impl Byte {
         }
     }
 
-    // The line that last stored it.
     fn line(self, stores: Stores) -> u64
         ensures { result ≡ line_of stores (lane_of self) }
     {
@@ -93,7 +88,6 @@ impl Byte {
         }
     }
 
-    // The number of a value in this byte of the word at an address.
     fn value_key(self, at: u32, value: u8) -> u64
         ensures { result ≡ value_key at (lane_of self) value }
     {
@@ -101,7 +95,6 @@ impl Byte {
     }
 }
 
-// When each value of each byte was last overwritten.
 #[derive(Drop)]
 pub(crate) struct Past {
     pub(crate) values: HashMap<u64, Overwritten>,
@@ -109,7 +102,6 @@ pub(crate) struct Past {
 
 #[tactic(auto, unfolding(crate::specs::Pasts::kept))]
 impl Past {
-    // Nothing was overwritten.
     pub(crate) fn new(alloc: Global) -> Past
         ensures { kept result ≡ (λ key. None) }
     {
@@ -118,8 +110,6 @@ impl Past {
         }
     }
 
-    // Makes room for the values that one store overwrites. `AllocError` says that there was too little
-    // memory.
     pub(crate) fn make_room(&mut self) -> Result<(), AllocError>
         ensures same { kept self.new ≡ kept self.old }
         ensures room { OnOk result (4 ≤ spare self.new.values) }
@@ -127,7 +117,6 @@ impl Past {
         self.values.reserve(4)
     }
 
-    // The value of this number was overwritten so.
     fn note(&mut self, key: u64, overwritten: Overwritten)
         requires { 0 < spare self.old.values }
         ensures past { kept self.new ≡ with_past (kept self.old) key overwritten }
@@ -136,7 +125,6 @@ impl Past {
         let _before = self.values.insert(key, overwritten);
     }
 
-    // A byte of this word is overwritten in this line, if it is among the lanes.
     #[tactic(auto, unfolding(crate::specs::Pasts::overwritten_at))]
     fn overwrite_byte(
         &mut self,
@@ -159,8 +147,7 @@ impl Past {
         }
     }
 
-    // The bytes in these lanes of the word at an address are overwritten in this line: it was this word,
-    // put there by these lines.
+    // `word` stood there, put by the lines of `stores`.
     #[tactic(auto, unfolding(crate::specs::Pasts::overwritten_in))]
     pub(crate) fn overwrite(&mut self, line: u64, lanes: Lanes, at: u32, word: Word, stores: Stores)
         requires { 4 ≤ spare self.old.values }
@@ -172,14 +159,12 @@ impl Past {
         self.overwrite_byte(line, lanes, at, word, stores, Byte::Fourth);
     }
 
-    // When a value of a byte was last overwritten.
     fn of_value(&self, at: u32, byte: Byte, value: u8) -> Option<Overwritten>
         ensures { result ≡ kept self.now (value_key at (lane_of byte) value) }
     {
         self.values.get(&byte.value_key(at, value)).copied()
     }
 
-    // The same of each byte of a word.
     #[tactic(auto, unfolding(crate::specs::Pasts::pasts_of))]
     pub(crate) fn of_word(&self, at: u32, got: Word) -> Pasts
         ensures { result ≡ pasts_of (kept self.now) at got }

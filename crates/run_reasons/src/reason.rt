@@ -7,16 +7,16 @@ use crate::origins::{AcceptedLoad, Stores, TagUse};
 use crate::pasts::Pasts;
 use flat_model::{Answer, Cause, Event, Word};
 
-/// The first line of a recorded run that flat memory can't answer so.
+/// The first line that flat memory can't answer.
 #[derive(Clone, Copy, PartialEq, Eq, Debug)]
 pub struct Mismatch {
-    /// The line's number, counted from 1. Lines that only show something count too.
+    /// Its number, from 1. Lines that only show something count.
     pub line: u64,
     /// Its event.
     pub event: Event,
-    /// The answer that the event got.
+    /// The answer it got.
     pub answer: Answer,
-    /// Why flat memory never answers so there.
+    /// Why that is never flat there.
     pub reason: Reason,
 }
 
@@ -27,67 +27,65 @@ pub enum Reason {
     NeverAnswered,
     /// The event is never refused for this cause.
     NeverRefused,
-    /// The word at `at` isn't in memory, which has `words` words: refused 1 is the only answer.
+    /// Not in memory: refused 1 is the only answer.
     Outside {
         /// The word's address.
         at: u32,
-        /// How many words memory has.
+        /// Words of memory.
         words: u32,
     },
-    /// It was refused 1, though the word at `at` is in memory.
+    /// Refused 1, though it is in memory.
     Inside {
         /// The word's address.
         at: u32,
-        /// How many words memory has.
+        /// Words of memory.
         words: u32,
     },
-    /// The tag is in use since the load in this line: refused 3 is the only answer.
+    /// In use: refused 3 is the only answer.
     TagInUse {
         /// The tag.
         tag: u16,
-        /// The line of the load that has it.
+        /// The line of its load.
         line: u64,
     },
-    /// The tag is owed nothing: no load has had it.
+    /// Owed nothing: no load has had it.
     NeverLoaded {
         /// The tag.
         tag: u16,
     },
-    /// The tag is owed nothing: its value was taken in this line.
+    /// Owed nothing: its value was taken.
     Taken {
         /// The tag.
         tag: u16,
         /// The line with the value.
         line: u64,
     },
-    /// The store has no lane: refused 2 is the only answer.
+    /// No lane: refused 2 is the only answer.
     NoLanes,
-    /// It was refused 2, though the store has a lane.
+    /// Refused 2, though the store has a lane.
     HasLanes,
-    /// The value is another word than the one that its load is owed.
+    /// The load is owed another word.
     WrongWord(WrongWord),
 }
 
-/// A value that isn't the word that its load is owed.
+/// A value that its load isn't owed.
 #[derive(Clone, Copy, PartialEq, Eq, Debug)]
 pub struct WrongWord {
-    /// The tag of the value.
+    /// The value's tag.
     pub tag: u16,
-    /// The load, with the word that it is owed and the lines that had stored its bytes.
+    /// Its load.
     pub load: AcceptedLoad,
     /// The word that came.
     pub got: Word,
-    /// The lines behind the load that stored the bytes that came, where memory has them still; 0 for
-    /// a byte that no such line stored.
+    /// The lines behind the load that stored these bytes, where memory still has them; else 0.
     pub later: Stores,
-    /// Of each byte that came: when it stood there before it was overwritten, if it ever did.
+    /// When its bytes stood there before.
     pub past: Pasts,
-    /// Whether the whole word that came stood there at some moment since the load was accepted. Then the
-    /// run up to this line, told as a history, is an atomic one.
+    /// Whether the whole word stood there since the load was accepted. Then the run so far, as a
+    /// history, is atomic.
     pub stood_since: bool,
 }
 
-// Whether flat memory can ever answer the event so, whatever it holds.
 pub(crate) fn is_ever(event: Event, answer: Answer) -> bool
     ensures { result ≡ is_ever event answer }
 {
@@ -100,7 +98,6 @@ pub(crate) fn is_ever(event: Event, answer: Answer) -> bool
     }
 }
 
-// Whether the event may be accepted.
 fn is_accepted(event: Event) -> bool
     ensures { result ≡ is_accepted event }
 {
@@ -110,7 +107,6 @@ fn is_accepted(event: Event) -> bool
     )
 }
 
-// Whether the event may move something on.
 fn is_moved(event: Event) -> bool
     ensures { result ≡ is_moved event }
 {
@@ -120,7 +116,6 @@ fn is_moved(event: Event) -> bool
     )
 }
 
-// The reason against an answer that the event never gets.
 pub(crate) fn never(answer: Answer) -> Reason
     ensures { result ≡ never answer }
 {
@@ -130,14 +125,12 @@ pub(crate) fn never(answer: Answer) -> Reason
     }
 }
 
-// Whether the event was refused since its word isn't in memory.
 pub(crate) fn is_out_of_range(answer: Answer) -> bool
     ensures { result ≡ is_out_of_range answer }
 {
     matches!(answer, Answer::Refused(Cause::OutOfRange))
 }
 
-// The reason against a request under this tag: it is in use, or it isn't.
 pub(crate) fn tag_reason(tag: u16, state: TagUse) -> Reason
     ensures { result ≡ tag_reason tag state }
 {

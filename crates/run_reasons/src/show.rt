@@ -1,4 +1,4 @@
-//! The text of a mismatch: the line, and why flat memory can't answer it.
+//! The text of a mismatch.
 
 ghost use Rattle.std.specs.Prelude.{◌≡◌, ◌<◌, Some};
 ghost use Rattle.std.specs.Fmt.{WritesOnOk};
@@ -11,7 +11,7 @@ use crate::reason::{Mismatch, Reason, WrongWord};
 use flat_model::{Answer, Event, TwoDigits};
 use std::fmt;
 
-/// At most seven lines, without a line feed at the end.
+/// At most seven lines, with no line feed at the end.
 impl fmt::Display for Mismatch {
     ghost output = { λ mismatch. Some (mismatch_text mismatch) };
 
@@ -25,7 +25,6 @@ impl fmt::Display for Mismatch {
     }
 }
 
-// Why flat memory can't answer an event so.
 fn write_reason<W: fmt::Write>(
     f: &mut fmt::Formatter<W>,
     event: Event,
@@ -99,7 +98,6 @@ fn name_of(event: Event) -> &'static str
     }
 }
 
-// What an event may be answered.
 fn answers_of(event: Event) -> &'static str
     ensures { result.now ≡ answers_text event }
 {
@@ -115,7 +113,7 @@ fn answers_of(event: Event) -> &'static str
     }
 }
 
-/// The load with what it is owed, a line for each byte that differs, and one if the word that came stood there since.
+/// What the load is owed, each differing byte, and whether the word stood there since.
 impl fmt::Display for WrongWord {
     ghost output = { λ wrong. Some (wrong_word_text wrong) };
 
@@ -143,7 +141,6 @@ impl fmt::Display for WrongWord {
     }
 }
 
-// What a run is whose last value is a word that stood there since its load was accepted.
 #[tactic(auto, unfolding(crate::specs::Texts::since_line))]
 fn write_since<W: fmt::Write>(f: &mut fmt::Formatter<W>, stood_since: bool) -> fmt::Result
     ensures { WritesOnOk W.write_str_gives f.old result (since_line stood_since) f.new }
@@ -157,7 +154,6 @@ fn write_since<W: fmt::Write>(f: &mut fmt::Formatter<W>, stood_since: bool) -> f
     }
 }
 
-// Where a byte of the word came from, if it isn't the one that is owed.
 #[tactic(auto, unfolding(crate::specs::Texts::byte_line))]
 fn write_byte<W: fmt::Write>(
     f: &mut fmt::Formatter<W>,
@@ -180,7 +176,6 @@ fn write_byte<W: fmt::Write>(
     write_got_from(f, later, past)
 }
 
-// Where the byte that is owed was stored.
 fn write_owed_from<W: fmt::Write>(f: &mut fmt::Formatter<W>, owed: u8, store: u64) -> fmt::Result
     ensures { WritesOnOk W.write_str_gives f.old result (owed_from_text owed store) f.new }
 {
@@ -191,7 +186,6 @@ fn write_owed_from<W: fmt::Write>(f: &mut fmt::Formatter<W>, owed: u8, store: u6
     }
 }
 
-// What a byte is of that memory began with.
 fn initial(owed: u8) -> &'static str
     ensures { result.now ≡ initial_text owed }
 {
@@ -202,7 +196,6 @@ fn initial(owed: u8) -> &'static str
     }
 }
 
-// Where the byte that came was stored, or when it stood there.
 fn write_got_from<W: fmt::Write>(
     f: &mut fmt::Formatter<W>,
     later: u64,
@@ -218,7 +211,6 @@ fn write_got_from<W: fmt::Write>(
     }
 }
 
-// When a byte stood there, if it ever did.
 fn write_past<W: fmt::Write>(f: &mut fmt::Formatter<W>, past: Option<Overwritten>) -> fmt::Result
     ensures { WritesOnOk W.write_str_gives f.old result (past_text past) f.new }
 {
@@ -228,7 +220,6 @@ fn write_past<W: fmt::Write>(f: &mut fmt::Formatter<W>, past: Option<Overwritten
     }
 }
 
-// What had put it there, and the line that overwrote it.
 fn write_overwritten<W: fmt::Write>(f: &mut fmt::Formatter<W>, put: u64, by: u64) -> fmt::Result
     ensures { WritesOnOk W.write_str_gives f.old result (overwritten_text put by) f.new }
 {

@@ -1,4 +1,4 @@
-//! What became of each tag, and the words that its load may have got since it was accepted.
+//! What became of each tag, and the words its load may have got since.
 
 ghost use Rattle.std.specs.Prelude.{◌≡◌, ◌<◌, ◌≤◌, ◌+◌, false, [], vec_len, vec_capacity, replicate, IfOk, OnOk};
 ghost use Rattle.std.specs.List.{list_any};
@@ -10,26 +10,23 @@ use crate::origins::{AcceptedLoad, TagUse};
 use flat_model::Word;
 use std::alloc::{AllocError, Global};
 
-// How many tags there are: they are numbers of 16 bits.
 const TAGS: usize = u16::MAX as usize + 1;
 
-// A word that a store left at an address.
 #[derive(Clone, Copy)]
 pub(crate) struct LeftWord {
     pub(crate) at: u32,
     pub(crate) word: Word,
 }
 
-// What became of a tag; of one that is loaded also how many words had been left before its load.
+// `before`: how many words had been left before its load.
 #[derive(Clone, Copy)]
 pub(crate) struct TagSlot {
     pub(crate) state: TagUse,
     pub(crate) before: usize,
 }
 
-// What became of each tag, how many loads are open of each word and in all, and the words that stores left at words of open
-// loads, the oldest first. The words are forgotten whenever no load is open at all. So a load is opened or ended, and a store
-// leaves a word, in constant time, and memory grows with those stores alone.
+// The words that stores left at words of open loads, the oldest first, are forgotten whenever no
+// load is open. So each step takes constant time, and memory grows with those stores alone.
 #[derive(Drop)]
 pub(crate) struct Tags {
     pub(crate) slots: Vec<TagSlot>,
@@ -41,7 +38,6 @@ pub(crate) struct Tags {
     ghost forgotten: { loads ≡ 0 → left.items ≡ [] },
 }
 
-// So many tags, of which no load has had one.
 fn no_uses(alloc: Global, count: usize) -> Result<Vec<TagSlot>, AllocError>
     ensures items { IfOk result (λ v. v.items ≡ replicate count (record { state = TagUse.Never; before = 0 })) }
     ensures len { IfOk result (λ v. vec_len v ≡ count) }
@@ -53,7 +49,6 @@ fn no_uses(alloc: Global, count: usize) -> Result<Vec<TagSlot>, AllocError>
     vec![in alloc; slot; count]
 }
 
-// So many words of which no load is open.
 fn no_loads(alloc: Global, words: u32) -> Result<Vec<u32>, AllocError>
     ensures items { IfOk result (λ v. v.items ≡ replicate words 0) }
     ensures len { IfOk result (λ v. vec_len v ≡ words) }
@@ -61,28 +56,24 @@ fn no_loads(alloc: Global, words: u32) -> Result<Vec<u32>, AllocError>
     vec![in alloc; 0u32; words as usize]
 }
 
-// Whether two words have the same bytes.
 fn is_same(one: Word, other: Word) -> bool
     ensures { result ≡ same_word one other }
 {
     one.b0 == other.b0 && one.b1 == other.b1 && one.b2 == other.b2 && one.b3 == other.b3
 }
 
-// Whether it is this word, left at this address.
 fn is_left(left: &LeftWord, at: u32, word: Word) -> bool
     ensures { result ≡ is_left at word left.now }
 {
     at == left.at && is_same(left.word, word)
 }
 
-// Whether one of these is this word, left at this address.
 fn has_word(left: &[LeftWord], at: u32, word: Word) -> bool
     ensures { result ≡ list_any (is_left at word) left.now }
 {
     left.iter().any(|left| is_left(left, at, word))
 }
 
-// Forgets the words that were left, if no load is open.
 fn forget(left: &mut Vec<LeftWord>, loads: u32)
     ensures { left.new.items ≡ while_open loads left.old.items }
 {
@@ -95,7 +86,6 @@ impl Tags {
     ghost use Rattle.run_reasons.specs.Origins.{with_use, without_since, with_left};
     ghost use Rattle.run_reasons.specs.TagSlots.{uses_in, since_in, is_open};
 
-    // No load has had a tag, of so many words of memory.
     pub(crate) fn new(alloc: Global, words: u32) -> Result<Tags, AllocError>
         ensures uses { IfOk result (λ t. uses_in t.slots.items ≡ (λ tag. TagUse.Never)) }
         ensures since { IfOk result (λ t. since_in t.left.items t.slots.items ≡ (λ tag. [])) }
@@ -112,15 +102,13 @@ impl Tags {
         })
     }
 
-    // What became of a tag.
     pub(crate) fn use_of(&self, tag: u16) -> TagUse
         ensures { result ≡ uses_in self.now.slots.items tag }
     {
         self.slots[tag as usize].state
     }
 
-    // Whether this word is one of those that stood at the address of the tag's open load since it was accepted, but for the
-    // first.
+    // The word at acceptance doesn't count.
     #[tactic(auto, using(crate::proofs::TagSlots::within_left, crate::proofs::TagSlots::has_stood))]
     pub(crate) fn has_stood(&self, tag: u16, word: Word) -> bool
         ensures { result ≡ list_any (λ w. same_word w word) (since_in self.now.left.items self.now.slots.items tag) }
@@ -132,7 +120,6 @@ impl Tags {
         }
     }
 
-    // Makes room for a word that is left. `AllocError` says that there was too little memory.
     pub(crate) fn make_room(&mut self) -> Result<(), AllocError>
         ensures slots { self.new.slots ≡ self.old.slots }
         ensures counts { self.new.counts ≡ self.old.counts }
@@ -142,7 +129,7 @@ impl Tags {
         self.left.reserve(1)
     }
 
-    // A store leaves this word at an address. It is kept only if a load of that address is open.
+    // Kept only if a load of that address is open.
     pub(crate) fn leave(&mut self, at: u32, word: Word)
         requires room { vec_len self.old.left + 1 ≤ vec_capacity self.old.left }
         requires inside { at < vec_len self.old.counts }
@@ -157,7 +144,6 @@ impl Tags {
         }
     }
 
-    // A load of a word within memory is accepted under this tag.
     pub(crate) fn accept(&mut self, tag: u16, load: AcceptedLoad)
         requires { load.at < vec_len self.old.counts }
         ensures uses { uses_in self.new.slots.items ≡ with_use (uses_in self.old.slots.items) tag (TagUse.Loaded load) }
@@ -169,7 +155,6 @@ impl Tags {
         self.begin(tag, load);
     }
 
-    // The value of this tag is taken in this line.
     pub(crate) fn take(&mut self, tag: u16, line: u64)
         ensures uses { uses_in self.new.slots.items ≡ with_use (uses_in self.old.slots.items) tag (TagUse.Taken line) }
         ensures since { since_in self.new.left.items self.new.slots.items
@@ -179,7 +164,6 @@ impl Tags {
         self.end(tag, TagUse::Taken { line });
     }
 
-    // A load is open under a tag that had none.
     fn begin(&mut self, tag: u16, load: AcceptedLoad)
         requires free { is_open (uses_in self.old.slots.items tag) ≡ false }
         requires inside { load.at < vec_len self.old.counts }
@@ -197,7 +181,6 @@ impl Tags {
         };
     }
 
-    // No load is open under the tag any longer: it becomes this.
     fn end(&mut self, tag: u16, state: TagUse)
         requires { is_open state ≡ false }
         ensures uses { uses_in self.new.slots.items ≡ with_use (uses_in self.old.slots.items) tag state }
@@ -211,7 +194,6 @@ impl Tags {
         }
     }
 
-    // The tag, under which no load was open, becomes this.
     fn set(&mut self, tag: u16, state: TagUse)
         requires free { is_open (uses_in self.old.slots.items tag) ≡ false }
         requires closed { is_open state ≡ false }
@@ -223,8 +205,6 @@ impl Tags {
         self.slots[tag as usize] = TagSlot { state, before: 0 };
     }
 
-    // The load that is open under the tag is open no longer: the tag becomes this. If it was the last one that was open, the
-    // words that were left are forgotten.
     fn end_load(&mut self, tag: u16, load: AcceptedLoad, state: TagUse)
         requires loaded { uses_in self.old.slots.items tag ≡ TagUse.Loaded load }
         requires closed { is_open state ≡ false }

@@ -1,5 +1,8 @@
-//! Files of a machine's numbers, each a TOML table of whole numbers: a shape file, with the words
-//! of a block and places of the stack fixed, and a machine file, with all.
+//! Files of a machine's numbers, each a TOML table of whole numbers. A shape file leaves the words
+//! of a block and the places of the stack fixed; a machine file has all numbers.
+//!
+//! [`read_shape`] and [`read_machine`] come first. The callers are `kroft_command` and
+//! `register_sweeps`.
 #![tactic(auto)]
 
 mod machine_file;

@@ -1,4 +1,4 @@
-//! The machine file: all numbers of a machine, as a TOML table.
+//! The machine file: all numbers, as a TOML table.
 
 ghost use Rattle.std.specs.Prelude.{◌≡◌, None, IfOk, IfErr, take};
 ghost use Rattle.std.specs.Option.{option_map};
@@ -18,7 +18,7 @@ use std::fmt;
 use thiserror::Error;
 use toml::Table;
 
-/// The numbers of a machine file, in the order in which they are looked at.
+/// A machine file's numbers, in the order of checks.
 pub const MACHINE_FIELDS: [ShapeField; 10] = [
     ShapeField::BlockWords,
     ShapeField::Ways,
@@ -32,7 +32,7 @@ pub const MACHINE_FIELDS: [ShapeField; 10] = [
     ShapeField::Replies,
 ];
 
-/// How many bytes of an unknown key are told at most.
+/// Bytes of an unknown key that are told at most.
 pub const MAX_TOLD_KEY: usize = 64;
 
 /// Why a machine file is refused.
@@ -41,14 +41,14 @@ pub const MAX_TOLD_KEY: usize = 64;
 pub enum MachineFault {
     /// The text is no TOML.
     NotToml,
-    /// The table has a key that begins so, which no machine has: its first [`MAX_TOLD_KEY`] bytes. What isn't
-    /// a printable ASCII character stands as a question mark.
+    /// The first [`MAX_TOLD_KEY`] bytes of a key that no machine has, `?` for each that isn't
+    /// printable ASCII.
     UnknownKey(String),
-    /// What stands at the key is no whole number.
+    /// No whole number stands at the key.
     NotWhole(ShapeField),
-    /// The number at the key is out of its range.
+    /// The number is out of its range.
     OutOfRange(ShapeField),
-    /// There was too little memory.
+    /// Too little memory.
     OutOfMemory,
 }
 
@@ -89,7 +89,7 @@ impl From<AllocError> for MachineFault {
     }
 }
 
-// The key of a number in a machine file. Two are named in full here.
+// Two are named in full here.
 fn machine_key(field: ShapeField) -> &'static str
     ensures { result.now ≡ file.machine_key field }
 {
@@ -100,7 +100,6 @@ fn machine_key(field: ShapeField) -> &'static str
     }
 }
 
-// The least that a number may be, as it is told.
 fn least_text(field: ShapeField) -> &'static str
     ensures { result.now ≡ file.least_text field }
 {
@@ -111,7 +110,7 @@ fn least_text(field: ShapeField) -> &'static str
     }
 }
 
-// The most that a number may be. The last three have no key.
+// The last three have no key.
 fn most_of(field: ShapeField) -> u32
     ensures { result ≡ file.most_of field }
 {
@@ -130,7 +129,6 @@ fn most_of(field: ShapeField) -> u32
     }
 }
 
-// What a number has to be beside, as it is told.
 fn condition_text(field: ShapeField) -> &'static str
     ensures { result.now ≡ file.condition_text field }
 {
@@ -140,13 +138,12 @@ fn condition_text(field: ShapeField) -> &'static str
     }
 }
 
-/// The first number of a machine that is out of its range, in the order of [`MACHINE_FIELDS`]:
-/// each is 1 at least but the two queues, which take a whole block, and at most as
-/// [`flat_model`] says; the words are a multiple of those of a block.
+/// The first number out of its range, in the order of [`MACHINE_FIELDS`]: each is 1 at least, a
+/// queue a block, and at most as [`flat_model`] says. The words are whole blocks.
 pub fn bad_number(sizes: &Sizes) -> Option<ShapeField>
     ensures { result ≡ file.bad_machine sizes.now }
 {
-    // More words than a machine of the program may have are out of range, as 0 is.
+    // More words than a machine of the program has are out of range, as 0 is.
     let words = if sizes.words > MAX_WORDS {
         0
     } else {
@@ -155,13 +152,12 @@ pub fn bad_number(sizes: &Sizes) -> Option<ShapeField>
     cache_unit::bad_size(&Sizes { words, ..*sizes })
 }
 
-/// Reads the text of a machine file: a TOML table of whole numbers, in which a key that is missing has
-/// its default, which is the number of the machine that the program makes without any file.
+/// Reads a machine file: a TOML table of whole numbers. A missing key has the number of the
+/// program's machine without a file.
 ///
-/// The text that is no TOML is found first, then a key that no machine has (of several the one whose
-/// bytes come first), then what is no whole number, then a number out of its range; each of the last two
-/// in the order of [`MACHINE_FIELDS`]. Memory is asked for only while the text is read, and for the
-/// name of an unknown key.
+/// Text that is no TOML is found first, then the unknown key whose bytes come first. Then what is
+/// no whole number, then what is out of range, both in the order of [`MACHINE_FIELDS`]. Reading
+/// takes memory, and so does an unknown key's name.
 pub fn read_machine(alloc: Global, text: &str) -> Result<Sizes, MachineFault>
     ensures says { IfOk result (file.TextSays (parse_document text.now)) }
     ensures good { IfOk result (λ sizes. file.bad_machine sizes ≡ None) }
@@ -174,8 +170,8 @@ pub fn read_machine(alloc: Global, text: &str) -> Result<Sizes, MachineFault>
     }
 }
 
-/// What a table says: the answer of [`read_machine`] for a text that is TOML. `NotToml` never comes,
-/// and `OutOfMemory` only if there is an unknown key.
+/// [`read_machine`] of a TOML table. `NotToml` never comes, and `OutOfMemory` only for an unknown
+/// key.
 pub fn machine_of_table(alloc: Global, table: &Table) -> Result<Sizes, MachineFault>
     ensures says { IfOk result (file.TableSays (table_view table.now)) }
     ensures good { IfOk result (λ sizes. file.bad_machine sizes ≡ None) }
@@ -194,7 +190,6 @@ pub fn machine_of_table(alloc: Global, table: &Table) -> Result<Sizes, MachineFa
     }
 }
 
-// Whether a machine file may have this key.
 fn is_machine_key(key: &str) -> bool
     ensures { result ≡ file.is_machine_key key.now }
 {
@@ -203,7 +198,6 @@ fn is_machine_key(key: &str) -> bool
         .any(|field| key == machine_key(*field))
 }
 
-// The first key at the top that no machine has.
 fn other_key(table: &Table) -> Option<&str>
     ensures { file.other_key (table_view table.now) ≡ option_map (λ key. key.now) result }
 {
@@ -215,7 +209,6 @@ fn other_key(table: &Table) -> Option<&str>
     None
 }
 
-// The bytes of a key that are told.
 #[tactic(auto, using(std::proofs::lemmas::List::take_min))]
 fn told_bytes(key: &[u8]) -> &[u8]
     ensures { result.now ≡ take MAX_TOLD_KEY key.now }
@@ -223,7 +216,7 @@ fn told_bytes(key: &[u8]) -> &[u8]
     &key[..MAX_TOLD_KEY.min(key.len())]
 }
 
-// A key as it is told: in one short line, whatever its characters are.
+// In one short line, whatever its characters.
 fn printable(alloc: Global, key: &str) -> Result<String, AllocError>
     ensures { IfOk result (λ text. string_bytes text ≡ file.told_key key.now) }
 {
@@ -234,7 +227,6 @@ fn printable(alloc: Global, key: &str) -> Result<String, AllocError>
     Ok(text)
 }
 
-// A byte as a character of ASCII that can be printed.
 fn printable_byte(byte: u8) -> char
     ensures { result ≡ file.printable_byte byte }
 {
@@ -245,7 +237,6 @@ fn printable_byte(byte: u8) -> char
     }
 }
 
-// Whether nothing stands at the key of a number, or a whole number.
 fn is_whole_at(table: &Table, field: ShapeField) -> bool
     ensures { result ≡ file.is_whole_at (table_view table.now) field }
 {
@@ -255,7 +246,6 @@ fn is_whole_at(table: &Table, field: ShapeField) -> bool
     }
 }
 
-// The first number that is no whole one.
 fn first_not_whole(table: &Table) -> Option<ShapeField>
     ensures { result ≡ file.first_not_whole (table_view table.now) }
 {
@@ -265,7 +255,6 @@ fn first_not_whole(table: &Table) -> Option<ShapeField>
         .find(|field| !is_whole_at(table, *field))
 }
 
-// The number at its key, the default if there is none.
 fn number_at(table: &Table, field: ShapeField, default: u32) -> u32
     ensures { result ≡ file.number_at (table_view table.now) field default }
 {
@@ -275,7 +264,6 @@ fn number_at(table: &Table, field: ShapeField, default: u32) -> u32
     }
 }
 
-// The numbers of a table in which none is no whole one.
 fn sizes_said(table: &Table) -> Sizes
     ensures { result ≡ file.sizes_said (table_view table.now) }
 {

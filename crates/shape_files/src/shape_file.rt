@@ -1,4 +1,4 @@
-//! The shape file: the numbers of a machine, as a TOML table.
+//! The shape file: a machine's numbers, as a TOML table.
 
 ghost use Rattle.std.specs.Prelude.{◌≡◌, ◌≢◌, Err, None};
 ghost use Rattle.shape_files.specs.MachineFile.{bad_machine};
@@ -16,19 +16,19 @@ use std::fmt;
 use thiserror::Error;
 use toml::Table;
 
-/// Words per block of each machine that the program makes.
+/// Words of a block in the program's machines.
 pub const BLOCK_WORDS: usize = 4;
 
-/// Arrived words that the input stack of each machine that the program makes has room for.
+/// Places of the input stack in the program's machines.
 pub const DEPTH: usize = 4;
 
-/// The most ways of a machine that the program makes.
+/// The most ways of the program's machines.
 pub const MOST_WAYS: u32 = 2;
 
-/// The numbers of registers that a machine of the program may have.
+/// The register counts of the program's machines.
 pub const REGISTER_COUNTS: [u32; 4] = [1, 2, 4, 8];
 
-/// The shape that a file says which names no key.
+/// The shape of a file without keys.
 pub const DEFAULT_SHAPE: ToolShape = ToolShape {
     shape: Shape {
         words: 64,
@@ -45,17 +45,16 @@ pub const DEFAULT_SHAPE: ToolShape = ToolShape {
 /// The shape of a machine that the program can make.
 #[derive(Clone, Copy, PartialEq, Eq, Debug)]
 pub struct ToolShape {
-    /// The numbers that are given when the machine is made.
+    /// The numbers at run time.
     pub shape: Shape,
-    /// Frames per set: 1 to [`MOST_WAYS`].
+    /// Ways: 1 to [`MOST_WAYS`].
     pub ways: u32,
     /// Registers: one of [`REGISTER_COUNTS`].
     pub regs: u32,
 }
 
 impl ToolShape {
-    /// All numbers of the machine that is made of it. If no field of the shape is out of its range, none of
-    /// these is.
+    /// All numbers of the machine that is made of it.
     pub fn sizes(&self) -> Sizes
         ensures sizes { result ≡ sizes_of self.now }
         ensures good { bad_field self.now ≡ None → bad_machine result ≡ None }
@@ -92,17 +91,17 @@ impl Default for ToolShape {
 pub enum ShapeFault {
     /// The text is no TOML.
     NotToml,
-    /// The table has a key that no shape has.
+    /// No shape has such a key.
     UnknownKey,
-    /// What stands at the key is no whole number.
+    /// No whole number stands at the key.
     NotWhole(ShapeField),
-    /// The number at the key is out of its range.
+    /// The number is out of its range.
     BadShape(ShapeField),
-    /// There was too little memory.
+    /// Too little memory.
     OutOfMemory,
 }
 
-/// A fault's text, of which a contract knows each byte.
+/// A fault's exact text.
 #[derive(Drop)]
 pub struct FaultText<'a, F>(pub &'a F);
 
@@ -125,7 +124,7 @@ impl fmt::Display for FaultText<'_, ShapeFault> {
     }
 }
 
-// The key of a number in a shape file. The last five have none there.
+// The last five have no key.
 pub(crate) fn key_of(field: ShapeField) -> &'static str
     ensures { result.now ≡ key_of field }
 {
@@ -146,7 +145,7 @@ pub(crate) fn key_of(field: ShapeField) -> &'static str
     }
 }
 
-/// The numbers of a shape file as they stand there, before their ranges are looked at.
+/// Before their ranges are looked at.
 #[derive(Clone, Copy)]
 struct Numbers {
     ways: i64,
@@ -159,12 +158,11 @@ struct Numbers {
     replies: i64,
 }
 
-/// Reads the text of a shape file: a TOML table of whole numbers, in which a key that is missing
-/// has its default.
+/// Reads a shape file: a TOML table of whole numbers. A missing key has its default.
 ///
-/// The text that is no TOML is found first, then a key that no shape has, then what is no whole
-/// number, then a number out of its range; each of the last two in the order ways, regs, words,
-/// sets, banks, bank_queue, write_queue, replies. Memory is asked for only while the text is read.
+/// Text that is no TOML is found first, then an unknown key, then what is no whole number, then
+/// what is out of range. The last two go by ways, regs, words, sets, banks, bank_queue,
+/// write_queue, replies. Only reading takes memory.
 #[tactic(auto, using(crate::proofs::Answers::table_has_room))]
 pub fn read_shape(alloc: Global, text: &str) -> Result<ToolShape, ShapeFault>
     ensures answer { result ≢ Err OutOfMemory → result ≡ text_says (parse_document text.now) }
@@ -177,10 +175,7 @@ pub fn read_shape(alloc: Global, text: &str) -> Result<ToolShape, ShapeFault>
     }
 }
 
-/// What a table says: the answer of [`read_shape`] for a text that is TOML. A key that no shape has
-/// is found first, then what is no whole number, then a number out of its range, each of the last
-/// two in the order ways, regs, words, sets, banks, bank_queue, write_queue, replies.
-/// `OutOfMemory` and `NotToml` never come.
+/// [`read_shape`] of a TOML table: `OutOfMemory` and `NotToml` never come.
 pub fn shape_of_table(table: &Table) -> Result<ToolShape, ShapeFault>
     ensures { result ≡ table_says (table_view table.now) }
 {
@@ -191,7 +186,6 @@ pub fn shape_of_table(table: &Table) -> Result<ToolShape, ShapeFault>
     shape_of(&numbers)
 }
 
-// Whether a shape file may have this key.
 fn is_key(key: &str) -> bool
     ensures { result ≡ is_key key.now }
 {
@@ -205,7 +199,6 @@ fn is_key(key: &str) -> bool
         || key == "replies"
 }
 
-// Whether a key stands at the top that no shape has.
 fn has_other_key(table: &Table) -> bool
     ensures { result ≡ has_other_key (table_view table.now) }
 {
@@ -217,7 +210,7 @@ fn has_other_key(table: &Table) -> bool
     false
 }
 
-// What stands at a key: nothing, a whole number, or (`Some(None)`) something else.
+// `Some(None)`: no whole number stands there.
 pub(crate) fn integer_at(table: &Table, key: &str) -> Option<Option<i64>>
     ensures { result ≡ integer_at key.now (table_view table.now) }
 {
@@ -227,7 +220,6 @@ pub(crate) fn integer_at(table: &Table, key: &str) -> Option<Option<i64>>
     }
 }
 
-// A whole number, the default where nothing stands.
 fn whole(field: ShapeField, default: u32, found: Option<Option<i64>>) -> Result<i64, ShapeFault>
     ensures { result ≡ whole field default found }
 {
@@ -238,7 +230,6 @@ fn whole(field: ShapeField, default: u32, found: Option<Option<i64>>) -> Result<
     }
 }
 
-// The numbers of a table. The first that is no whole number is refused.
 fn numbers_of(table: &Table) -> Result<Numbers, ShapeFault>
     ensures { result ≡ numbers_of (table_view table.now) }
 {
@@ -275,15 +266,14 @@ fn numbers_of(table: &Table) -> Result<Numbers, ShapeFault>
     })
 }
 
-// Whether there may be so many registers.
 fn is_register_count(number: u32) -> bool
     ensures { result ≡ is_register_count number }
 {
     REGISTER_COUNTS.iter().any(|count| *count == number)
 }
 
-/// The first field of a shape that is out of its range: 1 to [`MOST_WAYS`] ways, registers as
-/// [`REGISTER_COUNTS`] has them, and the rest as in every machine.
+/// The first field out of its range: [`MOST_WAYS`], [`REGISTER_COUNTS`], and the rest as in every
+/// machine.
 pub fn bad_field(tool: &ToolShape) -> Option<ShapeField>
     ensures { result ≡ bad_field tool.now }
 {
@@ -292,12 +282,12 @@ pub fn bad_field(tool: &ToolShape) -> Option<ShapeField>
     } else if !is_register_count(tool.regs) {
         Some(ShapeField::Regs)
     } else {
-        // The ranges of the rest depend on the words of a block alone.
+        // The other ranges depend on the words of a block alone.
         cache_unit::bad_field::<1, BLOCK_WORDS, 1, DEPTH>(&tool.shape)
     }
 }
 
-// A number as 32 bits have it. One that they haven't is out of every range, as the largest is.
+// What 32 bits don't have is out of every range, as the largest is.
 pub(crate) fn fitted(number: i64) -> u32
     ensures { result ≡ fitted number }
 {
@@ -308,7 +298,6 @@ pub(crate) fn fitted(number: i64) -> u32
     }
 }
 
-// The shape of these numbers. The first that is out of its range is refused.
 fn shape_of(numbers: &Numbers) -> Result<ToolShape, ShapeFault>
     ensures { result ≡ shape_of numbers.now }
 {

@@ -11,7 +11,7 @@ use station_journal::{Entry, Source, Told};
 use station_parts::{CacheSide, PORT_TAGS};
 use std::alloc::{AllocError, Global};
 
-/// The entries of the journal at hand, oldest first. `AllocError` says that there was too little memory.
+/// The journal at hand, oldest entry first. `AllocError`: too little memory.
 pub fn read_journal<const WAYS: usize, const WORDS: usize, const REGS: usize, const DEPTH: usize>(
     alloc: Global,
     cache: &CacheSide<WAYS, WORDS, REGS, DEPTH>,
@@ -27,8 +27,7 @@ pub fn read_journal<const WAYS: usize, const WORDS: usize, const REGS: usize, co
     Ok(entries)
 }
 
-/// Whether the events and answers of a journal are a run of flat memory of so many words that
-/// begins with zeros. `AllocError` says that there was too little memory.
+/// Whether a journal is a run of flat memory of `words` words from zeros. `AllocError`: too little memory.
 pub fn is_flat(alloc: Global, journal: &[Entry], words: u32) -> Result<bool, AllocError>
     ensures { IfOk result (λ found. found ≡ is_flat words journal.now) }
 {
@@ -36,9 +35,8 @@ pub fn is_flat(alloc: Global, journal: &[Entry], words: u32) -> Result<bool, All
     goes_on(alloc, &mut memory, journal)
 }
 
-/// Whether the events and answers of a journal are a run of flat memory from this one on, which then is as
-/// the journal leaves it; else it is as it was. So journals that stand one behind the other are judged one
-/// by one. `AllocError` says that there was too little memory, and then it is as it was too.
+/// Whether a journal is a run of flat memory from this one on, which then is as the journal leaves it. Else,
+/// and after `AllocError`, it is as it was.
 pub fn goes_on(
     alloc: Global,
     memory: &mut FlatMemory,
@@ -59,7 +57,6 @@ pub fn goes_on(
     }
 }
 
-// The events of a journal and their answers.
 fn pairs_in(alloc: Global, journal: &[Entry]) -> Result<(Vec<Event>, Vec<Answer>), AllocError>
     ensures events { IfOk result (λ pairs. pairs.0.items ≡ events_of journal.now) }
     ensures answers { IfOk result (λ pairs. pairs.1.items ≡ answers_of journal.now) }
@@ -75,8 +72,7 @@ fn pairs_in(alloc: Global, journal: &[Entry]) -> Result<(Vec<Event>, Vec<Answer>
     Ok((events, answers))
 }
 
-/// Whether each list is what a journal tells the port of its number, in order. `AllocError` says that
-/// there was too little memory.
+/// Whether each list is what the journal tells its port, in order. `AllocError`: too little memory.
 pub fn are_told(alloc: Global, journal: &[Entry], lists: &[Vec<Told>]) -> Result<bool, AllocError>
     ensures { IfOk result (λ found. (found ≡ true) ↔ AreTold journal.now lists.now) }
 {
@@ -89,7 +85,6 @@ pub fn are_told(alloc: Global, journal: &[Entry], lists: &[Vec<Told>]) -> Result
     Ok(true)
 }
 
-// What a journal tells a port.
 fn told_in(alloc: Global, journal: &[Entry], port: usize) -> Result<Vec<Told>, AllocError>
     ensures { IfOk result (λ told. told.items ≡ told_of port journal.now) }
 {
@@ -102,7 +97,6 @@ fn told_in(alloc: Global, journal: &[Entry], port: usize) -> Result<Vec<Told>, A
     Ok(told)
 }
 
-// What an entry tells a port.
 fn telling_of(entry: Entry, port: usize) -> Option<Told>
     ensures { told_list result ≡ told_of port (entry ∷ []) }
 {

@@ -13,13 +13,12 @@ use rand_pcg::Pcg32;
 use station_journal::Ask;
 use std::alloc::{AllocError, Global};
 
-/// The scripts of a plan, which are drawn part by part: one behind the other the parts are the whole
-/// scripts, of which no more than one part is ever in memory.
+/// A plan's scripts, of which no more than one part is ever in memory.
 #[derive(Drop)]
 pub struct ScriptParts {
-    // What draws the asks of each port.
+    // What draws each port's asks.
     randoms: Vec<Pcg32>,
-    // How many asks each port has, and how many of them have been drawn.
+    // Of each port.
     asks: u32,
     drawn: u32,
     ghost few: { length randoms.items ≤ MAX_PORTS },
@@ -31,7 +30,7 @@ impl ScriptParts {
     ghost use Rattle.station_checks.specs.Asked.{script_of};
     ghost use Rattle.station_checks.specs.Drawn.{ports_of, left_of, script_left};
 
-    /// The scripts of a plan, of which nothing is drawn. `AllocError`: too little memory.
+    /// Nothing is drawn yet. `AllocError`: too little memory.
     pub fn new(alloc: Global, plan: &Plan) -> Result<ScriptParts, AllocError>
         ensures ports { IfOk result (λ parts. ports_of parts ≡ plan.now.ports) }
         ensures left { IfOk result (λ parts. left_of parts ≡ plan.now.asks) }
@@ -45,15 +44,15 @@ impl ScriptParts {
         })
     }
 
-    /// How many asks of each port are still to be drawn.
+    /// Asks of each port still to be drawn.
     pub fn left(&self) -> u32
         ensures { result ≡ left_of self.now }
     {
         self.asks - self.drawn
     }
 
-    /// The next asks of each port, in the order of their numbers: so many, or as many as are left. What is left
-    /// goes on behind them. `AllocError` says that there was too little memory; then these are lost.
+    /// The next `most` asks of each port, or as many as are left. `AllocError`: too little memory, and
+    /// these are lost.
     pub fn next(&mut self, alloc: Global, most: u32) -> Result<Vec<Vec<Ask>>, AllocError>
         ensures ports { ports_of self.new ≡ ports_of self.old }
         ensures left { left_of self.new ≡ left_of self.old - most }
@@ -73,7 +72,6 @@ impl ScriptParts {
     }
 }
 
-// What draws the asks of each of so many ports.
 fn draw_of_each(alloc: Global, ports: u32, seed: u64) -> Result<Vec<Pcg32>, AllocError>
     ensures number { IfOk result (λ randoms. length randoms.items ≡ ports) }
     ensures each { IfOk result (λ randoms. (port : ℕ) → port < ports
@@ -86,7 +84,6 @@ fn draw_of_each(alloc: Global, ports: u32, seed: u64) -> Result<Vec<Pcg32>, Allo
     Ok(randoms)
 }
 
-// So many asks of each port, behind those that have been drawn.
 fn draw_scripts(
     alloc: Global,
     randoms: &mut Vec<Pcg32>,

@@ -1,4 +1,4 @@
-//! What is found of a station behind its run, and what it comes to.
+//! What is found behind a run.
 ghost use Rattle.std.specs.Prelude.{◌≡◌, ◌≢◌, ◌↔◌, true, false, is_some, Some, None, IfOk, OnErr};
 ghost use Rattle.flat_model.specs.Memory.{shown};
 ghost use Rattle.std.specs.Option.{option_map};
@@ -11,10 +11,10 @@ use station_journal::{Entry, Told};
 use station_parts::Audit;
 use std::alloc::{AllocError, Global};
 
-/// What a station's run came to.
+/// What a run came to.
 #[derive(Clone, Copy, PartialEq, Eq, Debug)]
 pub enum Outcome {
-    /// Each thread came to its end, and all that was looked for was found.
+    /// Each thread ended, and all that was looked for was found.
     Good,
     /// A thread came to its limit, and nothing wrong was found.
     TurnLimit,
@@ -22,21 +22,19 @@ pub enum Outcome {
     Failed,
 }
 
-/// What was found of a station behind its run.
+/// What was found behind a run.
 #[derive(Clone, Copy, PartialEq, Eq, Debug)]
 pub struct Findings {
     /// What the audit found.
     pub audit: Audit,
     /// Whether the journal is a run of flat memory.
     pub is_flat: bool,
-    /// Whether each port's list is the journal's part of it. A run that came to a limit leaves no
-    /// lists.
+    /// Whether each port's list is its part of the journal; `None` after a limit.
     pub are_told: Option<bool>,
 }
 
 impl Findings {
-    /// What is found of a journal over so many words of memory, and of the lists that the ports took,
-    /// beside what the audit found. `AllocError` says that there was too little memory.
+    /// Judges a journal from zeros, and the ports' lists. `AllocError`: too little memory.
     pub fn of_run(
         alloc: Global,
         audit: Audit,
@@ -59,9 +57,8 @@ impl Findings {
         })
     }
 
-    /// What is found of a journal that goes on from this memory, and of the lists that the ports took
-    /// meanwhile, beside what the audit found. The memory is then as the journal leaves it, if it is flat; else
-    /// it is as it was. `AllocError` says that there was too little memory, and then it is as it was too.
+    /// Judges a journal that goes on from this memory, which then is as a flat journal leaves it. Else, and
+    /// after `AllocError`, it is as it was.
     pub fn of_segment(
         alloc: Global,
         audit: Audit,

@@ -1,5 +1,6 @@
-//! Stations that are run on threads to be looked at: what their ports ask, and what is found of the
-//! journal and of the ports' lists behind a run, with its texts.
+//! What the ports of a tour ask, and what is found of a run behind it, with its texts. First [`ScriptParts`]
+//! draws the asks of a [`Plan`]; [`Findings`] and [`tell_story`] come behind the run. Its caller runs the
+//! station.
 #![tactic(auto)]
 
 mod checks;

@@ -1,4 +1,4 @@
-//! Asks, entries, tellings and findings as text. Events, answers and words are written as in a trace.
+//! Asks, entries, tellings and findings as text; events, answers and words as in a trace.
 ghost use Rattle.std.specs.Prelude.{Some};
 ghost use Rattle.station_checks.specs.Texts.{entry_text, ask_text, told_text};
 ghost use Rattle.station_checks.specs.Literals.{ring_literal, audit_literal, findings_literal};
@@ -8,7 +8,7 @@ use station_journal::{Ask, Entry, Told};
 use station_parts::{Audit, Ring};
 use std::fmt::{self, Display, Formatter, Write};
 
-/// An entry of the journal: a line of a recorded run, or that a port has ended.
+/// A line of a recorded run, or that a port has ended.
 #[derive(Clone, Copy)]
 pub struct EntryText(pub Entry);
 
@@ -60,7 +60,6 @@ impl Display for ToldText {
     }
 }
 
-/// A ring, as its value is written in the code.
 #[derive(Clone, Copy)]
 struct RingText(Ring);
 
@@ -77,7 +76,6 @@ impl Display for RingText {
     }
 }
 
-/// What an audit finds, as its value is written in the code.
 #[derive(Clone, Copy)]
 pub(crate) struct AuditText(pub(crate) Audit);
 
@@ -97,7 +95,7 @@ impl Display for AuditText {
     }
 }
 
-/// What was found of a station, as its value is written in the code.
+/// Findings, as a value is written in the code.
 #[derive(Clone, Copy)]
 pub struct FindingsText(pub Findings);
 

@@ -23,20 +23,19 @@ pub const REGS: usize = 4;
 /// Places of the input stack.
 pub const DEPTH: usize = 4;
 
-/// Words of memory. Each port has some of its own, so there are more than ports.
+/// Words of memory.
 pub const WORDS: u32 = 64;
 
-/// How many ports there may be, as many as a station has at most.
+/// Ports, at most.
 pub const MOST_PORTS: u32 = MAX_PORTS;
 
-/// Entries that a journal takes, the most that it may.
+/// Entries of a journal.
 pub const ENTRIES: u32 = MAX_ENTRIES;
 
-// Words of memory for each port that there may be. They are few, so that a port loads what it has
-// stored, and words of one block belong to different ports.
+// They are few, so that a port loads what it stored, and blocks are shared.
 const OWN_WORDS: u32 = WORDS / MOST_PORTS;
 
-/// The numbers of the tour's station, which are those that `kroft` has without a shape file.
+/// The tour's station, as `kroft` has it without a shape file.
 pub fn shape() -> Shape
     ensures { result ≡ record { words = WORDS; sets = 4; banks = 4; bank_queue = 8; write_queue = 8; replies = 8 } }
 {
@@ -57,14 +56,14 @@ pub struct Plan {
     pub ports: u32,
     /// Of each port.
     pub asks: u32,
-    /// What the scripts are made by: equal plans have equal scripts.
+    /// Equal plans have equal scripts.
     pub seed: u64,
     ghost some: { 1 ≤ ports },
     ghost few: { ports ≤ MAX_PORTS },
 }
 
 impl Plan {
-    /// A plan; fewer ports than 1 count as 1, and more than 16 as 16.
+    /// Fewer ports than 1 count as 1, and more than 16 as 16.
     pub fn new(ports: u32, asks: u32, seed: u64) -> Plan
         ensures ports { result.ports ≡ max 1 (min ports MOST_PORTS) }
         ensures asks { result.asks ≡ asks }
@@ -78,8 +77,7 @@ impl Plan {
     }
 }
 
-/// A port loads and stores words of its own, so what it is told doesn't depend on the others; their
-/// blocks it shares with them.
+/// The words are the port's own, so what it is told doesn't depend on the others.
 pub(crate) fn own_ask(random: &mut Pcg32, port: u32, number: u32) -> Ask
     requires { port < MAX_PORTS }
     ensures request { is_request result ≡ true }
@@ -93,8 +91,7 @@ pub(crate) fn own_ask(random: &mut Pcg32, port: u32, number: u32) -> Ask
     ask_by(pick, tag, at, word, BLOCK_WORDS as u32)
 }
 
-/// An ask by a picked number: half of them are loads, a quarter stores, and the others prefetches
-/// and evictions.
+/// Half of the picks are loads, a quarter stores, the others prefetches and evictions.
 pub fn ask_by(pick: u32, tag: u8, at: u32, word: Word, block_words: u32) -> Ask
     requires { 1 ≤ block_words }
     ensures request { is_request result ≡ true }
@@ -119,7 +116,7 @@ pub fn ask_by(pick: u32, tag: u8, at: u32, word: Word, block_words: u32) -> Ask
     }
 }
 
-/// The word whose bytes these are, the lowest first.
+/// The word with these bytes, the lowest first.
 pub fn bytes_of(number: u32) -> Word
     ensures { result ≡ number_word number }
 {

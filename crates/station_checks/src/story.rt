@@ -1,4 +1,4 @@
-//! What a run is told by: what came of each ask, and what was found.
+//! What a run is told by.
 ghost use Rattle.std.specs.Prelude.{◌≡◌, ◌+◌, length, min, take, drop, flat_map, OnOk};
 ghost use Rattle.std.specs.List.{slice_get};
 ghost use Rattle.std.specs.Io.KnownBytes.{Appends};
@@ -17,11 +17,10 @@ use station_parts::Audit;
 use std::io::{self, Write};
 use std::time::Duration;
 
-// Asks of a port, and entries of the journal, that are shown.
+// Asks of a port, and entries, that are shown.
 const SHOWN: usize = 12;
 
-/// What no schedule changes: what came of each ask, what the audit found, and whether the journal
-/// is flat.
+/// What no schedule changes: what came of each ask, what the audit found, and whether the journal is flat.
 pub fn tell_story<W: Write>(
     out: &mut W,
     plan: &Plan,
@@ -36,8 +35,7 @@ pub fn tell_story<W: Write>(
     tell_findings(out, findings)
 }
 
-/// What came of each port's first asks, which stand at the front of these scripts, and how many more
-/// asks the plan has.
+/// What came of each port's first asks, and how many more the plan has.
 pub fn tell_ports<W: Write>(
     out: &mut W,
     plan: &Plan,
@@ -74,7 +72,6 @@ fn tell_each_port<W: Write>(
     Ok(())
 }
 
-// What a port was told, or nothing.
 fn list_of(lists: &[Vec<Told>], port: usize) -> &[Told]
     ensures { result.now ≡ list_in lists.now port }
 {
@@ -84,7 +81,6 @@ fn list_of(lists: &[Vec<Told>], port: usize) -> &[Told]
     }
 }
 
-// What came of a port's first asks, and how many more it has.
 fn tell_port<W: Write>(
     out: &mut W,
     port: usize,
@@ -106,7 +102,6 @@ fn tell_port_line<W: Write>(out: &mut W, port: usize) -> io::Result<()>
     writeln!(out, "\nport {port}")
 }
 
-// How many asks aren't shown.
 fn tell_more<W: Write>(out: &mut W, asks: u32) -> io::Result<()>
     ensures { OnOk result (Appends (W.contents out.old) (W.contents out.new) (more_text asks)) }
 {
@@ -146,7 +141,6 @@ fn tell_judged<W: Write>(out: &mut W, is_flat: bool) -> io::Result<()>
     }
 }
 
-// The first asks of a port, each with what came of it.
 fn tell_asks<W: Write>(out: &mut W, script: &[Ask], list: &[Told]) -> io::Result<()>
     ensures { OnOk result (Appends (W.contents out.old) (W.contents out.new) (asks_text script.now list.now)) }
 {
@@ -166,7 +160,7 @@ fn first_asks(script: &[Ask]) -> &[Ask]
     &script[..script.len().min(SHOWN)]
 }
 
-// The first verdict behind which the port goes on, and what it was told behind that.
+// The first verdict behind which the port goes on, and the rest.
 fn next_verdict(list: &[Told]) -> (Option<Told>, &[Told])
     ensures first { result.0 ≡ slice_get (final_verdicts list.now) 0 }
     ensures rest { final_verdicts result.1.now ≡ drop 1 (final_verdicts list.now) }
@@ -179,7 +173,6 @@ fn next_verdict(list: &[Told]) -> (Option<Told>, &[Told])
     (None, &[])
 }
 
-// An ask with what came of it: of a load its value.
 fn tell_ask<W: Write>(out: &mut W, list: &[Told], ask: Ask, verdict: Option<Told>) -> io::Result<()>
     ensures { OnOk result (Appends (W.contents out.old) (W.contents out.new) (ask_line list.now ask verdict)) }
 {
@@ -187,7 +180,7 @@ fn tell_ask<W: Write>(out: &mut W, list: &[Told], ask: Ask, verdict: Option<Told
         (Ask::Load { tag, .. }, Some(Told::Accepted)) => {
             tell_load(out, ask, value_under(list, tag))
         }
-        // Whether a block is there to be given up depends on the other ports.
+        // Whether the block is there depends on the other ports.
         (Ask::Evict { .. }, Some(_)) => writeln!(out, "  {} -> done", AskText(ask)),
         (_, Some(told)) => writeln!(out, "  {} -> {}", AskText(ask), ToldText(told)),
         (_, None) => writeln!(out, "  {} -> no verdict", AskText(ask)),
@@ -203,7 +196,6 @@ fn tell_load<W: Write>(out: &mut W, ask: Ask, value: Option<Told>) -> io::Result
     }
 }
 
-// A verdict behind which the port goes on.
 fn ends_ask(told: Told) -> bool
     ensures { result ≡ ends_ask told }
 {
@@ -214,7 +206,6 @@ fn ends_ask(told: Told) -> bool
     }
 }
 
-// The first value under a tag.
 fn value_under(list: &[Told], tag: u8) -> Option<Told>
     ensures { result ≡ value_under tag list.now }
 {
@@ -230,16 +221,16 @@ fn is_value_under(told: Told, tag: u8) -> bool
     }
 }
 
-/// What a run came to so far, whose journal was handed out in segments.
+/// What a run in segments came to so far.
 #[derive(Clone, Copy, PartialEq, Eq, Debug)]
 pub struct Tally {
-    /// How many segments were handed out, each behind an audit that was clean.
+    /// Handed out, each behind a clean audit.
     pub segments: u64,
-    /// Asks that were answered for good, by all ports.
+    /// Answered for good, of all ports.
     pub asks: u64,
-    /// Entries of all segments.
+    /// Of all segments.
     pub entries: u64,
-    /// How often an ask was offered again.
+    /// Offers made again.
     pub again: u64,
 }
 
@@ -256,8 +247,7 @@ impl Tally {
         }
     }
 
-    /// Counts one segment more, of so many asks, in which the ports took these lists. No count goes beyond
-    /// the largest number.
+    /// Counts one segment more, of `asks` asks. No count goes beyond the largest number.
     pub fn note(&mut self, asks: u64, lists: &[Vec<Told>], journal: &[Entry])
         ensures segments { self.new.segments ≡ min (self.old.segments + 1) u64.MAX }
         ensures asks { self.new.asks ≡ min (self.old.asks + asks) u64.MAX }
@@ -271,8 +261,7 @@ impl Tally {
     }
 }
 
-/// How far a run is, in one line that takes the place of the one before: how many asks, how many a
-/// second, and how many segments with clean audits.
+/// How far a run is, in place of the line before.
 pub fn tell_progress<W: Write>(out: &mut W, tally: &Tally, took: Duration) -> io::Result<()>
     ensures { OnOk result (Appends (W.contents out.old) (W.contents out.new) (progress_text tally.now took)) }
 {
@@ -285,8 +274,7 @@ pub fn tell_progress<W: Write>(out: &mut W, tally: &Tally, took: Duration) -> io
     out.flush()
 }
 
-/// What changes from run to run: how the journal ends, of which this is the last segment, how often
-/// asks were offered again, and how many were served a second.
+/// What differs from run to run: the journal's end, repeated offers, and asks a second.
 pub fn tell_run<W: Write>(
     out: &mut W,
     tally: &Tally,
@@ -335,7 +323,6 @@ fn tell_rate<W: Write>(out: &mut W, rate: u128) -> io::Result<()>
     writeln!(out, "{rate} asks per second")
 }
 
-// How many of the tellings are refusals behind which the port offered its ask again.
 fn offered_again(lists: &[Vec<Told>]) -> u64
     ensures { result ≡ min (again_in lists.now) u64.MAX }
 {

@@ -1,5 +1,5 @@
-//! A caller with threads of its own over the parts of a station. It has no script: the address that its
-//! port asks for next is the value that it took.
+//! A caller with threads of its own over the parts of a station. It has no script: the value that it took is
+//! the address that it asks for next.
 ghost use Rattle.std.specs.Prelude.{◌≡◌, ℕ, ◌∷◌, [], List};
 ghost use Rattle.station_journal.specs.declared.asks.Told.{Told};
 ghost use Rattle.station_parts.specs.Audited.{audit_of};
@@ -16,15 +16,15 @@ use std::slice;
 use std::sync::atomic::{AtomicBool, Ordering};
 use std::thread::{Threads, join_mut};
 
-/// One who follows a chain of words: it stores the words at first, and then loads one after another,
-/// each at the address that the one before is.
+/// One who stores a chain of words, and then loads one after another, each at the address that the one before
+/// is.
 #[derive(Clone, Copy, PartialEq, Eq, Debug)]
 pub struct Follower {
     /// Where the chain stands.
     pub at: u32,
-    /// How many words are still to be loaded.
+    /// Words still to be loaded.
     pub left: u32,
-    /// How many words have been stored.
+    /// Words stored.
     pub stored: usize,
     /// What it waits for.
     pub waits: Waits,
@@ -33,7 +33,7 @@ pub struct Follower {
 /// What a follower waits for.
 #[derive(Clone, Copy, PartialEq, Eq, Debug)]
 pub enum Waits {
-    /// Nothing: it asks next.
+    /// It asks next.
     Nothing,
     /// The verdict on its ask.
     Verdict,
@@ -42,7 +42,7 @@ pub enum Waits {
 }
 
 impl Follower {
-    /// Before its first turn, at an address, with so many words to load.
+    /// At `first`, with `count` words to load.
     pub fn new(first: u32, count: u32) -> Follower
         ensures { result.at ≡ first }
     {
@@ -54,7 +54,7 @@ impl Follower {
         }
     }
 
-    // One turn: it asks, or takes what it is told. `links` has for each word its address and the next.
+    // `links` has each word's address and the next.
     fn take_turn(&mut self, links: &[(u32, u32)], port: &mut Port)
         ensures same { port_id port.new ≡ port_id port.old }
         ensures followed { (first : ℕ)
@@ -70,7 +70,6 @@ impl Follower {
         }
     }
 
-    // What it asks next: a store of a link, or a load where the chain stands.
     fn ask(&self, links: &[(u32, u32)]) -> Ask
         ensures { (first : ℕ) (tellings : List Told) → self.now.at ≡ stands_at first tellings
             → Follows first tellings result }
@@ -88,7 +87,7 @@ impl Follower {
         }
     }
 
-    // It was told this: a value is the next address.
+    // A value is the next address.
     fn note(&mut self, links: &[(u32, u32)], told: Told)
         ensures { self.new.at ≡ next_of self.old.at told }
     {
@@ -108,7 +107,7 @@ impl Follower {
     }
 }
 
-// The address that a word is, byte 0 first.
+// Byte 0 first.
 fn address_in(word: Word) -> u32
     ensures { result ≡ address_in word }
 {
@@ -118,15 +117,14 @@ fn address_in(word: Word) -> u32
         + 16_777_216 * u32::from(word.b3)
 }
 
-// The word that is an address.
 fn word_of(at: u32) -> Word {
     let [b0, b1, b2, b3] = at.to_le_bytes();
     Word { b0, b1, b2, b3 }
 }
 
-/// Follows the chain on two threads of its own: one for the port, and one for the cache side and the
-/// bank. Each has so many turns; the second ends when the follower has all its words and nothing is
-/// under way. Then the station is audited.
+/// Follows the chain on two threads, one for the port, and one for the cache side and the bank. Each has
+/// `turns` turns; the second ends when the follower has all its words and nothing is under way. Then the
+/// station is audited.
 pub fn follow_chain<
     R: Threads + Sync,
     const WAYS: usize,
@@ -144,12 +142,10 @@ pub fn follow_chain<
 ) -> Audit
     requires one { AreOneStation cache.old (port.old ∷ []) (bank.old ∷ []) }
 
-    // Each load is of the address at which the chain stood behind what the port had taken by then.
     ensures followed { (first : ℕ)
         → IsFollowed first (offered port.old) (taken port.old) follower.old.at
         → IsFollowed first (offered port.new) (taken port.new) follower.new.at }
 
-    // And what it took is from a run of flat memory.
     ensures exact { result ≡ audit_of cache.new (port.new ∷ []) (bank.new ∷ []) }
     ensures prefixes { ArePrefixes (journal_of cache.new) (port.new ∷ []) }
     ensures flat { IsFlatRun (sizes_in cache.new) (journal_of cache.new) }
@@ -160,7 +156,6 @@ pub fn follow_chain<
     audit(cache, slice::from_mut(port), slice::from_mut(bank))
 }
 
-// Runs both threads, and joins them.
 fn run_threads<
     R: Threads + Sync,
     const WAYS: usize,
@@ -199,7 +194,6 @@ fn run_threads<
     );
 }
 
-// Turns of the follower, until it has all its words; then the other thread may end.
 fn run_port(
     follower: &mut Follower,
     links: &[(u32, u32)],
@@ -221,7 +215,6 @@ fn run_port(
     has_all.store(true, Ordering::SeqCst);
 }
 
-// Rounds of the cache side and the bank, until the follower has all its words and nothing is under way.
 fn run_memory<const WAYS: usize, const WORDS: usize, const REGS: usize, const DEPTH: usize>(
     turns: u64,
     has_all: &AtomicBool,
@@ -241,7 +234,6 @@ fn run_memory<const WAYS: usize, const WORDS: usize, const REGS: usize, const DE
     }
 }
 
-// A step at each source.
 fn go_round<const WAYS: usize, const WORDS: usize, const REGS: usize, const DEPTH: usize>(
     cache: &mut CacheSide<WAYS, WORDS, REGS, DEPTH>,
 )

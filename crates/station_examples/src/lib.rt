@@ -1,5 +1,5 @@
-//! The worked examples of the station, each a test under its name: stepped by hand, and on threads; and
-//! a caller with threads of its own, proved from the contracts of the parts.
+//! The worked examples of the station, each a test under its name: stepped by hand, and on threads.
+//! [`follow_chain`] is a caller with threads of its own, proved from the parts' contracts.
 #![tactic(auto)]
 
 mod chain;

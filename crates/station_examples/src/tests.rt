@@ -1,5 +1,4 @@
-//! Stations that are stepped by hand on one thread, and runs of stations on threads of their own:
-//! each case is a row of a table, which one loop walks.
+//! Stations by hand and on threads: each case is a row of a table, which one loop walks.
 use flat_model::{Shape, Word};
 use ring_station::{Ask, CacheSide, Station, Told};
 use std::alloc::{AllocError, Global};
@@ -20,7 +19,7 @@ type SmallStation = Station<1, 4, 2, 2>;
 
 type SmallCache = CacheSide<1, 4, 2, 2>;
 
-// A memory of 32 words in blocks of four, in two banks, behind a cache of two frames.
+// Blocks of four words in two banks, behind two frames.
 const SHAPE: Shape = Shape {
     words: 32,
     sets: 2,
@@ -30,7 +29,7 @@ const SHAPE: Shape = Shape {
     replies: 4,
 };
 
-// So many turns that a run doesn't come to its limit unless it hangs.
+// A run comes to no limit unless it hangs.
 const TURNS: u64 = 5_000_000;
 
 const ZEROS: Word = Word {
@@ -42,13 +41,12 @@ const ZEROS: Word = Word {
 
 const LOAD_5: Ask = Ask::Load { tag: 1, at: 5 };
 
-// What a load under the tag 1 is told that reads memory as it was at first.
+// What a load under tag 1 reads at first.
 const VALUE: Told = Told::Value {
     tag: 1,
     word: ZEROS,
 };
 
-// A script for each port.
 fn scripts_of(alloc: Global, rows: &[&[Ask]]) -> Result<Vec<Vec<Ask>>, AllocError> {
     let mut scripts = Vec::new(alloc);
     for row in rows {

@@ -1,4 +1,4 @@
-//! Laws over the definitions alone: what a journal says of flat memory.
+//! Laws of what a journal says of flat memory.
 
 ghost use Rattle.std.specs.Prelude.{◌≡◌, List};
 ghost use Rattle.cache_law.specs.declared.Sizes.{Sizes};
@@ -6,39 +6,34 @@ ghost use Rattle.station_journal.specs.declared.asks.TheConstants.{PORT_TAGS};
 ghost use Rattle.station_journal.specs.declared.journal.Entry.{Entry};
 ghost use Rattle.station_journal.specs.Law.{JournalIsFlat, SideIsTrue, RunIsTaken, AsksAreJudged, RunIsAnswered};
 
-/// A journal that is true of the banks is a run of flat memory from zeros. Where the unit is clean
-/// at its end, what the banks were sent makes them hold flat memory.
+/// A journal that is true of the banks is a run of flat memory from zeros. If the unit is clean at its end, the
+/// banks come to hold flat memory.
 pub fn journal_is_flat()
     ensures { (z : Sizes) (entries : List Entry) → JournalIsFlat z entries }
 {}
 
-/// What a cache side's journal says of its unit, its sends and the words that it popped is true of
-/// the banks, where each bank's words are the first answers to the first of what it was sent; and
-/// then the side isn't faulted.
+/// If each bank's words are the first answers to what it was sent, a cache side's journal is true, and the side
+/// isn't faulted.
 pub fn side_is_true()
     ensures { SideIsTrue }
 {}
 
-/// In a run of flat memory that ends with nothing owed, the value of each accepted load is taken
-/// behind it, and before the next accepted load of its tag.
+/// If nothing is owed at the end, each accepted load's value is taken before the next load of its tag.
 pub fn loads_are_taken()
     ensures { RunIsTaken }
 {}
 
-/// In a journal that is true of the banks, and up to each of its entries, a port has been told one
-/// verdict for each ask of its but Done: its k-th verdict is on its k-th ask.
+/// Up to each entry of a true journal, a port's k-th verdict is on its k-th ask, Done apart.
 pub fn asks_are_judged()
     ensures { AsksAreJudged }
 {}
 
-/// Where the ports of a station have had their whole conversations, and an audit finds what they
-/// offered and took in a journal that is true of the banks, no telling is left for a port, and no
-/// accepted load waits for its value.
+/// After whole conversations in a true journal no telling is left, and no accepted load waits.
 pub fn run_is_answered()
     ensures { RunIsAnswered }
 {}
 
-/// The tags of a port are all that a byte counts, so the core knows its load by `port * 256 + tag`.
+/// A port's tags are bytes.
 pub fn port_tags_are_bytes()
     ensures { PORT_TAGS ≡ 256 }
 {}

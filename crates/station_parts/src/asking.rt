@@ -12,7 +12,6 @@ use cache_unit::{CacheUnit, Request};
 use flat_model::{Answer, Event, Word};
 use station_journal::{Ask, PORT_TAGS, Source, Told};
 
-// The tag under which the core knows a port's load.
 fn core_tag(port: u32, tag: u8) -> u16
     requires { port < MAX_PORTS }
     ensures { result ≡ port * PORT_TAGS + tag }
@@ -20,7 +19,7 @@ fn core_tag(port: u32, tag: u8) -> u16
     port as u16 * PORT_TAGS + u16::from(tag)
 }
 
-/// The event that an ask is. Done is none.
+/// Done is none.
 pub(crate) fn event_for(port: u32, ask: Ask) -> Event
     requires few_ports { port < MAX_PORTS }
     requires not_done { ask ≢ Ask.Done }
@@ -39,7 +38,7 @@ pub(crate) fn event_for(port: u32, ask: Ask) -> Event
     }
 }
 
-/// Asks the unit, which sends over the row what it reads.
+/// Asks the unit, which sends its reads over the row.
 pub(crate) fn answer_ask<
     const WAYS: usize,
     const WORDS: usize,
@@ -67,7 +66,6 @@ pub(crate) fn answer_ask<
     }
 }
 
-/// What a port is told of the answer to its ask.
 pub(crate) fn verdict_of(answer: Answer) -> Told
     requires { IsVerdict answer }
     ensures { verdict answer ≡ result ∷ [] }
@@ -78,7 +76,6 @@ pub(crate) fn verdict_of(answer: Answer) -> Told
     }
 }
 
-/// What a port is told of a value.
 pub(crate) fn value_told(tag: u16, word: Word) -> Told
     ensures { result ≡ Value (tag % PORT_TAGS) word }
 {

@@ -1,4 +1,5 @@
-//! Rows of rings' ends: one for each port or bank. Of a place that isn't there nothing is known.
+//! Rows of rings' ends, one for each port or bank. Each call first looks at the far end, if a look is due. Of a
+//! place that isn't there nothing is known.
 ghost use Rattle.std.specs.Prelude.{◌≡◌, ◌<◌, ◌∷◌, [], IfNone, length, nat_lt, slice_get};
 ghost use Rattle.rtrb.specs.Ring.{known_free, known_items, ConsumerLooked, ProducerLooked};
 ghost use Rattle.station_parts.specs.Rings.{HasPopped};
@@ -6,8 +7,8 @@ ghost use Rattle.station_parts.specs.Rows.{known_at, room_at, list_of, PopsAt, L
 
 use rtrb::{Consumer, Producer};
 
-/// When an end of a ring looks at how far its other end has come. A look costs the more the more often
-/// that moves, since what it reads was written by another processor.
+/// When an end of a ring looks how far its other end has come. A look takes cache lines from the processor that
+/// writes there.
 #[derive(Clone, Copy, PartialEq, Eq, Debug)]
 pub enum Look {
     /// Before each use.
@@ -17,13 +18,12 @@ pub enum Look {
 }
 
 impl Look {
-    /// Whether to look if so much is known and so much is needed.
     pub(crate) fn is_due(self, known: usize, needed: usize) -> bool {
         self == Look::All || known < needed
     }
 }
 
-/// Looks at the far end, if that is due for one item: how many items are then known.
+/// How many items are then known.
 pub(crate) fn count_items<T>(end: &mut Consumer<T>, look: Look) -> usize
     ensures looked { ConsumerLooked end.old end.new }
     ensures value { result ≡ length (known_items end.new) }
@@ -36,8 +36,7 @@ pub(crate) fn count_items<T>(end: &mut Consumer<T>, look: Look) -> usize
     }
 }
 
-/// Looks at the far end, if that is due for one place: how many more items are then known to have
-/// room.
+/// How many places are then known free.
 pub(crate) fn count_places<T>(end: &mut Producer<T>, look: Look) -> usize
     ensures looked { ProducerLooked end.old end.new }
     ensures value { result ≡ known_free end.new }
@@ -50,8 +49,6 @@ pub(crate) fn count_places<T>(end: &mut Producer<T>, look: Look) -> usize
     }
 }
 
-/// Looks at the far end at a place, if that is due, and pops the first item that is then known. `None`
-/// says that none is.
 pub(crate) fn pop_at<T: Drop>(ends: &mut Vec<Consumer<T>>, place: u32, look: Look) -> Option<T>
     ensures pops { PopsAt ends.old.items ends.new.items place (list_of result) }
     ensures none { IfNone result (known_at ends.new.items place ≡ []) }
@@ -63,7 +60,6 @@ pub(crate) fn pop_at<T: Drop>(ends: &mut Vec<Consumer<T>>, place: u32, look: Loo
     pop_one(end, look)
 }
 
-// Looks at the far end, if that is due, and pops the first item that is then known.
 fn pop_one<T: Drop>(end: &mut Consumer<T>, look: Look) -> Option<T>
     ensures pops { HasPopped end.old end.new (list_of result) }
     ensures none { IfNone result (known_items end.new ≡ []) }
@@ -74,7 +70,6 @@ fn pop_one<T: Drop>(end: &mut Consumer<T>, look: Look) -> Option<T>
     Some(end.pop_known())
 }
 
-/// Looks at the far end at a place: how many items are then known there.
 pub(crate) fn count_at<T>(ends: &mut Vec<Consumer<T>>, place: u32) -> usize
     ensures looks { PopsAt ends.old.items ends.new.items place [] }
     ensures number { result ≡ length (known_at ends.new.items place) }
@@ -86,7 +81,7 @@ pub(crate) fn count_at<T>(ends: &mut Vec<Consumer<T>>, place: u32) -> usize
     end.slots()
 }
 
-/// Whether an item is known at a place, without a look.
+/// Without a look.
 pub(crate) fn knows_item<T>(ends: &[Consumer<T>], place: u32) -> bool
     ensures { result ≡ nat_lt 0 (length (known_at ends.now place)) }
 {
@@ -96,7 +91,7 @@ pub(crate) fn knows_item<T>(ends: &[Consumer<T>], place: u32) -> bool
     }
 }
 
-/// Looks at the far ends of so many places, one right after the other.
+/// One right after the other.
 pub(crate) fn look_each<T>(ends: &mut Vec<Consumer<T>>, count: u32)
     ensures { PopsAt ends.old.items ends.new.items 0 [] }
 {
@@ -105,7 +100,7 @@ pub(crate) fn look_each<T>(ends: &mut Vec<Consumer<T>>, count: u32)
     }
 }
 
-/// Looks at the far end at a place: the first item that is then known there, which stays in the ring.
+/// The first known item, which stays.
 pub(crate) fn peek_at<T: Copy>(ends: &mut Vec<Consumer<T>>, place: u32) -> Option<T>
     ensures looks { PopsAt ends.old.items ends.new.items place [] }
     ensures first { result ≡ slice_get (known_at ends.new.items place) 0 }
@@ -117,7 +112,7 @@ pub(crate) fn peek_at<T: Copy>(ends: &mut Vec<Consumer<T>>, place: u32) -> Optio
     peek_end(end)
 }
 
-/// Looks at the far end: the first item that is then known, which stays in the ring.
+/// The first known item, which stays.
 pub(crate) fn peek_end<T: Copy>(end: &mut Consumer<T>) -> Option<T>
     ensures looks { HasPopped end.old end.new [] }
     ensures first { result ≡ slice_get (known_items end.new) 0 }
@@ -128,8 +123,6 @@ pub(crate) fn peek_end<T: Copy>(end: &mut Consumer<T>) -> Option<T>
     Some(*end.peek_known())
 }
 
-/// Looks at the far end at a place, if that is due: how many more items are then known to have room
-/// there.
 pub(crate) fn look_at<T>(ends: &mut Vec<Producer<T>>, place: u32, look: Look) -> usize
     ensures looks { LooksAt ends.old.items ends.new.items }
     ensures room { result ≡ room_at ends.new.items place }
@@ -141,7 +134,6 @@ pub(crate) fn look_at<T>(ends: &mut Vec<Producer<T>>, place: u32, look: Look) ->
     count_places(end, look)
 }
 
-/// Pushes an item at a place that is known to have room for it.
 pub(crate) fn push_at<T: Drop>(ends: &mut Vec<Producer<T>>, place: u32, item: T)
     requires { 0 < room_at ends.old.items place }
     ensures { PushesAt ends.old.items ends.new.items place (item ∷ []) }

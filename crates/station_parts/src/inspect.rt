@@ -27,14 +27,14 @@ use memory_banks::BankAnswer;
 use rtrb::{Consumer, Producer};
 use station_journal::{Ask, Told};
 
-/// Looks at every ring of a station, of which all parts are at hand in the order of their numbers,
-/// and tells what it finds, the first of these: `Faulted`, which never comes where all banks are at
-/// hand; `Left`, with the first ring that holds an item; `Owed`, with how many accepted loads wait for
-/// their values or have them ready; `Clean`. It takes time by the rings, and not by the journal.
+/// Looks at every ring of a whole station, its parts in the order of their numbers, and tells the first of
+/// these: `Faulted`, which never comes where all banks are at hand; `Left`, with the first ring that holds an
+/// item; `Owed`, with how many accepted loads wait for their values or have them ready; `Clean`. Its time goes
+/// by the rings, not by the journal.
 ///
-/// The journal is then known to be a run of flat memory from zeros, and each port's part of it to
-/// be what the port offered and took. After `Clean` that is so of all that was offered and told, and
-/// nothing is due; and if the cache side is settled too, the banks hold flat memory.
+/// The journal is then a run of flat memory from zeros, and each port's part of it what the port offered and
+/// took. After `Clean` it has all that was offered and told, and nothing is due. If the cache side is settled
+/// too, the banks hold flat memory.
 pub fn audit<const WAYS: usize, const WORDS: usize, const REGS: usize, const DEPTH: usize>(
     cache: &mut CacheSide<WAYS, WORDS, REGS, DEPTH>,
     ports: &mut [Port],
@@ -42,18 +42,14 @@ pub fn audit<const WAYS: usize, const WORDS: usize, const REGS: usize, const DEP
 ) -> Audit
     requires { AreOneStation cache.old ports.old banks.old }
 
-    // The parts are as they were, but for what their ends know, and no end knows less.
     ensures same { AreSameParts cache.old cache.new ports.old ports.new banks.old banks.new }
     ensures cache { LeavesCache cache.old cache.new }
     ensures ports { LeavesPorts ports.old ports.new }
     ensures banks { LeavesBanks banks.old banks.new }
 
-    // The journal is true; and if nothing is left and nothing is owed, it has all that was offered and told.
     ensures audited { IsAudited cache.new ports.new banks.new result }
     ensures clean { result ≡ Clean → IsFoundClean cache.new ports.new banks.new }
 
-    // Ports that have had their whole conversations, as after a run of the threads, have taken all
-    // that they were told, and nothing is owed.
     ensures answered { (scripts : List (Vec Ask)) (lists : List (Vec Told))
         → HaveConversed scripts ports.old lists
         → AreAnswered result (journal_of cache.new) lists }
@@ -62,7 +58,6 @@ pub fn audit<const WAYS: usize, const WORDS: usize, const REGS: usize, const DEP
     found(cache, ports, banks)
 }
 
-// Looks at each ring with both its ends.
 fn look_everywhere<const WAYS: usize, const WORDS: usize, const REGS: usize, const DEPTH: usize>(
     cache: &mut CacheSide<WAYS, WORDS, REGS, DEPTH>,
     ports: &mut [Port],
@@ -212,7 +207,6 @@ fn look_answer(bank: &mut BankSide, answers: &mut Consumer<BankAnswer>)
     answers.slots_beside(&mut bank.answers);
 }
 
-// What the ends know, and what the unit owes, as an answer.
 fn found<const WAYS: usize, const WORDS: usize, const REGS: usize, const DEPTH: usize>(
     cache: &CacheSide<WAYS, WORDS, REGS, DEPTH>,
     ports: &[Port],
@@ -234,7 +228,6 @@ fn found<const WAYS: usize, const WORDS: usize, const REGS: usize, const DEPTH: 
     }
 }
 
-// The first ring that is known to hold an item.
 fn first_left<const WAYS: usize, const WORDS: usize, const REGS: usize, const DEPTH: usize>(
     cache: &CacheSide<WAYS, WORDS, REGS, DEPTH>,
     ports: &[Port],
@@ -251,7 +244,6 @@ fn first_left<const WAYS: usize, const WORDS: usize, const REGS: usize, const DE
     first_ring(asks, told, commands, answers)
 }
 
-// The first of the rings that hold an item, the first one of each kind given by its place.
 fn first_ring(
     asks: Option<usize>,
     told: Option<usize>,
@@ -273,7 +265,6 @@ fn first_ring(
     }
 }
 
-// The place of the first ring that is known to hold an item.
 fn first_held<T>(ends: &[Consumer<T>]) -> Option<usize>
     ensures place { result ≡ position (λ c. holds_item (known_items c)) ends.now }
     ensures bound { IfSome result (λ p. p < length ends.now) }

@@ -3,8 +3,7 @@ ghost use Rattle.std.specs.Prelude.{◌≡◌, ◌^◌};
 ghost use Rattle.station_parts.specs.declared.make.TheConstants.{MAX_ENTRIES, MAX_NOTED, MAX_PORTS};
 ghost use Rattle.station_parts.specs.declared.port.TheConstants.{ASK_PLACES, TELLING_PLACES};
 
-/// The limits of a station as numbers: of its ports, of the entries that its journal takes and that it notes in
-/// all its journals, and of the items that stand between a port and the cache side.
+/// A station's limits as numbers.
 pub fn limits_of_a_station()
     ensures ports { MAX_PORTS ≡ 16 }
     ensures entries { MAX_ENTRIES ≡ 1048576 }

@@ -1,7 +1,8 @@
-//! The parts of a station: ports, the cache side and bank sides, joined by rings.
+//! The parts of a station: ports, the cache side and bank sides, joined by rings. Its first call is
+//! [`station`].
 //!
-//! The cache side keeps a journal of what it did. A station whose parts are all in hand may be
-//! audited, and after that its journal is known to be a run of flat memory.
+//! Its caller steps the parts, by hand or on threads. The cache side keeps a journal of what it did. [`audit`]
+//! has all parts in hand: the journal is then known to be a run of flat memory. [`renew`] hands it out.
 #![tactic(auto)]
 
 mod asking;

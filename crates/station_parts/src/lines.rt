@@ -16,8 +16,7 @@ impl Row {
     ghost use Rattle.std.specs.Prelude.{◌≡◌};
     ghost use Rattle.station_parts.specs.Rows.{LinesLook};
 
-    /// Looks at the far end of a bank's line, if that is due for so many commands, and tells how many it
-    /// is then known to take: 0 if there is no such bank.
+    /// How many commands a bank's line is known to take; 0: no such bank.
     pub(crate) fn look(&mut self, bank: u32, look: Look, needed: usize) -> u32
         ensures looks { LinesLook self.old.lines.items self.new.lines.items }
         ensures room { result ≡ free_at self.new.lines.items bank }
@@ -29,7 +28,6 @@ impl Row {
         line.look_for(look, needed)
     }
 
-    /// Looks at the far ends of all lines for which that is due for so many commands.
     pub(crate) fn look_all(&mut self, banks: u32, look: Look, needed: usize)
         ensures { LinesLook self.old.lines.items self.new.lines.items }
     {
@@ -45,7 +43,7 @@ impl Row {
     ghost use Rattle.memory_banks.specs.Memory.{is_read};
     ghost use Rattle.station_parts.specs.Rows.{taken_at, IsCounted};
 
-    /// Whether a word of the bank has been asked for that hasn't come.
+    /// Whether a word of the bank was asked for and hasn't come.
     pub(crate) fn is_called(&self, bank: u32) -> bool
         requires { bank < length self.now.lines.items }
         ensures { result ≡ nat_lt (taken_at self.now.lines.items bank)
@@ -55,7 +53,6 @@ impl Row {
         line.is_called()
     }
 
-    /// Counts one word more of the bank.
     pub(crate) fn note_word(&mut self, bank: u32)
         requires there { bank < length self.old.lines.items }
         requires fits { taken_at self.old.lines.items bank < 2 ^ 64 - 1 }

@@ -1,5 +1,4 @@
-//! What the cache side may look at: what a step at a source would find, and room for. At a port or a
-//! bank that isn't there nothing is known, and no place is free.
+//! What the cache side may look at. At a port or bank that isn't there nothing is known, and no place is free.
 ghost use Rattle.std.specs.Prelude.{◌≡◌, length, slice_get};
 ghost use Rattle.station_parts.specs.Ids.{cache_id};
 ghost use Rattle.station_parts.specs.SideState.{state_of, OnlyLooks};
@@ -18,7 +17,7 @@ impl<const WAYS: usize, const WORDS: usize, const REGS: usize, const DEPTH: usiz
     REGS,
     DEPTH,
 > {
-    /// How many asks of a port are known, after a look, and not taken.
+    /// Known asks of a port that aren't taken, after a look.
     pub fn known_asks(&mut self, port: u32) -> usize
         ensures looks { OnlyLooks (state_of self.old) (state_of self.new) }
         ensures same { cache_id self.new ≡ cache_id self.old }
@@ -27,8 +26,7 @@ impl<const WAYS: usize, const WORDS: usize, const REGS: usize, const DEPTH: usiz
         count_at(&mut self.asks, port)
     }
 
-    /// The ask that a step at the port takes next, after a look; it stays in the ring. `None` says that
-    /// none is known.
+    /// The ask that a step takes next, after a look. It stays in the ring.
     pub fn peek_ask(&mut self, port: u32) -> Option<Ask>
         ensures looks { OnlyLooks (state_of self.old) (state_of self.new) }
         ensures same { cache_id self.new ≡ cache_id self.old }
@@ -37,8 +35,8 @@ impl<const WAYS: usize, const WORDS: usize, const REGS: usize, const DEPTH: usiz
         peek_at(&mut self.asks, port)
     }
 
-    /// For how many more tellings a port's ring is known to have a free place, after a look. With none
-    /// the port is asked nothing and told no value.
+    /// Places known free for a port's tellings, after a look. With none it is asked nothing, and told no
+    /// value.
     pub fn telling_places(&mut self, port: u32) -> usize
         ensures looks { OnlyLooks (state_of self.old) (state_of self.new) }
         ensures same { cache_id self.new ≡ cache_id self.old }
@@ -47,7 +45,7 @@ impl<const WAYS: usize, const WORDS: usize, const REGS: usize, const DEPTH: usiz
         look_at(&mut self.tellings, port, Look::All)
     }
 
-    /// How many words of a bank are known, after a look, and not taken.
+    /// Known words of a bank that aren't taken, after a look.
     pub fn known_words(&mut self, bank: u32) -> usize
         ensures looks { OnlyLooks (state_of self.old) (state_of self.new) }
         ensures same { cache_id self.new ≡ cache_id self.old }
@@ -56,8 +54,7 @@ impl<const WAYS: usize, const WORDS: usize, const REGS: usize, const DEPTH: usiz
         count_at(&mut self.answers, bank)
     }
 
-    /// The word that a step at the bank takes next, after a look; it stays in the ring. `None` says
-    /// that none is known.
+    /// The word that a step takes next, after a look. It stays in the ring.
     pub fn peek_word(&mut self, bank: u32) -> Option<BankAnswer>
         ensures looks { OnlyLooks (state_of self.old) (state_of self.new) }
         ensures same { cache_id self.new ≡ cache_id self.old }
@@ -66,7 +63,7 @@ impl<const WAYS: usize, const WORDS: usize, const REGS: usize, const DEPTH: usiz
         peek_at(&mut self.answers, bank)
     }
 
-    /// For how many more commands a bank's ring is known to have a free place, after a look.
+    /// Places known free for a bank's commands, after a look.
     pub fn command_places(&mut self, bank: u32) -> u32
         ensures looks { OnlyLooks (state_of self.old) (state_of self.new) }
         ensures same { cache_id self.new ≡ cache_id self.old }
@@ -75,15 +72,15 @@ impl<const WAYS: usize, const WORDS: usize, const REGS: usize, const DEPTH: usiz
         self.row.look(bank, Look::All, 1)
     }
 
-    /// The cache unit, to be seen: its registers, its stack, its write queue and its ready values.
+    /// The cache unit, to be seen.
     pub fn unit(&self) -> &CacheUnit<WAYS, WORDS, REGS, DEPTH>
         ensures { result.now ≡ record { sizes = sizes_in self.now; cache = cache_in self.now } }
     {
         &self.unit
     }
 
-    /// Looks at the far ends of all ports' rings of asks, one right after the other: what they have
-    /// written comes together, and not at each step anew.
+    /// Looks at all ports' rings, one right after the other: what they wrote comes together, not at each
+    /// step anew.
     pub fn look_for_asks(&mut self)
         ensures looks { OnlyLooks (state_of self.old) (state_of self.new) }
         ensures same { cache_id self.new ≡ cache_id self.old }
@@ -92,7 +89,7 @@ impl<const WAYS: usize, const WORDS: usize, const REGS: usize, const DEPTH: usiz
         look_each(&mut self.asks, ports);
     }
 
-    /// Looks so at the far ends of all banks' rings of words.
+    /// Looks so at all banks' rings of words.
     pub fn look_for_words(&mut self)
         ensures looks { OnlyLooks (state_of self.old) (state_of self.new) }
         ensures same { cache_id self.new ≡ cache_id self.old }
@@ -100,8 +97,8 @@ impl<const WAYS: usize, const WORDS: usize, const REGS: usize, const DEPTH: usiz
         look_each(&mut self.answers, self.shape.banks);
     }
 
-    /// Whether an item of the source is known, without a look. There may be no room yet for what a step
-    /// with it makes.
+    /// Whether an item of the source is known, without a look. There may be no room for what its step
+    /// makes.
     pub fn has_item(&self, source: Source) -> bool
         ensures { result ≡ has_item source (state_of self.now) }
     {

@@ -22,21 +22,20 @@ use station_journal::{Ask, Told};
 use std::alloc::{AllocError, Global};
 use std::snapshot::Snapshot;
 
-/// How many ports a station has at most.
+/// Ports of a station, at most.
 pub const MAX_PORTS: u32 = 16;
 
-/// How many entries a journal takes at most.
+/// Entries of a journal, at most.
 pub const MAX_ENTRIES: u32 = 1_048_576;
 
-/// How many entries a station notes at most, in all its journals one behind the other: 2^56.
+/// Entries of all journals of a station, at most: 2^56.
 pub const MAX_NOTED: u64 = 72_057_594_037_927_936;
 
-/// A station of this shape, over a memory of zeros: so many ports (1 to 16), a bank side for each
-/// bank, and a cache side whose journal takes so many entries (1 to 1,048,576).
+/// A station of this shape over zeros: `ports` ports (1 to 16), a bank side for each bank, and a cache side
+/// whose journal takes `journal` entries (1 to 1,048,576).
 ///
-/// `BadShape` names the first number that is out of its range, before any memory is asked for: the
-/// numbers of the shape in their order, then `Ports`, then `Journal`. `OutOfMemory` says that there
-/// was too little memory. After either nothing is made.
+/// `BadShape` names the first number out of its range, before any memory is asked for: the shape's in their
+/// order, `Ports`, `Journal`. `OutOfMemory`: too little memory. After either nothing is made.
 pub fn station<const WAYS: usize, const WORDS: usize, const REGS: usize, const DEPTH: usize>(
     alloc: Global,
     shape: Shape,
@@ -77,7 +76,6 @@ pub fn station<const WAYS: usize, const WORDS: usize, const REGS: usize, const D
     })
 }
 
-// The first number that is out of its range.
 fn bad_field<const WAYS: usize, const WORDS: usize, const REGS: usize, const DEPTH: usize>(
     shape: &Shape,
     ports: u32,
@@ -97,7 +95,6 @@ fn bad_field<const WAYS: usize, const WORDS: usize, const REGS: usize, const DEP
     }
 }
 
-// The unit of a shape whose numbers are in their ranges.
 fn make_unit<const WAYS: usize, const WORDS: usize, const REGS: usize, const DEPTH: usize>(
     alloc: Global,
     shape: &Shape,
@@ -136,7 +133,6 @@ fn make_ports(alloc: Global, count: u32) -> Result<PortEnds, AllocError>
     Ok(ends)
 }
 
-// Makes the two rings of one more port.
 fn add_port(alloc: Global, ends: &mut PortEnds) -> Result<(), AllocError>
     requires { AreNewPorts ends.old.ports.items ends.old.asks.items ends.old.tellings.items }
     ensures new { OnOk result
@@ -185,7 +181,6 @@ fn make_banks(alloc: Global, shape: &Shape) -> Result<BankEnds, AllocError>
     Ok(ends)
 }
 
-// Makes the two rings of one more bank, and its words.
 fn add_bank(alloc: Global, ends: &mut BankEnds, shape: &Shape, bank: u32) -> Result<(), AllocError>
     requires words { shape.now.words ≤ MAX_WORDS }
     requires there { bank < shape.now.banks }

@@ -25,13 +25,13 @@ pub enum Stepped {
     Did,
     /// There is nothing to do, or no room for what it makes.
     Idle,
-    /// The journal has no room for a step.
+    /// The journal has no room.
     JournalFull,
-    /// The side got a word that it hadn't asked for, and does nothing more.
+    /// A word came that wasn't asked for.
     Faulted,
 }
 
-/// The side of a station on which the cache is.
+/// The side of a station with the cache.
 #[derive(Drop)]
 pub struct CacheSide<const WAYS: usize, const WORDS: usize, const REGS: usize, const DEPTH: usize> {
     pub(crate) shape: Shape,
@@ -40,7 +40,7 @@ pub struct CacheSide<const WAYS: usize, const WORDS: usize, const REGS: usize, c
     pub(crate) tellings: Vec<Producer<Told>>,
     pub(crate) row: Row,
     pub(crate) answers: Vec<Consumer<BankAnswer>>,
-    // The journals that were handed out, and how many entries they had.
+    // Handed out, and how many entries they had.
     pub(crate) earlier: Past<Vec<Entry>>,
     pub(crate) handed: u64,
     pub(crate) journal: Vec<Entry>,
@@ -63,10 +63,10 @@ pub struct CacheSide<const WAYS: usize, const WORDS: usize, const REGS: usize, c
     ghost ports: { PortsTell asks.items tellings.items (whole_of earlier.values ++ journal.items) },
 }
 
-/// A cache side with its ports and its banks, each in the order of their numbers.
+/// A cache side with its ports and banks, each in the order of their numbers.
 #[derive(Drop)]
 pub struct Station<const WAYS: usize, const WORDS: usize, const REGS: usize, const DEPTH: usize> {
-    /// The side on which the cache is.
+    /// The cache's side.
     pub cache: CacheSide<WAYS, WORDS, REGS, DEPTH>,
     /// Those who ask it.
     pub ports: Vec<Port>,
@@ -74,33 +74,33 @@ pub struct Station<const WAYS: usize, const WORDS: usize, const REGS: usize, con
     pub banks: Vec<BankSide>,
 }
 
-/// A ring of a station, by its kind and the number of its port or bank.
+/// A ring, by its kind and the number of its port or bank.
 #[derive(Clone, Copy, PartialEq, Eq, Debug)]
 pub enum Ring {
-    /// From a port to the cache side.
+    /// From a port.
     Asks(u32),
-    /// From the cache side to a port.
+    /// To a port.
     Told(u32),
-    /// From the cache side to a bank.
+    /// To a bank.
     Commands(u32),
-    /// From a bank to the cache side.
+    /// From a bank.
     Answers(u32),
 }
 
 /// What an audit finds.
 #[derive(Clone, Copy, PartialEq, Eq, Debug)]
 pub enum Audit {
-    /// The cache side got a word that it hadn't asked for.
+    /// A word came that wasn't asked for.
     Faulted,
-    /// Items are left in a ring: the first one in the order asks by port, tellings by port, commands
-    /// by bank, answers by bank.
+    /// The first ring with an item, in the order asks by port, tellings by port, commands by bank, answers
+    /// by bank.
     Left {
         /// The ring.
         ring: Ring,
     },
-    /// No ring holds an item, and the cache side owes values of accepted loads.
+    /// No ring holds an item, and accepted loads are owed values.
     Owed {
-        /// How many loads wait for their values or have them ready.
+        /// How many loads.
         count: u32,
     },
     /// No ring holds an item, and nothing is owed.

@@ -1,10 +1,10 @@
-//! What a part was, and is no more, as clauses see it.
+//! What a part was, as clauses see it.
 ghost use Rattle.std.specs.Prelude.{◌≡◌, List, [], ◌∷◌, ◌++◌};
 ghost use base.Fml.{ftrue};
 
 use std::marker::{Model, PhantomData};
 
-/// The values that were handed out so far, oldest first. Clauses alone see them: it has no bytes.
+/// The values handed out so far, oldest first. Only clauses see them: it has no bytes.
 pub(crate) struct Past<T> {
     marker: PhantomData<T>,
     pub ghost values: { List T },
@@ -15,7 +15,6 @@ impl<T> Model for Past<T> {
 }
 
 impl<T> Past<T> {
-    /// No value was handed out.
     pub(crate) fn none() -> Past<T>
         ensures { result.values ≡ [] }
     {
@@ -24,7 +23,6 @@ impl<T> Past<T> {
         }
     }
 
-    /// One value more is handed out.
     pub(crate) fn and(&self, last: &T) -> Past<T>
         ensures { result.values ≡ self.now.values ++ last.now ∷ [] }
     {

@@ -9,18 +9,18 @@ use rtrb::{Consumer, Producer};
 use station_journal::{Ask, Told};
 use std::snapshot::Snapshot;
 
-/// How many asks stand at most between a port and the cache side.
+/// Asks in a port's ring, at most.
 pub const ASK_PLACES: usize = 16;
 
-/// How many tellings stand at most between the cache side and a port.
+/// Tellings in a port's ring, at most.
 pub const TELLING_PLACES: usize = 64;
 
-/// One who asks the cache: its asks go over one ring, and what it is told comes over another.
+/// One who asks the cache over one ring, and is told over another.
 #[derive(Drop)]
 pub struct Port {
     pub(crate) asks: Producer<Ask>,
     pub(crate) tellings: Consumer<Told>,
-    // The end of the ring as it was when the port began to ask, or began again.
+    // The ring's end when the port began, or began again.
     pub(crate) begun: Snapshot<Producer<Ask>>,
     pub(crate) ended: bool,
     ghost grown: { length (sent begun.value) ≤ length (sent asks) },
@@ -34,7 +34,6 @@ impl Port {
     ghost use Rattle.station_parts.specs.Offering.{Offers};
     ghost use Rattle.station_parts.specs.Words.{offered, offered_before, taken, has_ended, known_places, known_tellings};
 
-    /// Offers an ask to the cache side, after a look at how many free places the ring has: the offer of
     /// [`Port::offer_with`] with [`Look::All`].
     pub fn offer(&mut self, ask: Ask) -> Result<(), Ask>
         ensures { Offers ask self.old self.new result }
@@ -42,10 +41,8 @@ impl Port {
         self.offer_with(ask, Look::All)
     }
 
-    /// Offers an ask to the cache side, by an end that looks so at how many free places the ring has.
-    ///
-    /// The ask comes back, and nothing was offered, if no free place is known, or if the port has
-    /// offered `Done` before. Behind a renewal of its station it may offer again.
+    /// Offers an ask to the cache side. It comes back, and nothing was offered, if no free place is known,
+    /// or if `Done` was offered since the last renewal.
     pub fn offer_with(&mut self, ask: Ask, look: Look) -> Result<(), Ask>
         ensures { Offers ask self.old self.new result }
     {
@@ -59,8 +56,7 @@ impl Port {
         Ok(())
     }
 
-    /// Takes the first telling that is known, after a look at the ring. `None` says that none is
-    /// known.
+    /// Takes the first known telling, after a look.
     pub fn take(&mut self) -> Option<Told>
         ensures same { port_id self.new ≡ port_id self.old }
         ensures before { offered_before self.new ≡ offered_before self.old }
@@ -77,8 +73,7 @@ impl Port {
         self.tellings.pop().ok()
     }
 
-    /// For how many more asks the ring is known to have a free place, after a look. So many are taken
-    /// by `offer`, if the port hasn't offered `Done`.
+    /// Places known free for asks, after a look.
     pub fn known_places(&mut self) -> usize
         ensures same { port_id self.new ≡ port_id self.old }
         ensures before { offered_before self.new ≡ offered_before self.old }
@@ -91,14 +86,14 @@ impl Port {
         self.asks.slots()
     }
 
-    /// Whether the port has offered `Done`, and so offers nothing more until its station is renewed.
+    /// Whether the port offered `Done`, and so offers nothing more until its station is renewed.
     pub fn has_ended(&self) -> bool
         ensures { result ≡ has_ended self.now }
     {
         self.ended
     }
 
-    /// Begins again: the port may offer more, if it has offered `Done`.
+    /// Lets the port offer again.
     pub(crate) fn resume(&mut self)
         ensures same { port_id self.new ≡ port_id self.old }
         ensures before { offered_before self.new ≡ offered self.new }
@@ -112,7 +107,7 @@ impl Port {
         self.ended = false;
     }
 
-    /// How many tellings are known, after a look, and not taken.
+    /// Known tellings that aren't taken, after a look.
     pub fn known_tellings(&mut self) -> usize
         ensures same { port_id self.new ≡ port_id self.old }
         ensures before { offered_before self.new ≡ offered_before self.old }
@@ -125,8 +120,7 @@ impl Port {
         self.tellings.slots()
     }
 
-    /// The telling that `take` gives next, after a look; it stays in the ring. `None` says that none is
-    /// known.
+    /// The telling that `take` gives next, after a look. It stays in the ring.
     pub fn peek(&mut self) -> Option<Told>
         ensures same { port_id self.new ≡ port_id self.old }
         ensures before { offered_before self.new ≡ offered_before self.old }

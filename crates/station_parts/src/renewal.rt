@@ -25,11 +25,11 @@ use thiserror::Error;
 #[derive(Clone, Copy, PartialEq, Eq, Debug, Error)]
 #[error("{}", FaultText(self))]
 pub enum RenewFault {
-    /// With one full journal more the station would have noted more than [`MAX_NOTED`] entries.
+    /// One more full journal would bring the station beyond [`MAX_NOTED`] entries.
     WornOut,
-    /// There was too little memory for a new journal.
+    /// Too little memory for a new journal.
     OutOfMemory,
-    /// The audit found this.
+    /// What the audit found.
     NotClean(Audit),
 }
 
@@ -44,19 +44,14 @@ impl From<AllocError> for RenewFault {
     }
 }
 
-/// Audits a station, of which all parts are at hand in the order of their numbers, and if the audit is
-/// `Clean`, hands its journal out and begins a new one, which is empty and takes as many entries.
-/// Each port may then offer again, if it has offered `Done`. All else goes on as it stood.
+/// Audits a whole station, its parts in the order of their numbers, and if it is `Clean` hands its journal out
+/// and begins an empty one that takes as many entries. Each port may then offer again. All else goes on as it
+/// stood.
 ///
-/// The journals that were handed out and the one at hand, one behind the other, are one journal of one
-/// station: what an audit says of the journal it says of all of them together.
+/// The journals handed out and the one at hand are one journal, and an audit speaks of all of it.
 ///
-/// In this order:
-/// - `WornOut` if with one full journal more the station would have noted more than [`MAX_NOTED`]
-///   entries, and then nothing changes;
-/// - `OutOfMemory` if there was too little memory for a new journal, and then nothing changes;
-/// - `NotClean` with what the audit found, and then nothing changes, but that more may be known of the
-///   rings' far ends.
+/// Faults come in the order `WornOut`, `OutOfMemory`, `NotClean`, and change nothing, but that after `NotClean`
+/// more may be known of the rings' far ends.
 pub fn renew<const WAYS: usize, const WORDS: usize, const REGS: usize, const DEPTH: usize>(
     alloc: Global,
     cache: &mut CacheSide<WAYS, WORDS, REGS, DEPTH>,
@@ -67,7 +62,6 @@ pub fn renew<const WAYS: usize, const WORDS: usize, const REGS: usize, const DEP
 
     ensures same { AreSameParts cache.old cache.new ports.old ports.new banks.old banks.new }
 
-    // The journal at hand is handed out, and nothing else has changed.
     ensures cache { IfOk result (λ segment. RenewsCache cache.old cache.new segment.items) }
     ensures ports { OnOk result (ResumesPorts ports.old ports.new) }
     ensures banks { LeavesBanks banks.old banks.new }
@@ -75,7 +69,6 @@ pub fn renew<const WAYS: usize, const WORDS: usize, const REGS: usize, const DEP
     ensures refused { IfErr result
         (λ fault. IsRefused fault cache.old cache.new ports.old ports.new banks.old banks.new) }
 
-    // It comes only behind an audit that found nothing left and nothing owed.
     ensures clean { OnOk result (IsFoundClean cache.new ports.new banks.new) }
 {
     if is_worn_out(cache) {
@@ -91,7 +84,6 @@ pub fn renew<const WAYS: usize, const WORDS: usize, const REGS: usize, const DEP
     }
 }
 
-// Whether one journal more could bring the station beyond the entries that it notes at most.
 fn is_worn_out<const WAYS: usize, const WORDS: usize, const REGS: usize, const DEPTH: usize>(
     cache: &CacheSide<WAYS, WORDS, REGS, DEPTH>,
 ) -> bool
@@ -100,7 +92,6 @@ fn is_worn_out<const WAYS: usize, const WORDS: usize, const REGS: usize, const D
     cache.handed + cache.journal.len() as u64 + u64::from(cache.limit) > MAX_NOTED
 }
 
-// Lets each port offer again.
 fn resume_all(ports: &mut [Port])
     ensures same { map port_id ports.new ≡ map port_id ports.old }
     ensures before { All (λ p. offered_before p ≡ offered p) ports.new }
@@ -116,7 +107,6 @@ fn resume_all(ports: &mut [Port])
     }
 }
 
-// Hands the journal out, and goes on with this one.
 fn hand_out<const WAYS: usize, const WORDS: usize, const REGS: usize, const DEPTH: usize>(
     cache: &mut CacheSide<WAYS, WORDS, REGS, DEPTH>,
     fresh: Vec<Entry>,

@@ -15,8 +15,8 @@ impl<const WAYS: usize, const WORDS: usize, const REGS: usize, const DEPTH: usiz
     REGS,
     DEPTH,
 > {
-    /// Whether nothing is under way in the unit: no accepted load waits for its value or has it ready, no
-    /// register is valid, and the write queue is empty. Dirty lanes may remain.
+    /// Whether no accepted load waits for its value or has it ready, no register is valid, and the write
+    /// queue is empty. Dirty lanes may remain.
     pub fn is_at_rest(&self) -> bool
         ensures { result ≡ is_at_rest (cache_in self.now) }
     {
@@ -24,7 +24,6 @@ impl<const WAYS: usize, const WORDS: usize, const REGS: usize, const DEPTH: usiz
     }
 }
 
-// Whether no register is valid.
 fn are_free<const WAYS: usize, const WORDS: usize, const REGS: usize, const DEPTH: usize>(
     unit: &CacheUnit<WAYS, WORDS, REGS, DEPTH>,
 ) -> bool
@@ -40,7 +39,6 @@ fn are_free<const WAYS: usize, const WORDS: usize, const REGS: usize, const DEPT
     true
 }
 
-// Whether the register in `slot` is valid.
 fn is_valid<const WAYS: usize, const WORDS: usize, const REGS: usize, const DEPTH: usize>(
     unit: &CacheUnit<WAYS, WORDS, REGS, DEPTH>,
     slot: u32,

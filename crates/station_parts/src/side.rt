@@ -17,34 +17,31 @@ impl<const WAYS: usize, const WORDS: usize, const REGS: usize, const DEPTH: usiz
     REGS,
     DEPTH,
 > {
-    /// Looks at the far ends of the rings that a source needs, and makes one step with its first item: the
-    /// step of [`CacheSide::step_with`] with [`Look::All`].
+    /// [`CacheSide::step_with`] with [`Look::All`].
     pub fn step(&mut self, source: Source) -> Stepped
         ensures { SideSteps source self.old self.new result }
     {
         self.step_with(source, Look::All)
     }
 
-    /// Makes one step with a source's first item, or the one at its place, by ends that look so at what is
-    /// known of the source and where there is room. The journal notes it, with what the unit answered.
+    /// Makes one step with a source's first item, or the one at its place. The journal notes it, with what
+    /// the unit answered.
     ///
-    /// With [`Look::IfNeeded`] an end looks if no item of the source is known, no place for what it tells,
-    /// or fewer places at a bank than a block has words. So the step takes fewer cache lines from the
-    /// processors that write at the far ends.
+    /// With [`Look::IfNeeded`] an end looks if it knows no item of the source, no place for what it tells,
+    /// or fewer places at a bank than a block has words.
     ///
     /// In this order:
-    /// - `Faulted` if the side is faulted, and then nothing changes;
-    /// - `JournalFull` if the journal has no room for an entry, and then nothing changes;
-    /// - `Idle` if there is no such source, no item of it is known, the stack has no room for a word,
-    ///   no word waits for its bank or the bank isn't known to have room for it, or the port isn't known
-    ///   to have room for what it would be told (its verdict, its value; for `Done` too). Nothing
-    ///   changes, but that more may be known of the far ends;
-    /// - `Faulted` if the word of a bank goes beyond the reads sent to the bank, or else if no register
-    ///   waits for it. The word is lost, [`CacheSide::fault`] says which it was, and nothing else
-    ///   changes: the side is faulted for good;
-    /// - else `Did`: an ask is told its verdict, and a ready value goes to the port that its tag names.
-    ///   A refusal with `BankFull` says that the room known at a bank was too small. `Done` is noted as
-    ///   [`Entry::Ended`], and told nothing.
+    /// - `Faulted` if the side is faulted, and nothing changes;
+    /// - `JournalFull` if the journal has no room for an entry, and nothing changes;
+    /// - `Idle` if no item of the source is known, or no room for it: in the stack, at the bank of the
+    ///   write queue's front, or for what its port would be told, for `Done` too. Nothing changes, but that
+    ///   more may be known of the far ends;
+    /// - `Faulted` if a bank's word goes beyond the reads sent to it, or else if no register waits for it.
+    ///   The word is lost, [`CacheSide::fault`] says which, and nothing else changes: the side is faulted
+    ///   for good;
+    /// - else `Did`: an ask is told its verdict, and a ready value goes to the port of its tag. `BankFull`
+    ///   says that the room known at a bank was too small. `Done` is noted as [`Entry::Ended`], and told
+    ///   nothing.
     pub fn step_with(&mut self, source: Source, look: Look) -> Stepped
         ensures { SideSteps source self.old self.new result }
     {
@@ -63,7 +60,6 @@ impl<const WAYS: usize, const WORDS: usize, const REGS: usize, const DEPTH: usiz
         }
     }
 
-    // Processes the word at a place of the input stack.
     fn process(&mut self, place: u32) -> Stepped
         requires sound { self.old.fault ≡ None }
         requires room { length self.old.journal.items < self.old.limit }
@@ -83,7 +79,6 @@ impl<const WAYS: usize, const WORDS: usize, const REGS: usize, const DEPTH: usiz
         Stepped::Did
     }
 
-    // Sends the front of the write queue to its bank.
     fn drain(&mut self, look: Look) -> Stepped
         requires sound { self.old.fault ≡ None }
         requires room { length self.old.journal.items < self.old.limit }
@@ -106,7 +101,6 @@ impl<const WAYS: usize, const WORDS: usize, const REGS: usize, const DEPTH: usiz
         Stepped::Did
     }
 
-    // Takes the first ask that is known of a port, and tells the port what the unit answers.
     fn ask(&mut self, port: u32, look: Look) -> Stepped
         requires sound { self.old.fault ≡ None }
         requires room { length self.old.journal.items < self.old.limit }
@@ -135,7 +129,6 @@ impl<const WAYS: usize, const WORDS: usize, const REGS: usize, const DEPTH: usiz
         Stepped::Did
     }
 
-    // Takes the ready value at a place, and tells it to the port whose load it answers.
     fn reply(&mut self, place: u32, look: Look) -> Stepped
         requires sound { self.old.fault ≡ None }
         requires room { length self.old.journal.items < self.old.limit }
@@ -160,7 +153,6 @@ impl<const WAYS: usize, const WORDS: usize, const REGS: usize, const DEPTH: usiz
         Stepped::Did
     }
 
-    // Takes the first word that is known of a bank.
     fn bring(&mut self, bank: u32, look: Look) -> Stepped
         requires sound { self.old.fault ≡ None }
         requires room { length self.old.journal.items < self.old.limit }

@@ -34,7 +34,7 @@ impl Display for Audit {
     }
 }
 
-/// A fault's text, of which a contract knows each byte.
+/// A fault's text.
 #[derive(Drop)]
 pub struct FaultText<'a>(pub &'a RenewFault);
 

@@ -12,30 +12,29 @@ impl<const WAYS: usize, const WORDS: usize, const REGS: usize, const DEPTH: usiz
     REGS,
     DEPTH,
 > {
-    /// How many entries the journal has: those since it was begun, or renewed.
+    /// Entries of the journal since it was begun, or renewed.
     pub fn entries(&self) -> u32
         ensures { result ≡ length (held_of self.now) }
     {
         self.journal.len() as u32
     }
 
-    /// The entry of the journal at `place`, oldest first; `None` if there is none.
+    /// The entry at `place`, oldest first; `None`: no such place.
     pub fn entry(&self, place: u32) -> Option<Entry>
         ensures { result ≡ slice_get (held_of self.now) place }
     {
         self.journal.get(place as usize).copied()
     }
 
-    /// Why the side does nothing more: the first fault, which stays. `None` exactly while the side isn't
-    /// faulted.
+    /// The first fault, which stays; `None` while the side isn't faulted.
     pub fn fault(&self) -> Option<SideFault>
         ensures { result ≡ fault_in self.now }
     {
         self.fault
     }
 
-    /// Whether the unit is clean: no register is valid, no lane is dirty, and the write queue is empty.
-    /// If an audit is `Clean` too, the rings are empty, and the banks hold flat memory.
+    /// Whether no register is valid, no lane is dirty, and the write queue is empty. If an audit is `Clean`
+    /// too, the banks hold flat memory.
     pub fn settled(&self) -> bool
         ensures { result ≡ is_clean (cache_in self.now) }
     {

@@ -15,24 +15,22 @@ use crate::streams::Source;
 use flat_model::{Answer, Event, FlatMemory, StepFault};
 use std::alloc::Global;
 
-/// What a check of a served trace found.
+/// What a check found.
 #[derive(Clone, Copy, Debug, PartialEq, Eq)]
 pub enum CheckEnd {
-    /// The events and answers are a run of flat memory, of so many steps.
+    /// A run of flat memory, of so many steps.
     Flat { steps: u64 },
-    /// The line of this number, counted from 1, has the first answer that flat memory doesn't give.
-    /// Lines that only show something count too.
+    /// The first line, counted from 1, whose answer flat memory doesn't give.
     Mismatch { line: u64 },
 }
 
-// An event and its answer. It isn't exported, but `pub`, since definitions of crates above name it.
+// Not exported, but `pub`: definitions of crates above name it.
 #[derive(Clone, Copy)]
 pub struct Step {
     pub event: Event,
     pub answer: Answer,
 }
 
-// The step that a pair is, where it is one.
 fn step_in(pair: Pair) -> Option<Step>
     ensures { result ≡ step_with pair.line pair.answer }
 {
@@ -42,8 +40,7 @@ fn step_in(pair: Pair) -> Option<Step>
     }
 }
 
-// Flat memory behind the lines so far, or the line of the first mismatch. Nothing else is kept of the
-// lines: a fault in a later line goes before a mismatch, so they are read on.
+// A fault in a later line goes before a mismatch, so lines are read on behind one.
 #[derive(Drop)]
 pub(crate) struct Checking {
     pub(crate) memory: FlatMemory,
@@ -52,7 +49,6 @@ pub(crate) struct Checking {
 }
 
 impl Checking {
-    // Judges the step of the line of this number, unless a mismatch came before it.
     fn judge(&mut self, number: u64, step: Step) -> Result<(), Uncollected>
         requires few { self.old.steps < MAX_LINES }
         ensures judged { OnOk result
@@ -76,7 +72,6 @@ impl Checking {
         }
     }
 
-    // What was found.
     fn told(self) -> Checked
         ensures { (start : Flat) (texts : List (List ℕ))
             → JudgedFrom start texts self.steps self.mismatch (shown self.memory)
@@ -123,29 +118,22 @@ impl Collector for Checking {
     }
 }
 
-/// What a check of a served trace found, and flat memory as it stands behind the run: its words, and
-/// what each tag is still owed. Behind a mismatch it stands as it was before that line.
+/// What a check found, and the memory it ended with.
 #[derive(Drop)]
 pub struct Checked {
     /// What was found.
     pub end: CheckEnd,
-    /// Flat memory behind the steps that were made.
+    /// Flat memory behind the steps, or as it was before a mismatch.
     pub memory: FlatMemory,
 }
 
-/// Reads a whole served trace, and judges its events and answers from this memory on. Each line is read
-/// as by [`read_pair`](crate::read_pair). Behind a mismatch the rest is read too, so that a fault in a
-/// later line is the answer.
+/// Judges a whole served trace from this memory on. A fault anywhere goes before a mismatch.
 ///
-/// A fault gives no result, and the reader may have been read beyond it. The first one in the order
-/// of the lines is answered: [`TraceFault::Line`] with the number of the line, counted from 1, that
-/// can't be read, [`TraceFault::TooManyLines`] where line 16,777,217 begins, and
-/// [`TraceFault::Read`] where the reader answered an error, behind every line that ended or was too
-/// long before it. [`TraceFault::OutOfMemory`] may come in place of any answer, and
-/// [`TraceFault::Write`] never comes.
+/// Lines are read as by [`read_pair`](crate::read_pair). A fault gives no result: the first in the
+/// order of lines, [`TraceFault::OutOfMemory`] at any time, never [`TraceFault::Write`]. The reader
+/// may be read beyond it.
 ///
-/// One buffer of 4,096 bytes is taken before the first read. No line is kept: what is taken later grows
-/// with the tags that are owed a word at a time alone, of which there are at most 65,536.
+/// Memory: a buffer of 4,096 bytes, and what owed tags take.
 pub fn check_from<R: Source>(
     alloc: Global,
     reader: &mut R,
@@ -170,8 +158,7 @@ pub fn check_from<R: Source>(
     }
 }
 
-/// Reads and judges a whole served trace as [`check_from`] does, from `words` words of zeros on, which
-/// are taken before the first read.
+/// [`check_from`] on `words` words of zeros.
 pub fn check_text<R: Source>(
     alloc: Global,
     reader: &mut R,

@@ -1,4 +1,4 @@
-//! Numbers, words and masks are written.
+//! Numbers, words and masks as text.
 ghost use Rattle.std.specs.Prelude.{◌≡◌, ◌+◌, ◌-◌, ◌<◌, ◌≤◌, ◌++◌, length, decimal, replicate, max};
 ghost use Rattle.trace_text.specs.declared.fault.TheConstants.{MAX_PAIR};
 ghost use Rattle.flat_model.specs.Words.{has, Lane0, Lane1, Lane2, Lane3};
@@ -11,7 +11,7 @@ use flat_model::{Lanes, Word};
 use itoa::Buffer;
 
 impl LineText {
-    /// The decimal digits of a number, at the end.
+    /// Adds a number in decimal.
     pub fn push_decimal(&mut self, n: u32)
         requires { length self.old + 10 ≤ MAX_PAIR }
         ensures text { self.new ≡ self.old ++ decimal n }
@@ -42,7 +42,6 @@ impl LineText {
         self.push_bytes(digits);
     }
 
-    // The decimal digits of a number behind the zeros that its width wants, at the end.
     pub(crate) fn push_padded(&mut self, n: u32, width: usize)
         requires width { width ≤ 10 }
         requires room { length self.old + 10 ≤ MAX_PAIR }
@@ -53,7 +52,6 @@ impl LineText {
         self.push_behind_zeros(buffer.format(n).as_bytes(), width);
     }
 
-    // The five digits of a tag, at the end.
     pub(crate) fn push_tag(&mut self, tag: u16)
         requires { length self.old + 5 ≤ MAX_PAIR }
         ensures text { self.new ≡ self.old ++ padded 5 tag }
@@ -63,7 +61,7 @@ impl LineText {
         self.push_behind_zeros(buffer.format(tag).as_bytes(), 5);
     }
 
-    /// A word's eight digits, byte 0 first, at the end.
+    /// Adds a word's eight digits, byte 0 first.
     #[tactic(auto, unfolding(flat_model::specs::Texts::word_text))]
     pub fn push_word(&mut self, word: Word)
         requires { length self.old + 8 ≤ MAX_PAIR }
@@ -82,7 +80,7 @@ impl LineText {
         ]);
     }
 
-    /// A mask's four digits, lane 0 first, at the end.
+    /// Adds a mask's four digits, lane 0 first.
     #[tactic(auto, unfolding(flat_model::specs::Texts::lanes_text))]
     pub fn push_lanes(&mut self, lanes: Lanes)
         requires { length self.old + 4 ≤ MAX_PAIR }

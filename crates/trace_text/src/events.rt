@@ -13,7 +13,7 @@ use crate::streams::Source;
 use flat_model::Event;
 use std::alloc::Global;
 
-// The events of the lines so far: all are counted, and kept as long as there aren't too many.
+// All are counted, but at most `most` kept.
 #[derive(Drop)]
 pub(crate) struct Events {
     pub(crate) most: usize,
@@ -21,7 +21,6 @@ pub(crate) struct Events {
     pub(crate) events: Vec<Event>,
 }
 
-// The event of a line, if it has one.
 fn event_told(line: Line) -> Option<Event>
     ensures { result ≡ event_in line }
 {
@@ -32,7 +31,6 @@ fn event_told(line: Line) -> Option<Event>
 }
 
 impl Events {
-    // Counts an event, and keeps it if there aren't too many.
     fn gather(&mut self, event: Option<Event>) -> Result<(), Uncollected>
         requires few { self.old.count < MAX_LINES }
         ensures ok { OnOk result (GathersOne self.old event self.new) }
@@ -77,13 +75,10 @@ impl Collector for Events {
     }
 }
 
-/// The events of a trace, in order, unless there are more than `most`: then `None`. Each line is
-/// read as by [`read_line`](crate::read_line). The lines that only show something are passed over.
+/// A trace's events in order; `None` for more than `most`. It is read to its end in either case.
 ///
-/// The trace is read to its end in either case, so a faulty line goes before too many events. The
-/// faults are those of [`read_requests`](crate::read_requests), and so is their order.
-///
-/// One buffer of 4,096 bytes is allocated before the first read. The events that are kept take more.
+/// Lines, faults and their order are those of [`read_requests`](crate::read_requests). Lines that
+/// only show something are passed over.
 pub fn read_events<R: Source>(
     alloc: Global,
     reader: &mut R,

@@ -1,4 +1,4 @@
-//! Why a trace isn't read or served to its end, and the limits of a trace.
+//! Limits of a trace, and why one isn't read to its end.
 
 ghost use Rattle.std.specs.Prelude.{Some};
 ghost use Rattle.trace_text.specs.Faults.{trace_fault_text};
@@ -8,20 +8,19 @@ use std::alloc::AllocError;
 use std::fmt;
 use thiserror::Error;
 
-/// How many lines a trace has at most.
+/// Lines of a trace at most.
 pub const MAX_LINES: u64 = 16_777_216;
 
-/// How many bytes a line of a trace has at most, LF not counted.
+/// Bytes of a line at most, without LF.
 pub const MAX_LINE: usize = 64;
 
-/// How many bytes a line of a served trace has at most, LF not counted.
+/// Bytes of a served line at most, without LF.
 pub const MAX_PAIR: usize = 768;
 
-/// How large the limit of a text's lines may be at most, in bytes, LF not counted: so the start of a
-/// line leaves room in the buffer for what comes next.
+/// The largest limit for lines, in bytes without LF. A begun line then leaves room in the buffer.
 pub const MAX_LINE_LIMIT: usize = 1000;
 
-/// How many bytes the buffer has through which a text is read.
+/// Bytes of the buffer that texts are read through.
 pub const BUFFER_LEN: usize = 4096;
 
 /// Why a trace wasn't read or served to its end.
@@ -34,17 +33,17 @@ pub enum TraceFault {
     Read,
     /// The writer answered an error, or took no byte.
     Write,
-    /// There was too little memory.
+    /// Too little memory.
     OutOfMemory,
-    /// A line begins behind as many as are read: behind [`MAX_LINES`], unless the call that reads names another number.
+    /// A line begins behind [`MAX_LINES`], or behind the caller's own limit.
     TooManyLines,
 }
 
-/// A fault's text, of which a contract knows each byte.
+/// A fault's exact text.
 #[derive(Drop)]
 pub struct FaultText<'a, F>(pub &'a F);
 
-/// `line N: bad field` and the like, or what failed.
+/// As `line 3: bad field`.
 impl fmt::Display for FaultText<'_, TraceFault> {
     ghost output = { λ told. Some (trace_fault_text told.0.now) };
 

@@ -1,21 +1,17 @@
-//! The fields of a line are read.
+//! Fields of a line.
 ghost use Rattle.std.specs.Prelude.{◌≡◌, ◌≤◌, ◌∷◌, [], IfSome};
 ghost use Rattle.trace_text.specs.Fields.{begins_badly as starts_badly, number_after, number_of, nibble_of, bit_of, lanes_of, byte_of};
 ghost use Rattle.trace_text.specs.Fields.{with_digit as digit_more, hex_of, word_of};
 
 use flat_model::{Lanes, Word};
 
-/// The largest number that one hexadecimal digit more keeps below 2^64.
 const MOST_BEFORE_DIGIT: u64 = 1_152_921_504_606_846_975;
 
-/// The largest tag.
 pub(crate) const MAX_TAG: u32 = u16::MAX as u32;
 
-/// The largest of the other numbers of a line.
 pub(crate) const MAX_NUMBER: u32 = u32::MAX;
 
-/// The number whose decimal digits these are, at most `most`. `None` if they are none, or have a zero
-/// in front.
+/// The decimal number, at most `most`. `None` for anything else, as a zero in front.
 pub fn number(text: &[u8], most: u32) -> Option<u32>
     ensures value { result ≡ number_of most text.now }
     ensures bound { IfSome result (λ n. n ≤ most) }
@@ -26,7 +22,7 @@ pub fn number(text: &[u8], most: u32) -> Option<u32>
     number_of_digits(text, most)
 }
 
-// The number of several digits. It stands apart, so that the test for one digit is inlined.
+// Apart, so that the test for one digit is inlined.
 #[inline(never)]
 fn number_of_digits(text: &[u8], most: u32) -> Option<u32>
     ensures value { result ≡ number_of most text.now }
@@ -48,7 +44,7 @@ fn number_of_digits(text: &[u8], most: u32) -> Option<u32>
     Some(value as u32)
 }
 
-// The number of one digit, which most numbers of a trace are.
+// Most numbers of a trace have one digit.
 #[inline(always)]
 fn lone_digit(digit: u8, most: u32) -> Option<u32>
     ensures value { result ≡ number_after most 0 (digit ∷ []) }
@@ -60,7 +56,7 @@ fn lone_digit(digit: u8, most: u32) -> Option<u32>
     Some(u32::from(digit - b'0'))
 }
 
-/// Whether no decimal number begins so: there is no digit, or a zero in front of others.
+/// Whether no decimal number begins so: no digit, or a zero before others.
 pub fn begins_badly(text: &[u8]) -> bool
     ensures { result ≡ starts_badly text.now }
 {
@@ -71,7 +67,7 @@ pub fn begins_badly(text: &[u8]) -> bool
     }
 }
 
-/// The value of a hexadecimal digit, `0` to `9` or `a` to `f`. `None` for any other byte.
+/// The value of `0` to `9` or `a` to `f`; else `None`.
 pub fn nibble(byte: u8) -> Option<u8>
     ensures { result ≡ nibble_of byte }
 {
@@ -82,7 +78,6 @@ pub fn nibble(byte: u8) -> Option<u8>
     }
 }
 
-// One hexadecimal digit more.
 fn with_digit(value: u64, byte: u8) -> Option<u64>
     ensures { result ≡ digit_more value (nibble_of byte) }
 {
@@ -93,8 +88,8 @@ fn with_digit(value: u64, byte: u8) -> Option<u64>
     Some(value * 16 + u64::from(digit))
 }
 
-/// The number of these hexadecimal digits, zeros in front of them or not. `None` if there are none or one of them is none of
-/// [`nibble`]'s, or if the number isn't below 2^64.
+/// The number of these hexadecimal digits, with zeros in front or not. `None` for other bytes,
+/// none, or 2^64 and more.
 pub fn hexadecimal(text: &[u8]) -> Option<u64>
     ensures { result ≡ hex_of text.now }
 {
@@ -118,7 +113,6 @@ fn bit(byte: u8) -> Option<u8>
     }
 }
 
-// The lanes of a mask of four digits, lane 0 first.
 pub(crate) fn lanes(text: &[u8]) -> Option<Lanes>
     ensures { result ≡ lanes_of text.now }
 {
@@ -128,14 +122,13 @@ pub(crate) fn lanes(text: &[u8]) -> Option<Lanes>
     }
 }
 
-/// The byte of two hexadecimal digits, the high one first.
+/// The byte of two hexadecimal digits.
 pub fn byte(high: u8, low: u8) -> Option<u8>
     ensures { result ≡ byte_of high low }
 {
     Some(nibble(high)? * 16 + nibble(low)?)
 }
 
-// The word of eight digits, byte 0 first.
 pub(crate) fn word(text: &[u8]) -> Option<Word>
     ensures { result ≡ word_of text.now }
 {

@@ -1,4 +1,4 @@
-//! What holds of traces alone. These functions do nothing: their contracts are laws.
+//! What holds of traces: functions that do nothing, with laws as contracts.
 ghost use Rattle.std.specs.Prelude.{◌≡◌, ℕ, Option, ◌^◌, ◌<◌, ◌≤◌, List, ◌++◌, Some, Ok, decimal, codes};
 ghost use Rattle.std.specs.List.{AllByRecursion};
 ghost use Rattle.flat_model.specs.declared.Word.{Word};
@@ -16,7 +16,7 @@ ghost use Rattle.flat_model.specs.declared.Answer.{Answer};
 ghost use Rattle.trace_text.specs.Serving.{answer_to};
 ghost use Rattle.trace_text.specs.Reading.{joined_texts, IsGood, IsStuck, BeginsFaulty};
 
-/// A field is the number whose decimal digits it is, and no other field is a number.
+/// A number has one text, its decimal digits.
 pub fn numbers()
     ensures read { (most n : ℕ) (text : List ℕ) → most < 2 ^ 32 → number_of most text ≡ Some n
         → (text ≡ decimal n) }
@@ -26,15 +26,14 @@ pub fn numbers()
         → number_of most (decimal n) ≡ Some n }
 {}
 
-/// What is written for a word or a mask is read as it.
+/// Words and masks are read as written.
 pub fn words_and_masks()
     ensures words { (w : Word) → w.b0 < 256 → w.b1 < 256 → w.b2 < 256 → w.b3 < 256
         → word_of (word_text w) ≡ Some w }
     ensures masks { (m : Lanes) → m.0 < 16 → lanes_of (lanes_text m) ≡ Some m }
 {}
 
-/// A text is good lines and a rest that begins none in one way only: so it doesn't matter in which
-/// pieces it came, nor how far it was read beyond the rest's begin.
+/// A text splits into good lines and a rest in one way: pieces don't matter.
 pub fn one_reading()
     ensures { (fault_in : List ℕ → Option LineFault) (most : ℕ) (xs ys : List (List ℕ)) (a b more after : List ℕ)
         → AllByRecursion (IsGood fault_in most) xs → AllByRecursion (IsGood fault_in most) ys
@@ -43,28 +42,27 @@ pub fn one_reading()
         → (xs ≡ ys) × (a ++ more ≡ b ++ after) }
 {}
 
-/// A line's fault stands whatever follows: so the same lines go before it, however far the trace
-/// was read.
+/// A line's fault stands whatever follows.
 pub fn faults_stand()
     ensures { (fault_in : List ℕ → Option LineFault) (most : ℕ) (rest : List ℕ) (f : LineFault)
         → BeginsFaulty fault_in most rest f → IsStuck fault_in most rest }
 {}
 
-/// A line is the text that it has, and no other text.
+/// A line has one text.
 pub fn lines()
     ensures read { (text : List ℕ) (l : Line) → line_of text ≡ Ok l → IsFit l
         × (text ≡ line_text l) }
     ensures written { (l : Line) → IsFit l → line_of (line_text l) ≡ Ok l }
 {}
 
-/// An answer is the text that it has, and no other text.
+/// An answer has one text.
 pub fn answers()
     ensures read { (text : List ℕ) (a : Answer) → answer_of text ≡ Some a → IsFitAnswer a
         × (text ≡ answer_text a) }
     ensures written { (a : Answer) → IsFitAnswer a → answer_of (answer_text a) ≡ Some a }
 {}
 
-/// What is served for a line is read as the line and its answer.
+/// A served line is read as its line and answer.
 pub fn pairs()
     ensures { (m : MachineState) (text : List ℕ) (l : Line) → line_of text ≡ Ok l → IsFitReply (answer_to m l)
         → pair_of (text ++ (codes " -> " ++ reply_text m l)) ≡ Ok (record { line = l; answer = answer_to m l }) }

@@ -1,17 +1,13 @@
-//! Traces as text.
+//! Traces as text, line by line.
 //!
-//! A trace is lines of bytes, each ended by LF: a command and its fields with one space between
-//! them, as `load 1 5`. [`read_line`] reads one. A served trace has each line with its answer, as
-//! `load 1 5 -> accepted`: [`read_pair`] reads one of these, and [`check_text`] judges a whole one
-//! against flat memory. [`serve_text`] makes one of a trace: it applies each line to a machine and
-//! writes it with its answer. [`read_requests`] keeps the requests of a trace, and
-//! [`read_events`] its events.
+//! A line is a command and its fields, one space between them, and LF: `load 1 5`. In a served
+//! trace ` -> ` and the answer stand behind it. [`read_line`] comes first.
 //!
-//! A trace has at most 16,777,216 lines, and a line at most 64 bytes before its LF, or 768 with its
-//! answer. A text may come in any pieces: what is read and answered doesn't depend on them.
+//! [`serve_text`] serves a trace with a machine. [`check_text`] checks a served one against flat
+//! memory. [`read_lines`] gives the lines of any text to a [`Collector`]. The pieces that a text
+//! comes in don't matter.
 //!
-//! What becomes of the lines of another text is told by a [`Collector`]: [`read_lines`] reads any text
-//! line by line, with the limits and faults of a trace.
+//! Callers: `kroft_jobs`, `run_reasons`, and all that reads a file by lines.
 #![tactic(auto)]
 
 mod check;

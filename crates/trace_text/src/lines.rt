@@ -1,4 +1,4 @@
-//! The lines of a trace.
+//! Lines of a trace.
 ghost use Rattle.std.specs.Prelude.{◌≡◌, ◌≢◌, ℕ, ◌<◌, ◌++◌, List, length, ◌==◌, position, Some, IfSome, IfNone, IfErr};
 ghost use Rattle.std.specs.Option.{option_map};
 ghost use Rattle.trace_text.specs.Faults.{line_fault_text};
@@ -11,31 +11,30 @@ use flat_model::Event;
 use std::fmt;
 use thiserror::Error;
 
-/// What a line of a trace asks for.
+/// What a line asks for.
 #[derive(Clone, Copy, Debug, PartialEq, Eq)]
 pub enum Line {
     /// An event for the machine.
     Event(Event),
-    /// Shows the register of this number. A machine need not have it.
+    /// Shows this register, which a machine need not have.
     Register(u32),
-    /// Shows the word at this address, as it stands in its bank. The address may be out of memory.
+    /// Shows the word at this address in its bank. It may be out of memory.
     Bank(u32),
     /// Shows whether the machine is settled.
     Settled,
 }
 
-/// Why a line can't be read. Of the faults that a line has, the one that comes first in the order
-/// TooLong, NotEnded, Unknown, Field is named.
+/// Why a line can't be read: the first that fits of TooLong, NotEnded, Unknown, Field.
 #[derive(Clone, Copy, Debug, PartialEq, Eq, Error)]
 #[error("{}", FaultText(self))]
 pub enum LineFault {
-    /// What stands up to the first space is no command. An empty line has none.
+    /// No command stands up to the first space.
     Unknown,
     /// A field is missing, too many, malformed or too large, or a space is out of place.
     Field,
-    /// More than 64 bytes, or 768 in a served trace, come with no LF.
+    /// More than 64 bytes, or 768 when served, come without LF.
     TooLong,
-    /// The last byte isn't LF, or there is no byte.
+    /// The last byte isn't LF, or there is none.
     NotEnded,
 }
 
@@ -53,7 +52,6 @@ impl fmt::Display for FaultText<'_, LineFault> {
     }
 }
 
-// The first word of a line.
 #[derive(Clone, Copy)]
 enum Command {
     Load,
@@ -77,7 +75,7 @@ fn space(text: &[u8]) -> Option<usize>
     text.iter().position(|byte| *byte == b' ')
 }
 
-/// The bytes up to the first space, and those behind it, if there is one.
+/// The bytes up to the first space, and those behind it.
 pub fn cut(text: &[u8]) -> (&[u8], Option<&[u8]>)
     ensures front { result.0.now ≡ (cut_of text.now).0 }
     ensures rest { option_map (λ rest. rest.now) result.1 ≡ (cut_of text.now).1 }
@@ -88,7 +86,6 @@ pub fn cut(text: &[u8]) -> (&[u8], Option<&[u8]>)
     }
 }
 
-// What stands behind a name at the front.
 #[inline(always)]
 fn behind<'a>(text: &'a [u8], name: &[u8]) -> Option<&'a [u8]>
     ensures some { IfSome result (λ rest. text.now ≡ name.now ++ rest.now) }
@@ -97,8 +94,8 @@ fn behind<'a>(text: &'a [u8], name: &[u8]) -> Option<&'a [u8]>
     text.strip_prefix(name)
 }
 
-// What stands behind a command's name. Each name stands in a call of its own, so that it is compared as the few
-// bytes that it is, and not as a slice of any length.
+// Each name has its own call, so that it is compared as its few bytes, not as a slice of any
+// length.
 #[inline(always)]
 fn behind_name(text: &[u8], command: Command) -> Option<&[u8]>
     ensures some { IfSome result (λ rest. text.now ≡ name_of command ++ rest.now) }
@@ -120,7 +117,6 @@ fn behind_name(text: &[u8], command: Command) -> Option<&[u8]>
     }
 }
 
-// The one command whose name may have these as its first and its third byte.
 #[inline(always)]
 #[tactic(auto, unfolding(crate::specs::Lines::command_told))]
 fn command_told(first: u8, third: u8) -> Option<Command>
@@ -143,7 +139,6 @@ fn command_told(first: u8, third: u8) -> Option<Command>
     }
 }
 
-// The command whose name a text begins with, and what stands behind the name.
 #[inline(always)]
 fn begun_command(text: &[u8]) -> Option<(Command, &[u8])>
     ensures some { IfSome result (λ begun. text.now ≡ name_of begun.0 ++ begun.1.now) }
@@ -157,7 +152,6 @@ fn begun_command(text: &[u8]) -> Option<(Command, &[u8])>
     Some((command, rest))
 }
 
-// The command of a line, and the fields behind it.
 #[inline(always)]
 fn command_said(text: &[u8]) -> Option<(Command, Option<&[u8]>)>
     ensures command { option_map (λ said. said.0) result ≡ command_named (cut_of text.now).0 }
@@ -172,7 +166,6 @@ fn command_said(text: &[u8]) -> Option<(Command, Option<&[u8]>)>
     }
 }
 
-// The one number that stands behind the command.
 pub(crate) fn one(fields: Option<&[u8]>) -> Option<u32>
     ensures { result ≡ one_number (option_map (λ rest. rest.now) fields.entry) }
 {
@@ -257,8 +250,7 @@ fn line_from(command: Command, fields: Option<&[u8]>) -> Option<Line>
     }
 }
 
-/// What a line says that has ended, without its LF: as [`read_line`] reads it, but of any length, so that
-/// only [`LineFault::Unknown`] and [`LineFault::Field`] come.
+/// [`read_line`] of a line of any length, without its LF.
 #[inline(always)]
 #[tactic(auto, unfolding(crate::specs::Lines::line_of))]
 pub fn line_said(text: &[u8]) -> Result<Line, LineFault>
@@ -271,18 +263,11 @@ pub fn line_said(text: &[u8]) -> Result<Line, LineFault>
     }
 }
 
-/// What a line says. The bytes are those of one line with its LF: at most 64 bytes stand before it.
+/// What a line of at most 64 bytes and LF says.
 ///
-/// A command and its fields have exactly one space between them. A number is decimal, with no zero
-/// before other digits: a tag is at most 65,535, any other number at most 4,294,967,295. A mask is
-/// four digits `0` or `1`, lane 0 first, and a word eight digits `0` to `9` or `a` to `f`, byte 0
-/// first. No number is compared with a machine: its ranges are the machine's to refuse.
-///
-/// The first refusal that fits is answered: [`LineFault::TooLong`] for more than 64 bytes, an LF at
-/// their end not counted; [`LineFault::NotEnded`] where the last byte isn't LF, or there is none;
-/// [`LineFault::Unknown`] where the bytes up to the first space, or up to the LF, are no command;
-/// and [`LineFault::Field`] for a field that is missing, one too many, malformed or too large, or a
-/// space too many.
+/// One space stands between fields. Numbers are decimal: a tag is at most 65,535, others
+/// 4,294,967,295. A mask is four digits `0` or `1`, lane 0 first; a word eight digits `0` to `9`,
+/// `a` to `f`, byte 0 first. Ranges are the machine's to refuse.
 pub fn read_line(bytes: &[u8]) -> Result<Line, LineFault>
     ensures { result ≡ ended_line_of bytes.now }
 {

@@ -1,4 +1,4 @@
-//! Lines as a served trace has them: a command and its answer.
+//! Lines of a served trace.
 ghost use Rattle.std.specs.Prelude.{◌≡◌, ◌≢◌, ℕ, ◌+◌, ◌<◌, ◌≤◌, List, Some, Ok, length, slice_index, IfSome, IfNone, IfErr};
 ghost use Rattle.std.specs.Option.{option_map};
 ghost use Rattle.trace_text.specs.Lines.{IsSaid};
@@ -10,12 +10,12 @@ use crate::fields::{MAX_TAG, number, word};
 use crate::lines::{Line, LineFault, cut, line_said, one};
 use flat_model::{Answer, Cause};
 
-/// A line and what was answered to it.
+/// A line and its answer.
 #[derive(Clone, Copy, Debug, PartialEq, Eq)]
 pub struct Pair {
     /// The line.
     pub line: Line,
-    /// The answer to an event; `None` for a line that only shows something.
+    /// The answer to an event.
     pub answer: Option<Answer>,
 }
 
@@ -65,7 +65,6 @@ fn answer_from(kind: &[u8], fields: Option<&[u8]>) -> Option<Answer>
     }
 }
 
-// The answer whose text this is.
 #[tactic(auto, unfolding(crate::specs::Pairs::answer_of))]
 fn answer_said(text: &[u8]) -> Option<Answer>
     ensures { result ≡ answer_of text.now }
@@ -74,7 +73,7 @@ fn answer_said(text: &[u8]) -> Option<Answer>
     answer_from(kind, fields)
 }
 
-// The place of the first hyphen. It stands within some ten bytes, where a search byte by byte is the faster one.
+// It stands within some ten bytes, where a search byte by byte is faster.
 fn hyphen(text: &[u8]) -> Option<usize>
     ensures some { IfSome result
         (λ at. (at < length text.now) × ((k : ℕ) → k < at → slice_index text.now k ≢ 45)) }
@@ -83,8 +82,7 @@ fn hyphen(text: &[u8]) -> Option<usize>
     text.iter().position(|byte| *byte == b'-')
 }
 
-// The place at which ` -> ` first stands: its second byte is a hyphen, so none begins in front of the
-// byte before the first hyphen.
+// No arrow begins before the byte in front of the first hyphen.
 fn arrow(text: &[u8]) -> Option<usize>
     ensures value { result ≡ arrow_in text.now }
     ensures bound { IfSome result (λ at. at + 4 ≤ length text.now) }
@@ -114,7 +112,6 @@ fn pair_with(line: Line, answer: &[u8]) -> Result<Pair, LineFault>
     }
 }
 
-// What a line with its answer says, by a search for the arrow.
 #[tactic(auto, unfolding(crate::specs::Pairs::pair_of))]
 fn searched_pair(text: &[u8]) -> Result<Pair, LineFault>
     ensures pair { result ≡ pair_of text.now }
@@ -127,7 +124,7 @@ fn searched_pair(text: &[u8]) -> Result<Pair, LineFault>
     pair_with(line, &text[at + 4..])
 }
 
-// What stands in front of the arrow and one of the two answers that most lines have, told by how the text ends.
+// Most lines have one of two answers, told by how the text ends.
 #[inline(always)]
 fn usual_answer(text: &[u8]) -> Option<(&[u8], Answer)>
     ensures { IfSome result (λ usual. IsAnswered text.now usual.0.now usual.1) }
@@ -153,13 +150,12 @@ fn answered(line: Line, answer: Answer) -> Pair
     }
 }
 
-/// What a line of a served trace says that has ended, without its LF: as [`read_pair`] reads it, but of any
-/// length, so that only [`LineFault::Unknown`] and [`LineFault::Field`] come.
+/// [`read_pair`] of a line of any length, without its LF.
 pub fn pair_said(text: &[u8]) -> Result<Pair, LineFault>
     ensures pair { result ≡ pair_of text.now }
     ensures fault { IfErr result IsSaid }
 {
-    // A line that can be read has no hyphen, so an arrow right behind it is the first one, and needs no search.
+    // A readable line has no hyphen, so an arrow right behind it is the first.
     if let Some((front, answer)) = usual_answer(text) {
         if let Ok(line) = line_said(front) {
             return Ok(answered(line, answer));
@@ -168,17 +164,11 @@ pub fn pair_said(text: &[u8]) -> Result<Pair, LineFault>
     searched_pair(text)
 }
 
-/// What a line of a served trace says. The bytes are those of one line with its LF: at most 768
-/// bytes stand before it.
+/// What a line of a served trace says, of at most 768 bytes and LF.
 ///
-/// What stands before the first ` -> ` is read as by [`read_line`](crate::read_line). Behind it
-/// stands the exact text of an answer; where the line only shows something, it is passed over.
-///
-/// The first refusal that fits is answered: [`LineFault::TooLong`] for more than 768 bytes, an LF
-/// at their end not counted; [`LineFault::NotEnded`] where the last byte isn't LF, or there is
-/// none; [`LineFault::Field`] where no ` -> ` stands in the line; [`LineFault::Unknown`] and then
-/// [`LineFault::Field`] for what stands before it; and [`LineFault::Field`] where what stands
-/// behind it is no answer.
+/// What stands before the first ` -> ` is read as by [`read_line`](crate::read_line), and behind it
+/// an answer's exact text. Where the line only shows something, that is passed over. With no arrow,
+/// or no answer, [`LineFault::Field`] is answered.
 pub fn read_pair(bytes: &[u8]) -> Result<Pair, LineFault>
     ensures { result ≡ ended_pair_of bytes.now }
 {

@@ -1,4 +1,4 @@
-//! A text comes in pieces: its lines are found, and the rest is kept for the next piece.
+//! Lines in the pieces that a text comes in.
 ghost use Rattle.std.specs.Prelude.{◌≡◌, ◌≢◌, ℕ, ◌+◌, ◌-◌, ◌<◌, ◌≤◌, length, take, drop, OnErr, IfOk, IfSome, IfNone, slice_index};
 ghost use Rattle.trace_text.specs.Streams.{HasNoEnd};
 ghost use Rattle.trace_text.specs.Collecting.{Filled, BegunFault};
@@ -10,7 +10,7 @@ use memchr::memchr_iter;
 use std::io;
 use thiserror::Error;
 
-/// A write or a flush was refused, or a read failed.
+/// A write or flush was refused, or a read failed.
 #[derive(Clone, Copy, Debug, Error)]
 #[error("a stream failed")]
 pub struct Failed;
@@ -23,7 +23,7 @@ impl From<io::Error> for Failed {
     }
 }
 
-// The place of the first LF. The iterator looks at the next 32 bytes first, which most lines end in.
+// The iterator looks at 32 bytes first, in which most lines end.
 pub(crate) fn end_of_line(bytes: &[u8]) -> Option<usize>
     ensures some { IfSome result (λ at. (at < length bytes.now) × (slice_index bytes.now at ≡ 10)
         × ((k : ℕ) → k < at → slice_index bytes.now k ≢ 10)) }
@@ -32,8 +32,6 @@ pub(crate) fn end_of_line(bytes: &[u8]) -> Option<usize>
     memchr_iter(b'\n', bytes).next()
 }
 
-// The fault of the line that the last `left` bytes begin, whatever comes behind them: it is one line
-// too many, or has more than `most` bytes.
 pub(crate) fn begun_fault(lines: u64, left: usize, most: usize, limit: u64) -> Option<TraceFault>
     requires { lines ≤ limit }
     ensures some { IfSome result (BegunFault lines left most limit) }
@@ -52,7 +50,6 @@ pub(crate) fn begun_fault(lines: u64, left: usize, most: usize, limit: u64) -> O
     None
 }
 
-// Moves what stands from `from` to `to` to the front.
 pub(crate) fn keep_end(bytes: &mut [u8], from: usize, to: usize)
     requires from { from ≤ to }
     requires to { to ≤ length bytes.old }
@@ -61,7 +58,6 @@ pub(crate) fn keep_end(bytes: &mut [u8], from: usize, to: usize)
     bytes.copy_within(from..to, 0);
 }
 
-// One read, behind the bytes that stand at the buffer's front.
 pub(crate) fn fill<R: Source>(
     reader: &mut R,
     buffer: &mut [u8],

@@ -15,13 +15,11 @@ use crate::streams::Source;
 use flat_model::Event;
 use std::alloc::Global;
 
-// The requests of the lines so far.
 #[derive(Drop)]
 pub(crate) struct Requests {
     pub(crate) events: Vec<Event>,
 }
 
-// The event of a line, where it is a request.
 fn request(line: Line) -> Option<Event>
     ensures { result ≡ request_in line }
 {
@@ -74,17 +72,11 @@ impl Collector for Requests {
     }
 }
 
-/// The loads, stores, prefetches and evictions of a trace, in order: at most 16,777,216 events.
-/// Each line is read as by [`read_line`](crate::read_line). The other lines are passed over.
+/// The loads, stores, prefetches and evictions of a trace, in order. Other lines are passed over.
 ///
-/// A fault gives no events, and the reader may have been read beyond it. The first one in the order
-/// of the lines is answered: [`TraceFault::Line`] with the number of the line, counted from 1, that
-/// can't be read, [`TraceFault::TooManyLines`] where line 16,777,217 begins, and
-/// [`TraceFault::Read`] where the reader answered an error, behind every line that ended or was too
-/// long before it. [`TraceFault::OutOfMemory`] may come in place of any answer, and
-/// [`TraceFault::Write`] never comes.
-///
-/// One buffer of 4,096 bytes is taken before the first read. The events that are kept take more.
+/// Lines are read as by [`read_line`](crate::read_line). A fault gives no events: the first in the
+/// order of lines, [`TraceFault::OutOfMemory`] at any time, never [`TraceFault::Write`]. The reader
+/// may be read beyond it.
 pub fn read_requests<R: Source>(alloc: Global, reader: &mut R) -> Result<Vec<Event>, TraceFault>
     ensures read { IfOk result
         (λ events. (texts : List (List ℕ))

@@ -1,4 +1,4 @@
-//! A trace is served: each line is applied, and its answer written, before the next.
+//! Serving: each line is applied and its answer written before the next.
 ghost use Rattle.std.specs.Prelude.{◌≡◌, [], ◌+◌, ◌<◌, ◌≤◌, ◌++◌, length, Ok, OnOk, OnErr, Some};
 ghost use Rattle.trace_text.specs.declared.fault.TheConstants.{BUFFER_LEN, MAX_LINE, MAX_LINES, MAX_PAIR};
 ghost use Rattle.trace_text.specs.declared.text.TheConstants.{MAX_REGISTER_TEXT};
@@ -21,27 +21,25 @@ use flat_model::Answer;
 use machine_core::AnyMachine;
 use std::alloc::Global;
 
-/// What was served: every line counts once, and the answer to an event once more, by its kind.
+/// What was served, by kind of answer.
 #[derive(Clone, Copy, Debug, Default, PartialEq, Eq)]
 pub struct Counts {
     /// All lines.
     pub lines: u64,
-    /// Events that were accepted.
+    /// Accepted events.
     pub accepted: u64,
     /// Events that moved something on.
     pub moved: u64,
-    /// Replies that were taken.
+    /// Replies taken.
     pub values: u64,
-    /// Events that found nothing to do.
+    /// Events with nothing to do.
     pub nothing: u64,
-    /// Events that were refused.
+    /// Refused events.
     pub refused: u64,
 }
 
-/// Writes all bytes, in as many writes as it takes. [`Failed`] says that a write was refused, or took
-/// no byte: a front of the bytes may be written.
-// It is inlined, as is all that is called for each line: left to itself a compiler would keep one copy of each such function for
-// all its callers, and call it.
+/// Writes all bytes. After [`Failed`] a front of them may be written.
+// Inlined, as is all that runs for each line: else one shared copy is called.
 #[inline(always)]
 pub fn write_whole<W: Sink>(writer: &mut W, bytes: &[u8]) -> Result<(), Failed>
     ensures ok { OnOk result (Moves W.took writer.old bytes.now writer.new) }
@@ -59,7 +57,6 @@ pub fn write_whole<W: Sink>(writer: &mut W, bytes: &[u8]) -> Result<(), Failed>
 }
 
 impl Counts {
-    // Counts a line, and its answer where it has one.
     #[inline(always)]
     fn count(&mut self, answer: Option<Answer>)
         requires within { IsWithin self.old }
@@ -81,7 +78,6 @@ impl Counts {
 }
 
 impl LineText {
-    // Applies a line and adds its answer's text at the end.
     #[inline(always)]
     #[tactic(auto, unfolding(crate::specs::Texts::reply_text, crate::specs::Texts::after_line))]
     fn push_reply<M: AnyMachine>(&mut self, machine: &mut M, line: Line) -> Option<Answer>
@@ -108,7 +104,6 @@ impl LineText {
     }
 }
 
-// A machine and a writer that serve the lines of a trace.
 #[derive(Drop)]
 pub(crate) struct Serving<'a, W, M> {
     pub(crate) writer: &'a mut W,
@@ -118,7 +113,6 @@ pub(crate) struct Serving<'a, W, M> {
 }
 
 impl<'a, W: Sink, M: AnyMachine> Serving<'a, W, M> {
-    // Applies a line, and then writes it with its answer.
     #[inline(always)]
     fn serve(&mut self, text: &[u8], line: Line) -> Result<(), Failed>
         requires short { length text.now ≤ MAX_LINE }
@@ -173,7 +167,6 @@ impl<'a, W: Sink, M: AnyMachine> Collector for Serving<'a, W, M> {
     }
 }
 
-// Serves a trace to its end, through a buffer.
 fn serve_through<R: Source, W: Sink, M: AnyMachine>(
     reader: &mut R,
     serving: &mut Serving<W, M>,
@@ -193,23 +186,15 @@ fn serve_through<R: Source, W: Sink, M: AnyMachine>(
     }
 }
 
-/// Serves a trace: each line is applied to the machine, and its text written, before the next line
-/// is applied. The text is the line, ` -> `, what the machine answers or shows, and LF. At the end
-/// of the input the counts of the lines and of their answers are returned.
+/// Serves a trace: each line is applied, and written with ` -> ` and what the machine answers or
+/// shows, before the next. Returns the counts.
 ///
-/// `Line` names the first line with a fault; the lines before it were applied and written. `Read`
-/// leaves the lines that ended before the error applied and written, and `TooManyLines`, where line
-/// 16,777,217 begins, all lines before that one. `Write` says that a write or a flush was refused,
-/// or that a write took no byte: the lines before were applied and written, and where it was a
-/// line's text that was refused, that line has been applied and a front of its text may be written.
-/// `OutOfMemory` comes before anything is read, applied or written. An error isn't tried again.
+/// On a fault the lines before it were applied and written. After `Write` the last was applied, and
+/// a front of its text may be written. `OutOfMemory` comes before any line. No error is tried
+/// again. The reader may be read beyond the fault.
 ///
-/// Nothing is read behind a fault, but the reader may have been read beyond the faulty line, by the
-/// rest of the piece that it came in. A line is too long once 65 bytes of it came without an LF.
-///
-/// One buffer of 4,096 bytes is all the memory that is taken, before the first read. The writer is
-/// flushed before each read and at the end, so all that was written is out before a fault is
-/// answered; a flush that is refused is answered as `Write` in its place.
+/// Memory: a buffer of 4,096 bytes. The writer is flushed before each read and at the end; a
+/// refused flush is `Write`.
 pub fn serve_text<R: Source, W: Sink, M: AnyMachine>(
     alloc: Global,
     reader: &mut R,

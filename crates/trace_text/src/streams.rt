@@ -7,16 +7,15 @@ ghost use Rattle.std.specs.Io.KnownBytes.{Keeps, Appends, Consumes, IsAtEnd};
 use std::io;
 use std::io::{Read, Write};
 
-/// A reader whose answers a clause can follow: each reader of std is one.
+/// A reader, as each of std.
 pub trait Source {
-    // From one state of the reader, a read gave these bytes (none: the end) and left the other state.
+    // A read gave these bytes; none at the end.
     ghost gave: { Self → List ℕ → Self → Type 0 };
 
     // A read answered an error.
     ghost failed: { Self → Self → Type 0 };
 
-    /// One read, into the front of a buffer that has room: how many bytes came, and none at the
-    /// end. On an error no byte came.
+    /// Reads into the front of `buf`: 0 bytes at the end, and on an error.
     fn read_some(&mut self, buf: &mut [u8]) -> io::Result<usize>
         requires { 0 < length buf.old }
         ensures bound { ReadsAtMost result buf.new }
@@ -34,9 +33,9 @@ impl<R: Read> Source for R {
     }
 }
 
-/// A writer whose answers a clause can follow: each writer of std is one.
+/// A writer, as each of std.
 pub trait Sink {
-    // A write took these bytes, at least one; or a flush went through, with no bytes.
+    // A write took these bytes, or a flush none.
     ghost took: { Self → List ℕ → Self → Type 0 };
 
     // A write answered an error, or took no byte.
@@ -45,8 +44,7 @@ pub trait Sink {
     // A flush answered an error.
     ghost unflushed: { Self → Self → Type 0 };
 
-    /// One write, of some bytes: how many of the first of them it took. It refused where it took
-    /// none, or answered an error.
+    /// Writes a front of `buf`, and says how many bytes. An error, or 0, is a refusal.
     fn write_some(&mut self, buf: &[u8]) -> io::Result<usize>
         requires { 0 < length buf.now }
         ensures bound { WritesAtMost result buf.now }
@@ -54,7 +52,7 @@ pub trait Sink {
         ensures none { result ≡ Ok 0 → refused self.old self.new }
         ensures err { OnErr result (refused self.old self.new) };
 
-    /// One flush: all that it took is out, where it answers no error.
+    /// Brings out all that it took.
     fn flush_all(&mut self) -> io::Result<()>
         ensures ok { OnOk result (took self.old [] self.new) }
         ensures err { OnErr result (unflushed self.old self.new) };

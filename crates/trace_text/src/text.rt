@@ -1,4 +1,4 @@
-//! The texts of answers and registers.
+//! Texts of answers and registers.
 ghost use Rattle.std.specs.Prelude.{◌≡◌, ℕ, ◌+◌, ◌≤◌, ◌<◌, ◌++◌, ◌∷◌, [], List, Option, length, take};
 ghost use Rattle.trace_text.specs.declared.fault.TheConstants.{MAX_PAIR};
 ghost use Rattle.trace_text.specs.declared.text.TheConstants.{MAX_HEAD_TEXT, MAX_FIELD_TEXT, MAX_FIELDS_TEXT, MAX_REGISTER_TEXT};
@@ -12,23 +12,21 @@ use flat_model::{Answer, MAX_BLOCK_WORDS, Word};
 use machine_core::{AnyMachine, FieldView, RegisterView};
 use std::marker::Model;
 
-/// How many bytes the part of a register before its words has at most.
+/// In bytes, up to a register's words.
 const MAX_HEAD_TEXT: usize = 35;
 
-/// How many bytes the part of a register for one word has at most.
+/// In bytes, for one word.
 const MAX_FIELD_TEXT: usize = 40;
 
-/// How many bytes the parts of a register for all its words have at most.
 const MAX_FIELDS_TEXT: usize = MAX_BLOCK_WORDS * MAX_FIELD_TEXT;
 
-/// How many bytes the text of a register has at most.
 pub(crate) const MAX_REGISTER_TEXT: usize = MAX_HEAD_TEXT + MAX_FIELDS_TEXT;
 
 /// A text of at most 768 bytes.
 #[derive(Drop)]
 pub struct LineText {
-    // The text is the first `len` of them. Those behind are what earlier texts left: a text is cleared for
-    // each line of a trace, and blanking it each time would cost more than what is written of it.
+    // Bytes behind `len` are of earlier texts: blanking them for each line would cost more than
+    // writing.
     bytes: [u8; MAX_PAIR],
     len: usize,
 }
@@ -42,7 +40,7 @@ impl Model for LineText {
 }
 
 impl LineText {
-    /// The bytes of the text.
+    /// Its bytes.
     #[inline(always)]
     pub fn as_bytes(&self) -> &[u8]
         ensures bytes { result.now ≡ self.now }
@@ -61,14 +59,14 @@ impl LineText {
         }
     }
 
-    /// Makes it empty.
+    /// Empties it.
     pub fn clear(&mut self)
         ensures { self.new ≡ [] }
     {
         self.len = 0;
     }
 
-    /// One byte more, at the end. There is room for it: the text has at most 768 bytes in all.
+    /// Adds a byte.
     #[inline(always)]
     pub fn push(&mut self, byte: u8)
         requires { length self.old < MAX_PAIR }
@@ -79,7 +77,7 @@ impl LineText {
         self.len += 1;
     }
 
-    /// These bytes, at the end. There is room for them: the text has at most 768 bytes in all.
+    /// Adds bytes.
     #[inline(always)]
     pub fn push_bytes(&mut self, bytes: &[u8])
         requires { length self.old + length bytes.now ≤ MAX_PAIR }
@@ -91,7 +89,6 @@ impl LineText {
         self.len = end;
     }
 
-    // An answer's text, at the end.
     #[inline(always)]
     #[tactic(auto, unfolding(crate::specs::Texts::answer_text))]
     pub(crate) fn push_answer(&mut self, answer: Answer)
@@ -204,7 +201,6 @@ impl LineText {
         }
     }
 
-    // A register's text, at the end.
     #[tactic(auto, unfolding(crate::specs::Texts::register_text))]
     pub(crate) fn push_register<M: AnyMachine>(&mut self, machine: &M, slot: u32)
         requires { length self.old + MAX_REGISTER_TEXT ≤ MAX_PAIR }
@@ -220,7 +216,6 @@ impl LineText {
         }
     }
 
-    // A word's digits, or `none`, at the end.
     #[tactic(auto, unfolding(crate::specs::Texts::bank_text))]
     pub(crate) fn push_bank(&mut self, word: Option<Word>)
         requires { length self.old + 8 ≤ MAX_PAIR }
@@ -233,7 +228,6 @@ impl LineText {
         }
     }
 
-    // `yes` or `no`, at the end.
     #[tactic(auto, unfolding(crate::specs::Texts::settled_text))]
     pub(crate) fn push_settled(&mut self, is_settled: bool)
         requires { length self.old + 3 ≤ MAX_PAIR }
@@ -250,8 +244,7 @@ fn mark(stands: bool, letter: u8) -> u8
     if stands { letter } else { b'-' }
 }
 
-/// The text of an answer: `accepted`, `moved`, `nothing`, `refused` and the cause's number, or
-/// `value`, the tag and the word's eight digits.
+/// `accepted`, `moved`, `nothing`, `refused CAUSE` or `value TAG WORD`.
 pub fn answer_text(answer: Answer) -> LineText
     ensures { result ≡ text_of_answer answer }
 {
@@ -260,13 +253,12 @@ pub fn answer_text(answer: Answer) -> LineText
     text
 }
 
-/// The text of a register: its marks, block, frame and count of processed words, and a part in
-/// brackets for each word of its block; `none` where there is no such register.
+/// A register's text: its marks, block, frame, count of processed words, and a part in brackets for
+/// each word. `none` for no such register.
 ///
-/// The marks are `V` where the register is valid and `O` where it is obsolete, and `-` else. A
-/// word's part has how many loads wait for the word, or `-` for none, `I` where it stands in the
-/// input stack and `P` where it was processed, or `-`, then its code, and the tag, the held lanes
-/// and the held word of the first load that waits. What doesn't apply shows zeros.
+/// Marks are `V` for valid and `O` for obsolete. A part has how many loads wait, `I` if in the
+/// input stack, `P` if processed, the code, and the first load's tag, held lanes and word. What
+/// doesn't apply is `-` or zeros.
 pub fn register_text<M: AnyMachine>(machine: &M, slot: u32) -> LineText
     ensures { result ≡ text_of_register (M.state machine.now) slot }
 {

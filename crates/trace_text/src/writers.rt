@@ -1,4 +1,4 @@
-//! Lines and recorded pairs, as they are read.
+//! Lines and recorded pairs, written as they are read.
 ghost use Rattle.std.specs.Prelude.{◌≡◌, ◌++◌, ◌∷◌, [], IfOk, Ok, Some};
 ghost use Rattle.std.specs.String.{string_bytes};
 ghost use Rattle.trace_text.specs.declared.pairs.Pair.{Pair as PairValue};
@@ -13,7 +13,7 @@ use flat_model::{Answer, Event};
 use std::alloc::{AllocError, Global};
 use std::fmt;
 
-/// The line of a trace that says it, without its LF: `load 1 5`.
+/// Without LF, as `load 1 5`.
 impl fmt::Display for Line {
     ghost output = { λ line. Some (line_text line) };
 
@@ -27,8 +27,8 @@ impl fmt::Display for Line {
     }
 }
 
-/// The line of a served trace that says it, without its LF: `load 1 5 -> accepted`. Nothing stands
-/// behind the arrow of a line that only shows something, since its answer is passed over.
+/// Without LF, as `load 1 5 -> accepted`. Nothing stands behind the arrow of a line that only shows
+/// something.
 impl fmt::Display for Pair {
     ghost output = { λ pair. Some (pair_text pair) };
 
@@ -41,17 +41,15 @@ impl fmt::Display for Pair {
     }
 }
 
-/// A line with its LF, as [`read_line`](crate::read_line) takes it. `AllocError` says that there
-/// was too little memory.
+/// A line with LF, for [`read_line`].
 pub fn written_line(alloc: Global, line: Line) -> Result<String, AllocError>
     ensures { IfOk result (λ text. string_bytes text ≡ line_text line ++ line_feed ∷ []) }
 {
     format!(in alloc; "{line}\n")
 }
 
-/// An event and the answer that it got, with the LF, as [`read_pair`](crate::read_pair) takes it:
-/// a run written so is what [`check_text`](crate::check_text) judges. `AllocError` says that there
-/// was too little memory.
+/// A recorded event with LF, for [`read_pair`](crate::read_pair) and
+/// [`check_text`](crate::check_text).
 pub fn written_pair(alloc: Global, event: Event, answer: Answer) -> Result<String, AllocError>
     ensures { IfOk result
         (λ text. string_bytes text ≡ pair_text (recorded event answer) ++ line_feed ∷ []) }
@@ -63,8 +61,7 @@ pub fn written_pair(alloc: Global, event: Event, answer: Answer) -> Result<Strin
     format!(in alloc; "{pair}\n")
 }
 
-/// A recorded pair is read back from its text, where its numbers are those of their types and a
-/// mask names no lane but the four. This function does nothing: its contract is the law.
+/// A recorded pair is read back from its text. This law's function does nothing.
 pub fn recorded_pairs()
     ensures { (pair : PairValue) → IsFitPair pair → pair_of (pair_text pair) ≡ Ok pair }
 {}

@@ -1,5 +1,4 @@
-//! What a unit owes, known before a word has come: each call's contract says which step it has made of a sound unit,
-//! and the law says what that step makes of the unit's forms.
+//! What a unit owes, known before a word has come.
 ghost use Rattle.cache_law.specs.declared.Request.TheVariants as requests;
 ghost use Rattle.cache_law.specs.FormLaws.{RequestForms, TakenForms};
 
@@ -10,8 +9,8 @@ use memory_banks::Lines;
 
 type Unit = CacheUnit<2, 4, 4, 4>;
 
-/// Loads a word. An accepted load's tag is owed the form of its word, whatever comes from the banks later; and a
-/// refusal changes no form.
+/// Loads a word. An accepted load's tag is owed the form of its word, whatever the banks bring; a refusal
+/// changes no form.
 pub fn load_form<L: Lines>(unit: &mut Unit, lines: &mut L, tag: u16, at: u32) -> Answer
     ensures { RequestForms unit.old.sizes unit.old.cache (requests.Load tag at) result unit.new.cache }
 {
@@ -19,7 +18,7 @@ pub fn load_form<L: Lines>(unit: &mut Unit, lines: &mut L, tag: u16, at: u32) ->
     unit.request(Request::Load { tag, at }, lines)
 }
 
-/// Takes the ready value at a place. It has the bytes that its tag was owed, and the tag is owed nothing more.
+/// Takes the ready value at a place, which is what its tag was owed. The tag is owed nothing more.
 pub fn take_form(unit: &mut Unit, place: u32) -> Answer
     ensures { TakenForms unit.old.sizes unit.old.cache result unit.new.cache }
 {

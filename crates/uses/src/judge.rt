@@ -8,10 +8,10 @@ use flat_model::{FlatMemory, StepFault};
 use std::alloc::AllocError;
 use trace_text::{Line, LineFault, Pair, read_pair};
 
-/// What flat memory says of a line of a recorded run.
+/// What flat memory says of a line.
 #[derive(Clone, Copy, PartialEq, Eq, Debug)]
 pub enum Verdict {
-    /// It gives this answer to the event.
+    /// It gives this answer.
     Explained,
     /// It never answers so.
     Wrong,
@@ -21,9 +21,8 @@ pub enum Verdict {
     Faulty(LineFault),
 }
 
-/// Judges one line of a run, as `load 1 5 -> accepted` and its line feed. An explained step changes
-/// memory as flat memory does; no other line does. `AllocError`: too little memory, and nothing
-/// changes.
+/// Judges one line of a run, as `load 1 5 -> accepted` and its line feed. Only an explained step changes
+/// memory. `AllocError`: too little memory, and nothing changes.
 pub fn judge_line(memory: &mut FlatMemory, line: &[u8]) -> Result<Verdict, AllocError>
     ensures verdict { IfOk result
         (λ verdict. verdict ≡ verdict_of (ended_pair_of line.now) (shown memory.old)) }

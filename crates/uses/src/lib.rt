@@ -1,7 +1,6 @@
-//! How the libraries are used: small callers, each proved from contracts alone. [`first_load`]
-//! drives a machine until a load has its word; [`count_lookups`] chooses its own order of memory;
-//! [`judge_line`] judges a recorded run as it comes; [`load_form`] and [`take_form`] tell what a
-//! unit owes for a load before its word has come.
+//! Small callers of the libraries, each proved from contracts alone. [`first_load`] drives a machine;
+//! [`count_lookups`] chooses its own order of memory; [`judge_line`] judges a recorded run as it comes;
+//! [`load_form`] and [`take_form`] tell what a unit owes.
 #![tactic(auto)]
 
 mod forms;

@@ -14,8 +14,7 @@ const SHAPE: Shape = Shape {
     replies: 8,
 };
 
-/// What a load of the word at `at` gets from a new machine of 64 words: the image's word, whatever
-/// way it takes. `None`: no such word.
+/// What a load of the word at `at` gets from a new machine of 64 words: the image's word. `None`: no such word.
 pub fn first_load(alloc: Global, image: &[Word], at: u32) -> Result<Option<Word>, MakeFault>
     ensures { IfOk result (λ got. IfSome got (λ word. word ≡ word_at image.now at)) }
 {

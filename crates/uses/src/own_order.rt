@@ -4,17 +4,16 @@ ghost use Rattle.uses.specs.Lookups.{total, counted};
 
 use machine_core::{Event, Lookup, Machine};
 
-// How many tags there are.
 const TAGS: usize = u16::MAX as usize + 1;
 
 /// What the requests found.
 #[derive(Clone, Copy, PartialEq, Eq, Debug, Default)]
 pub struct Lookups {
-    /// The word was at hand.
+    /// At hand.
     pub hits: u64,
-    /// The word was on its way already.
+    /// On its way already.
     pub joins: u64,
-    /// Neither in the cache nor on its way.
+    /// Neither.
     pub misses: u64,
 }
 
@@ -32,8 +31,7 @@ impl Lookups {
     }
 }
 
-/// Loads these words, and lets one bank move after each: the last bank first, and its newest
-/// answer. Each address counts by what its request found.
+/// Loads these words, and lets one bank move after each: the last bank first, and its newest answer.
 pub fn count_lookups(machine: &mut Machine<2, 4, 4, 4>, addresses: &[u32]) -> Lookups
     requires { length addresses.now < 2 ^ 32 }
     ensures total { total result

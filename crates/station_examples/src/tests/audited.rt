@@ -1,4 +1,4 @@
-//! What a caller knows of a run and the audit behind it, by their contracts alone.
+//! What a caller knows of a run and its audit, by their contracts alone.
 ghost use Rattle.std.specs.Prelude.{◌≡◌, length, IfOk};
 ghost use Rattle.station_parts.specs.declared.parts.Audit.TheVariants.{Clean};
 ghost use Rattle.station_parts.specs.Promises.{IsFlatRun, PaysLoads};
@@ -13,7 +13,6 @@ use std::rt::Clock;
 use std::test::Fail;
 use std::thread::Threads;
 
-// A station after a run, what its ports took, and what an audit then found.
 #[derive(Drop)]
 struct Audited {
     station: SmallStation,
@@ -21,8 +20,6 @@ struct Audited {
     found: Audit,
 }
 
-// Runs a new station and audits it. Its journal is a run of flat memory, each list is what the
-// journal tells its port, and after a clean audit each accepted load has its value there.
 fn run_and_audit<R: Clock + Threads + Sync, G: Gate>(
     rt: &R,
     alloc: Global,
@@ -47,10 +44,9 @@ fn run_and_audit<R: Clock + Threads + Sync, G: Gate>(
     })
 }
 
-// For each port an ask, a reply and its end, and four words that come and are processed.
+// For each port an ask, a reply and its end; and four words, which come and are processed.
 const ENTRIES: u32 = 14;
 
-// Whether each of two ports has loaded a zero, and nothing is left or owed.
 fn have_loaded(run: &Audited) -> bool {
     let told = [Told::Accepted, VALUE];
     run.found == Audit::Clean

@@ -1,5 +1,4 @@
-//! Stations that are stepped by hand. A story is a row: what is done with the parts, one move after
-//! another, and what comes of each.
+//! Stations stepped by hand. A story is a row: moves, and what comes of each.
 ghost use Rattle.std.specs.Prelude.{◌≡◌, vec_len, map};
 ghost use Rattle.station_parts.specs.Ids.{port_id, bank_id, cache_id};
 ghost use Rattle.station_parts.specs.Station.{AreOneStation};
@@ -15,65 +14,59 @@ use std::alloc::Global;
 use std::process::Abort;
 use std::test::Fail;
 
-/// What is done with one part of a station, and what has to come of it.
+/// A move, and what has to come of it.
 #[derive(Clone, Copy)]
 enum Move {
-    /// The port offers an ask, and it goes.
+    /// It goes.
     Offer(Ask),
-    /// The port offers an ask, and it comes back.
+    /// It comes back.
     Back(Ask),
-    /// The port takes what it is told.
     Take(Option<Told>),
-    /// The cache side makes a step.
     Did(Source),
-    /// The cache side makes no step, for this reason.
+    /// No step is made, for this reason.
     DidNot(Source, Stepped),
-    /// The bank with this number serves a command.
+    /// By its number.
     Serve(usize),
-    /// So many entries stand in the journal.
+    /// Of the journal.
     Entries(u32),
-    /// The raw bank does something.
     Raw(RawMove),
 }
 
-/// What is done with a bank that is served by hand.
+/// What is done with a bank served by hand.
 #[derive(Clone, Copy)]
 enum RawMove {
-    /// A command is popped, if there is one.
+    /// If there is one.
     Pop(Option<Command>),
-    /// An answer is pushed.
     Push(BankAnswer),
-    /// An answer is pushed, and comes back.
+    /// It comes back.
     Back(BankAnswer),
 }
 
-/// Moves that are made so many times, and what comes behind them of an audit and of a renewal, if there
-/// is one.
+/// Moves, made `times` times, and what an audit and a renewal find behind them.
 #[derive(Clone, Copy)]
 struct Stage {
     times: u32,
     moves: &'static [Move],
     audit: Option<Audit>,
-    /// How many entries the renewal hands out, or why it doesn't.
+    /// Entries handed out, or why none.
     renewal: Option<Result<usize, RenewFault>>,
 }
 
-/// A station with one port, and what is done with it.
+/// What is done with a station of one port.
 #[derive(Clone, Copy)]
 struct Story {
     name: &'static str,
-    /// Entries that the journal takes.
+    /// Entries that it takes.
     journal: u32,
-    /// The number of the bank that is served by hand, if one is. Then there are no audits.
+    /// The bank served by hand. Then there are no audits.
     raw: Option<usize>,
     stages: &'static [Stage],
-    /// Why the cache side is faulted in the end.
+    /// In the end.
     fault: Option<SideFault>,
-    /// Whether the cache side has to be settled in the end. It may be if this is `false`.
+    /// Whether it has to be, in the end. It may be if this is `false`.
     settled: bool,
 }
 
-// Each stage is once, without an audit and without a renewal, if it doesn't say otherwise.
 const ONCE: Stage = Stage {
     times: 1,
     moves: &[],
@@ -83,7 +76,6 @@ const ONCE: Stage = Stage {
 
 const ACCEPTED: Move = Move::Take(Some(Told::Accepted));
 
-// Four words come from the banks, each of which is processed.
 const WORDS_COME: [Move; 8] = [
     Move::Did(Source::Word(0)),
     Move::Did(Source::Stack(0)),
@@ -95,7 +87,6 @@ const WORDS_COME: [Move; 8] = [
     Move::Did(Source::Stack(0)),
 ];
 
-// The first commands of the banks are served, two each.
 const BANKS_SERVE: [Move; 4] = [
     Move::Serve(0),
     Move::Serve(0),
@@ -103,7 +94,6 @@ const BANKS_SERVE: [Move; 4] = [
     Move::Serve(1),
 ];
 
-// A load goes through the station, with an audit after each step.
 const LOAD: [Stage; 6] = [
     Stage {
         moves: &[Move::Offer(LOAD_5)],
@@ -145,9 +135,8 @@ const LOAD: [Stage; 6] = [
     },
 ];
 
-// A word is loaded three times, and each time the journal is handed out. The first journal has just room
-// for a miss. While something is left or owed it stays; a renewed one is empty, the word's block is still
-// there, and a port that has ended may offer again.
+// The first journal has just room for a miss. While something is left or owed it stays. A renewed one is empty,
+// the block is still there, and a port that has ended may offer again.
 const RENEWED_TWICE: [Stage; 6] = [
     Stage {
         moves: &[Move::Offer(LOAD_5), Move::Did(Source::Ask(0)), ACCEPTED],
@@ -210,7 +199,6 @@ const RENEWED_TWICE: [Stage; 6] = [
     },
 ];
 
-// The block of the word at `at` is asked for, and comes.
 macro_rules! block_comes {
     ($at:literal) => {
         Stage {
@@ -236,8 +224,7 @@ macro_rules! block_comes {
     };
 }
 
-// A bank's ring takes four commands, and a miss sends it two: the third miss goes where the cache
-// side has looked at what the banks have served, with no audit in between.
+// A ring takes four commands, and a miss sends two: the third miss goes when the cache side looks again.
 const THREE_BLOCKS: [Stage; 3] = [block_comes!(0), block_comes!(4), block_comes!(8)];
 
 const FULL_JOURNAL: [Stage; 1] = [Stage {
@@ -252,10 +239,10 @@ const FULL_JOURNAL: [Stage; 1] = [Stage {
     ..ONCE
 }];
 
-// An ask that is refused, as its word is out of memory.
+// Its word lies outside of memory.
 const OUTSIDE: Ask = Ask::Prefetch { at: 32 };
 
-// A ring of asks has 16 places. One that is served makes room.
+// 16 places; one that is served makes room.
 const FULL_ASKS: [Stage; 2] = [
     Stage {
         times: 16,
@@ -273,7 +260,7 @@ const FULL_ASKS: [Stage; 2] = [
     },
 ];
 
-// A ring of verdicts back to the port has 64.
+// 64 places.
 const FULL_VERDICTS: [Stage; 2] = [
     Stage {
         times: 64,
@@ -294,8 +281,7 @@ const FULL_VERDICTS: [Stage; 2] = [
     },
 ];
 
-// A word is stored, comes behind the others of its block, and is queued to go back. Then the bank's ring
-// of commands is full of reads, and it goes where the cache side looks again.
+// A stored word is queued to go back. The ring is full of reads: it goes when the cache side looks again.
 const FULL_COMMANDS: [Stage; 4] = [
     Stage {
         moves: &[
@@ -341,7 +327,7 @@ const FULL_COMMANDS: [Stage; 4] = [
     },
 ];
 
-// A value is ready, and the ring back to its port is full; it goes where the cache side looks again.
+// A ready value goes when the cache side looks again.
 const FULL_TELLINGS: [Stage; 5] = [
     Stage {
         moves: &[Move::Offer(LOAD_5), Move::Did(Source::Ask(0)), ACCEPTED],
@@ -370,14 +356,12 @@ const FULL_TELLINGS: [Stage; 5] = [
     },
 ];
 
-// An answer for word 0 of register 0.
 const UNCALLED: BankAnswer = BankAnswer {
     slot: 0,
     i: 0,
     word: ZEROS,
 };
 
-// Nobody has asked for the word.
 const UNCALLED_WORD: [Stage; 1] = [Stage {
     moves: &[
         Move::Raw(RawMove::Push(UNCALLED)),
@@ -388,7 +372,7 @@ const UNCALLED_WORD: [Stage; 1] = [Stage {
     ..ONCE
 }];
 
-// A ring of answers has four places here.
+// Four places.
 const TOO_MANY_ANSWERS: [Stage; 2] = [
     Stage {
         times: 4,
@@ -411,7 +395,7 @@ const WRONG: Word = Word {
     b3: 0xef,
 };
 
-// What bank 1 answers in the place of word 5.
+// In the place of word 5.
 const WRONG_WORD: BankAnswer = BankAnswer {
     slot: 0,
     i: 1,
@@ -430,8 +414,7 @@ const SECOND_READ: Command = Command::Read {
     place: 3,
 };
 
-// A load of word 5 is answered with another word, which goes to it. A second one, for which nobody
-// waits, makes the side faulted for good.
+// The wrong word goes to the load. A second one, which nobody waits for, faults the side for good.
 const WRONG_ANSWER: [Stage; 3] = [
     Stage {
         moves: &[
@@ -470,7 +453,6 @@ const WRONG_ANSWER: [Stage; 3] = [
     },
 ];
 
-// Each story begins with these.
 const STORY: Story = Story {
     name: "",
     journal: 100,
@@ -555,7 +537,7 @@ static STORIES: [Story; 11] = [
     },
 ];
 
-// Makes a move of the raw bank. Says whether that comes of it which has to.
+// Whether it comes out as it has to.
 fn move_raw(raw: &mut Option<RawBank>, it: RawMove) -> bool {
     let Some(bank) = raw else {
         return false;
@@ -567,7 +549,6 @@ fn move_raw(raw: &mut Option<RawBank>, it: RawMove) -> bool {
     }
 }
 
-// A bank serves the first command that it knows. Says whether there was one.
 fn serve(banks: &mut [BankSide], bank: usize) -> bool
     ensures { map bank_id banks.new ≡ map bank_id banks.old }
 {
@@ -577,7 +558,7 @@ fn serve(banks: &mut [BankSide], bank: usize) -> bool
     banks[bank].step() == Stepped::Did
 }
 
-// Makes a move. Says whether that comes of it which has to.
+// Whether it comes out as it has to.
 fn make_move(
     cache: &mut SmallCache,
     port: &mut Port,
@@ -601,7 +582,7 @@ fn make_move(
     }
 }
 
-// Makes moves up to the first of which something else comes. Says whether there was none.
+// Up to the first that comes out otherwise.
 fn make_moves(
     cache: &mut SmallCache,
     port: &mut Port,
@@ -621,7 +602,6 @@ fn make_moves(
     true
 }
 
-// Makes a stage's moves as often as it says.
 fn make_stage(
     cache: &mut SmallCache,
     port: &mut Port,
@@ -641,7 +621,6 @@ fn make_stage(
     true
 }
 
-// Whether an audit finds what it has to, if there is one.
 fn is_audited(
     cache: &mut SmallCache,
     ports: &mut [Port],
@@ -659,7 +638,6 @@ fn is_audited(
     }
 }
 
-// Whether that comes of a renewal which has to, if there is one.
 fn is_renewed(
     alloc: Global,
     cache: &mut SmallCache,
@@ -681,7 +659,6 @@ fn is_renewed(
     }
 }
 
-// Makes a stage's moves with a whole station, its audit and its renewal.
 fn make_audited(alloc: Global, station: &mut SmallStation, stage: &Stage) -> bool
     requires one { AreOneStation station.old.cache station.old.ports.items station.old.banks.items }
     requires ports { vec_len station.old.ports ≡ 1 }
@@ -698,7 +675,6 @@ fn make_audited(alloc: Global, station: &mut SmallStation, stage: &Stage) -> boo
         && is_renewed(alloc, cache, ports, banks, stage.renewal)
 }
 
-// Goes through a story with a whole station.
 fn walk(rt: &impl Abort, alloc: Global, station: &mut SmallStation, story: &Story)
     requires one { AreOneStation station.old.cache station.old.ports.items station.old.banks.items }
     requires ports { vec_len station.old.ports ≡ 1 }
@@ -708,7 +684,6 @@ fn walk(rt: &impl Abort, alloc: Global, station: &mut SmallStation, story: &Stor
     }
 }
 
-// Goes through a story in which a bank is served by hand.
 fn walk_raw(rt: &impl Abort, station: &mut SmallStation, bank: usize, story: &Story)
     requires { vec_len station.old.ports ≡ 1 }
 {
@@ -726,8 +701,7 @@ fn walk_raw(rt: &impl Abort, station: &mut SmallStation, bank: usize, story: &St
     }
 }
 
-// Goes through a story with a new station. The result is how its cache side stands in the end: its fault, and
-// whether it is settled.
+// The cache side's fault, and whether it is settled.
 fn end_of(
     rt: &impl Abort,
     alloc: Global,

@@ -1,9 +1,9 @@
-//! A chain of words that is followed on threads of a caller's own.
+//! A chain that is followed on a caller's own threads.
 use crate::chain::{Follower, Waits, follow_chain};
 use ring_station::{Audit, MAX_ENTRIES, Shape, Station, station};
 use std::test::Fail;
 
-// Eight blocks of four words in one bank, behind a cache of two frames.
+// Eight blocks of four words, behind two frames.
 const ONE_BANK: Shape = Shape {
     words: 32,
     sets: 2,
@@ -13,16 +13,15 @@ const ONE_BANK: Shape = Shape {
     replies: 4,
 };
 
-// Words of three blocks, two of which share a frame.
+// Three blocks, two of which share a frame.
 const LINKS: [(u32, u32); 3] = [(5, 9), (9, 17), (17, 2)];
 
-// The follower's thread never waits: while the other one isn't run it may take any number of turns. So there is no limit
-// here but that of a test that hangs.
+// The follower never waits: while the other thread isn't run it may take any number of turns.
 const TURNS: u64 = u64::MAX;
 
 #[test]
 fn chain_on_threads(rt: HostRuntime) -> Result<(), Fail> {
-    // A refused ask is offered again at once, and each offer takes a place of the journal.
+    // Each repeated offer takes a place of the journal.
     let mut all: Station<1, 4, 2, 2> = station(rt.alloc(), ONE_BANK, 1, MAX_ENTRIES)?;
     let mut follower = Follower::new(5, 3);
     let (Some(mut port), Some(mut bank)) = (all.ports.pop(), all.banks.pop()) else {

@@ -1,4 +1,4 @@
-//! What is found of a journal and of lists, and the texts.
+//! Findings and texts of runs.
 use super::{ZEROS, scripts_of};
 use flat_model::{Answer, Cause, Event, Lanes, Word};
 use ring_station::{Ask, Audit, Entry, RenewFault, Ring, RunFault, SegmentFault, Source, Told};
@@ -26,7 +26,7 @@ fn asked(port: u32, event: Event, answer: Answer) -> Entry {
     }
 }
 
-// The port 1 stores a word, and the port 0 loads one, and is told that it is this one.
+// Port 1 stores a word; port 0 loads it, and is told this one.
 fn journal(value: Word) -> [Entry; 4] {
     let store = Event::Store {
         at: 6,
@@ -60,15 +60,14 @@ fn lists(alloc: Global, value: Word) -> Result<Vec<Vec<Told>>, AllocError> {
     Ok(lists)
 }
 
-// What is found of a journal with this value of a load, over so many words of memory, where the load's
-// port was told the word that was stored.
+// The load's value, words of memory, and whether it is flat and told. The port was told the stored word.
 const FOUND: [(Word, u32, bool, bool); 3] = [
     (STORED, 8, true, true),
     (ZEROS, 8, false, false),
     (STORED, 6, false, true),
 ];
 
-// Findings of a run that came to its end, and of one that gave no lists.
+// With lists, and without.
 fn findings(
     alloc: Global,
     journal: &[Entry],
@@ -118,7 +117,7 @@ fn script() -> [Ask; 4] {
     ]
 }
 
-// What its port might have taken up to the third ask.
+// Up to the third ask.
 fn list() -> [Told; 5] {
     [
         Told::Accepted,
@@ -132,16 +131,12 @@ fn list() -> [Told; 5] {
     ]
 }
 
-// A text that tells of a run.
 #[derive(Clone, Copy)]
 enum Text {
-    /// Each ask with what came of it, the audit's answer, and whether the journal is flat.
     Story,
-    /// How the journal ends, how many asks were offered again, and asks per second.
     Run,
-    /// How far a run is.
     Progress,
-    /// The journal as a recorded run, of which a port's end is no line.
+    /// A port's end is no line.
     Journal,
 }
 
@@ -244,7 +239,6 @@ fn texts_of_a_run(rt: HostRuntime) -> Result<(), Fail> {
     Ok(())
 }
 
-// All kinds of what an audit finds, but for a clean one.
 const UNCLEAN: [Audit; 6] = [
     Audit::Faulted,
     Audit::Left {

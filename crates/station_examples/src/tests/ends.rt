@@ -1,5 +1,4 @@
-//! How the parts of a run end, and what is told of a run that comes to no end. A row has the gate's
-//! rule, the threads, and each part's end.
+//! How the parts of a run end. A row has the gate's rule, the threads, and each part's end.
 ghost use Rattle.std.specs.Prelude.{◌≡◌, length, vec_len};
 ghost use Rattle.station_parts.specs.Station.{AreOneStation};
 
@@ -15,31 +14,31 @@ use std::rt::Clock;
 use std::test::Fail;
 use std::thread::Threads;
 
-/// A run of a new station with two ports and two banks, and how they end.
+/// A run of a new station with two ports and two banks.
 #[derive(Clone, Copy)]
 struct Ending {
     name: &'static str,
     rule: Rule,
     crew: Crew,
-    /// Entries that the journal takes.
+    /// Entries that it takes.
     journal: u32,
-    /// Turns of each part.
+    /// Of each part.
     turns: u64,
     scripts: [&'static [Ask]; 2],
-    /// What each port took.
+    /// Taken by each port.
     lists: [&'static [Told]; 2],
     cache: Option<ThreadFault>,
     ports: [Option<ThreadFault>; 2],
     banks: [Option<ThreadFault>; 2],
-    /// What the audit finds, if it is the same in every run.
+    /// If it is the same in every run.
     audit: Option<Audit>,
-    /// How many turns bank 0 takes at least.
+    /// Of bank 0, at least.
     bank_turns: u64,
 }
 
 const LIMIT: Option<ThreadFault> = Some(ThreadFault::TurnLimit);
 
-// So many turns are enough for a thread that isn't held to do what it has to.
+// Enough for a thread that isn't held.
 const SOME_TURNS: u64 = 100_000;
 
 const EACH: Crew = Crew {
@@ -57,7 +56,7 @@ const BESIDE: Crew = Crew {
     bank_threads: 0,
 };
 
-// Each row begins with these: no part comes to its end.
+// No part comes to its end.
 const ENDING: Ending = Ending {
     name: "",
     rule: Rule::Open,
@@ -102,7 +101,7 @@ static ENDINGS: [Ending; 15] = [
         rule: Rule::Holds(Actor::Cache),
         turns: 1_000,
         scripts: [&[PREFETCH], &[]],
-        // A port without asks has ended when it has offered Done.
+        // Without asks a port ends when it has offered Done.
         ports: [LIMIT, None],
         audit: LEFT_ASKS,
         ..ENDING
@@ -135,7 +134,7 @@ static ENDINGS: [Ending; 15] = [
         }),
         ..ENDING
     },
-    // The prefetch takes the journal's one entry. Its port offers Done, which isn't heard.
+    // The prefetch takes the one entry; Done isn't heard.
     Ending {
         name: "a full journal",
         journal: 1,
@@ -147,7 +146,7 @@ static ENDINGS: [Ending; 15] = [
         audit: LEFT_ASKS,
         ..ENDING
     },
-    // The flag is set while the bank is in its first turn. It hasn't read it by then, so it has another.
+    // The flag is set in the bank's first turn, so it has another.
     Ending {
         name: "a bank that hears late of the cache side's end",
         rule: Rule::LateBank,
@@ -220,7 +219,7 @@ static ENDINGS: [Ending; 15] = [
         bank_turns: SOME_TURNS,
         ..ENDING
     },
-    // No thread for the ports counts as one.
+    // No thread counts as one.
     Ending {
         name: "ports that share a thread, without turns",
         crew: Crew {
@@ -245,7 +244,6 @@ static ENDINGS: [Ending; 15] = [
     },
 ];
 
-// Whether these threads ended so, those that had no turn left behind all of them.
 fn have_ended(ends: &[ThreadEnd], faults: [Option<ThreadFault>; 2], turns: u64) -> bool {
     ends.len() == faults.len()
         && ends
@@ -258,7 +256,7 @@ fn has_ended(end: &ThreadEnd, fault: Option<ThreadFault>, turns: u64) -> bool {
     end.fault == fault && (fault != LIMIT || end.turns == turns)
 }
 
-// How many turns each thread says that it began, in the order of the gate's.
+// In the gate's order.
 fn turns_of(run: &Run) -> Option<[u64; 5]> {
     Some([
         run.cache.turns,
@@ -269,7 +267,6 @@ fn turns_of(run: &Run) -> Option<[u64; 5]> {
     ])
 }
 
-/// Whether the ports took just these.
 pub(crate) fn are_lists(lists: &[Vec<Told>], wanted: &[&[Told]]) -> bool {
     lists.len() == wanted.len()
         && lists
@@ -278,7 +275,7 @@ pub(crate) fn are_lists(lists: &[Vec<Told>], wanted: &[&[Told]]) -> bool {
             .all(|(list, told)| list.as_slice() == *told)
 }
 
-// Whether a run ended as its row says, and each turn that a thread began asked the gate once.
+// Each turn asked the gate once, too.
 fn is_as_said(run: &Run, gate: &RuledGate, row: &Ending) -> bool {
     let Some(turns) = turns_of(run) else {
         return false;
@@ -303,7 +300,6 @@ fn make_run<R: Abort + Clock + Threads + Sync>(
     Ok(runs_as_said(rt, alloc, &mut all, &scripts, row)?)
 }
 
-// Makes the run of a row with a new station. Says whether it ends as the row says.
 fn runs_as_said<R: Clock + Threads + Sync>(
     rt: &R,
     alloc: Global,

@@ -1,4 +1,4 @@
-//! A gate that holds the threads of a run by a rule, and counts what it sees.
+//! A gate that holds threads by a rule, and counts turns.
 use ring_station::{Actor, Gate, Told};
 use std::hint;
 use std::sync::atomic::{AtomicBool, AtomicU64, Ordering};
@@ -10,40 +10,35 @@ pub(crate) enum Rule {
     Open,
     /// All, for ever.
     Closed,
-    /// This actor, for ever.
+    /// For ever.
     Holds(Actor),
-    /// Bank 1, which has port 0's word, until port 1 has been served from the other bank meanwhile.
+    /// Bank 1, which has port 0's word, until port 1 was served from the other.
     HeldBank,
-    /// Bank 1, until port 0 has been told of [`REFUSALS`] refusals; and then port 0 until the bank has
-    /// served the reads of its load, so that no more refusals than a few come behind those.
+    /// Bank 1, until port 0 had [`REFUSALS`] refusals; then port 0, until the bank has served its load.
     HeldUntilRefused,
-    /// Each actor at its first turn, until all five have come to theirs.
+    /// Each actor at its first turn, until all are there.
     Meeting,
-    /// The cache side, until bank 0 has begun its first turn; and bank 0 in that turn, until the cache
-    /// side asks for no further one.
+    /// The cache side, until bank 0's first turn; bank 0 in that turn, until the cache side has ended.
     LateBank,
-    /// Port 0, at the first thing that it is told, until each other part has begun [`MORE_TURNS`] turns
-    /// more. Port 1 makes no step before.
+    /// Port 0, at its first telling, until each other part began [`MORE_TURNS`] turns; port 1 until then.
     Dwelling,
 }
 
-// So many refusals are more than a script of two asks has memory reserved for.
+// More than two asks have memory reserved for.
 const REFUSALS: u64 = 20;
 
-// So many reads of a load go to a bank.
+// At a bank.
 const READS_OF_A_LOAD: u64 = 2;
 
-// So many turns of another part, begun while a port dwells, are more than those that were under
-// way.
+// More than those under way.
 const MORE_TURNS: u64 = 100;
 
-// So many reads are long enough for every thread to begin, and for those turns.
+// Enough for every thread to begin, and for those turns.
 const READS: u64 = 200_000_000;
 
-// So many reads without a turn of the cache side say that it has ended.
+// Without a turn of the cache side: it has ended.
 const QUIET_READS: u64 = 20_000_000;
 
-/// What a port was told, counted.
 #[derive(Drop)]
 struct Heard {
     accepted: AtomicU64,
@@ -70,20 +65,19 @@ impl Heard {
     }
 }
 
-/// A gate for two ports, the cache side and two banks.
+/// For two ports, the cache side and two banks.
 #[derive(Drop)]
 pub(crate) struct RuledGate {
     rule: Rule,
-    // How many turns each actor has begun.
+    // Turns begun.
     cache: AtomicU64,
     first_port: AtomicU64,
     second_port: AtomicU64,
     first_bank: AtomicU64,
     second_bank: AtomicU64,
-    // What each port was told.
     first: Heard,
     second: Heard,
-    // How often bank 1 was let go behind the refusals.
+    // Turns that bank 1 was allowed.
     let_go: AtomicU64,
     has_dwelt: AtomicBool,
     met: AtomicU64,
@@ -111,7 +105,7 @@ impl RuledGate {
         self.met.load(Ordering::SeqCst)
     }
 
-    /// How many turns were begun by the cache side, the two ports and the two banks.
+    /// The cache side's, the ports', the banks'.
     pub(crate) fn turns(&self) -> [u64; 5] {
         [
             self.cache.load(Ordering::SeqCst),
@@ -132,7 +126,7 @@ impl RuledGate {
         }
     }
 
-    // Begins to count the turns of all but port 0 anew.
+    // But port 0's.
     fn forget_turns(&self) {
         self.cache.store(0, Ordering::SeqCst);
         self.second_port.store(0, Ordering::SeqCst);
@@ -140,7 +134,6 @@ impl RuledGate {
         self.second_bank.store(0, Ordering::SeqCst);
     }
 
-    // Whether port 0 has begun a turn, and each other actor so many.
     fn have_begun(&self, turns: u64) -> bool {
         let [cache, first_port, second_port, first_bank, second_bank] = self.turns();
         first_port > 0 && cache.min(second_port).min(first_bank).min(second_bank) >= turns
@@ -162,7 +155,7 @@ impl RuledGate {
         self.has_dwelt.store(true, Ordering::SeqCst);
     }
 
-    // Port 1 asks behind port 0, whose next ask comes behind that one.
+    // Port 0's next ask comes behind port 1's.
     fn held_bank_lets(&self, actor: Actor) -> bool {
         let first_is_accepted = self.first.accepted.load(Ordering::SeqCst) > 0;
         match actor {
@@ -175,7 +168,6 @@ impl RuledGate {
         }
     }
 
-    // Waits until the cache side has begun no turn for a while.
     fn wait_for_quiet(&self) {
         let mut last = self.cache.load(Ordering::SeqCst);
         let mut quiet: u64 = 0;
@@ -194,7 +186,7 @@ impl RuledGate {
         }
     }
 
-    // The bank reads no flag in this turn of its own, whatever is set meanwhile.
+    // The bank reads no flag in this turn.
     fn late_bank_lets(&self, actor: Actor, turns: u64) -> bool {
         match actor {
             Actor::Cache => self.first_bank.load(Ordering::SeqCst) > 0,
@@ -217,7 +209,7 @@ impl RuledGate {
                 }
                 is_refused
             }
-            // A turn of the bank that begins says that those before it are over.
+            // The bank's turns before this one are over.
             Actor::Port(0) => {
                 !is_refused || self.let_go.load(Ordering::SeqCst) > READS_OF_A_LOAD
             }

@@ -18,7 +18,7 @@ const LARGEST: Shape = Shape {
 
 const LAST: u32 = 1_048_575;
 
-// The core knows tag 255 of port 15 as 15 * 256 + 255.
+// Tag 255 of port 15 is 15 * 256 + 255.
 const ASKED: Entry = Entry::Step {
     source: Source::Ask(15),
     event: Event::Load {
@@ -38,7 +38,6 @@ const TOLD: [Told; 2] = [
 
 type LargestStation = Station<8, 16, 16, 16>;
 
-// The last port asks for the last word under its last tag.
 fn ask_for_the_last(rt: &impl Abort, all: &mut LargestStation)
     requires ports { vec_len all.old.ports ≡ 16 }
     requires banks { vec_len all.old.banks ≡ 16 }

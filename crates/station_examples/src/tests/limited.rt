@@ -1,6 +1,5 @@
-//! Runs that come to their limit, behind which a station isn't renewed. A row has so few turns that its scripts
-//! can't come to their end, or a part that is held. A port makes a move in a turn at most: one for each ask, one for
-//! each thing that it is told, and one for Done. The cache side notes an entry at most.
+//! Runs that come to their limit, behind which a station isn't renewed. In a turn a port makes at most one
+//! move: an ask, a telling or Done. The cache side notes at most one entry.
 ghost use Rattle.station_parts.specs.Station.{AreOneStation};
 
 use super::ends::are_lists;
@@ -17,27 +16,27 @@ use std::sync::atomic::{AtomicU64, Ordering};
 use std::test::Fail;
 use std::thread::Threads;
 
-/// A run of a new station with two ports and two banks that comes to its limit, each script an ask at most.
+/// A run of a new station, each script an ask at most.
 #[derive(Clone, Copy)]
 struct Limited {
     name: &'static str,
     rule: Rule,
-    /// Turns of each part.
+    /// Of each part.
     turns: u64,
     scripts: [&'static [Ask]; 2],
-    /// How many entries the station holds behind it, at least and at most.
+    /// Held behind it, at least and at most.
     entries: [u32; 2],
-    /// Whether the audit is clean then, if it is the same in every run.
+    /// If it is the same in every run.
     is_clean: Option<bool>,
 }
 
 const AT_LIMIT: SegmentFault = SegmentFault::Run(RunFault::TurnLimit);
 
-// So many turns are enough for a thread that isn't held to do what it has to.
+// Enough for a thread that isn't held.
 const SOME_TURNS: u64 = 100_000;
 
 static LIMITED: [Limited; 4] = [
-    // Each port offers, and the cache side has a turn for one of them.
+    // The cache side has a turn for one port.
     Limited {
         name: "one turn",
         rule: Rule::Open,
@@ -46,7 +45,7 @@ static LIMITED: [Limited; 4] = [
         entries: [0, 1],
         is_clean: Some(false),
     },
-    // The load, its verdict, its value and Done are four moves. The value comes behind the ask and the words.
+    // The load, its verdict, its value and Done are four moves.
     Limited {
         name: "a turn too few for a port",
         rule: Rule::Open,
@@ -55,7 +54,8 @@ static LIMITED: [Limited; 4] = [
         entries: [0, 3],
         is_clean: Some(false),
     },
-    // For each port an ask, a reply and its end, and four words that come and are processed, are fourteen entries.
+    // Fourteen entries: for each port an ask, a reply and its end; and four words, which come and are
+    // processed.
     Limited {
         name: "a turn too few for the cache side",
         rule: Rule::Open,
@@ -64,7 +64,7 @@ static LIMITED: [Limited; 4] = [
         entries: [0, 13],
         is_clean: None,
     },
-    // Nothing is left or owed; and the end of the other port is handed out in no journal.
+    // Nothing is owed. The other port's end is handed out in no journal.
     Limited {
         name: "a held port",
         rule: Rule::Holds(Actor::Port(0)),
@@ -75,7 +75,6 @@ static LIMITED: [Limited; 4] = [
     },
 ];
 
-// Runs a row's scripts, and renews the station behind the run.
 fn run_once<R: Abort + Clock + Threads + Sync, G: Gate>(
     rt: &R,
     alloc: Global,
@@ -92,7 +91,6 @@ fn run_once<R: Abort + Clock + Threads + Sync, G: Gate>(
     Ok(run_and_renew(rt, alloc, all, &scripts, turns, Crew::one_each(), gate).err())
 }
 
-// Runs scripts of two ports ask by ask, with a renewal behind each.
 fn run_by_asks<R: Abort + Clock + Threads + Sync, G: Gate>(
     rt: &R,
     alloc: Global,
@@ -112,7 +110,6 @@ fn run_by_asks<R: Abort + Clock + Threads + Sync, G: Gate>(
     Ok(run.err())
 }
 
-// How a station stands behind a run.
 #[derive(Clone, Copy)]
 struct Left {
     fault: Option<SegmentFault>,
@@ -120,7 +117,6 @@ struct Left {
     is_clean: bool,
 }
 
-// How a station stands behind a run that came to this.
 fn left_in(all: &mut SmallStation, fault: Option<SegmentFault>) -> Left
     requires { AreOneStation all.old.cache all.old.ports.items all.old.banks.items }
 {
@@ -132,7 +128,6 @@ fn left_in(all: &mut SmallStation, fault: Option<SegmentFault>) -> Left
     }
 }
 
-// What a row's scripts leave of a new station that is to be renewed behind them.
 fn left_at_once<R: Abort + Clock + Threads + Sync>(
     rt: &R,
     alloc: Global,
@@ -145,7 +140,6 @@ fn left_at_once<R: Abort + Clock + Threads + Sync>(
     Ok(left_in(&mut all, fault))
 }
 
-// What scripts of two ports leave of a new station that is to be renewed behind each ask.
 fn left_by_asks<R: Abort + Clock + Threads + Sync, G: Gate>(
     rt: &R,
     alloc: Global,
@@ -159,14 +153,13 @@ fn left_by_asks<R: Abort + Clock + Threads + Sync, G: Gate>(
     Ok(left_in(&mut all, fault))
 }
 
-// Whether each part asked the gate in its turns alone. The cache side and the banks end behind all ports.
+// The cache side and the banks end behind all ports.
 fn kept_to_turns(gate: &RuledGate, turns: u64) -> bool {
     let [cache, first_port, second_port, first_bank, second_bank] = gate.turns();
     [cache, first_bank, second_bank] == [turns; 3] && first_port.max(second_port) <= turns
 }
 
-// Whether a run came to its limit in a row's turns, and the steps of these stand in the station, of which
-// nothing was handed out.
+// And nothing was handed out.
 fn is_left_so(left: &Left, gate: &RuledGate, row: &Limited) -> bool {
     let [least, most] = row.entries;
     left.fault == Some(AT_LIMIT)
@@ -228,7 +221,7 @@ impl Gate for ClosingGate {
     }
 }
 
-// The first load is told its verdict and its value, and the second one its verdict alone.
+// The second load is told its verdict alone.
 #[test]
 fn a_segment_before_the_limit_is_kept(rt: HostRuntime) -> Result<(), Fail> {
     let alloc = rt.alloc();

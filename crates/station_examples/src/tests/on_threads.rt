@@ -1,5 +1,4 @@
-//! Runs on threads. A row has the station, the scripts of its ports, the gate's rule, and what is to be
-//! found behind the run.
+//! Runs on threads. A row has scripts, the gate's rule, and what is found behind the run.
 ghost use Rattle.std.specs.Prelude.{◌≡◌, length, vec_len};
 ghost use Rattle.station_parts.specs.Ids.{cache_id};
 ghost use Rattle.station_parts.specs.Station.{AreOneStation};
@@ -16,39 +15,28 @@ use std::rt::Clock;
 use std::test::Fail;
 use std::thread::Threads;
 
-/// What a port is told in a run.
 #[derive(Clone, Copy)]
 enum Tellings {
-    /// These, in this order.
     InOrder(&'static [Told]),
-    /// These, in any order.
     InAnyOrder(&'static [Told]),
-    /// The first and the last of these at the ends, the others between them, and at least so many
-    /// refusals of a tag in use.
+    /// The first and the last of these at the ends, and at least so many refusals of a tag in use.
     WithRefusals {
         least: usize,
         others: &'static [Told],
     },
 }
 
-/// What is to be found behind a run.
 #[derive(Clone, Copy)]
 enum Fact {
-    /// What the audit finds.
     Audit(Audit),
-    /// The audit finds that something is left.
     Left,
-    /// So many entries stand in the journal.
     Entries(u32),
-    /// The journal's first entry.
     First(Entry),
-    /// The cache side is settled.
     Settled,
-    /// The word at a place of a bank.
     Word { bank: usize, place: u32, word: Word },
-    /// How many actors saw what they waited for in the gate.
+    /// Actors that saw what they waited for.
     Met(u64),
-    /// How often the cache side, the two ports and the two banks asked the gate.
+    /// Of the cache side, the ports and the banks.
     Turns([u64; 5]),
 }
 
@@ -57,31 +45,29 @@ enum Fact {
 pub(crate) struct Run {
     name: &'static str,
     rule: Rule,
-    /// Entries that the journal takes.
+    /// Entries that it takes.
     journal: u32,
-    /// Turns of each thread.
+    /// Of each thread.
     turns: u64,
     scripts: &'static [&'static [Ask]],
-    /// What the ports are told; `None` for a run that comes to its limit.
+    /// By port; `None` for a run to its limit.
     lists: Option<&'static [Tellings]>,
-    /// Steps that the cache side makes by hand behind the run, if it can.
+    /// Steps by hand behind the run.
     then: &'static [Source],
     facts: &'static [Fact],
 }
 
 impl Run {
-    // The same run with so many turns of each thread.
     pub(crate) fn with_turns(&self, turns: u64) -> Run {
         Run { turns, ..*self }
     }
 
-    // A port for each script. A station has none of so many ports that they aren't counted.
+    // Too many to count are too many for a station.
     fn ports(&self) -> u32 {
         u32::try_from(self.scripts.len()).unwrap_or(u32::MAX)
     }
 }
 
-// Each row begins with these numbers.
 const RUN: Run = Run {
     name: "",
     rule: Rule::Open,
@@ -112,15 +98,14 @@ const NO_LANE: Ask = Ask::Store {
     lanes: Lanes(0),
 };
 
-// What a port is told whose one load reads zeros.
 const ONE_LOAD: [Told; 2] = [Told::Accepted, VALUE];
 
-// Two loads under the same tag, the second of which waits for the value of the first.
+// The second waits for the value of the first.
 const SAME_TAG: [Ask; 2] = [LOAD_5, Ask::Load { tag: 1, at: 9 }];
 
 const TWO_LOADS: [Told; 4] = [Told::Accepted, VALUE, Told::Accepted, VALUE];
 
-/// Port 0 asks for a word that a held bank has; port 1 is served from the other bank meanwhile.
+/// Port 1 is served while the bank with port 0's word is held.
 pub(crate) const HELD_BANK: Run = Run {
     name: "station_on_threads: a held bank",
     rule: Rule::HeldBank,
@@ -160,7 +145,7 @@ pub(crate) const HELD_BANK: Run = Run {
     ..RUN
 };
 
-/// The second load's tag is in use until the first one has its value, which the gate keeps back.
+/// The tag is in use until the gate lets the first value go.
 pub(crate) const OFTEN_REFUSED: Run = Run {
     name: "more refusals than memory is reserved for",
     rule: Rule::HeldUntilRefused,
@@ -215,8 +200,7 @@ static RUNS: [Run; 12] = [
     },
     HELD_BANK,
     OFTEN_REFUSED,
-    // A load with a tag that still waits is refused, and offered again until it is accepted. The journal
-    // has room for as many refusals as come while a bank's thread waits for a processor.
+    // The journal has room for the refusals while a bank's thread waits for a processor.
     Run {
         name: "a refused ask is offered again",
         journal: 1_048_576,
@@ -227,7 +211,7 @@ static RUNS: [Run; 12] = [
         }]),
         ..RUN
     },
-    // Refusals that no wait would change are told once, and the script goes on.
+    // They are told once, and the script goes on.
     Run {
         name: "refusals that stay",
         scripts: &[&[
@@ -242,7 +226,6 @@ static RUNS: [Run; 12] = [
         ])]),
         ..RUN
     },
-    // What a bank was sent that never goes is left.
     Run {
         name: "turn_limit: a silent bank",
         rule: Rule::Holds(Actor::Bank(0)),
@@ -251,7 +234,6 @@ static RUNS: [Run; 12] = [
         facts: &[Fact::Left],
         ..RUN
     },
-    // Nothing has happened.
     Run {
         name: "turn_limit: no turns",
         turns: 0,
@@ -259,7 +241,7 @@ static RUNS: [Run; 12] = [
         facts: &[Fact::Entries(0), Fact::Audit(Audit::Clean)],
         ..RUN
     },
-    // The prefetch takes the journal's one entry, and Done finds none.
+    // The prefetch takes the one entry, and Done finds none.
     Run {
         name: "turn_limit: a full journal",
         journal: 1,
@@ -269,7 +251,7 @@ static RUNS: [Run; 12] = [
         facts: &[Fact::Entries(1), Fact::First(PREFETCHED)],
         ..RUN
     },
-    // The port waits for a verdict on its Done, and offers nothing behind it.
+    // The port waits for a verdict on its Done.
     Run {
         name: "a script with Done in it comes to no end",
         turns: 1_000,
@@ -300,7 +282,6 @@ fn count_of(list: &[Told], wanted: Told) -> usize {
     list.iter().filter(|told| **told == wanted).count()
 }
 
-// Whether a list has as many of each of these as they are.
 fn has_each(list: &[Told], wanted: &[Told]) -> bool {
     for told in wanted {
         if count_of(list, *told) != count_of(wanted, *told) {
@@ -310,8 +291,6 @@ fn has_each(list: &[Told], wanted: &[Told]) -> bool {
     true
 }
 
-// Whether a list begins and ends as these, and has at least so many refusals of a tag in use beside as
-// many others as these are.
 fn has_refusals(list: &[Told], least: usize, others: &[Told]) -> bool {
     let refusals = count_of(list, Told::Refused(Cause::TagInUse));
     refusals >= least
@@ -320,7 +299,6 @@ fn has_refusals(list: &[Told], least: usize, others: &[Told]) -> bool {
         && list.last() == others.last()
 }
 
-// Whether a port was told what it had to be.
 fn is_told(list: &[Told], wanted: &Tellings) -> bool {
     match wanted {
         Tellings::InOrder(wanted) => list == *wanted,
@@ -331,7 +309,6 @@ fn is_told(list: &[Told], wanted: &Tellings) -> bool {
     }
 }
 
-/// Whether the ports of a run were told what they had to be.
 fn are_told(lists: &[Vec<Told>], wanted: &[Tellings]) -> bool {
     for (list, tellings) in lists.iter().zip(wanted) {
         if !is_told(list.as_slice(), tellings) {
@@ -341,7 +318,6 @@ fn are_told(lists: &[Vec<Told>], wanted: &[Tellings]) -> bool {
     lists.len() == wanted.len()
 }
 
-// Whether a run ended as it had to.
 fn has_ended(ended: &Result<Vec<Vec<Told>>, RunFault>, run: &Run) -> bool {
     match (ended, run.lists) {
         (Ok(lists), Some(wanted)) => are_told(lists, wanted),
@@ -350,7 +326,6 @@ fn has_ended(ended: &Result<Vec<Vec<Told>>, RunFault>, run: &Run) -> bool {
     }
 }
 
-// Makes the steps that are possible.
 fn step_on(cache: &mut SmallCache, sources: &[Source])
     ensures { cache_id cache.new ≡ cache_id cache.old }
 {
@@ -359,7 +334,6 @@ fn step_on(cache: &mut SmallCache, sources: &[Source])
     }
 }
 
-// What stands behind a run, to be looked at.
 #[derive(Clone, Copy)]
 struct Behind<'a> {
     cache: &'a SmallCache,
@@ -369,7 +343,6 @@ struct Behind<'a> {
 }
 
 impl Behind<'_> {
-    // The place of the first of these that doesn't hold.
     fn first_wrong(&self, facts: &[Fact]) -> Option<usize> {
         facts.iter().position(|fact| !self.shows(fact))
     }
@@ -395,15 +368,14 @@ impl Behind<'_> {
 /// How a run ended, and what isn't as its row says.
 #[derive(Clone, Copy)]
 pub(crate) struct Outcome {
-    /// Why it came to no end, if it didn't.
+    /// Why it came to no end.
     pub(crate) fault: Option<RunFault>,
-    /// Whether it ended, and its ports were told, as the row says.
+    /// As the row says.
     pub(crate) has_ended: bool,
     /// The place of the first fact that doesn't hold.
     pub(crate) wrong: Option<usize>,
 }
 
-/// Makes a station and the run of a row.
 pub(crate) fn make_run<R: Abort + Clock + Threads + Sync>(
     rt: &R,
     alloc: Global,
@@ -415,7 +387,6 @@ pub(crate) fn make_run<R: Abort + Clock + Threads + Sync>(
     Ok(run_row(rt, alloc, &mut all, &scripts, run))
 }
 
-// Makes the run of a row with a new station.
 fn run_row<R: Clock + Threads + Sync>(
     rt: &R,
     alloc: Global,

@@ -1,5 +1,5 @@
-//! Want of memory, at whichever allocation. With enough memory all comes to its end; with one
-//! allocation refused, a call answers want of memory or comes to its end, and of several calls one does.
+//! Want of memory, at whichever allocation. A call answers it or comes to its end, and of several calls one
+//! comes to its end.
 use super::on_threads::{HELD_BANK, OFTEN_REFUSED, Run, make_run};
 use super::{SHAPE, TURNS};
 use flat_model::{MakeFault, ShapeField};
@@ -9,12 +9,11 @@ use std::process::Abort;
 use std::rt::Clock;
 use std::thread::Threads;
 
-// What the maker of a station says of these numbers of ports and of entries.
 fn fault_of(alloc: Global, ports: u32, journal: u32) -> Option<MakeFault> {
     station::<1, 4, 2, 2>(alloc, SHAPE, ports, journal).err()
 }
 
-// Ports and entries out of their ranges, of which that of ports is named first.
+// Ports, entries, and the number named first.
 const BAD_NUMBERS: [(u32, u32, ShapeField); 5] = [
     (17, 100, ShapeField::Ports),
     (17, 0, ShapeField::Ports),
@@ -23,7 +22,7 @@ const BAD_NUMBERS: [(u32, u32, ShapeField); 5] = [
     (1, 1_048_577, ShapeField::Journal),
 ];
 
-// A number out of its range is named before any memory is asked for.
+// A number is named before any memory is asked for.
 #[test]
 fn station_may_find_no_memory(rt: HostRuntime) {
     for (ports, journal, field) in BAD_NUMBERS {
@@ -40,7 +39,7 @@ fn station_may_find_no_memory(rt: HostRuntime) {
     assert!(rt; made);
 }
 
-// Makes a run, of which all has to be as its row says if it comes to its end.
+// If it ends, all is as its row says.
 fn attempt<R: Abort + Clock + Threads + Sync>(
     rt: &R,
     alloc: Global,
@@ -61,8 +60,7 @@ fn attempt<R: Abort + Clock + Threads + Sync>(
     Ok(())
 }
 
-// Turns of each attempt. If a thread can't be made, the parts run one after another, and each uses up its
-// turns: so they are few at first, and more where few weren't enough on a busy machine.
+// If a thread can't be made, each part uses up its turns: few at first, more on a busy machine.
 const TURNS_OF_ATTEMPTS: [u64; 4] = [20_000, 200_000, TURNS, TURNS];
 
 // A thread that can't be made may end in either fault.
@@ -77,8 +75,7 @@ fn refused_memory(rt: HostRuntime) {
     assert!(rt; ended);
 }
 
-// A port that finds no memory in the midst of its run ends; the cache side, which waits for its Done,
-// and the banks then use up their turns. Want of memory goes before that.
+// The cache side and the banks then use up their turns. Want of memory goes before that.
 #[test]
 fn refused_memory_in_a_thread(rt: HostRuntime) {
     let mut ended = false;

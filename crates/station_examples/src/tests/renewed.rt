@@ -1,6 +1,5 @@
-//! A station that is renewed behind each of its runs on threads. What a run stored, later ones load; so the journals,
-//! one behind the other, are a run of flat memory, and a later one alone is none. So it is too if the ports' scripts
-//! are cut into pieces, which are run so.
+//! A station renewed behind each run. Later runs load what earlier ones stored: the journals together are a run
+//! of flat memory, and a later one alone is none.
 ghost use Rattle.std.specs.Prelude.{◌≡◌};
 ghost use Rattle.station_parts.specs.Station.{AreOneStation};
 
@@ -19,22 +18,21 @@ use std::rt::Clock;
 use std::test::Fail;
 use std::thread::Threads;
 
-/// What two ports are told in one of the runs.
+/// What two ports are told.
 #[derive(Clone, Copy)]
 struct Expected {
     lists: [&'static [Told]; 2],
-    /// Whether its journal alone is a run of flat memory.
+    /// Without the journals before.
     is_flat_alone: bool,
 }
 
-/// What they ask in it.
 #[derive(Clone, Copy)]
 struct Turn {
     scripts: [&'static [Ask]; 2],
     gives: Expected,
 }
 
-/// Scripts that are cut into pieces of so many asks, and what is kept of each run.
+/// Scripts in pieces, and what is kept of each run.
 #[derive(Clone, Copy)]
 struct Cut {
     name: &'static str,
@@ -89,7 +87,7 @@ static TURNS_OF_RUNS: [Turn; 3] = [
 
 const WANT_OF_MEMORY: SegmentFault = SegmentFault::Run(RunFault::OutOfMemory);
 
-// A port that loads the word before it is stored, with one that loads it once; then it is stored, and loaded.
+// Both ports load the word; then one stores it, and loads it.
 const ONE_BY_ONE: [Expected; 3] = [
     Expected {
         lists: [&[Told::Accepted, VALUE], &[Told::Accepted, VALUE]],
@@ -153,7 +151,6 @@ static CUTS: [Cut; 5] = [
     },
 ];
 
-// Runs the scripts of two ports, and renews the station behind the run.
 fn run_turn<R: Abort + Clock + Threads + Sync>(
     rt: &R,
     alloc: Global,
@@ -169,7 +166,7 @@ fn run_turn<R: Abort + Clock + Threads + Sync>(
     Ok(run_and_renew(rt, alloc, all, &scripts, TURNS, Crew::one_each(), &gate)?)
 }
 
-// Whether a run did what it had to, and its journal says of each port that it ended.
+// Each port has ended in the journal, too.
 fn is_as_said(alloc: Global, segment: &Segment, gives: &Expected) -> Result<bool, AllocError> {
     let is_flat_alone = is_flat(alloc, &segment.journal, SHAPE.words)?;
     Ok(
@@ -186,7 +183,6 @@ fn ended_in(journal: &[Entry]) -> usize {
         .count()
 }
 
-// Makes the runs one behind the other, and gathers their journals.
 fn run_turns<R: Abort + Clock + Threads + Sync>(
     rt: &R,
     alloc: Global,
@@ -214,7 +210,6 @@ fn renewed_behind_each_run(rt: HostRuntime) -> Result<(), Fail> {
     Ok(())
 }
 
-// Runs the pieces of the scripts of two ports at a new station.
 fn run_cut<R: Abort + Clock + Threads + Sync, K: Keeper>(
     rt: &R,
     alloc: Global,
@@ -232,7 +227,7 @@ fn run_cut<R: Abort + Clock + Threads + Sync, K: Keeper>(
     Ok(run.err())
 }
 
-// Whether these were kept, and their journals are one of flat memory.
+// And their journals are one of flat memory.
 fn are_as_said(alloc: Global, kept: &[Segment], gives: &[Expected]) -> Result<bool, AllocError> {
     let mut whole: Vec<Entry> = Vec::new(alloc);
     for (segment, expected) in kept.iter().zip(gives) {
@@ -255,7 +250,7 @@ fn renewed_behind_each_piece(rt: HostRuntime) -> Result<(), Fail> {
     Ok(())
 }
 
-/// Counts segments and lets them go, up to so many, and has no memory for more.
+/// Counts segments and lets them go; it has no memory for more than `room`.
 #[derive(Clone, Copy)]
 struct Counter {
     segments: usize,
