@@ -68,7 +68,6 @@ pub fn run_and_renew<
     ensures ran { IfErr result (ComesToRenewal scripts.now station.old.ports.items station.new.ports.items) }
     ensures renewal { IfErr result (TellsRenewal station.new) }
 
-    // A run's fault is that of what its threads and the audit came to.
     ensures run { IfErr result (TellsRun scripts.now turns station.old station.new) }
     ensures no_turn { turns ≡ 0 → IsErr result }
 
