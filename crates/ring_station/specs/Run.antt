@@ -1,16 +1,22 @@
 -- What a run of a station came to.
-use Rattle.std.specs.Prelude.{ℕ, Bool, true, false, ◌&&◌, ◌||◌, if◌then◌else◌, List, ◌<◌, length, slice_index_or, Option, Some, None}
+use Rattle.std.specs.Prelude.{◌≡◌, ◌⊎◌, ℕ, Bool, true, false, ◌&&◌, ◌||◌, if◌then◌else◌, List, ◌<◌, length, slice_index_or, Option, Some, None}
+use Rattle.std.specs.Global.{Vec}
 use Rattle.std.specs.List.{list_all, list_any}
+use Rattle.station_journal.specs.declared.asks.Ask.{Ask}
 use Rattle.station_parts.specs.declared.bank.BankSide.{BankSide}
 use Rattle.station_parts.specs.declared.parts.Audit.{Audit}
 use Rattle.station_parts.specs.declared.parts.Audit.TheVariants.{Clean}
+use Rattle.station_parts.specs.declared.parts.Station.{Station}
+use Rattle.station_parts.specs.Promises.{IsAudited}
+use Rattle.station_parts.specs.Station.{IsUnmoved}
 use Rattle.ring_station.specs.declared.fault.RunFault.{RunFault}
 use Rattle.ring_station.specs.declared.fault.RunFault.TheVariants.{TurnLimit, OutOfMemory}
 use Rattle.ring_station.specs.declared.report.Run.{Run}
 use Rattle.ring_station.specs.declared.report.Stop.{Stop}
 use Rattle.ring_station.specs.declared.report.Stop.TheVariants as stops
 use Rattle.ring_station.specs.Ends.{is_over, lacks_memory, is_full}
-use Rattle.ring_station.specs.PartRuns.{HasFinished}
+use Rattle.ring_station.specs.PartRuns.{BanksRan, CacheRan, HasFinished}
+use Rattle.ring_station.specs.PortRuns.{PortsRan}
 
 abbrev pub is_clean : Audit → Bool
 is_clean Clean = true
@@ -49,3 +55,15 @@ told_as stops.NotClean = TurnLimit
 -- each bank has served all that it could
 abbrev pub HaveFinished : List BankSide → Type 0
 HaveFinished banks = (b : ℕ) (d : BankSide) → b < length banks → HasFinished (slice_index_or banks b d)
+
+-- a run of a station came to this: each thread did and ended as it is told, and an audit behind them found what is told
+pub record CameTo {W B R D : ℕ} (scripts : List (Vec Ask)) (turns : ℕ) (old new : Station W B R D) (run : Run) : Type 0 where
+  pub ports : PortsRan scripts turns old.ports.items new.ports.items run.lists.items run.ports.items
+  pub cache : CacheRan (length old.ports.items) turns old.cache new.cache run.cache
+  pub banks : BanksRan turns old.banks.items new.banks.items run.banks.items
+  pub audited : IsAudited new.cache new.ports.items new.banks.items run.audit
+
+-- why a run gave no lists: memory was short before a thread began, and no part has moved; or it came to something that has this fault
+abbrev pub FailsBy : {W B R D : ℕ} → List (Vec Ask) → ℕ → Station W B R D → Station W B R D → RunFault → Type 0
+FailsBy scripts turns old new fault =
+    ((fault ≡ OutOfMemory) × IsUnmoved old new) ⊎ ((run : Run) × CameTo scripts turns old new run × (fault_of run ≡ Some fault))

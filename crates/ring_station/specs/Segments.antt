@@ -1,5 +1,5 @@
 -- What a run and the renewal behind it make of a station, and what many of them make of it.
-use Rattle.std.specs.Prelude.{◌≡◌, ◌≢◌, ℕ, zero, suc, ◌+◌, ◌<◌, ◌≤◌, max, ◌⊎◌, ◌++◌, false, List, [], ◌∷◌, map, take, drop, length}
+use Rattle.std.specs.Prelude.{◌≡◌, ◌≢◌, ℕ, zero, suc, ◌+◌, ◌*◌, ◌<◌, ◌≤◌, max, ◌⊎◌, ◌++◌, false, List, [], ◌∷◌, map, take, drop, length}
 use Rattle.std.specs.Prelude.{slice_index_or}
 use Rattle.std.specs.Global.{Vec}
 use Rattle.std.specs.Int.{div_ceil}
@@ -24,6 +24,7 @@ use Rattle.ring_station.specs.declared.fault.SegmentFault.{SegmentFault}
 use Rattle.ring_station.specs.declared.fault.SegmentFault.TheVariants.{Run, Renewal}
 use Rattle.ring_station.specs.declared.segment.Segment.{Segment}
 use Rattle.ring_station.specs.PortRuns.{AreHeard, HaveRun}
+use Rattle.ring_station.specs.Run.{FailsBy}
 use Rattle.ring_station.specs.Within.{KeepsTo}
 
 -- ---- one run
@@ -64,6 +65,11 @@ abbrev pub ComesToRenewal : List (Vec Ask) → List Port → List Port → Segme
 ComesToRenewal scripts old new (Run fault) = Unit {0}
 ComesToRenewal scripts old new (Renewal fault) = (lists : List (Vec Told)) × HaveRun scripts old new lists
 
+-- a run's fault is that of what it came to
+abbrev pub TellsRun : {W B R D : ℕ} → List (Vec Ask) → ℕ → Station W B R D → Station W B R D → SegmentFault → Type 0
+TellsRun scripts turns old new (Run fault) = FailsBy scripts turns old new fault
+TellsRun scripts turns old new (Renewal fault) = Unit {0}
+
 -- the gate has heard each telling of these segments
 abbrev pub EachIsHeard : (ℕ → Told → Type 0) → List Segment → Type 0
 EachIsHeard HasHeard segments = All (λ segment. AreHeard HasHeard segment.lists.items) segments
@@ -101,6 +107,15 @@ pub record StopsNext {W B R D : ℕ} (begin asks : ℕ) (scripts : List (Vec Ask
     pub kept_is : kept []
     pub handed_out : (earlier_of new.cache ≡ earlier_of old.cache)
         ⊎ ((segment : Segment) × (HandsOutNext begin asks scripts old new segment × (fault ≡ Run OutOfMemory)))
+
+-- why the next run failed: memory was short for the pieces, and nothing has moved; or the run of the pieces failed by its own fault;
+-- or the keeper found no memory for the segment
+abbrev pub FailsNext : {W B R D : ℕ} → ℕ → ℕ → ℕ → List (Vec Ask) → Station W B R D → Station W B R D → SegmentFault → Type 0
+FailsNext begin asks turns scripts old new fault =
+    ((fault ≡ Run OutOfMemory) × (new ≡ old))
+    ⊎ (((pieces : List (Vec Ask))
+      × (map (λ p. p.items) pieces ≡ map (λ s. piece_behind begin asks s.items) scripts) × TellsRun pieces turns old new fault)
+    ⊎ ((segment : Segment) × HandsOutNext begin asks scripts old new segment × (fault ≡ Run OutOfMemory)))
 
 -- ---- many runs, with a renewal behind each
 
@@ -213,3 +228,11 @@ pub record StopsInTurns {W B R D : ℕ} (turns asks : ℕ) (scripts : List (Vec 
     pub renewed : Station W B R D
     pub each : EachKeepsTo turns 0 asks scripts old renewed (segments ++ lost)
     pub since : KeepsTo turns renewed new
+
+-- behind runs to these segments the next one failed
+pub record FailsBehind {W B R D : ℕ} (turns asks : ℕ) (scripts : List (Vec Ask)) (old new : Station W B R D) (fault : SegmentFault) : Type 0
+  where
+    pub segments : List Segment
+    pub renewed : Station W B R D
+    pub each : EachKeepsTo turns 0 asks scripts old renewed segments
+    pub fails : FailsNext (length segments * asks) asks turns scripts renewed new fault

@@ -1,5 +1,5 @@
 //! Runs on threads.
-ghost use Rattle.std.specs.Prelude.{◌≡◌, ◌<◌, ◌≤◌, true, length, map, vec_len, IfOk, OnErr, OnOk, IsErr};
+ghost use Rattle.std.specs.Prelude.{◌≡◌, ◌<◌, ◌≤◌, true, length, map, vec_len, IfErr, IfOk, OnErr, OnOk, IsErr};
 ghost use Rattle.std.specs.List.{All};
 ghost use Rattle.station_parts.specs.declared.make.TheConstants.{MAX_PORTS};
 ghost use Rattle.flat_model.specs.declared.limits.TheConstants.{MAX_BANKS};
@@ -14,7 +14,7 @@ ghost use Rattle.ring_station.specs.PartRuns.{BanksRan, CacheRan};
 ghost use Rattle.ring_station.specs.PortRuns.{HaveRun, PortsRan, AreHeard};
 ghost use Rattle.ring_station.specs.Crew.{HasNotBegun, EachRanScript, EachIsSame, EachServed, EachHeard};
 ghost use Rattle.ring_station.specs.Ends.{not_begun};
-ghost use Rattle.ring_station.specs.Run.{HaveFinished};
+ghost use Rattle.ring_station.specs.Run.{FailsBy, HaveFinished};
 ghost use Rattle.ring_station.specs.Within.{KeepsTo};
 
 use crate::crew::{
@@ -74,6 +74,7 @@ pub fn run_threads<
     ensures banks { OnOk result (HaveFinished station.new.banks.items) }
     ensures no_turn { turns ≡ 0 → IsErr result }
 
+    ensures fault { IfErr result (FailsBy scripts.now turns station.old station.new) }
     ensures within { KeepsTo turns station.old station.new }
 
     ensures clean { OnOk result (IsCleanStation station.new) }

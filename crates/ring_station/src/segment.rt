@@ -7,7 +7,7 @@ ghost use Rattle.station_parts.specs.Rest.{is_at_rest};
 ghost use Rattle.station_parts.specs.Station.{IsOneStation, IsSameStation};
 ghost use Rattle.station_parts.specs.Words.{cache_in, earlier_of};
 ghost use Rattle.ring_station.specs.PortRuns.{AreHeard};
-ghost use Rattle.ring_station.specs.Segments.{HaveRunOn, HandsOut, TellsRenewal, ComesToRenewal};
+ghost use Rattle.ring_station.specs.Segments.{HaveRunOn, HandsOut, TellsRenewal, TellsRun, ComesToRenewal};
 ghost use Rattle.ring_station.specs.Within.{KeepsTo};
 
 use crate::crew::Crew;
@@ -67,6 +67,8 @@ pub fn run_and_renew<
 
     ensures ran { IfErr result (ComesToRenewal scripts.now station.old.ports.items station.new.ports.items) }
     ensures renewal { IfErr result (TellsRenewal station.new) }
+
+    ensures run { IfErr result (TellsRun scripts.now turns station.old station.new) }
     ensures no_turn { turns ≡ 0 → IsErr result }
 
     ensures within { KeepsTo turns station.old station.new }

@@ -4,7 +4,7 @@ ghost use Rattle.station_parts.specs.Promises.{IsCleanStation};
 ghost use Rattle.station_parts.specs.Rest.{is_at_rest};
 ghost use Rattle.station_parts.specs.Station.{IsOneStation, IsSameStation};
 ghost use Rattle.station_parts.specs.Words.{cache_in};
-ghost use Rattle.ring_station.specs.Segments.{RunsInSegments, StopsBehind, RunsInTurns, StopsInTurns, RunsNext, StopsNext, TellsRenewal};
+ghost use Rattle.ring_station.specs.Segments.{RunsInSegments, StopsBehind, RunsInTurns, StopsInTurns, RunsNext, StopsNext, FailsBehind, FailsNext, TellsRenewal};
 ghost use Rattle.ring_station.specs.Segments.{EachIsHeard, longest_of, piece_behind, piece_count};
 ghost use Rattle.ring_station.specs.Within.{KeepsTo};
 
@@ -57,6 +57,7 @@ pub fn run_in_segments<
         (λ segments. K.kept keeper.old segments keeper.new × EachIsHeard (G.has_heard gate.now) segments)) }
     ensures rests { OnOk result (is_at_rest (cache_in station.new.cache) ≡ true) }
     ensures renewal { IfErr result (TellsRenewal station.new) }
+    ensures fault { IfErr result (FailsBehind turns (max asks 1) scripts.now station.old station.new) }
     ensures no_turn { turns ≡ 0 → IsErr result }
 
     ensures each_within { OnOk result (RunsInTurns turns (max asks 1) scripts.now station.old station.new
@@ -120,6 +121,7 @@ fn run_pieces<
         (λ segments. K.kept keeper.old segments keeper.new × EachIsHeard (G.has_heard gate.now) segments)) }
     ensures rests { OnOk result (is_at_rest (cache_in station.new.cache) ≡ true) }
     ensures renewal { IfErr result (TellsRenewal station.new) }
+    ensures fault { IfErr result (FailsNext begin asks turns scripts.now station.old station.new) }
     ensures no_turn { turns ≡ 0 → IsErr result }
     ensures within { KeepsTo turns station.old station.new }
     ensures clean { OnOk result (IsCleanStation station.new) }
