@@ -1,4 +1,4 @@
-use Rattle.std.proofs.Common.{arith, sym, ◌∙◌}
+use Rattle.std.proofs.Common.{arith, sym, ◌∙◌, inr}
 use Rattle.ring_station.proofs.CrewRunning.{have_conversed}
 use Rattle.ring_station.proofs.Ending.{is_good, over, have_run, have_finished}
 use Rattle.ring_station.proofs.Within.{run_keeps}
@@ -34,3 +34,9 @@ returns-clause-within g c =
 pub returns-in-Some-clause-within : goal.returns-in-Some-clause-within
 returns-in-Some-clause-within g c =
     let ran = c.in_ok-run.ensures in run_keeps (c.requires.scripts ∙ c.args.station.now.ports.ok.0) ran.ports ran.cache ran.banks
+
+pub returns-in-Some-clause-fault : goal.returns-in-Some-clause-fault
+returns-in-Some-clause-fault g c =
+    let ran = c.in_ok-run.ensures in
+    inr (c.in_ok-run.run', record { ports = ran.ports; cache = ran.cache; banks = ran.banks; audited = ran.audited },
+    sym c.fault.ensures ∙ c.in-Some.is)

@@ -1,4 +1,4 @@
-use Rattle.std.proofs.Common.{sym, ◌∙◌}
+use Rattle.std.proofs.Common.{sym, ◌∙◌, inr}
 use Rattle.std.proofs.lemmas.Result.{err_from_is_err_and}
 use Rattle.ring_station.proofs.Ending.{is_good, have_run, have_run_on, comes_to_renewal}
 use Rattle.ring_station.proofs.Within.{run_keeps, renewal_keeps}
@@ -36,3 +36,9 @@ returns-in_err-journal-clause-ran g c =
     (comes_to_renewal _ _ _ _ _ (have_run c.in_ok-run.ensures.ports
     (is_good c.in_ok-run.run' (sym c.fault.ensures ∙ c.in_default.is)).ports)
     c.in_err-journal.ensures.refused)
+
+pub returns-in-Some-clause-run : goal.returns-in-Some-clause-run
+returns-in-Some-clause-run g c =
+    let ran = c.in_ok-run.ensures in
+    inr (c.in_ok-run.run', record { ports = ran.ports; cache = ran.cache; banks = ran.banks; audited = ran.audited },
+    sym c.fault.ensures ∙ c.in-Some.is)
