@@ -114,7 +114,7 @@ abbrev pub FailsNext : {W B R D : ℕ} → ℕ → ℕ → ℕ → List (Vec Ask
 FailsNext begin asks turns scripts old new fault =
     ((fault ≡ Run OutOfMemory) × (new ≡ old))
     ⊎ (((pieces : List (Vec Ask))
-      × (map (λ p. p.items) pieces ≡ map (λ s. piece_behind begin asks s.items) scripts) × TellsRun pieces turns old new fault)
+    × (map (λ p. p.items) pieces ≡ map (λ s. piece_behind begin asks s.items) scripts) × TellsRun pieces turns old new fault)
     ⊎ ((segment : Segment) × HandsOutNext begin asks scripts old new segment × (fault ≡ Run OutOfMemory)))
 
 -- ---- many runs, with a renewal behind each

@@ -38,5 +38,8 @@ returns-in-Some-clause-within g c =
 pub returns-in-Some-clause-fault : goal.returns-in-Some-clause-fault
 returns-in-Some-clause-fault g c =
     let ran = c.in_ok-run.ensures in
-    inr (c.in_ok-run.run', record { ports = ran.ports; cache = ran.cache; banks = ran.banks; audited = ran.audited },
-    sym c.fault.ensures ∙ c.in-Some.is)
+    inr (
+      c.in_ok-run.run',
+      record { ports = ran.ports; cache = ran.cache; banks = ran.banks; audited = ran.audited },
+      sym c.fault.ensures ∙ c.in-Some.is,
+    )

@@ -40,5 +40,8 @@ returns-in_err-journal-clause-ran g c =
 pub returns-in-Some-clause-run : goal.returns-in-Some-clause-run
 returns-in-Some-clause-run g c =
     let ran = c.in_ok-run.ensures in
-    inr (c.in_ok-run.run', record { ports = ran.ports; cache = ran.cache; banks = ran.banks; audited = ran.audited },
-    sym c.fault.ensures ∙ c.in-Some.is)
+    inr (
+      c.in_ok-run.run',
+      record { ports = ran.ports; cache = ran.cache; banks = ran.banks; audited = ran.audited },
+      sym c.fault.ensures ∙ c.in-Some.is,
+    )
