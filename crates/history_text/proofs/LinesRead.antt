@@ -8,7 +8,6 @@ use Rattle.memory_histories.specs.declared.events.HistoryEvent.{HistoryEvent}
 use Rattle.memory_histories.specs.Windows.{Windows, windows_after}
 use Rattle.history_reasons.specs.Log.{idle}
 use Rattle.trace_text.specs.Reading.{IsGood, Good, fault_of}
-use Rattle.trace_text.specs.Lines.{IsSaid}
 use Rattle.trace_text.specs.declared.fault.TheConstants.{MAX_PAIR}
 use Rattle.trace_text.specs.declared.lines.LineFault.{LineFault}
 use Rattle.trace_text.specs.declared.lines.LineFault.TheVariants.{TooLong}
@@ -19,7 +18,7 @@ use Rattle.history_text.specs.Refusals.{IsRefusal}
 use Rattle.history_text.specs.Operations.{no_counts}
 use Rattle.history_text.specs.Judged.{Stands, StepStops}
 use Rattle.history_text.specs.Histories.{most_lines, history_fault, events_in, events_of, IsEventLine, EndsAt, EndsIn, HasRead, texts_with}
-use Rattle.history_text.specs.Histories.{LineStops, bytes_left}
+use Rattle.history_text.specs.Histories.{LineStops}
 use Rattle.history_text.specs.declared.judged.Judged.{Judged}
 use Rattle.history_text.specs.Notes.{Telling, AreNotesOf, opening_windows, line_then, text_then, windows_of}
 use Rattle.history_text.specs.Told.{ToldLaw, Begin, law_begun}
@@ -198,13 +197,6 @@ ends_long {pending = pending} {texts = texts} b number h ne long at =
           (none_more pending b ne h.text.unfinished),
     )
 
-pub ends_faulty : {J : Type 0} {took : J → List HistoryEvent → J → Type 0} {law : J
-    → Law} {start : Begin J} {judged : Judged J} {bytes pending : List ℕ} {texts : List (List ℕ)}
-    {count : ℕ} (number : ℕ) (f : LineFault)
-    → HasRead took law start bytes texts judged pending count → number ≡ count + 1 → IsSaid f → line_of pending ≡ Err f
-    → EndsAt (law_begun law start) texts (pending ++ 10 ∷ []) (stop.Fault (fault.Line number f))
-ends_faulty {pending = pending} {texts = texts} number f h at is said = grind arith
-
 event_line : (pending : List ℕ) (event : HistoryEvent) → IsGood history_fault MAX_PAIR pending → line_of pending ≡ Ok (Some event)
     → IsEventLine (pending ++ 10 ∷ []) event
 event_line pending event good said = grind arith
@@ -279,10 +271,3 @@ pub read_all : {J : Type 0} {took : J → List HistoryEvent → J → Type 0} {l
 read_all {took = took} {law = law} {start = start} {judged = judged} {pending = pending} {texts = texts} {count = count} bytes piece i whole
     h =
     subst (λ l. HasRead took law start (bytes ++ l) texts judged pending count) (take_all i piece whole) h
-
--- ---- what is left
-
--- a line that ends leaves fewer bytes to be read
-pub left_less : (pending : List ℕ) (count number : ℕ) → length pending ≤ MAX_PAIR → number < 2 ^ 64 → number ≡ count + 1
-    → bytes_left number [] + 1 ≤ bytes_left count pending
-left_less pending count number short fits at = grind arith

@@ -4,7 +4,8 @@ ghost use Rattle.station_parts.specs.Promises.{IsCleanStation};
 ghost use Rattle.station_parts.specs.Rest.{is_at_rest};
 ghost use Rattle.station_parts.specs.Station.{IsOneStation, IsSameStation};
 ghost use Rattle.station_parts.specs.Words.{cache_in};
-ghost use Rattle.ring_station.specs.Segments.{RunsInSegments, StopsBehind, RunsInTurns, StopsInTurns, RunsNext, StopsNext, FailsBehind, FailsNext, TellsRenewal};
+ghost use Rattle.ring_station.specs.Segments.{RunsInSegments, StopsBehind, RunsInTurns, StopsInTurns, RunsNext, StopsNext};
+ghost use Rattle.ring_station.specs.Segments.{FailsBehind, FailsNext, TellsRenewal};
 ghost use Rattle.ring_station.specs.Segments.{EachIsHeard, longest_of, piece_behind, piece_count};
 ghost use Rattle.ring_station.specs.Within.{KeepsTo};
 

@@ -83,7 +83,8 @@ module _ {R : Type 0} (gave : R → List ℕ → R → Type 0) (failed : R → R
         is_mismatch words v text m flat shows h.lines good stops,
       )
 
-  halted_told : shown c.explainer ≡ beginning words → ExplainingReads (Err Halted) → Explains gave failed words r r' (explained_by c'.mismatch)
+  halted_told : shown c.explainer ≡ beginning words → ExplainingReads (Err Halted)
+      → Explains gave failed words r r' (explained_by c'.mismatch)
   halted_told begins (texts, rest, v, h, ends) = elim ends [
     | inl before ↦ absurd before.1
     | inr into ↦ elim into.1 [ inl stop ↦ absurd stop | inr line ↦ told_at_line c'.mismatch v texts rest begins h into.0 line.1 ]

@@ -11,11 +11,9 @@ use Rattle.trace_text.specs.declared.check.Step.{Step}
 use Rattle.trace_text.specs.declared.pairs.Pair.{Pair}
 use Rattle.trace_text.proofs.Held.{judged_still, judged_more}
 use Rattle.run_reasons.specs.Origins.{Origins, origins_then, origins_from, origins_after}
-use Rattle.run_reasons.specs.Reasons.{mismatch_at}
 use Rattle.run_reasons.specs.Shown.{shown}
-use Rattle.run_reasons.specs.Lines.{HasTaken, StepEnds, StopsAt}
+use Rattle.run_reasons.specs.Lines.{HasTaken}
 use Rattle.run_reasons.specs.declared.lines.Explaining.{Explaining}
-use Rattle.run_reasons.specs.declared.reason.Mismatch.{Mismatch}
 
 -- ---- the origins
 
@@ -81,15 +79,6 @@ taken_step {o = o} {texts = texts} e e' text pair event answer number h read is 
       lines = omega (arith, lines, at, length-append texts (text ∷ []));
       none = mismatch ∙ h.none;
     }
-
--- a step that stops
-pub stops_at : (e : Explaining) (text : List ℕ) (pair : Pair) (event : Event) (answer : Answer) (number : ℕ) (m : Option Mismatch)
-    → Ok pair ≡ pair_of text → pair ≡ recorded event answer → number ≡ e.lines + 1
-    → StepEnds (shown e.explainer) number event answer m → StopsAt e text m
-stops_at e text pair event answer number None read is at stops = tt
-stops_at e text pair event answer number (Some m) read is at stops =
-    subst (λ x. StopsAt e text (Some x)) (sym stops.1)
-    (sym read ∙ ap (λ p. Ok p) is, (stops.0, ap (λ n. mismatch_at (shown e.explainer) n event answer) at))
 
 -- ---- results
 

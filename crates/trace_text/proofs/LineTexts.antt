@@ -28,11 +28,6 @@ begins_with fault_in most text more bytes TooLong is short none said fault = abs
 begins_with fault_in most text more bytes NotEnded is short none said fault = absurd said
 begins_with fault_in most text more bytes f is short none said fault = (text, more, is, short, none, fault)
 
--- a line that ends here and has such a fault
-pub begins_said : (fault_in : List ℕ → Option LineFault) (most : ℕ) (text : List ℕ) (f : LineFault) → length text ≤ most → HasNoEnd text
-    → IsSaid f → fault_in text ≡ Some f → BeginsFaulty fault_in most (text ++ 10 ∷ []) f
-begins_said fault_in most text f = begins_with fault_in most text [] _ f refl
-
 -- a line that is too long already
 pub begins_long : (fault_in : List ℕ → Option LineFault) (most : ℕ) (bytes : List ℕ) → length bytes ≡ most + 1 → HasNoEnd bytes
     → BeginsFaulty fault_in most bytes TooLong

@@ -6,9 +6,10 @@ use Rattle.run_reasons.proofs.explain.explain_text.Goals as goal
 
 pub returns-in-Err-Fault : goal.returns-in-Err-Fault
 returns-in-Err-Fault g c =
-    told_fault g.R.Source.gave g.R.Source.failed (memory_from c.args.image.now c.args.words) c.args.reader.now c.read_lines_within.new.reader
-    c.in_ok-explaining.explaining c.read_lines_within.new.collector c.in-Err-Fault.field-0 c.in-Err-Fault.fault c.in_ok-explaining.ensures.origins
-    c.in-Err-Fault.field-0-is c.in-Err-Fault.ensures.reads
+    told_fault g.R.Source.gave g.R.Source.failed (memory_from c.args.image.now c.args.words) c.args.reader.now
+    c.read_lines_within.new.reader
+    c.in_ok-explaining.explaining c.read_lines_within.new.collector c.in-Err-Fault.field-0 c.in-Err-Fault.fault
+    c.in_ok-explaining.ensures.origins c.in-Err-Fault.field-0-is c.in-Err-Fault.ensures.reads
 
 pub returns : goal.returns
 returns g c =

@@ -10,13 +10,15 @@ step-requires c =
 
 pub returns-in-None-clause-kept : goal.returns-in-None-clause-kept
 returns-in-None-clause-kept c start texts number held =
-    taken_still c.args.self.now _ c.args.text.now _ c.args.number held c.in_ok-pair.ensures.pair c.in-None.ensures.none number refl refl refl
+    taken_still c.args.self.now _ c.args.text.now _ c.args.number held c.in_ok-pair.ensures.pair c.in-None.ensures.none number refl refl
+    refl
     refl
 
 pub returns-in-Some-clause-kept : goal.returns-in-Some-clause-kept
 returns-in-Some-clause-kept c =
     on_ok5 c.step.result
     (λ flat origins steps none lines start texts number held.
-    taken_step c.args.self.now _ c.args.text.now _ _ _ c.args.number held c.in_ok-pair.ensures.pair c.in-Some.ensures.some number flat origins
+    taken_step c.args.self.now _ c.args.text.now _ _ _ c.args.number held c.in_ok-pair.ensures.pair c.in-Some.ensures.some number flat
+    origins
     lines steps none)
     c.step.ensures.flat c.step.ensures.origins c.step.ensures.steps c.step.ensures.none c.step.ensures.lines
