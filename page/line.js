@@ -273,11 +273,12 @@ class Line {
       this.text(name, from, y, '--on-bar');
       if (over && this.isFree(load, end + 4, end + width(over))) put(end + 4, over, '--over');
     } else {
-      const needed = width(name) + (over ? width(over) : 0);
-      const x = [end + 4, this.x(load.asked) - needed].find((it) => this.isFree(load, it, it + needed - 4));
+      const place = (needed) => [end + 4, this.x(load.asked) - needed].find((it) => this.isFree(load, it, it + needed - 4));
+      const whole = place(width(name) + (over ? width(over) : 0));
+      const x = whole ?? place(width(name));
       if (x === undefined) return;
       put(x, name);
-      if (over) put(x + width(name), over, '--over');
+      if (over && whole !== undefined) put(x + width(name), over, '--over');
     }
   }
 

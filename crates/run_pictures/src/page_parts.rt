@@ -113,6 +113,7 @@ td.word { text-align: center; }
 @media print {
   .controls > :not(h1) { display: none; }
   #line { height: auto !important; }
+  #frames .scrolls { zoom: 0.85; }
   .scrolls, #machine .scrolls { max-height: none; min-height: 0; overflow: visible; }
   #machine > section, .bank, .register { break-inside: avoid; }
   .changed, .read { print-color-adjust: exact; -webkit-print-color-adjust: exact; }
@@ -777,11 +778,12 @@ class Line {
       this.text(name, from, y, '--on-bar');
       if (over && this.isFree(load, end + 4, end + width(over))) put(end + 4, over, '--over');
     } else {
-      const needed = width(name) + (over ? width(over) : 0);
-      const x = [end + 4, this.x(load.asked) - needed].find((it) => this.isFree(load, it, it + needed - 4));
+      const place = (needed) => [end + 4, this.x(load.asked) - needed].find((it) => this.isFree(load, it, it + needed - 4));
+      const whole = place(width(name) + (over ? width(over) : 0));
+      const x = whole ?? place(width(name));
       if (x === undefined) return;
       put(x, name);
-      if (over) put(x + width(name), over, '--over');
+      if (over && whole !== undefined) put(x + width(name), over, '--over');
     }
   }
 
