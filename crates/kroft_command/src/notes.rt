@@ -164,7 +164,8 @@ pub(crate) const GRADE_NOTES: &str =
   ?                                            open: nothing is predicted yet
 Behind 'reg', 'bank' and 'settled' stands what 'run' would show, as any printable text. A line without
 ' -> ' is served, and nothing is asked of it. A line has at most 768 bytes, and 64 before its ' -> '.
-The machine runs on by its own answers, whatever was predicted.
+Empty lines, lines that begin with '#', and blanks and a CR at a line's end say nothing. An answer that
+can't be read is wrong. The machine runs on by its own answers, whatever was predicted.
 Writes each wrong line with its number, and below it what the answer is, and why, in the words that
 'kroft show' has for this step; and at the end how many of all predictions are right, and how many
 are open. What is open isn't wrong. With an image ('kroft run --help' describes them) the values are

@@ -1,5 +1,5 @@
 -- The lines of a sheet, graded one after another.
-use Rattle.std.proofs.Common.{◌≡◌, ℕ, ◌+◌, ◌≤◌, Option, Some, None, Result, Ok, Err, List, [], ◌∷◌, ◌++◌, map, length, length-append}
+use Rattle.std.proofs.Common.{◌≡◌, ℕ, ◌+◌, ◌≤◌, Bool, cond, Option, Some, None, Result, Ok, Err, List, [], ◌∷◌, ◌++◌, map, length, length-append}
 use Rattle.std.proofs.Common.{append-nil, append_assoc, refl, sym, ◌∙◌, ap, subst, inl, inr, arith}
 use Rattle.std.specs.List.{flat_map}
 use Rattle.std.proofs.lemmas.Grind.{flat_map-append}
@@ -17,10 +17,11 @@ use Rattle.trace_text.specs.declared.lines.Line.{Line}
 use Rattle.trace_text.specs.declared.lines.Line.TheVariants as line
 use Rattle.trace_text.specs.declared.lines.LineFault.{LineFault}
 use Rattle.named_fields.specs.declared.format.Format.{Format}
-use Rattle.trace_sheets.specs.Sheets.{sheet_fault, sheet_line}
-use Rattle.trace_sheets.specs.Grades.{Asked, Graded, GradesOne, came_of, why_of, why_behind, mark, mark_of, told_if, correction, after_said}
+use Rattle.trace_sheets.specs.Sheets.{is_prediction, SheetLine, sheet_fault, sheet_line, without_blanks}
+use Rattle.trace_sheets.specs.Grades.{Asked, Graded, GradesOne, came_of, why_of, why_for, why_behind, why_told, mark, mark_of, told_if}
+use Rattle.trace_sheets.specs.Grades.{correction, after_said}
 use Rattle.trace_sheets.specs.Grades.{LeavesBehind, after_texts, asked, asked_of, asked_in, asked_from, no_score, with_mark, score_of}
-use Rattle.trace_sheets.specs.Forms.{full_text, told, total}
+use Rattle.trace_sheets.specs.Forms.{answers_text, full_text, told, total}
 use Rattle.trace_sheets.specs.declared.came.Came.{Came}
 use Rattle.trace_sheets.specs.declared.score.Mark.{Mark}
 use Rattle.trace_sheets.specs.declared.score.Mark.TheVariants.{Right, Wrong, Open}
@@ -34,36 +35,43 @@ after_more m [] text = refl
 after_more m (t ∷ ts) text = after_more (after_said m (sheet_line t)) ts text
 
 asked_more : (n : ℕ) (m : MachineState) (texts : List (List ℕ)) (text : List ℕ)
-    → asked_from n m (texts ++ text ∷ []) ≡ asked_from n m texts ++ asked_in (n + length texts) (after_texts m texts) text (sheet_line text)
-asked_more n m [] text = append-nil (asked_in n m text (sheet_line text)) ∙ ap (λ k. asked_in k m text (sheet_line text)) (omega arith)
+    → asked_from n m (texts ++ text ∷ []) ≡ asked_from n m texts ++ asked_in (n + length texts) (after_texts m texts) (without_blanks text) (sheet_line text)
+asked_more n m [] text =
+    append-nil (asked_in n m (without_blanks text) (sheet_line text))
+    ∙ ap (λ k. asked_in k m (without_blanks text) (sheet_line text)) (omega arith)
 asked_more n m (t ∷ ts) text =
     let next = after_said m (sheet_line t) in
-    let front = asked_in n m t (sheet_line t) in
+    let last : ℕ → List Asked = λ k. asked_in k (after_texts next ts) (without_blanks text) (sheet_line text) in
+    let front = asked_in n m (without_blanks t) (sheet_line t) in
     let number : (n + 1) + length ts ≡ n + length (t ∷ ts) = omega arith in
     ap (λ l. front ++ l) (asked_more (n + 1) next ts text)
-    ∙ sym (append_assoc front (asked_from (n + 1) next ts) (asked_in ((n + 1) + length ts) (after_texts next ts) text (sheet_line text)))
-    ∙ ap (λ k. (front ++ asked_from (n + 1) next ts) ++ asked_in k (after_texts next ts) text (sheet_line text)) number
+    ∙ sym (append_assoc front (asked_from (n + 1) next ts) (last ((n + 1) + length ts)))
+    ∙ ap (λ k. (front ++ asked_from (n + 1) next ts) ++ last k) number
 
 -- ---- why
 
 -- what the machine behind a line tells of the one before it
-why_told : (m : MachineState) (l : Line) → why_behind (after_line m l) (came_of m l) ≡ why_of m l
+why_same : (m : MachineState) (l : Line) → why_behind (after_line m l) (came_of m l) ≡ why_of m l
 unfolding after_line
-why_told m (line.Event event) = ap Some (words_behind m event)
-why_told m (line.Register slot) = refl
-why_told m (line.Bank at) = refl
-why_told m line.Settled = refl
+why_same m (line.Event event) = ap Some (words_behind m event)
+why_same m (line.Register slot) = refl
+why_same m (line.Bank at) = refl
+why_same m line.Settled = refl
+
+why_is : (m : MachineState) (l : Line) (said : List ℕ) → why_told (after_line m l) (came_of m l) (is_prediction l said) ≡ why_for m l said
+why_is m l said = ap (λ w. cond (is_prediction l said) w (Some (answers_text (came_of m l)))) (why_same m l)
 
 -- what is told of a line is told of its prediction
-pub told_behind : (format : Format) (n : ℕ) (m s : MachineState) (text : List ℕ) (l : Line) (said : List ℕ) (came : Came)
-    → came ≡ came_of m l → s ≡ after_line m l
-    → told_if (mark_of came said) (told format n text said (full_text came) (why_behind s came))
+pub told_behind : (format : Format) (n : ℕ) (m s : MachineState) (text : List ℕ) (l : Line) (said : List ℕ) (came : Came) (is_readable : Bool)
+    → came ≡ came_of m l → s ≡ after_line m l → is_readable ≡ is_prediction l said
+    → told_if (mark_of came said) (told format n text said (full_text came) (why_told s came is_readable))
     ≡ correction format (asked_of n m text l said)
-told_behind format n m s text l said came is stands =
+told_behind format n m s text l said came is_readable is stands readable =
     let tells : Came → Option (List ℕ) → List ℕ = λ x why. told_if (mark_of x said) (told format n text said (full_text x) why) in
-    ap (λ x. tells x (why_behind s x)) is
-    ∙ ap (λ z. tells (came_of m l) (why_behind z (came_of m l))) stands
-    ∙ ap (tells (came_of m l)) (why_told m l)
+    ap (λ x. tells x (why_told s x is_readable)) is
+    ∙ ap (λ z. tells (came_of m l) (why_told z (came_of m l) is_readable)) stands
+    ∙ ap (λ t. tells (came_of m l) (why_told (after_line m l) (came_of m l) t)) readable
+    ∙ ap (tells (came_of m l)) (why_is m l said)
 
 -- ---- scores
 
@@ -99,18 +107,20 @@ map_length : (xs : List Asked) → length (map mark xs) ≡ length xs
 map_length [] = refl
 map_length (x ∷ xs) = omega (arith, map_length xs)
 
-one_at_most : (n : ℕ) (m : MachineState) (text : List ℕ) (said : Result (Line × Option (List ℕ)) LineFault)
+one_at_most : (n : ℕ) (m : MachineState) (text : List ℕ) (said : Result (Option SheetLine) LineFault)
     → length (asked_in n m text said) ≤ 1
 one_at_most n m text (Err fault) = omega arith
-one_at_most n m text (Ok (line, None)) = omega arith
-one_at_most n m text (Ok (line, Some said)) = omega arith
+one_at_most n m text (Ok None) = omega arith
+one_at_most n m text (Ok (Some (line, None))) = omega arith
+one_at_most n m text (Ok (Some (line, Some said))) = omega arith
 
 asked_few : (n : ℕ) (m : MachineState) (texts : List (List ℕ)) → length (asked_from n m texts) ≤ length texts
 asked_few n m [] = omega arith
 asked_few n m (t ∷ ts) =
     let next = after_said m (sheet_line t) in
-    let front = asked_in n m t (sheet_line t) in
-    omega (arith, asked_few (n + 1) next ts, one_at_most n m t (sheet_line t), length-append front (asked_from (n + 1) next ts))
+    let front = asked_in n m (without_blanks t) (sheet_line t) in
+    let one = one_at_most n m (without_blanks t) (sheet_line t) in
+    omega (arith, asked_few (n + 1) next ts, one, length-append front (asked_from (n + 1) next ts))
 
 -- no more predictions are counted than there are lines
 pub few_marks : {format : Format} {m m' : MachineState} {texts : List (List ℕ)} {report : List ℕ} {score : Score}
@@ -130,11 +140,13 @@ graded_none format m none zero = record { state = refl; told = none; marks = zer
 module _ {format : Format} {m m' : MachineState} {texts : List (List ℕ)} {report : List ℕ} {score : Score}
     (g : Graded format m texts m' report score) (text : List ℕ) where
   -- what is asked in it
-  abbrev last : Result (Line × Option (List ℕ)) LineFault → List Asked
-  last said = asked_in (1 + length texts) m' text said
+  abbrev last : Result (Option SheetLine) LineFault → List Asked
+  last said = asked_in (1 + length texts) m' (without_blanks text) said
 
   behind : asked m (texts ++ text ∷ []) ≡ asked m texts ++ last (sheet_line text)
-  behind = asked_more 1 m texts text ∙ ap (λ s. asked m texts ++ asked_in (1 + length texts) s text (sheet_line text)) (sym g.state)
+  behind =
+      asked_more 1 m texts text
+      ∙ ap (λ s. asked m texts ++ asked_in (1 + length texts) s (without_blanks text) (sheet_line text)) (sym g.state)
 
   reported : flat_map (correction format) (asked m (texts ++ text ∷ [])) ≡ report ++ flat_map (correction format) (last (sheet_line text))
   reported =
@@ -145,19 +157,31 @@ module _ {format : Format} {m m' : MachineState} {texts : List (List ℕ)} {repo
   now : after_texts m (texts ++ text ∷ []) ≡ after_said m' (sheet_line text)
   now = after_more m texts text ∙ ap (λ s. after_said s (sheet_line text)) (sym g.state)
 
-  pub graded_more : (n : ℕ) (line : Line) (said : Option (List ℕ)) (next : MachineState) (report' : List ℕ) (score' : Score)
-      → n ≡ length texts + 1 → sheet_line text ≡ Ok (line, said) → GradesOne format n m' text line said report score next report' score'
+  -- nothing is asked in it
+  unasked_more : (said : Result (Option SheetLine) LineFault) (next : MachineState) (report' : List ℕ) (score' : Score)
+      → sheet_line text ≡ said → last said ≡ [] → next ≡ after_said m' said → report' ≡ report → score' ≡ score
       → Graded format m (texts ++ text ∷ []) next report' score'
-  graded_more n line None next report' score' number is one = record {
-    state = one.0 ∙ sym (now ∙ ap (after_said m') is);
-    told = one.1 ∙ sym (append-nil report) ∙ sym (reported ∙ ap (λ s. report ++ flat_map (correction format) (last s)) is);
-    marks =
-        one.2 ∙ g.marks
-        ∙ ap (λ xs. score_of (map mark xs)) (sym (append-nil (asked m texts)) ∙ sym (behind ∙ ap (λ s. asked m texts ++ last s) is));
-  }
-  graded_more n line (Some said) next report' score' number is one =
+  unasked_more said next report' score' is none state same_report same_score =
+      let nothing : last (sheet_line text) ≡ [] = ap last is ∙ none in
+      record {
+        state = state ∙ sym (now ∙ ap (after_said m') is);
+        told =
+            same_report ∙ sym (append-nil report) ∙ sym (reported ∙ ap (λ l. report ++ flat_map (correction format) l) nothing);
+        marks =
+            same_score ∙ g.marks
+            ∙ ap (λ xs. score_of (map mark xs)) (sym (append-nil (asked m texts)) ∙ sym (behind ∙ ap (λ l. asked m texts ++ l) nothing));
+      }
+
+  pub graded_more : (n : ℕ) (said : Option SheetLine) (next : MachineState) (report' : List ℕ) (score' : Score)
+      → n ≡ length texts + 1 → sheet_line text ≡ Ok said
+      → GradesOne format n m' (without_blanks text) said report score next report' score'
+      → Graded format m (texts ++ text ∷ []) next report' score'
+  graded_more n None next report' score' number is one = unasked_more (Ok None) next report' score' is refl one.0 one.1 one.2
+  graded_more n (Some (line, None)) next report' score' number is one =
+      unasked_more (Ok (Some (line, None))) next report' score' is refl one.0 one.1 one.2
+  graded_more n (Some (line, Some said)) next report' score' number is one =
       let place : n ≡ 1 + length texts = omega (arith, number) in
-      let a : ℕ → Asked = λ k. asked_of k m' text line said in
+      let a : ℕ → Asked = λ k. asked_of k m' (without_blanks text) line said in
       let told_now : ℕ → List ℕ = λ k. correction format (a k) in
       record {
         state = one.0 ∙ sym (now ∙ ap (after_said m') is);

@@ -1,7 +1,8 @@
 -- What is told of a wrong prediction and of a score, in a format.
-use Rattle.std.specs.Prelude.{ℕ, ◌+◌, Option, Some, None, List, [], ◌∷◌, ◌++◌, codes, decimal}
+use Rattle.std.specs.Prelude.{ℕ, ◌+◌, if◌then◌else◌, Option, Some, None, List, [], ◌∷◌, ◌++◌, map, codes, decimal}
 use Rattle.machine_core.specs.Words.{Answer, Accepted, Lookup}
 use Rattle.named_fields.specs.Formats.{Named, absent, counted, worded, written, row_text, object_text, head_in_format}
+use Rattle.named_fields.specs.Texts.{is_printable}
 use Rattle.named_fields.specs.declared.format.Format.{Format}
 use Rattle.named_fields.specs.declared.format.Format.TheVariants.{Text, Csv, Json}
 use Rattle.trace_text.specs.Codes.{line_feed}
@@ -28,12 +29,22 @@ abbrev pub why_text : Option (List ℕ) → List ℕ
 why_text (Some words) = codes ": " ++ words
 why_text None = []
 
+-- what may be predicted, where a prediction can't be read
+abbrev pub answers_text : Came → List ℕ
+answers_text (Answered event answer before) =
+    codes "an answer is accepted, accepted hit, accepted join, accepted miss, moved, nothing, refused N, value TAG WORD or ?"
+answers_text (Shown text) = codes "an answer is printable text"
+
 -- ---- a wrong prediction
+
+-- a byte as a text shows it: a point, if it isn't printable
+abbrev pub shown_byte : ℕ → ℕ
+shown_byte b = if is_printable b then b else 46
 
 -- the line as it stands in the sheet, and below it what came, and why
 abbrev pub correction_text : ℕ → List ℕ → List ℕ → Option (List ℕ) → List ℕ
 correction_text number text is why =
-    codes "line " ++ (decimal number ++ (codes ": " ++ (text ++ (codes "\n  is " ++ (is ++ why_text why)))))
+    codes "line " ++ (decimal number ++ (codes ": " ++ (map shown_byte text ++ (codes "\n  is " ++ (is ++ why_text why)))))
 
 -- why, by its name
 abbrev pub why_named : Option (List ℕ) → Named

@@ -16,8 +16,8 @@ use Rattle.trace_text.specs.Reading.{FirstLine, ReadInto, ReadWhole, ReadStops, 
 use Rattle.trace_text.specs.declared.fault.TheConstants.{MAX_PAIR}
 use Rattle.trace_text.specs.declared.fault.TraceFault.{TraceFault}
 use Rattle.trace_text.specs.declared.fault.TraceFault.TheVariants.{OutOfMemory}
-use Rattle.trace_sheets.specs.Sheets.{is_open, sheet_line, sheet_fault}
-use Rattle.trace_sheets.specs.Forms.{full_answer, full_text, told, grade_head, score_in}
+use Rattle.trace_sheets.specs.Sheets.{is_open, is_prediction, without_blanks, SheetLine, sheet_line, sheet_fault}
+use Rattle.trace_sheets.specs.Forms.{answers_text, full_answer, full_text, told, grade_head, score_in}
 use Rattle.trace_sheets.specs.declared.grade.Grade.{Grade}
 use Rattle.trace_sheets.specs.declared.came.Came.{Came}
 use Rattle.trace_sheets.specs.declared.came.Came.TheVariants.{Answered, Shown}
@@ -34,7 +34,7 @@ came_of m (line.Register slot) = Shown (reply_text m (line.Register slot))
 came_of m (line.Bank at) = Shown (reply_text m (line.Bank at))
 came_of m line.Settled = Shown (reply_text m line.Settled)
 
--- why it came: the words that stand beside this step where a run is drawn. What is shown has no reason.
+-- Why it came: the words that stand beside this step where a run is drawn. What is shown has no reason.
 abbrev pub why_of : MachineState → Line → Option (List ℕ)
 why_of m (line.Event event) = Some (step_words m event)
 why_of m (line.Register slot) = None
@@ -51,7 +51,11 @@ is_right (Shown text) said = same said text
 abbrev pub mark_of : Came → List ℕ → Mark
 mark_of came said = if is_open said then Open else if is_right came said then Right else Wrong
 
--- a prediction: the number of its line, counted from 1, the line as it stands in the sheet, what is predicted, what came, and why
+-- Why it is told: why it came; or what may be predicted, if a prediction can't be read.
+abbrev pub why_for : MachineState → Line → List ℕ → Option (List ℕ)
+why_for m line said = if is_prediction line said then why_of m line else Some (answers_text (came_of m line))
+
+-- a prediction: the number of its line, counted from 1, the line without the blanks at its end, what is predicted, what came, and why
 pub record Asked : Type 0 where
   pub number : ℕ
   pub text : List ℕ
@@ -61,7 +65,7 @@ pub record Asked : Type 0 where
 
 -- this prediction of a line, by a machine that stands so before it
 abbrev pub asked_of : ℕ → MachineState → List ℕ → Line → List ℕ → Asked
-asked_of n m text line said = record { number = n; text = text; said = said; came = came_of m line; why = why_of m line }
+asked_of n m text line said = record { number = n; text = text; said = said; came = came_of m line; why = why_for m line said }
 
 abbrev pub mark : Asked → Mark
 mark a = mark_of a.came a.said
@@ -77,24 +81,24 @@ correction format a = told_if (mark a) (told format a.number a.text a.said (full
 
 -- ---- a sheet
 
-abbrev pub asked_in : ℕ → MachineState → List ℕ → Result (Line × Option (List ℕ)) LineFault → List Asked
-asked_in n m text (Err fault) = []
-asked_in n m text (Ok (line, None)) = []
-asked_in n m text (Ok (line, Some said)) = asked_of n m text line said ∷ []
+abbrev pub asked_in : ℕ → MachineState → List ℕ → Result (Option SheetLine) LineFault → List Asked
+asked_in n m text (Ok (Some (line, Some said))) = asked_of n m text line said ∷ []
+asked_in n m text nothing = []
 
-abbrev pub after_said : MachineState → Result (Line × Option (List ℕ)) LineFault → MachineState
-after_said m (Err fault) = m
-after_said m (Ok said) = after_line m said.0
+abbrev pub after_said : MachineState → Result (Option SheetLine) LineFault → MachineState
+after_said m (Ok (Some said)) = after_line m said.0
+after_said m nothing = m
 
 -- the machine behind these lines: what is predicted doesn't matter to it
 abbrev pub after_texts : MachineState → List (List ℕ) → MachineState
 after_texts m [] = m
 after_texts m (text ∷ texts) = after_texts (after_said m (sheet_line text)) texts
 
--- the predictions of these lines, of which the first has this number
+-- the predictions of these lines, of which the first has this number: each line counts
 abbrev pub asked_from : ℕ → MachineState → List (List ℕ) → List Asked
 asked_from n m [] = []
-asked_from n m (text ∷ texts) = asked_in n m text (sheet_line text) ++ asked_from (n + 1) (after_said m (sheet_line text)) texts
+asked_from n m (text ∷ texts) =
+    asked_in n m (without_blanks text) (sheet_line text) ++ asked_from (n + 1) (after_said m (sheet_line text)) texts
 
 abbrev pub asked : MachineState → List (List ℕ) → List Asked
 asked m texts = asked_from 1 m texts
@@ -158,9 +162,15 @@ abbrev pub why_behind : MachineState → Came → Option (List ℕ)
 why_behind m (Answered event answer before) = Some (words_by before m event answer)
 why_behind m (Shown text) = None
 
+-- why this is told, by the machine behind its line
+abbrev pub why_told : MachineState → Came → (is_readable : Bool) → Option (List ℕ)
+why_told m came is_readable = if is_readable then why_behind m came else Some (answers_text came)
+
 -- one line more, of this number, which says this
-abbrev pub GradesOne : Format → ℕ → MachineState → List ℕ → Line → Option (List ℕ) → List ℕ → Score → MachineState → List ℕ → Score → Type 0
-GradesOne format number m text line None report score m' report' score' = (m' ≡ after_line m line) × (report' ≡ report) × (score' ≡ score)
-GradesOne format number m text line (Some said) report score m' report' score' =
+abbrev pub GradesOne : Format → ℕ → MachineState → List ℕ → Option SheetLine → List ℕ → Score → MachineState → List ℕ → Score → Type 0
+GradesOne format number m text None report score m' report' score' = (m' ≡ m) × (report' ≡ report) × (score' ≡ score)
+GradesOne format number m text (Some (line, None)) report score m' report' score' =
+    (m' ≡ after_line m line) × (report' ≡ report) × (score' ≡ score)
+GradesOne format number m text (Some (line, Some said)) report score m' report' score' =
     let a = asked_of number m text line said in
     (m' ≡ after_line m line) × (report' ≡ report ++ correction format a) × (score' ≡ with_mark score (mark a))

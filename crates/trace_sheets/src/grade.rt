@@ -1,18 +1,19 @@
 //! A sheet is graded.
 
-ghost use Rattle.std.specs.Prelude.{◌≡◌, ◌<◌, ◌≤◌, ◌++◌, ◌∷◌, [], length, map, OnOk, IfErr};
+ghost use Rattle.std.specs.Prelude.{◌≡◌, ◌<◌, ◌≤◌, ◌++◌, ◌∷◌, [], if◌then◌else◌, Some, length, map, OnOk, IfErr};
 ghost use Rattle.std.specs.Option.{option_map};
 ghost use Rattle.named_fields.specs.Formats.{said as what_is_said};
 ghost use Rattle.trace_text.specs.declared.fault.TheConstants.{BUFFER_LEN, MAX_LINES, MAX_PAIR};
 ghost use Rattle.trace_sheets.specs.Sheets.{sheet_fault, sheet_line};
 ghost use Rattle.trace_text.specs.Codes.{line_feed};
+ghost use Rattle.trace_sheets.specs.Forms as forms;
 ghost use Rattle.trace_sheets.specs.Forms.{correction_text, correction_named, full_text, told, total, why_named, why_text};
-ghost use Rattle.trace_sheets.specs.Grades.{Graded, LeavesBehind, SheetEnds, after_said, mark_of, no_score, told_if, why_behind};
-ghost use Rattle.trace_sheets.specs.Grades.{with_mark};
+ghost use Rattle.trace_sheets.specs.Grades as grades;
+ghost use Rattle.trace_sheets.specs.Grades.{Graded, LeavesBehind, SheetEnds, after_said, mark_of, no_score, told_if, with_mark};
 
 use crate::came::{Came, full_answer};
 use crate::score::{Mark, Score};
-use crate::sheet::sheet_said;
+use crate::sheet::{Said, is_printable, sheet_said, without_blanks};
 use machine_core::ShapedMachine;
 use named_fields::{Field, Format, Object};
 use run_pictures::words_by;
@@ -60,11 +61,27 @@ fn push_correction(
     head.push_decimal(number as u32);
     head.push_bytes(b": ");
     report.extend_from_slice(head.as_bytes())?;
-    report.extend_from_slice(text)?;
+    push_shown(report, text)?;
     report.extend_from_slice(b"\n  is ")?;
     report.extend_from_slice(is)?;
     push_why(report, why)?;
     report.push(b'\n')?;
+    Ok(())
+}
+
+// A terminal is given no byte that isn't printable.
+fn shown_byte(byte: u8) -> u8
+    ensures { result ≡ forms.shown_byte byte }
+{
+    if is_printable(byte) { byte } else { b'.' }
+}
+
+fn push_shown(report: &mut Vec<u8>, text: &[u8]) -> Result<(), AllocError>
+    ensures { OnOk result (report.new.items ≡ report.old.items ++ map forms.shown_byte text.now) }
+{
+    for byte in text {
+        report.push(shown_byte(*byte))?;
+    }
     Ok(())
 }
 
@@ -142,6 +159,29 @@ fn push_form<'b>(
     }
 }
 
+// What may be predicted, where a prediction can't be read.
+fn answers_text(came: &Came) -> &'static [u8]
+    ensures { result.now ≡ forms.answers_text came.now }
+{
+    match came {
+        Came::Answered { .. } =>
+            b"an answer is accepted, accepted hit, accepted join, accepted miss, moved, nothing, refused N, value TAG WORD or ?",
+        Came::Shown(_) => b"an answer is printable text",
+    }
+}
+
+// Why a prediction is told: why its answer came, if it can be read.
+fn why_told<'b>(came: &Came, is_readable: bool, why: Option<&'b [u8]>) -> Option<&'b [u8]>
+    ensures { option_map (λ words. words.now) result
+        ≡ (if is_readable then option_map (λ words. words.now) why.entry else Some (forms.answers_text came.now)) }
+{
+    if is_readable {
+        why
+    } else {
+        Some(answers_text(came))
+    }
+}
+
 // The same; the machine stands behind its line.
 fn push_told(
     alloc: Global,
@@ -151,11 +191,12 @@ fn push_told(
     number: u64,
     text: &[u8],
     said: &[u8],
+    is_readable: bool,
     came: &Came,
 ) -> Result<(), AllocError>
     requires { number ≤ MAX_LINES }
     ensures { OnOk result (report.new.items ≡ report.old.items
-        ++ told format number text.now said.now (full_text came.now) (why_behind machine.now came.now)) }
+        ++ told format number text.now said.now (full_text came.now) (grades.why_told machine.now came.now is_readable)) }
 {
     match came {
         Came::Answered {
@@ -165,7 +206,7 @@ fn push_told(
         } => {
             let is = full_answer(*answer, before.found);
             let words = words_by(alloc, machine, *before, *event, *answer)?;
-            let why = Some(words.as_bytes());
+            let why = why_told(came, is_readable, Some(words.as_bytes()));
             push_form(
                 alloc,
                 format,
@@ -178,6 +219,7 @@ fn push_told(
             )
         }
         Came::Shown(is) => {
+            let why = why_told(came, is_readable, None);
             push_form(
                 alloc,
                 format,
@@ -186,7 +228,7 @@ fn push_told(
                 text,
                 said,
                 is.as_bytes(),
-                None,
+                why,
             )
         }
     }
@@ -207,12 +249,19 @@ impl<'a> Grading<'a> {
     }
 
     // Marks a line's prediction by what came. The machine stands behind it.
-    fn mark(&mut self, number: u64, text: &[u8], said: &[u8], came: &Came) -> Result<(), AllocError>
+    fn mark(
+        &mut self,
+        number: u64,
+        text: &[u8],
+        said: &[u8],
+        is_readable: bool,
+        came: &Came,
+    ) -> Result<(), AllocError>
         requires number { number ≤ MAX_LINES }
         requires few { total self.old.score < MAX_LINES }
         ensures report { OnOk result (self.new.report.now.items ≡ self.old.report.now.items
             ++ told_if (mark_of came.now said.now) (told self.old.format number text.now said.now
-            (full_text came.now) (why_behind self.old.machine.now came.now))) }
+            (full_text came.now) (grades.why_told self.old.machine.now came.now is_readable))) }
         ensures format { self.new.format ≡ self.old.format }
         ensures score { self.new.score ≡ with_mark self.old.score (mark_of came.now said.now) }
         ensures machine { self.new.machine ≡ self.old.machine }
@@ -229,6 +278,7 @@ impl<'a> Grading<'a> {
                 number,
                 text,
                 said,
+                is_readable,
                 came,
             ),
             Mark::Right | Mark::Open => Ok(()),
@@ -254,17 +304,28 @@ impl<'a> Collector for Grading<'a> {
     ghost holds_same = { λ s t. (t.machine.ghost_name ≡ s.machine.ghost_name) × (t.report.ghost_name ≡ s.report.ghost_name) };
 
     fn collect(&mut self, number: u64, text: &[u8]) -> Result<(), Uncollected> {
+        let text = without_blanks(text);
         let read = match sheet_said(text) {
             Ok(read) => read,
             Err(fault) => return Err(Uncollected::Fault(fault)),
         };
-        let came = Came::new(self.machine, read.0);
-        match read.1 {
-            None => Ok(()),
-            Some(said) => match self.mark(number, text, said, &came) {
-                Ok(()) => Ok(()),
-                Err(_) => Err(Uncollected::Halted),
-            },
+        match read {
+            Said::Nothing => Ok(()),
+            Said::Command(line) => {
+                let _came = Came::new(self.machine, line);
+                Ok(())
+            }
+            Said::Prediction {
+                line,
+                said,
+                is_readable,
+            } => {
+                let came = Came::new(self.machine, line);
+                match self.mark(number, text, said, is_readable, &came) {
+                    Ok(()) => Ok(()),
+                    Err(_) => Err(Uncollected::Halted),
+                }
+            }
         }
     }
 
@@ -279,10 +340,11 @@ impl<'a> Collector for Grading<'a> {
 /// A line is one of a trace, to 64 bytes, and may have ` -> ` and a prediction behind it, 768 bytes
 /// in all. Of an event that is an answer, `accepted hit`, `accepted join`, `accepted miss`, or `?`;
 /// of `reg`, `bank` and `settled` any printable text. An answer without its finding is right too.
+/// Another prediction is wrong, and the report says what may stand there. Blanks at a line's end
+/// say nothing, CR among them, nor do empty lines and those that begin with `#`.
 ///
 /// A fault gives no grade, and leaves the machine behind the lines before it: the first is
-/// answered, as by [`read_requests`](trace_text::read_requests), and an impossible prediction is a
-/// bad field. [`TraceFault::OutOfMemory`] may replace any answer: before the first read the machine
+/// answered, as by [`read_requests`](trace_text::read_requests). [`TraceFault::OutOfMemory`] may replace any answer: before the first read the machine
 /// is as it was, else a wrong prediction's line is made already. [`TraceFault::Write`] never comes.
 ///
 /// 4,096 bytes are allocated before the first read, and more only for the report and for wrong

@@ -1,48 +1,135 @@
 //! The lines of a sheet.
 
-ghost use Rattle.std.specs.Prelude.{◌≡◌, ◌+◌, ◌≤◌, ℕ, Ok, Err, Some, length, take, drop, ◌||◌, is_ok, IfOk, IfErr, IfSome};
+ghost use Rattle.std.specs.Prelude.{◌≡◌, ◌+◌, ◌-◌, ◌≤◌, ℕ, Ok, Err, Some, None, true, false, [], length, take, drop, ◌||◌, is_ok, IfOk, IfErr, IfSome};
 ghost use Rattle.std.specs.List.{list_all};
-ghost use Rattle.std.specs.Option.{is_some, option_map};
+ghost use Rattle.std.specs.Option.{is_some};
 ghost use Rattle.machine_core.specs.Words.{Event as EventValue};
 ghost use Rattle.trace_text.specs.Lines.{IsSaid};
 ghost use Rattle.trace_text.specs.Pairs.{answer_of, arrow_in, pair_of};
 ghost use Rattle.named_fields.specs.Texts.{is_printable};
 ghost use Rattle.trace_sheets.specs.Sheets as sheets;
-ghost use Rattle.trace_sheets.specs.Sheets.{front_of, is_prediction, sheet_line};
+ghost use Rattle.trace_sheets.specs.Sheets.{IsSaidBy, ends_in_arrow, front_of, is_prediction};
 
 use trace_text::{Line, LineFault, MAX_LINE, line_said, pair_said};
 
-// A sheet's line without LF: a trace's line, and its prediction if any.
-pub(crate) fn sheet_said(text: &[u8]) -> Result<(Line, Option<&[u8]>), LineFault>
-    ensures ok { IfOk result
-        (λ said. sheet_line text.now ≡ Ok (said.0, option_map (λ s. s.now) said.1)) }
-    ensures fault { IfErr result (λ fault. (sheet_line text.now ≡ Err fault) × IsSaid fault) }
+// What a line of a sheet says. It isn't exported, but `pub`, since definitions name it.
+#[derive(Clone, Copy)]
+pub enum Said<'b> {
+    // It is a comment, or blank.
+    Nothing,
+    // A line of a trace, of which nothing is asked.
+    Command(Line),
+    // A line of a trace, what is predicted of it, and whether that can be read.
+    Prediction {
+        line: Line,
+        said: &'b [u8],
+        is_readable: bool,
+    },
+}
+
+// A line without the blanks at its end.
+pub(crate) fn without_blanks(text: &[u8]) -> &[u8]
+    ensures { result.now ≡ sheets.without_blanks text.now }
 {
+    text.trim_ascii_end()
+}
+
+// What a line says, without LF and blanks at its end.
+#[tactic(auto, unfolding(crate::specs::Sheets::sheet_said))]
+pub(crate) fn sheet_said(text: &[u8]) -> Result<Said<'_>, LineFault>
+    ensures ok { IfOk result (IsSaidBy text.now) }
+    ensures fault { IfErr result (λ fault. (sheets.sheet_said text.now ≡ Err fault) × IsSaid fault) }
+{
+    if says_nothing(text) {
+        return Ok(Said::Nothing);
+    }
     match arrow(text) {
-        None => match front(text) {
-            Ok(line) => Ok((line, None)),
-            Err(fault) => Err(fault),
-        },
+        None => unanswered(text),
         Some(at) => predicted(text, at),
     }
 }
 
-fn predicted(text: &[u8], at: usize) -> Result<(Line, Option<&[u8]>), LineFault>
+// What a line with no arrow within it says.
+fn unanswered(text: &[u8]) -> Result<Said<'_>, LineFault>
+    requires some { sheets.says_nothing text.now ≡ false }
+    requires arrow { arrow_in text.now ≡ None }
+    ensures ok { IfOk result (IsSaidBy text.now) }
+    ensures fault { IfErr result (λ fault. (sheets.sheet_said text.now ≡ Err fault) × IsSaid fault) }
+{
+    match text.strip_suffix(b" ->".as_slice()) {
+        Some(begun) => left_out(text, begun),
+        None => command(text),
+    }
+}
+
+// What a line says that ends in an arrow: its answer is left out.
+fn left_out(text: &[u8], begun: &[u8]) -> Result<Said<'static>, LineFault>
+    requires some { sheets.says_nothing text.now ≡ false }
+    requires arrow { arrow_in text.now ≡ None }
+    requires ends { ends_in_arrow text.now ≡ true }
+    requires begun { begun.now ≡ take (length text.now - 3) text.now }
+    ensures ok { IfOk result (IsSaidBy text.now) }
+    ensures fault { IfErr result (λ fault. (sheets.sheet_said text.now ≡ Err fault) × IsSaid fault) }
+{
+    match front(begun) {
+        Ok(line) => Ok(Said::Prediction {
+            line,
+            said: b"".as_slice(),
+            is_readable: reads_nothing(line),
+        }),
+        Err(fault) => Err(fault),
+    }
+}
+
+// Whether no text is a prediction of this line that can be read.
+fn reads_nothing(line: Line) -> bool
+    ensures { result ≡ is_prediction line [] }
+{
+    match line {
+        Line::Event(_) => false,
+        Line::Register(_) | Line::Bank(_) | Line::Settled => true,
+    }
+}
+
+fn command(text: &[u8]) -> Result<Said<'_>, LineFault>
+    requires some { sheets.says_nothing text.now ≡ false }
+    requires arrow { arrow_in text.now ≡ None }
+    requires whole { ends_in_arrow text.now ≡ false }
+    ensures ok { IfOk result (IsSaidBy text.now) }
+    ensures fault { IfErr result (λ fault. (sheets.sheet_said text.now ≡ Err fault) × IsSaid fault) }
+{
+    match front(text) {
+        Ok(line) => Ok(Said::Command(line)),
+        Err(fault) => Err(fault),
+    }
+}
+
+fn predicted(text: &[u8], at: usize) -> Result<Said<'_>, LineFault>
+    requires some { sheets.says_nothing text.now ≡ false }
     requires arrow { arrow_in text.now ≡ Some at }
     requires bound { at + 4 ≤ length text.now }
-    ensures ok { IfOk result
-        (λ said. sheet_line text.now ≡ Ok (said.0, option_map (λ s. s.now) said.1)) }
-    ensures fault { IfErr result (λ fault. (sheet_line text.now ≡ Err fault) × IsSaid fault) }
+    ensures ok { IfOk result (IsSaidBy text.now) }
+    ensures fault { IfErr result (λ fault. (sheets.sheet_said text.now ≡ Err fault) × IsSaid fault) }
 {
     let line = match front(&text[..at]) {
         Ok(line) => line,
         Err(fault) => return Err(fault),
     };
     let said = &text[at + 4..];
-    if may_be_predicted(line, text, said) {
-        Ok((line, Some(said)))
-    } else {
-        Err(LineFault::Field)
+    Ok(Said::Prediction {
+        line,
+        said,
+        is_readable: is_readable(line, text, said),
+    })
+}
+
+// Whether a line is a comment, or empty.
+fn says_nothing(text: &[u8]) -> bool
+    ensures { result ≡ sheets.says_nothing text.now }
+{
+    match text {
+        [] => true,
+        [first, ..] => *first == b'#',
     }
 }
 
@@ -68,15 +155,15 @@ fn front(text: &[u8]) -> Result<Line, LineFault>
     line_said(text)
 }
 
-// Whether a line may have this prediction.
-fn may_be_predicted(line: Line, text: &[u8], said: &[u8]) -> bool
+// Whether this prediction of a line can be read.
+fn is_readable(line: Line, text: &[u8], said: &[u8]) -> bool
     requires stands { (at : ℕ) × (arrow_in text.now ≡ Some at) × (front_of (take at text.now) ≡ Ok line)
         × (said.now ≡ drop (at + 4) text.now) }
     ensures { result ≡ is_prediction line said.now }
 {
     match line {
         Line::Event(_) => is_open(said) || is_answer(text, said),
-        Line::Register(_) | Line::Bank(_) | Line::Settled => is_printable(said),
+        Line::Register(_) | Line::Bank(_) | Line::Settled => has_printable(said),
     }
 }
 
@@ -90,10 +177,17 @@ fn is_answer(text: &[u8], said: &[u8]) -> bool
 }
 
 // Whether all bytes are printable.
-fn is_printable(said: &[u8]) -> bool
+fn has_printable(said: &[u8]) -> bool
     ensures { result ≡ list_all is_printable said.now }
 {
     said.iter().all(|byte| 32 <= *byte && *byte <= 126)
+}
+
+// Whether a byte is printable.
+pub(crate) fn is_printable(byte: u8) -> bool
+    ensures { result ≡ is_printable byte }
+{
+    32 <= byte && byte <= 126
 }
 
 // Whether nothing is predicted yet.
