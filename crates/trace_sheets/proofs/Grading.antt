@@ -1,5 +1,6 @@
 -- The lines of a sheet, graded one after another.
-use Rattle.std.proofs.Common.{◌≡◌, ℕ, ◌+◌, ◌≤◌, Bool, cond, Option, Some, None, Result, Ok, Err, List, [], ◌∷◌, ◌++◌, map, length, length-append}
+use Rattle.std.proofs.Common.{◌≡◌, ℕ, ◌+◌, ◌≤◌, Bool, cond, Option, Some, None, Result, Ok, Err, List, [], ◌∷◌, ◌++◌, map, length}
+use Rattle.std.proofs.Common.{length-append}
 use Rattle.std.proofs.Common.{append-nil, append_assoc, refl, sym, ◌∙◌, ap, subst, inl, inr, arith}
 use Rattle.std.specs.List.{flat_map}
 use Rattle.std.proofs.lemmas.Grind.{flat_map-append}
@@ -35,7 +36,8 @@ after_more m [] text = refl
 after_more m (t ∷ ts) text = after_more (after_said m (sheet_line t)) ts text
 
 asked_more : (n : ℕ) (m : MachineState) (texts : List (List ℕ)) (text : List ℕ)
-    → asked_from n m (texts ++ text ∷ []) ≡ asked_from n m texts ++ asked_in (n + length texts) (after_texts m texts) (without_blanks text) (sheet_line text)
+    → asked_from n m (texts ++ text ∷ [])
+    ≡ asked_from n m texts ++ asked_in (n + length texts) (after_texts m texts) (without_blanks text) (sheet_line text)
 asked_more n m [] text =
     append-nil (asked_in n m (without_blanks text) (sheet_line text))
     ∙ ap (λ k. asked_in k m (without_blanks text) (sheet_line text)) (omega arith)
@@ -62,7 +64,8 @@ why_is : (m : MachineState) (l : Line) (said : List ℕ) → why_told (after_lin
 why_is m l said = ap (λ w. cond (is_prediction l said) w (Some (answers_text (came_of m l)))) (why_same m l)
 
 -- what is told of a line is told of its prediction
-pub told_behind : (format : Format) (n : ℕ) (m s : MachineState) (text : List ℕ) (l : Line) (said : List ℕ) (came : Came) (is_readable : Bool)
+pub told_behind : (format : Format) (n : ℕ) (m s : MachineState) (text : List ℕ) (l : Line) (said : List ℕ) (came : Came)
+    (is_readable : Bool)
     → came ≡ came_of m l → s ≡ after_line m l → is_readable ≡ is_prediction l said
     → told_if (mark_of came said) (told format n text said (full_text came) (why_told s came is_readable))
     ≡ correction format (asked_of n m text l said)

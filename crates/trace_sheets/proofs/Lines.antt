@@ -11,7 +11,8 @@ use Rattle.trace_text.specs.declared.lines.Line.{Line}
 use Rattle.trace_text.specs.declared.lines.Line.TheVariants as line
 use Rattle.trace_text.specs.declared.lines.LineFault.{LineFault}
 use Rattle.trace_text.specs.declared.lines.LineFault.TheVariants.{Field}
-use Rattle.trace_sheets.specs.Sheets.{IsSaidBy, ends_in_arrow, front_of, is_prediction, predicted, says_nothing, sheet_cut, sheet_said, unasked, without_blanks}
+use Rattle.trace_sheets.specs.Sheets.{IsSaidBy, ends_in_arrow, front_of, is_prediction, predicted, says_nothing, sheet_cut, sheet_said}
+use Rattle.trace_sheets.specs.Sheets.{unasked, without_blanks}
 use Rattle.trace_sheets.specs.declared.sheet.Said.{Said}
 
 front_line : (text : List ℕ) (l : Line) → front_of text ≡ Ok l → line_of text ≡ Ok l

@@ -344,8 +344,9 @@ impl<'a> Collector for Grading<'a> {
 /// say nothing, CR among them, nor do empty lines and those that begin with `#`.
 ///
 /// A fault gives no grade, and leaves the machine behind the lines before it: the first is
-/// answered, as by [`read_requests`](trace_text::read_requests). [`TraceFault::OutOfMemory`] may replace any answer: before the first read the machine
-/// is as it was, else a wrong prediction's line is made already. [`TraceFault::Write`] never comes.
+/// answered, as by [`read_requests`](trace_text::read_requests). [`TraceFault::OutOfMemory`] may
+/// replace any answer: before the first read the machine is as it was, else a wrong prediction's
+/// line is made already. [`TraceFault::Write`] never comes.
 ///
 /// 4,096 bytes are allocated before the first read, and more only for the report and for wrong
 /// predictions.

@@ -1,6 +1,7 @@
 //! The lines of a sheet.
 
-ghost use Rattle.std.specs.Prelude.{◌≡◌, ◌+◌, ◌-◌, ◌≤◌, ℕ, Ok, Err, Some, None, true, false, [], length, take, drop, ◌||◌, is_ok, IfOk, IfErr, IfSome};
+ghost use Rattle.std.specs.Prelude.{◌≡◌, ◌+◌, ◌-◌, ◌≤◌, ℕ, Ok, Err, Some, None, true, false, [], length, take, drop, ◌||◌, is_ok};
+ghost use Rattle.std.specs.Prelude.{IfOk, IfErr, IfSome};
 ghost use Rattle.std.specs.List.{list_all};
 ghost use Rattle.std.specs.Option.{is_some};
 ghost use Rattle.machine_core.specs.Words.{Event as EventValue};
