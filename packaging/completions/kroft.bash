@@ -11,7 +11,8 @@ _kroft() {
     *:--shape) mapfile -t COMPREPLY < <(compgen -f -- "$word"); compopt -o filenames 2>/dev/null; return ;;
     *:--machine) mapfile -t COMPREPLY < <(compgen -f -- "$word"); compopt -o filenames 2>/dev/null; return ;;
     *:--image) mapfile -t COMPREPLY < <(compgen -f -- "$word"); compopt -o filenames 2>/dev/null; return ;;
-    *:--format) COMPREPLY=($(compgen -W 'text csv json' -- "$word")); return ;;
+    check:--format|explain:--format|history:--format) COMPREPLY=($(compgen -W 'text json' -- "$word")); return ;;
+    sweep:--format|grade:--format|drive:--format) COMPREPLY=($(compgen -W 'text csv json' -- "$word")); return ;;
     *:--latency) COMPREPLY=($(compgen -W '' -- "$word")); return ;;
     *:--busy) COMPREPLY=($(compgen -W '' -- "$word")); return ;;
     *:--registers) COMPREPLY=($(compgen -W '' -- "$word")); return ;;
