@@ -16,4 +16,5 @@ mod tasks;
 pub use one_try::OneTryWriter;
 pub use program::tool;
 pub use register_sweeps::{Row, SweepFault, SweepGate, sweep, sweep_row};
+pub use round_driver::Timing;
 pub use shape_files::{ShapeFault, ToolShape, read_shape};

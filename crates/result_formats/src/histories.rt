@@ -2,7 +2,7 @@
 
 ghost use Rattle.std.specs.Prelude.{◌≡◌, map, IfOk, string_bytes};
 ghost use Rattle.std.specs.Option.{option_copied};
-ghost use Rattle.named_fields.specs.Formats.{said};
+ghost use Rattle.named_fields.specs.Formats.{object_text, said};
 ghost use Rattle.history_text.specs.Answers.{law_text, kind_text};
 ghost use Rattle.result_formats.specs.Histories as histories;
 
@@ -377,6 +377,23 @@ fn sources_in(alloc: Global, cause: Option<&RefusalCause>) -> Result<String, All
     }
 }
 
+// The verdict as an object, with the bytes that a load may return and where they come from.
+fn object_in<'a>(
+    alloc: Global,
+    law: HistoryLaw,
+    end: &HistoryEnd,
+    allowed: &'a [u8],
+    sources: &'a [u8],
+) -> Result<String, AllocError>
+    requires allowed { allowed.now ≡ histories.allowed_in (histories.cause_in (histories.refusal_in end.now)) }
+    requires sources { sources.now ≡ histories.sources_in (histories.cause_in (histories.refusal_in end.now)) }
+    ensures { IfOk result (λ text. string_bytes text ≡ object_text (histories.history_named law end.now)) }
+{
+    let fields = history_fields(law, end, allowed, sources);
+    let object = Object(&fields);
+    format!(in alloc; "{object}")
+}
+
 /// What became of a history under a law, in a format, with no line feed at its end. `AllocError` says that there was too
 /// little memory.
 #[tactic(auto, unfolding(crate::specs::Histories::history_in, named_fields::specs::Formats::verdict_in))]
@@ -398,9 +415,7 @@ pub fn history_in(
             let cause = cause_in(refusal_in(end));
             let allowed = allowed_in(cause);
             let sources = sources_in(alloc, cause)?;
-            let fields = history_fields(law, end, allowed.as_slice(), sources.as_bytes());
-            let object = Object(&fields);
-            format!(in alloc; "{object}")
+            object_in(alloc, law, end, allowed.as_slice(), sources.as_bytes())
         }
     }
 }

@@ -1,6 +1,6 @@
 -- Pieces of scripts, and their runs one behind the other: one more, the last one, and one that stops.
 use Rattle.std.proofs.Common.{◌≡◌, ℕ, suc, ◌+◌, ◌*◌, ◌<◌, ◌≤◌, ◌⊎◌, inl, inr, List, [], ◌∷◌, ◌++◌, length, map, drop, slice_index_or, refl}
-use Rattle.std.proofs.Common.{sym, ap, ◌∙◌, arith, add-one, append_assoc, zero, take}
+use Rattle.std.proofs.Common.{sym, ap, ◌∙◌, subst, arith, add-one, append_assoc, zero, take}
 use Rattle.std.specs.Prelude.{max, false}
 use Rattle.std.specs.Global.{Vec}
 use Rattle.std.specs.Int.{div_ceil}
@@ -18,7 +18,7 @@ use Rattle.ring_station.specs.declared.fault.SegmentFault.{SegmentFault}
 use Rattle.ring_station.specs.declared.segment.Segment.{Segment}
 use Rattle.ring_station.specs.Segments.{EachIsHeard, HaveRunOn, HandsOut, piece_behind, HandsOutNext, RunsNext, StopsNext, MayBeLost}
 use Rattle.ring_station.specs.Segments.{pieces_of, HasRunPieces, lists_at, journals_of, longest_of, RunsInSegments, StopsBehind}
-use Rattle.ring_station.specs.Segments.{EachKeepsTo, RunsInTurns, StopsInTurns, piece_count, joined}
+use Rattle.ring_station.specs.Segments.{EachKeepsTo, RunsInTurns, StopsInTurns, FailsBehind, FailsNext, piece_count, joined}
 use Rattle.ring_station.specs.PortRuns.{AreHeard}
 use Rattle.ring_station.specs.Within.{KeepsTo}
 use Rattle.ring_station.proofs.CrewRunning.{item_of}
@@ -289,3 +289,14 @@ module _ {W B R D begin asks turns : ℕ} {scripts : List (Vec Ask)} {first old 
               within)
               (keeps_self turns new) (still ∙ same) refl
         ]
+
+-- and why
+pub fails_there : {W B R D begin asks turns : ℕ} {scripts : List (Vec Ask)} {first old new : Station W B R D}
+    {before : List Segment → Type 0} {fault : SegmentFault} → HasComeTo begin asks turns scripts first old before
+    → FailsNext begin asks turns scripts old new fault → FailsBehind turns asks scripts first new fault
+fails_there {asks = asks} {turns = turns} {scripts = scripts} {old = old} {new = new} {fault = fault} come fails = record {
+  segments = come.segments;
+  renewed = old;
+  each = come.each;
+  fails = subst (λ b. FailsNext b asks turns scripts old new fault) come.begin_is fails;
+}

@@ -3,9 +3,8 @@
 
 use super::sweeps::{REQUESTS, row_of_three_loads, with_registers};
 use flat_model::ShapeField;
-use kroft_command::tool;
+use kroft_command::{Timing, tool};
 use register_sweeps::{OpenGate, SweepFault, sweep, sweep_rounds, sweep_row};
-use round_driver::Timing;
 use shape_files::{ShapeFault, read_shape};
 use std::io::Cursor;
 use std::test::Fail;

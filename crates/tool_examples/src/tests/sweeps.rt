@@ -1,10 +1,10 @@
 //! Sweeps on threads, in a gate's order, at their limits and largest sizes.
 
 use flat_model::Event;
+use kroft_command::Timing;
 use register_sweeps::{
     OpenGate, Row, SweepFault, SweepGate, sweep, sweep_machines, sweep_rounds, sweep_row,
 };
-use round_driver::Timing;
 use shape_files::{ToolShape, read_shape};
 use std::alloc::Global;
 use std::fmt::Display;

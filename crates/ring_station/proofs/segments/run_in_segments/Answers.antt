@@ -4,7 +4,7 @@ use Rattle.std.proofs.lemmas.Result.{err_from_is_err_and}
 use Rattle.station_parts.specs.Ids.{port_id}
 use Rattle.station_parts.proofs.SameParts.{still_same, same_still}
 use Rattle.ring_station.proofs.Ending.{long_alike}
-use Rattle.ring_station.proofs.RunningOn.{come_further, stops_there, turns_to_the_end, runs_in_segments, keeps_in_all, none_heard}
+use Rattle.ring_station.proofs.RunningOn.{come_further, stops_there, fails_there, turns_to_the_end, runs_in_segments, keeps_in_all, none_heard}
 use Rattle.ring_station.proofs.RunningOn.{both_heard}
 use Rattle.ring_station.proofs.segments.run_in_segments.Goals as goal
 
@@ -52,6 +52,11 @@ returns-in_err-run_pieces-clause-stops_within g c =
     rw (told.1, ← c.max-asks.ensures, told.2)
     (stops_there before.so_far stop.stops stop.within before.same.ports stop.same.ports
     (both_heard (g.G.Gate.has_heard _) g.K.Keeper.kept _ _ _ (g.met.K.Keeper.kept_more _ _ _))).1
+
+pub returns-in_err-run_pieces-clause-fault : goal.returns-in_err-run_pieces-clause-fault
+returns-in_err-run_pieces-clause-fault g c =
+    let told = err_from_is_err_and c.from_residual.result c.from_residual.ensures.1 in
+    rw (told.1, ← c.max-asks.ensures, told.2) (fails_there c.loop-begin.invariant.so_far c.in_err-run_pieces.ensures.fault)
 
 pub returns-then-longest-begin-clause-each_within : goal.returns-then-longest-begin-clause-each_within
 returns-then-longest-begin-clause-each_within g c =

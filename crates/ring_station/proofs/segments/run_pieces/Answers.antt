@@ -29,3 +29,15 @@ returns-clause-runs g c =
       handed_out = hands_out_next c.in_ok-pieces.ensures (c.requires.scripts ∙ c.args.station.now.ports.ok.0)
           (rw c.deref.ensures.value at ran.lists) ran.journal;
     }
+
+pub returns-in_err-keep-clause-fault : goal.returns-in_err-keep-clause-fault
+returns-in_err-keep-clause-fault g c =
+    let told = c.from_residual-in_err-keep in
+    let fault = err_from_is_err_and told.result told.ensures.1 in
+    let ran = c.in_ok-segment.ensures in
+    rw fault.1 (inr (inr (
+      c.in_ok-segment.segment,
+      hands_out_next c.in_ok-pieces.ensures (c.requires.scripts ∙ c.args.station.now.ports.ok.0) (rw c.deref.ensures.value at ran.lists)
+          ran.journal,
+      fault.2,
+    )))
