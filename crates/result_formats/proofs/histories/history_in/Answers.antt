@@ -10,4 +10,4 @@ object_in-requires-clause-allowed c =
 pub object_in-requires-clause-sources : goal.object_in-requires-clause-sources
 object_in-requires-clause-sources c =
     let cause = c.cause_in-cause.ensures ∙ ap histories.cause_in c.refusal_in.ensures in
-    c.as_bytes.ensures.value ∙ c.in_ok-sources.ensures ∙ ap histories.sources_in cause
+    c.as_bytes.ensures.value ∙ c.in_ok-sources-in-Json.ensures ∙ ap histories.sources_in cause

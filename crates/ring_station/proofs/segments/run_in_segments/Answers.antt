@@ -4,8 +4,8 @@ use Rattle.std.proofs.lemmas.Result.{err_from_is_err_and}
 use Rattle.station_parts.specs.Ids.{port_id}
 use Rattle.station_parts.proofs.SameParts.{still_same, same_still}
 use Rattle.ring_station.proofs.Ending.{long_alike}
-use Rattle.ring_station.proofs.RunningOn.{come_further, stops_there, fails_there, turns_to_the_end, runs_in_segments, keeps_in_all, none_heard}
-use Rattle.ring_station.proofs.RunningOn.{both_heard}
+use Rattle.ring_station.proofs.RunningOn.{come_further, stops_there, fails_there, turns_to_the_end, runs_in_segments, keeps_in_all}
+use Rattle.ring_station.proofs.RunningOn.{none_heard, both_heard}
 use Rattle.ring_station.proofs.segments.run_in_segments.Goals as goal
 
 pub loop-begin-init : goal.loop-begin-init
