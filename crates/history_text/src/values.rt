@@ -269,6 +269,28 @@ fn write_through<R: Source, W: Sink, J: HistoryJudge>(
     }
 }
 
+// The same from the first line on.
+fn write_from<R: Source, W: Sink, J: HistoryJudge + Drop>(
+    alloc: Global,
+    reader: &mut R,
+    writer: &mut W,
+    judging: Judging<J>,
+) -> Result<HistoryEnd, TraceFault>
+    requires { (start : Begin J) × HasJudged J.took J.law start [] judging }
+    ensures { (start : Begin J) → HasJudged J.took J.law start [] judging
+        → Writes R.gave R.failed W.took W.refused W.unflushed (law_begun J.law start) reader.old reader.new
+        writer.old writer.new result }
+{
+    let mut writing = Writing {
+        alloc,
+        writer,
+        judging,
+        due: false,
+    };
+    let mut buffer = vec![in alloc; 0u8; BUFFER_LEN]?;
+    write_through(reader, &mut writing, &mut buffer)
+}
+
 /// Reads a history and judges it as [`judge_history`](crate::judge_history) does, and writes each line
 /// before it is judged, the first that is none of the law too. Behind the answer to an open load stands
 /// what it may have returned, for each byte: ` -> 00|5a 5a` says that the first byte may be 00 or 5a, and
@@ -296,12 +318,6 @@ pub fn write_values<R: Source, W: Sink, J: HistoryJudge + Drop>(
         → Writes R.gave R.failed W.took W.refused W.unflushed (told_by (J.law judge) t) reader.old reader.new writer.old
         writer.new result }
 {
-    let mut writing = Writing {
-        alloc,
-        writer,
-        judging: Judging::new(alloc, judge, notes),
-        due: false,
-    };
-    let mut buffer = vec![in alloc; 0u8; BUFFER_LEN]?;
-    write_through(reader, &mut writing, &mut buffer)
+    let judging = Judging::new(alloc, judge, notes);
+    write_from(alloc, reader, writer, judging)
 }
