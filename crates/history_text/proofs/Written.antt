@@ -92,39 +92,39 @@ module _ {R W J : Type 0} (gave : R → List ℕ → R → Type 0) (failed : R �
     (c c' : Writing W J) where
   abbrev WritingReads : Result (Unit {0}) ReadStop → Type 0
   WritingReads = ReadsWithin gave failed history_fault
-      (λ s texts t. WereJudged judged law s.judging texts t.judging × WereTold took judged law s.judging s.writer.now texts t.writer.now
+      (λ s texts t. WereJudged judged law s.judging.now texts t.judging.now × WereTold took judged law s.judging.now s.writer.now texts t.writer.now
       × (t.due ≡ true → 0 < length texts))
-      (λ s text t. (other : Begin J) (texts : List (List ℕ)) (first : W) → HasJudged judged law other texts s.judging
+      (λ s text t. (other : Begin J) (texts : List (List ℕ)) (first : W) → HasJudged judged law other texts s.judging.now
       → Told took (law_begun law other) first texts s.writer.now
-      → WriteStops took refused (law_begun law other) first texts text t.writer.now t.judging.stop)
-      (λ s t. Flushes took s.due s.writer.now t.writer.now × (t.judging ≡ s.judging))
-      (λ s t. unflushed s.writer.now t.writer.now × (t.judging.stop ≡ write_stop)) MAX_PAIR most_lines r r' c c'
+      → WriteStops took refused (law_begun law other) first texts text t.writer.now t.judging.now.stop)
+      (λ s t. Flushes took s.due s.writer.now t.writer.now × (t.judging.now ≡ s.judging.now))
+      (λ s t. unflushed s.writer.now t.writer.now × (t.judging.now.stop ≡ write_stop)) MAX_PAIR most_lines r r' c c'
 
-  pub writes_whole : (end : HistoryEnd) → HasJudged judged law start [] c.judging → WritingReads (Ok tt)
-      → end ≡ history.OfLaw c'.judging.judged.counts.events (open_in c'.judging.judged.counts)
+  pub writes_whole : (end : HistoryEnd) → HasJudged judged law start [] c.judging.now → WritingReads (Ok tt)
+      → end ≡ history.OfLaw c'.judging.now.judged.counts.events (open_in c'.judging.now.judged.counts)
       → Writes gave failed took refused unflushed (law_begun law start) r r' c.writer.now c'.writer.now (Ok end)
   writes_whole end begun reads is =
-      ends_whole gave failed r r' (λ l. Told took (law_begun law start) c.writer.now l c'.writer.now) c'.judging end reads.2
+      ends_whole gave failed r r' (λ l. Told took (law_begun law start) c.writer.now l c'.writer.now) c'.judging.now end reads.2
       (subst (HasJudged judged law start reads.0) (sym reads.4.1) (reads.3.0.each start begun))
       (told_after reads.1.due (reads.3.1 start begun) reads.3.2 reads.4.0) is
 
-  fault_written : (f : TraceFault) → HasJudged judged law start [] c.judging → WritingReads (Err (Fault f))
+  fault_written : (f : TraceFault) → HasJudged judged law start [] c.judging.now → WritingReads (Err (Fault f))
       → Writes gave failed took refused unflushed (law_begun law start) r r' c.writer.now c'.writer.now (Err f)
   fault_written f begun reads =
       writes_fault gave failed took refused unflushed (law_begun law start) r r' c.writer.now c'.writer.now reads.0 f reads.2
       (reads.3.0.each start begun).of_law (told_after reads.1.due (reads.3.1 start begun) reads.3.2 reads.4.0)
 
-  pub told_fault : (s : ReadStop) (f : TraceFault) → HasJudged judged law start [] c.judging → s ≡ Fault f → WritingReads (Err s)
+  pub told_fault : (s : ReadStop) (f : TraceFault) → HasJudged judged law start [] c.judging.now → s ≡ Fault f → WritingReads (Err s)
       → Writes gave failed took refused unflushed (law_begun law start) r r' c.writer.now c'.writer.now (Err f)
   told_fault s f begun is reads = fault_written f begun (subst (λ x. WritingReads (Err x)) is reads)
 
-  halted_written : HasJudged judged law start [] c.judging → WritingReads (Err Halted)
-      → Writes gave failed took refused unflushed (law_begun law start) r r' c.writer.now c'.writer.now (ended_by c'.judging.stop)
+  halted_written : HasJudged judged law start [] c.judging.now → WritingReads (Err Halted)
+      → Writes gave failed took refused unflushed (law_begun law start) r r' c.writer.now c'.writer.now (ended_by c'.judging.now.stop)
   halted_written begun (texts, rest, v, went, ends) =
       let h = went.0.each start begun in
       let told = went.1 start begun in
       let stays = writes_unflushed gave failed took refused unflushed (law_begun law start) r r' c.writer.now c'.writer.now texts rest
-      v.writer.now c'.judging.stop h.of_law told in
+      v.writer.now c'.judging.now.stop h.of_law told in
       elim ends [
         | inl before ↦ stays before.1.0 before.1.1 (inl before.0)
         | inr into ↦ elim into.1 [
@@ -132,11 +132,11 @@ module _ {R W J : Type 0} (gave : R → List ℕ → R → Type 0) (failed : R �
           | inr line ↦
               let first = line.1 in
               writes_stopped gave failed took refused unflushed (law_begun law start) r r' c.writer.now c'.writer.now texts rest
-              c'.judging.stop into.0 h.of_law
+              c'.judging.now.stop into.0 h.of_law
               (first.0, first.1, first.2, first.3, first.4 start texts c.writer.now h told)
         ]
       ]
 
-  pub told_halted : (s : ReadStop) → HasJudged judged law start [] c.judging → s ≡ Halted → WritingReads (Err s)
-      → Writes gave failed took refused unflushed (law_begun law start) r r' c.writer.now c'.writer.now (ended_by c'.judging.stop)
+  pub told_halted : (s : ReadStop) → HasJudged judged law start [] c.judging.now → s ≡ Halted → WritingReads (Err s)
+      → Writes gave failed took refused unflushed (law_begun law start) r r' c.writer.now c'.writer.now (ended_by c'.judging.now.stop)
   told_halted s begun is reads = halted_written begun (subst (λ x. WritingReads (Err x)) is reads)

@@ -169,7 +169,7 @@ fn write_line<W: Sink, J: HistoryJudge>(
 pub(crate) struct Writing<'a, W, J> {
     pub(crate) alloc: Global,
     pub(crate) writer: &'a mut W,
-    pub(crate) judging: Judging<J>,
+    pub(crate) judging: &'a mut Judging<J>,
     pub(crate) due: bool,
 }
 
@@ -178,17 +178,18 @@ impl<'a, W: Sink, J: HistoryJudge> Writing<'a, W, J> {
     fn write(&mut self, text: &[u8], event: &Option<OwnedEvent>) -> Result<(), Uncollected>
         requires { line_of text.now ≡ Ok (seen_by event.now) }
         ensures ok { OnOk result ((start : Begin J) (texts : List (List ℕ)) (first : W)
-            → HasJudged J.took J.law start texts self.old.judging
+            → HasJudged J.took J.law start texts self.old.judging.now
             → Told W.took (law_begun J.law start) first texts self.old.writer.now
             → Told W.took (law_begun J.law start) first (texts ++ text.now ∷ []) self.new.writer.now) }
-        ensures judging { OnOk result (self.new.judging ≡ self.old.judging) }
+        ensures judging { OnOk result (self.new.judging.now ≡ self.old.judging.now) }
         ensures stop { IfErr result (λ miss. (miss ≡ Uncollected.Halted)
             × ((start : Begin J) (texts : List (List ℕ)) (first : W)
-            → HasJudged J.took J.law start texts self.old.judging
+            → HasJudged J.took J.law start texts self.old.judging.now
             → Told W.took (law_begun J.law start) first texts self.old.writer.now
             → WriteStops W.took W.refused (law_begun J.law start) first texts text.now self.new.writer.now
-            self.new.judging.stop)) }
+            self.new.judging.now.stop)) }
         ensures same { self.new.writer.ghost_name ≡ self.old.writer.ghost_name }
+        ensures same_judging { self.new.judging.ghost_name ≡ self.old.judging.ghost_name }
     {
         self.due = true;
         match write_line(self.alloc, self.writer, &self.judging.judged, text, event) {
@@ -208,21 +209,21 @@ impl<'a, W: Sink, J: HistoryJudge> Collector for Writing<'a, W, J> {
 
     ghost most_lines = { most_lines };
 
-    ghost went = { λ s texts t. WereJudged J.took J.law s.judging texts t.judging
-        × WereTold W.took J.took J.law s.judging s.writer.now texts t.writer.now
+    ghost went = { λ s texts t. WereJudged J.took J.law s.judging.now texts t.judging.now
+        × WereTold W.took J.took J.law s.judging.now s.writer.now texts t.writer.now
         × (t.due ≡ true → 0 < length texts) };
 
     ghost stopped = { λ s text t. (start : Begin J) (texts : List (List ℕ)) (first : W)
-        → HasJudged J.took J.law start texts s.judging
+        → HasJudged J.took J.law start texts s.judging.now
         → Told W.took (law_begun J.law start) first texts s.writer.now
-        → WriteStops W.took W.refused (law_begun J.law start) first texts text t.writer.now t.judging.stop };
+        → WriteStops W.took W.refused (law_begun J.law start) first texts text t.writer.now t.judging.now.stop };
 
-    ghost paused = { λ s t. Flushes W.took s.due s.writer.now t.writer.now × (t.judging ≡ s.judging) };
+    ghost paused = { λ s t. Flushes W.took s.due s.writer.now t.writer.now × (t.judging.now ≡ s.judging.now) };
 
     ghost unpaused = { λ s t. W.unflushed s.writer.now t.writer.now
-        × (t.judging.stop ≡ write_stop) };
+        × (t.judging.now.stop ≡ write_stop) };
 
-    ghost holds_same = { λ s t. t.writer.ghost_name ≡ s.writer.ghost_name };
+    ghost holds_same = { λ s t. (t.writer.ghost_name ≡ s.writer.ghost_name) × (t.judging.ghost_name ≡ s.judging.ghost_name) };
 
     fn collect(&mut self, number: u64, text: &[u8]) -> Result<(), Uncollected> {
         let event = read_history_line(text)?;
@@ -253,11 +254,12 @@ fn write_through<R: Source, W: Sink, J: HistoryJudge>(
 ) -> Result<HistoryEnd, TraceFault>
     requires room { length buffer.old ≡ BUFFER_LEN }
     requires due { writing.old.due ≡ false }
-    requires begun { (start : Begin J) × HasJudged J.took J.law start [] writing.old.judging }
-    ensures ends { (start : Begin J) → HasJudged J.took J.law start [] writing.old.judging
+    requires begun { (start : Begin J) × HasJudged J.took J.law start [] writing.old.judging.now }
+    ensures ends { (start : Begin J) → HasJudged J.took J.law start [] writing.old.judging.now
         → Writes R.gave R.failed W.took W.refused W.unflushed (law_begun J.law start) reader.old reader.new
         writing.old.writer.now writing.new.writer.now result }
     ensures same { writing.new.writer.ghost_name ≡ writing.old.writer.ghost_name }
+    ensures same_judging { writing.new.judging.ghost_name ≡ writing.old.judging.ghost_name }
 {
     match read_lines_within(reader, writing, MAX_PAIR, u64::MAX, buffer) {
         Ok(()) => Ok(writing.judging.judged.counts.end()),
@@ -270,24 +272,24 @@ fn write_through<R: Source, W: Sink, J: HistoryJudge>(
 }
 
 // The same from the first line on.
-fn write_from<R: Source, W: Sink, J: HistoryJudge + Drop>(
+fn write_from<R: Source, W: Sink, J: HistoryJudge>(
     alloc: Global,
     reader: &mut R,
     writer: &mut W,
-    judging: Judging<J>,
+    judging: &mut Judging<J>,
 ) -> Result<HistoryEnd, TraceFault>
-    requires { (start : Begin J) × HasJudged J.took J.law start [] judging }
-    ensures { (start : Begin J) → HasJudged J.took J.law start [] judging
+    requires { (start : Begin J) × HasJudged J.took J.law start [] judging.old }
+    ensures { (start : Begin J) → HasJudged J.took J.law start [] judging.old
         → Writes R.gave R.failed W.took W.refused W.unflushed (law_begun J.law start) reader.old reader.new
         writer.old writer.new result }
 {
+    let mut buffer = vec![in alloc; 0u8; BUFFER_LEN]?;
     let mut writing = Writing {
         alloc,
         writer,
         judging,
         due: false,
     };
-    let mut buffer = vec![in alloc; 0u8; BUFFER_LEN]?;
     write_through(reader, &mut writing, &mut buffer)
 }
 
@@ -318,6 +320,6 @@ pub fn write_values<R: Source, W: Sink, J: HistoryJudge + Drop>(
         → Writes R.gave R.failed W.took W.refused W.unflushed (told_by (J.law judge) t) reader.old reader.new writer.old
         writer.new result }
 {
-    let judging = Judging::new(alloc, judge, notes);
-    write_from(alloc, reader, writer, judging)
+    let mut judging = Judging::new(alloc, judge, notes);
+    write_from(alloc, reader, writer, &mut judging)
 }
