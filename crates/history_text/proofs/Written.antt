@@ -1,33 +1,28 @@
 -- What is written of the lines of a history.
-use Rattle.std.proofs.Common.{◌≡◌, ℕ, ◌+◌, ◌^◌, ◌<◌, Option, Some, None, Result, Ok, Err, List, [], ◌∷◌, ◌++◌, length, append_assoc, refl}
-use Rattle.std.proofs.Common.{sym, ap, subst, arith}
+use Rattle.std.proofs.Common.{◌≡◌, ℕ, ◌+◌, ◌<◌, ◌⊎◌, Bool, true, false, Option, Result, Ok, Err, List, [], ◌∷◌, ◌++◌, length, refl, sym, subst}
+use Rattle.std.proofs.Common.{inl, inr, arith}
 use Rattle.memory_histories.specs.declared.events.HistoryEvent.{HistoryEvent}
 use Rattle.memory_histories.specs.declared.sets.ByteSet.{ByteSet}
-use Rattle.trace_text.specs.Streams.{Came, Moves}
-use Rattle.trace_text.specs.Reading.{Good}
+use Rattle.trace_text.specs.Reading.{FirstLine, ReadSoFarWithin, ReadIntoWithin, ReadStopsWithin}
+use Rattle.trace_text.specs.Collecting.{ReadsWithin}
+use Rattle.trace_text.specs.declared.reading.Stop.{Stop as ReadStop}
+use Rattle.trace_text.specs.declared.reading.Stop.TheVariants.{Fault, Halted}
 use Rattle.trace_text.specs.declared.fault.TheConstants.{MAX_PAIR}
-use Rattle.trace_text.specs.declared.lines.LineFault.TheVariants.{Unknown, Field, TooLong, NotEnded}
 use Rattle.trace_text.specs.declared.fault.TraceFault.{TraceFault}
 use Rattle.trace_text.specs.declared.fault.TraceFault.TheVariants as fault
-use Rattle.history_text.specs.Lines.{line_of}
 use Rattle.history_text.specs.Laws.{Law}
 use Rattle.history_text.specs.Operations.{byte_address, open_in}
-use Rattle.history_text.specs.Refusals.{IsRefusal}
-use Rattle.history_text.specs.Histories.{history_fault, events_of, IsEventLine, ReadSoFar, HasRead, LineStops, EndsWith, ended_by}
-use Rattle.history_text.specs.Values.{AreSetsFrom, Told, TellStops, ByteStops, ToldIn, Writes}
-use Rattle.history_text.specs.declared.answers.HistoryEnd.{HistoryEnd}
-use Rattle.history_text.specs.declared.judged.OpenLoad.{OpenLoad}
-use Rattle.history_text.specs.declared.judged.Judged.{Judged}
-use Rattle.history_text.specs.Notes.{windows_of}
+use Rattle.history_text.specs.Histories.{most_lines, history_fault, events_of, AreOfLaw, ended_by, HasJudged, WereJudged}
+use Rattle.history_text.specs.Values.{AreSetsFrom, Told, nothing, one_more, TellStops, Flushes, WereTold, WriteStops, Writes, write_stop}
 use Rattle.history_text.specs.Told.{ToldLaw, Begin, law_begun}
+use Rattle.history_text.specs.declared.answers.HistoryEnd.{HistoryEnd}
+use Rattle.history_text.specs.declared.answers.HistoryEnd.TheVariants as history
+use Rattle.history_text.specs.declared.values.Writing.{Writing}
+use Rattle.history_text.specs.declared.judged.OpenLoad.{OpenLoad}
 use Rattle.history_text.specs.declared.judged.Stop.{Stop}
 use Rattle.history_text.specs.declared.judged.Stop.TheVariants as stop
-use Rattle.trace_text.proofs.LineTexts.{good_more}
-use Rattle.history_text.proofs.LineTexts.{events_few}
-use Rattle.history_text.proofs.LinesRead.{ends_in, ends_more}
-use Rattle.history_text.proofs.Endings.{into}
-
--- ---- sets
+use Rattle.trace_text.proofs.Serving.{moved_still}
+use Rattle.history_text.proofs.Ends.{ends_whole, ends_fault, ends_stopped}
 
 -- the set of one byte more
 pub sets_more : (law : ToldLaw) (events : List HistoryEvent) (load : OpenLoad) (place at : ℕ) (sets : List (Option ByteSet))
@@ -40,143 +35,108 @@ sets_more law events load place at [] set are is allowed =
 sets_more law events load place at (s ∷ ss) set are is allowed =
     (are.0, sets_more law events load (place + 1) at ss set are.1 (omega (arith, is)) allowed)
 
--- ---- where a line or a byte ends the reading
+-- a flush behind lines
+pub told_flushed : {W : Type 0} {took : W → List ℕ → W → Type 0} {law : ToldLaw} {w v u : W} {texts : List (List ℕ)}
+    → Told took law w texts v → 0 < length texts → took v [] u → Told took law w texts u
+told_flushed nothing some flush = absurd (omega (arith, some))
+told_flushed (one_more texts text out v u told is moves) some flush = one_more texts text out v _ told is (moved_still moves flush)
 
 -- a line that wasn't written
-pub tell_stops : {W : Type 0} (wrote : W → List ℕ → W → Type 0) (refused : W → W → Type 0) (law : ToldLaw) (w v u : W)
-    (texts : List (List ℕ)) (pending : List ℕ) (why : Stop)
-    → Told wrote law w texts v → TellStops wrote refused law (events_of texts) pending v u why
-    → ByteStops wrote refused law w texts (pending ++ 10 ∷ []) u why
-tell_stops wrote refused law w v u texts pending (stop.Fault fault.OutOfMemory) told stops = tt
-tell_stops wrote refused law w v u texts pending (stop.Fault fault.Write) told (out, is, stopped) = grind arith
-tell_stops wrote refused law w v u texts pending (stop.Fault (fault.Line n f)) told stops = absurd stops
-tell_stops wrote refused law w v u texts pending (stop.Fault fault.TooManyLines) told stops = absurd stops
-tell_stops wrote refused law w v u texts pending (stop.Fault fault.Read) told stops = absurd stops
-tell_stops wrote refused law w v u texts pending (stop.Refused refusal) told stops = absurd stops
-tell_stops wrote refused law w v u texts pending (stop.Undecided line address) told stops = absurd stops
+pub tell_stops : {W : Type 0} (took : W → List ℕ → W → Type 0) (refused : W → W → Type 0) (law : ToldLaw) (w v u : W)
+    (texts : List (List ℕ)) (text : List ℕ) (why : Stop)
+    → Told took law w texts v → TellStops took refused law (events_of texts) text v u why → WriteStops took refused law w texts text u why
+tell_stops took refused law w v u texts text (stop.Fault fault.OutOfMemory) told stops = tt
+tell_stops took refused law w v u texts text (stop.Fault fault.Write) told (out, is, stopped) = grind arith
+tell_stops took refused law w v u texts text (stop.Fault (fault.Line n f)) told stops = absurd stops
+tell_stops took refused law w v u texts text (stop.Fault fault.TooManyLines) told stops = absurd stops
+tell_stops took refused law w v u texts text (stop.Fault fault.Read) told stops = absurd stops
+tell_stops took refused law w v u texts text (stop.Refused refusal) told stops = absurd stops
+tell_stops took refused law w v u texts text (stop.Undecided line address) told stops = absurd stops
 
-module _ {J W : Type 0} {took : J → List HistoryEvent → J → Type 0} {law : J
-    → Law} {start : Begin J} {judged : Judged J} {bytes pending : List ℕ} {texts : List (List ℕ)} {count : ℕ}
-    (wrote : W → List ℕ → W → Type 0) (refused : W → W → Type 0) (w v : W) where
-  -- a line that was written, and isn't taken
-  pub line_stops : (number : ℕ) (event : Option HistoryEvent) (why : Stop) (h : HasRead took law start bytes texts judged pending count)
-      → line_of pending ≡ Ok event → number ≡ count + 1 → number < 2 ^ 64
-      → LineStops (law_begun law start) (events_of texts) (windows_of start.telling texts) number event why
-      → Told wrote (law_begun law start) w (texts ++ pending ∷ []) v
-      → ByteStops wrote refused (law_begun law start) w texts (pending ++ 10 ∷ []) v why
-  line_stops number None why h said at fits stops told = absurd stops
-  line_stops number (Some event) (stop.Refused refusal) h said at fits stops told =
-      let place : number ≡ length texts + 1 = omega (arith, at, h.number) in
-      let line : IsEventLine _ event =
-      record { text = pending; ended = refl; good = grind arith; said = said } in (
-        (
-          event,
-          line,
-          subst (λ n. IsRefusal (law_begun law start) (events_of texts) (windows_of start.telling texts) n event refusal) place
-              stops,
-        ),
-        told,
-      )
-  line_stops number (Some event) (stop.Undecided n address) h said at fits stops told =
-      let line : IsEventLine _ event =
-      record { text = pending; ended = refl; good = grind arith; said = said } in
-      ((event, line, stops.0, omega (arith, at, h.number, stops.1)), told)
-  line_stops number (Some event) (stop.Fault fault.OutOfMemory) h said at fits stops told = tt
-  line_stops number (Some event) (stop.Fault fault.TooManyLines) h said at fits stops told =
-      absurd (omega (arith, at, fits, h.number, stops, events_few texts))
-  line_stops number (Some event) (stop.Fault (fault.Line n f)) h said at fits stops told = absurd stops
-  line_stops number (Some event) (stop.Fault fault.Read) h said at fits stops told = absurd stops
-  line_stops number (Some event) (stop.Fault fault.Write) h said at fits stops told = absurd stops
-
-  -- in all the bytes so far
-  pub told_here : (b : ℕ) (why : Stop) (h : HasRead took law start bytes texts judged pending count)
-      → ByteStops wrote refused (law_begun law start) w texts (pending ++ b ∷ []) v why
-      → ToldIn wrote refused (law_begun law start) w (bytes ++ b ∷ []) v why
-  told_here b (stop.Refused refusal) h (e, told) = (ends_in b _ h e, told)
-  told_here b (stop.Undecided line address) h (e, told) = (ends_in b _ h e, told)
-  told_here b (stop.Fault (fault.Line n f)) h (e, told) = (ends_in b _ h e, told)
-  told_here b (stop.Fault fault.TooManyLines) h (e, told) = (ends_in b _ h e, told)
-  told_here b (stop.Fault fault.OutOfMemory) h stops = tt
-  told_here b (stop.Fault fault.Read) h stops = absurd stops
-  told_here b (stop.Fault fault.Write) h (text, is, breaks) = record {
-    texts = texts;
-    text = text;
-    more = [];
-    good = subst (Good history_fault MAX_PAIR (bytes ++ b ∷ []) texts) is (good_more (b ∷ []) h.text.good);
-    passes = h.text.passes;
-    breaks = breaks;
-  }
-
--- whatever follows
-pub told_more : {W : Type 0} (wrote : W → List ℕ → W → Type 0) (refused : W → W → Type 0) (law : ToldLaw) (w v : W) (bytes : List ℕ)
-    (why : Stop) (more : List ℕ)
-    → ToldIn wrote refused law w bytes v why → ToldIn wrote refused law w (bytes ++ more) v why
-told_more wrote refused law w v bytes (stop.Refused refusal) more (e, told) = (ends_more _ more e, told)
-told_more wrote refused law w v bytes (stop.Undecided line address) more (e, told) = (ends_more _ more e, told)
-told_more wrote refused law w v bytes (stop.Fault (fault.Line n f)) more (e, told) = (ends_more _ more e, told)
-told_more wrote refused law w v bytes (stop.Fault fault.TooManyLines) more (e, told) =
-    (ends_more _ more e, told)
-told_more wrote refused law w v bytes (stop.Fault fault.OutOfMemory) more stops = tt
-told_more wrote refused law w v bytes (stop.Fault fault.Read) more stops = absurd stops
-told_more wrote refused law w v bytes (stop.Fault fault.Write) more p = record {
-  texts = p.texts;
-  text = p.text;
-  more = p.more ++ more;
-  good = subst (Good history_fault MAX_PAIR (bytes ++ more) p.texts) (append_assoc p.text (10 ∷ p.more) more) (good_more more p.good);
-  passes = p.passes;
-  breaks = p.breaks;
-}
+-- a pause behind lines
+pub told_after : {W : Type 0} {took : W → List ℕ → W → Type 0} {law : ToldLaw} {w v u : W} {texts : List (List ℕ)} (due : Bool)
+    → Told took law w texts v → (due ≡ true → 0 < length texts) → Flushes took due v u → Told took law w texts u
+told_after true told some flush = told_flushed told (some refl) flush
+told_after {took = took} {law = law} {w = w} {texts = texts} false told some same = subst (Told took law w texts) (sym same) told
 
 -- ---- how a reading ends
 
-module _ {R W J : Type 0} (gave : R → List ℕ → R → Type 0) (failed : R → R → Type 0) (wrote : W → List ℕ → W → Type 0)
-    (refused : W → W → Type 0) {took : J → List HistoryEvent → J → Type 0} {law : J
-    → Law} {start : Begin J} {judged : Judged J} {bytes pending : List ℕ} {texts : List (List ℕ)} {count : ℕ} {r last : R} (r' : R)
-    (w v : W) where
-  abbrev read_far : Moves (Came gave) r bytes last → (h : HasRead took law start bytes texts judged pending count)
-      → ReadSoFar gave (law_begun law start) r last texts pending
-  read_far moves h = record { bytes = bytes; read = moves; text = h.text }
+module _ {R W : Type 0} (gave : R → List ℕ → R → Type 0) (failed : R → R → Type 0) (took : W → List ℕ → W → Type 0)
+    (refused unflushed : W → W → Type 0) (law : ToldLaw) (r r' : R) (w w' : W) (texts : List (List ℕ)) where
+  pub writes_fault : (f : TraceFault) → ReadStopsWithin gave failed history_fault MAX_PAIR most_lines r r' texts f → AreOfLaw law texts
+      → Told took law w texts w' → Writes gave failed took refused unflushed law r r' w w' (Err f)
+  writes_fault fault.Write stops of_law told = absurd stops
+  writes_fault f stops of_law told = ends_fault gave failed r r' law (λ l. Told took law w l w') texts f stops of_law told
 
-  pub wrote_failed : Moves (Came gave) r bytes last → HasRead took law start bytes texts judged pending count
-      → Told wrote (law_begun law start) w texts v → failed last r'
-      → Writes gave failed wrote refused (law_begun law start) r r' w v (Err fault.Read)
-  wrote_failed moves h told fails = ((texts, pending, last, read_far moves h, fails), told)
+  -- a flush was refused
+  pub writes_unflushed : (rest : List ℕ) (v : W) (why : Stop) → AreOfLaw law texts → Told took law w texts v → unflushed v w'
+      → why ≡ stop.Fault fault.Write → (ReadSoFarWithin gave history_fault MAX_PAIR most_lines r r' texts rest
+      ⊎ ReadIntoWithin gave history_fault MAX_PAIR most_lines r r' texts rest)
+      → Writes gave failed took refused unflushed law r r' w w' (ended_by why)
+  writes_unflushed rest v why of_law told stays is read = rw is (texts, rest, of_law, inl (v, told, stays, read))
 
-  pub wrote_end : (e : Result HistoryEnd TraceFault) → Moves (Came gave) r bytes last
-      → HasRead took law start bytes texts judged pending count → Told wrote (law_begun law start) w texts v → gave last [] r'
-      → EndsWith judged.counts pending count e
-      → Writes gave failed wrote refused (law_begun law start) r r' w v e
-  wrote_end (Ok x) moves h told ends is =
-      let whole = subst (ReadSoFar gave (law_begun law start) r last texts) is.0
-      (read_far moves h) in
-      subst (λ y. Writes gave failed wrote refused (law_begun law start) r r' w v (Ok y)) (sym is.1)
-      ((texts, last, whole, ends, ap (λ c. c.events) h.stands.count, ap (λ c. open_in c) h.stands.count), told)
-  wrote_end (Err f) moves h told ends is =
-      subst (λ y. Writes gave failed wrote refused (law_begun law start) r r' w v (Err y)) (sym is.1)
-      ((texts, pending, last, read_far moves h, ends, is.0, ap (λ n. n + 1) h.number), told)
+  -- a line wasn't taken
+  pub writes_stopped : (rest : List ℕ) (why : Stop) → ReadIntoWithin gave history_fault MAX_PAIR most_lines r r' texts rest
+      → AreOfLaw law texts → FirstLine history_fault MAX_PAIR (λ text. WriteStops took refused law w texts text w' why) rest
+      → Writes gave failed took refused unflushed law r r' w w' (ended_by why)
+  writes_stopped rest (stop.Fault fault.OutOfMemory) into of_law first = tt
+  writes_stopped rest (stop.Fault fault.Write) into of_law first = (texts, rest, of_law, inr (into, first))
+  writes_stopped rest (stop.Refused refusal) into of_law first =
+      ends_stopped gave failed r r' law (λ l. Told took law w l w') texts rest (stop.Refused refusal) into of_law first
+  writes_stopped rest (stop.Undecided line address) into of_law first =
+      ends_stopped gave failed r r' law (λ l. Told took law w l w') texts rest (stop.Undecided line address) into of_law first
+  writes_stopped rest (stop.Fault f) into of_law (text, more, is, good, stops) = absurd stops.0
 
-  wrote_by : (piece : List ℕ) (why : Stop) → Moves (Came gave) r bytes last → HasRead took law start bytes texts judged pending count
-      → Came gave last piece r' → ToldIn wrote refused (law_begun law start) w (bytes ++ piece) v why
-      → Writes gave failed wrote refused (law_begun law start) r r' w v (ended_by why)
-  wrote_by piece (stop.Refused refusal) moves h gives (e, told) = (into gave failed piece _ moves h gives e, told)
-  wrote_by piece (stop.Undecided line address) moves h gives (e, told) =
-      (into gave failed piece _ moves h gives e, told)
-  wrote_by piece (stop.Fault (fault.Line n Unknown)) moves h gives (e, told) =
-      (into gave failed piece _ moves h gives e, told)
-  wrote_by piece (stop.Fault (fault.Line n Field)) moves h gives (e, told) =
-      (into gave failed piece _ moves h gives e, told)
-  wrote_by piece (stop.Fault (fault.Line n TooLong)) moves h gives (e, told) =
-      (into gave failed piece _ moves h gives e, told)
-  wrote_by piece (stop.Fault (fault.Line n NotEnded)) moves h gives (e, told) = absurd e.ends.1
-  wrote_by piece (stop.Fault fault.TooManyLines) moves h gives (e, told) =
-      (into gave failed piece _ moves h gives e, told)
-  wrote_by piece (stop.Fault fault.OutOfMemory) moves h gives told = tt
-  wrote_by piece (stop.Fault fault.Read) moves h gives told = absurd told
-  wrote_by piece (stop.Fault fault.Write) moves h gives breaks = (texts, pending, last, read_far moves h, piece, gives, breaks)
+module _ {R W J : Type 0} (gave : R → List ℕ → R → Type 0) (failed : R → R → Type 0) (took : W → List ℕ → W → Type 0)
+    (refused unflushed : W → W → Type 0) (judged : J → List HistoryEvent → J → Type 0) (law : J → Law) (start : Begin J) (r r' : R)
+    (c c' : Writing W J) where
+  abbrev WritingReads : Result (Unit {0}) ReadStop → Type 0
+  WritingReads = ReadsWithin gave failed history_fault
+      (λ s texts t. WereJudged judged law s.judging.now texts t.judging.now × WereTold took judged law s.judging.now s.writer.now texts t.writer.now
+      × (t.due ≡ true → 0 < length texts))
+      (λ s text t. (other : Begin J) (texts : List (List ℕ)) (first : W) → HasJudged judged law other texts s.judging.now
+      → Told took (law_begun law other) first texts s.writer.now
+      → WriteStops took refused (law_begun law other) first texts text t.writer.now t.judging.now.stop)
+      (λ s t. Flushes took s.due s.writer.now t.writer.now × (t.judging.now ≡ s.judging.now))
+      (λ s t. unflushed s.writer.now t.writer.now × (t.judging.now.stop ≡ write_stop)) MAX_PAIR most_lines r r' c c'
 
-  pub wrote_in : (piece : List ℕ) (why : Stop) (e : Result HistoryEnd TraceFault) → Moves (Came gave) r bytes last
-      → HasRead took law start bytes texts judged pending count
-      → Came gave last piece r' → ToldIn wrote refused (law_begun law start) w (bytes ++ piece) v why → e ≡ ended_by why
-      → Writes gave failed wrote refused (law_begun law start) r r' w v e
-  wrote_in piece why e moves h gives told is = subst (Writes gave failed wrote refused (law_begun law start) r r' w v) (sym is)
-      (wrote_by piece why moves h gives told)
+  pub writes_whole : (end : HistoryEnd) → HasJudged judged law start [] c.judging.now → WritingReads (Ok tt)
+      → end ≡ history.OfLaw c'.judging.now.judged.counts.events (open_in c'.judging.now.judged.counts)
+      → Writes gave failed took refused unflushed (law_begun law start) r r' c.writer.now c'.writer.now (Ok end)
+  writes_whole end begun reads is =
+      ends_whole gave failed r r' (λ l. Told took (law_begun law start) c.writer.now l c'.writer.now) c'.judging.now end reads.2
+      (subst (HasJudged judged law start reads.0) (sym reads.4.1) (reads.3.0.each start begun))
+      (told_after reads.1.due (reads.3.1 start begun) reads.3.2 reads.4.0) is
+
+  fault_written : (f : TraceFault) → HasJudged judged law start [] c.judging.now → WritingReads (Err (Fault f))
+      → Writes gave failed took refused unflushed (law_begun law start) r r' c.writer.now c'.writer.now (Err f)
+  fault_written f begun reads =
+      writes_fault gave failed took refused unflushed (law_begun law start) r r' c.writer.now c'.writer.now reads.0 f reads.2
+      (reads.3.0.each start begun).of_law (told_after reads.1.due (reads.3.1 start begun) reads.3.2 reads.4.0)
+
+  pub told_fault : (s : ReadStop) (f : TraceFault) → HasJudged judged law start [] c.judging.now → s ≡ Fault f → WritingReads (Err s)
+      → Writes gave failed took refused unflushed (law_begun law start) r r' c.writer.now c'.writer.now (Err f)
+  told_fault s f begun is reads = fault_written f begun (subst (λ x. WritingReads (Err x)) is reads)
+
+  halted_written : HasJudged judged law start [] c.judging.now → WritingReads (Err Halted)
+      → Writes gave failed took refused unflushed (law_begun law start) r r' c.writer.now c'.writer.now (ended_by c'.judging.now.stop)
+  halted_written begun (texts, rest, v, went, ends) =
+      let h = went.0.each start begun in
+      let told = went.1 start begun in
+      let stays = writes_unflushed gave failed took refused unflushed (law_begun law start) r r' c.writer.now c'.writer.now texts rest
+      v.writer.now c'.judging.now.stop h.of_law told in
+      elim ends [
+        | inl before ↦ stays before.1.0 before.1.1 (inl before.0)
+        | inr into ↦ elim into.1 [
+          | inl stop ↦ stays stop.0 stop.1 (inr into.0)
+          | inr line ↦
+              let first = line.1 in
+              writes_stopped gave failed took refused unflushed (law_begun law start) r r' c.writer.now c'.writer.now texts rest
+              c'.judging.now.stop into.0 h.of_law
+              (first.0, first.1, first.2, first.3, first.4 start texts c.writer.now h told)
+        ]
+      ]
+
+  pub told_halted : (s : ReadStop) → HasJudged judged law start [] c.judging.now → s ≡ Halted → WritingReads (Err s)
+      → Writes gave failed took refused unflushed (law_begun law start) r r' c.writer.now c'.writer.now (ended_by c'.judging.now.stop)
+  told_halted s begun is reads = halted_written begun (subst (λ x. WritingReads (Err x)) is reads)

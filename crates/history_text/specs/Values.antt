@@ -1,24 +1,24 @@
 -- What is written of the lines of a history: each line, and behind an answer to a load what the load may have returned.
-use Rattle.std.specs.Prelude.{◌≡◌, ℕ, ◌+◌, ◌==◌, if◌then◌else◌, Option, None, Some, Result, Ok, Err, List, [], ◌∷◌, ◌++◌, length, codes}
+use Rattle.std.specs.Prelude.{◌≡◌, ℕ, ◌+◌, ◌⊎◌, ◌==◌, if◌then◌else◌, Bool, true, false, Option, None, Some, Result, Ok, Err, List, [], ◌∷◌, ◌++◌, length, codes}
 use Rattle.std.specs.List.{flat_map}
 use Rattle.memory_histories.specs.declared.events.HistoryEvent.{HistoryEvent}
 use Rattle.memory_histories.specs.declared.events.HistoryEvent.TheVariants.{LoadRequest, LoadResponse, StoreRequest, StoreResponse}
 use Rattle.memory_histories.specs.declared.sets.ByteSet.{ByteSet}
 use Rattle.trace_text.specs.Codes.{line_feed}
-use Rattle.trace_text.specs.Streams.{Came, Moves, Stopped}
-use Rattle.trace_text.specs.Reading.{Good}
+use Rattle.trace_text.specs.Streams.{Moves, Stopped}
+use Rattle.trace_text.specs.Reading.{FirstLine, ReadSoFarWithin, ReadIntoWithin}
 use Rattle.trace_text.specs.declared.fault.TheConstants.{MAX_PAIR}
-use Rattle.trace_text.specs.declared.lines.LineFault.TheVariants.{NotEnded}
 use Rattle.trace_text.specs.declared.fault.TraceFault.{TraceFault}
 use Rattle.trace_text.specs.declared.fault.TraceFault.TheVariants as fault
 use Rattle.history_text.specs.Lines.{line_of}
-use Rattle.history_text.specs.Told.{ToldLaw}
+use Rattle.history_text.specs.Laws.{Law}
+use Rattle.history_text.specs.Told.{ToldLaw, Begin, law_begun}
 use Rattle.history_text.specs.Operations.{open_loads, load_in, byte_address}
 use Rattle.history_text.specs.Answers.{bytes_in_set, joined_bytes}
-use Rattle.history_text.specs.Histories.{history_fault, events_of, ReadSoFar, ReadInto, EndsAt, EndsIn, Judges}
+use Rattle.history_text.specs.Histories.{most_lines, history_fault, events_of, AreOfLaw, JudgesWith, HasJudged, LineStops}
 use Rattle.history_text.specs.declared.answers.HistoryEnd.{HistoryEnd}
-use Rattle.history_text.specs.declared.answers.HistoryEnd.TheVariants as history
 use Rattle.history_text.specs.declared.judged.OpenLoad.{OpenLoad}
+use Rattle.history_text.specs.declared.reading.Judging.{Judging}
 use Rattle.history_text.specs.declared.judged.Stop.{Stop}
 use Rattle.history_text.specs.declared.judged.Stop.TheVariants as stop
 
@@ -88,6 +88,37 @@ pub record Breaks {W : Type 0} (took : W → List ℕ → W → Type 0) (refused
   pub is_told : IsTold law (events_of texts) text out
   pub stopped : Stopped took refused last out w'
 
+-- How a history is judged, and its lines are written: all of them that are told of, unless there is too little memory. What was written
+-- is flushed before the next read, at the end, and before a fault.
+abbrev pub Writes : {R W : Type 0} (gave : R → List ℕ → R → Type 0) (failed : R → R → Type 0) (took : W → List ℕ → W → Type 0)
+    (refused unflushed : W → W → Type 0) (law : ToldLaw) (r r' : R) (w w' : W)
+    → Result HistoryEnd TraceFault → Type 0
+-- a flush was refused behind these lines, or a write of the next one
+Writes {R} {W} gave failed took refused unflushed law r r' w w' (Err fault.Write) = (texts : List (List ℕ)) × (rest : List ℕ) ×
+    AreOfLaw law texts ×
+    (((v : W) × Told took law w texts v × unflushed v w' × (ReadSoFarWithin gave history_fault MAX_PAIR most_lines r r' texts rest
+    ⊎ ReadIntoWithin gave history_fault MAX_PAIR most_lines r r' texts rest))
+    ⊎ (ReadIntoWithin gave history_fault MAX_PAIR most_lines r r' texts rest
+    × FirstLine history_fault MAX_PAIR (λ text. Breaks took refused law w texts text w') rest))
+Writes gave failed took refused unflushed law r r' w w' end = JudgesWith gave failed law (λ texts. Told took law w texts w') r r' end
+
+-- ---- in the middle of a reading
+
+-- from each beginning that there may have been, these lines were written
+abbrev pub WereTold : {W J : Type 0} (took : W → List ℕ → W → Type 0) (judged : J → List HistoryEvent → J → Type 0) (law : J → Law)
+    (s : Judging J) (w : W) (texts : List (List ℕ)) (w' : W) → Type 0
+WereTold {W} {J} took judged law s w texts w' = (start : Begin J) → HasJudged judged law start [] s
+    → Told took (law_begun law start) w texts w'
+
+-- a writer is flushed if something is due
+abbrev pub Flushes : {W : Type 0} (took : W → List ℕ → W → Type 0) (due : Bool) (w w' : W) → Type 0
+Flushes took true w w' = took w [] w'
+Flushes took false w w' = w' ≡ w
+
+-- a write or a flush was refused
+abbrev pub write_stop : Stop
+write_stop = stop.Fault fault.Write
+
 -- why a line wasn't written behind the lines before it
 abbrev pub TellStops : {W : Type 0} (took : W → List ℕ → W → Type 0) (refused : W → W → Type 0) (law : ToldLaw) (events : List HistoryEvent)
     (text : List ℕ) (w w' : W) → Stop → Type 0
@@ -100,78 +131,9 @@ TellStops took refused law events text w w' (stop.Fault fault.Read) = ⊥
 TellStops took refused law events text w w' (stop.Refused refusal) = ⊥
 TellStops took refused law events text w w' (stop.Undecided line address) = ⊥
 
--- why these bytes behind good lines end a reading, and what was written then
-abbrev pub ByteStops : {W : Type 0} (took : W → List ℕ → W → Type 0) (refused : W → W → Type 0) (law : ToldLaw) (w : W)
-    (texts : List (List ℕ)) (found : List ℕ) (w' : W) → Stop → Type 0
-ByteStops took refused law w texts found w' (stop.Refused refusal) =
-    (e : EndsAt law texts found (stop.Refused refusal)) × Told took law w (texts ++ e.1.text ∷ []) w'
-ByteStops took refused law w texts found w' (stop.Undecided line address) =
-    (e : EndsAt law texts found (stop.Undecided line address)) × Told took law w (texts ++ e.1.text ∷ []) w'
-ByteStops took refused law w texts found w' (stop.Fault (fault.Line n f)) = EndsAt law texts found (stop.Fault (fault.Line n f)) ×
-    Told took law w texts w'
-ByteStops took refused law w texts found w' (stop.Fault fault.TooManyLines) = EndsAt law texts found (stop.Fault fault.TooManyLines) ×
-    Told took law w texts w'
-ByteStops took refused law w texts found w' (stop.Fault fault.OutOfMemory) = Unit {0}
-ByteStops took refused law w texts found w' (stop.Fault fault.Read) = ⊥
-ByteStops took refused law w texts found w' (stop.Fault fault.Write) =
-    (text : List ℕ) × (found ≡ text ++ line_feed ∷ []) × Breaks took refused law w texts text w'
-
--- the lines of a history of the law, and then a good line of which a write was refused, whatever follows
-pub record BreaksIn {W : Type 0} (took : W → List ℕ → W → Type 0) (refused : W → W → Type 0) (law : ToldLaw) (w : W) (bytes : List ℕ)
-    (w' : W) : Type 0 where
-  pub texts : List (List ℕ)
-  pub text : List ℕ
-  pub more : List ℕ
-  pub good : Good history_fault MAX_PAIR bytes texts (text ++ (line_feed ∷ more))
-  pub passes : law.judged.passes (events_of texts)
-  pub breaks : Breaks took refused law w texts text w'
-
--- where a reading ends, the lines that are written: the one that is none of the law or isn't decided, too
-abbrev pub lines_told : (law : ToldLaw) (bytes : List ℕ) (why : Stop) → EndsIn law bytes why → List (List ℕ)
-lines_told law bytes (stop.Refused refusal) e = e.texts ++ e.ends.1.text ∷ []
-lines_told law bytes (stop.Undecided line address) e = e.texts ++ e.ends.1.text ∷ []
-lines_told law bytes (stop.Fault f) e = e.texts
-
-abbrev pub ToldBy : {W : Type 0} (took : W → List ℕ → W → Type 0) (law : ToldLaw) (w : W) (bytes : List ℕ) (w' : W) → Stop → Type 0
-ToldBy took law w bytes w' why = (e : EndsIn law bytes why) × Told took law w (lines_told law bytes why e) w'
-
--- what is written where a reading ends
-abbrev pub ToldIn : {W : Type 0} (took : W → List ℕ → W → Type 0) (refused : W → W → Type 0) (law : ToldLaw) (w : W) (bytes : List ℕ)
-    (w' : W) → Stop → Type 0
-ToldIn took refused law w bytes w' (stop.Refused refusal) = ToldBy took law w bytes w' (stop.Refused refusal)
-ToldIn took refused law w bytes w' (stop.Undecided line address) = ToldBy took law w bytes w' (stop.Undecided line address)
-ToldIn took refused law w bytes w' (stop.Fault (fault.Line n f)) = ToldBy took law w bytes w' (stop.Fault (fault.Line n f))
-ToldIn took refused law w bytes w' (stop.Fault fault.TooManyLines) = ToldBy took law w bytes w' (stop.Fault fault.TooManyLines)
-ToldIn took refused law w bytes w' (stop.Fault fault.OutOfMemory) = Unit {0}
-ToldIn took refused law w bytes w' (stop.Fault fault.Read) = ⊥
-ToldIn took refused law w bytes w' (stop.Fault fault.Write) = BreaksIn took refused law w bytes w'
-
--- one piece more came, and in it a write was refused
-abbrev pub BreaksInto : {R W : Type 0} (gave : R → List ℕ → R → Type 0) (took : W → List ℕ → W → Type 0) (refused : W → W → Type 0)
-    (law : ToldLaw) (r r' : R) (w w' : W) → Type 0
-BreaksInto {R} gave took refused law r r' w w' =
-    (before : List (List ℕ)) × (pending : List ℕ) × (last : R) × (s : ReadSoFar gave law r last before pending)
-    × (piece : List ℕ) × Came gave last piece r' × BreaksIn took refused law w (s.bytes ++ piece) w'
-
--- one piece more came, and in it the reading ends
-abbrev pub ToldInto : {R W : Type 0} (gave : R → List ℕ → R → Type 0) (took : W → List ℕ → W → Type 0) (law : ToldLaw) (r r' : R) (w w' : W)
-    → Stop → Type 0
-ToldInto gave took law r r' w w' why = (i : ReadInto gave law r r' why) ×
-    Told took law w (lines_told law (i.so_far.bytes ++ i.piece) why i.ends) w'
-
--- How a history is judged, and its lines are written: all of them that are told of, unless there is too little memory.
-abbrev pub Writes : {R W : Type 0} (gave : R → List ℕ → R → Type 0) (failed : R → R → Type 0) (took : W → List ℕ → W → Type 0)
-    (refused : W → W → Type 0) (law : ToldLaw) (r r' : R) (w w' : W)
-    → Result HistoryEnd TraceFault → Type 0
-Writes gave failed took refused law r r' w w' (Ok (history.OfLaw events still_open)) =
-    (j : Judges gave failed law r r' (Ok (history.OfLaw events still_open))) × Told took law w j.0 w'
-Writes gave failed took refused law r r' w w' (Ok (history.Refused refusal)) = ToldInto gave took law r r' w w' (stop.Refused refusal)
-Writes gave failed took refused law r r' w w' (Ok (history.Undecided line address)) =
-    ToldInto gave took law r r' w w' (stop.Undecided line address)
-Writes gave failed took refused law r r' w w' (Err fault.Read) = (j : Judges gave failed law r r' (Err fault.Read)) × Told took law w j.0 w'
-Writes gave failed took refused law r r' w w' (Err (fault.Line n NotEnded)) =
-    (j : Judges gave failed law r r' (Err (fault.Line n NotEnded))) × Told took law w j.0 w'
-Writes gave failed took refused law r r' w w' (Err (fault.Line n f)) = ToldInto gave took law r r' w w' (stop.Fault (fault.Line n f))
-Writes gave failed took refused law r r' w w' (Err fault.TooManyLines) = ToldInto gave took law r r' w w' (stop.Fault fault.TooManyLines)
-Writes gave failed took refused law r r' w w' (Err fault.OutOfMemory) = Unit {0}
-Writes gave failed took refused law r r' w w' (Err fault.Write) = BreaksInto gave took refused law r r' w w'
+-- why a line isn't taken, and what was written then
+abbrev pub WriteStops : {W : Type 0} (took : W → List ℕ → W → Type 0) (refused : W → W → Type 0) (law : ToldLaw) (first : W)
+    (texts : List (List ℕ)) (text : List ℕ) (w' : W) → Stop → Type 0
+WriteStops took refused law first texts text w' (stop.Fault fault.OutOfMemory) = Unit {0}
+WriteStops took refused law first texts text w' (stop.Fault fault.Write) = Breaks took refused law first texts text w'
+WriteStops took refused law first texts text w' why = LineStops law texts text why × Told took law first (texts ++ text ∷ []) w'

@@ -1,17 +1,17 @@
 //! A history is judged as it comes.
 
-ghost use Rattle.std.specs.Prelude.{◌≡◌, ◌<◌, [], length};
-ghost use Rattle.history_text.specs.Histories.{HasRead, Judges, ended_by};
+ghost use Rattle.std.specs.Prelude.{◌≡◌, []};
+ghost use Rattle.history_text.specs.Histories.{Judges, ended_by};
 ghost use Rattle.history_text.specs.Notes.{Telling, AreNotesOf, opening_windows};
-ghost use Rattle.history_text.specs.Told.{Begin, law_begun, told_by};
+ghost use Rattle.history_text.specs.Told.{told_by};
 
 use crate::answers::HistoryEnd;
 use crate::judge::HistoryJudge;
 use crate::judged::Stop;
 use crate::notes::StoreNotes;
-use crate::reading::Lines;
+use crate::reading::Judging;
 use std::alloc::Global;
-use trace_text::{BUFFER_LEN, Source, TraceFault};
+use trace_text::{BUFFER_LEN, MAX_PAIR, Source, Stop as ReadStop, TraceFault, read_lines_within};
 
 impl Stop {
     pub(crate) fn ended(self) -> Result<HistoryEnd, TraceFault>
@@ -46,33 +46,11 @@ pub fn judge_history<R: Source, J: HistoryJudge + Drop>(
     ensures { (t : Telling) → AreNotesOf notes t (opening_windows t)
         → Judges R.gave R.failed (told_by (J.law judge) t) reader.old reader.new result }
 {
-    let mut lines = Lines::new(alloc, judge, notes);
+    let mut judging = Judging::new(alloc, judge, notes);
     let mut buffer = vec![in alloc; 0u8; BUFFER_LEN]?;
-    read_through(reader, &mut lines, &mut buffer)
-}
-
-fn read_through<R: Source, J: HistoryJudge>(
-    reader: &mut R,
-    lines: &mut Lines<J>,
-    buffer: &mut [u8],
-) -> Result<HistoryEnd, TraceFault>
-    requires room { 0 < length buffer.old }
-    requires begun { (start : Begin J)
-        × HasRead J.took J.law start [] [] lines.old.judged lines.old.pending.items lines.old.count }
-    ensures { (start : Begin J)
-        → HasRead J.took J.law start [] [] lines.old.judged lines.old.pending.items lines.old.count
-        → Judges R.gave R.failed (law_begun J.law start) reader.old reader.new result }
-{
-    'pieces: loop {
-        let given = match reader.read_some(buffer) {
-            Ok(given) => given,
-            Err(_) => return Err(TraceFault::Read),
-        };
-        if given == 0 {
-            return lines.end();
-        }
-        if let Err(stop) = lines.read(&buffer[..given]) {
-            return stop.ended();
-        }
+    match read_lines_within(reader, &mut judging, MAX_PAIR, u64::MAX, &mut buffer) {
+        Ok(()) => Ok(judging.judged.counts.end()),
+        Err(ReadStop::Fault(fault)) => Err(fault),
+        Err(ReadStop::Halted) => judging.stop.ended(),
     }
 }

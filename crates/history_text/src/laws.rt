@@ -120,7 +120,7 @@ fn write_by_regular_law<R: Source, W: Sink>(
     image: &[u8],
     rest: Rest,
 ) -> Result<HistoryEnd, TraceFault>
-    ensures { Writes R.gave R.failed W.took W.refused (regular_told image.now rest) reader.old reader.new
+    ensures { Writes R.gave R.failed W.took W.refused W.unflushed (regular_told image.now rest) reader.old reader.new
         writer.old writer.new result }
 {
     let memory = RegularMemory::new(alloc, image, rest)?;
@@ -135,7 +135,7 @@ fn write_by_flat_law<R: Source, W: Sink>(
     image: &[u8],
     rest: Rest,
 ) -> Result<HistoryEnd, TraceFault>
-    ensures { Writes R.gave R.failed W.took W.refused (flat_told image.now rest) reader.old reader.new
+    ensures { Writes R.gave R.failed W.took W.refused W.unflushed (flat_told image.now rest) reader.old reader.new
         writer.old writer.new result }
 {
     let memory = FlatHistory::new(alloc, image, rest)?;
@@ -151,7 +151,7 @@ fn write_by_atomic_law<R: Source, W: Sink>(
     image: &[u8],
     rest: Rest,
 ) -> Result<HistoryEnd, TraceFault>
-    ensures { Writes R.gave R.failed W.took W.refused (atomic_told image.now rest (bytes_of size.0) size.1)
+    ensures { Writes R.gave R.failed W.took W.refused W.unflushed (atomic_told image.now rest (bytes_of size.0) size.1)
         reader.old reader.new writer.old writer.new result }
 {
     let (unit, limit) = size;
@@ -169,7 +169,7 @@ pub fn write_values_by_law<R: Source, W: Sink>(
     image: &[u8],
     rest: Rest,
 ) -> Result<HistoryEnd, TraceFault>
-    ensures { Writes R.gave R.failed W.took W.refused (chosen_law law image.now rest) reader.old
+    ensures { Writes R.gave R.failed W.took W.refused W.unflushed (chosen_law law image.now rest) reader.old
         reader.new writer.old writer.new result }
 {
     match law {

@@ -1,6 +1,6 @@
 //! The lines of a history are written, and behind each answer to a load what it may have returned.
 
-ghost use Rattle.std.specs.Prelude.{◌≡◌, ◌≤◌, ◌<◌, ◌+◌, ℕ, List, [], ◌∷◌, ◌++◌, length, Ok, Some, IfOk, IfErr, OnOk};
+ghost use Rattle.std.specs.Prelude.{◌≡◌, ◌≤◌, ◌<◌, ◌+◌, ℕ, List, [], ◌∷◌, ◌++◌, length, true, false, Ok, Some, IfOk, IfErr, OnOk};
 ghost use Rattle.std.specs.Fmt.{WritesOnOk};
 ghost use Rattle.std.specs.Option.{option_map};
 ghost use Rattle.memory_histories.specs.declared.events.HistoryEvent.{HistoryEvent as Event};
@@ -10,9 +10,10 @@ ghost use Rattle.memory_histories.specs.Windows.{Windows};
 ghost use Rattle.history_text.specs.Judged.{Stands};
 ghost use Rattle.history_text.specs.Notes.{Telling, AreNotesOf, opening_windows};
 ghost use Rattle.history_text.specs.Told.{Begin, law_begun, told_by};
-ghost use Rattle.history_text.specs.Histories.{HasRead, texts_with, bytes_left};
+ghost use Rattle.history_text.specs.Histories.{most_lines, history_fault, HasJudged, WereJudged};
 ghost use Rattle.history_text.specs.Values.{any_text, set_text, sets_text, values_text, AreSetsFrom, AreValues, IsTold, Told, TellStops};
-ghost use Rattle.history_text.specs.Values.{ByteStops, ToldIn, Writes};
+ghost use Rattle.history_text.specs.Values.{Flushes, WereTold, WriteStops, Writes, write_stop};
+ghost use Rattle.trace_text.specs.declared.fault.TheConstants.{BUFFER_LEN, MAX_PAIR};
 
 use crate::answers::{HistoryEnd, bytes_in_set, write_joined};
 use crate::events::OwnedEvent;
@@ -20,11 +21,15 @@ use crate::judge::HistoryJudge;
 use crate::judged::{Judged, OpenLoad, Stop, load_in};
 use crate::lines::read_history_line;
 use crate::notes::StoreNotes;
-use crate::reading::Lines;
+use crate::reading::Judging;
 use memory_histories::ByteSet;
 use std::alloc::{AllocError, Global};
 use std::fmt;
-use trace_text::{BUFFER_LEN, Sink, Source, TraceFault, write_whole};
+use std::mem::replace;
+use trace_text::{
+    BUFFER_LEN, Collector, Failed, MAX_PAIR, Sink, Source, Stop as ReadStop, TraceFault,
+    Uncollected, read_lines_within, write_whole,
+};
 
 // These bytes, of which one is meant.
 fn write_any<W: fmt::Write>(f: &mut fmt::Formatter<W>, bytes: &[u8]) -> fmt::Result
@@ -159,110 +164,133 @@ fn write_line<W: Sink, J: HistoryJudge>(
     }
 }
 
-// Reads a byte. A line that ends with it is written before it is judged.
-fn write_byte<W: Sink, J: HistoryJudge>(
-    alloc: Global,
-    writer: &mut W,
-    lines: &mut Lines<J>,
-    byte: u8,
-) -> Result<(), Stop>
-    requires { (start : Begin J) × (before : List ℕ) × (texts : List (List ℕ))
-        × HasRead J.took J.law start before texts lines.old.judged lines.old.pending.items lines.old.count }
-    ensures ok { OnOk result ((start : Begin J) (before : List ℕ) (texts : List (List ℕ))
-        → HasRead J.took J.law start before texts lines.old.judged lines.old.pending.items lines.old.count
-        → HasRead J.took J.law start (before ++ byte ∷ [])
-        (texts_with byte texts lines.old.pending.items) lines.new.judged lines.new.pending.items
-        lines.new.count) }
-    ensures told { OnOk result ((start : Begin J) (before : List ℕ) (texts : List (List ℕ)) (first : W)
-        → HasRead J.took J.law start before texts lines.old.judged lines.old.pending.items lines.old.count
-        → Told W.took (law_begun J.law start) first texts writer.old
-        → Told W.took (law_begun J.law start) first (texts_with byte texts lines.old.pending.items) writer.new) }
-    ensures progress { OnOk result (bytes_left lines.new.count lines.new.pending.items + 1
-        ≤ bytes_left lines.old.count lines.old.pending.items) }
-    ensures stop { IfErr result (λ stop. (start : Begin J) (before : List ℕ) (texts : List (List ℕ)) (first : W)
-        → HasRead J.took J.law start before texts lines.old.judged lines.old.pending.items lines.old.count
-        → Told W.took (law_begun J.law start) first texts writer.old
-        → ByteStops W.took W.refused (law_begun J.law start) first texts (lines.old.pending.items ++ byte ∷ [])
-        writer.new stop) }
-{
-    if lines.count == u64::MAX {
-        return Err(Stop::Fault(TraceFault::TooManyLines));
-    }
-    let number = lines.count + 1;
-    if byte == b'\n' {
-        let event = match read_history_line(lines.pending.as_slice()) {
-            Ok(event) => event,
-            Err(fault) => return Err(Stop::Fault(TraceFault::Line { number, fault })),
-        };
-        write_line(
-            alloc,
-            writer,
-            &lines.judged,
-            lines.pending.as_slice(),
-            &event,
-        )?;
-        return lines.end_line(number, &event);
-    }
-    lines.push(number, byte)
+// What judges lines, and a writer of them that may have to be flushed.
+#[derive(Drop)]
+pub(crate) struct Writing<'a, W, J> {
+    pub(crate) alloc: Global,
+    pub(crate) writer: &'a mut W,
+    pub(crate) judging: &'a mut Judging<J>,
+    pub(crate) due: bool,
 }
 
-// Reads these bytes, up to the first line that ends the reading, and writes the lines.
-fn write_lines<W: Sink, J: HistoryJudge>(
-    alloc: Global,
-    writer: &mut W,
-    lines: &mut Lines<J>,
-    bytes: &[u8],
-) -> Result<(), Stop>
-    requires { (start : Begin J) × (before : List ℕ) × (texts : List (List ℕ))
-        × HasRead J.took J.law start before texts lines.old.judged lines.old.pending.items lines.old.count }
-    ensures ok { OnOk result ((start : Begin J) (before : List ℕ) (texts : List (List ℕ))
-        → HasRead J.took J.law start before texts lines.old.judged lines.old.pending.items lines.old.count
-        → (whole : List (List ℕ)) × HasRead J.took J.law start (before ++ bytes.now) whole
-        lines.new.judged
-        lines.new.pending.items lines.new.count
-        × ((first : W) → Told W.took (law_begun J.law start) first texts writer.old
-        → Told W.took (law_begun J.law start) first whole writer.new)) }
-    ensures progress { OnOk result (bytes_left lines.new.count lines.new.pending.items
-        + length bytes.now ≤ bytes_left lines.old.count lines.old.pending.items) }
-    ensures stop { IfErr result (λ stop. (start : Begin J) (before : List ℕ) (texts : List (List ℕ)) (first : W)
-        → HasRead J.took J.law start before texts lines.old.judged lines.old.pending.items lines.old.count
-        → Told W.took (law_begun J.law start) first texts writer.old
-        → ToldIn W.took W.refused (law_begun J.law start) first (before ++ bytes.now) writer.new stop) }
-{
-    for byte in bytes {
-        write_byte(alloc, writer, lines, *byte)?;
+impl<'a, W: Sink, J: HistoryJudge> Writing<'a, W, J> {
+    // Writes a line.
+    fn write(&mut self, text: &[u8], event: &Option<OwnedEvent>) -> Result<(), Uncollected>
+        requires { line_of text.now ≡ Ok (seen_by event.now) }
+        ensures ok { OnOk result ((start : Begin J) (texts : List (List ℕ)) (first : W)
+            → HasJudged J.took J.law start texts self.old.judging.now
+            → Told W.took (law_begun J.law start) first texts self.old.writer.now
+            → Told W.took (law_begun J.law start) first (texts ++ text.now ∷ []) self.new.writer.now) }
+        ensures judging { OnOk result (self.new.judging.now ≡ self.old.judging.now) }
+        ensures stop { IfErr result (λ miss. (miss ≡ Uncollected.Halted)
+            × ((start : Begin J) (texts : List (List ℕ)) (first : W)
+            → HasJudged J.took J.law start texts self.old.judging.now
+            → Told W.took (law_begun J.law start) first texts self.old.writer.now
+            → WriteStops W.took W.refused (law_begun J.law start) first texts text.now self.new.writer.now
+            self.new.judging.now.stop)) }
+        ensures same { self.new.writer.ghost_name ≡ self.old.writer.ghost_name }
+        ensures same_judging { self.new.judging.ghost_name ≡ self.old.judging.ghost_name }
+    {
+        self.due = true;
+        match write_line(self.alloc, self.writer, &self.judging.judged, text, event) {
+            Ok(()) => Ok(()),
+            Err(stop) => {
+                self.judging.stop = stop;
+                Err(Uncollected::Halted)
+            }
+        }
     }
-    Ok(())
 }
 
-// Reads on through a buffer, up to the end or the first line that ends the reading, and writes the lines.
+impl<'a, W: Sink, J: HistoryJudge> Collector for Writing<'a, W, J> {
+    ghost fault_in = { history_fault };
+
+    ghost longest = { MAX_PAIR };
+
+    ghost most_lines = { most_lines };
+
+    ghost went = { λ s texts t. WereJudged J.took J.law s.judging.now texts t.judging.now
+        × WereTold W.took J.took J.law s.judging.now s.writer.now texts t.writer.now
+        × (t.due ≡ true → 0 < length texts) };
+
+    ghost stopped = { λ s text t. (start : Begin J) (texts : List (List ℕ)) (first : W)
+        → HasJudged J.took J.law start texts s.judging.now
+        → Told W.took (law_begun J.law start) first texts s.writer.now
+        → WriteStops W.took W.refused (law_begun J.law start) first texts text t.writer.now t.judging.now.stop };
+
+    ghost paused = { λ s t. Flushes W.took s.due s.writer.now t.writer.now × (t.judging.now ≡ s.judging.now) };
+
+    ghost unpaused = { λ s t. W.unflushed s.writer.now t.writer.now
+        × (t.judging.now.stop ≡ write_stop) };
+
+    ghost holds_same = { λ s t. (t.writer.ghost_name ≡ s.writer.ghost_name) × (t.judging.ghost_name ≡ s.judging.ghost_name) };
+
+    fn collect(&mut self, number: u64, text: &[u8]) -> Result<(), Uncollected> {
+        let event = read_history_line(text)?;
+        self.write(text, &event)?;
+        self.judging.judge(number, &event)
+    }
+
+    fn pause(&mut self) -> Result<(), Failed> {
+        if !self.due {
+            return Ok(());
+        }
+        self.due = false;
+        match self.writer.flush_all() {
+            Ok(()) => Ok(()),
+            Err(_) => {
+                self.judging.stop = Stop::Fault(TraceFault::Write);
+                Err(Failed)
+            }
+        }
+    }
+}
+
+// Reads a history to its end, or as far as it is judged, through a buffer, and writes its lines.
 fn write_through<R: Source, W: Sink, J: HistoryJudge>(
+    reader: &mut R,
+    writing: &mut Writing<W, J>,
+    buffer: &mut [u8],
+) -> Result<HistoryEnd, TraceFault>
+    requires room { length buffer.old ≡ BUFFER_LEN }
+    requires due { writing.old.due ≡ false }
+    requires begun { (start : Begin J) × HasJudged J.took J.law start [] writing.old.judging.now }
+    ensures ends { (start : Begin J) → HasJudged J.took J.law start [] writing.old.judging.now
+        → Writes R.gave R.failed W.took W.refused W.unflushed (law_begun J.law start) reader.old reader.new
+        writing.old.writer.now writing.new.writer.now result }
+    ensures same { writing.new.writer.ghost_name ≡ writing.old.writer.ghost_name }
+    ensures same_judging { writing.new.judging.ghost_name ≡ writing.old.judging.ghost_name }
+{
+    match read_lines_within(reader, writing, MAX_PAIR, u64::MAX, buffer) {
+        Ok(()) => Ok(writing.judging.judged.counts.end()),
+        Err(ReadStop::Fault(fault)) => Err(fault),
+        Err(ReadStop::Halted) => {
+            let none = Stop::Fault(TraceFault::OutOfMemory);
+            replace(&mut writing.judging.stop, none).ended()
+        }
+    }
+}
+
+// The same from the first line on.
+fn write_from<R: Source, W: Sink, J: HistoryJudge>(
     alloc: Global,
     reader: &mut R,
     writer: &mut W,
-    lines: &mut Lines<J>,
-    buffer: &mut [u8],
+    judging: &mut Judging<J>,
 ) -> Result<HistoryEnd, TraceFault>
-    requires room { 0 < length buffer.old }
-    requires begun { (start : Begin J)
-        × HasRead J.took J.law start [] [] lines.old.judged lines.old.pending.items lines.old.count }
-    ensures { (start : Begin J)
-        → HasRead J.took J.law start [] [] lines.old.judged lines.old.pending.items lines.old.count
-        → Writes R.gave R.failed W.took W.refused (law_begun J.law start) reader.old reader.new writer.old
-        writer.new result }
+    requires { (start : Begin J) × HasJudged J.took J.law start [] judging.old }
+    ensures { (start : Begin J) → HasJudged J.took J.law start [] judging.old
+        → Writes R.gave R.failed W.took W.refused W.unflushed (law_begun J.law start) reader.old reader.new
+        writer.old writer.new result }
 {
-    'pieces: loop {
-        let given = match reader.read_some(buffer) {
-            Ok(given) => given,
-            Err(_) => return Err(TraceFault::Read),
-        };
-        if given == 0 {
-            return lines.end();
-        }
-        if let Err(stop) = write_lines(alloc, writer, lines, &buffer[..given]) {
-            return stop.ended();
-        }
-    }
+    let mut buffer = vec![in alloc; 0u8; BUFFER_LEN]?;
+    let mut writing = Writing {
+        alloc,
+        writer,
+        judging,
+        due: false,
+    };
+    write_through(reader, &mut writing, &mut buffer)
 }
 
 /// Reads a history and judges it as [`judge_history`](crate::judge_history) does, and writes each line
@@ -271,9 +299,11 @@ fn write_through<R: Source, W: Sink, J: HistoryJudge>(
 /// the second must be 5a; `??` stands for a byte that may be anything, and `-` for one of which the judge
 /// can't tell. Each set is of its byte alone.
 ///
-/// A faulty line isn't written, and nothing behind it. [`TraceFault::Write`] says that a write was refused:
-/// a front of a line may be written. A fault is else as there, and all lines before it are written. The
-/// writer isn't flushed.
+/// A faulty line isn't written, and nothing behind it. [`TraceFault::Write`] says that a write or a flush was refused:
+/// a front of a line may be written. A fault is else as there, and all lines before it are written.
+///
+/// What was written since the last flush is flushed before each read, and so at the end, and before a fault. Behind a
+/// line that isn't of the law, or isn't decided, and behind a refusal, nothing is flushed.
 ///
 /// The judge is a new one, which has taken no event, and the notes are of no line.
 pub fn write_values<R: Source, W: Sink, J: HistoryJudge + Drop>(
@@ -287,10 +317,9 @@ pub fn write_values<R: Source, W: Sink, J: HistoryJudge + Drop>(
     requires passes { (J.law judge).passes [] }
     requires notes { (t : Telling) × AreNotesOf notes t (opening_windows t) }
     ensures { (t : Telling) → AreNotesOf notes t (opening_windows t)
-        → Writes R.gave R.failed W.took W.refused (told_by (J.law judge) t) reader.old reader.new writer.old
+        → Writes R.gave R.failed W.took W.refused W.unflushed (told_by (J.law judge) t) reader.old reader.new writer.old
         writer.new result }
 {
-    let mut lines = Lines::new(alloc, judge, notes);
-    let mut buffer = vec![in alloc; 0u8; BUFFER_LEN]?;
-    write_through(alloc, reader, writer, &mut lines, &mut buffer)
+    let mut judging = Judging::new(alloc, judge, notes);
+    write_from(alloc, reader, writer, &mut judging)
 }

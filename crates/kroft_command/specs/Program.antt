@@ -350,7 +350,7 @@ module _ {R W : Type 0} (gave : R → List ℕ → R → Type 0) (failed : R →
   abbrev pub WritesHistory : (how : HistoryTask) (image : List ℕ) → Ending R W
   WritesHistory how image input input' output output' result =
       (judged : Result HistoryEnd TraceFault) × (last : W)
-      × Writes gave failed took refused (law_for how image) input input' output last judged
+      × Writes gave failed took refused unflushed (law_for how image) input input' output last judged
       × ((unflushed last output' × (result ≡ Err write_fault))
       ⊎ ((flushed : W) × took last [] flushed × PutsVerdict took refused unflushed how judged flushed output' result))
 

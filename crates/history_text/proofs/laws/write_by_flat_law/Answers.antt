@@ -19,6 +19,6 @@ returns g c =
     let e = c.in_ok-memory.ensures in
     let t : Telling = telling_of c.args.image.now c.args.rest 1 true in
     by_image
-    (λ law. Writes g.R.Source.gave g.R.Source.failed g.W.Sink.took g.W.Sink.refused (told_by law t) c.args.reader.now
+    (λ law. Writes g.R.Source.gave g.R.Source.failed g.W.Sink.took g.W.Sink.refused g.W.Sink.unflushed (told_by law t) c.args.reader.now
     c.write_values.new.reader c.args.writer.now c.write_values.new.writer c.write_values.result)
     c.in_ok-memory.memory c.args.image.now c.args.rest e (c.write_values.ensures t c.in_ok-notes.ensures)

@@ -1,0 +1,25 @@
+use Rattle.std.proofs.Common.{ap, sym, ◌∙◌, refl, subst, arith}
+use Rattle.std.proofs.lemmas.Result.{on_ok_weaker, IfErr-weaker}
+use Rattle.trace_text.specs.Reading.{fault_of}
+use Rattle.trace_text.specs.Collecting.{Misses}
+use Rattle.history_text.proofs.reading.JudgingCollector.collect.Goals as goal
+
+pub judge-requires-clause-judged : goal.judge-requires-clause-judged
+judge-requires-clause-judged g c =
+    let went = c.requires.went in
+    (went.2.start, went.1, went.2.begun)
+
+pub judge-requires-clause-number : goal.judge-requires-clause-number
+judge-requires-clause-number g c =
+    let went = c.requires.went in
+    omega (arith, went.3, went.2.begun.lines)
+
+pub returns-clause-kept : goal.returns-clause-kept
+returns-clause-kept g c =
+    on_ok_weaker c.judge.result
+    (λ ok start texts number were. record {
+      start = were.start;
+      begun = ok were.start texts c.args.text.now (sym c.in_ok-event.ensures.said) were.begun;
+      each = λ other h. ok other texts c.args.text.now (sym c.in_ok-event.ensures.said) (were.each other h);
+    })
+    c.judge.ensures.ok
