@@ -10,7 +10,7 @@ use Rattle.trace_text.specs.declared.fault.TraceFault.{TraceFault}
 use Rattle.trace_text.specs.declared.fault.TraceFault.TheVariants as fault
 use Rattle.history_text.specs.Laws.{Law}
 use Rattle.history_text.specs.Operations.{open_in}
-use Rattle.history_text.specs.Histories.{most_lines, history_fault, events_of, AreOfLaw, LineEnds, JudgesWith, Judges}
+use Rattle.history_text.specs.Histories.{most_lines, history_fault, AreOfLaw, LineEnds, JudgesWith, Judges}
 use Rattle.history_text.specs.Histories.{ended_by, HasJudged, WereJudged, LineStops}
 use Rattle.history_text.specs.Told.{ToldLaw, Begin, law_begun}
 use Rattle.history_text.specs.declared.answers.HistoryEnd.{HistoryEnd}
@@ -77,7 +77,8 @@ module _ {R J : Type 0} (gave : R → List ℕ → R → Type 0) (failed : R →
       → Judges gave failed (law_begun law start) r r' (Err f)
   judges_fault s f begun is reads = fault_judged f begun (subst (λ x. JudgingReads (Err x)) is reads)
 
-  halted_judged : HasJudged took law start [] c → JudgingReads (Err Halted) → Judges gave failed (law_begun law start) r r' (ended_by c'.stop)
+  halted_judged : HasJudged took law start [] c → JudgingReads (Err Halted)
+      → Judges gave failed (law_begun law start) r r' (ended_by c'.stop)
   halted_judged begun (texts, rest, v, were, ends) =
       let h = were.each start begun in
       elim ends [

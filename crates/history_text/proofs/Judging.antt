@@ -84,7 +84,8 @@ module _ {J : Type 0} {took : J → List HistoryEvent → J → Type 0} {law : J
   }
 
   judged_more : {texts : List (List ℕ)} (j j' : Judging J) (text : List ℕ) (number : ℕ) → HasJudged took law start texts j
-      → Stands took start (events_of texts ++ events_in (line_of text)) (text_then (windows_of start.telling texts) (line_of text)) j'.judged
+      → Stands took start (events_of texts ++ events_in (line_of text)) (text_then (windows_of start.telling texts) (line_of text))
+      j'.judged
       → (law start.judge).passes (events_of texts ++ events_in (line_of text)) → number ≡ j.lines + 1 → j'.lines ≡ number
       → HasJudged took law start (texts ++ text ∷ []) j'
   judged_more {texts = texts} j j' text number h stands passes at lines =

@@ -1,5 +1,6 @@
 -- What is written of the lines of a history.
-use Rattle.std.proofs.Common.{◌≡◌, ℕ, ◌+◌, ◌<◌, ◌⊎◌, Bool, true, false, Option, Result, Ok, Err, List, [], ◌∷◌, ◌++◌, length, refl, sym, subst}
+use Rattle.std.proofs.Common.{◌≡◌, ℕ, ◌+◌, ◌<◌, ◌⊎◌, Bool, true, false, Option, Result, Ok, Err, List, [], ◌∷◌, ◌++◌, length}
+use Rattle.std.proofs.Common.{refl, sym, subst}
 use Rattle.std.proofs.Common.{inl, inr, arith}
 use Rattle.memory_histories.specs.declared.events.HistoryEvent.{HistoryEvent}
 use Rattle.memory_histories.specs.declared.sets.ByteSet.{ByteSet}
@@ -92,7 +93,8 @@ module _ {R W J : Type 0} (gave : R → List ℕ → R → Type 0) (failed : R �
     (c c' : Writing W J) where
   abbrev WritingReads : Result (Unit {0}) ReadStop → Type 0
   WritingReads = ReadsWithin gave failed history_fault
-      (λ s texts t. WereJudged judged law s.judging.now texts t.judging.now × WereTold took judged law s.judging.now s.writer.now texts t.writer.now
+      (λ s texts t. WereJudged judged law s.judging.now texts t.judging.now
+      × WereTold took judged law s.judging.now s.writer.now texts t.writer.now
       × (t.due ≡ true → 0 < length texts))
       (λ s text t. (other : Begin J) (texts : List (List ℕ)) (first : W) → HasJudged judged law other texts s.judging.now
       → Told took (law_begun law other) first texts s.writer.now

@@ -1,23 +1,13 @@
 -- How bytes become lines, one by one: whatever a line's fault is, and however long it may be.
 use Rattle.std.proofs.Common.{◌≡◌, ◌≢◌, ℕ, ◌+◌, ◌<◌, ◌≤◌, Option, Some, List, [], ◌∷◌, ◌++◌, length, take, drop, get_or}
-use Rattle.std.proofs.Common.{length-append, append_assoc, take-append-drop, refl, sym, ◌∙◌, ap, arith}
-use Rattle.std.proofs.Math.Seq.{get_or-append_seam}
-use Rattle.std.proofs.lemmas.List.{get_or_append_left, take_all, take_more}
+use Rattle.std.proofs.Common.{append_assoc, take-append-drop, refl, sym, ◌∙◌, ap, arith}
+use Rattle.std.proofs.lemmas.List.{take_more}
 use Rattle.trace_text.specs.Streams.{HasNoEnd}
 use Rattle.trace_text.specs.Reading.{joined_texts, IsGood, Good, BeginsFaulty}
 use Rattle.trace_text.specs.Lines.{IsSaid}
 use Rattle.trace_text.specs.declared.lines.LineFault.{LineFault}
 use Rattle.trace_text.specs.declared.lines.LineFault.TheVariants.{TooLong, NotEnded}
 use Rattle.trace_text.proofs.Serving.{all_then}
-
--- ---- bytes without an LF
-
-pub none_yet : HasNoEnd []
-none_yet k lt e = omega (arith, lt)
-
-pub none_more : (bytes : List ℕ) (b : ℕ) → b ≢ 10 → HasNoEnd bytes → HasNoEnd (bytes ++ b ∷ [])
-none_more bytes b ne none k lt e =
-    grind (arith, length-append, get_or_append_left bytes (b ∷ []) 0 k, get_or-append_seam bytes b [] 0, none k)
 
 -- ---- faulty lines
 
@@ -27,11 +17,6 @@ pub begins_with : (fault_in : List ℕ → Option LineFault) (most : ℕ) (text 
 begins_with fault_in most text more bytes TooLong is short none said fault = absurd said
 begins_with fault_in most text more bytes NotEnded is short none said fault = absurd said
 begins_with fault_in most text more bytes f is short none said fault = (text, more, is, short, none, fault)
-
--- a line that is too long already
-pub begins_long : (fault_in : List ℕ → Option LineFault) (most : ℕ) (bytes : List ℕ) → length bytes ≡ most + 1 → HasNoEnd bytes
-    → BeginsFaulty fault_in most bytes TooLong
-begins_long fault_in most bytes long none = grind (arith, take_all)
 
 -- ---- lines
 
@@ -57,11 +42,6 @@ good_more {rest = rest} {texts = texts} more p = record {
   each = p.each;
   split = ap (λ l. l ++ more) p.split ∙ append_assoc (joined_texts texts) rest more;
 }
-
--- the bytes behind the lines are a line that ends here
-pub good_line : {f : List ℕ → Option LineFault} {most : ℕ} {bytes text : List ℕ} {texts : List (List ℕ)} → Good f most bytes texts text
-    → IsGood f most text → Good f most (bytes ++ 10 ∷ []) (texts ++ text ∷ []) []
-good_line {text = text} p good = good_then (good_more (10 ∷ []) p) (good_one text [] _ good refl)
 
 -- ---- bytes one by one
 

@@ -1,5 +1,5 @@
 use Rattle.std.proofs.Common.{◌≡◌, [], sym, subst}
-use Rattle.history_text.specs.Histories.{Judges, HasJudged}
+use Rattle.history_text.specs.Histories.{Judges}
 use Rattle.history_text.specs.Notes.{AreNotesOf, opening_windows}
 use Rattle.history_text.specs.Told.{Begin, told_by}
 use Rattle.history_text.proofs.Judging.{begins}

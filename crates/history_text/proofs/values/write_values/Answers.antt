@@ -17,4 +17,5 @@ returns g c t are =
     let e = c.new-judging.ensures in
     let start : Begin g.row.J.Denot = record { judge = c.args.judge; telling = t } in
     let notes = subst (λ n. AreNotesOf n t (opening_windows t)) (sym e.notes) are in
-    c.write_from.ensures start (begins {start = start} c.new-judging.result c.requires.begun c.requires.passes notes e.judge e.counts e.loads e.lines)
+    c.write_from.ensures start
+    (begins {start = start} c.new-judging.result c.requires.begun c.requires.passes notes e.judge e.counts e.loads e.lines)

@@ -1,4 +1,4 @@
-use Rattle.std.proofs.Common.{◌+◌, ◌<◌, ℕ, Option, Ok, length, sym, ◌∙◌, ap, refl, arith}
+use Rattle.std.proofs.Common.{◌+◌, ◌<◌, Option, Ok, length, ◌∙◌, ap, refl, arith}
 use Rattle.history_text.specs.Lines.{seen, seen_by}
 use Rattle.history_text.specs.Histories.{events_of}
 use Rattle.history_text.specs.declared.events.OwnedEvent.{OwnedEvent}

@@ -1,7 +1,5 @@
-use Rattle.std.proofs.Common.{ap, sym, ◌∙◌, refl, subst, arith}
-use Rattle.std.proofs.lemmas.Result.{on_ok_weaker, IfErr-weaker}
-use Rattle.trace_text.specs.Reading.{fault_of}
-use Rattle.trace_text.specs.Collecting.{Misses}
+use Rattle.std.proofs.Common.{sym, ◌∙◌, arith}
+use Rattle.std.proofs.lemmas.Result.{on_ok_weaker}
 use Rattle.history_text.proofs.reading.JudgingCollector.collect.Goals as goal
 
 pub judge-requires-clause-judged : goal.judge-requires-clause-judged
