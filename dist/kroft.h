@@ -75,7 +75,7 @@ enum {
     KROFT_OUT_OF_RANGE = 1, /* the word or block isn't in memory                                     */
     KROFT_NO_LANES = 2,     /* a store without a lane                                                */
     KROFT_TAG_IN_USE = 3,   /* the tag is awaited, or its value stands ready                         */
-    KROFT_REPLIES_FULL = 4, /* as many loads are owed values as may be                               */
+    KROFT_REPLIES_FULL = 4, /* the limit of outstanding loads is reached                             */
     KROFT_TARGETS_FULL = 5, /* four loads wait for the word                                          */
     KROFT_BLOCK_QUEUED = 6, /* never answered by the machine of this library                         */
     KROFT_NO_REGISTER = 7,  /* no register is free                                                   */
