@@ -3,12 +3,11 @@
  * machine, behind another; and traffic for a bench.
  *
  * Link with -lkroft (`./kroft-lib DIR` leaves libkroft.a, libkroft.so and this file in DIR). C99 and
- * later, C++11 and later.
+ * later, C++11 and later. A client of version 0.1 includes kroft_0_1.h instead.
  *
- * Every function answers every number, row and length that it is given; none aborts. What nothing
- * checks, and the caller keeps: each pointer is valid, not null (also beside a length of 0), aligned
- * for its type, and overlaps none of the call's others; each length is true. For a handle also: nobody
- * else writes it or copies it to use the copy, and no two calls have it at once.
+ * Every function has an answer to every number, row and length; none aborts. What nothing checks, and the
+ * caller keeps: each pointer is valid, aligned for its type, and overlaps none of the call's others; each
+ * length is true. A pointer beside a length of 0 may be null, and no other.
  */
 #ifndef KROFT_H
 #define KROFT_H
@@ -16,14 +15,15 @@
 #include <stddef.h>
 #include <stdint.h>
 
-/* The version of this library, which is also the program's, the Python package's and the one that `pkg-config` tells. */
-#define KROFT_VERSION "0.1.0"
+/* The version of this library, of the program, of the Python package and of pkg-config; and as a number, 1000000 * major +
+   1000 * minor + patch. */
+#define KROFT_VERSION "0.2.0"
+#define KROFT_VERSION_NUMBER 2000
 
 /* A buffer of so many bytes takes each version. */
 #define KROFT_VERSION_TEXT 16
 
-/* Where a handle points before it is opened. (One that was given up is closed too, but its `at` isn't set back.) C++ takes a
-   plain 0 for no pointer, but its compilers can warn of that. */
+/* Where a handle points before it is opened. (C++ takes a plain 0 for no pointer, but its compilers can warn of that.) */
 #ifdef __cplusplus
 #define KROFT_NOWHERE nullptr
 extern "C" {
@@ -31,19 +31,108 @@ extern "C" {
 #define KROFT_NOWHERE 0
 #endif
 
+/* ---- results ------------------------------------------------------------------------------------ */
+
+/*
+ * What a call returns: KROFT_OK, and it did what it says; KROFT_ABSENT, there is no such thing, or nothing
+ * to do; or a failure, 100 or more. After all but KROFT_OK each thing that the call may change is as it was,
+ * unless it says otherwise. So a loop asks for KROFT_OK, and ends at a failure too:
+ *
+ *     while (kroft_machine_pump(&machine, &event, &answer) == KROFT_OK) ..
+ *
+ * Each name with its number and its text, in ASCII. If several failures hold, a call says which comes first.
+ */
+#define KROFT_EACH_RESULT(row) \
+    /* what isn't a failure */                                                                      \
+    row(OK, 0, "ok")                                                                                \
+    row(ABSENT, 1, "absent: there is no such thing, or nothing to do")                              \
+    /* handles, and calls of several kinds */                                                       \
+    row(FAIL_CLOSED, 100, "closed: nothing is behind the handle")                                   \
+    row(FAIL_OUT_OF_MEMORY, 101, "out of memory: an allocation was refused")                        \
+    row(FAIL_OPEN_ALREADY, 102, "open already: something is behind the handle")                     \
+    row(FAIL_NO_LAW, 103, "no law: there is no such law, unit or rest")                             \
+    row(FAIL_TOO_LONG, 104, "too long: 2^64 - 1 events were taken")                                 \
+    row(FAIL_UNDECIDED, 105, "undecided: too many orders to follow in a unit")                      \
+    row(FAIL_NO_ROUNDS, 106, "no rounds: none were begun")                                          \
+    row(FAIL_IN_ROUNDS, 107, "in rounds: they alone make the events")                               \
+    row(FAIL_NO_UNITS, 108, "no units: the law has none to forget")                                 \
+    row(FAIL_NO_ROOM, 109, "no room: the buffer is too short")                                      \
+    /* kroft_machine_open: the first number of the shape that is out of its range, in this order */ \
+    row(FAIL_BAD_BLOCK_WORDS, 111, "bad shape: block_words is out of its range")                    \
+    row(FAIL_BAD_WAYS, 112, "bad shape: ways is out of its range")                                  \
+    row(FAIL_BAD_REGS, 113, "bad shape: regs is out of its range")                                  \
+    row(FAIL_BAD_DEPTH, 114, "bad shape: depth is out of its range")                                \
+    row(FAIL_BAD_WORDS, 115, "bad shape: words is out of its range")                                \
+    row(FAIL_BAD_SETS, 116, "bad shape: sets is out of its range")                                  \
+    row(FAIL_BAD_BANKS, 117, "bad shape: banks is out of its range")                                \
+    row(FAIL_BAD_BANK_QUEUE, 118, "bad shape: bank_queue is out of its range")                      \
+    row(FAIL_BAD_WRITE_QUEUE, 119, "bad shape: write_queue is out of its range")                    \
+    row(FAIL_BAD_REPLIES, 120, "bad shape: replies is out of its range")                            \
+    row(FAIL_BAD_IMAGE, 121, "bad image: it hasn't as many words as memory")                        \
+    /* rounds */                                                                                    \
+    row(FAIL_BAD_LATENCY, 131, "bad latency: it is more than 1000")                                 \
+    row(FAIL_TOO_MANY, 132, "too many: requests of a list, or rounds")                              \
+    /* flat memory; the first three: the event may only be refused, with the cause of this name */  \
+    row(FAIL_OUT_OF_RANGE, 141, "out of range: memory has no such word")                            \
+    row(FAIL_NO_LANES, 142, "no lane: a store that writes no byte")                                 \
+    row(FAIL_TAG_IN_USE, 143, "tag in use: its load has no answer yet")                             \
+    row(FAIL_NOTHING_OWED, 144, "nothing owed: no load waits under the tag")                        \
+    row(FAIL_WRONG_WORD, 145, "wrong word: the load gets another")                                  \
+    row(FAIL_OTHER_ANSWER, 146, "wrong answer: this event never gets it")                           \
+    row(FAIL_NO_EVENT, 147, "no event: its row is none that may be given here")                     \
+    row(FAIL_NO_ANSWER, 148, "no answer: its row says nothing")                                     \
+    /* events of a history */                                                                       \
+    row(FAIL_BAD_RANGE, 151, "bad range: not 1 to 64 bytes, or not below 2^64")                     \
+    row(FAIL_NO_BYTE_ENABLED, 152, "no byte enabled: a store that writes no byte")                  \
+    row(FAIL_NUMBER_IN_USE, 153, "number in use: an operation is open under it")                    \
+    row(FAIL_NOT_OPEN, 154, "not open: no operation is open under the number")                      \
+    row(FAIL_WRONG_LENGTH, 155, "wrong length: the load asks for another")                          \
+    row(FAIL_WRONG_BYTE, 156, "wrong byte: the load may not return it")                             \
+    /* why a byte is wrong: kroft_history_reason */                                                 \
+    row(REASON_NONE, 160, "no reason: none is known")                                               \
+    row(REASON_NEVER_THERE, 161, "never there: no store put the byte there")                        \
+    row(REASON_FIRST_OVERWRITTEN, 162, "overwritten: memory's first byte, by a store")              \
+    row(REASON_STORE_OVERWRITTEN, 163, "overwritten: a store's byte, by a later store")             \
+    row(REASON_NOT_TOGETHER, 164, "not together: the bytes stood so at no moment")                  \
+    /* traffic */                                                                                   \
+    row(FAIL_NO_PLAN, 171, "no plan: one of its numbers is out of its range")
+
+#define KROFT_RESULT_NUMBER(name, number, text) KROFT_##name = number,
+enum { KROFT_EACH_RESULT(KROFT_RESULT_NUMBER) };
+#undef KROFT_RESULT_NUMBER
+
+/* The text of a result. */
+static inline const char *kroft_text(uint32_t result) {
+#define KROFT_RESULT_TEXT(name, number, text) case number: return text;
+    switch (result) {
+        KROFT_EACH_RESULT(KROFT_RESULT_TEXT)
+    default: return "no result has this number";
+    }
+#undef KROFT_RESULT_TEXT
+}
+
+/* A buffer of so many bytes takes each text. */
+#define KROFT_RESULT_TEXT_SIZE 64
+
+/*
+ * Writes the same text and a 0 behind it: for a client that reads no C. Returns the length of the text,
+ * without the 0; if the two don't fit, the buffer is as it was.
+ */
+uint32_t kroft_result_text(uint32_t result, char *text, size_t ntext);
+
+/* ---- events and answers ------------------------------------------------------------------------ */
+
 /* A word of memory: four bytes, byte 0 first. */
 typedef struct {
     uint8_t b[4];
 } kroft_word;
 
-/* ---- events and answers ------------------------------------------------------------------------ */
-
 /* What an event is, and the members of its row that are read. */
 enum {
-    KROFT_LOAD = 0,     /* tag, at: the word at `at` is asked for, under a tag                       */
+    KROFT_LOAD = 0,     /* tag, at: a load of the word at `at`, under a tag                          */
     KROFT_STORE = 1,    /* at, lanes, word: the bytes of `word` in these lanes are written           */
     KROFT_PREFETCH = 2, /* at: the block of the word at `at` is wanted in the cache                  */
-    KROFT_EVICT = 3,    /* at: block number `at` is given up                                         */
+    KROFT_EVICT = 3,    /* at: block number `at` leaves the cache                                    */
     KROFT_DRAIN = 4,    /* the front of the write queue goes to its bank                             */
     KROFT_SERVE = 5,    /* at: bank `at` serves its first command                                    */
     KROFT_ARRIVE = 6,   /* at, place: the answer at `place` of bank `at` comes to the input stack    */
@@ -74,7 +163,7 @@ enum {
 enum {
     KROFT_OUT_OF_RANGE = 1, /* the word or block isn't in memory                                     */
     KROFT_NO_LANES = 2,     /* a store without a lane                                                */
-    KROFT_TAG_IN_USE = 3,   /* the tag is awaited, or its value stands ready                         */
+    KROFT_TAG_IN_USE = 3,   /* a load under the tag waits, or its value is ready                         */
     KROFT_REPLIES_FULL = 4, /* the limit of outstanding loads is reached                             */
     KROFT_TARGETS_FULL = 5, /* four loads wait for the word                                          */
     KROFT_BLOCK_QUEUED = 6, /* never answered by the machine of this library                         */
@@ -87,7 +176,7 @@ enum {
     KROFT_STRAY_WORD = 13   /* no register waits for the word; never answered by a whole machine     */
 };
 
-/* An answer. Members that its kind doesn't name may hold anything; those written by this library are 0. */
+/* An answer. Members that its kind doesn't name may hold anything; those that this library writes are 0. */
 typedef struct {
     uint32_t kind;
     uint32_t cause;
@@ -95,98 +184,44 @@ typedef struct {
     kroft_word word;
 } kroft_answer;
 
-/* ---- the judge --------------------------------------------------------------------------------- */
+/* ---- flat memory ------------------------------------------------------------------------------- */
 
-/* The entries of a table of what is owed: one for each tag. */
+/* The entries of a table of loads: one for each tag. */
 #define KROFT_TAGS 65536
 
-/* What a tag is owed: `word`, if `owed` isn't 0. Zeroed, it says that nothing is owed. */
+/* A tag's load that has no answer yet: it gets `word`, if `owed` isn't 0. Zeroed, there is none. */
 typedef struct {
     uint32_t owed;
     kroft_word word;
 } kroft_due;
 
-/* What the judge says of a step. */
-enum {
-    KROFT_FLAT = 0,     /* flat memory gives this answer to this event                              */
-    KROFT_NOT_FLAT = 1, /* flat memory never gives it                                               */
-    KROFT_NO_STEP = 2   /* nothing was judged: a row says nothing, or `ndue` isn't KROFT_TAGS       */
-};
-
 /*
- * One step of a run: may flat memory give this answer to this event? Returns KROFT_FLAT, and `words`
- * and `due` are then as the step leaves them, which writes no entry of `due` but that of a tag that is
- * loaded or whose value is taken; or KROFT_NOT_FLAT or KROFT_NO_STEP, and then both are as they were. A
- * row says nothing if its kind is past the last, or if it is a refusal whose cause isn't 1 to 13.
+ * Judges one step of a run: may flat memory give this answer to this event? Returns KROFT_OK, and `words` and
+ * `due` are as the step leaves them, which writes no entry of `due` but that of a tag that is loaded or whose
+ * value is taken. Or the first that holds of KROFT_FAIL_NO_EVENT and KROFT_FAIL_NO_ANSWER (a row says nothing if
+ * its kind is past the last, or if it is a refusal whose cause isn't 1 to 13), and of KROFT_FAIL_OUT_OF_RANGE
+ * to KROFT_FAIL_OTHER_ANSWER: flat memory never answers so. After KROFT_FAIL_WRONG_WORD `right` is the word that
+ * the load gets; else `right` is as it was.
  *
- *     if (kroft_flat_step(words, nwords, due, KROFT_TAGS, &event, &answer) != KROFT_FLAT) {
- *         char text[KROFT_WHY_TEXT];
- *         kroft_word owed;
- *         uint32_t why = kroft_flat_why(words, nwords, due, KROFT_TAGS, &event, &answer, &owed);
- *         kroft_why_text(why, text, sizeof text);
- *         fail(text);
- *     }
+ *     uint32_t result = kroft_flat_judge(words, nwords, due, &event, &answer, &right);
+ *     if (result != KROFT_OK) fail(kroft_text(result));
  *
- * So ask whether it isn't KROFT_FLAT, not whether it is KROFT_NOT_FLAT: after KROFT_NO_STEP nothing was
- * judged, and the step is no success.
+ * Flat memory: an accepted store is seen at once, and an accepted load gets the word as it stood when it was
+ * accepted. The rows need no more than loads, stores and takes; a client that has the machine's other events
+ * gives them too.
  *
- * Flat memory: an accepted store is seen at once, and an accepted load is owed the word as it stood
- * when it was accepted, until a take answers exactly this word under its tag. The rows need no more
- * than loads, stores and takes; a client that has the machine's other events gives them too.
- *
- * The caller keeps `words` (memory, which begins as the caller likes, of at most 2^32 words) and `due`
- * (KROFT_TAGS entries, zeroed at first), one pair for each memory. It takes no memory, and needs no
- * function of any library.
+ * The caller keeps `words` (memory, which begins as the caller likes, of at most 2^32 words) and `due` (zeroed
+ * at first), one pair for each memory. The call allocates nothing, and needs no function of any library.
  */
-uint32_t kroft_flat_step(kroft_word *words, size_t nwords, kroft_due *due, size_t ndue,
-                         const kroft_event *event, const kroft_answer *answer);
-
-/* Why a step isn't accepted. After the first three the event may only be refused, with the cause of the same
-   number (KROFT_OUT_OF_RANGE, KROFT_NO_LANES, KROFT_TAG_IN_USE). */
-enum {
-    KROFT_WHY_FLAT = 0,         /* it is accepted: kroft_flat_step would return KROFT_FLAT                */
-    KROFT_WHY_OUT_OF_RANGE = 1, /* a load, a store or a prefetch of a word that memory hasn't             */
-    KROFT_WHY_NO_LANES = 2,     /* a store without a lane                                                 */
-    KROFT_WHY_TAG_IN_USE = 3,   /* the load's tag is owed a word already                                  */
-    KROFT_WHY_NOTHING_OWED = 4, /* the tag of the value that is taken is owed nothing                     */
-    KROFT_WHY_WRONG_WORD = 5,   /* it is owed another word                                                */
-    KROFT_WHY_OTHER_ANSWER = 6, /* this event never gets such an answer                                   */
-    KROFT_WHY_NO_EVENT = 7,     /* the event's row says nothing                                           */
-    KROFT_WHY_NO_ANSWER = 8,    /* the answer's row says nothing                                          */
-    KROFT_WHY_NO_TABLE = 9      /* `ndue` isn't KROFT_TAGS                                                */
-};
+uint32_t kroft_flat_judge(kroft_word *words, size_t nwords, kroft_due due[KROFT_TAGS], const kroft_event *event,
+                          const kroft_answer *answer, kroft_word *right);
 
 /*
- * Why a step with these arguments isn't accepted; it changes neither `words` nor `due`. Returns KROFT_WHY_FLAT
- * exactly if kroft_flat_step would return KROFT_FLAT, 1 to 6 exactly if KROFT_NOT_FLAT, and 7 to 9 exactly if
- * KROFT_NO_STEP. Of the reasons that hold it is the first in the order 7, 8, 9, 1 to 6. After
- * KROFT_WHY_WRONG_WORD `owed` is the word that the tag is owed; otherwise `owed` is as it was.
+ * Returns how many accepted loads have no answer yet: a run is complete if this is 0 at its end. If there are
+ * more than `n`, `tag` is that of the one at place `n`, in the order of the tags; otherwise `tag` is as it was.
+ * Each call reads the whole table.
  */
-uint32_t kroft_flat_why(const kroft_word *words, size_t nwords, const kroft_due *due, size_t ndue,
-                        const kroft_event *event, const kroft_answer *answer, kroft_word *owed);
-
-/* The bytes of a buffer that each text of kroft_why_text fits, with the 0 at its end. */
-#define KROFT_WHY_TEXT 64
-
-/*
- * Writes the text of a reason, in ASCII and with a 0 at its end, into `text`, which has `room` bytes. Returns
- * the length of the text without the 0. If the two don't fit, nothing is written. A number that no reason has
- * gets a text that says so.
- */
-uint32_t kroft_why_text(uint32_t why, char *text, size_t room);
-
-/*
- * What a tag is owed. Returns 1, and `word` is what it is owed; or 0 if it is owed nothing (or `due` has
- * no entry for it), and then `word` is as it was.
- */
-uint32_t kroft_flat_owed(const kroft_due *due, size_t ndue, uint16_t tag, kroft_word *word);
-
-/*
- * How many tags are owed a word, which is how many accepted loads have no answer yet: a run is complete if this
- * is 0 at its end. If there are more than `n`, `tag` is the one at place `n` among them, the lowest at place 0;
- * otherwise `tag` is as it was. Entries of `due` from KROFT_TAGS on count for nothing. Each call reads the table.
- */
-uint32_t kroft_flat_open(const kroft_due *due, size_t ndue, uint32_t n, uint16_t *tag);
+uint32_t kroft_flat_unanswered(const kroft_due due[KROFT_TAGS], uint32_t n, uint16_t *tag);
 
 /* ---- the machine ------------------------------------------------------------------------------- */
 
@@ -195,24 +230,28 @@ uint32_t kroft_flat_open(const kroft_due *due, size_t ndue, uint32_t n, uint16_t
  * events, one at a time, in any order. Every load gets the word that flat memory held when the load was
  * accepted.
  *
- * A handle holds one machine, or none: then it is closed. Zeroed, it is closed.
+ * The handle of a machine: open, or closed, as it is if zeroed. The library alone writes it then.
  *
- *     kroft_handle handle = KROFT_NO_MACHINE;
+ *     kroft_machine machine = KROFT_NO_MACHINE;
  *
- * kroft_open puts a machine behind it, the calls work on that machine, and kroft_free gives it up with all
- * its memory. No other call allocates but kroft_drive, which gives back what it took, and kroft_rounds_begin.
+ * A copy of a handle is a trap: it goes on to point to what a call with the other one has freed. So pass its
+ * address, and give it away by kroft_machine_close and a zeroed handle, or in C++ by a move (kroft.hpp).
+ *
+ * A call that takes a const handle leaves the machine as it was. But no two calls have one handle at once, not even
+ * two of these. Two handles are independent: they share nothing, and two threads may use one each at once.
+ *
+ * kroft_machine_open and kroft_machine_begin_rounds allocate what the machine keeps, and kroft_machine_drive what
+ * it frees before it returns; no other call allocates.
  */
 typedef struct {
-    uint32_t open; /* 0: closed. Written by the library alone, once it was zeroed */
+    uint32_t open; /* 0: closed */
     void *at;      /* the library's own */
-} kroft_handle;
+} kroft_machine;
 
 #define KROFT_NO_MACHINE \
     { 0, KROFT_NOWHERE }
 
-/*
- * The numbers of a machine: any within their ranges.
- */
+/* The numbers of a machine: any within their ranges. */
 typedef struct {
     uint32_t ways;        /* ways of a set: 1 to 16                                                   */
     uint32_t block_words; /* words of a block: 1 to 16                                                */
@@ -227,80 +266,49 @@ typedef struct {
     uint32_t replies;     /* loads that are awaited and ready together at most: 1 to 64               */
 } kroft_shape;
 
-/* What a call of the machine says. */
-enum {
-    KROFT_DONE = 0,     /* the call was made                                                          */
-    KROFT_NONE = 0,     /* there is no such thing, or nothing to do                                   */
-    KROFT_FOUND = 1,    /* there is such a thing, or it was done                                      */
-    KROFT_NO_EVENT = 2, /* the row is no event: its kind is past the last                             */
-    KROFT_CLOSED = 3,   /* no machine is behind the handle                                            */
-    KROFT_IN_ROUNDS = 107 /* rounds are under way, and they alone make events: kroft_rounds_begin     */
-};
-
-/* Why kroft_open opens no machine. */
-enum {
-    KROFT_BAD_WORDS = 5,       /* a number of the shape is out of its range                           */
-    KROFT_BAD_SETS = 6,
-    KROFT_BAD_BANKS = 7,
-    KROFT_BAD_BANK_QUEUE = 8,
-    KROFT_BAD_WRITE_QUEUE = 9,
-    KROFT_BAD_REPLIES = 10,
-    KROFT_BAD_IMAGE = 13,      /* the image hasn't as many words as memory                            */
-    KROFT_NOT_LISTED = 100,    /* ways, block_words, regs or depth is out of its range. (There is no
-                                  list: whatever is in the ranges may be opened)                      */
-    KROFT_OUT_OF_MEMORY = 101, /* an allocation was refused                                           */
-    KROFT_OPEN_ALREADY = 102   /* a machine is behind the handle already                              */
-};
+/*
+ * Opens a machine over the words of an image, of which it keeps a copy. Returns KROFT_OK, and nothing has happened
+ * in it; or the first that holds of KROFT_FAIL_OPEN_ALREADY, KROFT_FAIL_BAD_BLOCK_WORDS to KROFT_FAIL_BAD_IMAGE and
+ * KROFT_FAIL_OUT_OF_MEMORY, and then no memory is kept.
+ */
+uint32_t kroft_machine_open(kroft_machine *handle, const kroft_shape *shape, const kroft_word *image, size_t nimage);
 
 /*
- * Opens a machine over the words of an image, of which it keeps a copy. Returns KROFT_DONE: the machine
- * stands behind the handle, and nothing has happened in it. Or, and then the handle is as it was, and no
- * memory is kept, the first that holds of KROFT_OPEN_ALREADY; KROFT_NOT_LISTED; KROFT_BAD_WORDS to
- * KROFT_BAD_REPLIES, in their order; KROFT_BAD_IMAGE; KROFT_OUT_OF_MEMORY.
+ * Frees the machine with its rounds, and closes the handle. Returns KROFT_OK or KROFT_FAIL_CLOSED. An open handle
+ * that is lost leaks its machine.
  */
-uint32_t kroft_open(kroft_handle *handle, const kroft_shape *shape, const kroft_word *image, size_t nimage);
+uint32_t kroft_machine_close(kroft_machine *handle);
 
 /*
- * Gives the machine up, with its rounds and all its memory. Returns KROFT_DONE, and the handle is closed; or
- * KROFT_CLOSED: it was closed already. An open handle that is lost, not freed, leaks its machine.
+ * Makes one event. Returns KROFT_OK, and `answer` is the machine's; or the first that holds of KROFT_FAIL_CLOSED,
+ * KROFT_FAIL_IN_ROUNDS and KROFT_FAIL_NO_EVENT. A refusal is an answer, KROFT_REFUSED: it changes nothing in the
+ * machine. KROFT_BLOCK_QUEUED and KROFT_STRAY_WORD never come.
  */
-uint32_t kroft_free(kroft_handle *handle);
-
-/*
- * Makes one event. Returns KROFT_DONE, and `answer` is the machine's; or the first that holds of KROFT_CLOSED,
- * KROFT_IN_ROUNDS and KROFT_NO_EVENT, and then all is as it was. A refusal is an answer, KROFT_REFUSED: it changes nothing in the machine.
- * KROFT_BLOCK_QUEUED and KROFT_STRAY_WORD never come.
- */
-uint32_t kroft_apply(kroft_handle *handle, const kroft_event *event, kroft_answer *answer);
+uint32_t kroft_machine_apply(kroft_machine *handle, const kroft_event *event, kroft_answer *answer);
 
 /*
  * Makes the driver's event, the first of these that is possible: the first ready reply is taken; the first
  * word of the input stack is processed; the lowest bank with an answer has its first one arrive; the lowest
- * bank with a command serves it; the write queue's front is drained. Returns KROFT_FOUND: `event` says which
- * event it was, and `answer` is the machine's; the weight is lower than before. Or KROFT_NONE, nothing is on
- * its way, KROFT_CLOSED or KROFT_IN_ROUNDS, and then all is as it was.
+ * bank with a command serves it; the write queue's front is drained. Returns KROFT_OK: `event` says which event it
+ * was, and `answer` is the machine's; the weight is lower than before. Or KROFT_ABSENT, nothing is on its way;
+ * KROFT_FAIL_CLOSED or KROFT_FAIL_IN_ROUNDS.
  */
-uint32_t kroft_pump(kroft_handle *handle, kroft_event *event, kroft_answer *answer);
+uint32_t kroft_machine_pump(kroft_machine *handle, kroft_event *event, kroft_answer *answer);
 
 /*
  * What is on its way, weighed: after as many pumps, or fewer, the weight is 0, and then each load, each
- * prefetch and each store with a lane that points into memory is accepted. Returns KROFT_DONE, and `weight`
- * is it; or KROFT_CLOSED, and then `weight` is as it was.
+ * prefetch and each store with a lane that points into memory is accepted. `settled` is 1 if memory has everything,
+ * else 0: no register is valid, no word is dirty, and the write queue and the queues of the banks are empty. Returns
+ * KROFT_OK or KROFT_FAIL_CLOSED.
  */
-uint32_t kroft_weight(kroft_handle *handle, uint64_t *weight);
+uint32_t kroft_machine_weight(const kroft_machine *handle, uint64_t *weight, uint32_t *settled);
 
-/*
- * Whether memory has everything: no register is valid, no word is dirty, and the write queue and the queues
- * of the banks are empty. Returns KROFT_FOUND if so, else KROFT_NONE; or KROFT_CLOSED.
- */
-uint32_t kroft_settled(kroft_handle *handle);
+/* ---- what is in a machine ------------------------------------------------------------------------ */
 
-/* The calls below return KROFT_FOUND and write what they found; or KROFT_NONE or KROFT_CLOSED, and then what
-   they write is as it was. No call but kroft_open, kroft_free, kroft_apply, kroft_pump, kroft_drive and kroft_round
-   changes the machine. */
+/* The calls below return KROFT_OK and write what they found; or KROFT_ABSENT or KROFT_FAIL_CLOSED. */
 
-/* The word of memory at `at`, as it stands in its bank. KROFT_NONE: there is no such word. */
-uint32_t kroft_bank_word(kroft_handle *handle, uint32_t at, kroft_word *word);
+/* The word of memory at `at`, as it stands in its bank. KROFT_ABSENT: there is no such word. */
+uint32_t kroft_machine_bank_word(const kroft_machine *handle, uint32_t at, kroft_word *word);
 
 /* What a register shows of itself. What doesn't apply is 0. */
 typedef struct {
@@ -311,8 +319,8 @@ typedef struct {
     uint32_t processed; /* how many words of the block are processed      */
 } kroft_register_view;
 
-/* The register `slot`. KROFT_NONE: `slot` isn't below `regs`. */
-uint32_t kroft_register(kroft_handle *handle, uint32_t slot, kroft_register_view *view);
+/* The register `slot`. KROFT_ABSENT: `slot` isn't below `regs`. */
+uint32_t kroft_machine_register(const kroft_machine *handle, uint32_t slot, kroft_register_view *view);
 
 /* What a register shows of one word of its block. What doesn't apply is 0. */
 typedef struct {
@@ -326,8 +334,8 @@ typedef struct {
     kroft_word held;    /* those bytes: only those in the held lanes count                            */
 } kroft_field_view;
 
-/* Word `i` of the block of the register `slot`. KROFT_NONE: there is no such register or word. */
-uint32_t kroft_field(kroft_handle *handle, uint32_t slot, uint32_t i, kroft_field_view *view);
+/* Word `i` of the block of the register `slot`. KROFT_ABSENT: there is no such register or word. */
+uint32_t kroft_machine_field(const kroft_machine *handle, uint32_t slot, uint32_t i, kroft_field_view *view);
 
 /* A load that waits for a word. */
 typedef struct {
@@ -337,8 +345,9 @@ typedef struct {
 } kroft_target_view;
 
 /* The load at `place` among those that wait for word `i` of the block of the register `slot`, in the order
-   in which they were accepted. KROFT_NONE: there is none. */
-uint32_t kroft_target(kroft_handle *handle, uint32_t slot, uint32_t i, uint32_t place, kroft_target_view *view);
+   in which they were accepted. KROFT_ABSENT: there is none. */
+uint32_t kroft_machine_target(const kroft_machine *handle, uint32_t slot, uint32_t i, uint32_t place,
+                              kroft_target_view *view);
 
 /* What a frame of the cache shows of itself. */
 typedef struct {
@@ -346,8 +355,8 @@ typedef struct {
     uint32_t block; /* the block; 0 if it is free         */
 } kroft_frame_view;
 
-/* The frame `frame`: set s has the frames s * ways to s * ways + ways - 1. KROFT_NONE: `frame` isn't below sets * ways. */
-uint32_t kroft_frame(kroft_handle *handle, uint32_t frame, kroft_frame_view *view);
+/* The frame `frame`: set s has the frames s * ways to s * ways + ways - 1. KROFT_ABSENT: `frame` isn't below sets * ways. */
+uint32_t kroft_machine_frame(const kroft_machine *handle, uint32_t frame, kroft_frame_view *view);
 
 /* A word of the block that a frame holds. */
 typedef struct {
@@ -356,8 +365,8 @@ typedef struct {
     uint8_t dirty;   /* the lanes that were stored since the frame took the block, and that memory hasn't yet  */
 } kroft_frame_word_view;
 
-/* Word `i` of the block that the frame `frame` holds. KROFT_NONE: there is no such frame or word, or the frame is free. */
-uint32_t kroft_frame_word(kroft_handle *handle, uint32_t frame, uint32_t i, kroft_frame_word_view *view);
+/* Word `i` of the block that the frame `frame` holds. KROFT_ABSENT: there is no such frame or word, or the frame is free. */
+uint32_t kroft_machine_frame_word(const kroft_machine *handle, uint32_t frame, uint32_t i, kroft_frame_word_view *view);
 
 /* A word on its way from its bank to a register. */
 typedef struct {
@@ -367,19 +376,19 @@ typedef struct {
 } kroft_arrival_view;
 
 /* The word at `place` of the input stack, which an event KROFT_PROCESS with this place processes: the one that came first
-   at 0. KROFT_NONE: there is none. */
-uint32_t kroft_stack_entry(kroft_handle *handle, uint32_t place, kroft_arrival_view *view);
+   at 0. KROFT_ABSENT: there is none. */
+uint32_t kroft_machine_stack_entry(const kroft_machine *handle, uint32_t place, kroft_arrival_view *view);
 
 /* A word that waits in the write queue. */
 typedef struct {
-    uint32_t block;  /* the block that was given up                              */
+    uint32_t block;  /* the block that left the cache                            */
     uint32_t at;     /* the word's address                                       */
     kroft_word word; /* the bytes to be written: only those in the lanes count   */
     uint8_t lanes;
 } kroft_queued_view;
 
-/* The word at `place` of the write queue: the one that an event KROFT_DRAIN takes next at 0. KROFT_NONE: there is none. */
-uint32_t kroft_queue_entry(kroft_handle *handle, uint32_t place, kroft_queued_view *view);
+/* The word at `place` of the write queue: the one that an event KROFT_DRAIN takes next at 0. KROFT_ABSENT: there is none. */
+uint32_t kroft_machine_queue_entry(const kroft_machine *handle, uint32_t place, kroft_queued_view *view);
 
 /* What a command of a bank is. */
 enum {
@@ -398,27 +407,27 @@ typedef struct {
     uint8_t lanes;   /* write                                                          */
 } kroft_command_view;
 
-/* The command at `place` among those that wait at a bank: the one that an event KROFT_SERVE takes next at 0. KROFT_NONE:
+/* The command at `place` among those that wait at a bank: the one that an event KROFT_SERVE takes next at 0. KROFT_ABSENT:
    there is no such bank or command. */
-uint32_t kroft_bank_command(kroft_handle *handle, uint32_t bank, uint32_t place, kroft_command_view *view);
+uint32_t kroft_machine_bank_command(const kroft_machine *handle, uint32_t bank, uint32_t place, kroft_command_view *view);
 
-/* The answer at `place` of a bank, which an event KROFT_ARRIVE with this place brings: the oldest one at 0. KROFT_NONE:
+/* The answer at `place` of a bank, which an event KROFT_ARRIVE with this place brings: the oldest one at 0. KROFT_ABSENT:
    there is no such bank or answer. */
-uint32_t kroft_bank_answer(kroft_handle *handle, uint32_t bank, uint32_t place, kroft_arrival_view *view);
+uint32_t kroft_machine_bank_answer(const kroft_machine *handle, uint32_t bank, uint32_t place, kroft_arrival_view *view);
 
-/* The answer that an event KROFT_TAKE with this place would get, which is a value. KROFT_NONE: no reply stands ready there. */
-uint32_t kroft_reply(kroft_handle *handle, uint32_t place, kroft_answer *answer);
+/* The answer that an event KROFT_TAKE with this place would get, a value. KROFT_ABSENT: no reply stands ready there. */
+uint32_t kroft_machine_reply(const kroft_machine *handle, uint32_t place, kroft_answer *answer);
 
 /* What a request for a word finds. */
 enum {
     KROFT_HIT = 0,  /* the word is at hand, in the buffer or in the input stack: a load's reply stands ready at once  */
     KROFT_JOIN = 1, /* a register waits for the word: a load waits with it, and a store's bytes stay when it comes   */
-    KROFT_MISS = 2  /* no frame holds the block: it would be asked for, under a register of its own                 */
+    KROFT_MISS = 2  /* no frame holds the block: it would be asked for, under a new register                          */
 };
 
-/* What a request for the word at `at` would find now, whether or not it would be accepted. KROFT_NONE: memory has no such
+/* What a request for the word at `at` would find now, whether or not it would be accepted. KROFT_ABSENT: memory has no such
    word. Nothing is asked. */
-uint32_t kroft_find(kroft_handle *handle, uint32_t at, uint32_t *lookup);
+uint32_t kroft_machine_find(const kroft_machine *handle, uint32_t at, uint32_t *lookup);
 
 /* ---- the machine in rounds ----------------------------------------------------------------------- */
 
@@ -437,7 +446,7 @@ uint32_t kroft_find(kroft_handle *handle, uint32_t at, uint32_t *lookup);
 
 /* What a run in rounds counted. */
 typedef struct {
-    uint64_t rounds;            /* rounds; of kroft_drive the last one, too, in which nothing moves                 */
+    uint64_t rounds;            /* rounds; of kroft_machine_drive also the last one, in which nothing moves        */
     uint64_t accepted;          /* requests that were accepted                                                      */
     uint64_t denied;            /* requests that were refused for what no move changes                              */
     uint64_t hits;              /* accepted loads, stores and prefetches, by what they found                        */
@@ -458,52 +467,42 @@ typedef struct {
     uint32_t registers;         /* the most registers in use at once                                                */
 } kroft_counts;
 
-/* Why requests aren't driven, beside KROFT_CLOSED, KROFT_NO_EVENT and KROFT_OUT_OF_MEMORY. */
-enum {
-    KROFT_TOO_MANY = 104,    /* there are more than 16777216 requests, or 2^48 rounds were made one at a time */
-    KROFT_BAD_LATENCY = 105, /* `latency` is more than 1000                                                   */
-    KROFT_NO_ROUNDS = 106    /* no rounds were begun with kroft_rounds_begin                                  */
-};
-
 /*
  * Drives these requests, which are loads, stores, prefetches and evictions, through the machine in rounds. With `busy`
  * below `latency` a bank is a pipeline: it begins a command each `busy` rounds at most (0 is as 1), while others are on
  * their way through it; otherwise it has one command at a time.
  *
- * Returns KROFT_DONE: the requests are used up, nothing is on its way, and `counts` is what was counted. Or, and then the
- * machine and `counts` are as they were, the first that holds of KROFT_CLOSED; KROFT_IN_ROUNDS; KROFT_BAD_LATENCY;
- * KROFT_TOO_MANY; KROFT_NO_EVENT, a row is no such request; KROFT_OUT_OF_MEMORY. It allocates, and gives all of it back.
+ * Returns KROFT_OK: the requests are used up, nothing is on its way, and `counts` is what was counted. Or the first that
+ * holds of KROFT_FAIL_CLOSED; KROFT_FAIL_IN_ROUNDS; KROFT_FAIL_BAD_LATENCY; KROFT_FAIL_TOO_MANY, there are more than
+ * 16777216 requests; KROFT_FAIL_NO_EVENT, a row is no such request; KROFT_FAIL_OUT_OF_MEMORY.
  */
-uint32_t kroft_drive(kroft_handle *handle, uint32_t latency, uint32_t busy, const kroft_event *requests, size_t nrequests,
-                     kroft_counts *counts);
+uint32_t kroft_machine_drive(kroft_machine *handle, uint32_t latency, uint32_t busy, const kroft_event *requests,
+                             size_t nrequests, kroft_counts *counts);
 
 /*
- * The same rounds, one at a time: for a simulator, which doesn't know its requests before.
+ * Begins rounds in the machine: the next one is round 1, and nothing is counted. `latency` and `busy` are those of
+ * kroft_machine_drive. Rounds that were begun before end. What is on its way in the machine stays on its way. For a
+ * simulator, which doesn't know its requests before:
  *
- *     kroft_rounds_begin(&handle, 10, 2);
+ *     kroft_machine_begin_rounds(&machine, 10, 2);
  *     for (;;) {                                                      (once in each cycle, say)
- *         kroft_round(&handle, &request, has_request, &told);
+ *         kroft_machine_round(&machine, &request, has_request, &told);
  *         if (told.outcome != KROFT_ROUND_LOST) has_request = 0;      (a lost request is offered again)
  *         if (told.answered) deliver(told.tag, told.word);
  *     }
  *
  * Requests that are offered in one round behind the other, each until it ends, and rounds without a request until nothing
- * is on its way (kroft_weight), give the machine and the counts that kroft_drive gives of the list, but for `rounds`:
- * kroft_drive counts one round more, the one in which nothing moves.
- */
-
-/*
- * Begins rounds in the machine: the next one is round 1, and nothing is counted. `latency` and `busy` are those of
- * kroft_drive. Rounds that were begun before end. What is on its way in the machine stays on its way.
+ * is on its way, give the machine and the counts that kroft_machine_drive gives of the list, but for `rounds`: that counts
+ * one round more, the one in which nothing moves.
  *
  * While rounds are under way they alone make the machine's events, since they know a bank's commands by their places:
- * kroft_apply, kroft_pump and kroft_drive return KROFT_IN_ROUNDS and change nothing until kroft_rounds_end. The calls
- * that look into the machine are free.
+ * kroft_machine_apply, _pump and _drive return KROFT_FAIL_IN_ROUNDS until kroft_machine_end_rounds. Calls with a const
+ * handle are free.
  *
- * Returns KROFT_DONE; or, and then all is as it was (also the rounds that were begun before), the first that holds of
- * KROFT_CLOSED; KROFT_BAD_LATENCY; KROFT_OUT_OF_MEMORY.
+ * Returns KROFT_OK; or the first that holds of KROFT_FAIL_CLOSED; KROFT_FAIL_BAD_LATENCY; KROFT_FAIL_OUT_OF_MEMORY, and
+ * then also the rounds that were begun before are as they were.
  */
-uint32_t kroft_rounds_begin(kroft_handle *handle, uint32_t latency, uint32_t busy);
+uint32_t kroft_machine_begin_rounds(kroft_machine *handle, uint32_t latency, uint32_t busy);
 
 /* What became of the request that was offered in a round. */
 enum {
@@ -517,7 +516,7 @@ enum {
 /* What a request found that looked for no word, beside KROFT_HIT, KROFT_JOIN and KROFT_MISS. */
 enum { KROFT_NO_LOOKUP = 3 };
 
-/* What is told of a round. What doesn't apply is 0. */
+/* A round. What doesn't apply is 0. */
 typedef struct {
     uint64_t round;    /* its number, counted from 1                                                           */
     uint32_t outcome;  /* KROFT_ROUND_IDLE to KROFT_ROUND_DENIED                                               */
@@ -532,27 +531,26 @@ typedef struct {
 
 /*
  * Makes one round, in which the first of these requests is offered, if `nrequests` isn't 0; the others aren't looked at,
- * so the call may be given what is left of a list. It is a round of kroft_drive: what moves is moved, and then the request
- * is asked once. A request that is lost isn't remembered: it is the caller's to offer again, or another one.
+ * so the call may be given what is left of a list. It is a round of kroft_machine_drive: what moves is moved, and then
+ * the request is asked once. A request that is lost isn't remembered: the caller offers it again, or another one.
  *
- * Returns KROFT_DONE, and `row` is what is told of the round; or, and then all is as it was, the first that holds of
- * KROFT_CLOSED; KROFT_NO_ROUNDS; KROFT_NO_EVENT, the first row is no load, store, prefetch or eviction; KROFT_TOO_MANY,
- * 2^48 rounds were made. It takes no memory.
+ * Returns KROFT_OK, and `row` describes the round; or the first that holds of KROFT_FAIL_CLOSED; KROFT_FAIL_NO_ROUNDS;
+ * KROFT_FAIL_NO_EVENT, the first row is no load, store, prefetch or eviction; KROFT_FAIL_TOO_MANY, 2^48 rounds were made.
  */
-uint32_t kroft_round(kroft_handle *handle, const kroft_event *requests, size_t nrequests, kroft_round_row *row);
+uint32_t kroft_machine_round(kroft_machine *handle, const kroft_event *requests, size_t nrequests, kroft_round_row *row);
 
 /*
- * What was counted since kroft_rounds_begin: `rounds` are those that were made. A load that was accepted before, and is
- * answered in a round, waited since kroft_rounds_begin. A request that is given up while it is lost and the one behind it
- * stall as one. Returns KROFT_DONE; or KROFT_CLOSED or KROFT_NO_ROUNDS, and then `counts` is as it was.
+ * What was counted since the rounds were begun: `rounds` are those that were made. A load that was accepted before, and
+ * is answered in a round, waited since then. A request that is given up while it is lost and the one behind it stall as
+ * one. Returns KROFT_OK, KROFT_FAIL_CLOSED or KROFT_FAIL_NO_ROUNDS.
  */
-uint32_t kroft_round_counts(kroft_handle *handle, kroft_counts *counts);
+uint32_t kroft_machine_round_counts(const kroft_machine *handle, kroft_counts *counts);
 
 /*
- * Ends the rounds that were begun, and gives their memory back; from then on kroft_apply, kroft_pump and kroft_drive make
- * the events again. The machine stays as it is. Returns KROFT_DONE, KROFT_CLOSED or KROFT_NO_ROUNDS.
+ * Ends the rounds that were begun, and frees their memory; from then on kroft_machine_apply, _pump and _drive make the
+ * events again. The machine stays as it is. Returns KROFT_OK, KROFT_FAIL_CLOSED or KROFT_FAIL_NO_ROUNDS.
  */
-uint32_t kroft_rounds_end(kroft_handle *handle);
+uint32_t kroft_machine_end_rounds(kroft_machine *handle);
 
 /* ---- histories --------------------------------------------------------------------------------- */
 
@@ -568,16 +566,16 @@ uint32_t kroft_rounds_end(kroft_handle *handle);
  *   It refuses what the regular law lets pass: new then old, and a unit that is torn between two stores.
  *
  * Addresses and numbers have 64 bits. An operation has 1 to 64 bytes, in the order of memory, and none of them
- * lies at 2^64 or beyond. A number is free again once its operation is answered; loads and stores have numbers of
- * their own. What is told first happened first: in one cycle of a clock, tell the responses before the requests if
- * the design answers before it takes new requests.
+ * lies at 2^64 or beyond. A number is free again once its operation is answered; loads and stores have separate
+ * numbers. The order of the calls is the order of the events: in one cycle of a clock, give the responses before the
+ * requests if the design answers before it takes new requests.
  *
- * A handle holds one history, or none: then it is closed. Zeroed, it is closed.
+ * The handle of a history, as that of a machine: zeroed, it is closed; a copy is a trap; two are independent.
  *
  *     kroft_history history = KROFT_NO_HISTORY;
  */
 typedef struct {
-    uint32_t open; /* 0: closed. Written by the library alone, once it was zeroed */
+    uint32_t open; /* 0: closed */
     void *at;      /* the library's own */
 } kroft_history;
 
@@ -598,174 +596,136 @@ enum {
 };
 
 /*
- * What a call of a history says. KROFT_CLOSED (3), KROFT_FOUND (1) and KROFT_NONE (0) are those of the machine, and so
- * are KROFT_OUT_OF_MEMORY (101) and KROFT_OPEN_ALREADY (102). Of the faults of an event, 11 to 16, the first that
- * holds is told. After each number but KROFT_LAWFUL the history is as it was: an event that was refused may be told
- * again with other bytes, or left out. KROFT_UNDECIDED is no fault: of an answer the judge of the atomic law can't
- * tell, since the operations that are open may have taken effect in too many ways in one unit (more than 4,096
- * pairs of a word and the stores in effect, or more than 65,536 words before now). kroft_undecided says in which,
- * and once that unit is forgotten (kroft_forget) the answer may be told again.
- */
-enum {
-    KROFT_LAWFUL = 0,          /* the event was taken: the history with it is one of the law                */
-    KROFT_NO_ROOM = 2,         /* the row of a set hasn't KROFT_SET_BYTES bytes, exactly                    */
-    KROFT_BAD_RANGE = 11,      /* the operation has no byte or more than 64, or runs beyond the last address */
-    KROFT_NO_BYTE_ENABLED = 12, /* no byte of the store is enabled                                          */
-    KROFT_NUMBER_IN_USE = 13,  /* a load, or a store, is open under the number                              */
-    KROFT_NOT_OPEN = 14,       /* no load, or no store, is open under the number                            */
-    KROFT_WRONG_LENGTH = 15,   /* the load was requested with another length                                */
-    KROFT_WRONG_BYTE = 16,     /* the load may not return one of the bytes                                  */
-    KROFT_NO_LAW = 103,        /* there is no such law, unit or rest; or the law has no units to forget     */
-    KROFT_TOO_LONG = 104,      /* 2^64 - 1 events were taken; never by the atomic law                        */
-    KROFT_UNDECIDED = 105      /* there is no verdict; by the atomic law alone                              */
-};
-
-/*
  * Opens a history without an event, to be judged by a law. `unit` is how many bytes are read and written as one: 1
- * for the regular and the flat law, and 1, 2, 4 or 8 for the atomic one. Memory begins with the bytes of the image, from address 0 on, of which a copy is kept, and
- * beyond them as `rest` says. Returns KROFT_DONE; or, and then the handle is as it was, and no memory is kept, the
- * first that holds of KROFT_OPEN_ALREADY, KROFT_NO_LAW and KROFT_OUT_OF_MEMORY.
+ * for the regular and the flat law, and 1, 2, 4 or 8 for the atomic one. Memory begins with the bytes of the image, from
+ * address 0 on, of which a copy is kept, and beyond them as `rest` says. Returns KROFT_OK; or the first that holds of
+ * KROFT_FAIL_OPEN_ALREADY, KROFT_FAIL_NO_LAW and KROFT_FAIL_OUT_OF_MEMORY, and then no memory is kept.
  */
 uint32_t kroft_history_open(kroft_history *handle, uint32_t law, uint32_t unit, uint32_t rest, const uint8_t *image,
                             size_t nimage);
 
-/*
- * Gives the history up, with all its memory. Returns KROFT_DONE, and the handle is closed; or KROFT_CLOSED: it was
- * closed already.
- */
-uint32_t kroft_history_free(kroft_history *handle);
+/* Frees the history and closes the handle. Returns KROFT_OK or KROFT_FAIL_CLOSED. */
+uint32_t kroft_history_close(kroft_history *handle);
 
 /*
- * A load of `length` bytes from `address` on is requested. Returns KROFT_LAWFUL, KROFT_BAD_RANGE or
- * KROFT_NUMBER_IN_USE; or KROFT_CLOSED, KROFT_TOO_LONG or KROFT_OUT_OF_MEMORY.
+ * The four events below return KROFT_OK: the event was taken, and the history with it is one of the law. Else the history
+ * is as it was, so the event may be given again with other bytes, or left out. Of KROFT_FAIL_BAD_RANGE to
+ * KROFT_FAIL_WRONG_BYTE, which say what is wrong with the event, the first that holds is returned. Each may return
+ * KROFT_FAIL_CLOSED; KROFT_FAIL_TOO_LONG, never by the atomic law; and KROFT_FAIL_OUT_OF_MEMORY.
+ *
+ * KROFT_FAIL_UNDECIDED blames nobody: by the atomic law alone, the judge can't tell of a response, since the operations
+ * that are open may have taken effect in too many ways in one unit (more than 4,096 pairs of a word and the stores in
+ * effect, or more than 65,536 words before now). kroft_history_undecided says in which, and once that unit is forgotten
+ * (kroft_history_forget) the response may be given again.
  */
-uint32_t kroft_load_request(kroft_history *handle, uint64_t number, uint64_t address, size_t length);
 
-/*
- * The load that is open under the number is answered with these bytes. Returns KROFT_LAWFUL, KROFT_NOT_OPEN,
- * KROFT_WRONG_LENGTH or KROFT_WRONG_BYTE; or KROFT_UNDECIDED, KROFT_CLOSED, KROFT_TOO_LONG or KROFT_OUT_OF_MEMORY.
- */
-uint32_t kroft_load_response(kroft_history *handle, uint64_t number, const uint8_t *bytes, size_t nbytes);
+/* A load of `length` bytes from `address` on is requested. KROFT_FAIL_BAD_RANGE; KROFT_FAIL_NUMBER_IN_USE. */
+uint32_t kroft_history_load_request(kroft_history *handle, uint64_t number, uint64_t address, size_t length);
 
-/*
- * A store is requested: of these bytes from `address` on, those whose enable is set. Bit k of `enables` is the enable
- * of byte k; bits beyond the last byte have no meaning. Returns KROFT_LAWFUL, KROFT_BAD_RANGE,
- * KROFT_NO_BYTE_ENABLED or KROFT_NUMBER_IN_USE; or KROFT_CLOSED, KROFT_TOO_LONG or KROFT_OUT_OF_MEMORY.
- */
-uint32_t kroft_store_request(kroft_history *handle, uint64_t number, uint64_t address, const uint8_t *bytes,
-                             size_t nbytes, uint64_t enables);
+/* The load that is open under the number is answered with these bytes. KROFT_FAIL_NOT_OPEN; KROFT_FAIL_WRONG_LENGTH;
+   KROFT_FAIL_WRONG_BYTE; KROFT_FAIL_UNDECIDED. */
+uint32_t kroft_history_load_response(kroft_history *handle, uint64_t number, const uint8_t *bytes, size_t nbytes);
 
-/*
- * The store that is open under the number is answered. Returns KROFT_LAWFUL or KROFT_NOT_OPEN; or KROFT_UNDECIDED,
- * KROFT_CLOSED, KROFT_TOO_LONG or KROFT_OUT_OF_MEMORY.
- */
-uint32_t kroft_store_response(kroft_history *handle, uint64_t number);
+/* A store is requested: of these bytes from `address` on, those whose enable is set. Bit k of `enables` is the enable of
+   byte k; bits beyond the last byte have no meaning. KROFT_FAIL_BAD_RANGE; KROFT_FAIL_NO_BYTE_ENABLED;
+   KROFT_FAIL_NUMBER_IN_USE. */
+uint32_t kroft_history_store_request(kroft_history *handle, uint64_t number, uint64_t address, const uint8_t *bytes,
+                                     size_t nbytes, uint64_t enables);
 
-/* The bytes of the row of a set of bytes: bit k of the row's byte n says whether byte 8n + k is in the set. */
+/* The store that is open under the number is answered. KROFT_FAIL_NOT_OPEN; KROFT_FAIL_UNDECIDED. */
+uint32_t kroft_history_store_response(kroft_history *handle, uint64_t number);
+
+/* The bytes of a set of bytes: bit k of the set's byte n says whether byte 8n + k is in it. */
 #define KROFT_SET_BYTES 32
 
 /*
  * What the load that is open under a number may return for the byte at an address, if it is answered now. Returns the
- * first of these that holds: KROFT_CLOSED; KROFT_NO_ROOM; KROFT_NONE: no such load asks for that byte; KROFT_FOUND, and
- * `set` is it. By the atomic law it is the set of this byte alone (two bytes may be allowed that aren't allowed
- * together), and before KROFT_FOUND these may come: KROFT_UNDECIDED, and KROFT_OUT_OF_MEMORY. After each but
- * KROFT_FOUND `set` is as it was. The history is as it was after each.
+ * first of these that holds: KROFT_FAIL_CLOSED; KROFT_ABSENT: no such load asks for that byte; KROFT_OK, and `set` is it.
+ * By the atomic law it is the set of this byte alone (two bytes may be allowed that aren't allowed together), and before
+ * KROFT_OK these may come: KROFT_FAIL_UNDECIDED, and KROFT_FAIL_OUT_OF_MEMORY.
  */
-uint32_t kroft_may_return(kroft_history *handle, uint64_t number, uint64_t address, uint8_t *set, size_t nset);
+uint32_t kroft_history_may_return(const kroft_history *handle, uint64_t number, uint64_t address,
+                                  uint8_t set[KROFT_SET_BYTES]);
 
 /*
- * What kroft_load_response would say of these bytes if there is room for it, and the first of them that the load may not
- * return; it isn't told. Returns KROFT_WRONG_BYTE, and the byte at `place`, counted from 0, is the first such (by the
- * atomic law the first that lies in the lowest unit whose bytes it may not return); or KROFT_LAWFUL, KROFT_NOT_OPEN,
- * KROFT_WRONG_LENGTH or KROFT_CLOSED, or by the atomic law KROFT_UNDECIDED or KROFT_OUT_OF_MEMORY, and then `place` is
- * as it was.
- */
-uint32_t kroft_wrong_place(kroft_history *handle, uint64_t number, const uint8_t *bytes, size_t nbytes, uint64_t *place);
-
-/*
- * Why a load may not return a byte, or the bytes of a unit together. Of a store that isn't told number and event are 0;
- * an event's number is how many events of the history were taken before it.
+ * Why a load may not return a byte, or the bytes of a unit together. Without such a store number and event are 0; an
+ * event's number is how many events of the history were taken before it.
  */
 typedef struct {
-    uint64_t place;          /* of the byte in the answer, counted from 0                            */
-    uint64_t stored;         /* the number of the last store that put the byte there                 */
-    uint64_t stored_at;      /* the event that requested it                                          */
+    uint64_t wrong_place;    /* of the first wrong byte in the answer, counted from 0; by the atomic law the first
+                                that lies in the lowest unit whose bytes the load may not return       */
+    uint64_t place;          /* of the byte that the reason is of                                      */
+    uint64_t stored;         /* the number of the last store that put the byte there                   */
+    uint64_t stored_at;      /* the event that requested it                                            */
     uint64_t overwritten_by; /* the number of the last store that overwrote it before the load's request */
-    uint64_t overwritten_at; /* the event that requested that one                                    */
-    uint32_t reason;
-} kroft_reason;
+    uint64_t overwritten_at; /* the event that requested that one                                      */
+    uint32_t reason;         /* KROFT_REASON_NONE to KROFT_REASON_NOT_TOGETHER                         */
+} kroft_history_reason;
 
 /*
- * The reasons. Which store is the last goes by the order of the requests. A store overwrote a byte before the load's
- * request if it was answered before that, and requested after the response to the store that is told (after
- * KROFT_FIRST_OVERWRITTEN whenever it was requested).
- */
-enum {
-    KROFT_NO_REASON = 0,          /* none is told                                                          */
-    KROFT_NEVER_THERE = 1,        /* no store put the byte there, and memory hadn't it there before        */
-    KROFT_FIRST_OVERWRITTEN = 2,  /* memory had it before the first store, and that was overwritten        */
-    KROFT_STORE_OVERWRITTEN = 3,  /* a store put it there, and was overwritten: both are told              */
-    KROFT_NOT_TOGETHER = 4        /* each byte of the unit may be returned for itself, and they stood there
-                                     together at no moment: as in a torn word, and in new then old        */
-};
-
-/*
- * What kroft_wrong_place says of these bytes, and why the load may not return them; it isn't told. Returns
- * KROFT_WRONG_BYTE, and `why` says it; or what kroft_wrong_place returns else, and then `why` is as it was.
+ * What kroft_history_load_response would return for these bytes if there is room for it, and why; the event isn't taken.
+ * Returns KROFT_FAIL_WRONG_BYTE, and `why` says it. Or what kroft_history_load_response would return else, and then `why`
+ * is as it was: KROFT_OK; KROFT_FAIL_NOT_OPEN; KROFT_FAIL_WRONG_LENGTH; KROFT_FAIL_CLOSED; by the atomic law also
+ * KROFT_FAIL_UNDECIDED or KROFT_FAIL_OUT_OF_MEMORY.
  *
- * `why` tells the first byte for which there is a reason, of those from the place of kroft_wrong_place on that lie in one
- * unit: by the regular and the flat law each byte is a unit, and by the atomic law those of kroft_history_open. The reason
- * is the regular law's, of that byte alone, and depends on the history alone. While fewer than 8,192 bytes were stored,
- * there is none exactly if the regular law allows each of those bytes for itself: then by the atomic law the reason is
- * KROFT_NOT_TOGETHER, and by the flat law there is none; `place` is that of kroft_wrong_place. Then the first stores are
- * forgotten, 4,096 bytes at a time, and the last 4,096 to 8,191 are left: a byte's reason is KROFT_STORE_OVERWRITTEN if
- * one of them had the byte and the load may see none of those that had it, and otherwise there is none. The stores that
- * are told are the last of the whole history even so.
+ * Which store is the last goes by the order of the requests. A store overwrote a byte before the load's request if it was
+ * answered before that, and requested after the response to the store that `why` names (for
+ * KROFT_REASON_FIRST_OVERWRITTEN whenever it was requested).
+ *
+ * `place` is the first byte for which there is a reason, of those from `wrong_place` on that lie in one unit: by the
+ * regular and the flat law each byte is a unit, and by the atomic law those of kroft_history_open. The reason is the
+ * regular law's, of that byte alone, and depends on the history alone. While fewer than 8,192 bytes were stored, there is
+ * none exactly if the regular law allows each of those bytes for itself: then by the atomic law the reason is
+ * KROFT_REASON_NOT_TOGETHER, as of a torn word, and of new then old; by the flat law there is none; `place` is
+ * `wrong_place`. Then the first stores are forgotten, 4,096 bytes at a time, and the last 4,096 to 8,191 are left: a
+ * byte's reason is KROFT_REASON_STORE_OVERWRITTEN if one of them had the byte and the load may see none of those that had
+ * it, and otherwise there is none. The stores that `why` names are the last of the whole history even so.
  */
-uint32_t kroft_why(kroft_history *handle, uint64_t number, const uint8_t *bytes, size_t nbytes, kroft_reason *why);
+uint32_t kroft_history_why(const kroft_history *handle, uint64_t number, const uint8_t *bytes, size_t nbytes,
+                           kroft_history_reason *why);
 
 /*
  * Forgets the unit in which the byte at the address lies, of a history by the atomic law. From there on its bytes are
  * unknown: whatever a load returns there is allowed, what stores write there isn't followed, and no answer is
- * undecided for its sake. The other units are judged on. Returns KROFT_DONE; or KROFT_NO_LAW: the history is judged
- * by another law; KROFT_OUT_OF_MEMORY or KROFT_CLOSED, and then the history is as it was.
+ * undecided for its sake. The other units are judged on. Returns KROFT_OK, KROFT_FAIL_NO_UNITS, KROFT_FAIL_OUT_OF_MEMORY
+ * or KROFT_FAIL_CLOSED.
  */
-uint32_t kroft_forget(kroft_history *handle, uint64_t address);
+uint32_t kroft_history_forget(kroft_history *handle, uint64_t address);
 
 /*
- * Where the unit begins for whose sake an answer was KROFT_UNDECIDED. Returns KROFT_FOUND, and it begins at `address`;
- * or, and then `address` is as it was, KROFT_NONE: no answer was undecided since an event was taken last, or a unit
- * was forgotten; or KROFT_CLOSED. The history is as it was after each.
+ * Where the unit begins for whose sake an answer was KROFT_FAIL_UNDECIDED. Returns KROFT_OK, and it begins at `address`;
+ * KROFT_ABSENT: no answer was undecided since an event was taken last, or a unit was forgotten; or KROFT_FAIL_CLOSED.
  */
-uint32_t kroft_undecided(kroft_history *handle, uint64_t *address);
-
-/* How many loads and how many stores are open. Returns KROFT_DONE; or KROFT_CLOSED, and both are as they were. */
-uint32_t kroft_unanswered(kroft_history *handle, uint64_t *loads, uint64_t *stores);
+uint32_t kroft_history_undecided(const kroft_history *handle, uint64_t *address);
 
 /* An operation that is open. */
 typedef struct {
     uint64_t number;
     uint64_t address;
     uint64_t length;
-} kroft_operation;
+} kroft_history_operation;
 
-/* The load, or the store, at place `n` among those that are open, in the order of their requests. Returns KROFT_FOUND;
-   or KROFT_NONE or KROFT_CLOSED, and then `operation` is as it was. */
-uint32_t kroft_unanswered_load(kroft_history *handle, uint64_t n, kroft_operation *operation);
-uint32_t kroft_unanswered_store(kroft_history *handle, uint64_t n, kroft_operation *operation);
+/*
+ * The load (`kind` is KROFT_LOAD) or the store (KROFT_STORE) at place `n` among those that are open, in the order of
+ * their requests, and how many such there are. Returns KROFT_OK; KROFT_ABSENT, there is none at `n`, and `count` alone is
+ * written; or KROFT_FAIL_CLOSED. Of another kind there is none.
+ */
+uint32_t kroft_history_unanswered(const kroft_history *handle, uint32_t kind, uint64_t n, kroft_history_operation *operation,
+                                  uint64_t *count);
 
 /* ---- traffic ----------------------------------------------------------------------------------- */
 
 /*
  * Random loads and stores that caches find hard, from a seed: bursts to one block, blocks that conflict in a set,
  * stores that leave bytes out, and blocks that several requesters share. An access depends on the plan, the seed and
- * its number alone, so that a bench keeps nothing, and can come back to any access of any run.
+ * its number alone, so that a bench keeps nothing, and can come back to any access of any run. Seed and number are
+ * mixed, so that near seeds have nothing in common.
  *
- *     kroft_plan plan = {0x1000, 64, 64, 8, 16, 64, 4, 2, 0, 128, 64};
- *     kroft_access access;
+ *     kroft_traffic_plan plan = {0x1000, 24, 64, 16, 8, 128, 2, 4, 0, 128, 96, 1, 3};
+ *     kroft_traffic_access access;
  *     uint8_t bytes[64];
  *     for (uint64_t n = 0; n < 1000000; n++) {
- *         kroft_traffic(&plan, seed, n, &access, bytes, sizeof bytes);
+ *         kroft_traffic_draw(&plan, seed, n, &access, bytes, sizeof bytes);
  *         ..
  *     }
  */
@@ -780,11 +740,15 @@ typedef struct {
     uint32_t conflicts;    /* the share of bursts that go to a block of set 0, where they conflict                  */
     uint32_t burst;        /* how many accesses, one behind the other, go to one block: 1 or more                   */
     uint32_t requesters;   /* how many ask, in turn: 1 or more                                                      */
-    uint32_t apart;        /* not 0: each requester has bytes of its own in each block, accesses of one byte,
-                              so that blocks are shared and bytes aren't: of at most `block_bytes` requesters       */
+    uint32_t apart;        /* not 0: each requester has its bytes in each block, accesses of one byte,
+                              so that blocks are shared and bytes aren't: no more requesters than used bytes        */
     uint32_t stores;       /* the share of stores among the accesses                                                */
     uint32_t partial;      /* the share of stores that may leave bytes out: one that leaves all out is a load       */
-} kroft_plan;
+    uint32_t words;        /* how many of a block's words are used, from its first on. A word has `widest` bytes.
+                              At most as many as a block has; 0: all                                                */
+    uint32_t blocks_of_set; /* how many blocks of set 0 `conflicts` go to, from the first on. At most as many as
+                              memory has of it; 0: all                                                              */
+} kroft_traffic_plan;
 
 /* An access: a load or a store of some bytes of one block. */
 typedef struct {
@@ -793,21 +757,16 @@ typedef struct {
     uint64_t turn;      /* how many accesses this requester had before: by it a bench sees who doesn't get on       */
     uint64_t address;   /* the address of its first byte: a multiple of its length, unless requesters are apart     */
     uint64_t enables;   /* the bytes that a store writes: bit k is its byte k. 0: a load                            */
-} kroft_access;
-
-/* What a call for traffic says. */
-enum {
-    KROFT_DRAWN = 0,   /* `access` is the access, and if it is a store, `bytes` begins with its bytes               */
-    KROFT_NO_PLAN = 1, /* a number of the plan isn't as its description says                                        */
-    KROFT_NARROW = 2   /* `bytes` has fewer bytes than the widest access                                            */
-};
+} kroft_traffic_access;
 
 /*
- * The access of a number, under a seed. Returns KROFT_DRAWN; or KROFT_NO_PLAN or, behind it, KROFT_NARROW, and then
- * all is as it was. A store that would leave out all its bytes is a load. It takes no memory.
+ * The access of a number, under a seed. Returns KROFT_OK: `access` is the access, and if it is a store, `bytes` begins
+ * with its bytes. Or the first that holds of KROFT_FAIL_NO_PLAN, a number of the plan isn't as its description says, and
+ * KROFT_FAIL_NO_ROOM: `bytes` has fewer bytes than the widest access. A store that would leave out all its bytes is a
+ * load. It allocates nothing.
  */
-uint32_t kroft_traffic(const kroft_plan *plan, uint64_t seed, uint64_t number, kroft_access *access, uint8_t *bytes,
-                       size_t nbytes);
+uint32_t kroft_traffic_draw(const kroft_traffic_plan *plan, uint64_t seed, uint64_t number, kroft_traffic_access *access,
+                            uint8_t *bytes, size_t nbytes);
 
 /* ---- the library ------------------------------------------------------------------------------- */
 
@@ -840,15 +799,15 @@ KROFT_ASSERT(answer_tag, offsetof(kroft_answer, tag) == 8);
 KROFT_ASSERT(answer_word, offsetof(kroft_answer, word) == 10);
 KROFT_ASSERT(due_size, sizeof(kroft_due) == 8);
 KROFT_ASSERT(due_word, offsetof(kroft_due, word) == 4);
-KROFT_ASSERT(handle_size, sizeof(kroft_handle) == 16);
-KROFT_ASSERT(handle_at, offsetof(kroft_handle, at) == 8);
+KROFT_ASSERT(machine_size, sizeof(kroft_machine) == 16);
+KROFT_ASSERT(machine_at, offsetof(kroft_machine, at) == 8);
 KROFT_ASSERT(history_size, sizeof(kroft_history) == 16);
 KROFT_ASSERT(history_at, offsetof(kroft_history, at) == 8);
-KROFT_ASSERT(reason_size, sizeof(kroft_reason) == 48);
-KROFT_ASSERT(reason_reason, offsetof(kroft_reason, reason) == 40);
-KROFT_ASSERT(operation_size, sizeof(kroft_operation) == 24);
-KROFT_ASSERT(operation_address, offsetof(kroft_operation, address) == 8);
-KROFT_ASSERT(operation_length, offsetof(kroft_operation, length) == 16);
+KROFT_ASSERT(reason_size, sizeof(kroft_history_reason) == 56);
+KROFT_ASSERT(reason_reason, offsetof(kroft_history_reason, reason) == 48);
+KROFT_ASSERT(operation_size, sizeof(kroft_history_operation) == 24);
+KROFT_ASSERT(operation_address, offsetof(kroft_history_operation, address) == 8);
+KROFT_ASSERT(operation_length, offsetof(kroft_history_operation, length) == 16);
 KROFT_ASSERT(shape_size, sizeof(kroft_shape) == 40);
 KROFT_ASSERT(shape_words, offsetof(kroft_shape, words) == 16);
 KROFT_ASSERT(shape_replies, offsetof(kroft_shape, replies) == 36);
@@ -882,12 +841,13 @@ KROFT_ASSERT(round_outcome, offsetof(kroft_round_row, outcome) == 8);
 KROFT_ASSERT(round_answered, offsetof(kroft_round_row, answered) == 20);
 KROFT_ASSERT(round_tag, offsetof(kroft_round_row, tag) == 24);
 KROFT_ASSERT(round_word, offsetof(kroft_round_row, word) == 26);
-KROFT_ASSERT(plan_size, sizeof(kroft_plan) == 48);
-KROFT_ASSERT(plan_blocks, offsetof(kroft_plan, blocks) == 8);
-KROFT_ASSERT(plan_partial, offsetof(kroft_plan, partial) == 44);
-KROFT_ASSERT(access_size, sizeof(kroft_access) == 32);
-KROFT_ASSERT(access_turn, offsetof(kroft_access, turn) == 8);
-KROFT_ASSERT(access_enables, offsetof(kroft_access, enables) == 24);
+KROFT_ASSERT(plan_size, sizeof(kroft_traffic_plan) == 56);
+KROFT_ASSERT(plan_blocks, offsetof(kroft_traffic_plan, blocks) == 8);
+KROFT_ASSERT(plan_partial, offsetof(kroft_traffic_plan, partial) == 44);
+KROFT_ASSERT(plan_blocks_of_set, offsetof(kroft_traffic_plan, blocks_of_set) == 52);
+KROFT_ASSERT(access_size, sizeof(kroft_traffic_access) == 32);
+KROFT_ASSERT(access_turn, offsetof(kroft_traffic_access, turn) == 8);
+KROFT_ASSERT(access_enables, offsetof(kroft_traffic_access, enables) == 24);
 
 #undef KROFT_ASSERT
 

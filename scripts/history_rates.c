@@ -84,11 +84,11 @@ static event answer(machine *m) {
 
 static uint32_t tell(kroft_history *history, const event *e) {
     if (e->is_store) {
-        return e->is_answer ? kroft_store_response(history, e->number)
-                            : kroft_store_request(history, e->number, e->unit * BYTES, e->bytes, BYTES, e->enables);
+        return e->is_answer ? kroft_history_store_response(history, e->number)
+                            : kroft_history_store_request(history, e->number, e->unit * BYTES, e->bytes, BYTES, e->enables);
     }
-    return e->is_answer ? kroft_load_response(history, e->number, e->bytes, BYTES)
-                        : kroft_load_request(history, e->number, e->unit * BYTES, BYTES);
+    return e->is_answer ? kroft_history_load_response(history, e->number, e->bytes, BYTES)
+                        : kroft_history_load_request(history, e->number, e->unit * BYTES, BYTES);
 }
 
 static double now(void) {
@@ -112,7 +112,7 @@ static double run(kroft_history *history, uint64_t events, size_t open, size_t u
         double began = now();
         for (size_t k = 0; k < count; k++) {
             uint32_t status = tell(history, &batch[k]);
-            if (status != KROFT_LAWFUL) {
+            if (status != KROFT_OK) {
                 fprintf(stderr, "history_rates: event %" PRIu64 " has status %" PRIu32 "\n", made + k, status);
                 return -1;
             }
@@ -142,12 +142,12 @@ int main(int argc, char **argv) {
         if (argc > 4 && strcmp(argv[4], laws[k].name) != 0) {
             continue;
         }
-        if (kroft_history_open(&history, laws[k].law, laws[k].unit, KROFT_ZEROS, NULL, 0) != KROFT_DONE) {
+        if (kroft_history_open(&history, laws[k].law, laws[k].unit, KROFT_ZEROS, NULL, 0) != KROFT_OK) {
             fprintf(stderr, "history_rates: too little memory\n");
             return 1;
         }
         double time = run(&history, events, open, units, laws[k].law == KROFT_FLAT_LAW);
-        kroft_history_free(&history);
+        kroft_history_close(&history);
         getrusage(RUSAGE_SELF, &used);
         if (time < 0) {
             return 1;

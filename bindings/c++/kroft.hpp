@@ -19,7 +19,7 @@
 //     expect(history.store_request(1, 0x8000, data, 4));
 //     expect(history.load_request(2, 0x8002, 8));
 //     expect(history.load_response(2, bytes, 8));  // before or after the store: either is lawful
-//     for (const kroft_operation &lost : history.open_loads()) ..
+//     for (const kroft_history_operation &lost : history.open_loads()) ..
 //
 // kroft::History(kroft::Law::Atomic) judges by the atomic law: an operation takes effect at one moment, in each aligned
 // unit that it touches. An answer may be undecided there, which is no fault: the unit can be forgotten.
@@ -390,7 +390,8 @@ private:
     bool step(Page &page, uint32_t tag, const kroft_event &event, const kroft_answer &answer) {
         std::vector<kroft_due> &due = state().tables[tag / KROFT_TAGS];
         state().step_count++;
-        return kroft_flat_step(page.words.data(), page.words.size(), due.data(), due.size(), &event, &answer) == KROFT_FLAT;
+        kroft_word right;
+        return kroft_flat_judge(page.words.data(), page.words.size(), due.data(), &event, &answer, &right) == KROFT_OK;
     }
 
     // Takes the value of one word of a load. Its bytes that aren't enabled are as they are owed. The tag is
@@ -401,9 +402,9 @@ private:
         kroft_answer answer{};
         answer.kind = KROFT_VALUE;
         answer.tag = uint16_t(tag);
-        kroft_word owed{};
-        std::vector<kroft_due> &due = state().tables[tag / KROFT_TAGS];
-        if (!kroft_flat_owed(due.data(), due.size(), answer.tag, &owed)) return Reason::BrokenLibrary;
+        const kroft_due due = state().tables[tag / KROFT_TAGS][answer.tag];
+        const kroft_word owed = due.word;
+        if (!due.owed) return Reason::BrokenLibrary;
         answer.word = owed;
         for (unsigned lane = 0; lane < WORD; lane++)
             if (part.lanes >> lane & 1) {
@@ -488,12 +489,12 @@ struct TrafficAccess {
 class Traffic {
 public:
     /// std::invalid_argument: a number of the plan isn't as its description says.
-    Traffic(const kroft_plan &plan, uint64_t seed) : drawn_by(plan), drawn_from(seed) { (*this)(0); }
+    Traffic(const kroft_traffic_plan &plan, uint64_t seed) : drawn_by(plan), drawn_from(seed) { (*this)(0); }
 
     TrafficAccess operator()(uint64_t number) const {
         TrafficAccess made;
-        kroft_access row{};
-        if (kroft_traffic(&drawn_by, drawn_from, number, &row, made.data.data(), made.data.size()) != KROFT_DRAWN)
+        kroft_traffic_access row{};
+        if (kroft_traffic_draw(&drawn_by, drawn_from, number, &row, made.data.data(), made.data.size()) != KROFT_OK)
             throw std::invalid_argument("no plan of traffic");
         made.number = number;
         made.requester = row.requester;
@@ -506,7 +507,7 @@ public:
     }
 
 private:
-    kroft_plan drawn_by;
+    kroft_traffic_plan drawn_by;
     uint64_t drawn_from;
 };
 
@@ -518,9 +519,9 @@ inline constexpr kroft_shape USUAL_SHAPE = {2, 4, 8, 4, 1024, 4, 4, 8, 8, 8};
 /// No machine has these numbers, or its image hasn't as many words as memory.
 class BadShape : public std::invalid_argument {
 public:
-    explicit BadShape(uint32_t number) : std::invalid_argument("no machine has these numbers"), fault(number) {}
+    explicit BadShape(uint32_t result) : std::invalid_argument(kroft_text(result)), fault(result) {}
 
-    uint32_t fault; ///< KROFT_BAD_WORDS to KROFT_NOT_LISTED
+    uint32_t fault; ///< KROFT_FAIL_BAD_BLOCK_WORDS to KROFT_FAIL_BAD_IMAGE
 };
 
 /// What a request for a word finds.
@@ -560,16 +561,16 @@ public:
     explicit Machine(const kroft_shape &shape = USUAL_SHAPE, const std::vector<kroft_word> &image = {}) {
         // (numbers are judged before any zeros are made for them)
         const kroft_word none{};
-        uint32_t status = kroft_open(&handle, &shape, image.empty() ? &none : image.data(), image.size());
-        if (status == KROFT_BAD_IMAGE && image.empty()) {
+        uint32_t status = kroft_machine_open(&handle, &shape, image.empty() ? &none : image.data(), image.size());
+        if (status == KROFT_FAIL_BAD_IMAGE && image.empty()) {
             const std::vector<kroft_word> zeros(shape.words);
-            status = kroft_open(&handle, &shape, zeros.data(), zeros.size());
+            status = kroft_machine_open(&handle, &shape, zeros.data(), zeros.size());
         }
-        if (status == KROFT_OUT_OF_MEMORY) throw std::bad_alloc();
-        if (status != KROFT_DONE) throw BadShape(status);
+        if (status == KROFT_FAIL_OUT_OF_MEMORY) throw std::bad_alloc();
+        if (status != KROFT_OK) throw BadShape(status);
     }
-    ~Machine() { kroft_free(&handle); }
-    Machine(Machine &&other) noexcept : handle(std::exchange(other.handle, kroft_handle KROFT_NO_MACHINE)) {}
+    ~Machine() { kroft_machine_close(&handle); }
+    Machine(Machine &&other) noexcept : handle(std::exchange(other.handle, kroft_machine KROFT_NO_MACHINE)) {}
     Machine &operator=(Machine &&other) noexcept {
         Machine taken(std::move(other));
         std::swap(handle, taken.handle);
@@ -581,7 +582,7 @@ public:
     /// Makes one event. A refusal is an answer as any other: it changes nothing. std::invalid_argument: the row is none.
     kroft_answer apply(const kroft_event &event) {
         kroft_answer answer{};
-        if (told(kroft_apply(&handle, &event, &answer)) == KROFT_NO_EVENT) throw std::invalid_argument("no event");
+        if (told(kroft_machine_apply(&handle, &event, &answer)) == KROFT_FAIL_NO_EVENT) throw std::invalid_argument("no event");
         return answer;
     }
     kroft_answer load(uint16_t tag, uint32_t at) { return apply(load_of(tag, at)); }
@@ -593,19 +594,15 @@ public:
     /// and a drain. None if nothing is on its way.
     std::optional<Step> pump() {
         Step made{};
-        if (told(kroft_pump(&handle, &made.event, &made.answer)) != KROFT_FOUND) return std::nullopt;
+        if (told(kroft_machine_pump(&handle, &made.event, &made.answer)) != KROFT_OK) return std::nullopt;
         return made;
     }
 
     /// What is on its way, weighed: each event of `pump` lowers it, and at 0 there is none.
-    uint64_t weight() {
-        uint64_t weight = 0;
-        told(kroft_weight(&handle, &weight));
-        return weight;
-    }
+    uint64_t weight() const { return weighed().first; }
 
     /// Whether memory has everything: nothing waits, and no word is dirty.
-    bool settled() { return told(kroft_settled(&handle)) == KROFT_FOUND; }
+    bool settled() const { return weighed().second; }
 
     /// Drives these requests in rounds until nothing is on its way (kroft.h says what a round is). With `busy` below
     /// `latency` banks are pipelines. std::invalid_argument, with nothing asked: the latency is more than 1000, there are
@@ -614,9 +611,9 @@ public:
         kroft_counts counts{};
         const kroft_event none{};
         const kroft_event *rows = requests.empty() ? &none : requests.data();
-        uint32_t status = told(kroft_drive(&handle, latency, busy, rows, requests.size(), &counts));
-        if (status == KROFT_OUT_OF_MEMORY) throw std::bad_alloc();
-        if (status != KROFT_DONE) throw std::invalid_argument("requests that can't be driven");
+        uint32_t status = told(kroft_machine_drive(&handle, latency, busy, rows, requests.size(), &counts));
+        if (status == KROFT_FAIL_OUT_OF_MEMORY) throw std::bad_alloc();
+        if (status != KROFT_OK) throw std::invalid_argument("requests that can't be driven");
         return counts;
     }
     kroft_counts drive(const std::vector<kroft_event> &requests, uint32_t latency = 10) { return drive(requests, latency, latency); }
@@ -625,9 +622,9 @@ public:
     /// were begun before end. Until `end_rounds` they alone make the machine's events: `apply`, `pump` and `drive` throw
     /// std::logic_error. std::invalid_argument, with everything as it was: the latency is more than 1000. Or std::bad_alloc.
     void begin_rounds(uint32_t latency, uint32_t busy) {
-        uint32_t status = told(kroft_rounds_begin(&handle, latency, busy));
-        if (status == KROFT_OUT_OF_MEMORY) throw std::bad_alloc();
-        if (status != KROFT_DONE) throw std::invalid_argument("a latency of more than 1000 rounds");
+        uint32_t status = told(kroft_machine_begin_rounds(&handle, latency, busy));
+        if (status == KROFT_FAIL_OUT_OF_MEMORY) throw std::bad_alloc();
+        if (status != KROFT_OK) throw std::invalid_argument("a latency of more than 1000 rounds");
     }
     void begin_rounds(uint32_t latency = 10) { begin_rounds(latency, latency); }
 
@@ -641,63 +638,70 @@ public:
     }
 
     /// What was counted since the rounds were begun. std::logic_error: none were.
-    kroft_counts round_counts() {
+    kroft_counts round_counts() const {
         kroft_counts counts{};
-        told(kroft_round_counts(&handle, &counts));
+        told(kroft_machine_round_counts(&handle, &counts));
         return counts;
     }
 
     /// Ends the rounds; the machine stays as it is. std::logic_error: none were begun.
-    void end_rounds() { told(kroft_rounds_end(&handle)); }
+    void end_rounds() { told(kroft_machine_end_rounds(&handle)); }
 
     /// What a request for a word would find now. Nothing is asked.
-    std::optional<Lookup> find(uint32_t at) {
-        std::optional<uint32_t> found = view<uint32_t>(kroft_find, at);
+    std::optional<Lookup> find(uint32_t at) const {
+        std::optional<uint32_t> found = view<uint32_t>(kroft_machine_find, at);
         return found ? std::optional<Lookup>(static_cast<Lookup>(*found)) : std::nullopt;
     }
 
     // ---- what is in it; kroft.h describes the rows
-    std::optional<kroft_word> bank_word(uint32_t at) { return view<kroft_word>(kroft_bank_word, at); }
-    std::optional<kroft_register_view> miss_register(uint32_t slot) { return view<kroft_register_view>(kroft_register, slot); }
-    std::optional<kroft_field_view> field(uint32_t slot, uint32_t i) { return view<kroft_field_view>(kroft_field, slot, i); }
-    std::optional<kroft_target_view> target(uint32_t slot, uint32_t i, uint32_t place) {
-        return view<kroft_target_view>(kroft_target, slot, i, place);
+    std::optional<kroft_word> bank_word(uint32_t at) const { return view<kroft_word>(kroft_machine_bank_word, at); }
+    std::optional<kroft_register_view> miss_register(uint32_t slot) const { return view<kroft_register_view>(kroft_machine_register, slot); }
+    std::optional<kroft_field_view> field(uint32_t slot, uint32_t i) const { return view<kroft_field_view>(kroft_machine_field, slot, i); }
+    std::optional<kroft_target_view> target(uint32_t slot, uint32_t i, uint32_t place) const {
+        return view<kroft_target_view>(kroft_machine_target, slot, i, place);
     }
-    std::optional<kroft_frame_view> frame(uint32_t frame) { return view<kroft_frame_view>(kroft_frame, frame); }
-    std::optional<kroft_frame_word_view> frame_word(uint32_t frame, uint32_t i) {
-        return view<kroft_frame_word_view>(kroft_frame_word, frame, i);
+    std::optional<kroft_frame_view> frame(uint32_t frame) const { return view<kroft_frame_view>(kroft_machine_frame, frame); }
+    std::optional<kroft_frame_word_view> frame_word(uint32_t frame, uint32_t i) const {
+        return view<kroft_frame_word_view>(kroft_machine_frame_word, frame, i);
     }
-    std::optional<kroft_arrival_view> stack_entry(uint32_t place) { return view<kroft_arrival_view>(kroft_stack_entry, place); }
-    std::optional<kroft_queued_view> queue_entry(uint32_t place) { return view<kroft_queued_view>(kroft_queue_entry, place); }
-    std::optional<kroft_command_view> bank_command(uint32_t bank, uint32_t place) {
-        return view<kroft_command_view>(kroft_bank_command, bank, place);
+    std::optional<kroft_arrival_view> stack_entry(uint32_t place) const { return view<kroft_arrival_view>(kroft_machine_stack_entry, place); }
+    std::optional<kroft_queued_view> queue_entry(uint32_t place) const { return view<kroft_queued_view>(kroft_machine_queue_entry, place); }
+    std::optional<kroft_command_view> bank_command(uint32_t bank, uint32_t place) const {
+        return view<kroft_command_view>(kroft_machine_bank_command, bank, place);
     }
-    std::optional<kroft_arrival_view> bank_answer(uint32_t bank, uint32_t place) {
-        return view<kroft_arrival_view>(kroft_bank_answer, bank, place);
+    std::optional<kroft_arrival_view> bank_answer(uint32_t bank, uint32_t place) const {
+        return view<kroft_arrival_view>(kroft_machine_bank_answer, bank, place);
     }
-    std::optional<kroft_answer> reply(uint32_t place) { return view<kroft_answer>(kroft_reply, place); }
+    std::optional<kroft_answer> reply(uint32_t place) const { return view<kroft_answer>(kroft_machine_reply, place); }
 
 private:
-    kroft_handle handle = KROFT_NO_MACHINE;
+    kroft_machine handle = KROFT_NO_MACHINE;
 
     static uint32_t told(uint32_t status) {
-        if (status == KROFT_CLOSED) throw std::logic_error("a machine that was moved from");
-        if (status == KROFT_IN_ROUNDS) throw std::logic_error("rounds are under way, and make the events");
-        if (status == KROFT_NO_ROUNDS) throw std::logic_error("no rounds were begun");
+        if (status == KROFT_FAIL_CLOSED) throw std::logic_error("a machine that was moved from");
+        if (status == KROFT_FAIL_IN_ROUNDS) throw std::logic_error("rounds are under way, and make the events");
+        if (status == KROFT_FAIL_NO_ROUNDS) throw std::logic_error("no rounds were begun");
         return status;
+    }
+
+    std::pair<uint64_t, bool> weighed() const {
+        uint64_t weight = 0;
+        uint32_t settled = 0;
+        told(kroft_machine_weight(&handle, &weight, &settled));
+        return {weight, settled != 0};
     }
 
     kroft_round_row round(const kroft_event *request, size_t offered) {
         kroft_round_row row{};
-        uint32_t status = told(kroft_round(&handle, request, offered, &row));
-        if (status == KROFT_NO_EVENT) throw std::invalid_argument("no request");
-        if (status != KROFT_DONE) throw std::logic_error("as many rounds as may be were made");
+        uint32_t status = told(kroft_machine_round(&handle, request, offered, &row));
+        if (status == KROFT_FAIL_NO_EVENT) throw std::invalid_argument("no request");
+        if (status != KROFT_OK) throw std::logic_error("as many rounds as may be were made");
         return row;
     }
 
-    template <class Row, class Ask, class... Places> std::optional<Row> view(Ask ask, Places... places) {
+    template <class Row, class Ask, class... Places> std::optional<Row> view(Ask ask, Places... places) const {
         Row row{};
-        if (told(ask(&handle, places..., &row)) != KROFT_FOUND) return std::nullopt;
+        if (told(ask(&handle, places..., &row)) != KROFT_OK) return std::nullopt;
         return row;
     }
 };

@@ -100,7 +100,7 @@ public:
         unsigned size = open.at(id).access.size;
         HistoryVerdict said = decided(id, [&] { return history.load_response(id, data, size); });
         if (said) return ended(id);
-        std::string text = name(id) + (said.fault() == KROFT_WRONG_BYTE ? wrong_data(id, data) : said.text());
+        std::string text = name(id) + (said.fault() == KROFT_FAIL_WRONG_BYTE ? wrong_data(id, data) : said.text());
         leave(id);
         return text;
     }
@@ -215,10 +215,10 @@ private:
         if (history.law() == Law::Atomic) text += ", which stood at no moment in the unit with " + hex(address);
         text += ": byte " + std::to_string(why->place) + " is " + hex_of(data[why->place]);
         if (history.law() != Law::Atomic) text += may_be(id, address);
-        if (why->reason == KROFT_NEVER_THERE) text += "; no store put it there";
-        if (why->reason == KROFT_FIRST_OVERWRITTEN) text += "; memory had it first";
-        if (why->reason == KROFT_STORE_OVERWRITTEN) text += "; " + name_of_store(why->stored) + " put it there";
-        if (why->reason == KROFT_FIRST_OVERWRITTEN || why->reason == KROFT_STORE_OVERWRITTEN) text += ", and " + name_of_store(why->overwritten_by) + " overwrote it";
+        if (why->reason == KROFT_REASON_NEVER_THERE) text += "; no store put it there";
+        if (why->reason == KROFT_REASON_FIRST_OVERWRITTEN) text += "; memory had it first";
+        if (why->reason == KROFT_REASON_STORE_OVERWRITTEN) text += "; " + name_of_store(why->stored) + " put it there";
+        if (why->reason == KROFT_REASON_FIRST_OVERWRITTEN || why->reason == KROFT_REASON_STORE_OVERWRITTEN) text += ", and " + name_of_store(why->overwritten_by) + " overwrote it";
         return text;
     }
 

@@ -76,7 +76,8 @@ static page *page_of(judge_state *j, uint64_t address) {
 
 /* A step of the library. A page is memory enough for a step of one of its words. */
 static int step(judge_state *j, page *in, uint32_t tag, const kroft_event *event, const kroft_answer *answer) {
-    return kroft_flat_step(in->words, PAGE_WORDS, table_of(j, tag), KROFT_TAGS, event, answer) == KROFT_FLAT;
+    kroft_word right;
+    return kroft_flat_judge(in->words, PAGE_WORDS, table_of(j, tag), event, answer, &right) == KROFT_OK;
 }
 
 /* The words of an access that have an enabled byte, the lowest first. How many there are. */
@@ -194,9 +195,10 @@ int kroft_sv_post(void *judge, unsigned long long id, unsigned long long address
 static int take_word(judge_state *j, uint32_t tag, const part *p, const kroft_four_states *data, uint8_t *owed, uint8_t *got) {
     kroft_event event;
     kroft_answer answer;
-    kroft_word right;
+    kroft_due due = table_of(j, tag)[tag % KROFT_TAGS];
+    kroft_word right = due.word;
     int lane;
-    if (!kroft_flat_owed(table_of(j, tag), KROFT_TAGS, (uint16_t)tag, &right)) return KROFT_SV_BROKEN_LIBRARY;
+    if (!due.owed) return KROFT_SV_BROKEN_LIBRARY;
     memset(&event, 0, sizeof event);
     memset(&answer, 0, sizeof answer);
     event.kind = KROFT_TAKE;
@@ -300,12 +302,14 @@ const char *kroft_sv_text(void *judge) { return (const char *)judge; }
 
 int kroft_sv_traffic(unsigned long long base, unsigned blocks, unsigned block_bytes, unsigned widest, unsigned sets,
                      unsigned conflicts, unsigned burst, unsigned requesters, unsigned apart, unsigned stores, unsigned partial,
-                     unsigned long long seed, unsigned long long number, unsigned *requester, unsigned *size,
-                     unsigned long long *turn, unsigned long long *address, unsigned long long *enables, uint32_t *data) {
-    kroft_plan plan = {base, blocks, block_bytes, widest, sets, conflicts, burst, requesters, apart, stores, partial};
-    kroft_access drawn = {0, 0, 0, 0, 0};
+                     unsigned words, unsigned blocks_of_set, unsigned long long seed, unsigned long long number,
+                     unsigned *requester, unsigned *size, unsigned long long *turn, unsigned long long *address,
+                     unsigned long long *enables, uint32_t *data) {
+    kroft_traffic_plan plan = {base,       blocks, block_bytes, widest,  sets,  conflicts,    burst,
+                       requesters, apart,  stores,      partial, words, blocks_of_set};
+    kroft_traffic_access drawn = {0, 0, 0, 0, 0};
     uint8_t bytes[64] = {0};
-    int is_drawn = kroft_traffic(&plan, seed, number, &drawn, bytes, sizeof bytes) == KROFT_DRAWN;
+    int is_drawn = kroft_traffic_draw(&plan, seed, number, &drawn, bytes, sizeof bytes) == KROFT_OK;
     int i;
     *requester = drawn.requester;
     *size = drawn.length;

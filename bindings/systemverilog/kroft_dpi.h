@@ -97,8 +97,8 @@ int kroft_sv_store_error(void *history, unsigned long long id);
 int kroft_sv_may_return(void *history, unsigned long long id, unsigned long long address, uint32_t *set);
 
 /* Of the last answer that was KROFT_SV_WRONG_DATA: the place of the first wrong byte, or -1 if none was, and why it is wrong.
-   Returns one of the reasons of kroft.h: of KROFT_STORE_OVERWRITTEN both stores are told, of KROFT_FIRST_OVERWRITTEN the
-   second, by their ids and the moments of their requests; else these are 0. */
+   Returns one of the reasons of kroft.h: of KROFT_REASON_STORE_OVERWRITTEN both stores are told, of
+   KROFT_REASON_FIRST_OVERWRITTEN the second, by their ids and the moments of their requests; else these are 0. */
 int kroft_sv_why(void *history, int *place, unsigned long long *stored, unsigned long long *stored_at, unsigned long long *overwritten_by,
                  unsigned long long *overwritten_at);
 
@@ -130,8 +130,9 @@ unsigned long long kroft_sv_seen(void *history, int point);
    lowest bits. Returns 1; or 0, and all is 0, if one of the plan's numbers isn't as described. */
 int kroft_sv_traffic(unsigned long long base, unsigned blocks, unsigned block_bytes, unsigned widest, unsigned sets,
                      unsigned conflicts, unsigned burst, unsigned requesters, unsigned apart, unsigned stores, unsigned partial,
-                     unsigned long long seed, unsigned long long number, unsigned *requester, unsigned *size,
-                     unsigned long long *turn, unsigned long long *address, unsigned long long *enables, uint32_t *data);
+                     unsigned words, unsigned blocks_of_set, unsigned long long seed, unsigned long long number,
+                     unsigned *requester, unsigned *size, unsigned long long *turn, unsigned long long *address,
+                     unsigned long long *enables, uint32_t *data);
 
 #ifdef __cplusplus
 }

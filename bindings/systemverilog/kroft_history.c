@@ -28,14 +28,14 @@ typedef struct {
     } told[KEPT_STORES]; /* the requests of the last stores */
     uint64_t told_count;
     int is_wrong; /* an answer was wrong data, and `why` says more of the last such */
-    kroft_reason why;
+    kroft_history_reason why;
     uint64_t seen[KROFT_SV_POINTS];
 } history_state;
 
 static void open_history(history_state *h) {
     static const uint8_t none = 0;
     if (h->history.open) return;
-    if (kroft_history_open(&h->history, h->law, h->unit, h->rest, h->image ? h->image : &none, h->image_bytes) != KROFT_DONE) must(NULL);
+    if (kroft_history_open(&h->history, h->law, h->unit, h->rest, h->image ? h->image : &none, h->image_bytes) != KROFT_OK) must(NULL);
     free(h->image);
     h->image = NULL;
 }
@@ -49,9 +49,9 @@ void *kroft_sv_history_open(unsigned law, unsigned unit, unsigned rest) {
     h->unit = unit ? unit : law == KROFT_ATOMIC_LAW ? 8 : 1;
     h->rest = rest;
     status = kroft_history_open(&tried, h->law, h->unit, rest, &none, 0);
-    if (status == KROFT_OUT_OF_MEMORY) must(NULL);
-    if (status == KROFT_DONE) {
-        kroft_history_free(&tried);
+    if (status == KROFT_FAIL_OUT_OF_MEMORY) must(NULL);
+    if (status == KROFT_OK) {
+        kroft_history_close(&tried);
         return h;
     }
     free(h);
@@ -61,7 +61,7 @@ void *kroft_sv_history_open(unsigned law, unsigned unit, unsigned rest) {
 void kroft_sv_history_close(void *history) {
     history_state *h = (history_state *)history;
     if (!h) return;
-    kroft_history_free(&h->history);
+    kroft_history_close(&h->history);
     map_free(&h->loads);
     map_free(&h->stores);
     free(h->image);
@@ -89,10 +89,10 @@ int kroft_sv_image(void *history, const kroft_four_states *data, int size) {
 /* What the library says of an event that has no fault of its own. */
 static int told(history_state *h, uint32_t status) {
     switch (status) {
-    case KROFT_LAWFUL: h->events++; return KROFT_SV_RIGHT;
-    case KROFT_WRONG_BYTE: return KROFT_SV_WRONG_DATA;
-    case KROFT_UNDECIDED: return KROFT_SV_UNDECIDED;
-    case KROFT_OUT_OF_MEMORY: must(NULL); break;
+    case KROFT_OK: h->events++; return KROFT_SV_RIGHT;
+    case KROFT_FAIL_WRONG_BYTE: return KROFT_SV_WRONG_DATA;
+    case KROFT_FAIL_UNDECIDED: return KROFT_SV_UNDECIDED;
+    case KROFT_FAIL_OUT_OF_MEMORY: must(NULL); break;
     default: break;
     }
     return KROFT_SV_BROKEN_LIBRARY;
@@ -158,7 +158,7 @@ int kroft_sv_load_request(void *history, unsigned long long id, unsigned long lo
     int reason = fault_of(&a, 0, ~UINT64_C(0), &h->loads);
     if (reason != KROFT_SV_RIGHT) return say(h->text, &a, reason);
     open_history(h);
-    reason = told(h, kroft_load_request(&h->history, h->new_load, address, (size_t)size));
+    reason = told(h, kroft_history_load_request(&h->history, h->new_load, address, (size_t)size));
     if (reason != KROFT_SV_RIGHT) return say(h->text, &a, reason);
     count_request(h, &a);
     keep(h, &h->loads, &a, h->new_load++, now);
@@ -176,7 +176,7 @@ int kroft_sv_store_request(void *history, unsigned long long id, unsigned long l
     spread_out(data, size, bytes);
     h->told[h->told_count % KEPT_STORES].event = h->events;
     h->told[h->told_count % KEPT_STORES].now = now;
-    reason = told(h, kroft_store_request(&h->history, id, address, bytes, (size_t)size, a.enables));
+    reason = told(h, kroft_history_store_request(&h->history, id, address, bytes, (size_t)size, a.enables));
     if (reason != KROFT_SV_RIGHT) return say(h->text, &a, reason);
     h->told_count++;
     count_request(h, &a);
@@ -191,11 +191,11 @@ static void leave(history_state *h, operation *o) {
     int i, byte;
     for (i = 0; i < o->asked.size && h->law != KROFT_ATOMIC_LAW; i++) {
         memset(set, 0, sizeof set);
-        kroft_may_return(&h->history, o->number, o->asked.address + (uint64_t)i, set, sizeof set);
+        kroft_history_may_return(&h->history, o->number, o->asked.address + (uint64_t)i, set);
         for (byte = 0; byte < 255 && !(set[byte / 8] >> byte % 8 & 1); byte++) {}
         bytes[i] = (uint8_t)byte;
     }
-    if (h->law != KROFT_ATOMIC_LAW) told(h, kroft_load_response(&h->history, o->number, bytes, (size_t)o->asked.size));
+    if (h->law != KROFT_ATOMIC_LAW) told(h, kroft_history_load_response(&h->history, o->number, bytes, (size_t)o->asked.size));
     end_operation(h, o);
 }
 
@@ -225,7 +225,7 @@ static void say_set(history_state *h, const operation *o, const uint8_t *bytes) 
     if (h->law == KROFT_ATOMIC_LAW) add(h->text, ", which stood at no moment in the unit with 0x%llx", (unsigned long long)address);
     add(h->text, ": byte %d is %02x", (int)h->why.place, bytes[h->why.place]);
     if (h->law == KROFT_ATOMIC_LAW) return;
-    kroft_may_return(&h->history, o->number, address, set, sizeof set);
+    kroft_history_may_return(&h->history, o->number, address, set);
     add(h->text, ", and may be");
     for (byte = 0; byte < 256; byte++)
         if (set[byte / 8] >> byte % 8 & 1 && count++ < 4) add(h->text, "%s %02x", count > 1 ? " or" : "", byte);
@@ -233,15 +233,15 @@ static void say_set(history_state *h, const operation *o, const uint8_t *bytes) 
 }
 
 static void say_why(history_state *h, const operation *o, const uint8_t *bytes) {
-    uint32_t status = kroft_why(&h->history, o->number, bytes, (size_t)o->asked.size, &h->why);
-    if (status == KROFT_OUT_OF_MEMORY) must(NULL);
-    if (status != KROFT_WRONG_BYTE) return;
+    uint32_t status = kroft_history_why(&h->history, o->number, bytes, (size_t)o->asked.size, &h->why);
+    if (status == KROFT_FAIL_OUT_OF_MEMORY) must(NULL);
+    if (status != KROFT_FAIL_WRONG_BYTE) return;
     h->is_wrong = 1;
     say_set(h, o, bytes);
-    if (h->why.reason == KROFT_NEVER_THERE) add(h->text, "; no store put it there");
-    if (h->why.reason == KROFT_FIRST_OVERWRITTEN) add(h->text, "; memory had it first");
-    if (h->why.reason == KROFT_STORE_OVERWRITTEN) say_store(h, "; ", h->why.stored, h->why.stored_at, "put it there");
-    if (h->why.reason == KROFT_FIRST_OVERWRITTEN || h->why.reason == KROFT_STORE_OVERWRITTEN) say_store(h, ", and ", h->why.overwritten_by, h->why.overwritten_at, "overwrote it");
+    if (h->why.reason == KROFT_REASON_NEVER_THERE) add(h->text, "; no store put it there");
+    if (h->why.reason == KROFT_REASON_FIRST_OVERWRITTEN) add(h->text, "; memory had it first");
+    if (h->why.reason == KROFT_REASON_STORE_OVERWRITTEN) say_store(h, "; ", h->why.stored, h->why.stored_at, "put it there");
+    if (h->why.reason == KROFT_REASON_FIRST_OVERWRITTEN || h->why.reason == KROFT_REASON_STORE_OVERWRITTEN) say_store(h, ", and ", h->why.overwritten_by, h->why.overwritten_at, "overwrote it");
 }
 
 /* Says what an answer is. */
@@ -251,7 +251,7 @@ static int say_answer(history_state *h, const operation *o, int reason) {
     name(h->text, &o->asked, reason);
     add_moment(h->text, ", requested at ", o->now, "");
     add(h->text, ": %s", REASONS[reason]);
-    if (reason == KROFT_SV_UNDECIDED && kroft_undecided(&h->history, &address) == KROFT_FOUND)
+    if (reason == KROFT_SV_UNDECIDED && kroft_history_undecided(&h->history, &address) == KROFT_OK)
         add(h->text, ", at 0x%llx", (unsigned long long)address);
     return reason;
 }
@@ -264,7 +264,7 @@ int kroft_sv_load_response(void *history, unsigned long long id, const kroft_fou
     if (!o) return say_stray(h->text, 0, id);
     spread_out(data, o->asked.size, bytes);
     reason = has_unknown(data, &o->asked) ? KROFT_SV_UNKNOWN_DATA
-                                          : told(h, kroft_load_response(&h->history, o->number, bytes, (size_t)o->asked.size));
+                                          : told(h, kroft_history_load_response(&h->history, o->number, bytes, (size_t)o->asked.size));
     say_answer(h, o, reason);
     if (reason == KROFT_SV_UNDECIDED) return reason;
     count_response(h, o);
@@ -282,7 +282,7 @@ static int end_store_of(history_state *h, uint64_t id, int failed) {
     operation *o = (operation *)map_get(&h->stores, id);
     int reason;
     if (!o) return say_stray(h->text, 1, id);
-    reason = told(h, kroft_store_response(&h->history, o->number));
+    reason = told(h, kroft_history_store_response(&h->history, o->number));
     if (reason == KROFT_SV_RIGHT) reason = failed;
     say_answer(h, o, reason);
     if (reason == KROFT_SV_UNDECIDED) return reason;
@@ -308,30 +308,30 @@ int kroft_sv_may_return(void *history, unsigned long long id, unsigned long long
     history_state *h = (history_state *)history;
     const operation *o = (const operation *)map_get(&h->loads, id);
     uint8_t row[KROFT_SET_BYTES] = {0};
-    uint32_t status = o ? kroft_may_return(&h->history, o->number, address, row, sizeof row) : (uint32_t)KROFT_NONE;
+    uint32_t status = o ? kroft_history_may_return(&h->history, o->number, address, row) : (uint32_t)KROFT_ABSENT;
     int i;
-    if (status == KROFT_OUT_OF_MEMORY) must(NULL);
+    if (status == KROFT_FAIL_OUT_OF_MEMORY) must(NULL);
     for (i = 0; i < KROFT_SET_BYTES / 4; i++)
         set[i] = row[4 * i] | (uint32_t)row[4 * i + 1] << 8 | (uint32_t)row[4 * i + 2] << 16 | (uint32_t)row[4 * i + 3] << 24;
-    return status == KROFT_FOUND;
+    return status == KROFT_OK;
 }
 
 int kroft_sv_why(void *history, int *place, unsigned long long *stored, unsigned long long *stored_at, unsigned long long *overwritten_by,
                  unsigned long long *overwritten_at) {
     history_state *h = (history_state *)history;
-    int has_stored = h->is_wrong && h->why.reason == KROFT_STORE_OVERWRITTEN;
-    int has_overwritten = has_stored || (h->is_wrong && h->why.reason == KROFT_FIRST_OVERWRITTEN);
+    int has_stored = h->is_wrong && h->why.reason == KROFT_REASON_STORE_OVERWRITTEN;
+    int has_overwritten = has_stored || (h->is_wrong && h->why.reason == KROFT_REASON_FIRST_OVERWRITTEN);
     *place = h->is_wrong ? (int)h->why.place : -1;
     *stored = has_stored ? h->why.stored : 0;
     *stored_at = has_stored ? moment_of(h, h->why.stored_at) : 0;
     *overwritten_by = has_overwritten ? h->why.overwritten_by : 0;
     *overwritten_at = has_overwritten ? moment_of(h, h->why.overwritten_at) : 0;
-    return h->is_wrong ? (int)h->why.reason : KROFT_NO_REASON;
+    return h->is_wrong ? (int)h->why.reason : KROFT_REASON_NONE;
 }
 
 int kroft_sv_undecided(void *history, unsigned long long *address) {
     uint64_t begin = 0;
-    int is_found = kroft_undecided(&((history_state *)history)->history, &begin) == KROFT_FOUND;
+    int is_found = kroft_history_undecided(&((history_state *)history)->history, &begin) == KROFT_OK;
     *address = begin;
     return is_found;
 }
@@ -341,9 +341,9 @@ int kroft_sv_forget(void *history, unsigned long long address) {
     uint32_t status;
     if (h->law != KROFT_ATOMIC_LAW) return 0;
     open_history(h);
-    status = kroft_forget(&h->history, address);
-    if (status == KROFT_OUT_OF_MEMORY) must(NULL);
-    return status == KROFT_DONE;
+    status = kroft_history_forget(&h->history, address);
+    if (status == KROFT_FAIL_OUT_OF_MEMORY) must(NULL);
+    return status == KROFT_OK;
 }
 
 int kroft_sv_open_count(void *history) {

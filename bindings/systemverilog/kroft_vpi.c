@@ -11,6 +11,7 @@
  * $kroft_open_operation, and $kroft_seen for its 64 bits) are called as they are.
  */
 #include "kroft_dpi.h"
+#include "kroft.h"
 
 #include <stdint.h>
 #include <vpi_user.h>
@@ -318,7 +319,7 @@ static PLI_INT32 why(PLI_BYTE8 *unused) {
     int place = -1, reason;
     unsigned long long stored = 0, stored_at = 0, overwritten_by = 0, overwritten_at = 0;
     (void)unused;
-    reason = history ? kroft_sv_why(history, &place, &stored, &stored_at, &overwritten_by, &overwritten_at) : 0;
+    reason = history ? kroft_sv_why(history, &place, &stored, &stored_at, &overwritten_by, &overwritten_at) : KROFT_REASON_NONE;
     put_number(&a, (unsigned long long)place);
     put_number(&a, stored);
     put_number(&a, stored_at);
@@ -375,15 +376,15 @@ static PLI_INT32 seen(PLI_BYTE8 *unused) {
 static PLI_INT32 traffic(PLI_BYTE8 *unused) {
     arguments a = begin();
     unsigned long long base = next_number(&a), seed, number, turn, address, enables;
-    unsigned plan[10], requester, size;
+    unsigned plan[12], requester, size;
     uint32_t data[WORDS];
     int i, is_drawn;
     (void)unused;
-    for (i = 0; i < 10; i++) plan[i] = (unsigned)next_number(&a);
+    for (i = 0; i < 12; i++) plan[i] = (unsigned)next_number(&a);
     seed = next_number(&a);
     number = next_number(&a);
-    is_drawn = kroft_sv_traffic(base, plan[0], plan[1], plan[2], plan[3], plan[4], plan[5], plan[6], plan[7], plan[8], plan[9], seed, number,
-                                &requester, &size, &turn, &address, &enables, data);
+    is_drawn = kroft_sv_traffic(base, plan[0], plan[1], plan[2], plan[3], plan[4], plan[5], plan[6], plan[7], plan[8], plan[9], plan[10],
+                                plan[11], seed, number, &requester, &size, &turn, &address, &enables, data);
     put_number(&a, requester);
     put_number(&a, size);
     put_number(&a, turn);

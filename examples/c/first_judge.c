@@ -4,16 +4,12 @@
 #include <stdio.h>
 
 static kroft_word memory[64];       /* begins as you like */
-static kroft_due owed[KROFT_TAGS];  /* what each tag is owed: zeros at first */
+static kroft_due due[KROFT_TAGS];   /* the loads without an answer: zeros at first */
 
 static void step(const char *said, kroft_event event, kroft_answer answer) {
-    char text[KROFT_WHY_TEXT] = "flat";
-    kroft_word word;
-    if (kroft_flat_step(memory, 64, owed, KROFT_TAGS, &event, &answer) != KROFT_FLAT) {
-        uint32_t why = kroft_flat_why(memory, 64, owed, KROFT_TAGS, &event, &answer, &word);
-        kroft_why_text(why, text, sizeof text);
-    }
-    printf("%s: %s\n", said, text);
+    kroft_word right;
+    uint32_t result = kroft_flat_judge(memory, 64, due, &event, &answer, &right);
+    printf("%s: %s\n", said, kroft_text(result));
 }
 
 int main(void) {
@@ -29,6 +25,6 @@ int main(void) {
     step("store 5 1000 aa000000 -> accepted", store, accepted);
     step("take 0 -> value 7 aa000000", take, after); /* the byte was stored after the load */
     step("take 0 -> value 7 00000000", take, before);
-    printf("%u loads without an answer\n", (unsigned)kroft_flat_open(owed, KROFT_TAGS, 0, &tag));
+    printf("%u loads without an answer\n", (unsigned)kroft_flat_unanswered(due, 0, &tag));
     return 0;
 }

@@ -9,7 +9,7 @@ import random
 from rows import Handle, kroft
 
 u64 = c.c_uint64
-REGULAR, ZEROS, LAWFUL = 0, 0, 0
+REGULAR, ZEROS, OK = 0, 0, 0
 
 
 class WriteBuffer:
@@ -53,20 +53,20 @@ def unlawful(actions, has_bug):
     """The place of the first action that no memory makes, and what a load returned there; None if all is lawful."""
     memory, handle = WriteBuffer(has_bug), Handle()
     requested, done = {}, {}
-    assert kroft.kroft_history_open(c.byref(handle), REGULAR, 1, ZEROS, b"", c.c_size_t(0)) == LAWFUL
+    assert kroft.kroft_history_open(c.byref(handle), REGULAR, 1, ZEROS, b"", c.c_size_t(0)) == OK
     try:
         for place, (kind, *words) in enumerate(actions):
-            status, returned = LAWFUL, None
+            status, returned = OK, None
             if kind == "drain":
                 memory.drain()
                 continue
             number = u64(words[0])
             if kind == "store":
                 requested[words[0]] = ("store", words[1], words[2])
-                status = kroft.kroft_store_request(c.byref(handle), number, u64(words[1]), bytes([words[2]]), c.c_size_t(1), u64(1))
+                status = kroft.kroft_history_store_request(c.byref(handle), number, u64(words[1]), bytes([words[2]]), c.c_size_t(1), u64(1))
             elif kind == "load":
                 requested[words[0]] = ("load", words[1], None)
-                status = kroft.kroft_load_request(c.byref(handle), number, u64(words[1]), c.c_size_t(1))
+                status = kroft.kroft_history_load_request(c.byref(handle), number, u64(words[1]), c.c_size_t(1))
             elif kind == "acts" and words[0] in requested:
                 what, address, byte = requested.pop(words[0])
                 if what == "store":
@@ -75,14 +75,14 @@ def unlawful(actions, has_bug):
             elif kind == "is answered" and words[0] in done:
                 what, returned = done.pop(words[0])
                 if what == "store":
-                    status = kroft.kroft_store_response(c.byref(handle), number)
+                    status = kroft.kroft_history_store_response(c.byref(handle), number)
                 else:
-                    status = kroft.kroft_load_response(c.byref(handle), number, bytes([returned]), c.c_size_t(1))
-            if status != LAWFUL:
+                    status = kroft.kroft_history_load_response(c.byref(handle), number, bytes([returned]), c.c_size_t(1))
+            if status != OK:
                 return place, returned
         return None
     finally:
-        kroft.kroft_history_free(c.byref(handle))
+        kroft.kroft_history_close(c.byref(handle))
 
 
 def shortest(actions):

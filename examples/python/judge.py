@@ -4,28 +4,27 @@ import ctypes as c
 from rows import ACCEPTED, LOAD, STORE, TAKE, VALUE, Answer, Due, Event, Word, kroft, u16
 
 WORDS, TAGS = 64, 65536
+NOTHING_OWED, WRONG_WORD = 144, 145
 words, due = (Word * WORDS)(), (Due * TAGS)()
 
 
 def judge(event, answer):
-    """0: flat memory gives this answer; 1: it never does; 2: the rows say nothing."""
-    return kroft.kroft_flat_step(words, c.c_size_t(WORDS), due, c.c_size_t(TAGS), c.byref(event), c.byref(answer))
+    """0: flat memory gives this answer; else the number of the reason why not."""
+    return kroft.kroft_flat_judge(words, c.c_size_t(WORDS), due, c.byref(event), c.byref(answer), c.byref(Word()))
 
 
 def owed(tag):
     """The word that a tag is owed, as hexadecimal digits; None if it is owed nothing."""
-    word = Word()
-    found = kroft.kroft_flat_owed(due, c.c_size_t(TAGS), u16(tag), c.byref(word))
-    return bytes(word).hex() if found else None
+    return bytes(due[tag].word).hex() if due[tag].owed else None
 
 
 def unanswered():
     """The tags of the loads that were accepted and have no answer."""
     tag = u16()
-    count = kroft.kroft_flat_open(due, c.c_size_t(TAGS), 0, c.byref(tag))
+    count = kroft.kroft_flat_unanswered(due, 0, c.byref(tag))
     tags = []
     for n in range(count):
-        kroft.kroft_flat_open(due, c.c_size_t(TAGS), n, c.byref(tag))
+        kroft.kroft_flat_unanswered(due, n, c.byref(tag))
         tags.append(tag.value)
     return tags
 
@@ -36,7 +35,7 @@ for event in [Event(LOAD, tag=7, at=5), Event(STORE, lanes=1, at=5, word=Word(0x
     assert judge(event, accepted) == 0
 assert (owed(7), owed(8), owed(9)) == ("00000000", "aa000000", None)
 assert unanswered() == [7, 8]
-for tag, word, verdict in [(7, 0xAA, 1), (8, 0xAA, 0), (7, 0, 0), (7, 0, 1)]:
+for tag, word, verdict in [(7, 0xAA, WRONG_WORD), (8, 0xAA, 0), (7, 0, 0), (7, 0, NOTHING_OWED)]:
     assert judge(Event(TAKE), Answer(VALUE, tag=tag, word=Word(word))) == verdict
 assert (owed(7), owed(8), unanswered()) == (None, None, [])
 print("7 got 00000000, 8 got aa000000: flat; a byte stored after its load, and a value taken twice: not flat")

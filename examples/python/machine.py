@@ -3,7 +3,7 @@ import ctypes as c
 
 from rows import ACCEPTED, EVICT, LOAD, REFUSED, STORE, VALUE, Answer, Event, Handle, Shape, Word, kroft
 
-DONE, FOUND, CLOSED = 0, 1, 3
+OK, CLOSED = 0, 100
 SHAPE = Shape(ways=2, block_words=4, regs=8, depth=4, words=64, sets=4, banks=4, bank_queue=8, write_queue=8, replies=8)
 
 
@@ -12,30 +12,30 @@ class Machine:
 
     def __enter__(self):
         self.handle, image = Handle(), (Word * SHAPE.words)()
-        status = kroft.kroft_open(c.byref(self.handle), c.byref(SHAPE), image, c.c_size_t(SHAPE.words))
-        assert status == DONE, f"kroft_open: {status}"
+        status = kroft.kroft_machine_open(c.byref(self.handle), c.byref(SHAPE), image, c.c_size_t(SHAPE.words))
+        assert status == OK, f"kroft_machine_open: {status}"
         return self
 
     def __exit__(self, *_):
-        assert kroft.kroft_free(c.byref(self.handle)) == DONE
-        assert kroft.kroft_free(c.byref(self.handle)) == CLOSED
+        assert kroft.kroft_machine_close(c.byref(self.handle)) == OK
+        assert kroft.kroft_machine_close(c.byref(self.handle)) == CLOSED
 
     def apply(self, event):
         """The answer to an event."""
         answer = Answer()
-        assert kroft.kroft_apply(c.byref(self.handle), c.byref(event), c.byref(answer)) == DONE
+        assert kroft.kroft_machine_apply(c.byref(self.handle), c.byref(event), c.byref(answer)) == OK
         return answer
 
     def pumps(self):
         """The driver's events with their answers, until nothing is on its way."""
         event, answer = Event(), Answer()
-        while kroft.kroft_pump(c.byref(self.handle), c.byref(event), c.byref(answer)) == FOUND:
+        while kroft.kroft_machine_pump(c.byref(self.handle), c.byref(event), c.byref(answer)) == OK:
             yield event, answer
 
     def bank_word(self, at):
         """A word of memory as it stands in its bank."""
         word = Word()
-        assert kroft.kroft_bank_word(c.byref(self.handle), at, c.byref(word)) == FOUND
+        assert kroft.kroft_machine_bank_word(c.byref(self.handle), at, c.byref(word)) == OK
         return bytes(word).hex()
 
 

@@ -36,7 +36,7 @@ public:
     // How many words of reads were asked for and never came back. A bench asks at its end.
     uint32_t unanswered() const {
         uint16_t tag;
-        return kroft_flat_open(due.data(), due.size(), 0, &tag);
+        return kroft_flat_unanswered(due.data(), 0, &tag);
     }
 
 private:
@@ -110,7 +110,7 @@ private:
             kroft_answer answer{};
             answer.kind = KROFT_VALUE;
             answer.tag = tag;
-            kroft_flat_owed(due.data(), due.size(), tag, &answer.word);
+            answer.word = due[tag].word;
             uint64_t byte;
             for (unsigned lane = 0; ok && lane < WORD; lane++)
                 if (span.has(word, lane, byte)) answer.word.b[lane] = span.payload.get_data_ptr()[byte];
@@ -135,12 +135,12 @@ private:
 
     void judge(const kroft_event &event, const kroft_answer &answer) {
         steps++;
-        if (kroft_flat_step(words.data(), words.size(), due.data(), due.size(), &event, &answer) == KROFT_FLAT) return;
-        std::string text = "word " + std::to_string(event.at);
         kroft_word owed{};
-        if (answer.kind == KROFT_VALUE && kroft_flat_owed(due.data(), due.size(), answer.tag, &owed))
-            text += ": owed " + hex(owed) + ", got " + hex(answer.word);
-        else text += ": flat memory never answers so";
+        uint32_t result = kroft_flat_judge(words.data(), words.size(), due.data(), &event, &answer, &owed);
+        if (result == KROFT_OK) return;
+        std::string text = "word " + std::to_string(event.at);
+        if (result == KROFT_FAIL_WRONG_WORD) text += ": owed " + hex(owed) + ", got " + hex(answer.word);
+        else text += std::string(": ") + kroft_text(result);
         fail(text);
     }
 

@@ -71,8 +71,8 @@ public:
         const uint8_t *got = answer.word.b;
         if (out) fprintf(out, "take 0 -> value %u %02x%02x%02x%02x\n", tag, got[0], got[1], got[2], got[3]);
         if (is_flat(event, answer)) return;
-        kroft_word owed{};
-        if (kroft_flat_owed(due.data(), due.size(), tag, &owed))
+        const kroft_word owed = due[tag].word;
+        if (due[tag].owed)
             printf("cycle %" PRIu64 ", step %" PRIu64 ": tag %u, word %u: owed %02x%02x%02x%02x, got %02x%02x%02x%02x\n", cycle, steps,
                    tag, address[tag], owed.b[0], owed.b[1], owed.b[2], owed.b[3], got[0], got[1], got[2], got[3]);
         else
@@ -82,7 +82,7 @@ public:
     }
 
     // How many accepted loads have no answer yet; `tag` is the first one's.
-    uint32_t unanswered(uint16_t &tag) const { return kroft_flat_open(due.data(), due.size(), 0, &tag); }
+    uint32_t unanswered(uint16_t &tag) const { return kroft_flat_unanswered(due.data(), 0, &tag); }
 
     // Names a load that was never answered, if there is one.
     void end() {
@@ -116,7 +116,8 @@ private:
         (void)event, (void)answer;
         return true;
 #else
-        return kroft_flat_step(words.data(), words.size(), due.data(), due.size(), &event, &answer) == KROFT_FLAT;
+        kroft_word right;
+        return kroft_flat_judge(words.data(), words.size(), due.data(), &event, &answer, &right) == KROFT_OK;
 #endif
     }
 

@@ -16,7 +16,9 @@ _kroft() {
     *:--latency) COMPREPLY=($(compgen -W '' -- "$word")); return ;;
     *:--busy) COMPREPLY=($(compgen -W '' -- "$word")); return ;;
     *:--registers) COMPREPLY=($(compgen -W '' -- "$word")); return ;;
+    *:--sheet) mapfile -t COMPREPLY < <(compgen -f -- "$word"); compopt -o filenames 2>/dev/null; return ;;
     *:--log) COMPREPLY=($(compgen -W 'lackey din' -- "$word")); return ;;
+    *:--beside) mapfile -t COMPREPLY < <(compgen -f -- "$word"); compopt -o filenames 2>/dev/null; return ;;
     *:--from) COMPREPLY=($(compgen -W 'lackey din' -- "$word")); return ;;
     *:--words) COMPREPLY=($(compgen -W '' -- "$word")); return ;;
     *:--law) COMPREPLY=($(compgen -W 'flat atomic regular' -- "$word")); return ;;
@@ -25,10 +27,10 @@ _kroft() {
   case $command in
     run) k='--shape --machine --image -h --help' ;;
     check) k='--shape --machine --image --all-answered --format -h --help' ;;
-    sweep) k='--shape --machine --latency --busy --format --svg --registers -h --help' ;;
+    sweep) k='--shape --machine --latency --busy --format --svg --log --registers -h --help' ;;
     explain) k='--shape --machine --image --format -h --help' ;;
-    grade) k='--shape --machine --image --format -h --help' ;;
-    drive) k='--shape --machine --image --log --latency --busy --summary --all --format --svg -h --help' ;;
+    grade) k='--shape --machine --image --sheet --strict --solve --format -h --help' ;;
+    drive) k='--shape --machine --image --log --latency --busy --summary --all --format --svg --timeline --beside -h --help' ;;
     requests) k='--from --words -h --help' ;;
     show) k='--shape --machine --image --text --vcd -h --help' ;;
     history) k='--law --unit --image --unknown --all-answered --values --format -h --help' ;;

@@ -261,11 +261,11 @@ function putPicture(name) {
   for (const it of pane.querySelectorAll('.coming')) it.remove();
   pane.append(frame);
 }
-// Lines that only show something are no steps.
+// Lines that only show something, or say nothing, are no steps.
 function stepAtCursor() {
   const text = find('trace').value.slice(0, find('trace').selectionStart);
   const line = find('trace').value.slice(find('trace').selectionStart).split('\n', 1)[0];
-  const lines = (text + line).split('\n').filter((it) => it !== '');
+  const lines = (text + line).split('\n').filter((it) => !saysNothing(it));
   return lines.filter((it) => !/^(reg|bank|settled)\b/.test(it)).length;
 }
 function followCursor() {

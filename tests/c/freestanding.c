@@ -3,7 +3,7 @@
 
 static kroft_word words[4];
 static kroft_due due[KROFT_TAGS];
-static kroft_word owed;
+static kroft_word right;
 static uint16_t tag;
 
 void _start(void);
@@ -12,11 +12,11 @@ void _start(void) {
     static const kroft_event load = {KROFT_LOAD, 1, 0, 3, 0, {{0, 0, 0, 0}}};
     static const kroft_answer accepted = {KROFT_ACCEPTED, 0, 0, {{0, 0, 0, 0}}};
     static const kroft_answer wrong = {KROFT_MOVED, 0, 0, {{0, 0, 0, 0}}};
-    long status = (long)kroft_flat_step(words, 4, due, KROFT_TAGS, &load, &accepted);
-    if (kroft_flat_step(words, 4, due, KROFT_TAGS, &load, &wrong) != KROFT_NOT_FLAT) status = 3;
-    if (kroft_flat_why(words, 4, due, KROFT_TAGS, &load, &wrong, &owed) != KROFT_WHY_TAG_IN_USE) status = 4;
-    if (kroft_flat_owed(due, KROFT_TAGS, 1, &owed) != 1) status = 5;
-    if (kroft_flat_open(due, KROFT_TAGS, 0, &tag) != 1 || tag != 1) status = 6;
+    long status = (long)kroft_flat_judge(words, 4, due, &load, &accepted, &right);
+    if (kroft_flat_judge(words, 4, due, &load, &wrong, &right) != KROFT_FAIL_TAG_IN_USE) status = 3;
+    if (kroft_text(KROFT_OK)[0] == 0) status = 4;
+    if (due[1].owed != 1) status = 5;
+    if (kroft_flat_unanswered(due, 0, &tag) != 1 || tag != 1) status = 6;
 #if defined(__x86_64__)
     __asm__ volatile("syscall" : : "a"(60L), "D"(status) : "rcx", "r11", "memory"); /* exit */
 #elif defined(__aarch64__)

@@ -2,6 +2,7 @@
    return, which operations are open, and every fault. */
 #include "check.h"
 #include "kroft.h"
+#include "words.h"
 
 #include <string.h>
 
@@ -42,52 +43,52 @@ typedef struct {
 static const story stories[] = {
     {"while a store is open a load may see it, and a later one may not", KROFT_ZEROS, {0, 0}, 0, 1,
      {STORE(1, 4096, 1, 0x5a, 0, 1, 0, 0), LOAD(1, 4096, 1, 0, 0), LOADED(1, 1, 0x5a, 0, 0, 0), LOAD(2, 4096, 1, 0, 0),
-      LOADED(2, 1, 0, 0, 0, KROFT_WRONG_BYTE), OVER}},
+      LOADED(2, 1, 0, 0, 0, KROFT_FAIL_WRONG_BYTE), OVER}},
     {"once a store is answered no load sees what was there before", KROFT_ZEROS, {0, 0}, 0, 0,
      {STORE(1, 4096, 1, 0x5a, 0, 1, 0, 0), STORED(1, 0, 0), LOAD(1, 4096, 1, 0, 0),
-      LOADED(1, 1, 0, 0, KROFT_WRONG_BYTE, KROFT_WRONG_BYTE), LOADED(1, 1, 0x5a, 0, 0, 0), OVER}},
+      LOADED(1, 1, 0, 0, KROFT_FAIL_WRONG_BYTE, KROFT_FAIL_WRONG_BYTE), LOADED(1, 1, 0x5a, 0, 0, 0), OVER}},
     {"two stores at once, in either order, each byte for itself", KROFT_ZEROS, {0, 0}, 0, 0,
      {STORE(1, 4096, 2, 0x11, 0x11, 3, 0, 0), STORE(2, 4096, 2, 0x22, 0x22, 3, 0, 0), STORED(1, 0, 0), STORED(2, 0, 0),
-      LOAD(7, 4096, 2, 0, 0), LOADED(7, 2, 0x22, 0, KROFT_WRONG_BYTE, KROFT_WRONG_BYTE),
-      LOADED(7, 2, 0x11, 0x22, 0, KROFT_WRONG_BYTE), LOADED(7, 2, 0x22, 0x22, KROFT_NOT_OPEN, 0), OVER}},
+      LOAD(7, 4096, 2, 0, 0), LOADED(7, 2, 0x22, 0, KROFT_FAIL_WRONG_BYTE, KROFT_FAIL_WRONG_BYTE),
+      LOADED(7, 2, 0x11, 0x22, 0, KROFT_FAIL_WRONG_BYTE), LOADED(7, 2, 0x22, 0x22, KROFT_FAIL_NOT_OPEN, 0), OVER}},
     {"a store that comes while a load is open", KROFT_ZEROS, {0, 0}, 0, 1,
-     {LOAD(1, 4096, 1, 0, 0), STORE(1, 4096, 1, 9, 0, 1, 0, 0), LOADED(1, 1, 9, 0, 0, KROFT_WRONG_BYTE),
-      LOADED(1, 1, 0, 0, KROFT_NOT_OPEN, 0), OVER}},
+     {LOAD(1, 4096, 1, 0, 0), STORE(1, 4096, 1, 9, 0, 1, 0, 0), LOADED(1, 1, 9, 0, 0, KROFT_FAIL_WRONG_BYTE),
+      LOADED(1, 1, 0, 0, KROFT_FAIL_NOT_OPEN, 0), OVER}},
     {"a store that is answered before another one begins is overwritten", KROFT_ZEROS, {0, 0}, 0, 0,
      {STORE(1, 8, 1, 1, 0, 1, 0, 0), STORED(1, 0, 0), STORE(1, 8, 1, 2, 0, 1, 0, 0), LOAD(5, 8, 1, 0, 0),
-      STORED(1, 0, 0), LOADED(5, 1, 3, 0, KROFT_WRONG_BYTE, KROFT_WRONG_BYTE), LOADED(5, 1, 1, 0, 0, KROFT_WRONG_BYTE),
-      LOAD(6, 8, 1, 0, 0), LOADED(6, 1, 1, 0, KROFT_WRONG_BYTE, KROFT_WRONG_BYTE), LOADED(6, 1, 2, 0, 0, 0), OVER}},
+      STORED(1, 0, 0), LOADED(5, 1, 3, 0, KROFT_FAIL_WRONG_BYTE, KROFT_FAIL_WRONG_BYTE), LOADED(5, 1, 1, 0, 0, KROFT_FAIL_WRONG_BYTE),
+      LOAD(6, 8, 1, 0, 0), LOADED(6, 1, 1, 0, KROFT_FAIL_WRONG_BYTE, KROFT_FAIL_WRONG_BYTE), LOADED(6, 1, 2, 0, 0, 0), OVER}},
     {"bytes that are not enabled stay", KROFT_ZEROS, {7, 8}, 0, 0,
      {STORE(1, 0, 2, 1, 2, 0xfffe, 0, 0), STORED(1, 0, 0), LOAD(1, 0, 2, 0, 0),
-      LOADED(1, 2, 1, 2, KROFT_WRONG_BYTE, KROFT_WRONG_BYTE), LOADED(1, 2, 7, 8, KROFT_WRONG_BYTE, KROFT_WRONG_BYTE),
+      LOADED(1, 2, 1, 2, KROFT_FAIL_WRONG_BYTE, KROFT_FAIL_WRONG_BYTE), LOADED(1, 2, 7, 8, KROFT_FAIL_WRONG_BYTE, KROFT_FAIL_WRONG_BYTE),
       LOADED(1, 2, 7, 2, 0, 0), OVER}},
     {"beyond the image there are zeros", KROFT_ZEROS, {7, 8}, 0, 0,
-     {LOAD(1, 1, 2, 0, 0), LOADED(1, 2, 8, 1, KROFT_WRONG_BYTE, KROFT_WRONG_BYTE), LOADED(1, 2, 8, 0, 0, 0), OVER}},
+     {LOAD(1, 1, 2, 0, 0), LOADED(1, 2, 8, 1, KROFT_FAIL_WRONG_BYTE, KROFT_FAIL_WRONG_BYTE), LOADED(1, 2, 8, 0, 0, 0), OVER}},
     {"beyond the image nothing is known", KROFT_UNKNOWN, {7, 8}, 0, 0,
-     {LOAD(1, 1, 2, 0, 0), LOADED(1, 2, 9, 1, KROFT_WRONG_BYTE, KROFT_WRONG_BYTE), LOADED(1, 2, 8, 1, 0, 0),
+     {LOAD(1, 1, 2, 0, 0), LOADED(1, 2, 9, 1, KROFT_FAIL_WRONG_BYTE, KROFT_FAIL_WRONG_BYTE), LOADED(1, 2, 8, 1, 0, 0),
       LOAD(1, 1, 2, 0, 0), LOADED(1, 2, 8, 2, 0, 0), OVER}},
     {"the ends of memory", KROFT_ZEROS, {0, 0}, 1, 1,
-     {LOAD(1, 0, 0, KROFT_BAD_RANGE, KROFT_BAD_RANGE), LOAD(1, 0, 65, KROFT_BAD_RANGE, KROFT_BAD_RANGE),
-      LOAD(1, LAST, 2, KROFT_BAD_RANGE, KROFT_BAD_RANGE), LOAD(1, LAST - 63, 64, 0, 0),
-      STORE(1, LAST, 0, 0, 0, 1, KROFT_BAD_RANGE, KROFT_BAD_RANGE),
-      STORE(1, LAST, 2, 1, 1, 3, KROFT_BAD_RANGE, KROFT_BAD_RANGE), STORE(1, LAST, 1, 1, 1, 3, 0, 0), OVER}},
+     {LOAD(1, 0, 0, KROFT_FAIL_BAD_RANGE, KROFT_FAIL_BAD_RANGE), LOAD(1, 0, 65, KROFT_FAIL_BAD_RANGE, KROFT_FAIL_BAD_RANGE),
+      LOAD(1, LAST, 2, KROFT_FAIL_BAD_RANGE, KROFT_FAIL_BAD_RANGE), LOAD(1, LAST - 63, 64, 0, 0),
+      STORE(1, LAST, 0, 0, 0, 1, KROFT_FAIL_BAD_RANGE, KROFT_FAIL_BAD_RANGE),
+      STORE(1, LAST, 2, 1, 1, 3, KROFT_FAIL_BAD_RANGE, KROFT_FAIL_BAD_RANGE), STORE(1, LAST, 1, 1, 1, 3, 0, 0), OVER}},
     {"numbers, of loads and of stores", KROFT_ZEROS, {0, 0}, 0, 0,
-     {LOADED(1, 1, 0, 0, KROFT_NOT_OPEN, KROFT_NOT_OPEN), STORED(1, KROFT_NOT_OPEN, KROFT_NOT_OPEN),
-      STORE(1, 0, 1, 5, 0, 2, KROFT_NO_BYTE_ENABLED, KROFT_NO_BYTE_ENABLED), STORE(1, 0, 1, 5, 0, 1, 0, 0),
-      STORE(1, 0, 1, 5, 0, 1, KROFT_NUMBER_IN_USE, KROFT_NUMBER_IN_USE), LOAD(1, 0, 1, 0, 0),
-      LOAD(1, 9, 1, KROFT_NUMBER_IN_USE, KROFT_NUMBER_IN_USE), STORED(1, 0, 0), STORED(1, KROFT_NOT_OPEN, KROFT_NOT_OPEN),
-      LOADED(1, 2, 5, 0, KROFT_WRONG_LENGTH, KROFT_WRONG_LENGTH), LOADED(1, 1, 5, 0, 0, 0),
-      LOADED(1, 1, 5, 0, KROFT_NOT_OPEN, KROFT_NOT_OPEN), OVER}},
+     {LOADED(1, 1, 0, 0, KROFT_FAIL_NOT_OPEN, KROFT_FAIL_NOT_OPEN), STORED(1, KROFT_FAIL_NOT_OPEN, KROFT_FAIL_NOT_OPEN),
+      STORE(1, 0, 1, 5, 0, 2, KROFT_FAIL_NO_BYTE_ENABLED, KROFT_FAIL_NO_BYTE_ENABLED), STORE(1, 0, 1, 5, 0, 1, 0, 0),
+      STORE(1, 0, 1, 5, 0, 1, KROFT_FAIL_NUMBER_IN_USE, KROFT_FAIL_NUMBER_IN_USE), LOAD(1, 0, 1, 0, 0),
+      LOAD(1, 9, 1, KROFT_FAIL_NUMBER_IN_USE, KROFT_FAIL_NUMBER_IN_USE), STORED(1, 0, 0), STORED(1, KROFT_FAIL_NOT_OPEN, KROFT_FAIL_NOT_OPEN),
+      LOADED(1, 2, 5, 0, KROFT_FAIL_WRONG_LENGTH, KROFT_FAIL_WRONG_LENGTH), LOADED(1, 1, 5, 0, 0, 0),
+      LOADED(1, 1, 5, 0, KROFT_FAIL_NOT_OPEN, KROFT_FAIL_NOT_OPEN), OVER}},
 };
 
 enum { STORIES = sizeof stories / sizeof *stories };
 
 static uint32_t tell(kroft_history *h, const step *it) {
     switch (it->kind) {
-        case 'L': return kroft_load_request(h, it->number, it->address, it->length);
-        case 'l': return kroft_load_response(h, it->number, it->bytes, it->length);
-        case 'S': return kroft_store_request(h, it->number, it->address, it->bytes, it->length, it->enables);
-        default: return kroft_store_response(h, it->number);
+        case 'L': return kroft_history_load_request(h, it->number, it->address, it->length);
+        case 'l': return kroft_history_load_response(h, it->number, it->bytes, it->length);
+        case 'S': return kroft_history_store_request(h, it->number, it->address, it->bytes, it->length, it->enables);
+        default: return kroft_history_store_response(h, it->number);
     }
 }
 
@@ -95,15 +96,15 @@ static void tell_story(const story *it, uint32_t law) {
     kroft_history h = KROFT_NO_HISTORY;
     uint64_t loads, stores;
     int k;
-    CHECK(kroft_history_open(&h, law, 1, it->rest, it->image, 2) == KROFT_DONE);
+    CHECK(kroft_history_open(&h, law, 1, it->rest, it->image, 2) == KROFT_OK);
     for (k = 0; it->steps[k].kind; k++) {
         uint32_t said = tell(&h, &it->steps[k]);
         CHECK(said == it->steps[k].says[law]);
         if (said != it->steps[k].says[law]) fprintf(stderr, "  %s: event %d, law %u: %u\n", it->name, k, law, said);
     }
-    CHECK(kroft_unanswered(&h, &loads, &stores) == KROFT_DONE);
+    CHECK(count_open(&h, &loads, &stores) == KROFT_OK);
     if (law == KROFT_REGULAR_LAW) CHECK(loads == it->loads && stores == it->stores);
-    CHECK(kroft_history_free(&h) == KROFT_DONE && h.open == 0);
+    CHECK(kroft_history_close(&h) == KROFT_OK && h.open == 0);
 }
 
 /* The row of a set has these bytes, and no others. */
@@ -118,29 +119,27 @@ static int is_set(const uint8_t *row, const uint8_t *bytes, size_t n) {
 static void sets(void) {
     static const uint8_t image[2] = {0x80, 0xff};
     static const uint8_t bytes[4] = {0x80, 0x00, 0xff, 0x07};
-    uint8_t row[KROFT_SET_BYTES + 1], before[KROFT_SET_BYTES + 1];
+    uint8_t row[KROFT_SET_BYTES], before[KROFT_SET_BYTES];
     kroft_history h = KROFT_NO_HISTORY;
     size_t k;
     memset(row, 0x33, sizeof row);
     memcpy(before, row, sizeof row);
-    CHECK(kroft_may_return(&h, 1, 0, row, KROFT_SET_BYTES) == KROFT_CLOSED);
-    CHECK(kroft_history_open(&h, KROFT_REGULAR_LAW, 1, KROFT_UNKNOWN, image, 2) == KROFT_DONE);
-    CHECK(kroft_may_return(&h, 1, 0, row, KROFT_SET_BYTES) == KROFT_NONE);
-    CHECK(kroft_load_request(&h, 1, 0, 3) == KROFT_LAWFUL);
-    CHECK(kroft_may_return(&h, 1, 3, row, KROFT_SET_BYTES) == KROFT_NONE);
-    CHECK(kroft_may_return(&h, 2, 0, row, KROFT_SET_BYTES) == KROFT_NONE);
-    CHECK(kroft_may_return(&h, 1, 0, row, KROFT_SET_BYTES - 1) == KROFT_NO_ROOM);
-    CHECK(kroft_may_return(&h, 1, 0, row, KROFT_SET_BYTES + 1) == KROFT_NO_ROOM);
+    CHECK(kroft_history_may_return(&h, 1, 0, row) == KROFT_FAIL_CLOSED);
+    CHECK(kroft_history_open(&h, KROFT_REGULAR_LAW, 1, KROFT_UNKNOWN, image, 2) == KROFT_OK);
+    CHECK(kroft_history_may_return(&h, 1, 0, row) == KROFT_ABSENT);
+    CHECK(kroft_history_load_request(&h, 1, 0, 3) == KROFT_OK);
+    CHECK(kroft_history_may_return(&h, 1, 3, row) == KROFT_ABSENT);
+    CHECK(kroft_history_may_return(&h, 2, 0, row) == KROFT_ABSENT);
     CHECK(memcmp(row, before, sizeof row) == 0);
     for (k = 0; k < 4; k++) {
-        CHECK(kroft_may_return(&h, 1, 0, row, KROFT_SET_BYTES) == KROFT_FOUND && is_set(row, bytes, k + 1));
-        if (k < 3) CHECK(kroft_store_request(&h, k, 0, bytes + k + 1, 1, 1) == KROFT_LAWFUL);
+        CHECK(kroft_history_may_return(&h, 1, 0, row) == KROFT_OK && is_set(row, bytes, k + 1));
+        if (k < 3) CHECK(kroft_history_store_request(&h, k, 0, bytes + k + 1, 1, 1) == KROFT_OK);
     }
-    CHECK(kroft_may_return(&h, 1, 1, row, KROFT_SET_BYTES) == KROFT_FOUND && is_set(row, image + 1, 1));
-    CHECK(kroft_may_return(&h, 1, 2, row, KROFT_SET_BYTES) == KROFT_FOUND);
+    CHECK(kroft_history_may_return(&h, 1, 1, row) == KROFT_OK && is_set(row, image + 1, 1));
+    CHECK(kroft_history_may_return(&h, 1, 2, row) == KROFT_OK);
     memset(before, 0xff, KROFT_SET_BYTES);
     CHECK(memcmp(row, before, KROFT_SET_BYTES) == 0);
-    CHECK(kroft_history_free(&h) == KROFT_DONE);
+    CHECK(kroft_history_close(&h) == KROFT_OK);
 }
 
 /* Which byte of an answer is wrong; nothing is told. */
@@ -148,19 +147,19 @@ static void places(void) {
     static const uint8_t bytes[4] = {1, 2, 3, 4};
     kroft_history h = KROFT_NO_HISTORY;
     uint64_t place = 77;
-    CHECK(kroft_wrong_place(&h, 1, bytes, 4, &place) == KROFT_CLOSED && place == 77);
-    CHECK(kroft_history_open(&h, KROFT_FLAT_LAW, 1, KROFT_ZEROS, bytes, 2) == KROFT_DONE);
-    CHECK(kroft_wrong_place(&h, 1, bytes, 4, &place) == KROFT_NOT_OPEN && place == 77);
-    CHECK(kroft_load_request(&h, 1, 0, 4) == KROFT_LAWFUL);
-    CHECK(kroft_wrong_place(&h, 1, bytes, 3, &place) == KROFT_WRONG_LENGTH && place == 77);
-    CHECK(kroft_wrong_place(&h, 1, bytes, 4, &place) == KROFT_WRONG_BYTE && place == 2);
-    CHECK(kroft_load_request(&h, 2, 0, 2) == KROFT_LAWFUL);
-    CHECK(kroft_wrong_place(&h, 2, bytes, 2, &place) == KROFT_LAWFUL && place == 2);
-    CHECK(kroft_wrong_place(&h, 2, bytes + 1, 2, &place) == KROFT_WRONG_BYTE && place == 0);
-    CHECK(kroft_load_response(&h, 2, bytes, 2) == KROFT_LAWFUL && kroft_history_free(&h) == KROFT_DONE);
+    CHECK(wrong_place(&h, 1, bytes, 4, &place) == KROFT_FAIL_CLOSED && place == 77);
+    CHECK(kroft_history_open(&h, KROFT_FLAT_LAW, 1, KROFT_ZEROS, bytes, 2) == KROFT_OK);
+    CHECK(wrong_place(&h, 1, bytes, 4, &place) == KROFT_FAIL_NOT_OPEN && place == 77);
+    CHECK(kroft_history_load_request(&h, 1, 0, 4) == KROFT_OK);
+    CHECK(wrong_place(&h, 1, bytes, 3, &place) == KROFT_FAIL_WRONG_LENGTH && place == 77);
+    CHECK(wrong_place(&h, 1, bytes, 4, &place) == KROFT_FAIL_WRONG_BYTE && place == 2);
+    CHECK(kroft_history_load_request(&h, 2, 0, 2) == KROFT_OK);
+    CHECK(wrong_place(&h, 2, bytes, 2, &place) == KROFT_OK && place == 2);
+    CHECK(wrong_place(&h, 2, bytes + 1, 2, &place) == KROFT_FAIL_WRONG_BYTE && place == 0);
+    CHECK(kroft_history_load_response(&h, 2, bytes, 2) == KROFT_OK && kroft_history_close(&h) == KROFT_OK);
 }
 
-static int is_operation(const kroft_operation *it, uint64_t number, uint64_t address, uint64_t length) {
+static int is_operation(const kroft_history_operation *it, uint64_t number, uint64_t address, uint64_t length) {
     return it->number == number && it->address == address && it->length == length;
 }
 
@@ -168,45 +167,47 @@ static int is_operation(const kroft_operation *it, uint64_t number, uint64_t add
 static void operations(void) {
     static const uint8_t bytes[4] = {0, 0, 0, 0};
     kroft_history h = KROFT_NO_HISTORY;
-    kroft_operation it = {5, 6, 7};
-    uint64_t loads = 8, stores = 9;
-    CHECK(kroft_unanswered(&h, &loads, &stores) == KROFT_CLOSED && loads == 8 && stores == 9);
-    CHECK(kroft_unanswered_load(&h, 0, &it) == KROFT_CLOSED && is_operation(&it, 5, 6, 7));
-    CHECK(kroft_unanswered_store(&h, 0, &it) == KROFT_CLOSED && is_operation(&it, 5, 6, 7));
-    CHECK(kroft_history_open(&h, KROFT_FLAT_LAW, 1, KROFT_ZEROS, bytes, 0) == KROFT_DONE);
-    CHECK(kroft_load_request(&h, LAST, 16, 4) == KROFT_LAWFUL);
-    CHECK(kroft_load_request(&h, 3, 32, 1) == KROFT_LAWFUL);
-    CHECK(kroft_load_request(&h, 4, 48, 2) == KROFT_LAWFUL);
-    CHECK(kroft_store_request(&h, 3, 64, bytes, 4, 1) == KROFT_LAWFUL);
-    CHECK(kroft_unanswered(&h, &loads, &stores) == KROFT_DONE && loads == 3 && stores == 1);
-    CHECK(kroft_unanswered_load(&h, 0, &it) == KROFT_FOUND && is_operation(&it, LAST, 16, 4));
-    CHECK(kroft_unanswered_load(&h, 2, &it) == KROFT_FOUND && is_operation(&it, 4, 48, 2));
-    CHECK(kroft_unanswered_store(&h, 0, &it) == KROFT_FOUND && is_operation(&it, 3, 64, 4));
-    CHECK(kroft_unanswered_store(&h, 1, &it) == KROFT_NONE && is_operation(&it, 3, 64, 4));
-    CHECK(kroft_load_response(&h, 3, bytes, 1) == KROFT_LAWFUL);
-    CHECK(kroft_unanswered_load(&h, 1, &it) == KROFT_FOUND && is_operation(&it, 4, 48, 2));
-    CHECK(kroft_unanswered_load(&h, 2, &it) == KROFT_NONE);
-    CHECK(kroft_store_response(&h, 3) == KROFT_LAWFUL);
-    CHECK(kroft_unanswered(&h, &loads, &stores) == KROFT_DONE && loads == 2 && stores == 0);
-    CHECK(kroft_history_free(&h) == KROFT_DONE);
+    kroft_history_operation it = {5, 6, 7};
+    uint64_t loads = 8, stores = 9, count = 10;
+    CHECK(count_open(&h, &loads, &stores) == KROFT_FAIL_CLOSED && loads == 8 && stores == 9);
+    CHECK(kroft_history_unanswered(&h, KROFT_LOAD, 0, &it, &count) == KROFT_FAIL_CLOSED && is_operation(&it, 5, 6, 7));
+    CHECK(kroft_history_unanswered(&h, KROFT_STORE, 0, &it, &count) == KROFT_FAIL_CLOSED && is_operation(&it, 5, 6, 7));
+    CHECK(count == 10);
+    CHECK(kroft_history_open(&h, KROFT_FLAT_LAW, 1, KROFT_ZEROS, NULL, 0) == KROFT_OK);
+    CHECK(kroft_history_load_request(&h, LAST, 16, 4) == KROFT_OK);
+    CHECK(kroft_history_load_request(&h, 3, 32, 1) == KROFT_OK);
+    CHECK(kroft_history_load_request(&h, 4, 48, 2) == KROFT_OK);
+    CHECK(kroft_history_store_request(&h, 3, 64, bytes, 4, 1) == KROFT_OK);
+    CHECK(count_open(&h, &loads, &stores) == KROFT_OK && loads == 3 && stores == 1);
+    CHECK(kroft_history_unanswered(&h, KROFT_LOAD, 0, &it, &count) == KROFT_OK && is_operation(&it, LAST, 16, 4));
+    CHECK(kroft_history_unanswered(&h, KROFT_LOAD, 2, &it, &count) == KROFT_OK && is_operation(&it, 4, 48, 2));
+    CHECK(kroft_history_unanswered(&h, KROFT_STORE, 0, &it, &count) == KROFT_OK && is_operation(&it, 3, 64, 4));
+    CHECK(kroft_history_unanswered(&h, KROFT_STORE, 1, &it, &count) == KROFT_ABSENT && is_operation(&it, 3, 64, 4));
+    CHECK(kroft_history_load_response(&h, 3, bytes, 1) == KROFT_OK);
+    CHECK(kroft_history_unanswered(&h, KROFT_LOAD, 1, &it, &count) == KROFT_OK && is_operation(&it, 4, 48, 2));
+    CHECK(kroft_history_unanswered(&h, KROFT_LOAD, 2, &it, &count) == KROFT_ABSENT && count == 2);
+    CHECK(kroft_history_unanswered(&h, KROFT_PREFETCH, 0, &it, &count) == KROFT_ABSENT && count == 0 && is_operation(&it, 4, 48, 2));
+    CHECK(kroft_history_store_response(&h, 3) == KROFT_OK);
+    CHECK(count_open(&h, &loads, &stores) == KROFT_OK && loads == 2 && stores == 0);
+    CHECK(kroft_history_close(&h) == KROFT_OK);
 }
 
 /* What is opened, in the order in which faults are looked for; and a closed handle. */
 static void handles(void) {
     static const uint8_t bytes[1] = {1};
     kroft_history h = KROFT_NO_HISTORY;
-    CHECK(kroft_history_free(&h) == KROFT_CLOSED);
-    CHECK(kroft_load_request(&h, 1, 0, 1) == KROFT_CLOSED && kroft_load_response(&h, 1, bytes, 1) == KROFT_CLOSED);
-    CHECK(kroft_store_request(&h, 1, 0, bytes, 1, 1) == KROFT_CLOSED && kroft_store_response(&h, 1) == KROFT_CLOSED);
-    CHECK(kroft_history_open(&h, 3, 1, KROFT_ZEROS, bytes, 1) == KROFT_NO_LAW);
-    CHECK(kroft_history_open(&h, KROFT_FLAT_LAW, 1, 2, bytes, 1) == KROFT_NO_LAW);
-    CHECK(kroft_history_open(&h, KROFT_FLAT_LAW, 0, KROFT_ZEROS, bytes, 1) == KROFT_NO_LAW);
-    CHECK(kroft_history_open(&h, KROFT_REGULAR_LAW, 2, KROFT_ZEROS, bytes, 1) == KROFT_NO_LAW && h.open == 0);
-    CHECK(kroft_history_open(&h, KROFT_REGULAR_LAW, 1, KROFT_ZEROS, bytes, 1) == KROFT_DONE && h.open != 0);
-    CHECK(kroft_load_request(&h, 1, 0, 1) == KROFT_LAWFUL);
-    CHECK(kroft_history_open(&h, 9, 1, KROFT_ZEROS, bytes, 0) == KROFT_OPEN_ALREADY);
-    CHECK(kroft_load_response(&h, 1, bytes, 1) == KROFT_LAWFUL);
-    CHECK(kroft_history_free(&h) == KROFT_DONE && kroft_history_free(&h) == KROFT_CLOSED);
+    CHECK(kroft_history_close(&h) == KROFT_FAIL_CLOSED);
+    CHECK(kroft_history_load_request(&h, 1, 0, 1) == KROFT_FAIL_CLOSED && kroft_history_load_response(&h, 1, bytes, 1) == KROFT_FAIL_CLOSED);
+    CHECK(kroft_history_store_request(&h, 1, 0, bytes, 1, 1) == KROFT_FAIL_CLOSED && kroft_history_store_response(&h, 1) == KROFT_FAIL_CLOSED);
+    CHECK(kroft_history_open(&h, 3, 1, KROFT_ZEROS, bytes, 1) == KROFT_FAIL_NO_LAW);
+    CHECK(kroft_history_open(&h, KROFT_FLAT_LAW, 1, 2, bytes, 1) == KROFT_FAIL_NO_LAW);
+    CHECK(kroft_history_open(&h, KROFT_FLAT_LAW, 0, KROFT_ZEROS, bytes, 1) == KROFT_FAIL_NO_LAW);
+    CHECK(kroft_history_open(&h, KROFT_REGULAR_LAW, 2, KROFT_ZEROS, bytes, 1) == KROFT_FAIL_NO_LAW && h.open == 0);
+    CHECK(kroft_history_open(&h, KROFT_REGULAR_LAW, 1, KROFT_ZEROS, bytes, 1) == KROFT_OK && h.open != 0);
+    CHECK(kroft_history_load_request(&h, 1, 0, 1) == KROFT_OK);
+    CHECK(kroft_history_open(&h, 9, 1, KROFT_ZEROS, bytes, 0) == KROFT_FAIL_OPEN_ALREADY);
+    CHECK(kroft_history_load_response(&h, 1, bytes, 1) == KROFT_OK);
+    CHECK(kroft_history_close(&h) == KROFT_OK && kroft_history_close(&h) == KROFT_FAIL_CLOSED);
 }
 
 int main(void) {

@@ -13,6 +13,7 @@
    unit all states are kept that it may be in, with the open stores that had their moment and what the open loads got at theirs;
    between any two events any open operation may have its moment. */
 #include "kroft.h"
+#include "words.h"
 
 #include <algorithm>
 #include <array>
@@ -238,10 +239,10 @@ public:
         int own = turned == 5 ? 1 : static_cast<int>(size);
         for (int first = 0; law == KROFT_ATOMIC_LAW && first < unit_at + 3; first += own) units.emplace_back(history, first, own);
         if (kroft_history_open(&handle, law, size, history.is_unknown ? KROFT_UNKNOWN : KROFT_ZEROS, history.image.data(),
-                               history.image.size()) != KROFT_DONE)
+                               history.image.size()) != KROFT_OK)
             std::abort();
     }
-    ~Run() { kroft_history_free(&handle); }
+    ~Run() { kroft_history_close(&handle); }
     Run(const Run &) = delete;
     Run &operator=(const Run &) = delete;
 
@@ -294,10 +295,10 @@ private:
             it.enables = 1 + below((1 << it.length) - 1);
             for (int k = 0; k < it.length; k++)
                 if (writes(it, it.address + k)) history.flat[it.address + k] = it.bytes[k];
-            expect(kroft_store_request(&handle, it.number, it.address, bytes, it.length, it.enables), KROFT_LAWFUL, "a store's request");
+            expect(kroft_history_store_request(&handle, it.number, it.address, bytes, it.length, it.enables), KROFT_OK, "a store's request");
         } else {
             it.standing.assign(history.flat.begin() + it.address, history.flat.begin() + it.address + it.length);
-            expect(kroft_load_request(&handle, it.number, it.address, it.length), KROFT_LAWFUL, "a load's request");
+            expect(kroft_history_load_request(&handle, it.number, it.address, it.length), KROFT_OK, "a load's request");
         }
         history.operations.push_back(it);
         history.events++;
@@ -314,10 +315,10 @@ private:
     /* A response, right or wrong. */
     void answer(size_t which) {
         Operation &it = history.operations[which];
-        uint32_t wanted = KROFT_LAWFUL, said;
+        uint32_t wanted = KROFT_OK, said;
         uint8_t bytes[3] = {0, 0, 0};
         if (it.is_store) {
-            said = kroft_store_response(&handle, it.number);
+            said = kroft_history_store_response(&handle, it.number);
         } else {
             uint64_t wrong = 0, place = 9; /* the first that it may not return */
             for (int k = 0; k < it.length; k++) {
@@ -326,23 +327,23 @@ private:
                 if (below(4) != 0) /* mostly one that it may return */
                     while (!may[byte]) byte = (byte + 1) % 256;
                 bytes[k] = static_cast<uint8_t>(byte);
-                if (!may[byte] && wanted == KROFT_LAWFUL) {
-                    wanted = KROFT_WRONG_BYTE;
+                if (!may[byte] && wanted == KROFT_OK) {
+                    wanted = KROFT_FAIL_WRONG_BYTE;
                     wrong = k;
                 }
             }
             if (law == KROFT_ATOMIC_LAW) {
                 int place_of = atomic_wrong(it, bytes);
-                wanted = place_of < 0 ? KROFT_LAWFUL : KROFT_WRONG_BYTE;
+                wanted = place_of < 0 ? KROFT_OK : KROFT_FAIL_WRONG_BYTE;
                 wrong = place_of < 0 ? 0 : place_of;
             }
-            expect(kroft_wrong_place(&handle, it.number, bytes, it.length, &place), wanted, "a response that isn't told");
-            expect(static_cast<uint32_t>(place), static_cast<uint32_t>(wanted == KROFT_LAWFUL ? 9 : wrong), "the place of a wrong byte");
-            said = kroft_load_response(&handle, it.number, bytes, it.length);
-            (wanted == KROFT_LAWFUL ? answers : refusals)++;
+            expect(wrong_place(&handle, it.number, bytes, it.length, &place), wanted, "a response that isn't taken");
+            expect(static_cast<uint32_t>(place), static_cast<uint32_t>(wanted == KROFT_OK ? 9 : wrong), "the place of a wrong byte");
+            said = kroft_history_load_response(&handle, it.number, bytes, it.length);
+            (wanted == KROFT_OK ? answers : refusals)++;
         }
         expect(said, wanted, "a response");
-        if (said != KROFT_LAWFUL) return;
+        if (said != KROFT_OK) return;
         for (Unit &unit : units) unit.answer(it, bytes);
         it.answered = history.events;
         history.events++;
@@ -353,7 +354,7 @@ private:
             if (it.is_store || it.answered != never) continue;
             for (int address = it.address; address < it.address + it.length && is_well; address++) {
                 uint8_t row[KROFT_SET_BYTES];
-                expect(kroft_may_return(&handle, it.number, address, row, sizeof row), KROFT_FOUND, "a set is asked");
+                expect(kroft_history_may_return(&handle, it.number, address, row), KROFT_OK, "a set is asked");
                 Bytes may = set_of(law, history, units, it, address);
                 for (int byte = 0; byte < 256 && is_well; byte++)
                     expect(row[byte / 8] >> byte % 8 & 1, may[byte], "a set");

@@ -6,10 +6,9 @@ namespace {
 int nulls = 0; /* the bytes that the library is given and that are none */
 }
 #define LOOKED_AT(bytes, call) (nulls += (bytes) == nullptr, call)
-#define kroft_load_response(history, number, bytes, n) LOOKED_AT(bytes, kroft_load_response(history, number, bytes, n))
-#define kroft_store_request(history, number, at, bytes, n, on) LOOKED_AT(bytes, kroft_store_request(history, number, at, bytes, n, on))
-#define kroft_wrong_place(history, number, bytes, n, place) LOOKED_AT(bytes, kroft_wrong_place(history, number, bytes, n, place))
-#define kroft_why(history, number, bytes, n, reason) LOOKED_AT(bytes, kroft_why(history, number, bytes, n, reason))
+#define kroft_history_load_response(history, number, bytes, n) LOOKED_AT(bytes, kroft_history_load_response(history, number, bytes, n))
+#define kroft_history_store_request(history, number, at, bytes, n, on) LOOKED_AT(bytes, kroft_history_store_request(history, number, at, bytes, n, on))
+#define kroft_history_why(history, number, bytes, n, reason) LOOKED_AT(bytes, kroft_history_why(history, number, bytes, n, reason))
 #include "../kroft.hpp"
 
 #include <cstdio>
@@ -37,7 +36,7 @@ void a_load_beside_a_store() {
         check(!history.may_return(1, 0x1002), "no such byte");
         kroft::HistoryVerdict said = history.load_response(1, wrong, 2);
         check(history.wrong_place(1, wrong, 2) == 1u && !history.wrong_place(1, right, 2), "the place of a wrong byte");
-        check(!said && said.fault() == KROFT_WRONG_BYTE, "a wrong byte");
+        check(!said && said.fault() == KROFT_FAIL_WRONG_BYTE, "a wrong byte");
         check(history.open_loads().size() == 1 && history.open_loads()[0].address == 0x1000, "an open load");
         check(bool(history.load_response(1, right, 2)), "the right bytes");
         kroft::History moved(std::move(history));
@@ -69,8 +68,8 @@ void no_bytes() {
     const std::vector<uint8_t> empty;
     kroft::History history;
     check(bool(history.load_request(1, 0x1000, 1)), "a load");
-    check(history.load_response(1, empty.data(), 0).fault() == KROFT_WRONG_LENGTH, "an answer without a byte");
-    check(history.store_request(1, 0x1000, nullptr, 0).fault() == KROFT_BAD_RANGE, "a store without a byte");
+    check(history.load_response(1, empty.data(), 0).fault() == KROFT_FAIL_WRONG_LENGTH, "an answer without a byte");
+    check(history.store_request(1, 0x1000, nullptr, 0).fault() == KROFT_FAIL_BAD_RANGE, "a store without a byte");
     check(!history.wrong_place(1, nullptr, 0) && !history.why(1, nullptr, 0), "no wrong byte");
     check(nulls == 0, "no null comes to the library");
 }
@@ -83,7 +82,7 @@ void new_then_old() {
         bool is_atomic = law == kroft::Law::Atomic;
         check(history.store_request(1, 0x13, later, 1) && history.load_request(1, 0x13, 1), "requests");
         check(history.load_response(1, later, 1) && history.load_request(2, 0x13, 1), "new");
-        check(history.load_response(2, old, 1).fault() == (is_atomic ? KROFT_WRONG_BYTE : KROFT_LAWFUL), "then old");
+        check(history.load_response(2, old, 1).fault() == (is_atomic ? KROFT_FAIL_WRONG_BYTE : KROFT_OK), "then old");
         check(history.open_loads().size() == (is_atomic ? 1u : 0u), "a load that is still open");
     }
     const uint8_t ones[2] = {0x11, 0x11}, twos[2] = {0x22, 0x22}, torn[2] = {0x11, 0x22};
@@ -103,10 +102,10 @@ void reasons() {
     check(history.store_request(22, 8, second, 1) && history.store_response(22), "another behind it");
     check(bool(history.load_request(1, 8, 1)), "a load behind both");
     auto why = history.why(1, first, 1);
-    check(why && why->reason == KROFT_STORE_OVERWRITTEN && why->stored == 21 && why->stored_at == 0, "who stored it");
+    check(why && why->reason == KROFT_REASON_STORE_OVERWRITTEN && why->stored == 21 && why->stored_at == 0, "who stored it");
     check(why && why->overwritten_by == 22 && why->overwritten_at == 2, "and who overwrote it");
     why = history.why(1, other, 1);
-    check(why && why->reason == KROFT_NEVER_THERE && why->place == 0, "a byte of nowhere");
+    check(why && why->reason == KROFT_REASON_NEVER_THERE && why->place == 0, "a byte of nowhere");
     check(!history.why(1, second, 1) && !history.why(2, first, 1), "no byte is wrong");
 }
 

@@ -172,9 +172,9 @@ void rounds_one_at_a_time() {
 
 void what_is_refused() {
     kroft_shape shape = kroft::USUAL_SHAPE;
-    for (auto [number, fault] : {std::pair<uint32_t, uint32_t>{0, KROFT_BAD_WORDS}, {0xffffffff, KROFT_BAD_WORDS}, {6, KROFT_BAD_WORDS}}) {
+    for (auto [number, fault] : {std::pair<uint32_t, uint32_t>{0, KROFT_FAIL_BAD_WORDS}, {0xffffffff, KROFT_FAIL_BAD_WORDS}, {6, KROFT_FAIL_BAD_WORDS}}) {
         shape.words = number;
-        uint32_t told = KROFT_DONE;
+        uint32_t told = KROFT_OK;
         try {
             kroft::Machine machine(shape);
         } catch (const kroft::BadShape &refused) {
@@ -182,13 +182,13 @@ void what_is_refused() {
         }
         check(told == fault, "a memory that there isn't");
     }
-    uint32_t told = KROFT_DONE;
+    uint32_t told = KROFT_OK;
     try {
         kroft::Machine machine(kroft::USUAL_SHAPE, std::vector<kroft_word>(3));
     } catch (const kroft::BadShape &refused) {
         told = refused.fault;
     }
-    check(told == KROFT_BAD_IMAGE, "an image of another length");
+    check(told == KROFT_FAIL_BAD_IMAGE, "an image of another length");
     kroft::Machine machine;
     kroft::Machine moved(std::move(machine));
     check(moved.load(1, 0).kind == KROFT_ACCEPTED && moved.weight() > 0, "moved");

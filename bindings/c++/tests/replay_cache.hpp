@@ -21,6 +21,15 @@ enum class Bug {
     StaleRefill,    // a miss on a line that is on its way back to memory is filled from what memory still has
     LostAnswer,     // each 5,000th load gets no answer
     TwiceAnswered,  // each 5,000th load gets its answer twice
+    StaysClean,     // a store that hits leaves its line clean, so that an eviction drops it
+    ShortTag,       // the lowest bit of the tag isn't compared: two lines of a set are taken for one
+    LateVictim,     // a victim's bytes are taken when they reach memory, and not when it is evicted
+    OldLast,        // of two write-backs of one line the older bytes reach memory last
+    FillLast,       // a line that comes takes the place of what the stores that waited for it wrote
+    FirstOffset,    // a load that joins a miss gets its bytes from where the first request of the miss lies
+    FifthDropped,   // the fifth request that waits for a line writes nothing
+    MissWritesAll,  // a store that waited for its line writes all its bytes, whatever it enables
+    NoForwarding,   // a load that hits in the cycle behind a store that hits gets the line as it was before
 };
 
 struct Request {
@@ -49,8 +58,8 @@ public:
         unsigned parts = lines[0] == lines[1] ? 1 : 2, misses = 0;
         for (unsigned i = 0; i < parts; i++) {
             const Frame &frame = frames[lines[i] % FRAMES];
-            if (frame.pending && frame.line != lines[i]) return false;
-            misses += !frame.holds(lines[i]);
+            if (frame.pending && !is_in(frame, lines[i])) return false;
+            misses += !is_in(frame, lines[i]);
         }
         if (misses > REGISTERS - registers.size()) return false;
         unsigned slot = new_slot(request, parts);
@@ -62,8 +71,11 @@ public:
     std::optional<Answer> tick() {
         now++;
         if (!write_backs.empty() && write_backs.front().ready <= now) {
-            memory[write_backs.front().line] = write_backs.front().bytes;
+            WriteBack back = write_backs.front();
             write_backs.pop_front();
+            for (WriteBack &later : write_backs)
+                if (bug == Bug::OldLast && later.line == back.line) std::swap(later.bytes, back.bytes);
+            memory[back.line] = bug == Bug::LateVictim ? frames[back.line % FRAMES].bytes : back.bytes;
         }
         for (size_t i = 0; i < registers.size(); i++)
             if (registers[i].ready <= now) {
@@ -89,7 +101,6 @@ private:
         bool valid = false, pending = false, dirty = false;
         uint64_t line = 0;
         Line bytes{};
-        bool holds(uint64_t wanted) const { return valid && line == wanted; }
     };
     struct Register {
         uint64_t line, ready;
@@ -104,6 +115,11 @@ private:
         unsigned parts = 0; // that haven't given theirs
         Answer answer;
     };
+
+    bool is_in(const Frame &frame, uint64_t line) const {
+        uint64_t compared = bug == Bug::ShortTag ? 2 * FRAMES : 1; // (a frame's lines have its index)
+        return frame.valid && frame.line / compared == line / compared;
+    }
 
     unsigned new_slot(const Request &request, unsigned parts) {
         unsigned slot;
@@ -123,15 +139,15 @@ private:
 
     void access(uint64_t line, unsigned slot) {
         Frame &frame = frames[line % FRAMES];
-        if (frame.holds(line) && !frame.pending) {
+        if (is_in(frame, line) && !frame.pending) {
             hits_under_miss += !registers.empty();
             perform(frame, slot, true);
             return;
         }
-        if (frame.holds(line)) {
+        if (is_in(frame, line)) {
             secondary_misses++;
             for (Register &each : registers)
-                if (each.line == line) each.waiting.push_back(slot);
+                if (each.line == frame.line) each.waiting.push_back(slot);
             return;
         }
         if (frame.valid && frame.dirty) write_backs.push_back({frame.line, now + 40, frame.bytes});
@@ -155,21 +171,37 @@ private:
                 if (!slots[slot].request.is_store) perform(frame, slot, false);
             return;
         }
-        for (unsigned slot : due.waiting) perform(frame, slot, false);
+        const Line came = frame.bytes;
+        for (size_t i = 0; i < due.waiting.size(); i++) {
+            Request &request = slots[due.waiting[i]].request;
+            if (bug == Bug::FifthDropped && i == 4) request.enables = 0;
+            if (bug == Bug::MissWritesAll && request.is_store) request.enables = ~uint64_t{0};
+            uint64_t first = slots[due.waiting[0]].request.address;
+            if (bug == Bug::FirstOffset && !request.is_store && first % LINE + request.size <= LINE) request.address = first;
+            perform(frame, due.waiting[i], false);
+        }
+        if (bug == Bug::FillLast) frame.bytes = came;
     }
 
     // The part of an access that lies in this line.
     void perform(Frame &frame, unsigned number, bool hit) {
         Slot &slot = slots[number];
         Request &request = slot.request;
+        bool is_late = bug == Bug::NoForwarding && hit && stored_in == frame.line && stored_at + 1 == now;
+        const Line seen = is_late ? before_store : frame.bytes;
+        if (hit && request.is_store) {
+            before_store = frame.bytes;
+            stored_in = frame.line;
+            stored_at = now;
+        }
         for (unsigned i = 0; i < request.size; i++) {
             uint64_t at = request.address + i;
-            if (at / LINE != frame.line) continue;
+            if (at / LINE % FRAMES != frame.line % FRAMES) continue;
             bool whole = bug == Bug::WholeWords && hit && touches_word(request, i);
-            if (!request.is_store) slot.answer.data[i] = frame.bytes[at % LINE];
+            if (!request.is_store) slot.answer.data[i] = seen[at % LINE];
             else if (request.has(i) || whole) frame.bytes[at % LINE] = request.data[i];
         }
-        frame.dirty |= request.is_store;
+        frame.dirty |= request.is_store && !(bug == Bug::StaysClean && hit);
         if (--slot.parts == 0) give(number);
     }
 
@@ -189,7 +221,8 @@ private:
     }
 
     Bug bug;
-    uint64_t now = 0, loads = 0;
+    uint64_t now = 0, loads = 0, stored_in = 0, stored_at = 0; // where and when the last store hit
+    Line before_store{};
     std::array<Frame, FRAMES> frames;
     std::vector<Register> registers;
     std::deque<WriteBack> write_backs;

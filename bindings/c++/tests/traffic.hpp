@@ -15,13 +15,13 @@ public:
     static constexpr uint64_t BASE = 0xffff'8000'0000'1000;
 
     explicit Traffic(uint64_t seed) : random(seed), planned(PLAN, seed) {}
-    Traffic(uint64_t seed, const kroft_plan &plan) : random(seed), planned(plan, seed), is_mixed(false) {}
+    Traffic(uint64_t seed, const kroft_traffic_plan &plan) : random(seed), planned(plan, seed), is_mixed(false) {}
 
     Request next() { return ++count / 16 % 2 || !is_mixed ? by_plan() : anywhere(); }
 
 private:
     // (three lines for each of eight sets)
-    static constexpr kroft_plan PLAN = {BASE, 24, 64, 64, 8, 64, 4, 4, 0, 128, 96};
+    static constexpr kroft_traffic_plan PLAN = {BASE, 24, 64, 64, 8, 64, 4, 4, 0, 128, 96, 0, 0};
     std::mt19937_64 random;
     kroft::Traffic planned;
     bool is_mixed = true;

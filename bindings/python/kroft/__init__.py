@@ -61,7 +61,7 @@ from .machine import (
 )
 from .traffic import Traffic, TrafficAccess
 
-__version__ = "0.1.0"
+__version__ = "0.2.0"
 
 __all__ = [
     "Accepted",

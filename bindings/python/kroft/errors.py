@@ -50,15 +50,18 @@ class Refused(KroftError):
 class ShapeFault(enum.IntEnum):
     """The first number of a shape that opens no machine, or what else keeps it from that. (Too little memory is a MemoryError.)"""
 
-    WORDS = 5
-    SETS = 6
-    BANKS = 7
-    BANK_QUEUE = 8
-    WRITE_QUEUE = 9
-    REPLIES = 10
-    IMAGE = 13  #: the image hasn't as many words as memory
-    NOT_LISTED = 100  #: one of ways, block_words, regs and depth is out of its range
     OPEN_ALREADY = 102
+    BLOCK_WORDS = 111
+    WAYS = 112
+    REGS = 113
+    DEPTH = 114
+    WORDS = 115
+    SETS = 116
+    BANKS = 117
+    BANK_QUEUE = 118
+    WRITE_QUEUE = 119
+    REPLIES = 120
+    IMAGE = 121  #: the image hasn't as many words as memory
 
 
 class BadShape(KroftError, ValueError):

@@ -10,8 +10,9 @@ from .data import Buffer, bytes_of
 from .errors import Access, Closed, KroftError, Unanswered
 from .library import Handle, OperationRow, ReasonRow, library
 
-_LAWFUL, _FOUND, _CLOSED, _WRONG_BYTE, _OUT_OF_MEMORY, _NO_LAW, _UNDECIDED = 0, 1, 3, 16, 101, 103, 105
-_FIRST_OVERWRITTEN, _STORE_OVERWRITTEN = 2, 3
+_OK, _CLOSED, _OUT_OF_MEMORY, _UNDECIDED, _NO_UNITS, _WRONG_BYTE = 0, 100, 101, 105, 108, 156
+_FIRST_OVERWRITTEN, _STORE_OVERWRITTEN = 162, 163
+_LOAD, _STORE = 0, 1
 _SET_BYTES = 32
 
 
@@ -26,12 +27,12 @@ class Law(enum.IntEnum):
 class HistoryFault(enum.IntEnum):
     """Why a history with an event is none of its law."""
 
-    BAD_RANGE = 11  #: the operation has no byte or more than 64, or runs beyond the last address
-    NO_BYTE_ENABLED = 12  #: no byte of the store is enabled
-    NUMBER_IN_USE = 13  #: an operation of this kind is open under the number
-    NOT_OPEN = 14  #: no operation of this kind is open under the number
-    WRONG_LENGTH = 15  #: the load was requested with another length
-    WRONG_BYTE = 16  #: the load may not return one of the bytes
+    BAD_RANGE = 151  #: the operation has no byte or more than 64, or runs beyond the last address
+    NO_BYTE_ENABLED = 152  #: no byte of the store is enabled
+    NUMBER_IN_USE = 153  #: an operation of this kind is open under the number
+    NOT_OPEN = 154  #: no operation of this kind is open under the number
+    WRONG_LENGTH = 155  #: the load was requested with another length
+    WRONG_BYTE = 156  #: the load may not return one of the bytes
     TOO_LONG = 104  #: as many events as can be counted were taken
 
 
@@ -54,7 +55,7 @@ class NotLawful(KroftError):
         super().__init__(text)
         self.cause = cause
         self.name = cause.name
-        self.place = place  #: WRONG_BYTE: the place of the first wrong byte in the response; by the atomic law, in the wrong unit, as `kroft_why` has it
+        self.place = place  #: WRONG_BYTE: the place of the first wrong byte in the response; by the atomic law, in the wrong unit, as `kroft_history_why` has it
         self.stored: Optional[SeenStore] = None  #: WRONG_BYTE: the last store that put the byte there, if one is known
         self.overwritten_by: Optional[SeenStore] = None  #: and the last one that overwrote it before the load's request
         self.may = may  #: WRONG_BYTE: what the load may return there; None if the atomic law can't tell
@@ -105,16 +106,16 @@ class History:
         if self.unit not in ((1, 2, 4, 8) if self.law == Law.ATOMIC else (1,)):
             raise ValueError(f"no unit of the {self.law.name.lower()} law: {self.unit}")
         data = bytes_of(image)
-        self._handle = Handle(library(), "kroft_history_free")
+        self._handle = Handle(library(), "kroft_history_close")
         status = self._handle.call("kroft_history_open", self.law, self.unit, int(unknown), c.c_char_p(data), len(data))
         if status == _OUT_OF_MEMORY:
             raise MemoryError("no history was opened")
-        assert status == _LAWFUL, status
+        assert status == _OK, status
 
     def load_request(self, number: SupportsIndex, address: SupportsIndex, length: SupportsIndex) -> None:
         """A load of `length` bytes from `address` on is requested."""
         number, address, length = _word(number), _word(address), _word(length)
-        self._tell(f"load {number} of {length} bytes at {address:#x}", "kroft_load_request", number, address, length)
+        self._tell(f"load {number} of {length} bytes at {address:#x}", "kroft_history_load_request", number, address, length)
 
     def load_response(self, number: SupportsIndex, data: Buffer) -> None:
         """The load that is open under the number is answered with these bytes."""
@@ -122,7 +123,7 @@ class History:
         event = f"load {number} returns {got.hex()}"
         with self._handle.lock:
             try:
-                self._tell(event, "kroft_load_response", number, c.c_char_p(got), len(got))
+                self._tell(event, "kroft_history_load_response", number, c.c_char_p(got), len(got))
             except NotLawful as error:
                 if error.cause != HistoryFault.WRONG_BYTE:
                     raise
@@ -135,24 +136,24 @@ class History:
         number, address, stored = _word(number), _word(address), bytes_of(data)
         mask = 2**64 - 1 if enables is None else _word(enables)
         event = f"store {number} of {len(stored)} bytes at {address:#x}"
-        self._tell(event, "kroft_store_request", number, address, c.c_char_p(stored), len(stored), mask)
+        self._tell(event, "kroft_history_store_request", number, address, c.c_char_p(stored), len(stored), mask)
 
     def store_response(self, number: SupportsIndex) -> None:
         """The store that is open under the number is answered."""
         number = _word(number)
-        self._tell(f"store {number} is answered", "kroft_store_response", number)
+        self._tell(f"store {number} is answered", "kroft_history_store_response", number)
 
     def may_return(self, number: SupportsIndex, address: SupportsIndex) -> Optional[FrozenSet[int]]:
         """What the load that is open under a number may return for the byte at an address, if it is answered now; None if no
         such load asks for that byte. By the atomic law it is said of this byte alone, and may be `Undecided`."""
         number, address = _word(number), _word(address)
         row = c.create_string_buffer(_SET_BYTES)
-        status = self._call("kroft_may_return", number, address, row, _SET_BYTES)
+        status = self._call("kroft_history_may_return", number, address, row)
         if status == _OUT_OF_MEMORY:
             raise MemoryError(f"load {number} at {address:#x}")
         if status == _UNDECIDED:
             raise Undecided(f"load {number} at {address:#x}")
-        if status != _FOUND:
+        if status != _OK:
             return None
         bits = int.from_bytes(row.raw, "little")
         return frozenset(byte for byte in range(256) if bits >> byte & 1)
@@ -161,19 +162,19 @@ class History:
         """Forgets the unit in which the byte at an address lies, of a history by the atomic law. From there on its bytes are
         unknown: whatever a load returns there is allowed. The other units are judged on."""
         address = _word(address)
-        status = self._call("kroft_forget", address)
+        status = self._call("kroft_history_forget", address)
         if status == _OUT_OF_MEMORY:
             raise MemoryError(f"the unit with {address:#x} was not forgotten")
-        if status == _NO_LAW:
+        if status == _NO_UNITS:
             raise ValueError(f"the {self.law.name.lower()} law has no units")
 
     def open_loads(self) -> List[Operation]:
         """The loads that are open, in the order of their requests."""
-        return self._operations("kroft_unanswered_load")
+        return self._operations(_LOAD)
 
     def open_stores(self) -> List[Operation]:
         """The stores that are open, in the order of their requests."""
-        return self._operations("kroft_unanswered_store")
+        return self._operations(_STORE)
 
     def close(self) -> None:
         """Gives the memory back. Every later call raises `Closed`."""
@@ -205,16 +206,16 @@ class History:
         with self._handle.lock:
             status = self._call(name, *arguments)
             if status == _UNDECIDED:
-                self._call("kroft_undecided", c.byref(first))
+                self._call("kroft_history_undecided", c.byref(first))
                 raise Undecided(event, first.value)
         if status == _OUT_OF_MEMORY:
             raise MemoryError(event)
-        if status != _LAWFUL:
+        if status != _OK:
             raise NotLawful(HistoryFault(status), event)
 
     def _with_place(self, number: int, got: bytes, event: str) -> NotLawful:
         row = ReasonRow()
-        if self._call("kroft_why", number, c.c_char_p(got), len(got), c.byref(row)) != _WRONG_BYTE:
+        if self._call("kroft_history_why", number, c.c_char_p(got), len(got), c.byref(row)) != _WRONG_BYTE:
             return NotLawful(HistoryFault.WRONG_BYTE, event)  # there was too little memory to say where
         load = next(it for it in self.open_loads() if it.number == number)
         try:
@@ -228,11 +229,11 @@ class History:
             error.overwritten_by = SeenStore(row.overwritten_by, row.overwritten_at)
         return error
 
-    def _operations(self, name: str) -> List[Operation]:
+    def _operations(self, kind: int) -> List[Operation]:
         found: List[Operation] = []
-        row = OperationRow()
+        row, count = OperationRow(), c.c_uint64()
         with self._handle.lock:
-            while self._call(name, len(found), c.byref(row)) == _FOUND:
+            while self._call("kroft_history_unanswered", kind, len(found), c.byref(row), c.byref(count)) == _OK:
                 found.append(Operation(row.number, row.address, row.length))
         return found
 

@@ -13,27 +13,27 @@ from typing import Callable, Container, Dict, Iterator, List, NamedTuple, Option
 from .data import Buffer, bytes_of
 from .errors import Access, NotFlat, Reason, Unanswered
 from .events import Answer, Event, Value, answer_row, event_row
-from .library import TAGS, Due, Word, fast_step, library
+from .library import TAGS, Due, Word, fast_judge, library
 
 PAGE_BYTES = 4096
 _WORD = 4
-_FLAT = 0
-_WRONG_WORD = 5
+_OK = 0
+_WRONG_WORD = 145
 # The reasons of the library, by their numbers: all but _WRONG_WORD, which comes with the word that is owed.
 _REASONS = {
-    1: Reason.OUT_OF_RANGE,
-    2: Reason.NO_LANES,
-    3: Reason.ID_IN_USE,
-    4: Reason.NOTHING_OWED,
-    6: Reason.OTHER_ANSWER,
-    7: Reason.NO_STEP,
-    8: Reason.NO_STEP,
+    141: Reason.OUT_OF_RANGE,
+    142: Reason.NO_LANES,
+    143: Reason.ID_IN_USE,
+    144: Reason.NOTHING_OWED,
+    146: Reason.OTHER_ANSWER,
+    147: Reason.NO_STEP,
+    148: Reason.NO_STEP,
 }
 _LOAD, _STORE, _VALUE = 0, 1, 2
 _EVENT = struct.Struct("=IHBxII4s").pack  # kind, tag, lanes, at, place, word
 _ANSWER = struct.Struct("=IIH4s2x").pack  # kind, cause, tag, word
 _TAKEN, _ACCEPTED = _EVENT(8, 0, 0, 0, 0, b""), _ANSWER(0, 0, 0, b"")
-_PAGE_WORDS, _TABLE_SIZE = c.c_size_t(PAGE_BYTES // 4), c.c_size_t(TAGS)
+_PAGE_WORDS = c.c_size_t(PAGE_BYTES // 4)
 _MASKS = {f"{mask:x}": mask for mask in range(16)}
 _LANES = [[lane for lane in range(_WORD) if mask >> lane & 1] for mask in range(16)]  # the bytes of a mask
 
@@ -58,22 +58,24 @@ class StepJudge:
     def step(self, event: Event, answer: Answer) -> None:
         """Judges a step, and makes it. NotFlat with its cause if flat memory never gives this answer to this event,
         and then nothing changed."""
+        right = Word()
         rows = event_row(event), answer_row(answer)
-        if self._library.kroft_flat_step(self._words, self._count, self._due, TAGS, *rows) != _FLAT:
-            raise self._fault(event, answer)
+        result = self._library.kroft_flat_judge(self._words, self._count, self._due, *rows, c.byref(right))
+        if result == _WRONG_WORD and isinstance(answer, Value):
+            raise NotFlat(Reason.WRONG_DATA, owed=bytes(right), got=bytes_of(answer.word))
+        if result != _OK:
+            raise NotFlat(_REASONS.get(result, Reason.BROKEN_LIBRARY))
 
     def owed(self, tag: SupportsIndex) -> Optional[bytes]:
         """The word that a tag is owed. None if it is owed nothing."""
         number = index(tag)
-        if not 0 <= number < TAGS:
+        if not 0 <= number < TAGS or not self._due[number].owed:
             return None
-        word = Word()
-        found = self._library.kroft_flat_owed(self._due, TAGS, number, c.byref(word))
-        return bytes(word) if found else None
+        return bytes(self._due[number].word)
 
     def open_count(self) -> int:
         """How many tags are owed words: the accepted loads that have no answer yet."""
-        count: int = self._library.kroft_flat_open(self._due, TAGS, 0, c.byref(c.c_uint16()))
+        count: int = self._library.kroft_flat_unanswered(self._due, 0, c.byref(c.c_uint16()))
         return count
 
     def open(self) -> Iterator[Tuple[int, bytes]]:
@@ -86,15 +88,6 @@ class StepJudge:
         """The bytes of memory as they are now."""
         return bytes(self._words)[: self._count * _WORD]
 
-    # Why there was no such step, as the library says: nothing has changed since.
-    def _fault(self, event: Event, answer: Answer) -> NotFlat:
-        right = Word()
-        rows = event_row(event), answer_row(answer)
-        number = self._library.kroft_flat_why(self._words, self._count, self._due, TAGS, *rows, c.byref(right))
-        if number == _WRONG_WORD and isinstance(answer, Value):
-            return NotFlat(Reason.WRONG_DATA, owed=bytes(right), got=bytes_of(answer.word))
-        return NotFlat(_REASONS.get(number, Reason.BROKEN_LIBRARY))
-
 
 class _Page(NamedTuple):
     data: bytearray
@@ -103,6 +96,7 @@ class _Page(NamedTuple):
 
 class _Table(NamedTuple):
     due: "c.Array[Due]"
+    view: memoryview  # its bytes
     free: List[int]  # tags that are owed nothing
 
 
@@ -135,15 +129,14 @@ class FlatJudge:
     """
 
     def __init__(self, first: SupportsIndex = 0, last: SupportsIndex = 2**64 - 1, image: Optional[Callable[[int], Buffer]] = None) -> None:
-        self._step = fast_step()
-        self._owed = library().kroft_flat_owed
+        self._step = fast_judge()
         self._first, self._last, self._image = index(first), index(last), image
         self._pages: Dict[int, _Page] = {}
         self._tables = [_new_table()]
         self._spare = self._tables[:]  # those with a tag that is owed nothing
         self._loads: Dict[object, _Owed] = {}
         self._stores: Dict[object, Access] = {}
-        self._owed_row = (c.c_char * _WORD)()
+        self._right = (c.c_char * _WORD)()
         self.calls = 0  #: how often the judge was told something
 
     def load(self, id: object, address: SupportsIndex, size: SupportsIndex, enables: Optional[SupportsIndex] = None) -> None:
@@ -266,11 +259,11 @@ class FlatJudge:
                 self._tables.append(_new_table())
                 spare.append(self._tables[-1])
             table = spare[-1]
-            due, free = table
+            due, _, free = table
             tag = free.pop()
             if not free:
                 spare.pop()
-            if step(part[0].words, _PAGE_WORDS, due, _TABLE_SIZE, _EVENT(_LOAD, tag, 0, part[1], 0, b""), _ACCEPTED) != _FLAT:
+            if step(part[0].words, _PAGE_WORDS, due, _EVENT(_LOAD, tag, 0, part[1], 0, b""), _ACCEPTED, self._right) != _OK:
                 raise NotFlat(Reason.BROKEN_LIBRARY)
             owed.append((part, table, tag))
         return owed
@@ -280,10 +273,10 @@ class FlatJudge:
         step = self._step
         for part, table, tag in load.parts:
             page, _, lanes, begin = part
-            due, free = table
+            due, _, free = table
             word = data[begin : begin + _WORD] if lanes == 0b1111 else self._filled_up(part, table, tag, data)
             answer = _ANSWER(_VALUE, 0, tag, word)
-            if step(page.words, _PAGE_WORDS, due, _TABLE_SIZE, _TAKEN, answer) == _FLAT:
+            if step(page.words, _PAGE_WORDS, due, _TAKEN, answer, self._right) == _OK:
                 if not free:
                     self._spare.append(table)
                 free.append(tag)
@@ -303,7 +296,7 @@ class FlatJudge:
     def _pay_word(self, part: _Part, table: _Table, tag: int) -> bytes:
         right = self._owed_word(table, tag)
         answer = _ANSWER(_VALUE, 0, tag, right)
-        if self._step(part[0].words, _PAGE_WORDS, table.due, _TABLE_SIZE, _TAKEN, answer) != _FLAT:
+        if self._step(part[0].words, _PAGE_WORDS, table.due, _TAKEN, answer, self._right) != _OK:
             raise NotFlat(Reason.BROKEN_LIBRARY)
         if not table.free:
             self._spare.append(table)
@@ -311,9 +304,9 @@ class FlatJudge:
         return right
 
     def _owed_word(self, table: _Table, tag: int) -> bytes:
-        if not self._owed(table.due, TAGS, tag, self._owed_row):
+        if not table.view[8 * tag]:  # (the library writes 1 there)
             raise NotFlat(Reason.BROKEN_LIBRARY)
-        return self._owed_row.raw
+        return bytes(table.view[8 * tag + 4 : 8 * tag + 8])
 
     # Stores the words. A store uses no tag, so any table does.
     def _write(self, access: Access, data: bytes) -> None:
@@ -321,7 +314,7 @@ class FlatJudge:
         padded = bytes(_WORD) + data + bytes(_WORD)
         for page, at, lanes, begin in self._parts(access):
             event = _EVENT(_STORE, 0, lanes, at, 0, padded[begin + _WORD : begin + 2 * _WORD])
-            if self._step(page.words, _PAGE_WORDS, due, _TABLE_SIZE, event, _ACCEPTED) != _FLAT:
+            if self._step(page.words, _PAGE_WORDS, due, event, _ACCEPTED, self._right) != _OK:
                 raise NotFlat(Reason.BROKEN_LIBRARY)
 
     def _end_load(self, id: object, size: Optional[int]) -> _Owed:
@@ -344,4 +337,5 @@ class FlatJudge:
 
 
 def _new_table() -> _Table:
-    return _Table((Due * TAGS)(), list(range(TAGS - 1, -1, -1)))
+    due = (Due * TAGS)()
+    return _Table(due, memoryview(due).cast("B"), list(range(TAGS - 1, -1, -1)))

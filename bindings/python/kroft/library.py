@@ -122,7 +122,7 @@ class RoundRow(c.Structure):
 
 
 class ReasonRow(c.Structure):
-    _fields_ = [*((name, u64) for name in ("place", "stored", "stored_at", "overwritten_by", "overwritten_at")), ("reason", u32)]
+    _fields_ = [*((name, u64) for name in ("wrong_place", "place", "stored", "stored_at", "overwritten_by", "overwritten_at")), ("reason", u32)]
 
 
 class OperationRow(c.Structure):
@@ -134,7 +134,10 @@ class PlanRow(c.Structure):
         ("base", u64),
         *(
             (name, u32)
-            for name in ("blocks", "block_bytes", "widest", "sets", "conflicts", "burst", "requesters", "apart", "stores", "partial")
+            for name in (
+                *("blocks", "block_bytes", "widest", "sets", "conflicts", "burst", "requesters", "apart", "stores", "partial"),
+                *("words", "blocks_of_set"),
+            )
         ),
     ]
 
@@ -166,48 +169,43 @@ def declare(library: c.CDLL) -> c.CDLL:
     """The library, with the types of its functions."""
     handle, out = c.POINTER(HandleRow), c.c_void_p
     signatures = {
-        "kroft_flat_step": [c.c_void_p, c.c_size_t, c.c_void_p, c.c_size_t, c.c_void_p, c.c_void_p],
-        "kroft_flat_owed": [c.c_void_p, c.c_size_t, u16, c.c_void_p],
-        "kroft_flat_why": [c.c_void_p, c.c_size_t, c.c_void_p, c.c_size_t, c.c_void_p, c.c_void_p, c.c_void_p],
-        "kroft_flat_open": [c.c_void_p, c.c_size_t, u32, c.c_void_p],
+        "kroft_flat_judge": [out, c.c_size_t, out, out, out, out],
+        "kroft_flat_unanswered": [out, u32, out],
         "kroft_history_open": [handle, u32, u32, u32, out, c.c_size_t],
-        "kroft_history_free": [handle],
-        "kroft_load_request": [handle, u64, u64, c.c_size_t],
-        "kroft_load_response": [handle, u64, out, c.c_size_t],
-        "kroft_store_request": [handle, u64, u64, out, c.c_size_t, u64],
-        "kroft_store_response": [handle, u64],
-        "kroft_may_return": [handle, u64, u64, out, c.c_size_t],
-        "kroft_wrong_place": [handle, u64, out, c.c_size_t, out],
-        "kroft_why": [handle, u64, out, c.c_size_t, out],
-        "kroft_forget": [handle, u64],
-        "kroft_undecided": [handle, out],
-        "kroft_unanswered": [handle, out, out],
-        "kroft_unanswered_load": [handle, u64, out],
-        "kroft_unanswered_store": [handle, u64, out],
-        "kroft_open": [handle, out, out, c.c_size_t],
-        "kroft_free": [handle],
-        "kroft_apply": [handle, out, out],
-        "kroft_pump": [handle, out, out],
-        "kroft_weight": [handle, out],
-        "kroft_settled": [handle],
-        "kroft_bank_word": [handle, u32, out],
-        "kroft_register": [handle, u32, out],
-        "kroft_field": [handle, u32, u32, out],
-        "kroft_target": [handle, u32, u32, u32, out],
-        "kroft_frame": [handle, u32, out],
-        "kroft_frame_word": [handle, u32, u32, out],
-        "kroft_stack_entry": [handle, u32, out],
-        "kroft_queue_entry": [handle, u32, out],
-        "kroft_bank_command": [handle, u32, u32, out],
-        "kroft_bank_answer": [handle, u32, u32, out],
-        "kroft_reply": [handle, u32, out],
-        "kroft_find": [handle, u32, out],
-        "kroft_drive": [handle, u32, u32, out, c.c_size_t, out],
-        "kroft_rounds_begin": [handle, u32, u32],
-        "kroft_round": [handle, out, c.c_size_t, out],
-        "kroft_round_counts": [handle, out],
-        "kroft_rounds_end": [handle],
-        "kroft_traffic": [out, u64, u64, out, out, c.c_size_t],
+        "kroft_history_close": [handle],
+        "kroft_history_load_request": [handle, u64, u64, c.c_size_t],
+        "kroft_history_load_response": [handle, u64, out, c.c_size_t],
+        "kroft_history_store_request": [handle, u64, u64, out, c.c_size_t, u64],
+        "kroft_history_store_response": [handle, u64],
+        "kroft_history_may_return": [handle, u64, u64, out],
+        "kroft_history_why": [handle, u64, out, c.c_size_t, out],
+        "kroft_history_forget": [handle, u64],
+        "kroft_history_undecided": [handle, out],
+        "kroft_history_unanswered": [handle, u32, u64, out, out],
+        "kroft_machine_open": [handle, out, out, c.c_size_t],
+        "kroft_machine_close": [handle],
+        "kroft_machine_apply": [handle, out, out],
+        "kroft_machine_pump": [handle, out, out],
+        "kroft_machine_weight": [handle, out, out],
+        "kroft_machine_bank_word": [handle, u32, out],
+        "kroft_machine_register": [handle, u32, out],
+        "kroft_machine_field": [handle, u32, u32, out],
+        "kroft_machine_target": [handle, u32, u32, u32, out],
+        "kroft_machine_frame": [handle, u32, out],
+        "kroft_machine_frame_word": [handle, u32, u32, out],
+        "kroft_machine_stack_entry": [handle, u32, out],
+        "kroft_machine_queue_entry": [handle, u32, out],
+        "kroft_machine_bank_command": [handle, u32, u32, out],
+        "kroft_machine_bank_answer": [handle, u32, u32, out],
+        "kroft_machine_reply": [handle, u32, out],
+        "kroft_machine_find": [handle, u32, out],
+        "kroft_machine_drive": [handle, u32, u32, out, c.c_size_t, out],
+        "kroft_machine_begin_rounds": [handle, u32, u32],
+        "kroft_machine_round": [handle, out, c.c_size_t, out],
+        "kroft_machine_round_counts": [handle, out],
+        "kroft_machine_end_rounds": [handle],
+        "kroft_traffic_draw": [out, u64, u64, out, out, c.c_size_t],
+        "kroft_result_text": [u32, out, c.c_size_t],
         "kroft_version": [out, c.c_size_t],
     }
     for name, types in signatures.items():
@@ -256,17 +254,17 @@ def _check_version(path: Path, told: str) -> None:
 
 
 class Handle:
-    """A history or a machine of the library, which is given back with this object at the latest.
+    """A history or a machine of the library, which is closed with this object at the latest.
 
     Calls with one handle may not overlap: each holds `lock`, and so does closing. A method that makes several calls holds
     it over them, so that no other thread's come between. (A handler of a signal may call from the midst of a call's own
     thread, so the lock is one that a thread may take again.)
     """
 
-    def __init__(self, loaded: c.CDLL, free: str) -> None:
+    def __init__(self, loaded: c.CDLL, close: str) -> None:
         self.lock = RLock()
         self._row = HandleRow()
-        self._library, self._free = loaded, free
+        self._library, self._close = loaded, close
 
     @property
     def is_open(self) -> bool:
@@ -284,15 +282,15 @@ class Handle:
         """Gives the memory back. Once more changes nothing."""
         with self.lock:
             if self._row.open:
-                getattr(self._library, self._free)(c.byref(self._row))
+                getattr(self._library, self._close)(c.byref(self._row))
 
     def __del__(self) -> None:
         self.close()
 
 
-def fast_step() -> Callable[..., int]:
-    """kroft_flat_step without types for its arguments, which takes half as long: lengths are c_size_t, rows bytes or
+def fast_judge() -> Callable[..., int]:
+    """kroft_flat_judge without types for its arguments, which takes half as long: lengths are c_size_t, rows bytes or
     arrays."""
-    step = library()["kroft_flat_step"]
+    step = library()["kroft_flat_judge"]
     step.restype = u32
     return step

@@ -41,14 +41,14 @@ from .library import (
 
 _Row = TypeVar("_Row", bound=c.Structure)
 
-_DONE, _NONE, _FOUND, _CLOSED = 0, 0, 1, 3
+_OK, _CLOSED, _NO_EVENT = 0, 100, 147
 _EVENT_BYTES, _ANSWER_BYTES = 20, 16
 _OUT_OF_MEMORY = 101
 _NO_ROUNDS, _IN_ROUNDS = 106, 107
 _NOT_DRIVEN = {
-    2: "a request is a load, a store, a prefetch or an eviction",
-    104: "more than 16777216 requests",
-    105: "a latency is at most 1000 rounds",
+    131: "a latency is at most 1000 rounds",
+    132: "more than 16777216 requests",
+    _NO_EVENT: "a request is a load, a store, a prefetch or an eviction",
 }
 _LOST = (
     Cause.TAG_IN_USE,
@@ -222,20 +222,20 @@ class Machine:
         if len(data) % 4:
             raise ValueError("an image has four bytes for each word")
         row = ShapeRow(*self.shape)
-        self._handle = Handle(library(), "kroft_free")
+        self._handle = Handle(library(), "kroft_machine_close")
         # (numbers are judged before any zeros are made for them)
         status = self._open(row, data)
         if status == ShapeFault.IMAGE and image is None:
             status = self._open(row, bytes(4 * self.shape.words))
         if status == _OUT_OF_MEMORY:
             raise MemoryError("no machine was opened")
-        if status != _DONE:
+        if status != _OK:
             raise BadShape(ShapeFault(status))
 
     def apply(self, event: Event) -> Answer:
         """Makes one event. A refusal is an answer here, as any other: it changes nothing."""
         answer = c.create_string_buffer(_ANSWER_BYTES)
-        self._call("kroft_apply", event_row(event), answer)
+        self._call("kroft_machine_apply", event_row(event), answer)
         return answer_of(answer.raw)
 
     def load(self, tag: SupportsIndex, at: SupportsIndex) -> None:
@@ -259,7 +259,7 @@ class Machine:
         possible: the first ready reply is taken; the first word of the input stack is processed; the lowest bank with
         an answer has its first one arrive; the lowest bank with a command serves it; the write queue is drained."""
         event, answer = c.create_string_buffer(_EVENT_BYTES), c.create_string_buffer(_ANSWER_BYTES)
-        while self._call("kroft_pump", event, answer) == _FOUND:
+        while self._call("kroft_machine_pump", event, answer) == _OK:
             yield event_of(event.raw), answer_of(answer.raw)
 
     def values(self) -> Iterator[Value]:
@@ -279,10 +279,10 @@ class Machine:
         no event; nothing was asked then."""
         rows = b"".join(map(event_row, requests))
         row = CountsRow()
-        status = self._call("kroft_drive", *_rounds(latency, busy), rows, len(rows) // _EVENT_BYTES, c.byref(row))
+        status = self._call("kroft_machine_drive", *_rounds(latency, busy), rows, len(rows) // _EVENT_BYTES, c.byref(row))
         if status == _OUT_OF_MEMORY:
             raise MemoryError("too little memory to drive these requests")
-        if status != _DONE:
+        if status != _OK:
             raise ValueError(_NOT_DRIVEN[status])
         return _counts(row)
 
@@ -291,19 +291,19 @@ class Machine:
 
         Rounds that were begun before end. Until `end_rounds` they alone make the machine's events: all else that makes one
         raises InRounds. ValueError if the latency isn't 0 to 1000, with everything as it was."""
-        status = self._call("kroft_rounds_begin", *_rounds(latency, busy))
+        status = self._call("kroft_machine_begin_rounds", *_rounds(latency, busy))
         if status == _OUT_OF_MEMORY:
             raise MemoryError("too little memory to begin rounds")
-        if status != _DONE:
+        if status != _OK:
             raise ValueError(_NOT_DRIVEN[status])
 
     def round(self, request: Optional[Request] = None) -> Round:
         """Makes one round, in which this request is offered, or none. A request that is lost isn't remembered: it is the
         caller's to offer again. NoRounds if none were begun; ValueError if it is no request, with no round made."""
         row, event = RoundRow(), b"" if request is None else event_row(request)
-        status = self._call("kroft_round", event, len(event) // _EVENT_BYTES, c.byref(row))
-        if status != _DONE:
-            raise ValueError(_NOT_DRIVEN[2] if status == 2 else "as many rounds as may be were made")
+        status = self._call("kroft_machine_round", event, len(event) // _EVENT_BYTES, c.byref(row))
+        if status != _OK:
+            raise ValueError(_NOT_DRIVEN[_NO_EVENT] if status == _NO_EVENT else "as many rounds as may be were made")
         cause = Cause(row.cause) if row.cause else None
         found = Lookup(row.found) if row.found in iter(Lookup) else None
         answered = Value(row.tag, bytes(row.word)) if row.answered else None
@@ -312,29 +312,27 @@ class Machine:
     def round_counts(self) -> Counts:
         """What was counted since the rounds were begun; `rounds` are those that were made. NoRounds if none were begun."""
         row = CountsRow()
-        self._call("kroft_round_counts", c.byref(row))
+        self._call("kroft_machine_round_counts", c.byref(row))
         return _counts(row)
 
     def end_rounds(self) -> None:
         """Ends the rounds that were begun; the machine stays as it is. NoRounds if none were."""
-        self._call("kroft_rounds_end")
+        self._call("kroft_machine_end_rounds")
 
     @property
     def weight(self) -> int:
         """What is on its way, weighed: each event of `pump` lowers it, and at 0 there is none."""
-        weight = c.c_uint64()
-        self._call("kroft_weight", c.byref(weight))
-        return weight.value
+        return self._weighed()[0]
 
     @property
     def settled(self) -> bool:
         """Whether memory has everything: nothing waits, and no word is dirty."""
-        return self._call("kroft_settled") == _FOUND
+        return self._weighed()[1]
 
     def bank_word(self, at: SupportsIndex) -> bytes:
         """The word of memory at `at`, as it stands in its bank. IndexError if there is none."""
         word = Word()
-        self._find("kroft_bank_word", c.byref(word), at)
+        self._find("kroft_machine_bank_word", c.byref(word), at)
         return bytes(word)
 
     def memory(self) -> bytes:
@@ -345,7 +343,7 @@ class Machine:
     def register(self, slot: SupportsIndex) -> Register:
         """A miss register. IndexError if there is none."""
         row = RegisterRow()
-        self._find("kroft_register", c.byref(row), slot)
+        self._find("kroft_machine_register", c.byref(row), slot)
         return Register(bool(row.valid), bool(row.obsolete), row.block, row.frame, row.processed)
 
     def registers(self) -> List[Register]:
@@ -356,7 +354,7 @@ class Machine:
     def field(self, slot: SupportsIndex, i: SupportsIndex) -> Field:
         """Word `i` of the block of a register. IndexError if there is none."""
         row = FieldRow()
-        self._find("kroft_field", c.byref(row), slot, i)
+        self._find("kroft_machine_field", c.byref(row), slot, i)
         marks = bool(row.send), bool(row.in_stack), bool(row.processed)
         return Field(*marks, row.targets, row.tag, row.code, row.held_lanes, bytes(row.held))
 
@@ -366,21 +364,21 @@ class Machine:
         row, targets = TargetRow(), []
         with self._handle.lock:
             for place in range(self.field(slot, i).targets):
-                self._find("kroft_target", c.byref(row), slot, i, place)
+                self._find("kroft_machine_target", c.byref(row), slot, i, place)
                 targets.append(Target(row.tag, row.lanes, bytes(row.held)))
         return targets
 
     def find(self, at: SupportsIndex) -> Lookup:
         """What a request for the word at `at` would find now. Nothing is asked. IndexError if there is no such word."""
         lookup = c.c_uint32()
-        self._find("kroft_find", c.byref(lookup), at)
+        self._find("kroft_machine_find", c.byref(lookup), at)
         return Lookup(lookup.value)
 
     def frame(self, frame: SupportsIndex) -> Optional[int]:
         """The block that a frame holds, None if it is free. Set `s` has the frames from `s * ways` on. IndexError if there
         is no such frame."""
         row = FrameRow()
-        self._find("kroft_frame", c.byref(row), frame)
+        self._find("kroft_machine_frame", c.byref(row), frame)
         return row.block if row.valid else None
 
     def frames(self) -> List[Optional[int]]:
@@ -391,32 +389,32 @@ class Machine:
     def frame_word(self, frame: SupportsIndex, i: SupportsIndex) -> FrameWord:
         """Word `i` of the block that a frame holds. IndexError if there is no such frame or word, or the frame is free."""
         row = FrameWordRow()
-        self._find("kroft_frame_word", c.byref(row), frame, i)
+        self._find("kroft_machine_frame_word", c.byref(row), frame, i)
         return FrameWord(bytes(row.word), row.dirty)
 
     def stack(self) -> List[Arrival]:
         """The words of the input stack, the one that came first at 0."""
-        return [_arrival(row) for row in self._places(ArrivalRow, "kroft_stack_entry")]
+        return [_arrival(row) for row in self._places(ArrivalRow, "kroft_machine_stack_entry")]
 
     def queue(self) -> List[Queued]:
         """The words of the write queue, the one that is drained next at 0."""
-        rows = self._places(QueuedRow, "kroft_queue_entry")
+        rows = self._places(QueuedRow, "kroft_machine_queue_entry")
         return [Queued(row.block, row.at, bytes(row.word), row.lanes) for row in rows]
 
     def bank_commands(self, bank: SupportsIndex) -> List[Command]:
         """The commands that wait at a bank, the one that is served next at 0. IndexError if there is no such bank."""
-        return [_command(row) for row in self._places(CommandRow, "kroft_bank_command", self._bank(bank))]
+        return [_command(row) for row in self._places(CommandRow, "kroft_machine_bank_command", self._bank(bank))]
 
     def bank_answers(self, bank: SupportsIndex) -> List[Arrival]:
         """The answers that stand in a bank, the oldest one at 0. IndexError if there is no such bank."""
-        return [_arrival(row) for row in self._places(ArrivalRow, "kroft_bank_answer", self._bank(bank))]
+        return [_arrival(row) for row in self._places(ArrivalRow, "kroft_machine_bank_answer", self._bank(bank))]
 
     def replies(self) -> List[Value]:
         """The values that stand ready to be taken, in the order of their places."""
         answers: List[Value] = []
         answer = c.create_string_buffer(_ANSWER_BYTES)
         with self._handle.lock:
-            while self._call("kroft_reply", len(answers), answer) == _FOUND:
+            while self._call("kroft_machine_reply", len(answers), answer) == _OK:
                 value = answer_of(answer.raw)
                 assert isinstance(value, Value)
                 answers.append(value)
@@ -439,8 +437,13 @@ class Machine:
     def __reduce__(self) -> NoReturn:
         raise TypeError("a machine can't be copied")
 
+    def _weighed(self) -> Tuple[int, bool]:
+        weight, settled = c.c_uint64(), c.c_uint32()
+        self._call("kroft_machine_weight", c.byref(weight), c.byref(settled))
+        return weight.value, bool(settled.value)
+
     def _open(self, row: ShapeRow, data: bytes) -> int:
-        return self._handle.call("kroft_open", c.byref(row), c.c_char_p(data), len(data) // 4)
+        return self._handle.call("kroft_machine_open", c.byref(row), c.c_char_p(data), len(data) // 4)
 
     def _accept(self, event: Event) -> None:
         answer = self.apply(event)
@@ -460,7 +463,7 @@ class Machine:
         found: List[_Row] = []
         shown = row()
         with self._handle.lock:
-            while self._call(name, *arguments, len(found), c.byref(shown)) == _FOUND:
+            while self._call(name, *arguments, len(found), c.byref(shown)) == _OK:
                 found.append(shown)
                 shown = row()
         return found
@@ -478,7 +481,7 @@ class Machine:
     def _find(self, name: str, row: object, *places: SupportsIndex) -> None:
         """What a view shows at these places goes into the row. (ctypes would cut a number of more bits off.)"""
         numbers = [index(place) for place in places]
-        if any(not 0 <= number < 2**32 for number in numbers) or self._call(name, *numbers, row) == _NONE:
+        if any(not 0 <= number < 2**32 for number in numbers) or self._call(name, *numbers, row) != _OK:
             raise IndexError("there is none")
 
 

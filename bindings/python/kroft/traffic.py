@@ -6,7 +6,7 @@ from typing import Iterator, NamedTuple, SupportsIndex
 
 from .library import AccessRow, PlanRow, library
 
-_DRAWN = 0
+_OK = 0
 _WIDEST = 64
 
 
@@ -51,8 +51,10 @@ class Traffic:
         apart: bool = False,
         stores: SupportsIndex = 128,
         partial: SupportsIndex = 64,
+        words: SupportsIndex = 0,
+        blocks_of_set: SupportsIndex = 0,
     ) -> None:
-        given = (base, blocks, block_bytes, widest, sets, conflicts, burst, requesters, int(apart), stores, partial)
+        given = (base, blocks, block_bytes, widest, sets, conflicts, burst, requesters, int(apart), stores, partial, words, blocks_of_set)
         seed, numbers = index(seed), [index(number) for number in given]
         for name, number in [("seed", seed), *zip((field[0] for field in PlanRow._fields_), numbers)]:
             above = 2**64 if name in ("seed", "base") else 2**32
@@ -68,7 +70,7 @@ class Traffic:
         if not 0 <= number < 2**64:
             raise IndexError(number)
         row, data = AccessRow(), c.create_string_buffer(_WIDEST)
-        if self._library.kroft_traffic(c.byref(self._plan), self._seed, number, c.byref(row), data, _WIDEST) != _DRAWN:
+        if self._library.kroft_traffic_draw(c.byref(self._plan), self._seed, number, c.byref(row), data, _WIDEST) != _OK:
             raise ValueError("no plan of traffic")
         stored = data.raw[: row.length] if row.enables else b""
         return TrafficAccess(number, row.requester, row.turn, row.address, row.length, row.enables, stored)

@@ -181,7 +181,10 @@ class Machines(unittest.TestCase):
     def test_shapes(self) -> None:
         faults = kroft.ShapeFault
         for shape, image, fault in [
-            (SMALL._replace(ways=17), None, faults.NOT_LISTED),
+            (SMALL._replace(ways=17), None, faults.WAYS),
+            (SMALL._replace(block_words=0), None, faults.BLOCK_WORDS),
+            (SMALL._replace(regs=65), None, faults.REGS),
+            (SMALL._replace(depth=0), None, faults.DEPTH),
             (SMALL._replace(words=63), None, faults.WORDS),
             (SMALL._replace(sets=0), None, faults.SETS),
             (SMALL._replace(banks=17), None, faults.BANKS),
@@ -210,7 +213,7 @@ class Machines(unittest.TestCase):
         resource.setrlimit(resource.RLIMIT_AS, (4_000_000 << 10, before[1]))
         try:
             for shape, fault in [
-                (Shape(ways=17, words=most), faults.NOT_LISTED),
+                (Shape(ways=17, words=most), faults.WAYS),
                 (Shape(words=most), faults.WORDS),
                 (Shape(block_words=1, words=most, banks=17), faults.BANKS),
                 (Shape(block_words=3, words=most, replies=0), faults.REPLIES),

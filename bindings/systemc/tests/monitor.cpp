@@ -200,7 +200,7 @@ int sc_main(int argc, char **argv) {
     uint64_t count = argc > 4 ? strtoull(argv[4], nullptr, 10) : 100000;
     uint64_t seed = argc > 5 ? strtoull(argv[5], nullptr, 10) : 1;
     // (few lines, that transactions meet often, and a judge of the atomic law that isn't asked for too many orders)
-    const kroft_plan few_lines = {replay::Traffic::BASE, 2, 64, 16, 2, 0, 8, 2, 0, 128, 96};
+    const kroft_traffic_plan few_lines = {replay::Traffic::BASE, 2, 64, 16, 2, 0, 8, 2, 0, 128, 96, 0, 0};
     Initiator initiator("initiator", blocking, count, flat ? replay::Traffic(seed) : replay::Traffic(seed, few_lines), flat ? 24 : 8);
     kroft::Law law = !strcmp(argv[2], "atomic") ? kroft::Law::Atomic : kroft::Law::Regular;
     kroft::Watch watch = flat ? kroft::Watch() : kroft::Watch(kroft::History(law));

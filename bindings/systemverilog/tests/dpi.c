@@ -187,8 +187,8 @@ static void memory_stays(void) {
 
 /* The access is that of the library, with its bytes from the lowest bits on; no plan leaves zeros. */
 static void traffic(void) {
-    kroft_plan plan = {0x1000, 8, 64, 64, 2, 32, 3, 5, 0, 200, 64};
-    kroft_access access;
+    kroft_traffic_plan plan = {0x1000, 8, 64, 16, 2, 32, 3, 5, 0, 200, 64, 3, 2};
+    kroft_traffic_access access;
     unsigned long long number, turn, address, enables;
     unsigned requester, size, block_bytes;
     for (number = 0; number < 2000; number++)
@@ -198,9 +198,9 @@ static void traffic(void) {
             int i, is_plan = block_bytes == 64, same;
             memset(&access, 0, sizeof access);
             plan.block_bytes = block_bytes;
-            kroft_traffic(&plan, 9, number, &access, bytes, sizeof bytes);
-            same = kroft_sv_traffic(0x1000, 8, block_bytes, 64, 2, 32, 3, 5, 0, 200, 64, 9, number, &requester, &size, &turn, &address,
-                                    &enables, data) == is_plan;
+            kroft_traffic_draw(&plan, 9, number, &access, bytes, sizeof bytes);
+            same = kroft_sv_traffic(0x1000, 8, block_bytes, 16, 2, 32, 3, 5, 0, 200, 64, 3, 2, 9, number, &requester, &size, &turn,
+                                    &address, &enables, data) == is_plan;
             same = same && requester == access.requester && size == access.length && turn == access.turn &&
                    address == access.address && enables == access.enables && is_plan == (size != 0);
             for (i = 0; i < 64; i++) same = same && (data[i / 4] >> 8 * (i % 4) & 255) == bytes[i];

@@ -80,23 +80,23 @@ static void expect_why(int line, int reason, int place, uint64_t stored_id, uint
 static void reasons(void) {
     uint8_t two[2] = {0, 0x5a};
     begin(KROFT_REGULAR_LAW, 0);
-    expect_why(__LINE__, KROFT_NO_REASON, -1, 0, 0, 0, 0);
+    expect_why(__LINE__, KROFT_REASON_NONE, -1, 0, 0, 0, 0);
     EXPECT(store(21, 0x101, 0x5a, 10) == KROFT_SV_RIGHT && stored(21) == KROFT_SV_RIGHT);
     EXPECT(store(22, 0x101, 0x11, 12) == KROFT_SV_RIGHT && stored(22) == KROFT_SV_RIGHT);
     EXPECT(kroft_sv_load_request(history, 7, 0x100, 2, 15) == KROFT_SV_RIGHT);
     EXPECT(kroft_sv_load_response(history, 7, data_of(two, 2)) == KROFT_SV_WRONG_DATA);
     EXPECT(says("load 7 of 2 bytes at 0x100, requested at 15: wrong data: got 005a: byte 1 is 5a, and may be 11; store 21 (of 10) put it "
                 "there, and store 22 (of 12) overwrote it"));
-    expect_why(__LINE__, KROFT_STORE_OVERWRITTEN, 1, 21, 10, 22, 12);
+    expect_why(__LINE__, KROFT_REASON_STORE_OVERWRITTEN, 1, 21, 10, 22, 12);
     EXPECT(kroft_sv_open_count(history) == 0 && load(7, 0x101, 0) == KROFT_SV_RIGHT && value(7, 0) == KROFT_SV_WRONG_DATA);
     EXPECT(says("load 7 of 1 bytes at 0x101: wrong data: got 00: byte 0 is 00, and may be 11; memory had it first, and store 22 (of 12) "
                 "overwrote it"));
-    expect_why(__LINE__, KROFT_FIRST_OVERWRITTEN, 0, 0, 0, 22, 12);
+    expect_why(__LINE__, KROFT_REASON_FIRST_OVERWRITTEN, 0, 0, 0, 22, 12);
     EXPECT(load(7, 0x101, 0) == KROFT_SV_RIGHT && value(7, 0x77) == KROFT_SV_WRONG_DATA);
     EXPECT(says("load 7 of 1 bytes at 0x101: wrong data: got 77: byte 0 is 77, and may be 11; no store put it there"));
-    expect_why(__LINE__, KROFT_NEVER_THERE, 0, 0, 0, 0, 0);
+    expect_why(__LINE__, KROFT_REASON_NEVER_THERE, 0, 0, 0, 0, 0);
     EXPECT(load(7, 0x101, 0) == KROFT_SV_RIGHT && value(7, 0x11) == KROFT_SV_RIGHT);
-    expect_why(__LINE__, KROFT_NEVER_THERE, 0, 0, 0, 0, 0); /* of the last that was wrong */
+    expect_why(__LINE__, KROFT_REASON_NEVER_THERE, 0, 0, 0, 0, 0); /* of the last that was wrong */
 }
 
 static void refusals(void) {

@@ -1,8 +1,8 @@
 //! Logs of memory accesses, as other tools write them, turned into requests.
 //!
-//! [`write_requests`] writes the loads and stores of a log ([`Lackey`] or [`Din`]) as lines of a
-//! trace, one for each word of four bytes; [`read_log`] returns them in groups by access. Their
-//! caller has a stream.
+//! - First call: [`write_requests`] writes the loads and stores of a log ([`Lackey`] or [`Din`]) as
+//!   lines of a trace, one for each word of four bytes. [`read_log`] returns them in groups by access.
+//! - Caller: `kroft_command`, which has a stream.
 //!
 //! Addresses have 64 bits, and memory has at most 1,048,576 words. So pages of 4,096 bytes are
 //! mapped in the order of their first touch: the first is words 0 to 1,023, the next 1,024 to

@@ -1,4 +1,4 @@
-//! Faults as they are told.
+//! The texts of faults.
 
 ghost use Rattle.std.specs.Prelude.{Some};
 ghost use Rattle.atomic_histories.specs.Faults as texts;

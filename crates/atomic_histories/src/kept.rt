@@ -206,7 +206,7 @@ impl KeptUnit {
         self.room = room_for(self.stretches.len());
     }
 
-    // A load is requested. If moments have no more numbers, memory is told to be short.
+    // A load is requested. If moments have no more numbers, that counts as want of memory.
     pub(crate) fn request_load(&mut self, number: u64, address: u64) -> Result<(), AllocError>
         ensures ok { OnOk result (shown_unit self.new ≡ ways_with_load number address (shown_unit self.old)) }
         ensures err { OnErr result (shown_unit self.new ≡ shown_unit self.old) }

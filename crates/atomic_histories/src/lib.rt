@@ -1,8 +1,12 @@
 //! Histories of a memory whose operations take effect at one moment each.
 //!
-//! [`AtomicMemory::new`] comes first; its caller passes each event to [`AtomicMemory::step`]. After
-//! a fault all is as it was. Ways are followed unit by unit: hidden steps, at which open operations
-//! take effect, come between the events. `specs/Law.antt` says what a history may show.
+//! - First call: [`AtomicMemory::new`], with what memory begins with and the size of a unit.
+//! - Caller: `history_text` and `history_handles`, which pass each event to [`AtomicMemory::step`].
+//!
+//! After a fault all is as it was. The law is for each unit of memory by itself, and
+//! `specs/Law.antt` says it. The judge follows all ways in which the unit's open operations may have
+//! taken effect. Between two events hidden steps do that. Where too many ways are left, it answers
+//! that it can't tell.
 #![tactic(auto)]
 
 mod answers;

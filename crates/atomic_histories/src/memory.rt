@@ -220,7 +220,7 @@ impl AtomicMemory {
     /// ([`sets_are_of_answers`](crate::laws::sets_are_of_answers)).
     ///
     /// `Refused`: no load is open under the number (`NotOpen`). `Undecided`: too many ways at this
-    /// unit; no set is told. `OutOfMemory`: too little memory.
+    /// unit; no set is returned. `OutOfMemory`: too little memory.
     pub fn may_return(&self, number: u64) -> Result<Vec<ByteSet>, AtomicFault>
         ensures ok { (lost : List ℕ) → (history : List HistoryEvent)
             → StandsBut (held self.now) lost history

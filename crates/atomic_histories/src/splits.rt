@@ -194,7 +194,7 @@ impl Split {
     }
 }
 
-// The shares of each stretch. New stretches stand behind the others.
+// The shares of each stretch. New stretches follow the others.
 pub(crate) fn split_stretches(
     alloc: Global,
     stretches: &mut Vec<Stretch>,

@@ -1,5 +1,11 @@
-//! The laws of a cache unit: its state, its steps, what always holds. [`Sizes`] comes first; the
-//! caller is `cache_unit`.
+//! The laws of a cache unit: its state, its steps, and what always holds.
+//!
+//! - First call: none. `specs/State.antt` has the state, `specs/Steps.antt` what each step changes,
+//!   `specs/Sound.antt` the invariant. [`laws`] is what callers cite.
+//! - Caller: `cache_unit`, whose contracts speak of these steps, and through it all crates above.
+//!
+//! There is no code of a unit here. [`Sizes`] are the numbers of a unit and its machine;
+//! [`Request`], [`Reply`] and [`Lookup`] are the words in which a unit answers.
 #![tactic(auto)]
 
 ghost use Rattle.std.specs.Prelude.{◌≡◌};

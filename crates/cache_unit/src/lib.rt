@@ -1,7 +1,11 @@
-//! The cache's control: [`ShapedUnit::request`] serves the processor. Other calls take arriving
-//! words, evictions and replies. Its caller is a machine, which owns the banks.
+//! The cache's control: it looks requests up, and keeps track of the misses.
 //!
-//! After a refusal, or `Nothing`, all is as it was.
+//! - First call: [`ShapedUnit::request`] serves the processor. Other calls drain the write queue,
+//!   take arriving words, process them, give blocks up, and return values.
+//! - Caller: `machine_core`, or a station's cache side; each owns the banks, as [`Lines`].
+//!
+//! After a refusal, or `Nothing`, all is as it was. A [`ShapedUnit`] has its numbers at run time; a
+//! [`CacheUnit`] has them in its type. `cache_law` says what each call may change.
 #![tactic(auto)]
 
 mod begin;

@@ -4,7 +4,6 @@ pub mod Table
 -- a step, and why there is none
 pub mod Judge
 pub mod Reasons
-pub mod Texts
 -- a bench's traffic: what a plan says, and the access of each number
 pub mod Plan
 pub mod Traffic

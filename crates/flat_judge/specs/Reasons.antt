@@ -1,5 +1,5 @@
 -- Why a step isn't one of flat memory.
-use Rattle.std.specs.Prelude.{ℕ, ◌==◌, if◌then◌else◌, nat_lt, nat_le, Bool, true, false, List, length, Option, Some, None, is_none}
+use Rattle.std.specs.Prelude.{ℕ, if◌then◌else◌, nat_lt, Bool, true, false, List, length, Option, Some, None, is_none}
 use Rattle.flat_model.specs.declared.Word.{Word}
 use Rattle.flat_model.specs.declared.Event.{Event}
 use Rattle.flat_model.specs.declared.Event.TheVariants.{Load, Store, Prefetch, Take}
@@ -8,10 +8,9 @@ use Rattle.flat_model.specs.declared.Answer.TheVariants.{Value}
 use Rattle.flat_model.specs.Flat.{Flat, may_answer}
 use Rattle.flat_model.specs.Words.{has_any}
 use Rattle.flat_judge.specs.declared.table.Due.{Due}
-use Rattle.flat_judge.specs.declared.table.TheConstants.{TAGS}
 use Rattle.flat_judge.specs.declared.reasons.Reason.{Reason}
 use Rattle.flat_judge.specs.declared.reasons.Reason.TheVariants.{OutOfRange, NoLanes, TagInUse, NothingOwed, WrongWord, OtherAnswer}
-use Rattle.flat_judge.specs.declared.reasons.Reason.TheVariants.{NoEvent, NoAnswer, NoTable}
+use Rattle.flat_judge.specs.declared.reasons.Reason.TheVariants.{NoEvent, NoAnswer}
 use Rattle.flat_judge.specs.Judge.{flat}
 
 -- what stands against any answer to a load but one: there is no such word, or else the tag is owed a word already
@@ -52,25 +51,19 @@ why_not s event answer = if may_answer s event answer then None else Some (again
 abbrev pub why : List Word → List Due → Option Event → Option Answer → Option Reason
 why words due None answer = Some NoEvent
 why words due (Some event) None = Some NoAnswer
-why words due (Some event) (Some answer) =
-    if length due == TAGS then why_not (flat words due) event answer else Some NoTable
+why words due (Some event) (Some answer) = why_not (flat words due) event answer
 
 -- the number of a reason, and 0 where there is none
 abbrev pub number_of : Option Reason → ℕ
 number_of None = 0
-number_of (Some OutOfRange) = 1
-number_of (Some NoLanes) = 2
-number_of (Some TagInUse) = 3
-number_of (Some NothingOwed) = 4
-number_of (Some (WrongWord owed)) = 5
-number_of (Some OtherAnswer) = 6
-number_of (Some NoEvent) = 7
-number_of (Some NoAnswer) = 8
-number_of (Some NoTable) = 9
-
--- the status of a step that this number is told of
-abbrev pub status_by : ℕ → ℕ
-status_by number = if number == 0 then 0 else if nat_le number 6 then 1 else 2
+number_of (Some OutOfRange) = 141
+number_of (Some NoLanes) = 142
+number_of (Some TagInUse) = 143
+number_of (Some NothingOwed) = 144
+number_of (Some (WrongWord owed)) = 145
+number_of (Some OtherAnswer) = 146
+number_of (Some NoEvent) = 147
+number_of (Some NoAnswer) = 148
 
 -- the word that was owed, if another one was taken
 abbrev pub owed_instead : Option Reason → Option Word

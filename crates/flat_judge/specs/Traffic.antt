@@ -1,21 +1,30 @@
 -- The access of each number: what is drawn for it, and what follows from that.
-use Rattle.std.specs.Prelude.{ℕ, ◌+◌, ◌-◌, ◌*◌, ◌/◌, ◌%◌, ◌^◌, ◌≡◌, ◌≢◌, ◌<◌, ◌≤◌, max, if◌then◌else◌, ◌==◌, nat_lt, Bool, ◌&&◌, not, List}
-use Rattle.std.specs.Prelude.{◌++◌, drop}
+use Rattle.std.specs.Prelude.{ℕ, ◌+◌, ◌-◌, ◌*◌, ◌/◌, ◌%◌, ◌^◌, ◌≡◌, ◌≢◌, ◌<◌, ◌≤◌, max, if◌then◌else◌, ◌==◌, nat_lt, Bool, ◌&&◌, not}
+use Rattle.std.specs.Prelude.{List, ◌++◌, drop, bit_xor}
 use Rattle.rand_pcg.specs.Lcg.{Lcg, started, increment_of}
 use Rattle.rand_pcg.specs.Pcg.{pcg32, multiplier_64}
 use Rattle.rand_core.specs.Steps.{fill_via_u32, u64_via_u32}
+use Rattle.rand_xoshiro.specs.SplitMix64.{mix_u64}
 use Rattle.flat_judge.specs.declared.plan.Plan.{Plan}
 use Rattle.flat_judge.specs.declared.access.Access.{Access}
-use Rattle.flat_judge.specs.Plan.{is_plan}
+use Rattle.flat_judge.specs.Plan.{is_plan, used_bytes, used_blocks}
 
 -- ---- what is drawn
 
+-- the word of SplitMix64 at a state: by it each number has another one
+unfoldable pub mix_of : ℕ → ℕ
+mix_of state = (mix_u64 state).0
+
+-- where the generator of a number begins under a seed: of both, mixed
+unfoldable pub state_of : ℕ → ℕ → ℕ
+state_of seed number = mix_of (bit_xor (mix_of seed) number)
+
 -- the generator of a burst, and the one of an access
 unfoldable pub of_burst : ℕ → ℕ → Lcg
-of_burst seed burst = started 64 multiplier_64 seed (increment_of 64 burst)
+of_burst seed burst = started 64 multiplier_64 (state_of seed burst) (increment_of 64 burst)
 
 unfoldable pub of_access : ℕ → ℕ → Lcg
-of_access seed number = started 64 multiplier_64 (2 ^ 64 - 1 - seed) (increment_of 64 number)
+of_access seed number = started 64 multiplier_64 (state_of (2 ^ 64 - 1 - seed) number) (increment_of 64 number)
 
 -- the next word of a generator, and the generator behind it
 unfoldable pub word : Lcg → ℕ
@@ -34,22 +43,21 @@ happens drawn share = nat_lt (drawn % 256) share
 
 -- ---- what follows from it
 
--- the block of a burst: any, or the first of its kind in set 0
+-- the block of a burst: any, or one of set 0 that is used
 unfoldable pub block_of : Plan → ℕ → ℕ → ℕ
 block_of p seed burst =
     let g = of_burst seed burst in
-    let block = word g % p.blocks in
-    if happens (word (behind g)) p.conflicts then block - block % p.sets else block
+    if happens (word (behind g)) p.conflicts then word g % used_blocks p * p.sets else word g % p.blocks
 
 -- the bytes of an access: the widest, or a half, a quarter or an eighth of it; one, where each has bytes of its own
 unfoldable pub length_of : Plan → ℕ → ℕ
 length_of p pick = if p.apart == 0 then max 1 (p.widest / 2 ^ (pick % 4)) else 1
 
--- its place in the block: at a multiple of its length, or at one of the requester's own bytes
+-- its place in what is used of the block: at a multiple of its length, or at one of the requester's own bytes
 unfoldable pub offset_of : Plan → ℕ → ℕ → ℕ → ℕ
 offset_of p requester length place =
-    if p.apart == 0 then place % (p.block_bytes / length) * length
-    else place % (p.block_bytes / p.requesters) * p.requesters + requester
+    if p.apart == 0 then place % (used_bytes p / length) * length
+    else place % (used_bytes p / p.requesters) * p.requesters + requester
 
 -- the bytes that a store writes, none for a load: all, or some of them
 unfoldable pub enables_of : Plan → ℕ → ℕ → ℕ → ℕ
@@ -86,6 +94,7 @@ pub record IsOf (p : Plan) (a : Access) : Type 0 where
   pub there : block < p.blocks
   pub place : a.address ≡ p.base + block * p.block_bytes + offset
   pub fits : offset + a.length ≤ p.block_bytes
+  pub used : offset + a.length ≤ used_bytes p
   pub some : 1 ≤ a.length
   pub bytes : a.length ≤ p.widest
   pub lanes : a.enables < 2 ^ a.length
@@ -93,9 +102,9 @@ pub record IsOf (p : Plan) (a : Access) : Type 0 where
 
 -- ---- what C is told
 
--- 0: the access; 1: the numbers aren't a plan's; 2: there is no room for the widest access
+-- 0: the access; 171: the numbers aren't a plan's; 109: there is no room for the widest access
 abbrev pub status_of : Plan → ℕ → ℕ
-status_of p room = if not (is_plan p) then 1 else if nat_lt room p.widest then 2 else 0
+status_of p room = if not (is_plan p) then 171 else if nat_lt room p.widest then 109 else 0
 
 -- the row behind a call
 abbrev pub row_behind : Access → ℕ → Access → Access

@@ -9,14 +9,19 @@ ghost use Rattle.flat_judge.specs.Traffic.{
   chosen_by,
   enables_of,
   length_of,
+  mix_of,
   of_access,
   offset_of,
+  state_of,
   word,
 };
+ghost use Rattle.flat_judge.specs.Plan.{used_bytes};
 
 use crate::Traffic;
+use rand_core::SeedableRng;
 use rand_core::utils::{NextWord, fill_bytes_via_u32, next_u64_via_u32};
 use rand_pcg::Pcg32;
+use rand_xoshiro::SplitMix64;
 
 /// A load or store of bytes of one block.
 #[repr(C)]
@@ -68,15 +73,16 @@ impl Traffic {
         u64::from(block) * u64::from(self.plan.block_bytes) + u64::from(offset)
     }
 
-    #[tactic(auto, unfolding(crate::specs::Traffic::block_of, crate::specs::Traffic::of_burst, crate::specs::Traffic::word, crate::specs::Traffic::behind))]
+    #[tactic(auto, unfolding(crate::specs::Traffic::block_of, crate::specs::Traffic::of_burst, crate::specs::Traffic::word, crate::specs::Traffic::behind), using(crate::proofs::Standing::picked_below))]
     fn block(&self, seed: u64, burst: u64) -> u32
         ensures block { result ≡ block_of self.now.plan seed burst }
         ensures there { result < self.now.plan.blocks }
     {
-        let mut random = Pcg32::new(seed, burst);
-        let block = random.next_word() % self.plan.blocks;
+        let mut random = Pcg32::new(state(seed, burst), burst);
+        let drawn = random.next_word();
+        let block = drawn % self.plan.blocks;
         if random.next_word() % 256 < self.plan.conflicts {
-            block - block % self.plan.sets
+            drawn % self.plan.used_blocks() * self.plan.sets
         } else {
             block
         }
@@ -104,12 +110,14 @@ impl Traffic {
         requires single { self.now.plan.apart ≢ 0 → length ≡ 1 }
         ensures offset { result ≡ offset_of self.now.plan requester length place }
         ensures fits { result + length ≤ self.now.plan.block_bytes }
+        ensures used { result + length ≤ used_bytes self.now.plan }
         ensures own { self.now.plan.apart ≢ 0 → result % self.now.plan.requesters ≡ requester }
     {
+        let used = self.plan.used_bytes();
         if self.plan.apart == 0 {
-            piece(place, self.plan.block_bytes, length)
+            piece(place, used, length)
         } else {
-            piece(place, self.plan.block_bytes, self.plan.requesters) + requester
+            piece(place, used, self.plan.requesters) + requester
         }
     }
 
@@ -154,6 +162,20 @@ fn lowest(number: u64, bits: u32) -> u64
     }
 }
 
+#[tactic(auto, unfolding(crate::specs::Traffic::mix_of))]
+fn mix(state: u64) -> u64
+    ensures { result ≡ mix_of state }
+{
+    SplitMix64::seed_from_u64(state).next_word()
+}
+
+#[tactic(auto, unfolding(crate::specs::Traffic::state_of))]
+fn state(seed: u64, number: u64) -> u64
+    ensures { result ≡ state_of seed number }
+{
+    mix(mix(seed) ^ number)
+}
+
 #[derive(Drop)]
 struct Drawn {
     place: u32,
@@ -170,7 +192,7 @@ impl Drawn {
         ensures chosen { result.chosen ≡ (chosen_by (of_access seed number)).0 }
         ensures rest { result.rest ≡ (chosen_by (of_access seed number)).1 }
     {
-        let mut rest = Pcg32::new(u64::MAX - seed, number);
+        let mut rest = Pcg32::new(state(u64::MAX - seed, number), number);
         let place = rest.next_word();
         let pick = rest.next_word();
         let chosen = next_u64_via_u32(&mut rest);

@@ -1,19 +1,18 @@
 //! One step of flat memory.
-ghost use Rattle.std.specs.Prelude.{◌≡◌, ◌≢◌, true, Some, length};
+ghost use Rattle.std.specs.Prelude.{◌≡◌, ◌≢◌, true, None, Some, length, IfErr, OnOk, OnErr};
 ghost use Rattle.flat_model.specs.Flat.{may_answer, flat_after};
 ghost use Rattle.flat_model.specs.Memory.{Finds};
 ghost use Rattle.flat_judge.specs.Rows.{event_of, answer_of};
-ghost use Rattle.flat_judge.specs.Judge.{flat, judged, status_of, table_after, table_with};
+ghost use Rattle.flat_judge.specs.Judge.{flat, judged, table_after, table_with};
+ghost use Rattle.flat_judge.specs.Reasons.{why, number_of, owed_instead};
+ghost use Rattle.flat_judge.specs.Table.{owed_or};
 
+use crate::reasons::{Reason, against, number};
 use crate::rows::{AnswerRow, EventRow};
 use crate::table::{Due, TAGS, due_word, set_due};
 use flat_model::{Answer, Event, Word, may_answer, merge};
 
-const EXPLAINED: u32 = 0;
-
-const NOT_FLAT: u32 = 1;
-
-const NO_STEP: u32 = 2;
+const MADE: u32 = 0;
 
 #[derive(Clone, Copy)]
 pub(crate) struct Found {
@@ -22,30 +21,73 @@ pub(crate) struct Found {
 }
 
 /// One step over memory's words and what tags are owed. 0: made; of `due` only the tag's entry is
-/// written. 1: flat memory never answers so. 2: a row says nothing, or `due` isn't [`TAGS`] long. 1
-/// and 2 change nothing.
-pub fn flat_step(words: &mut [Word], due: &mut [Due], event: &EventRow, answer: &AnswerRow) -> u32
-    ensures status { result
-        ≡ status_of (judged words.old due.old (event_of event.now) (answer_of answer.now)) }
+/// written. Else the number of a [`Reason`], and nothing is written, but for a
+/// [`Reason::WrongWord`] `owed`.
+pub fn flat_step(
+    words: &mut [Word],
+    due: &mut [Due; TAGS],
+    event: &EventRow,
+    answer: &AnswerRow,
+    owed: &mut Word,
+) -> u32
+    ensures reason { result
+        ≡ number_of (why words.old due.old (event_of event.now) (answer_of answer.now)) }
     ensures step { result ≡ 0
         → judged words.old due.old (event_of event.now) (answer_of answer.now)
-        ≡ Some (Some (flat words.new due.new)) }
+        ≡ Some (flat words.new due.new) }
+    ensures refused { result ≢ 0
+        → judged words.old due.old (event_of event.now) (answer_of answer.now) ≡ None }
     ensures table { result ≡ 0
         → due.new ≡ table_after words.old due.old (event_of event.now) (answer_of answer.now) }
     ensures words { result ≢ 0 → words.new ≡ words.old }
     ensures due { result ≢ 0 → due.new ≡ due.old }
+    ensures owed { owed.new
+        ≡ owed_or owed.old
+        (owed_instead (why words.old due.old (event_of event.now) (answer_of answer.now))) }
 {
-    let (Some(event), Some(answer)) = (event.event(), answer.answer()) else {
-        return NO_STEP;
-    };
-    if due.len() != TAGS {
-        return NO_STEP;
+    match make(words, due, event, answer) {
+        Ok(()) => MADE,
+        Err(reason) => {
+            if let Reason::WrongWord(word) = reason {
+                *owed = word;
+            }
+            number(reason)
+        }
     }
-    if !is_flat(words, due, event, answer) {
-        return NOT_FLAT;
+}
+
+fn make(
+    words: &mut [Word],
+    due: &mut [Due; TAGS],
+    event: &EventRow,
+    answer: &AnswerRow,
+) -> Result<(), Reason>
+    ensures none { OnOk result
+        (why words.old due.old (event_of event.now) (answer_of answer.now) ≡ None) }
+    ensures reason { IfErr result
+        (λ e. why words.old due.old (event_of event.now) (answer_of answer.now) ≡ Some e) }
+    ensures step { OnOk result
+        (judged words.old due.old (event_of event.now) (answer_of answer.now)
+        ≡ Some (flat words.new due.new)) }
+    ensures refused { OnErr result
+        (judged words.old due.old (event_of event.now) (answer_of answer.now) ≡ None) }
+    ensures table { OnOk result
+        (due.new ≡ table_after words.old due.old (event_of event.now) (answer_of answer.now)) }
+    ensures words { OnErr result (words.new ≡ words.old) }
+    ensures due { OnErr result (due.new ≡ due.old) }
+{
+    let Some(event) = event.event() else {
+        return Err(Reason::NoEvent);
+    };
+    let Some(answer) = answer.answer() else {
+        return Err(Reason::NoAnswer);
+    };
+    let found = find(words, due, event, answer);
+    if !may_answer(event, answer, found.inside, found.owed) {
+        return Err(against(event, answer, found));
     }
     step(words, due, event, answer);
-    EXPLAINED
+    Ok(())
 }
 
 pub(crate) fn find(words: &[Word], due: &[Due], event: Event, answer: Answer) -> Found
@@ -64,13 +106,6 @@ pub(crate) fn find(words: &[Word], due: &[Due], event: Event, answer: Answer) ->
         _ => None,
     };
     Found { inside, owed }
-}
-
-fn is_flat(words: &[Word], due: &[Due], event: Event, answer: Answer) -> bool
-    ensures { result ≡ may_answer (flat words.now due.now) event answer }
-{
-    let found = find(words, due, event, answer);
-    may_answer(event, answer, found.inside, found.owed)
 }
 
 fn step(words: &mut [Word], due: &mut [Due], event: Event, answer: Answer)

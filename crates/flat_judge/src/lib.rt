@@ -1,7 +1,10 @@
-//! The judge of flat memory. [`flat_step`] comes first: it judges a step, over words and a table of
-//! the caller, a test bench mostly in C.
+//! The judge of flat memory, over words and a table of the caller.
 //!
-//! Each number, row and length has an answer. Nothing allocates. A [`Plan`] draws traffic that
+//! - First call: [`flat_step`] judges one event with its answer, or returns the [`Reason`] why not;
+//!   [`flat_open`] counts the loads that wait.
+//! - Caller: `kroft_c`, and through it a test bench, mostly in C.
+//!
+//! Each number, row and length has an answer, and nothing allocates. A [`Plan`] draws traffic that
 //! caches find hard.
 #![tactic(auto)]
 
@@ -11,14 +14,12 @@ mod plan;
 mod reasons;
 mod rows;
 mod table;
-mod texts;
 mod traffic_rows;
 
 pub use access::{Access, fill_bytes};
 pub use judge::flat_step;
 pub use plan::{Plan, Traffic};
-pub use reasons::{Reason, flat_why};
+pub use reasons::Reason;
 pub use rows::{AnswerRow, EventRow, answer_row, event_row};
-pub use table::{Due, TAGS, flat_open, flat_owed};
-pub use texts::why_text;
+pub use table::{Due, TAGS, flat_open};
 pub use traffic_rows::traffic;

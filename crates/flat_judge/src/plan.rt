@@ -1,6 +1,19 @@
 //! A plan of traffic.
-ghost use Rattle.std.specs.Prelude.{◌≡◌, true, is_some, IfSome};
-ghost use Rattle.flat_judge.specs.Plan.{is_plan, has_memory, has_widths, has_requesters, Memory, Widths, Requesters};
+ghost use Rattle.std.specs.Prelude.{◌≡◌, ◌≤◌, ◌<◌, ◌-◌, ◌*◌, true, is_some, IfSome};
+ghost use Rattle.flat_judge.specs.Plan.{
+  Memory,
+  Requesters,
+  Sets,
+  Widths,
+  has_memory,
+  has_requesters,
+  has_sets,
+  has_widths,
+  is_plan,
+  set_blocks,
+  used_blocks,
+  used_bytes,
+};
 
 /// What traffic is like. Shares are in 256ths, 256 and more always.
 #[repr(C)]
@@ -28,6 +41,10 @@ pub struct Plan {
     pub stores: u32,
     /// Share of stores that may leave bytes out.
     pub partial: u32,
+    /// Words of `widest` bytes that are used of a block, the first ones. 0: all.
+    pub words: u32,
+    /// Blocks of set 0 that conflicting bursts go to, the first ones. 0: all.
+    pub blocks_of_set: u32,
 }
 
 impl Plan {
@@ -37,7 +54,7 @@ impl Plan {
         ensures plan { is_some result ≡ is_plan self.now }
         ensures same { IfSome result (λ traffic. traffic.plan ≡ self.now) }
     {
-        if self.has_memory() && self.has_widths() && self.has_requesters() {
+        if self.has_memory() && self.has_widths() && self.has_sets() && self.has_requesters() {
             Some(Traffic { plan: *self })
         } else {
             None
@@ -55,7 +72,7 @@ impl Plan {
             && u64::from(self.blocks) * u64::from(self.block_bytes) - 1 <= u64::MAX - self.base
     }
 
-    #[tactic(auto, unfolding(crate::specs::Plan::has_widths))]
+    #[tactic(auto, unfolding(crate::specs::Plan::has_widths), using(crate::proofs::Standing::words_fit))]
     fn has_widths(&self) -> bool
         ensures test { result ≡ has_widths self.now }
         ensures bounds { result ≡ true → Widths self.now }
@@ -65,17 +82,65 @@ impl Plan {
             && 64 % self.widest == 0
             && self.widest <= self.block_bytes
             && self.block_bytes % self.widest == 0
+            && self.words <= self.block_bytes / self.widest
+    }
+
+    #[tactic(auto, unfolding(crate::specs::Plan::has_sets))]
+    fn has_sets(&self) -> bool
+        requires memory { Memory self.now }
+        ensures test { result ≡ has_sets self.now }
+        ensures bounds { result ≡ true → Sets self.now }
+    {
+        self.sets > 0 && self.blocks_of_set <= self.set_blocks()
     }
 
     #[tactic(auto, unfolding(crate::specs::Plan::has_requesters))]
     fn has_requesters(&self) -> bool
+        requires widths { Widths self.now }
         ensures test { result ≡ has_requesters self.now }
         ensures bounds { result ≡ true → Requesters self.now }
     {
-        self.sets > 0
-            && self.burst > 0
+        self.burst > 0
             && self.requesters > 0
-            && (self.apart == 0 || self.requesters <= self.block_bytes)
+            && (self.apart == 0 || self.requesters <= self.used_bytes())
+    }
+
+    #[tactic(auto, unfolding(crate::specs::Plan::used_bytes), using(crate::proofs::Standing::words_some))]
+    pub(crate) fn used_bytes(&self) -> u32
+        requires widths { Widths self.now }
+        ensures bytes { result ≡ used_bytes self.now }
+        ensures most { result ≤ self.now.block_bytes }
+        ensures widest { self.now.widest ≤ result }
+    {
+        if self.words == 0 {
+            self.block_bytes
+        } else {
+            self.words * self.widest
+        }
+    }
+
+    #[tactic(auto, unfolding(crate::specs::Plan::set_blocks))]
+    fn set_blocks(&self) -> u32
+        requires blocks { 1 ≤ self.now.blocks }
+        requires sets { 1 ≤ self.now.sets }
+        ensures { result ≡ set_blocks self.now }
+    {
+        (self.blocks - 1) / self.sets + 1
+    }
+
+    #[tactic(auto, unfolding(crate::specs::Plan::used_blocks, crate::specs::Plan::set_blocks), using(crate::proofs::Standing::set_block_there))]
+    pub(crate) fn used_blocks(&self) -> u32
+        requires memory { Memory self.now }
+        requires sets { Sets self.now }
+        ensures blocks { result ≡ used_blocks self.now }
+        ensures some { 1 ≤ result }
+        ensures there { (result - 1) * self.now.sets < self.now.blocks }
+    {
+        if self.blocks_of_set == 0 {
+            self.set_blocks()
+        } else {
+            self.blocks_of_set
+        }
     }
 }
 
@@ -86,5 +151,6 @@ pub struct Traffic {
     pub plan: Plan,
     ghost memory: { Memory plan },
     ghost widths: { Widths plan },
+    ghost sets: { Sets plan },
     ghost requesters: { Requesters plan },
 }

@@ -1,7 +1,7 @@
 //! What each tag is owed.
-ghost use Rattle.std.specs.Prelude.{◌≡◌, ◌≤◌, if◌then◌else◌, is_some, length, slice_set};
+ghost use Rattle.std.specs.Prelude.{◌≡◌, ◌≤◌, length, slice_set};
 ghost use Rattle.flat_model.specs.Flat.{with_due};
-ghost use Rattle.flat_judge.specs.Table.{due_in, owed_by, owed_or, tags_owed, owed_below, nth_tag};
+ghost use Rattle.flat_judge.specs.Table.{due_in, owed_by, tags_owed, owed_below, nth_tag};
 
 use flat_model::Word;
 
@@ -18,21 +18,7 @@ pub struct Due {
     pub word: Word,
 }
 
-/// Whether a tag is owed a word: 1 writes it, 0 doesn't. `due` may have any length, here and below.
-pub fn flat_owed(due: &[Due], tag: u16, word: &mut Word) -> u32
-    ensures status { result ≡ (if is_some (due_in due.now tag) then 1 else 0) }
-    ensures word { word.new ≡ owed_or word.old (due_in due.now tag) }
-{
-    match due_word(due, tag) {
-        Some(owed) => {
-            *word = owed;
-            1
-        }
-        None => 0,
-    }
-}
-
-/// How many tags are owed words, and the `n`th from 0, if any.
+/// How many tags are owed words, and the `n`th from 0, if any. `due` may have any length.
 #[tactic(auto, unfolding(crate::specs::Table::tags_owed))]
 pub fn flat_open(due: &[Due], n: u32, tag: &mut u16) -> u32
     ensures count { result ≡ length (tags_owed due.now) }

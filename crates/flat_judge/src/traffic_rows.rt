@@ -6,11 +6,11 @@ use crate::{Access, Plan, fill_bytes};
 
 const DRAWN: u32 = 0;
 
-const NO_PLAN: u32 = 1;
+const NO_PLAN: u32 = 171;
 
-const NO_ROOM: u32 = 2;
+const NO_ROOM: u32 = 109;
 
-/// Writes an access and a store's bytes. 0: done. 1: the plan is out of range. 2: `bytes` is
+/// Writes an access and a store's bytes. 0: done. 171: the plan is out of range. 109: `bytes` is
 /// shorter than the widest access.
 pub fn traffic(plan: &Plan, seed: u64, number: u64, access: &mut Access, bytes: &mut [u8]) -> u32
     ensures status { result ≡ status_of plan.now (length bytes.old) }

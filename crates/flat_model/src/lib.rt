@@ -1,8 +1,11 @@
 //! Words and lanes of memory, a machine's events and answers, and the flat memory they speak of.
 //!
-//! All other crates use these plain types. `specs/Flat.antt` says which answers an event may get,
-//! and what each changes. [`FlatMemory::new`] comes first; [`FlatMemory::replay`] judges a run. An
-//! [`Image`] is what memory begins with.
+//! - First call: [`FlatMemory::new`]. [`FlatMemory::step`] judges one answer, and
+//!   [`FlatMemory::replay`] a whole run.
+//! - Caller: all other crates, which use these plain types.
+//!
+//! `specs/Flat.antt` says which answers an event may get, and what each changes. An [`Image`] is
+//! what memory begins with. A refusal has a [`Cause`]; a machine's numbers are a [`Shape`].
 #![tactic(auto)]
 
 ghost use Rattle.std.specs.Prelude.{⊤, ◌≡◌, ◌==◌, [], ◌∷◌, codes, bit_and, if◌then◌else◌};

@@ -3,18 +3,18 @@ use Rattle.std.proofs.Common.{◌≡◌, ℕ, ap, ◌∙◌, subst, List}
 use Rattle.std.specs.Prelude.{Bool, true, false, if◌then◌else◌, Option, Some, None, Result}
 use Rattle.memory_histories.specs.declared.events.HistoryEvent.{HistoryEvent}
 use Rattle.memory_histories.specs.declared.sets.ByteSet.{ByteSet}
-use Rattle.history_handles.specs.declared.faults.JudgeFault.{JudgeFault}
+use Rattle.history_sessions.specs.declared.faults.JudgeFault.{JudgeFault}
 use Rattle.history_handles.specs.declared.handle.HistoryHandle.{HistoryHandle}
 use Rattle.history_handles.specs.declared.open.OpenFault.{OpenFault}
 use Rattle.history_handles.specs.Opening.{fault_or_memory, open_number, IsTold}
 use Rattle.history_handles.specs.declared.history.OpenHistory.{OpenHistory}
 use Rattle.history_handles.specs.Mark.{nonzero}
 use Rattle.history_handles.specs.Behind.{behind, judge_behind, IsBehind}
-use Rattle.history_handles.specs.History.{Passes}
-use Rattle.history_handles.specs.Kept.{JudgeFaultIs, IsFound, IsSetFound}
-use Rattle.history_handles.specs.Session.{Session, session_after, session_refusing}
+use Rattle.history_sessions.specs.History.{Passes}
+use Rattle.history_sessions.specs.Kept.{judge_of, JudgeFaultIs, IsSetFound}
+use Rattle.history_sessions.specs.Session.{Session, session_after, session_refusing}
 use Rattle.history_handles.specs.Status.{judge_number}
-use Rattle.history_handles.specs.Calls.{IsAnswered, IsSetAnswered, IsRowTold, IsPlaceAnswered, IsFaultTold}
+use Rattle.history_handles.specs.Calls.{IsAnswered, IsSetAnswered, IsRowTold}
 
 pub is_told : (found : Option OpenFault) (fault : OpenFault) (number : ℕ) → fault ≡ fault_or_memory found
     → number ≡ open_number fault → IsTold number found
@@ -26,8 +26,8 @@ is_some_of : {X : Type 0} (t : Bool) (x y : X) → (if t then Some x else None) 
 is_some_of true x y h = cc
 is_some_of false x y h = cc
 
-pub the_judge : (h : HistoryHandle) (m : OpenHistory) → behind h ≡ Some m → m.judge ≡ judge_behind h
-the_judge h m is = ap (λ n. n.judge) (is_some_of (nonzero h.open) h.history m is)
+pub the_judge : (h : HistoryHandle) (m : OpenHistory) → behind h ≡ Some m → judge_of m.session ≡ judge_behind h
+the_judge h m is = ap (λ n. judge_of n.session) (is_some_of (nonzero h.open) h.history m is)
 
 -- an event that was taken
 pub is_taken : (status : ℕ) (before h : HistoryHandle) (s : Session) (event : HistoryEvent) → status ≡ 0 → Passes s.history event
@@ -36,7 +36,7 @@ is_taken status before h s event zero law left = record { said = None; number = 
 
 -- and one that wasn't
 pub is_not_taken : (status : ℕ) (before h : HistoryHandle) (m : OpenHistory) (s : Session) (event : HistoryEvent) (found : JudgeFault)
-    → behind before ≡ Some m → status ≡ judge_number found → JudgeFaultIs m.judge s.history event found
+    → behind before ≡ Some m → status ≡ judge_number found → JudgeFaultIs (judge_of m.session) s.history event found
     → IsBehind h (Some (session_refusing s found)) → IsAnswered status before h s event
 is_not_taken status before h m s event found is number law left = record {
   said = Some found;
@@ -47,19 +47,10 @@ is_not_taken status before h m s event found is number law left = record {
 
 pub is_set : (status : ℕ) (h : HistoryHandle) (m : OpenHistory) (row row' : List ℕ) (s : Session) (number address : ℕ)
     (found : Result (Option ByteSet) JudgeFault) → behind h ≡ Some m
-    → IsSetFound m.judge s.history number address found → IsRowTold status row row' found
+    → IsSetFound (judge_of m.session) s.history number address found → IsRowTold status row row' found
     → IsSetAnswered status h row row' s number address
 is_set status h m row row' s number address found is law told = record {
   found = found;
   law = subst (λ j. IsSetFound j s.history number address found) (the_judge h m is) law;
-  told = told;
-}
-
-pub is_place : (status : ℕ) (h : HistoryHandle) (m : OpenHistory) (place place' : ℕ) (s : Session) (event : HistoryEvent)
-    (found : Option JudgeFault) → behind h ≡ Some m → IsFound m.judge s.history event found
-    → IsFaultTold status place place' found → IsPlaceAnswered status h place place' s event
-is_place status h m place place' s event found is law told = record {
-  found = found;
-  law = subst (λ j. IsFound j s.history event found) (the_judge h m is) law;
   told = told;
 }

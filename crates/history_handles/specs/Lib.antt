@@ -1,12 +1,5 @@
--- histories of all laws
-pub mod Atomic
-pub mod History
+-- rows of operations and of bytes
 pub mod Rows
-pub mod Session
-pub mod Faults
--- what is kept of them
-pub mod Kept
-pub mod KeptSession
 -- a handle, and what stands behind it
 pub mod Mark
 pub mod Blocks

@@ -5,12 +5,13 @@ use Rattle.memory_histories.specs.declared.events.Rest.{Rest}
 use Rattle.memory_histories.specs.declared.events.Rest.TheVariants.{Zeros, Unknown}
 use Rattle.atomic_histories.specs.declared.memory.UnitSize.{UnitSize}
 use Rattle.atomic_histories.specs.declared.memory.UnitSize.TheVariants.{One, Two, Four, Eight}
-use Rattle.history_handles.specs.declared.judge.Law.{Law}
-use Rattle.history_handles.specs.declared.judge.Law.TheVariants.{Regular, Flat, Atomic}
+use Rattle.atomic_histories.specs.declared.memory.TheConstants.{DEFAULT_LIMIT}
+use Rattle.history_sessions.specs.declared.judge.HistoryLaw.{HistoryLaw}
+use Rattle.history_sessions.specs.declared.judge.HistoryLaw.TheVariants.{Regular, Flat, Atomic}
+use Rattle.history_sessions.specs.Session.{session_opening}
 use Rattle.history_handles.specs.declared.history.OpenHistory.{OpenHistory}
 use Rattle.history_handles.specs.declared.open.OpenFault.{OpenFault}
 use Rattle.history_handles.specs.declared.open.OpenFault.TheVariants.{NoLaw, OutOfMemory, OpenAlready}
-use Rattle.history_handles.specs.Session.{session_opening}
 use Rattle.history_handles.specs.Behind.{IsKeptOf}
 
 -- the unit that has so many bytes
@@ -20,14 +21,14 @@ unit_of bytes =
     else None
 
 -- a law under which each byte is read and written for itself
-abbrev pub of_bytes : Law → ℕ → Option Law
+abbrev pub of_bytes : HistoryLaw → ℕ → Option HistoryLaw
 of_bytes law unit = if unit == 1 then Some law else None
 
 -- the law and the rest of memory that these numbers choose, with the unit of bytes that are read and written as one
-abbrev pub law_of : ℕ → ℕ → Option Law
+abbrev pub law_of : ℕ → ℕ → Option HistoryLaw
 law_of law unit =
     if law == 0 then of_bytes Regular unit else if law == 1 then of_bytes Flat unit
-    else if law == 2 then option_map (λ size. Atomic size) (unit_of unit) else None
+    else if law == 2 then option_map (λ size. Atomic size DEFAULT_LIMIT) (unit_of unit) else None
 
 abbrev pub rest_of : ℕ → Option Rest
 rest_of rest = if rest == 0 then Some Zeros else if rest == 1 then Some Unknown else None
@@ -36,7 +37,7 @@ abbrev pub both : {X Y : Type 0} → Option X → Option Y → Option (X × Y)
 both (Some x) (Some y) = Some (x, y)
 both x y = None
 
-abbrev pub chosen : ℕ → ℕ → ℕ → Option (Law × Rest)
+abbrev pub chosen : ℕ → ℕ → ℕ → Option (HistoryLaw × Rest)
 chosen law unit rest = both (law_of law unit) (rest_of rest)
 
 -- why no history is opened, by what is kept behind the handle: `None`, where only memory can be wanting
@@ -58,10 +59,10 @@ IsTold status (Some fault) = status ≡ open_number fault
 IsTold status None = status ≢ open_number OutOfMemory → status ≡ 0
 
 -- the history that is kept has no event yet, and is of this law and memory
-abbrev pub IsOpened : Option OpenHistory → Option (Law × Rest) → List ℕ → Type 0
+abbrev pub IsOpened : Option OpenHistory → Option (HistoryLaw × Rest) → List ℕ → Type 0
 IsOpened kept choice image = IsKeptOf kept (option_map (λ c. session_opening c.0 image c.1) choice)
 
 -- 0, where there is a history
 abbrev pub told_status : Option OpenHistory → ℕ
-told_status None = 3
+told_status None = 100
 told_status (Some m) = 0

@@ -3,16 +3,16 @@ use Rattle.std.specs.Prelude.{ℕ, Option, Some, None}
 use Rattle.memory_histories.specs.declared.events.HistoryFault.{HistoryFault}
 use Rattle.memory_histories.specs.declared.events.HistoryFault.TheVariants.{OutOfRange, NoByteEnabled, NumberInUse, NotOpen, WrongLength}
 use Rattle.memory_histories.specs.declared.events.HistoryFault.TheVariants.{WrongByte}
-use Rattle.history_handles.specs.declared.faults.JudgeFault.{JudgeFault}
-use Rattle.history_handles.specs.declared.faults.JudgeFault.TheVariants.{Refused, Undecided, TooLong, OutOfMemory}
+use Rattle.history_sessions.specs.declared.faults.JudgeFault.{JudgeFault}
+use Rattle.history_sessions.specs.declared.faults.JudgeFault.TheVariants.{Refused, Undecided, TooLong, OutOfMemory}
 
 abbrev pub fault_number : HistoryFault → ℕ
-fault_number OutOfRange = 11
-fault_number NoByteEnabled = 12
-fault_number NumberInUse = 13
-fault_number NotOpen = 14
-fault_number WrongLength = 15
-fault_number (WrongByte place) = 16
+fault_number OutOfRange = 151
+fault_number NoByteEnabled = 152
+fault_number NumberInUse = 153
+fault_number NotOpen = 154
+fault_number WrongLength = 155
+fault_number (WrongByte place) = 156
 
 abbrev pub judge_number : JudgeFault → ℕ
 judge_number (Refused fault) = fault_number fault

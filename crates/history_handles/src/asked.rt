@@ -1,25 +1,27 @@
 //! What a history behind a handle is asked.
-ghost use Rattle.std.specs.Prelude.{◌≡◌, None, Option, Some, length};
-ghost use Rattle.memory_histories.specs.declared.events.HistoryEvent.TheVariants.{LoadResponse};
-ghost use Rattle.history_handles.specs.Session.{Session};
+ghost use Rattle.std.specs.Prelude.{◌≡◌, Option, Some, length, slice_get};
+ghost use Rattle.history_sessions.specs.Kept.{IsKept};
+ghost use Rattle.history_sessions.specs.Session.{Session};
 ghost use Rattle.history_handles.specs.Behind.{behind, IsBehind};
-ghost use Rattle.history_handles.specs.Calls.{IsSetTold, IsRowTold, IsPlaceTold, IsFaultTold, IsCauseTold, IsCounted, IsOperationTold};
-ghost use Rattle.history_handles.specs.Calls.{load_asked, store_asked};
+ghost use Rattle.history_handles.specs.Calls.{IsSetTold, IsRowTold, IsCounted, IsOperationTold, open_of, operation_asked};
 
-use crate::faults::JudgeFault;
 use crate::handle::HistoryHandle;
-use crate::rows::{OCTETS, Operation, write_set};
-use crate::status::{
-    CLOSED, DONE, FOUND, NO_ROOM, NOT_THERE, WRONG_BYTE, fault_number, judge_number,
-};
-use memory_histories::{ByteSet, HistoryEvent, HistoryFault};
+use crate::rows::{OCTETS, Operation, row_of, write_set};
+use crate::status::{ABSENT, CLOSED, DONE, NO_ROOM, judge_number};
+use history_reasons::OpenOperation;
+use history_sessions::{HistorySession, JudgeFault};
+use memory_histories::ByteSet;
 use std::alloc::Global;
+
+const LOADS: u32 = 0;
+
+const STORES: u32 = 1;
 
 /// What an open load may return for one byte alone, if answered now: bit `k` of `set[n]` is byte
 /// `8n + k`.
 ///
-/// 1: `set` has it. 0: no such load asks for that byte. 2: `set` hasn't 32 bytes. 3: closed. 105,
-/// 101: by the atomic law, as of [`load_response`](crate::load_response). Only 1 writes `set`.
+/// 0: `set` has it. 1: no such load asks for that byte. 109: `set` hasn't 32 bytes. 100: closed.
+/// 105, 101: by the atomic law, as of [`load_response`](crate::load_response). Only 0 writes `set`.
 #[tactic(auto, using(crate::proofs::Telling::is_set))]
 pub fn may_return(
     alloc: Global,
@@ -36,7 +38,7 @@ pub fn may_return(
     let Some(history) = handle.take(alloc) else {
         return CLOSED;
     };
-    let found = history.as_ref().may_return(number, address);
+    let found = history.as_ref().session.may_return(number, address);
     handle.keep(history);
     if set.len() != OCTETS {
         return NO_ROOM;
@@ -51,122 +53,60 @@ fn told_set(found: Result<Option<ByteSet>, JudgeFault>, set: &mut [u8]) -> u32
     match found {
         Ok(Some(bytes)) => {
             write_set(bytes, set);
-            FOUND
+            DONE
         }
-        Ok(None) => NOT_THERE,
+        Ok(None) => ABSENT,
         Err(fault) => judge_number(fault),
     }
 }
 
-/// What [`load_response`](crate::load_response) would say of these bytes, were there room, and the
-/// first wrong one.
+/// The open load, or store, at place `n` in the order of requests, and how many there are. `kind` 0
+/// asks for loads, 1 for stores.
 ///
-/// 16: the byte at `place`, from 0; by the atomic law the first in the lowest wrong unit. 0, 14,
-/// 15, 105, 3: as there. 101: by the atomic law alone. Only 16 writes `place`.
-#[tactic(auto, using(crate::proofs::Telling::is_place))]
-pub fn wrong_place(
-    alloc: Global,
-    handle: &mut HistoryHandle,
-    number: u64,
-    bytes: &[u8],
-    place: &mut u64,
-) -> u32
-    ensures place { (b : Option Session)
-        → IsBehind handle.old b
-        → IsPlaceTold result handle.old place.old place.new b (LoadResponse number bytes.entry) }
-    ensures same { behind handle.new ≡ behind handle.old }
-{
-    let Some(history) = handle.take(alloc) else {
-        return CLOSED;
-    };
-    let found = history
-        .as_ref()
-        .fault(HistoryEvent::LoadResponse { number, bytes });
-    handle.keep(history);
-    told_place(found, place)
-}
-
-fn told_place(found: Option<JudgeFault>, place: &mut u64) -> u32
-    ensures { IsFaultTold result place.old place.new found }
-{
-    match found {
-        None => DONE,
-        Some(JudgeFault::Refused(cause)) => told_cause(cause, place),
-        Some(fault) => judge_number(fault),
-    }
-}
-
-fn told_cause(cause: HistoryFault, place: &mut u64) -> u32
-    ensures { IsCauseTold result place.old place.new cause }
-{
-    match cause {
-        HistoryFault::WrongByte { place: wrong } => {
-            *place = wrong as u64;
-            WRONG_BYTE
-        }
-        cause => fault_number(cause),
-    }
-}
-
-/// How many loads and stores are open. 0: told. 3: closed, nothing is written.
+/// 0: told. 1: there is none at `n`: `operation` stays. 100: closed, nothing is written.
 pub fn unanswered(
     alloc: Global,
     handle: &mut HistoryHandle,
-    loads: &mut u64,
-    stores: &mut u64,
-) -> u32
-    ensures counts { (b : Option Session)
-        → IsBehind handle.old b
-        → IsCounted result b loads.old loads.new stores.old stores.new }
-    ensures same { behind handle.new ≡ behind handle.old }
-{
-    let Some(history) = handle.take(alloc) else {
-        return CLOSED;
-    };
-    *loads = history.as_ref().open_load_count() as u64;
-    *stores = history.as_ref().open_store_count() as u64;
-    handle.keep(history);
-    DONE
-}
-
-/// The open load at place `n`, in the order of requests. 1: told. 0: none. 3: closed.
-pub fn unanswered_load(
-    alloc: Global,
-    handle: &mut HistoryHandle,
+    kind: u32,
     n: u64,
     operation: &mut Operation,
+    count: &mut u64,
 ) -> u32
-    ensures load { (b : Option Session)
+    ensures operation { (b : Option Session)
         → IsBehind handle.old b
-        → IsOperationTold result operation.old operation.new (load_asked b n) }
+        → IsOperationTold result operation.old operation.new (operation_asked b kind n) }
+    ensures count { (b : Option Session)
+        → IsBehind handle.old b
+        → IsCounted b kind count.old count.new }
     ensures same { behind handle.new ≡ behind handle.old }
 {
     let Some(history) = handle.take(alloc) else {
         return CLOSED;
     };
-    let found = history.as_ref().open_load(n as usize);
+    let found = row_of(open_at(&history.as_ref().session, kind, n as usize));
+    *count = open_count(&history.as_ref().session, kind) as u64;
     handle.keep(history);
     told(found, operation)
 }
 
-/// The open store at place `n`, in the order of requests. 1: told. 0: none. 3: closed.
-pub fn unanswered_store(
-    alloc: Global,
-    handle: &mut HistoryHandle,
-    n: u64,
-    operation: &mut Operation,
-) -> u32
-    ensures store { (b : Option Session)
-        → IsBehind handle.old b
-        → IsOperationTold result operation.old operation.new (store_asked b n) }
-    ensures same { behind handle.new ≡ behind handle.old }
+fn open_at(session: &HistorySession, kind: u32, n: usize) -> Option<OpenOperation>
+    ensures { (s : Session) → IsKept session.now s → result ≡ slice_get (open_of s kind) n }
 {
-    let Some(history) = handle.take(alloc) else {
-        return CLOSED;
-    };
-    let found = history.as_ref().open_store(n as usize);
-    handle.keep(history);
-    told(found, operation)
+    match kind {
+        LOADS => session.open_load(n),
+        STORES => session.open_store(n),
+        _ => None,
+    }
+}
+
+fn open_count(session: &HistorySession, kind: u32) -> usize
+    ensures { (s : Session) → IsKept session.now s → result ≡ length (open_of s kind) }
+{
+    match kind {
+        LOADS => session.open_load_count(),
+        STORES => session.open_store_count(),
+        _ => 0,
+    }
 }
 
 fn told(found: Option<Operation>, operation: &mut Operation) -> u32
@@ -175,8 +115,8 @@ fn told(found: Option<Operation>, operation: &mut Operation) -> u32
     match found {
         Some(open) => {
             *operation = open;
-            FOUND
+            DONE
         }
-        None => NOT_THERE,
+        None => ABSENT,
     }
 }

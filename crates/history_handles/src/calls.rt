@@ -1,7 +1,7 @@
 //! Events of a history behind a handle.
 ghost use Rattle.std.specs.Prelude.{Option};
 ghost use Rattle.memory_histories.specs.declared.events.HistoryEvent.TheVariants.{LoadRequest, LoadResponse, StoreRequest, StoreResponse};
-ghost use Rattle.history_handles.specs.Session.{Session};
+ghost use Rattle.history_sessions.specs.Session.{Session};
 ghost use Rattle.history_handles.specs.Behind.{IsBehind};
 ghost use Rattle.history_handles.specs.Calls.{IsEventTold};
 
@@ -12,8 +12,8 @@ use std::alloc::Global;
 
 /// A load of `length` bytes from `address` on is requested under this number.
 ///
-/// 0: taken. 3: closed. 11: 0 bytes, more than 64, or beyond the last address. 13: the number has
-/// an open load. 101: too little memory. 104: 2^64 - 1 events were taken; never by the atomic law.
+/// 0: taken. 100: closed. 151: 0 bytes, more than 64, or beyond the last address. 153: the number
+/// has an open load. 101: too little memory. 104: 2^64 - 1 events were taken; never by the atomic law.
 /// After each but 0 nothing has changed.
 pub fn load_request(
     alloc: Global,
@@ -39,8 +39,8 @@ pub fn load_request(
 
 /// The load open under this number is answered with these bytes.
 ///
-/// 0: taken. 14: no such load. 15: another length was requested. 16: it may not return one of the
-/// bytes. 105, by the atomic law alone: too many ways to follow at a unit, or more than 65,536
+/// 0: taken. 154: no such load. 155: another length was requested. 156: it may not return one of
+/// the bytes. 105, by the atomic law alone: too many ways to follow at a unit, or more than 65,536
 /// words are kept of it; [`undecided`](crate::undecided) tells which. Others, and what they leave:
 /// as of [`load_request`].
 pub fn load_response(alloc: Global, handle: &mut HistoryHandle, number: u64, bytes: &[u8]) -> u32
@@ -53,7 +53,7 @@ pub fn load_response(alloc: Global, handle: &mut HistoryHandle, number: u64, byt
 
 /// A store of these bytes from `address` on is requested; bit `k` of `enables` enables byte `k`.
 ///
-/// 0: taken. 12: no byte is enabled. Others as of [`load_request`], with stores.
+/// 0: taken. 152: no byte is enabled. Others as of [`load_request`], with stores.
 pub fn store_request(
     alloc: Global,
     handle: &mut HistoryHandle,
@@ -80,7 +80,7 @@ pub fn store_request(
 
 /// The store open under this number is answered.
 ///
-/// 0: taken. 14: no such store. Others as of [`load_response`].
+/// 0: taken. 154: no such store. Others as of [`load_response`].
 pub fn store_response(alloc: Global, handle: &mut HistoryHandle, number: u64) -> u32
     ensures { (b : Option Session)
         → IsBehind handle.old b
@@ -100,7 +100,7 @@ fn tell(alloc: Global, handle: &mut HistoryHandle, event: HistoryEvent) -> u32
     let Some(mut history) = handle.take(alloc) else {
         return CLOSED;
     };
-    let told = history.as_mut().step(event);
+    let told = history.as_mut().session.step(event);
     handle.keep(history);
     match told {
         Ok(()) => DONE,

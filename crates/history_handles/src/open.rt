@@ -6,9 +6,9 @@ ghost use Rattle.history_handles.specs.Opening.{IsTold, IsOpened, told_status};
 
 use crate::handle::HistoryHandle;
 use crate::history::OpenHistory;
-use crate::judge::Law;
 use crate::status::{CLOSED, DONE, NO_LAW, OPEN_ALREADY, OUT_OF_MEMORY};
-use atomic_histories::UnitSize;
+use atomic_histories::{DEFAULT_LIMIT, UnitSize};
+use history_sessions::{HistoryLaw, HistorySession};
 use memory_histories::Rest;
 use std::alloc::{AllocError, Global};
 
@@ -57,7 +57,7 @@ pub fn open_history(
     }
 }
 
-/// Frees a history and closes the handle. 0: done. 3: closed already.
+/// Frees a history and closes the handle. 0: done. 100: closed already.
 pub fn free_history(alloc: Global, handle: &mut HistoryHandle) -> u32
     ensures status { result ≡ told_status (behind handle.old) }
     ensures closed { behind handle.new ≡ None }
@@ -90,33 +90,36 @@ fn open_into(
     let Some((law, rest)) = chosen(law, unit, rest) else {
         return Err(OpenFault::NoLaw);
     };
-    let history = OpenHistory::new(alloc, law, image, rest)?;
-    let boxed = Box::new(alloc, history).map_err(AllocError::from)?;
+    let session = HistorySession::new(alloc, law, image, rest)?;
+    let boxed = Box::new(alloc, OpenHistory { session }).map_err(AllocError::from)?;
     handle.keep(boxed);
     Ok(())
 }
 
-fn chosen(law: u32, unit: u32, rest: u32) -> Option<(Law, Rest)>
+fn chosen(law: u32, unit: u32, rest: u32) -> Option<(HistoryLaw, Rest)>
     ensures { result ≡ chosen law unit rest }
 {
     Some((law_of(law, unit)?, rest_of(rest)?))
 }
 
-fn law_of(law: u32, unit: u32) -> Option<Law>
+fn law_of(law: u32, unit: u32) -> Option<HistoryLaw>
     ensures { result ≡ law_of law unit }
 {
     match law {
-        0 => of_bytes(Law::Regular, unit),
-        1 => of_bytes(Law::Flat, unit),
+        0 => of_bytes(HistoryLaw::Regular, unit),
+        1 => of_bytes(HistoryLaw::Flat, unit),
         2 => match unit_of(unit) {
-            Some(size) => Some(Law::Atomic(size)),
+            Some(unit) => Some(HistoryLaw::Atomic {
+                unit,
+                limit: DEFAULT_LIMIT,
+            }),
             None => None,
         },
         _ => None,
     }
 }
 
-fn of_bytes(law: Law, unit: u32) -> Option<Law>
+fn of_bytes(law: HistoryLaw, unit: u32) -> Option<HistoryLaw>
     ensures { result ≡ of_bytes law unit }
 {
     if unit == 1 { Some(law) } else { None }

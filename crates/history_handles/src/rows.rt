@@ -36,7 +36,9 @@ pub(crate) fn row_of(operation: Option<OpenOperation>) -> Option<Operation>
 #[repr(C)]
 #[derive(Clone, Copy, PartialEq, Eq, Debug)]
 pub struct ReasonRow {
-    /// The byte's place in the answer.
+    /// The place in the answer of the first wrong byte.
+    pub wrong_place: u64,
+    /// The place of the byte that the reason is of.
     pub place: u64,
     /// The last store that put the byte there.
     pub stored: u64,
@@ -46,8 +48,8 @@ pub struct ReasonRow {
     pub overwritten_by: u64,
     /// How many events were taken before its request.
     pub overwritten_at: u64,
-    /// 0: none. 1: the byte was never there. 2: it was memory's first, and 3: a store's, then
-    /// overwritten. 4: each byte may come, but they never stood together.
+    /// 160: none. 161: the byte was never there. 162: it was memory's first, and 163: a store's,
+    /// then overwritten. 164: each byte may come, but they never stood together.
     pub reason: u32,
 }
 

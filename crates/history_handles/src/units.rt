@@ -1,18 +1,18 @@
 //! Undecided units, and forgetting them.
 ghost use Rattle.std.specs.Prelude.{◌≡◌, None, Option};
-ghost use Rattle.history_handles.specs.Session.{Session};
+ghost use Rattle.history_sessions.specs.Session.{Session};
 ghost use Rattle.history_handles.specs.Behind.{behind, IsBehind};
 ghost use Rattle.history_handles.specs.Calls.{IsForgetStatus, forgotten_by, IsAddressTold};
 
-use crate::faults::ForgetFault;
 use crate::handle::HistoryHandle;
-use crate::status::{CLOSED, DONE, FOUND, NO_LAW, NOT_THERE, OUT_OF_MEMORY};
+use crate::status::{ABSENT, CLOSED, DONE, NO_UNITS, OUT_OF_MEMORY};
+use history_sessions::ForgetFault;
 use std::alloc::Global;
 
 /// Forgets the atomic law's unit at an address: loads may then return anything from its bytes.
 /// Other units are judged on.
 ///
-/// 0: done. 3: closed. 101: too little memory. 103: the law has no units. After each but 0 the
+/// 0: done. 100: closed. 101: too little memory. 108: the law has no units. After each but 0 the
 /// history is as it was.
 pub fn forget(alloc: Global, handle: &mut HistoryHandle, address: u64) -> u32
     ensures status { (b : Option Session) → IsBehind handle.old b → IsForgetStatus result b }
@@ -23,11 +23,11 @@ pub fn forget(alloc: Global, handle: &mut HistoryHandle, address: u64) -> u32
     let Some(mut history) = handle.take(alloc) else {
         return CLOSED;
     };
-    let told = history.as_mut().forget(address);
+    let told = history.as_mut().session.forget(address);
     handle.keep(history);
     match told {
         Ok(()) => DONE,
-        Err(ForgetFault::NoUnits) => NO_LAW,
+        Err(ForgetFault::NoUnits) => NO_UNITS,
         Err(ForgetFault::OutOfMemory) => OUT_OF_MEMORY,
     }
 }
@@ -35,7 +35,7 @@ pub fn forget(alloc: Global, handle: &mut HistoryHandle, address: u64) -> u32
 /// Where the unit begins that left an answer undecided, until an event is taken or a unit
 /// forgotten.
 ///
-/// 1: told. 0: none. 3: closed. Only 1 writes `address`.
+/// 0: told. 1: none. 100: closed. Only 0 writes `address`.
 pub fn undecided(alloc: Global, handle: &mut HistoryHandle, address: &mut u64) -> u32
     ensures address { (b : Option Session)
         → IsBehind handle.old b
@@ -45,13 +45,13 @@ pub fn undecided(alloc: Global, handle: &mut HistoryHandle, address: &mut u64) -
     let Some(history) = handle.take(alloc) else {
         return CLOSED;
     };
-    let found = history.as_ref().undecided;
+    let found = history.as_ref().session.undecided();
     handle.keep(history);
     match found {
         Some(first) => {
             *address = first;
-            FOUND
+            DONE
         }
-        None => NOT_THERE,
+        None => ABSENT,
     }
 }

@@ -1,10 +1,11 @@
 -- Which operations are open, as both laws count them.
-use Rattle.std.proofs.Common.{◌≡◌, ℕ, Bool, true, false, ◌&&◌, ◌||◌, not, ◌==◌, List, [], ◌∷◌, ◌++◌, map, length, fold, None, inl, inr}
-use Rattle.std.proofs.Common.{refl, sym, ap, ◌∙◌, subst, eqb-true}
+use Rattle.std.proofs.Common.{◌≡◌, ℕ, zero, suc, ◌+◌, ◌<◌, ◌≤◌, Bool, true, false, ◌&&◌, ◌||◌, not, ◌==◌, List, [], ◌∷◌, ◌++◌, map, length}
+use Rattle.std.proofs.Common.{fold, None, inl, inr}
+use Rattle.std.proofs.Common.{refl, sym, ap, ◌∙◌, subst, eqb-true, arith}
 use Rattle.std.specs.Prelude.{is_none}
-use Rattle.std.specs.List.{list_any}
+use Rattle.std.specs.List.{list_all, list_any}
 use Rattle.std.proofs.lemmas.Bool.{cases_Bool, and_parts, and_from, eq-eqb, false_from_ne_true, both_ways}
-use Rattle.std.proofs.lemmas.List.Folds.{list_any-append}
+use Rattle.std.proofs.lemmas.List.Folds.{list_all-append, list_any-append}
 use Rattle.memory_histories.specs.declared.events.HistoryEvent.{HistoryEvent}
 use Rattle.memory_histories.specs.declared.events.HistoryEvent.TheVariants.{LoadRequest, LoadResponse, StoreRequest, StoreResponse}
 use Rattle.memory_histories.specs.declared.windows.StoreByte.{StoreByte}
@@ -16,7 +17,8 @@ use Rattle.atomic_histories.specs.declared.unit.Operation.{Operation}
 use Rattle.atomic_histories.specs.Operations.{Opened, opened_after, has_number, without_number, form_fault}
 use Rattle.atomic_histories.specs.Law.{is_formed}
 use Rattle.history_laws.proofs.Lists.{any_none, each_always}
-use Rattle.history_laws.proofs.Pieces.{Marked}
+use Rattle.atomic_histories.specs.Stands.{Each}
+use Rattle.history_laws.proofs.Pieces.{Marked, IsSome, bytes_of, all_bytes, piece}
 use Rattle.history_laws.proofs.Open.{Loads, loads_more, loads_fewer, inside_some, marked_after}
 use Rattle.history_laws.proofs.Words.{any_new}
 use Rattle.history_laws.proofs.Fits.{after_cases}
@@ -155,3 +157,19 @@ agrees_from o w ks (x ∷ xs) g f =
     let p = and_parts _ _ f in
     agrees_from (opened_after o x) _ _ xs (agrees_after o w ks x g (none_is (form_fault o x)
     p.0)) p.1
+
+-- The bytes of open loads. ----
+
+-- what passes of all bytes of open loads passes of the first one of each
+pub each_first : (q : LoadByte → Bool) (ks : List (Marked ℕ)) → Each IsSome ks
+    → list_all q (all_bytes load_byte number_of its_number ks) ≡ true
+    → Each (λ k. q (load_byte k.operation.number k.operation.address k.mark) ≡ true) ks
+each_first q [] s h = tt
+each_first q (k ∷ ks) s h =
+    let p = and_parts _ _ (sym (list_all-append q (bytes_of load_byte number_of its_number k) _) ∙ h) in
+    (first_of_piece q k.operation.number k.mark k.operation.address k.operation.length s.0 p.0, each_first q ks s.1 p.1)
+  where
+    first_of_piece : (q : LoadByte → Bool) (n x a len : ℕ) → 1 ≤ len → list_all q (piece load_byte number_of its_number n x a len) ≡ true
+        → q (load_byte n a x) ≡ true
+    first_of_piece q n x a zero l h = absurd (omega arith)
+    first_of_piece q n x a (suc len) l h = (and_parts _ _ h).0

@@ -54,10 +54,10 @@ moments_before image rest unit past (event ∷ events) h =
 abbrev first_windows : List ℕ → Rest → Windows
 first_windows image rest = windows.opening image rest
 
-abbrev windows_by : List ℕ → Rest → List HistoryEvent → Windows
+abbrev pub windows_by : List ℕ → Rest → List HistoryEvent → Windows
 windows_by image rest history = fold windows_after (first_windows image rest) history
 
-abbrev marks_by : List ℕ → Rest → List HistoryEvent → List (Marked ℕ)
+abbrev pub marks_by : List ℕ → Rest → List HistoryEvent → List (Marked ℕ)
 marks_by image rest history = marks_from (first_windows image rest) [] history
 
 stands_from : (k : Kept) (w : Windows) (history : List HistoryEvent) → StandsFor k w
@@ -65,14 +65,14 @@ stands_from : (k : Kept) (w : Windows) (history : List HistoryEvent) → StandsF
 stands_from k w [] s = s
 stands_from k w (x ∷ xs) s = stands_from (kept_after k x) _ xs (stands_after k w x s)
 
-timely_by : (image : List ℕ) (rest : Rest) (history : List HistoryEvent)
+pub timely_by : (image : List ℕ) (rest : Rest) (history : List HistoryEvent)
     → All (IsTimely (windows_by image rest history).moment) (windows_by image rest history).stores
 timely_by image rest history = (stands_from _ _ history (stands_first image rest)).timely
 
 first_agrees : (image : List ℕ) (rest : Rest) → Agrees none_opened (first_windows image rest) []
 first_agrees image rest = grind arith
 
-agrees_by : (image : List ℕ) (rest : Rest) (history : List HistoryEvent) → is_formed none_opened history ≡ true
+pub agrees_by : (image : List ℕ) (rest : Rest) (history : List HistoryEvent) → is_formed none_opened history ≡ true
     → Agrees (opened_by history) (windows_by image rest history) (marks_by image rest history)
 agrees_by image rest history f = agrees_from none_opened _ [] history (first_agrees image rest) f
 
@@ -81,7 +81,7 @@ same_image : (w : Windows) (history : List HistoryEvent) → ((fold windows_afte
 same_image w [] = (refl, refl)
 same_image w (x ∷ xs) = same_image (windows_after w x) xs
 
-windows_more : (w : Windows) (history : List HistoryEvent) (event : HistoryEvent) → fold windows_after w (history
+pub windows_more : (w : Windows) (history : List HistoryEvent) (event : HistoryEvent) → fold windows_after w (history
     ++ event ∷ []) ≡ windows_after (fold windows_after w history) event
 windows_more w history event = fold-append windows_after w history _
 
@@ -122,7 +122,7 @@ module _ (image : List ℕ) (rest : Rest) (unit : UnitPlace) (j : ℕ) (within :
       (fits_load image rest unit j stores moment ks _ _ s.0 s.1 s.2
       (rw s.3 at f))
 
-  fits : (history : List HistoryEvent) (m : UnitMemory) → MayBe unit (untouched image rest unit) history m
+  pub fits : (history : List HistoryEvent) (m : UnitMemory) → MayBe unit (untouched image rest unit) history m
       → is_formed none_opened history ≡ true
       → Fits image rest unit j (windows_by image rest history).stores (windows_by image rest history).moment (marks_by image rest history) m
   fits history m starts f = record {
@@ -167,8 +167,8 @@ module _ (image : List ℕ) (rest : Rest) (unit : UnitPlace) (j : ℕ) (within :
       }) b ≡ true
   allowed_load past n bytes k named b small is_b l q h = grind (arith, eq-eqb, l.number, got_word, l.address, l.got, lane, allowed_got)
 
-  allowed_byte : (past : List HistoryEvent) (n : ℕ) (bytes : Bor (List ℕ)) → IsAtomicAt image rest unit (past ++ LoadResponse n bytes ∷ [])
-      → is_formed none_opened past ≡ true
+  pub allowed_byte : (past : List HistoryEvent) (n : ℕ) (bytes : Bor (List ℕ))
+      → IsAtomicAt image rest unit (past ++ LoadResponse n bytes ∷ []) → is_formed none_opened past ≡ true
       → (k : Marked ℕ) → find (is_number n) (marks_by image rest past) ≡ Some k → k.operation.address ≤ unit.first + j
       → unit.first + j < k.operation.address + k.operation.length → k.operation.number ≡ n
       → (b : ℕ) → IsByte rest b → byte_for k.operation.address bytes.now (unit.first + j) ≡ Some b

@@ -52,10 +52,18 @@ after_cases n t s = elim (cases_Bool _) [
   | inr e ↦ inr (e, rw e refl)
 ]
 
+-- what the response leaves as it was
+pub after_here : (n t : ℕ) (s : StoreByte) → ((after_response n t s).address ≡ s.address) × (((after_response n t s).byte ≡ s.byte)
+    × (((after_response n t s).began ≡ s.began) × ((after_response n t s).number ≡ s.number)))
+after_here n t s = elim (after_cases n t s) [
+  | inl c ↦ (ap (λ y. y.address) c.1.1, (ap (λ y. y.byte) c.1.1, (ap (λ y. y.began) c.1.1, ap (λ y. y.number) c.1.1)))
+  | inr c ↦ (ap (λ y. y.address) c.1, (ap (λ y. y.byte) c.1, (ap (λ y. y.began) c.1, ap (λ y. y.number) c.1)))
+]
+
 some_none : {t : ℕ} → Some t ≡ None → ⊥
 some_none h = cc
 
-not_both : (b : Bool) → not b ≡ true → b ≡ true → ⊥
+pub not_both : (b : Bool) → not b ≡ true → b ≡ true → ⊥
 not_both true h k = cc
 not_both false h k = cc
 
@@ -77,11 +85,11 @@ module _ (image : List ℕ) (rest : Rest) (unit : UnitPlace) (j : ℕ) where
   here = unit.first + j
 
   -- an open store at the unit, of which this is the byte here
-  abbrev IsOf : StoreByte → OpenStore → Type 0
+  abbrev pub IsOf : StoreByte → OpenStore → Type 0
   IsOf s o = (o.number ≡ s.number) × (lane o.bytes j ≡ Some s.byte)
 
   -- a byte has taken effect
-  abbrev IsDone : List OpenStore → StoreByte → Type 0
+  abbrev pub IsDone : List OpenStore → StoreByte → Type 0
   IsDone os s = (is_some s.ended ≡ true) ⊎ ((s.ended ≡ None) × One (λ o. IsOf s o × (o.is_done ≡ true)) os)
 
   -- what stands here: what was there before the first store, if none took effect
@@ -89,7 +97,7 @@ module _ (image : List ℕ) (rest : Rest) (unit : UnitPlace) (j : ℕ) where
   IsFirst os stores x = (x ≡ initial_byte image rest here) × Each (λ s. s.address ≡ here → IsDone os s → ⊥) stores
 
   -- or a byte that took effect, and behind whose response no other that took effect was requested
-  abbrev IsLast : List OpenStore → List StoreByte → Option ℕ → StoreByte → Type 0
+  abbrev pub IsLast : List OpenStore → List StoreByte → Option ℕ → StoreByte → Type 0
   IsLast os stores x s =
       (s.address ≡ here) × ((x ≡ Some s.byte) × (IsDone os s × Each (λ o. o.address ≡ here → IsDone os o
       → is_before s.ended o.began ≡ false) stores))
@@ -98,13 +106,13 @@ module _ (image : List ℕ) (rest : Rest) (unit : UnitPlace) (j : ℕ) where
   Stands os stores x = IsFirst os stores x ⊎ One (IsLast os stores x) stores
 
   -- each open byte here is one of the unit's open stores, and each of these has its byte
-  abbrev HasStore : List OpenStore → StoreByte → Type 0
+  abbrev pub HasStore : List OpenStore → StoreByte → Type 0
   HasStore os s = s.address ≡ here → s.ended ≡ None → One (IsOf s) os
 
-  abbrev IsByteOf : ℕ → ℕ → StoreByte → Type 0
+  abbrev pub IsByteOf : ℕ → ℕ → StoreByte → Type 0
   IsByteOf n b s = (s.address ≡ here) × ((s.ended ≡ None) × ((s.number ≡ n) × (s.byte ≡ b)))
 
-  abbrev HasByte : List StoreByte → OpenStore → Type 0
+  abbrev pub HasByte : List StoreByte → OpenStore → Type 0
   HasByte stores o = (b : ℕ) → lane o.bytes j ≡ Some b → One (IsByteOf o.number b) stores
 
   -- an open load may return what it got here
@@ -136,9 +144,8 @@ module _ (image : List ℕ) (rest : Rest) (unit : UnitPlace) (j : ℕ) where
       → is_covered stores (record { number = n; address = here; began = t }) ≡ false
   uncovered os stores n t h = grind (arith, any_none, each_weaker, false_from_ne_true, and_parts, eqb-true, before_some)
 
-  not_overwritten : (os : List OpenStore) (stores : List StoreByte) (s : StoreByte) (t : ℕ) → s.address ≡ here → Each (λ o. o.address ≡ here
-      → IsDone os o → is_before s.ended o.began ≡ false) stores
-      → is_overwritten stores s t ≡ false
+  pub not_overwritten : (os : List OpenStore) (stores : List StoreByte) (s : StoreByte) (t : ℕ) → s.address ≡ here
+      → Each (λ o. o.address ≡ here → IsDone os o → is_before s.ended o.began ≡ false) stores → is_overwritten stores s t ≡ false
   not_overwritten os stores s t a h =
       any_none _ stores
       (each_weaker (λ o. o.address ≡ here → IsDone os o → is_before s.ended o.began ≡ false) (λ o. overwrites s t o ≡ false)
@@ -154,7 +161,7 @@ module _ (image : List ℕ) (rest : Rest) (unit : UnitPlace) (j : ℕ) where
 
   -- A store takes effect. ----
 
-  done_more : (before : List OpenStore) (o : OpenStore) (after : List OpenStore) (s : StoreByte) → IsDone (before ++ o ∷ after) s
+  pub done_more : (before : List OpenStore) (o : OpenStore) (after : List OpenStore) (s : StoreByte) → IsDone (before ++ o ∷ after) s
       → IsDone (before ++ done_store o ∷ after) s
   done_more before o after s (inl e) = inl e
   done_more before o after s (inr p) =
@@ -176,17 +183,50 @@ module _ (image : List ℕ) (rest : Rest) (unit : UnitPlace) (j : ℕ) where
   no_byte h = cc
 
   -- if it writes nothing here, the same are done
-  done_same : (before : List OpenStore) (o : OpenStore) (after : List OpenStore) → lane o.bytes j ≡ None → (s : StoreByte) → IsDone (before
-      ++ done_store o ∷ after) s → IsDone (before ++ o ∷ after) s
+  pub done_same : (before : List OpenStore) (o : OpenStore) (after : List OpenStore) → lane o.bytes j ≡ None → (s : StoreByte)
+      → IsDone (before ++ done_store o ∷ after) s → IsDone (before ++ o ∷ after) s
   done_same before o after none s d = elim (done_fewer before o after s d) [
     | inl a ↦ a
     | inr p ↦ absurd (no_byte (sym none ∙ p.1.1))
   ]
 
+  pub last_same : (os ds : List OpenStore) (stores : List StoreByte) (x : Option ℕ) → ((s : StoreByte) → IsDone os s → IsDone ds s)
+      → ((s : StoreByte) → IsDone ds s → IsDone os s) → (s : StoreByte) → IsLast os stores x s → IsLast ds stores x s
+  last_same os ds stores x f g s p = (
+    p.0,
+    (
+      p.1.0,
+      (
+        f s p.1.1.0,
+        each_weaker (λ o. o.address ≡ here → IsDone os o → is_before s.ended o.began ≡ false) _ (λ o h a d. h a (g o d))
+            stores p.1.1.1,
+      ),
+    ),
+  )
+
   stands_fewer : (os ds : List OpenStore) (stores : List StoreByte) (x : Option ℕ) → ((s : StoreByte) → IsDone os s → IsDone ds s)
       → ((s : StoreByte) → IsDone ds s → IsDone os s) → Stands os stores x → Stands ds stores x
   stands_fewer os ds stores x f g (inl p) = grind (arith, each_weaker)
-  stands_fewer os ds stores x f g (inr o) = grind (arith, one_weaker, each_weaker)
+  stands_fewer os ds stores x f g (inr o) = inr (one_weaker _ _ (last_same os ds stores x f g) stores o)
+
+  -- a byte that takes effect is the last one
+  pub last_done : (before : List OpenStore) (o : OpenStore) (after : List OpenStore) (stores : List StoreByte) (b : ℕ)
+      → lane o.bytes j ≡ Some b → (s : StoreByte) → IsByteOf o.number b s → IsLast (before ++ done_store o ∷ after) stores (Some b) s
+  last_done before o after stores b e s p =
+      let os = before ++ done_store o ∷ after in (
+        p.0,
+        (
+          ap Some (sym p.1.1.1),
+          (
+            inr (
+              p.1.0,
+              one_at (λ y. IsOf s y × (y.is_done ≡ true)) before _ after ((sym p.1.1.0, e ∙ ap Some (sym p.1.1.1)), refl),
+            ),
+            each_always (λ y. y.address ≡ here → IsDone os y → is_before s.ended y.began ≡ false) (λ y a d.
+                open_before s.ended y.began p.1.0) stores,
+          ),
+        ),
+      )
 
   stands_effect : (before : List OpenStore) (o : OpenStore) (after : List OpenStore) (stores : List StoreByte) (x : Option ℕ)
       → HasByte stores o → Stands (before ++ o ∷ after) stores x
@@ -195,25 +235,7 @@ module _ (image : List ℕ) (rest : Rest) (unit : UnitPlace) (j : ℕ) where
       stands_fewer _ _ stores x (λ s d. done_more before o after s d) (λ s d.
       done_same before o after e s d) st
   stands_effect before o after stores x has st (Some b) e =
-      let os = before ++ done_store o ∷ after in
-      inr (one_weaker _ _
-      (λ s p. (
-        p.0,
-        (
-          ap Some (sym p.1.1.1),
-          (
-            inr (
-              p.1.0,
-              one_at (λ y. IsOf s y × (y.is_done ≡ true)) before _ after (
-                (sym p.1.1.0, e ∙ ap Some (sym p.1.1.1)),
-                refl,
-              ),
-            ),
-            each_always (λ y. y.address ≡ here → IsDone os y → is_before s.ended y.began ≡ false) (λ y a d.
-                open_before s.ended y.began p.1.0) stores,
-          ),
-        ),
-      )) stores (has b e))
+      inr (one_weaker _ _ (last_done before o after stores b e) stores (has b e))
 
   pub fits_store : (stores : List StoreByte) (moment : ℕ) (ks : List (Marked ℕ)) (word : List (Option ℕ)) (loads : List OpenLoad) (before :
       List OpenStore) (o : OpenStore) (after : List OpenStore)
@@ -346,7 +368,7 @@ module _ (image : List ℕ) (rest : Rest) (unit : UnitPlace) (j : ℕ) where
         )) loads (p.1 a b),
       )) ks h
 
-  done_old : (os : List OpenStore) (o : OpenStore) (s : StoreByte) → o.is_done ≡ false → IsDone (os ++ o ∷ []) s → IsDone os s
+  pub done_old : (os : List OpenStore) (o : OpenStore) (s : StoreByte) → o.is_done ≡ false → IsDone (os ++ o ∷ []) s → IsDone os s
   done_old os o s e (inl d) = inl d
   done_old os o s e (inr p) = elim (one_split (λ x. IsOf s x × (x.is_done ≡ true)) os _ p.1) [
     | inl a ↦ inr (p.0, a)
@@ -355,7 +377,7 @@ module _ (image : List ℕ) (rest : Rest) (unit : UnitPlace) (j : ℕ) where
   ]
 
   -- no open store has the number that is requested, so no new byte is done
-  none_under : (os : List OpenStore) (stores : List StoreByte) (n : ℕ) → list_any (is_open n) stores ≡ false → Each (HasByte stores) os
+  pub none_under : (os : List OpenStore) (stores : List StoreByte) (n : ℕ) → list_any (is_open n) stores ≡ false → Each (HasByte stores) os
       → (s : StoreByte) → s.number ≡ n → s.ended ≡ None → IsDone os s → ⊥
   none_under os stores n free has s e o (inl d) = absurd (open_answered s.ended o d)
   none_under os stores n free has s e o (inr p) =
@@ -364,15 +386,21 @@ module _ (image : List ℕ) (rest : Rest) (unit : UnitPlace) (j : ℕ) where
       (one_any _ stores (one_weaker _ (λ y. is_open n y ≡ true)
       (λ y r. rw r.1.0 (eq-eqb y.number n (r.1.1.0 ∙ (q.0.0 ∙ e)))) stores (h s.byte q.0.1))))
 
-  done_with : (os more : List OpenStore) (s : StoreByte) → IsDone os s → IsDone (os ++ more) s
+  pub done_with : (os more : List OpenStore) (s : StoreByte) → IsDone os s → IsDone (os ++ more) s
   done_with os more s (inl d) = inl d
   done_with os more s (inr p) = grind (arith, one_left)
+
+  pub last_requested : (os ds : List OpenStore) (stores added : List StoreByte) (x : Option ℕ) → ((s : StoreByte) → IsDone os s
+      → IsDone ds s) → ((s : StoreByte) → IsDone ds s → IsDone os s) → Each (λ s. IsDone os s → ⊥) added
+      → (s : StoreByte) → IsLast os stores x s → IsLast ds (stores ++ added) x s
+  last_requested os ds stores added x f g new s p = grind (arith, each_append, each_weaker)
 
   stands_requested : (os ds : List OpenStore) (stores added : List StoreByte) (x : Option ℕ) → ((s : StoreByte) → IsDone os s → IsDone ds s)
       → ((s : StoreByte) → IsDone ds s → IsDone os s)
       → Each (λ s. IsDone os s → ⊥) added → Stands os stores x → Stands ds (stores ++ added) x
   stands_requested os ds stores added x f g new (inl p) = grind (arith, each_append, each_weaker)
-  stands_requested os ds stores added x f g new (inr o) = grind (arith, one_left, one_weaker, each_append, each_weaker)
+  stands_requested os ds stores added x f g new (inr o) =
+      inr (one_left _ stores added (one_weaker _ _ (last_requested os ds stores added x f g new) stores o))
 
   pub fits_store_requested : (stores : List StoreByte) (moment : ℕ) (ks : List (Marked ℕ)) (m : UnitMemory) (n a : ℕ) (bs : List ℕ) (e : ℕ)
       → j < unit.size → j < 8 → list_any (is_open n) stores ≡ false → Fits stores moment ks m
@@ -473,17 +501,32 @@ module _ (image : List ℕ) (rest : Rest) (unit : UnitPlace) (j : ℕ) where
     | inr c ↦ subst (IsDone (filter (λ o. not _) os)) (sym c.1) (done_filtered os n s c.0 d)
   ]
 
-  after_here : (n t : ℕ) (s : StoreByte) → ((after_response n t s).address ≡ s.address) × (((after_response n t s).byte ≡ s.byte)
-      × (((after_response n t s).began ≡ s.began) × ((after_response n t s).number ≡ s.number)))
-  after_here n t s = elim (after_cases n t s) [
-    | inl c ↦ (ap (λ y. y.address) c.1.1, (ap (λ y. y.byte) c.1.1, (ap (λ y. y.began) c.1.1, ap (λ y. y.number) c.1.1)))
-    | inr c ↦ (ap (λ y. y.address) c.1, (ap (λ y. y.byte) c.1, (ap (λ y. y.began) c.1, ap (λ y. y.number) c.1)))
-  ]
-
   -- a byte that took effect is not overwritten by the answer
   before_same : (n t : ℕ) (s o : StoreByte) → o.began < t → is_before s.ended o.began ≡ false
       → is_before (after_response n t s).ended (after_response n t o).began ≡ false
   before_same n t s o l h = grind arith
+
+  pub last_answered : (os : List OpenStore) (stores : List StoreByte) (n t : ℕ) (x : Option ℕ) → may_answer_store n os ≡ true
+      → Each (HasStore os) stores → Each (IsTimely t) stores → (s : StoreByte) → IsLast os stores x s
+      → IsLast (filter (λ o. not (is_store n o)) os) (map (after_response n t) stores) x (after_response n t s)
+  last_answered os stores n t x m has timely s p =
+      let ds = filter (λ o. not (is_store n o)) os in
+      let f = after_response n t in (
+        (after_here n t s).0 ∙ p.0,
+        (
+          p.1.0 ∙ ap Some (sym (after_here n t s).1.0),
+          (
+            done_after os n t s p.1.1.0,
+            each_map f (λ y. y.address ≡ here → IsDone ds y → is_before (f s).ended y.began ≡ false) stores
+                (each_weaker (λ y. (y.address ≡ here → IsDone os y → is_before s.ended y.began ≡ false) × (HasStore os y
+                × IsTimely t y)) (λ y. (f y).address ≡ here → IsDone ds (f y) → is_before (f s).ended (f y).began ≡ false)
+                (λ y h a d. let b = sym (after_here n t y).0 ∙ a in
+                before_same n t s y h.1.1.0 (h.0 b (done_before os n t y m h.1.0 b d))) stores
+                (each_both (λ y. y.address ≡ here → IsDone os y → is_before s.ended y.began ≡ false) (λ y. HasStore os y
+                × IsTimely t y) stores p.1.1.1 (each_both (HasStore os) (IsTimely t) stores has timely))),
+          ),
+        ),
+      )
 
   stands_answered : (os : List OpenStore) (stores : List StoreByte) (n t : ℕ) (x : Option ℕ) → may_answer_store n os ≡ true
       → Each (HasStore os) stores → Each (IsTimely t) stores → Stands os stores x
@@ -499,25 +542,7 @@ module _ (image : List ℕ) (rest : Rest) (unit : UnitPlace) (j : ℕ) where
             (each_both (λ s. s.address ≡ here → IsDone os s → ⊥) _ stores p.1 has)),
       )
   stands_answered os stores n t x m has timely (inr o) =
-      let ds = filter (λ o. not _) os in
-      let f = after_response n t in
-      inr (one_map f _ stores
-      (one_weaker _ (λ s. IsLast ds _ x (f s)) (λ s p. (
-        (after_here n t s).0 ∙ p.0,
-        (
-          p.1.0 ∙ ap Some (sym (after_here n t s).1.0),
-          (
-            done_after os n t s p.1.1.0,
-            each_map f (λ y. y.address ≡ here → IsDone ds y → is_before (f s).ended y.began ≡ false) stores
-                (each_weaker (λ y. (y.address ≡ here → IsDone os y → is_before s.ended y.began ≡ false) × (HasStore os y
-                × IsTimely t y)) (λ y. (f y).address ≡ here → IsDone ds (f y) → is_before (f s).ended (f y).began ≡ false)
-                (λ y h a d. let b = sym (after_here n t y).0 ∙ a in
-                before_same n t s y h.1.1.0 (h.0 b (done_before os n t y m h.1.0 b d))) stores
-                (each_both (λ y. y.address ≡ here → IsDone os y → is_before s.ended y.began ≡ false) (λ y. HasStore os y
-                × IsTimely t y) stores p.1.1.1 (each_both (HasStore os) (IsTimely t) stores has timely))),
-          ),
-        ),
-      )) stores o))
+      inr (one_map (after_response n t) _ stores (one_weaker _ _ (last_answered os stores n t x m has timely) stores o))
 
   keeps : (stores : List StoreByte) (n t : ℕ) → All (IsTimely t) stores → (k u b : ℕ) → u ≤ t → may stores k u b ≡ true
       → may (map (after_response n t) stores) k u b ≡ true

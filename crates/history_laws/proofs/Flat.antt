@@ -13,7 +13,6 @@ use Rattle.atomic_histories.proofs.Lanes.{none_asked}
 use Rattle.atomic_histories.proofs.Bits.{stored_from_first}
 use Rattle.atomic_histories.proofs.Links.{load_allowed}
 use Rattle.atomic_histories.proofs.MayLaws.{then_it}
-use Rattle.atomic_histories.proofs.Lists.{one_any}
 use Rattle.memory_histories.specs.declared.events.HistoryEvent.{HistoryEvent}
 use Rattle.memory_histories.specs.declared.events.HistoryEvent.TheVariants.{LoadRequest, LoadResponse, StoreRequest, StoreResponse}
 use Rattle.memory_histories.specs.declared.events.Rest.{Rest}
@@ -42,7 +41,7 @@ use Rattle.atomic_histories.proofs.Lists.{each_weaker, each_append, one_weaker, 
 use Rattle.history_laws.specs.Laws.{FlatIsAtomic, FlatIsRegular}
 use Rattle.history_laws.proofs.Atomic.{atomic_is_regular}
 use Rattle.history_laws.proofs.Lists.{each_passing, any_none, each_always}
-use Rattle.history_laws.proofs.Pieces.{Marked, is_number, AreDifferent, bytes_of, piece}
+use Rattle.history_laws.proofs.Pieces.{Marked, is_number, AreDifferent, bytes_of, same_load, paid_at}
 use Rattle.history_laws.proofs.Open.{Loads, loads_any, loads_more, loads_fewer, loads_under, length_bytes}
 use Rattle.history_laws.proofs.Open.{inside_some, marked_after}
 use Rattle.history_laws.proofs.Words.{lane_map, zero_plus, lane_word, enabled_first, enabled_next}
@@ -154,8 +153,8 @@ written_nothing (Some b ∷ bs) (w ∷ ws) h = cc
 
 -- Answers. ----
 
-no_place : {L : Type 0} (may : L → ℕ → Bool) (ps : List (L × ℕ)) → nat_lt (prefix_len (λ p. not (not (may p.0 p.1))) ps) (length ps) ≡ false
-    → Each (λ p. may p.0 p.1 ≡ true) ps
+pub no_place : {L : Type 0} (may : L → ℕ → Bool) (ps : List (L × ℕ))
+    → nat_lt (prefix_len (λ p. not (not (may p.0 p.1))) ps) (length ps) ≡ false → Each (λ p. may p.0 p.1 ≡ true) ps
 no_place may [] h = tt
 no_place may (p ∷ ps) h = elim (cases_Bool _) [
   | inl e ↦ (
@@ -170,15 +169,15 @@ no_place may (p ∷ ps) h = elim (cases_Bool _) [
       absurd (both_ways (nat_lt 0 (suc (length ps))) f (lt-ltb 0 (suc (length ps)) (omega arith)))
 ]
 
-place_none : {L : Type 0} (may : L → ℕ → Bool) (ps : List (L × ℕ)) → position (λ p. not (may p.0 p.1)) ps ≡ None → nat_lt (prefix_len (λ p.
-    not (not (may p.0 p.1))) ps) (length ps) ≡ false
+pub place_none : {L : Type 0} (may : L → ℕ → Bool) (ps : List (L × ℕ)) → position (λ p. not (may p.0 p.1)) ps ≡ None
+    → nat_lt (prefix_len (λ p. not (not (may p.0 p.1))) ps) (length ps) ≡ false
 place_none may ps h = grind arith
 
 wrong_none : (o : Option ℕ) → wrong_byte o ≡ None → o ≡ None
 wrong_none None h = refl
 wrong_none (Some k) h = cc
 
-response_parts : {L : Type 0} (may : L → ℕ → Bool) (ls : List L) (bs : List ℕ) → load_response_fault may ls bs ≡ None
+pub response_parts : {L : Type 0} (may : L → ℕ → Bool) (ls : List L) (bs : List ℕ) → load_response_fault may ls bs ≡ None
     → ((length ls == 0) ≡ false) × ((length ls ≡ length bs) × (wrong_place may ls bs ≡ None))
 response_parts may ls bs h = elim (cases_Bool (length ls == 0)) [
   | inl e ↦ let f = (rw e at h) in cc
@@ -187,17 +186,6 @@ response_parts may ls bs h = elim (cases_Bool (length ls == 0)) [
     | inr g ↦ let f = (rw (e, g) at h) in cc
   ]
 ]
-
-paid_at : {X L : Type 0} (make : ℕ → ℕ → X → L) (number : L → ℕ) (named : (n a : ℕ) (x : X) → number (make n a x) ≡ n) (may : L → ℕ
-    → Bool) (n : ℕ) (x : X) (len a : ℕ) (bs : List ℕ)
-    → Each (λ p. may p.0 p.1 ≡ true) (zip (piece make number named n x a len) bs) → (i b : ℕ) → slice_get bs i ≡ Some b → i < len
-    → may (make n (a + i) x) b ≡ true
-paid_at make number named may n x zero a bs h i b e l = absurd (omega arith)
-paid_at make number named may n x (suc len) a [] h i b e l = cc
-paid_at make number named may n x (suc len) a (c ∷ bs) h zero b e l = let same : c ≡ b = cc in subst (λ y.
-    may (make n y x) b ≡ true) (omega arith) (rw same at h.0)
-paid_at make number named may n x (suc len) a (c ∷ bs) h (suc i) b e l =
-    subst (λ y. may (make n y x) b ≡ true) (omega arith) (paid_at make number named may n x len (a + 1) bs h.1 i b e (omega arith))
 
 -- Open operations. ----
 
@@ -328,27 +316,6 @@ formed_after o f ks (StoreRequest n a bytes e) g h = ap (store_request_fault (is
 formed_after o f ks (StoreResponse n) g h = ap store_response_fault (sym (g.stores n)) ∙ h
 
 -- One unit. ----
-
-pub no_other : (ks : List (Marked (ℕ → Owed))) (n : ℕ) (Q : Marked (ℕ → Owed) → Type 0) → One (λ x. (x.operation.number ≡ n) × Q x) ks
-    → list_any (is_number n) ks ≡ false → ⊥
-no_other ks n Q o h = grind (arith, both_ways, one_any, one_weaker, is_number, eq-eqb)
-
-same_load : (ks : List (Marked (ℕ → Owed))) (n : ℕ) (k : Marked (ℕ → Owed)) (Q : Marked (ℕ → Owed) → Type 0) → AreDifferent ks
-    → find (is_number n) ks ≡ Some k → One (λ x. (x.operation.number ≡ n) × Q x) ks → Q k
-same_load [] n k Q d h o = absurd o
-same_load (x ∷ ks) n k Q d h o = elim (cases_Bool _) [
-  | inl e ↦
-      let s : Some x ≡ Some k = (rw e at h) in
-      let same : x ≡ k = cc in
-      elim o [
-        | inl q ↦ subst Q same q.1
-        | inr r ↦ absurd (no_other ks n Q r (rw (eqb-true x.operation.number n e) at d.0))
-      ]
-  | inr e ↦ elim o [
-    | inl q ↦ absurd (both_ways (is_number n x) e (eq-eqb x.operation.number n q.0))
-    | inr r ↦ same_load ks n k Q d.1 (rw e at h) r
-  ]
-]
 
 lane_stood : (t : Bool) (o : Option ℕ) (b : ℕ) → is_as_it_stood o (Some b) ≡ true → is_as_it_stood (if t then o else None) (Some b) ≡ true
 lane_stood true o b h = h

@@ -30,10 +30,10 @@ use Rattle.flat_model.specs.Flat as model
 use Rattle.machine_core.proofs.Walking.{same_word-same}
 use Rattle.history_laws.specs.Told.{word_bytes, image_bytes, seen_bytes, told_events, told_history}
 use Rattle.history_laws.specs.Late.{is_value_of, has_no_value, HasStood, LateIsAtomic}
-use Rattle.history_laws.proofs.Pieces.{Marked, is_number}
+use Rattle.history_laws.proofs.Pieces.{Marked, is_number, no_other}
 use Rattle.history_laws.proofs.Open.{any_operation, marked_after}
 use Rattle.history_laws.proofs.Flat.{owed_byte, owed_number, owed_named, IsBound, Holds, got_paid, next, Agrees, agrees_after}
-use Rattle.history_laws.proofs.Flat.{formed_after, formed_from, first_agrees, first_holds, no_other}
+use Rattle.history_laws.proofs.Flat.{formed_after, formed_from, first_agrees, first_holds}
 use Rattle.history_laws.proofs.Told.{Tells, eqb_swap, known_paid, value_taken, told_step, run_append, first_tells}
 use Rattle.history_laws.proofs.Delay.{and_then, late, none_late, Suits, follows, settles, answers_late}
 

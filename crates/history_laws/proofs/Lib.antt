@@ -10,3 +10,7 @@ pub mod Told
 pub mod Delay
 pub mod Late
 pub mod Since
+pub mod Sources
+pub mod Cuts
+pub mod RegularCuts
+pub mod Worked

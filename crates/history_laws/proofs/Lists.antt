@@ -1,5 +1,8 @@
 -- What holds of each element of a list or of one of them, and tests.
-use Rattle.std.proofs.Common.{◌≡◌, ℕ, zero, suc, Some, slice_get, Bool, true, false, ◌||◌, ◌⊎◌, List, [], ◌∷◌, ◌++◌, inl, inr, refl, subst}
+use Rattle.std.proofs.Common.{◌≡◌, ℕ, zero, suc, Some, slice_get, Bool, true, false, ◌||◌, ◌⊎◌, List, [], ◌∷◌, ◌++◌, map, inl, inr, refl}
+use Rattle.std.proofs.Common.{ap}
+use Rattle.std.proofs.Common.{subst, arith}
+use Rattle.memory_histories.specs.Windows.{cons_if}
 use Rattle.std.specs.List.{filter, find, list_any}
 use Rattle.std.proofs.lemmas.Bool.{cases_Bool}
 use Rattle.atomic_histories.specs.Stands.{Each, One}
@@ -90,3 +93,34 @@ pub each_get : {X : Type 0} (P : X → Type 0) (xs : List X) (i : ℕ) (x : X) �
 each_get P [] i x h e = cc
 each_get P (y ∷ ys) zero x h e = let same : y ≡ x = cc in subst P same h.0
 each_get P (y ∷ ys) (suc i) x h e = each_get P ys i x h.1 e
+
+-- Parts. ----
+
+-- a list of which what a function gives is in parts
+pub map_apart : {X Y : Type 0} (f : X → Y) (xs : List X) (before : List Y) (y : Y) (after : List Y) → map f xs ≡ before ++ y ∷ after
+    → (b : List X) × (x : X) × (a : List X) × (xs ≡ b ++ x ∷ a) × (map f b ≡ before) × (f x ≡ y) × (map f a ≡ after)
+map_apart f [] [] y after h = cc
+map_apart f [] (z ∷ zs) y after h = cc
+map_apart f (x ∷ xs) [] y after h = ([], x, xs, refl, refl, cc, cc)
+map_apart f (x ∷ xs) (z ∷ zs) y after h =
+    let r = map_apart f xs zs y after cc in
+    (x ∷ r.0, r.1, r.2, ap (λ t. x ∷ t) r.3, cc, r.5, r.6)
+
+-- those that pass, with one that does or doesn't
+pub kept_with : {X Y : Type 0} (f : X → Y) (p : X → Bool) (b : List X) (x : X) (a : List X) → p x ≡ true
+    → map f (filter p (b ++ x ∷ a)) ≡ map f (filter p b) ++ f x ∷ map f (filter p a)
+kept_with f p [] x a h = rw h refl
+kept_with f p (y ∷ b) x a h = grind (arith, kept_with f p b x a h)
+
+pub kept_without : {X : Type 0} (p : X → Bool) (b : List X) (x : X) (a : List X) → p x ≡ false → filter p (b ++ x ∷ a) ≡ filter p (b ++ a)
+kept_without p [] x a h = rw h refl
+kept_without p (y ∷ b) x a h = grind (arith, kept_without p b x a h)
+
+-- to leave out what doesn't pass changes nothing for what does
+pub kept_same : {X : Type 0} (p q : X → Bool) (xs : List X) → Each (λ x. q x ≡ false → p x ≡ false) xs
+    → filter p xs ≡ filter p (filter q xs)
+kept_same p q [] h = refl
+kept_same p q (x ∷ xs) h = elim (cases_Bool (q x)) [
+  | inl e ↦ rw e (ap (cons_if (p x) x) (kept_same p q xs h.1))
+  | inr e ↦ rw (e, h.0 e) (kept_same p q xs h.1)
+]

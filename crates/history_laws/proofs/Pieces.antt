@@ -2,14 +2,14 @@
 use Rattle.std.proofs.Common.{◌≡◌, ℕ, zero, suc, ◌+◌, ◌<◌, ◌≤◌, Bool, true, false, ◌||◌, not, ◌==◌, List, [], ◌∷◌, ◌++◌, map, length, Some}
 use Rattle.std.proofs.Common.{None, slice_get, inl, inr, append_assoc, append-nil, eqb-true, refl, sym, ap, ◌∙◌, subst, arith}
 use Rattle.std.specs.List.{filter, find, list_any, range_with_len, zip, position, prefix_len}
-use Rattle.std.proofs.lemmas.Bool.{cases_Bool, le-ltb, both_ways}
+use Rattle.std.proofs.lemmas.Bool.{cases_Bool, le-ltb, both_ways, eq-eqb}
 use Rattle.std.proofs.Math.Bool.{or_assoc, or-false}
 use Rattle.std.proofs.lemmas.List.Elements.{filter-append}
 use Rattle.std.proofs.lemmas.List.Folds.{list_any-append}
 use Rattle.atomic_histories.proofs.Links.{eq_false_sym}
 use Rattle.atomic_histories.specs.declared.unit.Operation.{Operation}
-use Rattle.atomic_histories.specs.Stands.{Each}
-use Rattle.atomic_histories.proofs.Lists.{each_weaker}
+use Rattle.atomic_histories.specs.Stands.{Each, One}
+use Rattle.atomic_histories.proofs.Lists.{each_weaker, one_any, one_weaker}
 use Rattle.history_laws.proofs.Lists.{any_none, filter_all, filter_none}
 
 -- an open load, and what is kept of its request
@@ -179,3 +179,37 @@ all_long may (p ∷ ps) h = rw (h.0, all_long may ps h.1) (omega arith)
 pub no_wrong_place : {L : Type 0} (may : L → ℕ → Bool) (ps : List (L × ℕ)) → Each (λ p. may p.0 p.1 ≡ true) ps → position (λ p.
     not (may p.0 p.1)) ps ≡ None
 no_wrong_place may ps h = grind (arith, all_long, le-ltb)
+
+pub no_other : {X : Type 0} (ks : List (Marked X)) (n : ℕ) (Q : Marked X → Type 0) → One (λ x. (x.operation.number ≡ n) × Q x) ks
+    → list_any (is_number n) ks ≡ false → ⊥
+no_other ks n Q o h = grind (arith, both_ways, one_any, one_weaker, is_number, eq-eqb)
+
+-- the load that is open under a number is the only one
+pub same_load : {X : Type 0} (ks : List (Marked X)) (n : ℕ) (k : Marked X) (Q : Marked X → Type 0) → AreDifferent ks
+    → find (is_number n) ks ≡ Some k → One (λ x. (x.operation.number ≡ n) × Q x) ks → Q k
+same_load [] n k Q d h o = absurd o
+same_load (x ∷ ks) n k Q d h o = elim (cases_Bool _) [
+  | inl e ↦
+      let s : Some x ≡ Some k = (rw e at h) in
+      let same : x ≡ k = cc in
+      elim o [
+        | inl q ↦ subst Q same q.1
+        | inr r ↦ absurd (no_other ks n Q r (rw (eqb-true x.operation.number n e) at d.0))
+      ]
+  | inr e ↦ elim o [
+    | inl q ↦ absurd (both_ways (is_number n x) e (eq-eqb x.operation.number n q.0))
+    | inr r ↦ same_load ks n k Q d.1 (rw e at h) r
+  ]
+]
+
+-- and each byte of an answer that passes may be returned
+pub paid_at : {X L : Type 0} (make : ℕ → ℕ → X → L) (number : L → ℕ) (named : (n a : ℕ) (x : X) → number (make n a x) ≡ n) (may : L → ℕ
+    → Bool) (n : ℕ) (x : X) (len a : ℕ) (bs : List ℕ)
+    → Each (λ p. may p.0 p.1 ≡ true) (zip (piece make number named n x a len) bs) → (i b : ℕ) → slice_get bs i ≡ Some b → i < len
+    → may (make n (a + i) x) b ≡ true
+paid_at make number named may n x zero a bs h i b e l = absurd (omega arith)
+paid_at make number named may n x (suc len) a [] h i b e l = cc
+paid_at make number named may n x (suc len) a (c ∷ bs) h zero b e l = let same : c ≡ b = cc in subst (λ y.
+    may (make n y x) b ≡ true) (omega arith) (rw same at h.0)
+paid_at make number named may n x (suc len) a (c ∷ bs) h (suc i) b e l =
+    subst (λ y. may (make n y x) b ≡ true) (omega arith) (paid_at make number named may n x len (a + 1) bs h.1 i b e (omega arith))

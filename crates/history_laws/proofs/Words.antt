@@ -1,6 +1,7 @@
 -- The places of a word, and the bytes of a store.
-use Rattle.std.proofs.Common.{◌≡◌, ℕ, zero, suc, ◌+◌, ◌/◌, ◌%◌, ◌<◌, Bool, true, false, ◌&&◌, ◌||◌, ◌==◌, if◌then◌else◌}
+use Rattle.std.proofs.Common.{◌≡◌, ℕ, zero, suc, ◌+◌, ◌/◌, ◌%◌, ◌<◌, ◌≤◌, Bool, true, false, ◌&&◌, ◌||◌, ◌==◌, if◌then◌else◌}
 use Rattle.std.proofs.Common.{List, [], ◌∷◌, map, length, Option, Some, None, inr, refl, sym, ap, ◌∙◌, subst, arith}
+use Rattle.std.specs.Prelude.{is_some}
 use Rattle.std.specs.List.{list_any, range_with_len}
 use Rattle.std.proofs.lemmas.Bool.{and_parts, and_from, lt-ltb, leb-true}
 use Rattle.std.proofs.lemmas.Nat.Bits.{bit_at-suc}
@@ -62,6 +63,20 @@ lane_word first (w ∷ ws) a bs h =
     and_from _ _ (subst (λ x. is_as_it_stood w (byte_for a bs x) ≡ true) (omega arith) (h 0 (omega arith)))
     (lane_word (first + 1) ws a bs (λ j l. subst (λ x.
     is_as_it_stood (lane ws j) (byte_for a bs x) ≡ true) (omega arith) (h (suc j) (omega arith))))
+
+pub some_lane : (ws : List (Option ℕ)) → list_any is_some ws ≡ true → (j : ℕ) × ((b : ℕ) × (lane ws j ≡ Some b))
+some_lane [] h = cc
+some_lane (None ∷ ws) h = let r = some_lane ws h in (suc r.0, (r.1.0, r.1.1))
+some_lane (Some b ∷ ws) h = (0, (b, refl))
+
+pub lane_past : (g : ℕ → Option ℕ) (n i j : ℕ) → n ≤ j → lane (map g (range_with_len i n)) j ≡ None
+lane_past g zero i j h = refl
+lane_past g (suc n) i zero h = absurd (omega arith)
+lane_past g (suc n) i (suc j) h = lane_past g n _ j (omega arith)
+
+pub as_none : (o : Option ℕ) → is_as_it_stood o None ≡ true
+as_none None = refl
+as_none (Some b) = refl
 
 -- The bytes of a store. ----
 

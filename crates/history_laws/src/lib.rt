@@ -1,4 +1,11 @@
-//! How the laws of histories stand to one another. The functions do nothing.
+//! How the three laws of histories stand to one another, and the machine to them.
+//!
+//! - First call: [`atomic_is_regular`] or any other. The functions do nothing at run time: calling
+//!   one brings its law into a proof.
+//! - Caller: who proves something of histories. docs/PROVED.md names these laws as promises.
+//!
+//! A flat history is atomic, and an atomic one is regular. What the machine answers is a history of
+//! each law.
 #![tactic(auto)]
 
 ghost use Rattle.std.specs.Prelude.{ℕ, List};
@@ -9,6 +16,8 @@ ghost use Rattle.history_laws.specs.Laws.{AtomicIsRegular, FlatIsAtomic, FlatIsR
 ghost use Rattle.history_laws.specs.Told.{RunIsLawful, MachineIsLawful};
 ghost use Rattle.history_laws.specs.Late.{LateIsAtomic};
 ghost use Rattle.history_laws.specs.Since.{ToldLateIsAtomic};
+ghost use Rattle.history_laws.specs.Cuts.{Cut, CutIsAtomicAt, CutRefutes, CutIsRegular};
+ghost use Rattle.atomic_histories.specs.declared.unit.UnitPlace.{UnitPlace};
 ghost use Rattle.run_reasons.specs.declared.reason.Mismatch.{Mismatch};
 
 /// An atomic history, in units of any size, is a regular one.
@@ -48,4 +57,22 @@ pub fn late_is_atomic()
 pub fn told_late_is_atomic()
     ensures { (words : List Word) (size : ℕ) (texts : List (List ℕ)) (steps : ℕ) (found : List ℕ) (m : Mismatch)
         → ToldLateIsAtomic words size texts steps found m }
+{}
+
+/// What stays of a history that is atomic at a unit is so too, if the cut is closed there: no load
+/// that stays may have got a byte from a store that is left out.
+pub fn cut_is_atomic()
+    ensures { (image : List ℕ) (rest : Rest) (unit : UnitPlace) (stays : Cut) (history : List HistoryEvent)
+        → CutIsAtomicAt image rest unit stays history }
+{}
+
+/// So a history is not atomic if what stays is not.
+pub fn cut_refutes()
+    ensures { (image : List ℕ) (rest : Rest) (size : ℕ) (k : ℕ) (stays : Cut) (history : List HistoryEvent)
+        → CutRefutes image rest size k stays history }
+{}
+
+/// The same of the regular law, if the cut is closed at each unit.
+pub fn cut_is_regular()
+    ensures { (image : List ℕ) (rest : Rest) (stays : Cut) (history : List HistoryEvent) → CutIsRegular image rest stays history }
 {}

@@ -1,8 +1,12 @@
 //! Why a load may not return a byte by the regular law: who stored it, and who overwrote it. And
 //! where an allowed byte may come from.
 //!
-//! [`StoreLog`] comes first: its caller notes each event, and asks when an answer is refused.
-//! [`why`] says the same over a list of all stores.
+//! - First call: [`StoreLog::new`], then [`StoreLog::note`] for each event.
+//! - Caller: `history_text` and `history_handles`, which ask [`StoreLog::why`] when an answer is
+//!   refused. [`StoreLog::sources`] says where an allowed byte comes from.
+//!
+//! [`why`] and [`sources`] say the same over a list of all stores. A log keeps fewer than twice
+//! [`KEPT_BYTES`] bytes of stores and forgets the oldest; [`StoreLog::is_whole`] says whether it did.
 #![tactic(auto)]
 
 ghost use Rattle.std.specs.Prelude.{◌≡◌, ◌↔◌, None, IfSome};

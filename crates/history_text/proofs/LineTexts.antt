@@ -1,7 +1,7 @@
 -- How lines become events.
 use Rattle.std.proofs.Common.{◌≡◌, ℕ, ◌≤◌, Option, None, Some, Result, Ok, Err, List, [], ◌∷◌, ◌++◌, length}
 use Rattle.std.proofs.Common.{length-append, append-nil, append_assoc, sym, ◌∙◌, ap, arith}
-use Rattle.memory_histories.specs.declared.events.HistoryEvent.{HistoryEvent}
+use Rattle.history_sessions.specs.Words.{HistoryEvent}
 use Rattle.trace_text.specs.declared.lines.LineFault.{LineFault}
 use Rattle.history_text.specs.Lines.{line_of}
 use Rattle.history_text.specs.Histories.{events_in, events_of}

@@ -3,8 +3,7 @@ use Rattle.std.proofs.Common.{◌≡◌, ℕ, ◌+◌, true, false, cond, List, 
 use Rattle.std.specs.List.{filter, range_with_len}
 use Rattle.std.proofs.lemmas.List.Elements.{filter-append}
 use Rattle.flat_model.proofs.Numbers.{range_next}
-use Rattle.memory_histories.specs.declared.sets.ByteSet.{ByteSet}
-use Rattle.memory_histories.specs.Sets.{has}
+use Rattle.history_sessions.specs.Words.{ByteSet, has}
 use Rattle.history_text.specs.Answers.{bytes_in_set}
 
 filtered : (set : ByteSet) (n : ℕ)

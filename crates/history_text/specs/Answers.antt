@@ -2,11 +2,10 @@
 use Rattle.std.specs.Prelude.{ℕ, ◌==◌, Bool, false, ◌&&◌, if◌then◌else◌, List, [], ◌∷◌, ◌++◌, Option, Some, None, codes, decimal, nat_lt}
 use Rattle.std.specs.List.{filter, flat_map, range_with_len}
 use Rattle.std.specs.Fmt.{digits}
-use Rattle.memory_histories.specs.declared.sets.ByteSet.{ByteSet}
-use Rattle.memory_histories.specs.Sets.{has}
+use Rattle.history_sessions.specs.Words.{ByteSet, has}
 use Rattle.flat_model.specs.Texts.{byte_text}
-use Rattle.history_text.specs.declared.answers.LawName.{LawName}
-use Rattle.history_text.specs.declared.answers.LawName.TheVariants.{Flat, Atomic, Regular}
+use Rattle.history_sessions.specs.declared.judge.LawName.{LawName}
+use Rattle.history_sessions.specs.History.{law_text}
 use Rattle.history_text.specs.declared.answers.OperationKind.{OperationKind}
 use Rattle.history_text.specs.declared.answers.OperationKind.TheVariants.{Load, Store}
 use Rattle.history_text.specs.declared.answers.ByteSource.{ByteSource}
@@ -33,11 +32,6 @@ joined_bytes between [] = []
 joined_bytes between (b ∷ bs) = byte_text b ++ flat_map (λ c. between ++ byte_text c) bs
 
 -- ---- answers
-
-abbrev pub law_text : LawName → List ℕ
-law_text Flat = codes "flat"
-law_text Atomic = codes "atomic"
-law_text Regular = codes "regular"
 
 abbrev pub kind_text : OperationKind → List ℕ
 kind_text Load = codes "load"

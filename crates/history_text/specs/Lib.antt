@@ -1,15 +1,7 @@
 pub mod Fields
 pub mod Lines
 pub mod Answers
-pub mod Laws
-pub mod RegularLaw
-pub mod FlatLaw
-pub mod AtomicLaw
-pub mod Operations
 pub mod Notes
-pub mod Told
-pub mod Choice
 pub mod Refusals
-pub mod Judged
 pub mod Histories
 pub mod Values

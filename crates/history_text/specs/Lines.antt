@@ -1,10 +1,9 @@
 -- The lines of a history.
 use Rattle.std.specs.Prelude.{ℕ, ◌==◌, Bool, false, ◌||◌, if◌then◌else◌, Option, None, Some, Result, Ok, Err, List, [], ◌∷◌, length, codes}
-use Rattle.std.specs.Borrow.{Bor}
 use Rattle.std.specs.List.{list_all}
-use Rattle.memory_histories.specs.declared.events.HistoryEvent.{HistoryEvent}
-use Rattle.memory_histories.specs.declared.events.HistoryEvent.TheVariants.{LoadRequest, LoadResponse, StoreRequest, StoreResponse}
+use Rattle.history_sessions.specs.Words.{HistoryEvent, LoadRequest, LoadResponse, StoreRequest, StoreResponse}
 use Rattle.trace_text.specs.Lines.{cut_of, same}
+use Rattle.history_sessions.specs.Events.{held}
 use Rattle.history_text.specs.Fields.{value_of, bytes_of, enables_of}
 use Rattle.trace_text.specs.declared.lines.LineFault.{LineFault}
 use Rattle.trace_text.specs.declared.lines.LineFault.TheVariants.{Unknown, Field}
@@ -13,18 +12,7 @@ use Rattle.history_text.specs.declared.events.OwnedEvent.TheVariants as owned
 use Rattle.history_text.specs.declared.lines.Command.{Command}
 use Rattle.history_text.specs.declared.lines.Command.TheVariants as command
 
--- ---- events, wherever their bytes lie
-
--- these bytes, as an event holds them
-abbrev pub held : List ℕ → Bor (List ℕ)
-held bytes = record { ref_ptr = (0, 0); now = bytes }
-
--- an event by its numbers and bytes alone
-abbrev pub plain : HistoryEvent → HistoryEvent
-plain (LoadRequest number address length) = LoadRequest number address length
-plain (LoadResponse number bytes) = LoadResponse number (held bytes.now)
-plain (StoreRequest number address bytes enables) = StoreRequest number address (held bytes.now) enables
-plain (StoreResponse number) = StoreResponse number
+-- ---- events
 
 -- the event that owns its bytes
 abbrev pub seen : OwnedEvent → HistoryEvent

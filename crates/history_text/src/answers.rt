@@ -4,24 +4,13 @@ ghost use Rattle.std.specs.Fmt.{WritesOnOk};
 ghost use Rattle.std.specs.List.{flat_map};
 ghost use Rattle.flat_model.specs.Texts.{byte_text};
 ghost use Rattle.history_text.specs.Answers.{bytes_in_set as set_bytes, joined_bytes, source_text, allowed_text, alternatives_text};
-ghost use Rattle.history_text.specs.Answers.{overwritten_text, overwritten_there_text, address_text, law_text, kind_text, cause_text};
+ghost use Rattle.history_text.specs.Answers.{overwritten_text, overwritten_there_text, address_text, kind_text, cause_text};
 ghost use Rattle.history_text.specs.Answers.{refusal_text, open_text as text_of_open, verdict_text, verdict_status};
 
 use arrayvec::ArrayVec;
 use flat_model::TwoDigits;
-use memory_histories::ByteSet;
+use history_sessions::{ByteSet, LawName};
 use std::fmt;
-
-/// A law of histories.
-#[derive(Clone, Copy, PartialEq, Eq, Debug)]
-pub enum LawName {
-    /// An operation takes effect at its request.
-    Flat,
-    /// At a moment between request and response, in each unit at once.
-    Atomic,
-    /// So does each byte, and each load for itself.
-    Regular,
-}
 
 /// A load or a store.
 #[derive(Clone, Copy, PartialEq, Eq, Debug)]
@@ -313,18 +302,6 @@ impl fmt::Display for Address {
     }
 }
 
-impl fmt::Display for LawName {
-    ghost output = { λ law. Some (law_text law) };
-
-    fn fmt<W: fmt::Write>(&self, f: &mut fmt::Formatter<W>) -> fmt::Result {
-        f.write_str(match self {
-            LawName::Flat => "flat",
-            LawName::Atomic => "atomic",
-            LawName::Regular => "regular",
-        })
-    }
-}
-
 impl fmt::Display for OperationKind {
     ghost output = { λ kind. Some (kind_text kind) };
 
@@ -336,7 +313,7 @@ impl fmt::Display for OperationKind {
     }
 }
 
-/// What stands behind the operation's number.
+/// What follows the operation's number.
 impl fmt::Display for RefusalCause {
     ghost output = { λ cause. Some (cause_text cause) };
 

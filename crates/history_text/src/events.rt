@@ -1,10 +1,11 @@
 //! An event that owns its bytes.
 
 ghost use Rattle.std.specs.Prelude.{◌≡◌};
-ghost use Rattle.history_text.specs.Lines.{plain, seen};
+ghost use Rattle.history_sessions.specs.Events.{plain};
+ghost use Rattle.history_text.specs.Lines.{seen};
 
 use arrayvec::ArrayVec;
-use memory_histories::{HistoryEvent, MAX_LENGTH};
+use history_sessions::{HistoryEvent, MAX_LENGTH};
 
 /// An operation's bytes, in memory's order.
 pub type OperationBytes = ArrayVec<u8, MAX_LENGTH>;

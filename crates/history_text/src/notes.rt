@@ -1,173 +1,92 @@
-//! A history's stores, to name those that made a byte wrong.
+//! The stores that made a byte wrong, and those that it may come from.
 
-ghost use Rattle.std.specs.Prelude.{◌≡◌, ◌<◌, ◌++◌, Some, None, OnOk, IfOk, map, slice_get};
-ghost use Rattle.memory_histories.specs.Windows.{Windows};
-ghost use Rattle.atomic_histories.specs.Judge.{bytes_of};
-ghost use Rattle.history_reasons.specs.Log.{HasRoom};
-ghost use Rattle.history_text.specs.Lines.{seen};
+ghost use Rattle.std.specs.Prelude.{◌≡◌, ◌++◌, OnOk, IfOk, map, slice_get};
+ghost use Rattle.history_sessions.specs.Session.{Session};
 ghost use Rattle.history_text.specs.Answers.{bytes_in_set as set_bytes};
-ghost use Rattle.history_text.specs.Refusals.{IsWrong};
-ghost use Rattle.history_text.specs.Notes.{Telling, telling_of, AreNotesOf, opening_windows, line_then, line_number, source_named};
-ghost use Rattle.history_text.specs.Notes.{named_with, alternatives_for, sources_of, sources_under, alternatives_of, overwriter_of};
+ghost use Rattle.history_text.specs.Refusals.{Stands, IsWrong};
+ghost use Rattle.history_text.specs.Notes.{line_number, source_named, named_with, alternatives_for, alternatives_of, overwriter_of};
 ghost use Rattle.history_text.specs.Notes.{overwritten_by, overwritten_of, overwritten_in};
 
 use crate::answers::{AllowedByte, ByteSource, OverwrittenByte, RefusalCause, bytes_in_set};
-use crate::events::OwnedEvent;
-use crate::judged::OpenLoad;
-use atomic_histories::UnitSize;
-use history_reasons::{FoundReason, Reason, Source, StoreLog};
-use memory_histories::{ByteSet, LoadByte, Rest, StoreByte};
+use crate::refusals::byte_address;
+use history_sessions::{
+    ByteSet, FoundReason, HistorySession, OpenOperation, Reason, Source, StoreByte,
+};
 use std::alloc::{AllocError, Global};
 
-/// A history's stores, as far back as a [`StoreLog`] has them, and open loads. Moments are lines.
-#[derive(Drop)]
-pub struct StoreNotes {
+pub(crate) fn wrong_byte(
     alloc: Global,
-    log: StoreLog,
-    unit: UnitSize,
-    at_request: bool,
+    session: &HistorySession,
+    load: OpenOperation,
+    bytes: &[u8],
+    place: usize,
+    allowed: Option<ByteSet>,
+) -> Result<RefusalCause, AllocError>
+    ensures { IfOk result (λ cause. (s : Session) → Stands session.now s
+        → IsWrong s load bytes.now place (slice_get bytes.now place) allowed cause) }
+{
+    let address = byte_address(load, place as u64);
+    let overwritten = overwritten(session, load, bytes, place);
+    let Some(allowed) = allowed else {
+        return Ok(RefusalCause::NoMoment {
+            address,
+            overwritten,
+        });
+    };
+    let Some(returned) = byte_at(bytes, place) else {
+        return Ok(RefusalCause::NotOpen);
+    };
+    let sources = alternatives(alloc, session, load.number, address, allowed)?;
+    Ok(RefusalCause::WrongByte {
+        address,
+        returned,
+        allowed,
+        sources,
+        overwritten,
+    })
 }
 
-impl StoreNotes {
-    /// Before the first line. Memory begins with the image, then as `rest` says. Aligned units of
-    /// this size take effect at once, and at the request if `at_request`, as by the flat law.
-    /// `AllocError`: too little memory.
-    pub fn new(
-        alloc: Global,
-        image: &[u8],
-        rest: Rest,
-        unit: UnitSize,
-        at_request: bool,
-    ) -> Result<StoreNotes, AllocError>
-        ensures { IfOk result (λ n. let t = telling_of image.now rest (bytes_of unit) at_request in
-            AreNotesOf n t (opening_windows t)) }
-    {
-        let log = StoreLog::new(alloc, image, rest)?;
-        Ok(StoreNotes {
-            alloc,
-            log,
-            unit,
-            at_request,
-        })
-    }
+fn alternatives(
+    alloc: Global,
+    session: &HistorySession,
+    number: u64,
+    address: u64,
+    set: ByteSet,
+) -> Result<Vec<AllowedByte>, AllocError>
+    ensures { IfOk result (λ all. (s : Session) → Stands session.now s
+        → all.items ≡ alternatives_of s number address (set_bytes set)) }
+{
+    let bytes = bytes_in_set(set);
+    alternatives_among(alloc, session, number, address, bytes.as_slice())
+}
 
-    pub(crate) fn make_room(&mut self) -> Result<(), AllocError>
-        ensures same { (t : Telling) (w : Windows) → AreNotesOf self.old t w → AreNotesOf self.new t w }
-        ensures room { OnOk result (HasRoom self.new.log) }
-    {
-        self.log.make_room()
+fn alternatives_among(
+    alloc: Global,
+    session: &HistorySession,
+    number: u64,
+    address: u64,
+    bytes: &[u8],
+) -> Result<Vec<AllowedByte>, AllocError>
+    ensures { IfOk result (λ all. (s : Session) → Stands session.now s
+        → all.items ≡ alternatives_of s number address bytes.now) }
+{
+    let mut all = Vec::new(alloc);
+    for byte in bytes {
+        let sources = session.sources(alloc, number, address, *byte)?;
+        add_alternatives(&mut all, *byte, sources.as_slice())?;
     }
+    Ok(all)
+}
 
-    pub(crate) fn pass(&mut self)
-        ensures { (t : Telling) (w : Windows) → AreNotesOf self.old t w → w.moment < 18446744073709551615
-            → AreNotesOf self.new t (line_then w None) }
-    {
-        self.log.pass();
-    }
-
-    pub(crate) fn note(&mut self, event: &OwnedEvent)
-        requires room { HasRoom self.old.log }
-        ensures { (t : Telling) (w : Windows) → AreNotesOf self.old t w → w.moment < 18446744073709551615
-            → AreNotesOf self.new t (line_then w (Some (seen event.now))) }
-    {
-        self.log.note(event.event());
-    }
-
-    pub(crate) fn wrong_byte(
-        &self,
-        load: OpenLoad,
-        bytes: &[u8],
-        place: usize,
-        allowed: Option<ByteSet>,
-    ) -> Result<RefusalCause, AllocError>
-        ensures { IfOk result (λ cause. (t : Telling) (w : Windows) → AreNotesOf self.now t w
-            → IsWrong t w load bytes.now place (slice_get bytes.now place) allowed cause) }
-    {
-        let address = load.byte_address(place as u64);
-        let overwritten = self.overwritten(load, bytes, place);
-        let Some(allowed) = allowed else {
-            return Ok(RefusalCause::NoMoment {
-                address,
-                overwritten,
-            });
-        };
-        let Some(returned) = byte_at(bytes, place) else {
-            return Ok(RefusalCause::NotOpen);
-        };
-        let sources = self.alternatives(load.number, address, allowed)?;
-        Ok(RefusalCause::WrongByte {
-            address,
-            returned,
-            allowed,
-            sources,
-            overwritten,
-        })
-    }
-
-    pub(crate) fn alternatives(
-        &self,
-        number: u64,
-        address: u64,
-        set: ByteSet,
-    ) -> Result<Vec<AllowedByte>, AllocError>
-        ensures { IfOk result (λ all. (t : Telling) (w : Windows) → AreNotesOf self.now t w
-            → all.items ≡ alternatives_of t w number address (set_bytes set)) }
-    {
-        let bytes = bytes_in_set(set);
-        self.alternatives_among(number, address, bytes.as_slice())
-    }
-
-    fn alternatives_among(
-        &self,
-        number: u64,
-        address: u64,
-        bytes: &[u8],
-    ) -> Result<Vec<AllowedByte>, AllocError>
-        ensures { IfOk result (λ all. (t : Telling) (w : Windows) → AreNotesOf self.now t w
-            → all.items ≡ alternatives_of t w number address bytes.now) }
-    {
-        let mut all = Vec::new(self.alloc);
-        for byte in bytes {
-            let sources = self.sources_under(number, address, *byte)?;
-            add_alternatives(&mut all, *byte, sources.as_slice())?;
-        }
-        Ok(all)
-    }
-
-    fn sources_under(&self, number: u64, address: u64, byte: u8) -> Result<Vec<Source>, AllocError>
-        ensures { IfOk result (λ sources. (t : Telling) (w : Windows) → AreNotesOf self.now t w
-            → sources.items ≡ sources_under t w number address byte) }
-    {
-        match self.log.load_at(number, address) {
-            None => Ok(Vec::new(self.alloc)),
-            Some(load) => self.sources_of(&load, byte),
-        }
-    }
-
-    fn sources_of(&self, load: &LoadByte, byte: u8) -> Result<Vec<Source>, AllocError>
-        ensures { IfOk result (λ sources. (t : Telling) (w : Windows) → AreNotesOf self.now t w
-            → sources.items ≡ sources_of t.at_request w load.now byte) }
-    {
-        match self.at_request {
-            true => self.log.sources_at_request(self.alloc, load, byte),
-            false => self.log.sources(self.alloc, load, byte),
-        }
-    }
-
-    pub(crate) fn overwritten(
-        &self,
-        load: OpenLoad,
-        bytes: &[u8],
-        place: usize,
-    ) -> Option<OverwrittenByte>
-        ensures { (t : Telling) (w : Windows) → AreNotesOf self.now t w
-            → result ≡ overwritten_in t w load bytes.now place }
-    {
-        let found = self
-            .log
-            .unit_reason(self.unit.bytes(), load.number, load.address, bytes, place);
-        overwritten_of(load, bytes, found)
-    }
+fn overwritten(
+    session: &HistorySession,
+    load: OpenOperation,
+    bytes: &[u8],
+    place: usize,
+) -> Option<OverwrittenByte>
+    ensures { (s : Session) → Stands session.now s → result ≡ overwritten_in s load bytes.now place }
+{
+    overwritten_of(load, bytes, session.reason(load.number, bytes, place))
 }
 
 fn line_number(store: &StoreByte) -> u64
@@ -231,7 +150,7 @@ fn byte_at(bytes: &[u8], place: usize) -> Option<u8>
 }
 
 fn overwritten_of(
-    load: OpenLoad,
+    load: OpenOperation,
     bytes: &[u8],
     found: Option<FoundReason>,
 ) -> Option<OverwrittenByte>
@@ -248,7 +167,7 @@ fn overwritten_of(
 }
 
 fn overwritten_by(
-    load: OpenLoad,
+    load: OpenOperation,
     place: usize,
     by: Option<StoreByte>,
     byte: Option<u8>,
@@ -258,7 +177,7 @@ fn overwritten_by(
     match (by, byte) {
         (Some(by), Some(byte)) => Some(OverwrittenByte {
             byte,
-            address: load.byte_address(place as u64),
+            address: byte_address(load, place as u64),
             number: by.number,
         }),
         (Some(_), None) => None,

@@ -1,28 +1,23 @@
 //! The lines of a history are written, and behind each answer to a load what it may have returned.
 
-ghost use Rattle.std.specs.Prelude.{◌≡◌, ◌≤◌, ◌<◌, ◌+◌, ℕ, List, [], ◌∷◌, ◌++◌, length, true, false, Ok, Some, IfOk, IfErr, OnOk};
+ghost use Rattle.std.specs.Prelude.{◌≡◌, ◌<◌, ℕ, List, [], ◌∷◌, ◌++◌, length, true, false, Ok, Some, IfOk, IfErr, OnOk};
 ghost use Rattle.std.specs.Fmt.{WritesOnOk};
 ghost use Rattle.std.specs.Option.{option_map};
-ghost use Rattle.memory_histories.specs.declared.events.HistoryEvent.{HistoryEvent as Event};
 ghost use Rattle.trace_text.specs.Streams.{Moves};
-ghost use Rattle.history_text.specs.Lines.{line_of, seen_by};
-ghost use Rattle.memory_histories.specs.Windows.{Windows};
-ghost use Rattle.history_text.specs.Judged.{Stands};
-ghost use Rattle.history_text.specs.Notes.{Telling, AreNotesOf, opening_windows};
-ghost use Rattle.history_text.specs.Told.{Begin, law_begun, told_by};
-ghost use Rattle.history_text.specs.Histories.{most_lines, history_fault, HasJudged, WereJudged};
-ghost use Rattle.history_text.specs.Values.{any_text, set_text, sets_text, values_text, AreSetsFrom, AreValues, IsTold, Told, TellStops};
-ghost use Rattle.history_text.specs.Values.{Flushes, WereTold, WriteStops, Writes, write_stop};
 ghost use Rattle.trace_text.specs.declared.fault.TheConstants.{BUFFER_LEN, MAX_PAIR};
+ghost use Rattle.history_sessions.specs.Kept.{IsKept};
+ghost use Rattle.history_sessions.specs.Session.{Session, session_opening};
+ghost use Rattle.history_text.specs.Lines.{line_of, seen_by};
+ghost use Rattle.history_text.specs.Histories.{most_lines, history_fault, HasJudged, WereJudged};
+ghost use Rattle.history_text.specs.Values.{any_text, set_text, sets_text, values_text, IsReturned, AreSetsFrom, AreValues, IsTold, Told};
+ghost use Rattle.history_text.specs.Values.{TellStops, Flushes, WereTold, WriteStops, Writes, write_stop};
 
 use crate::answers::{HistoryEnd, bytes_in_set, write_joined};
 use crate::events::OwnedEvent;
-use crate::judge::HistoryJudge;
-use crate::judged::{Judged, OpenLoad, Stop, load_in};
 use crate::lines::read_history_line;
-use crate::notes::StoreNotes;
 use crate::reading::Judging;
-use memory_histories::ByteSet;
+use crate::refusals::{Stop, byte_address};
+use history_sessions::{ByteSet, HistoryLaw, HistorySession, JudgeFault, OpenOperation, Rest};
 use std::alloc::{AllocError, Global};
 use std::fmt;
 use std::mem::replace;
@@ -89,47 +84,57 @@ fn write_sets<W: fmt::Write>(f: &mut fmt::Formatter<W>, sets: &[Option<ByteSet>]
     Ok(())
 }
 
+// What an open load may return at an address; `None`: the judge can't tell.
+fn set_at(
+    session: &HistorySession,
+    number: u64,
+    address: u64,
+) -> Result<Option<ByteSet>, AllocError>
+    ensures { IfOk result (λ set. (s : Session) → IsKept session.now s → IsReturned s.history number address set) }
+{
+    match session.may_return(number, address) {
+        Ok(set) => Ok(set),
+        Err(JudgeFault::Undecided { .. }) => Ok(None),
+        Err(_) => Err(AllocError),
+    }
+}
+
 // What an open load may return for each of its bytes.
-fn sets_of<J: HistoryJudge>(
+fn sets_of(
     alloc: Global,
-    judged: &Judged<J>,
-    load: OpenLoad,
+    session: &HistorySession,
+    load: OpenOperation,
 ) -> Result<Vec<Option<ByteSet>>, AllocError>
     ensures length { IfOk result (λ sets. length sets.items ≡ load.length) }
-    ensures sets { IfOk result (λ sets. (start : Begin J) (events : List Event) (w : Windows)
-        → Stands J.took start events w judged.now
-        → AreSetsFrom (law_begun J.law start) events load 0 sets.items) }
+    ensures sets { IfOk result (λ sets. (s : Session) → IsKept session.now s → AreSetsFrom s.history load 0 sets.items) }
 {
     let mut sets = Vec::new(alloc);
     for place in 0..load.length {
-        let set = judged
-            .judge
-            .may_answer(load.number, load.byte_address(place))?;
+        let set = set_at(session, load.number, byte_address(load, place as u64))?;
         sets.push(set)?;
     }
     Ok(sets)
 }
 
 // What the load that a line answers may have returned.
-fn values_of<J: HistoryJudge>(
+fn values_of(
     alloc: Global,
-    judged: &Judged<J>,
+    session: &HistorySession,
     event: &Option<OwnedEvent>,
 ) -> Result<Values, AllocError>
-    ensures { IfOk result (λ values. (start : Begin J) (events : List Event) (w : Windows)
-        → Stands J.took start events w judged.now
-        → AreValues (law_begun J.law start) events (seen_by event.now) (option_map (λ sets. sets.items) values.0)) }
+    ensures { IfOk result (λ values. (s : Session) → IsKept session.now s
+        → AreValues s (seen_by event.now) (option_map (λ sets. sets.items) values.0)) }
 {
     let Some(OwnedEvent::LoadResponse { number, bytes: _ }) = event else {
         return Ok(Values(None));
     };
-    match load_in(judged.loads.as_slice(), *number) {
+    match session.load_under(*number) {
         None => Ok(Values(None)),
-        Some(load) => Ok(Values(Some(sets_of(alloc, judged, load)?))),
+        Some(load) => Ok(Values(Some(sets_of(alloc, session, load)?))),
     }
 }
 
-// What is written of a line: it, and what stands behind it.
+// What is written of a line: it, and what follows it.
 fn told_line(alloc: Global, text: &[u8], values: &Values) -> Result<Vec<u8>, AllocError>
     ensures { IfOk result (λ line. line.items ≡ text.now ++ (values_text (option_map (λ sets. sets.items) values.now.0) ++ 10 ∷ [])) }
 {
@@ -140,24 +145,20 @@ fn told_line(alloc: Global, text: &[u8], values: &Values) -> Result<Vec<u8>, All
 }
 
 // Writes a line.
-fn write_line<W: Sink, J: HistoryJudge>(
-    alloc: Global,
+fn write_line<W: Sink>(
     writer: &mut W,
-    judged: &Judged<J>,
+    judging: &Judging,
     text: &[u8],
     event: &Option<OwnedEvent>,
 ) -> Result<(), Stop>
     requires { line_of text.now ≡ Ok (seen_by event.now) }
-    ensures ok { OnOk result ((start : Begin J) (events : List Event) (w : Windows)
-        → Stands J.took start events w judged.now
-        → (out : List ℕ) × IsTold (law_begun J.law start) events text.now out
-        × Moves W.took writer.old out writer.new) }
-    ensures stop { IfErr result (λ stop. (start : Begin J) (events : List Event) (w : Windows)
-        → Stands J.took start events w judged.now
-        → TellStops W.took W.refused (law_begun J.law start) events text.now writer.old writer.new stop) }
+    ensures ok { OnOk result ((s : Session) → IsKept judging.now.session s
+        → (out : List ℕ) × IsTold s text.now out × Moves W.took writer.old out writer.new) }
+    ensures stop { IfErr result (λ stop. (s : Session) → IsKept judging.now.session s
+        → TellStops W.took W.refused s text.now writer.old writer.new stop) }
 {
-    let values = values_of(alloc, judged, event)?;
-    let line = told_line(alloc, text, &values)?;
+    let values = values_of(judging.alloc, &judging.session, event)?;
+    let line = told_line(judging.alloc, text, &values)?;
     match write_whole(writer, line.as_slice()) {
         Ok(()) => Ok(()),
         Err(_) => Err(Stop::Fault(TraceFault::Write)),
@@ -166,33 +167,31 @@ fn write_line<W: Sink, J: HistoryJudge>(
 
 // What judges lines, and a writer of them that may have to be flushed.
 #[derive(Drop)]
-pub(crate) struct Writing<'a, W, J> {
-    pub(crate) alloc: Global,
+pub(crate) struct Writing<'a, W> {
     pub(crate) writer: &'a mut W,
-    pub(crate) judging: &'a mut Judging<J>,
+    pub(crate) judging: &'a mut Judging,
     pub(crate) due: bool,
 }
 
-impl<'a, W: Sink, J: HistoryJudge> Writing<'a, W, J> {
+impl<'a, W: Sink> Writing<'a, W> {
     // Writes a line.
     fn write(&mut self, text: &[u8], event: &Option<OwnedEvent>) -> Result<(), Uncollected>
         requires { line_of text.now ≡ Ok (seen_by event.now) }
-        ensures ok { OnOk result ((start : Begin J) (texts : List (List ℕ)) (first : W)
-            → HasJudged J.took J.law start texts self.old.judging.now
-            → Told W.took (law_begun J.law start) first texts self.old.writer.now
-            → Told W.took (law_begun J.law start) first (texts ++ text.now ∷ []) self.new.writer.now) }
+        ensures ok { OnOk result ((start : Session) (texts : List (List ℕ)) (first : W)
+            → HasJudged start texts self.old.judging.now
+            → Told W.took start first texts self.old.writer.now
+            → Told W.took start first (texts ++ text.now ∷ []) self.new.writer.now) }
         ensures judging { OnOk result (self.new.judging.now ≡ self.old.judging.now) }
         ensures stop { IfErr result (λ miss. (miss ≡ Uncollected.Halted)
-            × ((start : Begin J) (texts : List (List ℕ)) (first : W)
-            → HasJudged J.took J.law start texts self.old.judging.now
-            → Told W.took (law_begun J.law start) first texts self.old.writer.now
-            → WriteStops W.took W.refused (law_begun J.law start) first texts text.now self.new.writer.now
-            self.new.judging.now.stop)) }
+            × ((start : Session) (texts : List (List ℕ)) (first : W)
+            → HasJudged start texts self.old.judging.now
+            → Told W.took start first texts self.old.writer.now
+            → WriteStops W.took W.refused start first texts text.now self.new.writer.now self.new.judging.now.stop)) }
         ensures same { self.new.writer.ghost_name ≡ self.old.writer.ghost_name }
         ensures same_judging { self.new.judging.ghost_name ≡ self.old.judging.ghost_name }
     {
         self.due = true;
-        match write_line(self.alloc, self.writer, &self.judging.judged, text, event) {
+        match write_line(self.writer, self.judging, text, event) {
             Ok(()) => Ok(()),
             Err(stop) => {
                 self.judging.stop = stop;
@@ -202,21 +201,21 @@ impl<'a, W: Sink, J: HistoryJudge> Writing<'a, W, J> {
     }
 }
 
-impl<'a, W: Sink, J: HistoryJudge> Collector for Writing<'a, W, J> {
+impl<'a, W: Sink> Collector for Writing<'a, W> {
     ghost fault_in = { history_fault };
 
     ghost longest = { MAX_PAIR };
 
     ghost most_lines = { most_lines };
 
-    ghost went = { λ s texts t. WereJudged J.took J.law s.judging.now texts t.judging.now
-        × WereTold W.took J.took J.law s.judging.now s.writer.now texts t.writer.now
+    ghost went = { λ s texts t. WereJudged s.judging.now texts t.judging.now
+        × WereTold W.took s.judging.now s.writer.now texts t.writer.now
         × (t.due ≡ true → 0 < length texts) };
 
-    ghost stopped = { λ s text t. (start : Begin J) (texts : List (List ℕ)) (first : W)
-        → HasJudged J.took J.law start texts s.judging.now
-        → Told W.took (law_begun J.law start) first texts s.writer.now
-        → WriteStops W.took W.refused (law_begun J.law start) first texts text t.writer.now t.judging.now.stop };
+    ghost stopped = { λ s text t. (start : Session) (texts : List (List ℕ)) (first : W)
+        → HasJudged start texts s.judging.now
+        → Told W.took start first texts s.writer.now
+        → WriteStops W.took W.refused start first texts text t.writer.now t.judging.now.stop };
 
     ghost paused = { λ s t. Flushes W.took s.due s.writer.now t.writer.now × (t.judging.now ≡ s.judging.now) };
 
@@ -247,22 +246,22 @@ impl<'a, W: Sink, J: HistoryJudge> Collector for Writing<'a, W, J> {
 }
 
 // Reads a history to its end, or as far as it is judged, through a buffer, and writes its lines.
-fn write_through<R: Source, W: Sink, J: HistoryJudge>(
+fn write_through<R: Source, W: Sink>(
     reader: &mut R,
-    writing: &mut Writing<W, J>,
+    writing: &mut Writing<W>,
     buffer: &mut [u8],
 ) -> Result<HistoryEnd, TraceFault>
     requires room { length buffer.old ≡ BUFFER_LEN }
     requires due { writing.old.due ≡ false }
-    requires begun { (start : Begin J) × HasJudged J.took J.law start [] writing.old.judging.now }
-    ensures ends { (start : Begin J) → HasJudged J.took J.law start [] writing.old.judging.now
-        → Writes R.gave R.failed W.took W.refused W.unflushed (law_begun J.law start) reader.old reader.new
+    requires begun { (start : Session) × HasJudged start [] writing.old.judging.now }
+    ensures ends { (start : Session) → HasJudged start [] writing.old.judging.now
+        → Writes R.gave R.failed W.took W.refused W.unflushed start reader.old reader.new
         writing.old.writer.now writing.new.writer.now result }
     ensures same { writing.new.writer.ghost_name ≡ writing.old.writer.ghost_name }
     ensures same_judging { writing.new.judging.ghost_name ≡ writing.old.judging.ghost_name }
 {
     match read_lines_within(reader, writing, MAX_PAIR, u64::MAX, buffer) {
-        Ok(()) => Ok(writing.judging.judged.counts.end()),
+        Ok(()) => Ok(writing.judging.end()),
         Err(ReadStop::Fault(fault)) => Err(fault),
         Err(ReadStop::Halted) => {
             let none = Stop::Fault(TraceFault::OutOfMemory);
@@ -272,20 +271,18 @@ fn write_through<R: Source, W: Sink, J: HistoryJudge>(
 }
 
 // The same from the first line on.
-fn write_from<R: Source, W: Sink, J: HistoryJudge>(
+fn write_from<R: Source, W: Sink>(
     alloc: Global,
     reader: &mut R,
     writer: &mut W,
-    judging: &mut Judging<J>,
+    judging: &mut Judging,
 ) -> Result<HistoryEnd, TraceFault>
-    requires { (start : Begin J) × HasJudged J.took J.law start [] judging.old }
-    ensures { (start : Begin J) → HasJudged J.took J.law start [] judging.old
-        → Writes R.gave R.failed W.took W.refused W.unflushed (law_begun J.law start) reader.old reader.new
-        writer.old writer.new result }
+    requires { (start : Session) × HasJudged start [] judging.old }
+    ensures { (start : Session) → HasJudged start [] judging.old
+        → Writes R.gave R.failed W.took W.refused W.unflushed start reader.old reader.new writer.old writer.new result }
 {
     let mut buffer = vec![in alloc; 0u8; BUFFER_LEN]?;
     let mut writing = Writing {
-        alloc,
         writer,
         judging,
         due: false,
@@ -293,7 +290,7 @@ fn write_from<R: Source, W: Sink, J: HistoryJudge>(
     write_through(reader, &mut writing, &mut buffer)
 }
 
-/// Reads a history and judges it as [`judge_history`](crate::judge_history) does, and writes each line
+/// Reads a history and judges it as [`judge_by_law`](crate::judge_by_law) does, and writes each line
 /// before it is judged, the first that is none of the law too. Behind the answer to an open load stands
 /// what it may have returned, for each byte: ` -> 00|5a 5a` says that the first byte may be 00 or 5a, and
 /// the second must be 5a; `??` stands for a byte that may be anything, and `-` for one of which the judge
@@ -304,22 +301,18 @@ fn write_from<R: Source, W: Sink, J: HistoryJudge>(
 ///
 /// What was written since the last flush is flushed before each read, and so at the end, and before a fault. Behind a
 /// line that isn't of the law, or isn't decided, and behind a refusal, nothing is flushed.
-///
-/// The judge is a new one, which has taken no event, and the notes are of no line.
-pub fn write_values<R: Source, W: Sink, J: HistoryJudge + Drop>(
+pub fn write_values_by_law<R: Source, W: Sink>(
     alloc: Global,
     reader: &mut R,
     writer: &mut W,
-    judge: J,
-    notes: StoreNotes,
+    law: HistoryLaw,
+    image: &[u8],
+    rest: Rest,
 ) -> Result<HistoryEnd, TraceFault>
-    requires begun { J.took judge [] judge }
-    requires passes { (J.law judge).passes [] }
-    requires notes { (t : Telling) × AreNotesOf notes t (opening_windows t) }
-    ensures { (t : Telling) → AreNotesOf notes t (opening_windows t)
-        → Writes R.gave R.failed W.took W.refused W.unflushed (told_by (J.law judge) t) reader.old reader.new writer.old
-        writer.new result }
+    ensures { Writes R.gave R.failed W.took W.refused W.unflushed (session_opening law image.now rest) reader.old
+        reader.new writer.old writer.new result }
 {
-    let mut judging = Judging::new(alloc, judge, notes);
+    let session = HistorySession::new(alloc, law, image, rest)?;
+    let mut judging = Judging::new(alloc, session);
     write_from(alloc, reader, writer, &mut judging)
 }

@@ -1,2 +1,3 @@
--- what the library tells of itself
+-- what the library tells of itself, and of results
 pub mod Version
+pub mod Texts

@@ -3,4 +3,4 @@ use Rattle.std.specs.Prelude.{ℕ, List, codes}
 
 -- the version
 unfoldable pub version : List ℕ
-version = codes "0.1.0"
+version = codes "0.2.0"

@@ -1,14 +1,13 @@
 //! The history behind a handle: it is opened, told the events of a memory, asked, and given up.
 ghost use Rattle.std.specs.Prelude.{◌≡◌, ◌≢◌, None, Option};
 ghost use Rattle.memory_histories.specs.declared.events.HistoryEvent.TheVariants.{LoadRequest, LoadResponse, StoreRequest, StoreResponse};
-ghost use Rattle.history_handles.specs.Session.{Session};
-ghost use Rattle.history_handles.specs.Behind.{behind, IsBehind};
+ghost use Rattle.history_handles.specs.Behind.{behind, IsBehind, Session};
 ghost use Rattle.history_handles.specs.Opening.{chosen, open_fault, IsTold, IsOpened, told_status};
 ghost use Rattle.history_handles.specs.Why.{IsWhyTold};
-ghost use Rattle.history_handles.specs.Calls.{IsEventTold, IsSetTold, IsPlaceTold, IsForgetStatus, forgotten_by, IsAddressTold, IsCounted};
-ghost use Rattle.history_handles.specs.Calls.{IsOperationTold, load_asked, store_asked};
+ghost use Rattle.history_handles.specs.Calls.{IsEventTold, IsSetTold, IsForgetStatus, forgotten_by, IsAddressTold, IsCounted};
+ghost use Rattle.history_handles.specs.Calls.{IsOperationTold, operation_asked};
 
-use history_handles::{HistoryHandle, Operation, ReasonRow};
+use history_handles::{HistoryHandle, OCTETS, Operation, ReasonRow};
 use std::alloc::Global;
 
 /// Opens a history without an event behind a closed handle, to be judged by a law over units of so many bytes.
@@ -30,7 +29,7 @@ pub extern "C" fn kroft_history_open(
 
 /// Gives the history up, with all its memory.
 #[unsafe(no_mangle)]
-pub extern "C" fn kroft_history_free(alloc: Global, handle: &mut HistoryHandle) -> u32
+pub extern "C" fn kroft_history_close(alloc: Global, handle: &mut HistoryHandle) -> u32
     ensures status { result ≡ told_status (behind handle.old) }
     ensures closed { behind handle.new ≡ None }
 {
@@ -39,7 +38,7 @@ pub extern "C" fn kroft_history_free(alloc: Global, handle: &mut HistoryHandle) 
 
 /// A load of `length` bytes from `address` on is requested under this number.
 #[unsafe(no_mangle)]
-pub extern "C" fn kroft_load_request(
+pub extern "C" fn kroft_history_load_request(
     alloc: Global,
     handle: &mut HistoryHandle,
     number: u64,
@@ -55,7 +54,7 @@ pub extern "C" fn kroft_load_request(
 
 /// The load that is open under this number is answered with these bytes.
 #[unsafe(no_mangle)]
-pub extern "C" fn kroft_load_response(
+pub extern "C" fn kroft_history_load_response(
     alloc: Global,
     handle: &mut HistoryHandle,
     number: u64,
@@ -70,7 +69,7 @@ pub extern "C" fn kroft_load_response(
 
 /// A store is requested under this number, of the enabled ones of these bytes from `address` on.
 #[unsafe(no_mangle)]
-pub extern "C" fn kroft_store_request(
+pub extern "C" fn kroft_history_store_request(
     alloc: Global,
     handle: &mut HistoryHandle,
     number: u64,
@@ -87,7 +86,7 @@ pub extern "C" fn kroft_store_request(
 
 /// The store that is open under this number is answered.
 #[unsafe(no_mangle)]
-pub extern "C" fn kroft_store_response(
+pub extern "C" fn kroft_history_store_response(
     alloc: Global,
     handle: &mut HistoryHandle,
     number: u64,
@@ -101,12 +100,12 @@ pub extern "C" fn kroft_store_response(
 
 /// What an open load may return for the byte at an address, if it is answered now: a set of 256 bits.
 #[unsafe(no_mangle)]
-pub extern "C" fn kroft_may_return(
+pub extern "C" fn kroft_history_may_return(
     alloc: Global,
     handle: &mut HistoryHandle,
     number: u64,
     address: u64,
-    set: &mut [u8],
+    set: &mut [u8; OCTETS],
 ) -> u32
     ensures set { (b : Option Session)
         → IsBehind handle.old b
@@ -116,26 +115,9 @@ pub extern "C" fn kroft_may_return(
     history_handles::may_return(alloc, handle, number, address, set)
 }
 
-/// What [`kroft_load_response`] would say of these bytes, and the first wrong one. The history stays as it is.
+/// What [`kroft_history_load_response`] would say of these bytes, the first wrong one, and why: who stored it last, and who overwrote that.
 #[unsafe(no_mangle)]
-pub extern "C" fn kroft_wrong_place(
-    alloc: Global,
-    handle: &mut HistoryHandle,
-    number: u64,
-    bytes: &[u8],
-    place: &mut u64,
-) -> u32
-    ensures place { (b : Option Session)
-        → IsBehind handle.old b
-        → IsPlaceTold result handle.old place.old place.new b (LoadResponse number bytes.entry) }
-    ensures same { behind handle.new ≡ behind handle.old }
-{
-    history_handles::wrong_place(alloc, handle, number, bytes, place)
-}
-
-/// Why the load may not return these bytes: the first byte with a reason, who stored it last, and who overwrote that.
-#[unsafe(no_mangle)]
-pub extern "C" fn kroft_why(
+pub extern "C" fn kroft_history_why(
     alloc: Global,
     handle: &mut HistoryHandle,
     number: u64,
@@ -152,7 +134,11 @@ pub extern "C" fn kroft_why(
 
 /// Forgets the unit of an address, of a history by the atomic law: its bytes are unknown from there on.
 #[unsafe(no_mangle)]
-pub extern "C" fn kroft_forget(alloc: Global, handle: &mut HistoryHandle, address: u64) -> u32
+pub extern "C" fn kroft_history_forget(
+    alloc: Global,
+    handle: &mut HistoryHandle,
+    address: u64,
+) -> u32
     ensures status { (b : Option Session) → IsBehind handle.old b → IsForgetStatus result b }
     ensures history { (b : Option Session)
         → IsBehind handle.old b
@@ -163,7 +149,7 @@ pub extern "C" fn kroft_forget(alloc: Global, handle: &mut HistoryHandle, addres
 
 /// Where the unit begins that left an answer undecided.
 #[unsafe(no_mangle)]
-pub extern "C" fn kroft_undecided(
+pub extern "C" fn kroft_history_undecided(
     alloc: Global,
     handle: &mut HistoryHandle,
     address: &mut u64,
@@ -176,50 +162,23 @@ pub extern "C" fn kroft_undecided(
     history_handles::undecided(alloc, handle, address)
 }
 
-/// How many loads and how many stores are open.
+/// The open load or store at place `n`, in the order of the requests, and how many there are.
 #[unsafe(no_mangle)]
-pub extern "C" fn kroft_unanswered(
+pub extern "C" fn kroft_history_unanswered(
     alloc: Global,
     handle: &mut HistoryHandle,
-    loads: &mut u64,
-    stores: &mut u64,
-) -> u32
-    ensures counts { (b : Option Session)
-        → IsBehind handle.old b
-        → IsCounted result b loads.old loads.new stores.old stores.new }
-    ensures same { behind handle.new ≡ behind handle.old }
-{
-    history_handles::unanswered(alloc, handle, loads, stores)
-}
-
-/// The open load at place `n`, in the order of the requests.
-#[unsafe(no_mangle)]
-pub extern "C" fn kroft_unanswered_load(
-    alloc: Global,
-    handle: &mut HistoryHandle,
+    kind: u32,
     n: u64,
     operation: &mut Operation,
+    count: &mut u64,
 ) -> u32
-    ensures load { (b : Option Session)
+    ensures operation { (b : Option Session)
         → IsBehind handle.old b
-        → IsOperationTold result operation.old operation.new (load_asked b n) }
+        → IsOperationTold result operation.old operation.new (operation_asked b kind n) }
+    ensures count { (b : Option Session)
+        → IsBehind handle.old b
+        → IsCounted b kind count.old count.new }
     ensures same { behind handle.new ≡ behind handle.old }
 {
-    history_handles::unanswered_load(alloc, handle, n, operation)
-}
-
-/// The open store at place `n`, in the order of the requests.
-#[unsafe(no_mangle)]
-pub extern "C" fn kroft_unanswered_store(
-    alloc: Global,
-    handle: &mut HistoryHandle,
-    n: u64,
-    operation: &mut Operation,
-) -> u32
-    ensures store { (b : Option Session)
-        → IsBehind handle.old b
-        → IsOperationTold result operation.old operation.new (store_asked b n) }
-    ensures same { behind handle.new ≡ behind handle.old }
-{
-    history_handles::unanswered_store(alloc, handle, n, operation)
+    history_handles::unanswered(alloc, handle, kind, n, operation, count)
 }

@@ -5,9 +5,9 @@ ghost use Rattle.machine_handles.specs.AnyMachine.{weight_of, is_settled, pump_t
 ghost use Rattle.flat_judge.specs.Rows.{event_of};
 ghost use Rattle.machine_handles.specs.Behind.{standing, behind, idle, alone};
 ghost use Rattle.machine_handles.specs.Made as made;
-ghost use Rattle.machine_handles.specs.Rows.{sizes_of};
+ghost use Rattle.machine_handles.specs.Rows.{sizes_of, bit};
 ghost use Rattle.machine_handles.specs.Opening.{open_fault, IsTold};
-ghost use Rattle.machine_handles.specs.Calls.{apply_status, apply_row, applied, IsFlat, pump_status, pumped, told_status, test_status};
+ghost use Rattle.machine_handles.specs.Calls.{apply_status, apply_row, applied, IsFlat, pump_status, pumped, told_status};
 ghost use Rattle.machine_handles.specs.Calls.{found_row, pumped_event, pumped_answer};
 
 use flat_judge::{AnswerRow, EventRow};
@@ -17,7 +17,7 @@ use std::alloc::Global;
 
 /// Opens a machine over the words of an image, behind a closed handle.
 #[unsafe(no_mangle)]
-pub extern "C" fn kroft_open(
+pub extern "C" fn kroft_machine_open(
     alloc: Global,
     handle: &mut Handle,
     shape: &ShapeRow,
@@ -34,7 +34,7 @@ pub extern "C" fn kroft_open(
 
 /// Gives the machine up, with its rounds and all its memory.
 #[unsafe(no_mangle)]
-pub extern "C" fn kroft_free(alloc: Global, handle: &mut Handle) -> u32
+pub extern "C" fn kroft_machine_close(alloc: Global, handle: &mut Handle) -> u32
     ensures status { result ≡ told_status (standing handle.old) }
     ensures closed { standing handle.new ≡ None }
 {
@@ -43,7 +43,7 @@ pub extern "C" fn kroft_free(alloc: Global, handle: &mut Handle) -> u32
 
 /// Makes one event.
 #[unsafe(no_mangle)]
-pub extern "C" fn kroft_apply(
+pub extern "C" fn kroft_machine_apply(
     alloc: Global,
     handle: &mut Handle,
     event: &EventRow,
@@ -61,7 +61,7 @@ pub extern "C" fn kroft_apply(
 
 /// Makes the driver's event: the first that is possible of take, process, arrive, serve and drain.
 #[unsafe(no_mangle)]
-pub extern "C" fn kroft_pump(
+pub extern "C" fn kroft_machine_pump(
     alloc: Global,
     handle: &mut Handle,
     event: &mut EventRow,
@@ -77,22 +77,20 @@ pub extern "C" fn kroft_pump(
     machine_handles::pump(alloc, handle, event, answer)
 }
 
-/// What is on its way, weighed.
+/// What is on its way, weighed, and whether memory has everything.
 #[unsafe(no_mangle)]
-pub extern "C" fn kroft_weight(alloc: Global, handle: &mut Handle, weight: &mut u64) -> u32
+pub extern "C" fn kroft_machine_weight(
+    alloc: Global,
+    handle: &mut Handle,
+    weight: &mut u64,
+    settled: &mut u32,
+) -> u32
     ensures status { result ≡ told_status (behind handle.old) }
     ensures weight { weight.new
         ≡ unwrap_or (option_map weight_of (behind handle.old)) weight.old }
+    ensures settled { settled.new
+        ≡ unwrap_or (option_map (λ m. bit (is_settled m)) (behind handle.old)) settled.old }
     ensures same { standing handle.new ≡ standing handle.old }
 {
-    machine_handles::weight(alloc, handle, weight)
-}
-
-/// Whether nothing is on its way to memory.
-#[unsafe(no_mangle)]
-pub extern "C" fn kroft_settled(alloc: Global, handle: &mut Handle) -> u32
-    ensures status { result ≡ test_status (option_map is_settled (behind handle.old)) }
-    ensures same { standing handle.new ≡ standing handle.old }
-{
-    machine_handles::settled(alloc, handle)
+    machine_handles::weight(alloc, handle, weight, settled)
 }

@@ -11,7 +11,7 @@ use std::alloc::Global;
 
 /// What a frame shows.
 #[unsafe(no_mangle)]
-pub extern "C" fn kroft_frame(
+pub extern "C" fn kroft_machine_frame(
     alloc: Global,
     handle: &mut Handle,
     frame: u32,
@@ -29,7 +29,7 @@ pub extern "C" fn kroft_frame(
 
 /// Word `i` of the block that a frame holds.
 #[unsafe(no_mangle)]
-pub extern "C" fn kroft_frame_word(
+pub extern "C" fn kroft_machine_frame_word(
     alloc: Global,
     handle: &mut Handle,
     frame: u32,
@@ -48,7 +48,7 @@ pub extern "C" fn kroft_frame_word(
 
 /// The word at `place` of the input stack, the one that came first at 0.
 #[unsafe(no_mangle)]
-pub extern "C" fn kroft_stack_entry(
+pub extern "C" fn kroft_machine_stack_entry(
     alloc: Global,
     handle: &mut Handle,
     place: u32,
@@ -66,7 +66,7 @@ pub extern "C" fn kroft_stack_entry(
 
 /// The word at `place` of the write queue, the one that is drained next at 0.
 #[unsafe(no_mangle)]
-pub extern "C" fn kroft_queue_entry(
+pub extern "C" fn kroft_machine_queue_entry(
     alloc: Global,
     handle: &mut Handle,
     place: u32,
@@ -84,7 +84,7 @@ pub extern "C" fn kroft_queue_entry(
 
 /// The command at `place` of a bank, the one that is served next at 0.
 #[unsafe(no_mangle)]
-pub extern "C" fn kroft_bank_command(
+pub extern "C" fn kroft_machine_bank_command(
     alloc: Global,
     handle: &mut Handle,
     bank: u32,
@@ -103,7 +103,7 @@ pub extern "C" fn kroft_bank_command(
 
 /// The answer at `place` of a bank, the oldest one at 0.
 #[unsafe(no_mangle)]
-pub extern "C" fn kroft_bank_answer(
+pub extern "C" fn kroft_machine_bank_answer(
     alloc: Global,
     handle: &mut Handle,
     bank: u32,
@@ -122,7 +122,7 @@ pub extern "C" fn kroft_bank_answer(
 
 /// The ready value at `place`, the first one at 0.
 #[unsafe(no_mangle)]
-pub extern "C" fn kroft_reply(
+pub extern "C" fn kroft_machine_reply(
     alloc: Global,
     handle: &mut Handle,
     place: u32,
@@ -140,7 +140,12 @@ pub extern "C" fn kroft_reply(
 
 /// What a request for the word at `at` would find now.
 #[unsafe(no_mangle)]
-pub extern "C" fn kroft_find(alloc: Global, handle: &mut Handle, at: u32, lookup: &mut u32) -> u32
+pub extern "C" fn kroft_machine_find(
+    alloc: Global,
+    handle: &mut Handle,
+    at: u32,
+    lookup: &mut u32,
+) -> u32
     ensures status { result
         ≡ found_status (option_map (λ m. parts.lookup_shown m at) (behind handle.old)) }
     ensures lookup { lookup.new

@@ -12,7 +12,7 @@ use std::alloc::Global;
 
 /// Drives these requests through the machine in rounds until nothing is on its way, and counts.
 #[unsafe(no_mangle)]
-pub extern "C" fn kroft_drive(
+pub extern "C" fn kroft_machine_drive(
     alloc: Global,
     handle: &mut Handle,
     latency: u32,
@@ -37,7 +37,7 @@ pub extern "C" fn kroft_drive(
 
 /// Begins rounds in the machine: the next one is round 1, and nothing is counted.
 #[unsafe(no_mangle)]
-pub extern "C" fn kroft_rounds_begin(
+pub extern "C" fn kroft_machine_begin_rounds(
     alloc: Global,
     handle: &mut Handle,
     latency: u32,
@@ -53,7 +53,7 @@ pub extern "C" fn kroft_rounds_begin(
 
 /// Makes one round, which offers the first of these requests, if there is one.
 #[unsafe(no_mangle)]
-pub extern "C" fn kroft_round(
+pub extern "C" fn kroft_machine_round(
     alloc: Global,
     handle: &mut Handle,
     requests: &[EventRow],
@@ -73,7 +73,7 @@ pub extern "C" fn kroft_round(
 
 /// What was counted since the rounds were begun.
 #[unsafe(no_mangle)]
-pub extern "C" fn kroft_round_counts(
+pub extern "C" fn kroft_machine_round_counts(
     alloc: Global,
     handle: &mut Handle,
     counts: &mut CountsRow,
@@ -87,7 +87,7 @@ pub extern "C" fn kroft_round_counts(
 
 /// Ends the rounds: from then on the caller makes the machine's events.
 #[unsafe(no_mangle)]
-pub extern "C" fn kroft_rounds_end(alloc: Global, handle: &mut Handle) -> u32
+pub extern "C" fn kroft_machine_end_rounds(alloc: Global, handle: &mut Handle) -> u32
     ensures status { result ≡ fault_status (absent (standing handle.old)) }
     ensures ended { standing handle.new ≡ ended (standing handle.old) }
 {

@@ -6,7 +6,7 @@ use flat_judge::{Access, Plan};
 
 /// Writes the access of a number, under a seed, and the bytes of a store.
 #[unsafe(no_mangle)]
-pub extern "C" fn kroft_traffic(
+pub extern "C" fn kroft_traffic_draw(
     plan: &Plan,
     seed: u64,
     number: u64,

@@ -12,7 +12,7 @@ use std::alloc::Global;
 
 /// The word of memory at `at`, as it stands in its bank.
 #[unsafe(no_mangle)]
-pub extern "C" fn kroft_bank_word(
+pub extern "C" fn kroft_machine_bank_word(
     alloc: Global,
     handle: &mut Handle,
     at: u32,
@@ -29,7 +29,7 @@ pub extern "C" fn kroft_bank_word(
 
 /// What the register `slot` shows.
 #[unsafe(no_mangle)]
-pub extern "C" fn kroft_register(
+pub extern "C" fn kroft_machine_register(
     alloc: Global,
     handle: &mut Handle,
     slot: u32,
@@ -47,7 +47,7 @@ pub extern "C" fn kroft_register(
 
 /// What the register `slot` shows of word `i` of its block.
 #[unsafe(no_mangle)]
-pub extern "C" fn kroft_field(
+pub extern "C" fn kroft_machine_field(
     alloc: Global,
     handle: &mut Handle,
     slot: u32,
@@ -66,7 +66,7 @@ pub extern "C" fn kroft_field(
 
 /// The load at `place` among those that wait for word `i` of register `slot`, the oldest at 0.
 #[unsafe(no_mangle)]
-pub extern "C" fn kroft_target(
+pub extern "C" fn kroft_machine_target(
     alloc: Global,
     handle: &mut Handle,
     slot: u32,

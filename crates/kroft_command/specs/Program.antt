@@ -1,15 +1,18 @@
 -- What the program does: for its task, as the words were understood, the machine and the image that were read, and its input,
 -- which bytes go to its output, and by which status or fault it ends.
-use Rattle.std.specs.Prelude.{◌≡◌, ◌≢◌, ◌⊎◌, ℕ, ◌*◌, ◌/◌, ◌<◌, ◌≤◌, Bool, true, false, Option, Result, Ok, Err, List, [], ◌∷◌, ◌++◌, length}
-use Rattle.std.specs.Prelude.{map}
+use Rattle.std.specs.Prelude.{◌≡◌, ◌≢◌, ◌⊎◌, ℕ, ◌*◌, ◌/◌, ◌<◌, ◌≤◌, Bool, true, false}
+use Rattle.std.specs.Prelude.{Option, Some, None, Result, Ok, Err, List, [], ◌∷◌, ◌++◌, length}
+use Rattle.std.specs.Prelude.{map, if◌then◌else◌, nat_lt}
 use Rattle.std.specs.List.{flat_map}
+use Rattle.std.specs.Borrow.{Bor}
 use Rattle.std.specs.String.{string_bytes}
 use Rattle.std.specs.Global.{Global, Vec}
 use Rattle.std.specs.declared.string.String.{String}
 use Rattle.kroft_jobs.specs.Words.{Sizes, Image, CheckEnd, MAX_LINE, MAX_PAIR, TraceFault, LineFault, Counts, Access, LogFault, AccessGroup}
 use Rattle.kroft_jobs.specs.Words.{AccessCounts, Event, PAGE_WORDS, Format, VerdictFormat, Details, Table, Timing, Form, ShowFault}
-use Rattle.kroft_jobs.specs.Words.{Explanation, RoundsRow, MachineFault, ShapeFault, ToolShape, Score}
+use Rattle.kroft_jobs.specs.Words.{Explanation, RoundsRow, MachineFault, ShapeFault, ToolShape, Score, Marking, Question}
 use Rattle.register_sweeps.specs.Machine.{MachineState}
+use Rattle.round_driver.specs.declared.note.Note.{Note}
 use Rattle.toml.specs.Parse.{parse_document}
 use Rattle.flat_model.specs.Flat.{Flat}
 use Rattle.flat_model.specs.Images.{memory_from, flat_from, bytes_of}
@@ -21,9 +24,8 @@ use Rattle.trace_text.specs.Serving.{trace_fault, Ends}
 use Rattle.access_logs.specs.Formats.{lackey_access, din_access}
 use Rattle.access_logs.specs.Logs as logs
 use Rattle.history_text.specs.Answers.{verdict_status as history_status}
-use Rattle.history_text.specs.Choice.{chosen_law}
 use Rattle.history_text.specs.Histories.{Judges}
-use Rattle.history_text.specs.Told.{ToldLaw}
+use Rattle.history_sessions.specs.Session.{Session, session_opening}
 use Rattle.history_text.specs.Values.{Writes}
 use Rattle.history_text.specs.declared.answers.HistoryEnd.{HistoryEnd}
 use Rattle.run_pictures.specs.Drawn.{Shows}
@@ -34,18 +36,29 @@ use Rattle.shape_files.specs.ShapeFile.{sizes_of, text_says}
 use Rattle.shape_files.specs.declared.shape_file.TheConstants.{DEFAULT_SHAPE}
 use Rattle.kroft_jobs.specs.Grades.{score_status}
 use Rattle.result_formats.specs.Details.{details_in}
-use Rattle.result_figures.specs.Bars.{loss_figure}
-use Rattle.result_figures.specs.Sweeps.{Swept, sweep_figure}
+use Rattle.result_figures.specs.Losses.{figure as loss_marks}
+use Rattle.result_figures.specs.Marks.{omissions_text}
+use Rattle.result_figures.specs.Sweeps.{Swept, sweep_marks}
+use Rattle.result_figures.specs.Timelines.{Ran, timeline_marks}
+use Rattle.result_figures.specs.declared.drawing.Drawing.{Drawing}
+use Rattle.result_figures.specs.declared.mark.Mark.{Mark}
+use Rattle.result_figures.specs.declared.mark.Omission.{Omission}
+use Rattle.result_figures.specs.declared.mark.Omission.TheVariants.{Undrawn}
+use Rattle.result_figures.specs.declared.mark.Scale.{Scale}
 use Rattle.result_formats.specs.Counts.{table_in, table_head, rounds_in, rounds_head, latency_in, latency_head, pumps_in, pumps_head}
 use Rattle.kroft_jobs.specs.Answering.{tags_owed, answered_status}
 use Rattle.kroft_jobs.specs.Driving.{DrivesAll}
+use Rattle.kroft_jobs.specs.Following.{FollowsAll}
+use Rattle.kroft_jobs.specs.declared.following.FollowedRun.{FollowedRun}
+use Rattle.kroft_jobs.specs.declared.following.TheConstants.{MOST_FOLLOWED}
 use Rattle.kroft_jobs.specs.Forms.{check_in, answered_in}
-use Rattle.kroft_jobs.specs.Grading.{GradesAll}
+use Rattle.kroft_jobs.specs.Grading.{GradeBy, GradeOf, SolutionOf, WritesSheet}
+use Rattle.kroft_jobs.specs.Handed.{questions_from}
 use Rattle.kroft_jobs.specs.Jobs as jobs
 use Rattle.kroft_jobs.specs.Jobs.{swept, verdict_status}
 use Rattle.kroft_jobs.specs.Asking.{Asks, AsksNothing, room_of}
 use Rattle.kroft_jobs.specs.Sweeping.{IsCounted, CountsAll, AreCounted, AreSwept, SweepFails}
-use Rattle.kroft_jobs.specs.Writing.{IsPut, IsCut}
+use Rattle.kroft_jobs.specs.Writing.{IsPut, IsCut, IsOffered}
 use Rattle.kroft_jobs.specs.declared.asked.RequestText.{RequestText}
 use Rattle.kroft_jobs.specs.declared.fault.JobFault.{JobFault}
 use Rattle.kroft_jobs.specs.declared.fault.JobFault.TheVariants.{ShapeUnreadable, OutOfMemory}
@@ -55,14 +68,16 @@ use Rattle.kroft_jobs.specs.declared.rounds.LatencyRows.{LatencyRows}
 use Rattle.clap.specs.Values.{kind_of}
 use Rattle.clap.specs.declared.error.Error.{Error}
 use Rattle.clap.specs.declared.error.kind.ErrorKind.TheVariants.{DisplayHelp, DisplayVersion}
-use Rattle.kroft_command.specs.Words.{CommandLine, CountForm, HistoryTask, ImageName, LogName, MachineName, Task, ToolFault}
+use Rattle.kroft_command.specs.Words.{CommandLine, CountForm, HistoryTask, ImageName, LogName, MachineName, SheetWork, Task, ToolFault}
 use Rattle.kroft_command.specs.declared.command_line.CountForm.TheVariants.{Lines, Figure}
 use Rattle.kroft_command.specs.declared.command_line.ImageName.TheVariants as name
 use Rattle.kroft_command.specs.declared.command_line.LogName.TheVariants.{Lackey, Din}
 use Rattle.kroft_command.specs.declared.command_line.MachineName.TheVariants as source
+use Rattle.kroft_command.specs.declared.command_line.SheetWork.TheVariants as sheet
 use Rattle.kroft_command.specs.declared.command_line.Task.TheVariants as task
 use Rattle.kroft_command.specs.declared.fault.ToolFault.TheVariants.{CommandLine as Words, Job, MachineUnreadable, ImageUnreadable}
-use Rattle.kroft_command.specs.declared.fault.ToolFault.TheVariants.{LongImage as TooLong}
+use Rattle.kroft_command.specs.declared.fault.ToolFault.TheVariants.{LongImage as TooLong, SheetUnreadable, Sheet as SheetFault}
+use Rattle.named_fields.specs.declared.format.Format.TheVariants.{Text}
 use Rattle.kroft_command.specs.Tool.{IsInRange, IsAllowed, MayBegin, timings_in, registers_in, line, write_fault, no_memory, of_machine}
 use Rattle.kroft_command.specs.Tool.{of_trace, of_show, of_log}
 
@@ -76,9 +91,9 @@ abbrev pub access_in : LogName → List ℕ → Result (Option Access) LineFault
 access_in Lackey = lackey_access
 access_in Din = din_access
 
--- the law by which a history is judged
-abbrev pub law_for : HistoryTask → List ℕ → ToldLaw
-law_for how image = chosen_law how.law image how.rest
+-- a history by its law, before the first line
+abbrev pub history_from : HistoryTask → List ℕ → Session
+history_from how image = session_opening how.law image how.rest
 
 -- ---- the rows of latencies
 
@@ -89,6 +104,21 @@ swept_rows r = record { latency = r.latency; rows = r.rows.items }
 -- a line for each of them
 abbrev pub latency_lines : Format → Swept → List ℕ
 latency_lines format s = flat_map (λ row. line (latency_in format s.latency row)) s.rows
+
+-- ---- requests that are followed
+
+-- the requests behind those that are drawn
+abbrev pub undrawn : ℕ → Option Omission
+undrawn requests = if nat_lt MOST_FOLLOWED requests then Some (Undrawn (record { drawn = MOST_FOLLOWED; requests = requests })) else None
+
+abbrev pub ran_beside : Option Sizes → Option (Vec Note) → List Ran
+ran_beside (Some sizes) (Some notes) = record { sizes = sizes; notes = notes.items } ∷ []
+ran_beside sizes notes = []
+
+abbrev pub followed_marks : Sizes → Option Sizes → Timing → FollowedRun → List Mark
+followed_marks sizes beside timing run =
+    timeline_marks (Some timing) (undrawn run.requests)
+    (record { sizes = sizes; notes = run.notes.items } ∷ ran_beside beside run.beside)
 
 -- ---- words
 
@@ -129,6 +159,16 @@ MachineFails (source.Shape path) fault =
 MachineFails (source.Machine path) fault =
     IsUnread MachineUnreadable fault ⊎ ((text : List ℕ) × MachineTextFails text fault)
 
+-- The machine beside it, if its file is named.
+abbrev pub IsBesideOf : Option (Bor (List ℕ)) → Option Sizes → Type 0
+IsBesideOf None None = Unit {0}
+IsBesideOf (Some path) (Some sizes) = IsMachineOf (source.Machine path) sizes
+IsBesideOf path sizes = ⊥
+
+abbrev pub BesideFails : Option (Bor (List ℕ)) → ToolFault → Type 0
+BesideFails None fault = ⊥
+BesideFails (Some path) fault = MachineFails (source.Machine path) fault
+
 -- Memory has zeros before the first store, if nothing is named, or addresses, or else what the file gave.
 abbrev pub IsImageOf : ImageName → Image → Type 0
 IsImageOf name.Zeros image = image ≡ memory.Zeros
@@ -139,6 +179,23 @@ IsImageOf (name.File path) image = (bytes : Vec ℕ) × (image ≡ memory.Bytes 
 abbrev pub ImageFails : ImageName → ToolFault → Type 0
 ImageFails (name.File path) fault = IsUnread ImageUnreadable fault
 ImageFails name fault = ⊥
+
+-- The questions are those of the sheet's lines.
+abbrev pub IsSheet : List Question → Type 0
+IsSheet questions = (texts : List (List ℕ)) × (questions ≡ questions_from 1 texts)
+
+-- Why a sheet's bytes ask nothing: a line has a fault, or memory is missing.
+abbrev pub IsSheetFault : ToolFault → Type 0
+IsSheetFault fault = (fault ≡ no_memory) ⊎ ((f : TraceFault) × (fault ≡ SheetFault f))
+
+-- Why there are no questions: the file can't be read, or its bytes ask nothing.
+abbrev pub SheetFileFails : ToolFault → Type 0
+SheetFileFails fault = IsUnread SheetUnreadable fault ⊎ IsSheetFault fault
+
+-- only a grade is by a sheet
+abbrev pub grade_format : Task → Format
+grade_format (task.Grade format work) = format
+grade_format task = Text
 
 -- the bytes of a machine's memory
 abbrev pub memory_bytes : Sizes → ℕ
@@ -156,11 +213,20 @@ LacksRoom task sizes image fault =
     (memory_bytes sizes < length (bytes_of image))
     × (fault ≡ TooLong (record { bytes = length (bytes_of image); memory = memory_bytes sizes }))
 
--- No file is at fault, but the image is too long for the memory.
+-- The same of the machine beside it.
+abbrev pub HasRoomBeside : Task → (beside : Option Sizes) (image : Image) → Type 0
+HasRoomBeside task None image = Unit {0}
+HasRoomBeside task (Some sizes) image = HasRoom task sizes image
+
+abbrev pub LacksRoomBeside : Task → (beside : Option Sizes) (image : Image) → ToolFault → Type 0
+LacksRoomBeside task None image fault = ⊥
+LacksRoomBeside task (Some sizes) image fault = LacksRoom task sizes image fault
+
+-- No file is at fault, but the image is too long for a memory.
 abbrev pub ImageIsTooLong : CommandLine → ToolFault → Type 0
 ImageIsTooLong asked fault =
-    (sizes : Sizes) × (image : Image) × IsMachineOf asked.machine sizes × IsImageOf asked.image image
-    × LacksRoom asked.task sizes image fault
+    (sizes : Sizes) × (beside : Option Sizes) × (image : Image) × IsMachineOf asked.machine sizes × IsBesideOf asked.beside beside
+    × IsImageOf asked.image image × (LacksRoom asked.task sizes image fault ⊎ LacksRoomBeside asked.task beside image fault)
 
 -- ---- tasks
 
@@ -181,6 +247,15 @@ module _ {W : Type 0} (took : W → List ℕ → W → Type 0) (refused unflushe
       ((output' ≡ output) × (Fails fault ⊎ (fault ≡ no_memory)))
       ⊎ ((text : List ℕ) × (status : ℕ) × Finds text status × IsCut took refused unflushed output text output' × (fault ≡ write_fault))
 
+  -- A text alone is put.
+  abbrev pub PutsText : List ℕ → Written W
+  PutsText text output output' (Ok status) = IsPut took output text output' × (status ≡ 0)
+  PutsText text output output' (Err fault) = IsCut took refused unflushed output text output' × (fault ≡ write_fault)
+
+  -- A text is told, whether or not it is taken, and nothing is if there is none.
+  abbrev pub TellsText : List ℕ → W → W → Type 0
+  TellsText text errors errors' = ((text ≡ []) × (errors' ≡ errors)) ⊎ IsOffered took refused unflushed errors text errors'
+
   -- What was driven stands behind a flush, if it came to its end.
   abbrev pub Finishes : Result ℕ LogFault → Written W
   Finishes (Ok rounds) output output' result =
@@ -198,6 +273,22 @@ module _ {W : Type 0} (took : W → List ℕ → W → Type 0) (refused unflushe
   abbrev pub TellsWords : (said : Error) → Written W
   TellsWords said =
       Answers (λ text status. AsksForText said × (status ≡ 0)) (λ fault. IsRefused said × (fault ≡ Words said))
+
+-- Of the errors, too: what they may take, and how they may refuse a write or a flush.
+module _ {W E : Type 0} (took : W → List ℕ → W → Type 0) (refused unflushed : W → W → Type 0)
+    (noted : E → List ℕ → E → Type 0) (unnoted unsettled : E → E → Type 0) where
+  -- A figure of these marks is put, once it is told what it leaves out; or memory is missing, and nothing is written or told.
+  abbrev pub PutsFigure : List Mark → (errors errors' : E) → Written W
+  PutsFigure marks errors errors' output output' result =
+      ((drawing : Drawing) × (drawing.marks.items ≡ marks) × TellsText noted unnoted unsettled (omissions_text marks) errors errors'
+      × PutsText took refused unflushed (string_bytes drawing.text) output output' result)
+      ⊎ ((result ≡ Err no_memory) × (output' ≡ output) × (errors' ≡ errors))
+
+  -- The marks that a job finds are drawn; or it finds none, and nothing is written or told.
+  abbrev pub DrawsMarks : (Finds : List Mark → Type 0) (Fails : ToolFault → Type 0) → (errors errors' : E) → Written W
+  DrawsMarks Finds Fails errors errors' output output' result =
+      ((marks : List Mark) × Finds marks × PutsFigure marks errors errors' output output' result)
+      ⊎ ((fault : ToolFault) × (Fails fault ⊎ (fault ≡ no_memory)) × (result ≡ Err fault) × (output' ≡ output) × (errors' ≡ errors))
 
 -- Of an input, too: what a read may give, and how one may fail.
 module _ {R W : Type 0} (gave : R → List ℕ → R → Type 0) (failed : R → R → Type 0)
@@ -241,11 +332,37 @@ module _ {R W : Type 0} (gave : R → List ℕ → R → Type 0) (failed : R →
       (λ fault. (f : TraceFault) × Explains gave failed (memory_from image sizes.words) input input' (Err f) × (fault ≡ of_trace f))
 
   -- A sheet is graded on a new machine.
-  unfoldable pub Grades : (format : Format) (sizes : Sizes) (image : Image) → Ending R W
-  Grades format sizes image input input' output output' result =
+  unfoldable pub Grades : (format : Format) (marking : Marking) (sizes : Sizes) (image : Image) → Ending R W
+  Grades format marking sizes image input input' output output' result =
       (graded : Result Score TraceFault)
-      × GradesAll gave failed took refused unflushed format (machine_over image sizes) input input' output output' graded
+      × WritesSheet gave failed took refused unflushed (GradeOf format marking (machine_over image sizes))
+      input input' output output' graded
       × (result ≡ told score_status of_trace graded)
+
+  -- Or its open answers are filled.
+  unfoldable pub Solves : (sizes : Sizes) (image : Image) → Ending R W
+  Solves sizes image input input' output output' result =
+      (solved : Result (Unit {0}) TraceFault)
+      × WritesSheet gave failed took refused unflushed (SolutionOf (machine_over image sizes)) input input' output output' solved
+      × (result ≡ told (λ done. 0) of_trace solved)
+
+  abbrev pub works_on_sheet : (work : SheetWork) (format : Format) (sizes : Sizes) (image : Image) → Ending R W
+  works_on_sheet (sheet.Grade marking) format = Grades format marking
+  works_on_sheet sheet.Solve format = Solves
+
+  -- What was handed in is graded by the questions of a sheet,
+  unfoldable pub GradesBy : (format : Format) (questions : List Question) (sizes : Sizes) (image : Image) → Ending R W
+  GradesBy format questions sizes image input input' output output' result =
+      (graded : Result Score TraceFault)
+      × WritesSheet gave failed took refused unflushed (GradeBy format questions (machine_over image sizes))
+      input input' output output' graded
+      × (result ≡ told score_status of_trace graded)
+
+  -- which a file has, unless that can't be read.
+  unfoldable pub GradesByFile : (format : Format) (sizes : Sizes) (image : Image) → Ending R W
+  GradesByFile format sizes image input input' output output' result =
+      ((questions : List Question) × IsSheet questions × GradesBy format questions sizes image input input' output output' result)
+      ⊎ ((fault : ToolFault) × (result ≡ Err fault) × (input' ≡ input) × (output' ≡ output) × SheetFileFails fault)
 
   -- The requests of a trace are served on each of these machines, and a row is put for each.
   abbrev pub SweepsRegisters : (format : Format) (machines : List Sizes) → Ending R W
@@ -274,23 +391,11 @@ module _ {R W : Type 0} (gave : R → List ℕ → R → Type 0) (failed : R →
       × (text ≡ latency_head format ++ flat_map (latency_lines format) (map swept_rows rows)) × (status ≡ 0))
       (λ fault. (f : JobFault) × SweepFails gave failed machines input input' f × (fault ≡ Job f))
 
-  -- Their rounds are drawn, a line for each latency.
-  abbrev pub DrawsSweep : (timings : List Timing) (machines : List Sizes) → Ending R W
-  DrawsSweep timings machines input input' =
-      Answers took refused unflushed
-      (λ text status. (texts : List (List ℕ)) × (rows : List LatencyRows) × ReadWhole gave trace_fault MAX_LINE input input' texts
-      × AreSwept timings machines (requests_of texts) rows × (text ≡ sweep_figure (map swept_rows rows)) × (status ≡ 0))
-      (λ fault. (f : JobFault) × SweepFails gave failed machines input input' f × (fault ≡ Job f))
-
   -- one latency alone isn't told with its row
   abbrev pub sweeps_lines : (timings : List Timing) (format : Format) (machines : List Sizes) → Ending R W
   sweeps_lines [] = SweepsRegisters
   sweeps_lines (timing ∷ []) = SweepsRounds timing
   sweeps_lines (timing ∷ next ∷ rest) = SweepsLatencies (timing ∷ next ∷ rest)
-
-  unfoldable pub Sweeps : (timings : List Timing) (form : CountForm) (machines : List Sizes) → Ending R W
-  Sweeps timings (Lines format) = sweeps_lines timings format
-  Sweeps timings Figure = DrawsSweep timings
 
   -- The requests of a trace or of a log are driven in rounds through a new machine: a table of its counts is put,
   abbrev pub PutsCounts : (from : RequestText) (timing : Timing) (format : Format) (sizes : Sizes) (image : Image) → Ending R W
@@ -311,20 +416,6 @@ module _ {R W : Type 0} (gave : R → List ℕ → R → Type 0) (failed : R →
       × (text ≡ line (details_in format details accesses)) × (status ≡ 0))
       (λ fault. (f : LogFault) × AsksNothing gave failed from (room_of sizes) input input' f × (fault ≡ of_log f))
 
-  -- or these are drawn.
-  abbrev pub DrawsCounts : (from : RequestText) (timing : Timing) (sizes : Sizes) (image : Image) → Ending R W
-  DrawsCounts from timing sizes image input input' =
-      Answers took refused unflushed
-      (λ text status. (requests : List Event) × (groups : List AccessGroup) × (table : Table)
-      × Asks gave from (room_of sizes) input input' requests groups
-      × IsCounted timing (machine_over image sizes) requests table × (text ≡ loss_figure table) × (status ≡ 0))
-      (λ fault. (f : LogFault) × AsksNothing gave failed from (room_of sizes) input input' f × (fault ≡ of_log f))
-
-  abbrev pub counts_by : (form : CountForm) (all : Bool) (from : RequestText) (timing : Timing) (sizes : Sizes) (image : Image) → Ending R W
-  counts_by (Lines format) false from timing = PutsCounts from timing format
-  counts_by (Lines format) true from timing = PutsDetails from timing format
-  counts_by Figure all from timing = DrawsCounts from timing
-
   -- The requests of a log are written, whose lines say these accesses, for a memory of so many words.
   unfoldable pub WritesRequests : (access_of : List ℕ → Result (Option Access) LineFault) (words : ℕ) → Ending R W
   WritesRequests access_of words input input' output output' result =
@@ -343,14 +434,14 @@ module _ {R W : Type 0} (gave : R → List ℕ → R → Type 0) (failed : R →
   -- A history is judged,
   abbrev pub JudgesHistory : (how : HistoryTask) (image : List ℕ) → Ending R W
   JudgesHistory how image input input' output output' result =
-      (judged : Result HistoryEnd TraceFault) × Judges gave failed (law_for how image) input input' judged
+      (judged : Result HistoryEnd TraceFault) × Judges gave failed (history_from how image) input input' judged
       × PutsVerdict took refused unflushed how judged output output' result
 
   -- or judged and written, with what its loads may have returned. That is flushed before anything else, whatever became of it.
   abbrev pub WritesHistory : (how : HistoryTask) (image : List ℕ) → Ending R W
   WritesHistory how image input input' output output' result =
       (judged : Result HistoryEnd TraceFault) × (last : W)
-      × Writes gave failed took refused unflushed (law_for how image) input input' output last judged
+      × Writes gave failed took refused unflushed (history_from how image) input input' output last judged
       × ((unflushed last output' × (result ≡ Err write_fault))
       ⊎ ((flushed : W) × took last [] flushed × PutsVerdict took refused unflushed how judged flushed output' result))
 
@@ -383,39 +474,88 @@ module _ {R W E : Type 0} (gave : R → List ℕ → R → Type 0) (failed : R �
       input input' output last errors errors' driven
       × Finishes took refused unflushed driven last output' result
 
+  -- The counts of a run are drawn,
+  abbrev pub DrawsCounts : (from : RequestText) (timing : Timing) (sizes : Sizes) (image : Image) → Telling R W E
+  DrawsCounts from timing sizes image errors errors' input input' =
+      DrawsMarks took refused unflushed noted unnoted unsettled
+      (λ marks. (requests : List Event) × (groups : List AccessGroup) × (table : Table)
+      × Asks gave from (room_of sizes) input input' requests groups
+      × IsCounted timing (machine_over image sizes) requests table × (marks ≡ loss_marks sizes timing table))
+      (λ fault. (f : LogFault) × AsksNothing gave failed from (room_of sizes) input input' f × (fault ≡ of_log f)) errors errors'
+
+  -- or put.
+  abbrev pub counts_by : (form : CountForm) (all : Bool) (from : RequestText) (timing : Timing) (sizes : Sizes) (image : Image)
+      → Telling R W E
+  counts_by (Lines format) false from timing sizes image =
+      Silently (PutsCounts gave failed took refused unflushed from timing format sizes image)
+  counts_by (Lines format) true from timing sizes image =
+      Silently (PutsDetails gave failed took refused unflushed from timing format sizes image)
+  counts_by (Figure scale) all from timing sizes image = DrawsCounts from timing sizes image
+
+  -- The first requests are followed, and drawn by rounds.
+  abbrev pub DrawsTimeline : (from : RequestText) (timing : Timing) (sizes : Sizes) (beside : Option Sizes) (image : Image) → Telling R W E
+  DrawsTimeline from timing sizes beside image errors errors' input input' =
+      DrawsMarks took refused unflushed noted unnoted unsettled
+      (λ marks. (run : FollowedRun)
+      × FollowsAll gave from (room_of sizes) timing (machine_over image sizes) beside image input input' run
+      × (marks ≡ followed_marks sizes beside timing run))
+      (λ fault. (f : LogFault) × AsksNothing gave failed from (room_of sizes) input input' f × (fault ≡ of_log f)) errors errors'
+
+  -- The rounds of a sweep are drawn, a line for each latency.
+  abbrev pub DrawsSweep : (timings : List Timing) (scale : Scale) (sizes : Sizes) (machines : List Sizes) → Telling R W E
+  DrawsSweep timings scale sizes machines errors errors' input input' =
+      DrawsMarks took refused unflushed noted unnoted unsettled
+      (λ marks. (texts : List (List ℕ)) × (rows : List LatencyRows) × ReadWhole gave trace_fault MAX_LINE input input' texts
+      × AreSwept timings machines (requests_of texts) rows × (marks ≡ sweep_marks sizes scale timings (map swept_rows rows)))
+      (λ fault. (f : JobFault) × SweepFails gave failed machines input input' f × (fault ≡ Job f)) errors errors'
+
+  -- A machine of these numbers is swept with each number of registers.
+  unfoldable pub Sweeps : (timings : List Timing) (form : CountForm) (sizes : Sizes) (registers : List ℕ) → Telling R W E
+  Sweeps timings (Lines format) sizes registers =
+      Silently (sweeps_lines gave failed took refused unflushed timings format (swept sizes registers))
+  Sweeps timings (Figure scale) sizes registers = DrawsSweep timings scale sizes (swept sizes registers)
+
   -- The run is written, or what it counts is put.
   unfoldable pub Drives : (from : RequestText) (timing : Timing) (summary all : Bool) (form : CountForm) (sizes : Sizes)
       (image : Image) → Telling R W E
   Drives from timing false all form sizes image = WritesRun from timing sizes image
   Drives from timing true all form sizes image =
-      Silently (counts_by gave failed took refused unflushed form all from timing sizes image)
+      counts_by form all from timing sizes image
 
   -- ---- the whole program
 
   -- What becomes of each task.
-  unfoldable pub IsDone : Task → (sizes : Sizes) (image : Image) → Telling R W E
-  IsDone task.Run sizes image = Silently (Runs gave failed took refused unflushed sizes image)
-  IsDone (task.Check all_answered format) sizes image =
+  unfoldable pub IsDone : Task → (sizes : Sizes) (beside : Option Sizes) (image : Image) → Telling R W E
+  IsDone task.Run sizes beside image = Silently (Runs gave failed took refused unflushed sizes image)
+  IsDone (task.Check all_answered format) sizes beside image =
       Silently (checks_by gave failed took refused unflushed all_answered format sizes image)
-  IsDone (task.Sweep timings registers form) sizes image =
-      Silently (Sweeps gave failed took refused unflushed (timings_in timings) form (swept sizes (registers_in registers)))
-  IsDone (task.Explain format) sizes image = Silently (ExplainsRun gave failed took refused unflushed format sizes image)
-  IsDone (task.Grade format) sizes image = Silently (Grades gave failed took refused unflushed format sizes image)
-  IsDone (task.Drive from timing summary all form) sizes image = Drives from timing summary all form sizes image
-  IsDone (task.Requests log words) sizes image =
+  IsDone (task.Sweep timings registers form) sizes beside image =
+      Sweeps (timings_in timings) form sizes (registers_in registers)
+  IsDone (task.Explain format) sizes beside image = Silently (ExplainsRun gave failed took refused unflushed format sizes image)
+  IsDone (task.Grade format work) sizes beside image =
+      Silently (works_on_sheet gave failed took refused unflushed work format sizes image)
+  IsDone (task.Drive from timing summary all form) sizes beside image = Drives from timing summary all form sizes image
+  IsDone (task.Timeline from timing) sizes beside image = DrawsTimeline from timing sizes beside image
+  IsDone (task.Requests log words) sizes beside image =
       Silently (WritesRequests gave failed took refused unflushed (access_in log) words)
-  IsDone (task.Show form) sizes image = Silently (Draws gave failed took refused unflushed form sizes image)
-  IsDone (task.History how) sizes image =
+  IsDone (task.Show form) sizes beside image = Silently (Draws gave failed took refused unflushed form sizes image)
+  IsDone (task.History how) sizes beside image =
       Silently (FollowsHistory gave failed took refused unflushed how (bytes_of image))
+
+  -- The same with a sheet's file, by which what was handed in is graded.
+  abbrev pub IsDoneBy : Option (Bor (List ℕ)) → Task → (sizes : Sizes) (beside : Option Sizes) (image : Image) → Telling R W E
+  IsDoneBy None task sizes beside image = IsDone task sizes beside image
+  IsDoneBy (Some path) task sizes beside image = Silently (GradesByFile gave failed took refused unflushed (grade_format task) sizes image)
 
   -- The files that are named are read, and the task is done with what they say. Or one can't be read, or the image is too
   -- long, and nothing is done.
   unfoldable pub Performs : CommandLine → Telling R W E
   Performs asked errors errors' input input' output output' result =
-      ((sizes : Sizes) × (image : Image) × IsMachineOf asked.machine sizes × IsImageOf asked.image image
-      × HasRoom asked.task sizes image × IsDone asked.task sizes image errors errors' input input' output output' result)
+      ((sizes : Sizes) × (beside : Option Sizes) × (image : Image) × IsMachineOf asked.machine sizes × IsBesideOf asked.beside beside
+      × IsImageOf asked.image image × HasRoom asked.task sizes image × HasRoomBeside asked.task beside image
+      × IsDoneBy asked.sheet asked.task sizes beside image errors errors' input input' output output' result)
       ⊎ ((fault : ToolFault) × (result ≡ Err fault) × (input' ≡ input) × (output' ≡ output) × (errors' ≡ errors)
-      × (MachineFails asked.machine fault ⊎ (ImageFails asked.image fault ⊎ ImageIsTooLong asked fault)))
+      × (MachineFails asked.machine fault ⊎ (BesideFails asked.beside fault ⊎ (ImageFails asked.image fault ⊎ ImageIsTooLong asked fault))))
 
   -- The words are understood as a task that there may be, which is performed, or they ask for none, and nothing is read.
   unfoldable pub Works : Telling R W E

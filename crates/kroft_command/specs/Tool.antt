@@ -6,17 +6,15 @@ use Rattle.std.specs.Borrow.{Bor}
 use Rattle.std.specs.List.{AllByRecursion, list_any}
 use Rattle.std.specs.Option.{unwrap_or}
 use Rattle.kroft_jobs.specs.Words.{MAX_WORDS, MOST_LATENCY, Timing, LogFault, ShowFault, MachineFault, TraceFault}
-use Rattle.atomic_histories.specs.declared.memory.UnitSize.{UnitSize}
-use Rattle.atomic_histories.specs.declared.memory.UnitSize.TheVariants.{Eight}
-use Rattle.atomic_histories.specs.declared.memory.TheConstants.{DEFAULT_LIMIT}
+use Rattle.history_sessions.specs.Words.{UnitSize, Eight, DEFAULT_LIMIT}
+use Rattle.history_sessions.specs.declared.judge.HistoryLaw.{HistoryLaw}
+use Rattle.history_sessions.specs.declared.judge.HistoryLaw.TheVariants.{Atomic}
 use Rattle.round_driver.specs.Timings.{unpipelined}
 use Rattle.kroft_command.specs.Words.{MachineName, Registers, Timings, Task, HistoryTask, ImageName, ToolFault, LongImage}
 use Rattle.kroft_command.specs.declared.command_line.MachineName.TheVariants as source
 use Rattle.kroft_command.specs.declared.command_line.TheConstants.{MOST_LATENCIES, MOST_ROWS}
-use Rattle.kroft_command.specs.declared.command_line.Task.TheVariants.{Sweep, Drive, Requests, History}
+use Rattle.kroft_command.specs.declared.command_line.Task.TheVariants.{Sweep, Drive, Timeline, Requests, History}
 use Rattle.kroft_command.specs.declared.command_line.ImageName.TheVariants as image
-use Rattle.history_text.specs.declared.laws.HistoryLaw.{HistoryLaw}
-use Rattle.history_text.specs.declared.laws.HistoryLaw.TheVariants.{Atomic}
 use Rattle.named_fields.specs.declared.format.VerdictFormat.TheVariants.{Text}
 use Rattle.access_logs.specs.Faults.{no_room_text}
 use Rattle.access_logs.specs.declared.fault.LogFault.TheVariants as log
@@ -24,11 +22,12 @@ use Rattle.shape_files.specs.MachineFile.{machine_fault_text}
 use Rattle.shape_files.specs.declared.machine_file.MachineFault.TheVariants as machine
 use Rattle.shape_files.specs.declared.shape_file.TheConstants.{REGISTER_COUNTS}
 use Rattle.trace_text.specs.Codes.{line_feed}
+use Rattle.trace_text.specs.Faults.{trace_fault_text}
 use Rattle.trace_text.specs.declared.fault.TraceFault.TheVariants.{Write}
 use Rattle.kroft_jobs.specs.Jobs as jobs
 use Rattle.kroft_jobs.specs.declared.fault.JobFault.TheVariants.{Trace, OutOfMemory}
 use Rattle.kroft_command.specs.declared.fault.ToolFault.TheVariants.{CommandLine, Job, Machine, MachineUnreadable, NoRoom, ImageUnreadable}
-use Rattle.kroft_command.specs.declared.fault.ToolFault.TheVariants.{LongImage as TooLong}
+use Rattle.kroft_command.specs.declared.fault.ToolFault.TheVariants.{LongImage as TooLong, SheetUnreadable, Sheet}
 
 -- times of memory that there may be
 abbrev pub IsTimely : Timing → Type 0
@@ -79,6 +78,7 @@ IsJudged how = (is_some how.unit ≡ true → KnowsUnits how.law) × (how.values
 abbrev pub IsAllowed : Task → Type 0
 IsAllowed (Sweep timings registers form) = AreSwept timings × AreRows registers
 IsAllowed (Drive from timing summary all form) = is_too_busy timing ≡ false
+IsAllowed (Timeline from timing) = is_too_busy timing ≡ false
 IsAllowed (Requests from words) = words % 4 ≡ 0
 IsAllowed (History how) = IsJudged how
 IsAllowed task = Unit {0}
@@ -97,6 +97,7 @@ HasUnit unit law = Unit {0}
 abbrev pub IsInRange : Task → Type 0
 IsInRange (Sweep timings registers form) = AllByRecursion IsTimely timings.all
 IsInRange (Drive from timing summary all form) = IsTimely timing
+IsInRange (Timeline from timing) = IsTimely timing
 IsInRange (Requests from words) = words ≤ MAX_WORDS
 IsInRange (History how) = HasUnit how.unit how.law
 IsInRange task = Unit {0}
@@ -142,6 +143,8 @@ status_of (CommandLine error) = 2
 status_of (Job fault) = jobs.status_of fault
 status_of (Machine fault) = 3
 status_of MachineUnreadable = 3
+status_of SheetUnreadable = 4
+status_of (Sheet fault) = 4
 status_of (NoRoom fault) = 4
 status_of ImageUnreadable = 4
 status_of (TooLong image) = 4
@@ -161,6 +164,8 @@ fault_text (CommandLine error) = None
 fault_text (Job fault) = Some (jobs.fault_text fault)
 fault_text (Machine fault) = Some (machine_fault_text fault)
 fault_text MachineUnreadable = Some (codes "machine: file not readable")
+fault_text SheetUnreadable = Some (codes "sheet: file not readable")
+fault_text (Sheet fault) = Some (codes "sheet: " ++ trace_fault_text fault)
 fault_text (NoRoom fault) = Some (no_room_text fault)
 fault_text ImageUnreadable = Some (codes "image: file not readable")
 fault_text (TooLong image) = Some (long_image_text image)

@@ -6,6 +6,7 @@ pub use Rattle.kroft_command.specs.declared.command_line.ImageName.{ImageName}
 pub use Rattle.kroft_command.specs.declared.command_line.LogName.{LogName}
 pub use Rattle.kroft_command.specs.declared.command_line.MachineName.{MachineName}
 pub use Rattle.kroft_command.specs.declared.command_line.Registers.{Registers}
+pub use Rattle.kroft_command.specs.declared.command_line.SheetWork.{SheetWork}
 pub use Rattle.kroft_command.specs.declared.command_line.Task.{Task}
 pub use Rattle.kroft_command.specs.declared.command_line.Timings.{Timings}
 pub use Rattle.kroft_command.specs.declared.fault.LongImage.{LongImage}

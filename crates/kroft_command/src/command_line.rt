@@ -9,19 +9,27 @@ ghost use Rattle.kroft_command.specs.Tool.{words_or_most, latency_in, ascends, i
 ghost use Rattle.kroft_command.specs.Tool.{AreInOrder, AreSwept, AreRows, HasUnit, IsJudged, IsAllowed, MayBegin};
 
 use crate::commands::{Subcommand, program, shown};
-use crate::options::{BUSY, FILE, LATENCY, LOG, MACHINE, REGISTERS, SVG};
+use crate::options::{BESIDE, BUSY, FILE, LATENCY, LOG, MACHINE, REGISTERS, SHEET, SVG, TIMELINE};
 use access_logs::MAX_WORDS;
-use atomic_histories::{DEFAULT_LIMIT, UnitSize};
 use clap::error::ErrorKind;
 use clap::{ArgMatches, Error};
-use history_text::HistoryLaw;
-use kroft_jobs::RequestText;
-use memory_histories::Rest;
+use history_sessions::{DEFAULT_LIMIT, HistoryLaw, Rest, UnitSize};
+use kroft_jobs::{Marking, RequestText};
 use named_fields::{Format, VerdictFormat};
+use result_figures::Scale;
 use round_driver::{MOST_LATENCY, Timing};
 use run_pictures::Form;
 use shape_files::REGISTER_COUNTS;
 use std::alloc::{AllocError, Global};
+
+/// What is done with a sheet.
+#[derive(Clone, Copy)]
+pub(crate) enum SheetWork {
+    /// It is graded.
+    Grade(Marking),
+    /// Its open answers are filled.
+    Solve,
+}
 
 /// The format of a log.
 #[derive(Clone, Copy)]
@@ -37,8 +45,8 @@ pub(crate) enum LogName {
 pub(crate) enum CountForm {
     /// As lines in a format.
     Lines(Format),
-    /// As a figure.
-    Figure,
+    /// As a figure; of a sweep, with an axis of this kind.
+    Figure(Scale),
 }
 
 /// How many latencies a sweep takes at most.
@@ -174,10 +182,12 @@ pub(crate) enum Task {
         /// How the explanation is written.
         format: VerdictFormat,
     },
-    /// Grade the predictions that stand behind its lines.
+    /// Grade the predictions that follow its lines, or fill them.
     Grade {
         /// How the grade is written.
         format: Format,
+        /// What is done.
+        work: SheetWork,
     },
     /// Drive its requests in rounds.
     Drive {
@@ -191,6 +201,13 @@ pub(crate) enum Task {
         all: bool,
         /// How the table is shown.
         form: CountForm,
+    },
+    /// Draw its requests by rounds.
+    Timeline {
+        /// What they are read from.
+        from: RequestText,
+        /// How long a bank takes for a command.
+        timing: Timing,
     },
     /// Write the requests of a log of accesses.
     Requests {
@@ -253,8 +270,12 @@ pub(crate) struct CommandLine<'a> {
     pub task: Task,
     /// What the machine's numbers are read from.
     pub machine: MachineName<'a>,
+    /// The machine file of another machine, drawn beside it.
+    pub beside: Option<&'a str>,
     /// What memory begins with.
     pub image: ImageName<'a>,
+    /// The sheet by which what was handed in is graded.
+    pub sheet: Option<&'a str>,
 }
 
 /// The latency unless given.
@@ -315,11 +336,22 @@ fn format_of(rest: &ArgMatches<'_>) -> Format {
 }
 
 // A format beside a figure was refused.
-fn count_form_of(rest: &ArgMatches<'_>) -> CountForm {
+fn count_form_of(rest: &ArgMatches<'_>, scale: Scale) -> CountForm {
     if rest.get_flag(SVG) {
-        CountForm::Figure
+        CountForm::Figure(scale)
     } else {
         CountForm::Lines(format_of(rest))
+    }
+}
+
+// What is done with a sheet. Both at once were refused.
+fn sheet_work_of(rest: &ArgMatches<'_>) -> SheetWork {
+    if rest.get_flag("solve") {
+        SheetWork::Solve
+    } else if rest.get_flag("strict") {
+        SheetWork::Grade(Marking::Strict)
+    } else {
+        SheetWork::Grade(Marking::Lenient)
     }
 }
 
@@ -403,6 +435,14 @@ fn registers_of(rest: &ArgMatches<'_>) -> Registers {
     Registers { given, all }
 }
 
+fn scale_of(rest: &ArgMatches<'_>) -> Scale {
+    if rest.get_flag(LOG) {
+        Scale::Logarithmic
+    } else {
+        Scale::Linear
+    }
+}
+
 // What the words behind `sweep` ask for.
 fn sweep_task(rest: &ArgMatches<'_>) -> Task
     ensures { IsInRange result }
@@ -410,7 +450,7 @@ fn sweep_task(rest: &ArgMatches<'_>) -> Task
     Task::Sweep {
         timings: timings_of(rest),
         registers: registers_of(rest),
-        form: count_form_of(rest),
+        form: count_form_of(rest, scale_of(rest)),
     }
 }
 
@@ -426,15 +466,20 @@ fn text_of(rest: &ArgMatches<'_>) -> RequestText {
 fn drive_task(rest: &ArgMatches<'_>) -> Task
     ensures { IsInRange result }
 {
+    let from = text_of(rest);
+    let timing = timing_with(
+        latency_or_usual(latency_of(rest)),
+        rest.get_one::<u64>(BUSY),
+    );
+    if rest.get_flag(TIMELINE) {
+        return Task::Timeline { from, timing };
+    }
     Task::Drive {
-        from: text_of(rest),
-        timing: timing_with(
-            latency_or_usual(latency_of(rest)),
-            rest.get_one::<u64>(BUSY),
-        ),
+        from,
+        timing,
         summary: rest.get_flag("summary"),
         all: rest.get_flag("all"),
-        form: count_form_of(rest),
+        form: count_form_of(rest, Scale::Linear),
     }
 }
 
@@ -502,7 +547,14 @@ fn task_conflict(task: Task) -> Option<&'static str>
             registers,
             ..
         } => sweep_conflict(&timings, &registers),
-        Task::Drive { timing, .. } if is_too_busy(timing) => Some(TOO_BUSY),
+        Task::Drive { timing, .. } | Task::Timeline { timing, .. } if is_too_busy(timing) => {
+            Some(TOO_BUSY)
+        }
+        Task::Drive {
+            summary: false,
+            form: CountForm::Figure(_),
+            ..
+        } => Some("the argument '--svg' needs '--summary' or '--timeline'"),
         Task::Requests { words, .. } if words % 4 != 0 => {
             Some("invalid value for '--words <N>': it is no multiple of 4")
         }
@@ -620,6 +672,7 @@ fn task_of(subcommand: Subcommand, rest: &ArgMatches<'_>) -> Task
         },
         Subcommand::Grade => Task::Grade {
             format: format_of(rest),
+            work: sheet_work_of(rest),
         },
         Subcommand::Drive => drive_task(rest),
         Subcommand::Requests => requests_task(rest),
@@ -655,8 +708,18 @@ struct Asked<'a> {
     before: Option<&'a str>,
     behind: Option<&'a str>,
     machine: Option<&'a str>,
+    beside: Option<&'a str>,
     image: ImageName<'a>,
+    sheet: Option<&'a str>,
     file: Option<&'a str>,
+}
+
+// Only `drive` has a machine beside another one.
+fn beside_of<'a>(subcommand: Subcommand, rest: &ArgMatches<'a>) -> Option<&'a str> {
+    match subcommand {
+        Subcommand::Drive => rest.get_str(BESIDE),
+        _ => None,
+    }
 }
 
 fn asked_for<'a>(subcommand: Subcommand, matches: &ArgMatches<'a>) -> Asked<'a>
@@ -671,7 +734,9 @@ fn asked_for<'a>(subcommand: Subcommand, matches: &ArgMatches<'a>) -> Asked<'a>
                 before: shape,
                 behind: rest.get_str("shape"),
                 machine: rest.get_str(MACHINE),
+                beside: beside_of(subcommand, rest),
                 image: image_of(rest),
+                sheet: rest.get_str(SHEET),
                 file: rest.get_str(FILE),
             }
         }
@@ -680,7 +745,9 @@ fn asked_for<'a>(subcommand: Subcommand, matches: &ArgMatches<'a>) -> Asked<'a>
             before: shape,
             behind: None,
             machine: None,
+            beside: None,
             image: ImageName::Zeros,
+            sheet: None,
             file: None,
         },
     }
@@ -709,7 +776,9 @@ fn allowed<'a>(
     ensures begins { IfOk result (λ told. MayBegin told.task told.image) }
     ensures machine { IfOk result
         (λ told. told.machine ≡ machine_named (option_or asked.entry.before asked.entry.behind) asked.entry.machine) }
+    ensures beside { IfOk result (λ told. told.beside ≡ asked.entry.beside) }
     ensures image { IfOk result (λ told. told.image ≡ asked.entry.image) }
+    ensures sheet { IfOk result (λ told. told.sheet ≡ asked.entry.sheet) }
 {
     let why = file_conflict(asked).or(conflict(asked.task, asked.before));
     match why.or(image_conflict(asked.task, asked.image)) {
@@ -717,7 +786,9 @@ fn allowed<'a>(
         None => Ok(CommandLine {
             task: asked.task,
             machine: machine_named(asked.before.or(asked.behind), asked.machine),
+            beside: asked.beside,
             image: asked.image,
+            sheet: asked.sheet,
         }),
     }
 }
@@ -749,7 +820,7 @@ fn told_of_file<'a>(alloc: Global, matches: &ArgMatches<'a>) -> Result<Option<Er
     }
 }
 
-// What is told in place of an unknown argument.
+// What is written in place of an unknown argument.
 fn told_of<'a>(alloc: Global, words: &'a [&'a str]) -> Result<Option<Error>, Error> {
     match matches_of(alloc, words, true) {
         Ok(matches) => Ok(told_of_file(alloc, &matches)?),

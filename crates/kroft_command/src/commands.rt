@@ -209,7 +209,7 @@ fn commands<'a>(alloc: Global, takes_file: bool) -> Result<Vec<Command<'a>>, All
 // The program without its commands.
 fn base<'a>(alloc: Global) -> Result<Command<'a>, AllocError> {
     Command::new(alloc, PROGRAM)
-        .version("0.1.0")
+        .version("0.2.0")
         .about("A non-blocking cache with several misses outstanding")
         .after_help(PROGRAM_NOTES)
         .no_binary_name(true)

@@ -26,6 +26,10 @@ pub enum ToolFault {
     Machine(MachineFault),
     /// The machine file can't be read, or isn't UTF-8.
     MachineUnreadable,
+    /// The sheet that was given out can't be read.
+    SheetUnreadable,
+    /// A line of the sheet that was given out is faulty.
+    Sheet(TraceFault),
     /// A log touches a page for which there is no room.
     NoRoom(NoRoom),
     /// The image of memory can't be read.
@@ -56,6 +60,8 @@ impl fmt::Display for FaultText<'_> {
             ToolFault::Job(fault) => write!(f, "{}", kroft_jobs::FaultText(fault)),
             ToolFault::Machine(fault) => write!(f, "{}", shape_files::FaultText(fault)),
             ToolFault::MachineUnreadable => f.write_str("machine: file not readable"),
+            ToolFault::SheetUnreadable => f.write_str("sheet: file not readable"),
+            ToolFault::Sheet(fault) => write!(f, "sheet: {}", trace_text::FaultText(fault)),
             ToolFault::NoRoom(fault) => write!(f, "{}", access_logs::FaultText(fault)),
             ToolFault::ImageUnreadable => f.write_str("image: file not readable"),
             ToolFault::LongImage(image) => write!(
@@ -76,7 +82,8 @@ impl ToolFault {
             ToolFault::CommandLine(_) => 2,
             ToolFault::Job(fault) => fault.status(),
             ToolFault::Machine(_) | ToolFault::MachineUnreadable => 3,
-            ToolFault::NoRoom(_) | ToolFault::ImageUnreadable | ToolFault::LongImage(_) => 4,
+            ToolFault::SheetUnreadable | ToolFault::Sheet(_) | ToolFault::NoRoom(_) => 4,
+            ToolFault::ImageUnreadable | ToolFault::LongImage(_) => 4,
         }
     }
 
@@ -91,7 +98,7 @@ impl ToolFault {
     }
 
     /// Writes the fault as a line, and gives the status with which the program ends. If there is no memory
-    /// for the line, that is told in its place. If the writer refuses it, nothing is left to tell it to.
+    /// for the line, that is written in its place. If the writer refuses it, nothing more is tried.
     pub fn tell<E: Sink>(&self, alloc: Global, errors: &mut E) -> u8
         ensures { TellsFault E.took E.refused E.unflushed self.now errors.old errors.new result }
     {

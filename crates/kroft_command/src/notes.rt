@@ -85,14 +85,14 @@ a line of a trace ('kroft run --help' explains them), ' -> ', and its answer. Th
   arrive BANK PLACE, process PLACE, take PLACE, reg SLOT, bank AT, settled
 The answers:
   accepted, moved, nothing, refused N (1 to 13), value TAG WORD
-What stands behind the ' -> ' of 'reg', 'bank' and 'settled' is passed over. A line has at
+What follows the ' -> ' of 'reg', 'bank' and 'settled' is passed over. A line has at
 most 768 bytes.
 Writes 'flat run, N steps', or 'mismatch at line N' for the first line that flat memory
-doesn't explain. Flat memory is words with no cache: a load is owed the word as it stood when the
+doesn't explain. Flat memory is words with no cache: a load returns the word as it stood when the
 load was accepted. Memory begins with zeros, or as the run's did with its --image ('kroft run
 --help' describes images); of a shape or machine file only the words matter.
 A load that was accepted and never answered is no mismatch. With --all-answered it is a fault: a flat
-run that ends with K such loads is told as 'flat run, N steps, K loads open: tags T U ..'.
+run that ends with K such loads writes 'flat run, N steps, K loads open: tags T U ..'.
 With --format json it is an object: verdict, steps, line (and open, a list).
 It is no grader: a flat run may be none of this machine, since most answers ('accepted', 'refused 7',
 'moved') are those of some cache. 'kroft grade' compares predictions with the machine's own answers.
@@ -121,9 +121,10 @@ and each row has 'regs N' and the counts of 'drive --latency L --summary' with N
 --busy B those of 'drive --latency L --busy B --summary'. With several latencies, each more than
 the one before it, the requests are driven with each in turn, and 'latency L' goes before each row.
 With --format csv a line of names goes before the rows, which are figures alone; with --format json
-each row is an object, on a line of its own. The names are those of the text. With --svg the rounds
-are drawn by the number of registers, a line for each latency, as a figure that a browser shows; it has a
-column for each of 1, 2, 4 and 8, and so takes no --registers.
+each row is an object on one line. The names are those of the text. With --svg the rounds
+are drawn by the number of registers, a line for each latency, as a figure that a browser shows. With
+--log its axis of rounds is logarithmic: the same share of the rounds is saved where lines fall alike.
+If requests were denied, the figure says how many, and so does a line on standard error.
 
 Statuses: 0 done, 2 the command line is wrong, 3 the machine's file is wrong, 4 a line is faulty or a
 stream failed, 5 there is too little memory. (The limit of turns that a sweep has for callers
@@ -139,7 +140,7 @@ Example:
 pub(crate) const EXPLAIN_NOTES: &str =
     "Reads lines from standard input as 'check' does ('kroft check --help' describes them), up to the
 first line that flat memory doesn't explain, and says why: which load the value belongs to,
-what it is owed, and which lines stored its bytes. A faulty line ends it too. On a pipe that is
+what it must return, and which lines stored its bytes. A faulty line ends it too. On a pipe that is
 still being written the answer comes with the line; a run may have any number of lines.
 Writes 'flat run, N steps', or 'mismatch at line N: LINE' and its reason, in at most seven lines.
 With --format json it is an object: the line, its event and answer, the reason by a name, its numbers,
@@ -160,21 +161,27 @@ pub(crate) const GRADE_NOTES: &str =
 ' -> ' and a predicted answer behind them:
   accepted, moved, nothing, refused N (1 to 13), value TAG WORD
   accepted hit, accepted join, accepted miss   the request's word is at hand, is on its way, or no
-                                               frame holds its block
+                                               frame holds its block; --strict asks for this
   ?                                            open: nothing is predicted yet
 Behind 'reg', 'bank' and 'settled' stands what 'run' would show, as any printable text. A line without
 ' -> ' is served, and nothing is asked of it. A line has at most 768 bytes, and 64 before its ' -> '.
-Empty lines, lines that begin with '#', and blanks and a CR at a line's end say nothing. An answer that
-can't be read is wrong. The machine runs on by its own answers, whatever was predicted.
+Empty lines, lines that begin with '#', and blanks and a CR at a line's end say nothing. The last line
+may lack its LF. An answer that can't be read is wrong. The machine runs on by its own answers, whatever
+was predicted.
 Writes each wrong line with its number, and below it what the answer is, and why, in the words that
 'kroft show' has for this step; and at the end how many of all predictions are right, and how many
 are open. What is open isn't wrong. With an image ('kroft run --help' describes them) the values are
 those that memory has.
 With --format csv a line of names goes before a row with the score alone. With --format json each wrong
 line is an object; the score is the last of them, and their 'kind' tells it apart.
+With --solve each '?' is filled with the whole answer, and nothing else of the sheet changes.
+With --sheet what was handed in is read, and each '?' of the sheet is a point. A line that is handed in is
+the sheet's next one with its command. What is passed over before it is left out, and so is an answer that
+isn't there: that is wrong, and 'accepted' alone is, too. A line that the rest of the sheet doesn't have is
+named, and counts as wrong.
 
 Statuses: 0 no prediction is wrong, 1 some are, 2 the command line is wrong, 3 the machine's file is wrong,
-4 a line is faulty, the image is wrong or a stream failed, 5 there is too little memory.
+4 a line is faulty, the sheet or the image is wrong or a stream failed, 5 there is too little memory.
 
 Example:
   $ printf 'load 1 4 -> accepted hit\\nload 2 5 -> accepted join\\n' | kroft grade
@@ -205,13 +212,14 @@ way (joins), or asked for its block (misses); requests that stalled; rounds lost
 loads answered, their mean and longest wait in rounds; the most registers in use at once; words
 written back. With --format csv the counts stand in a line behind one of names, with --format json
 they are an object; the names are those of the text, and 'lost_7_no_register' is 'lost 7'. With --svg
-the lost rounds are drawn, a bar for each cause, as a figure that a browser shows. An image ('kroft
+the lost rounds are drawn, a bar for each cause, as a figure that a browser shows. If requests were
+denied, the figure tells how many, and so does a line on standard error. An image ('kroft
 run --help' describes them) changes the values of the run, and no count.
 With --all a line follows for each of these: loads, stores and prefetches that were accepted, with
 their hits, joins and misses; the mean and longest wait of answered loads from the round that first
 asked for them; hits, joins and misses by set; rounds by the registers in use at their end, and by
-the loads owed a value; and answered loads by their wait, from acceptance and from the first asking
-(0 rounds, 1, 2 to 3, 4 to 7, .., of which each is told by its least). Here --format csv writes lines
+the loads outstanding; and answered loads by their wait, from acceptance and from the first asking
+(0 rounds, 1, 2 to 3, 4 to 7, .., each named by its least). Here --format csv writes lines
 'name,index,value', and --format json arrays. All of it counts words: an access to two words is two
 requests.
 With --log FORMAT a log of accesses is read in place of a trace ('kroft requests --help' describes its
@@ -219,6 +227,10 @@ formats and faults), over the words of the machine: the requests are those that 
 --summary --all counts the log's accesses too, and reads and writes apart: each is as its worst word, a
 miss if any of its words missed, else a join if any joined, else a hit. A modification is one read.
 A log with a fault isn't driven in part, as it is if 'requests' reads it in front of a pipe.
+With --timeline --svg the first 16 requests are driven, and drawn by rounds, a row each: a dashed bar
+from the round that first asked a request to the one that accepted it, and of a load another one up
+to its value, coloured by what it found. Other requests have a bar of one round there. With --beside
+FILE the same requests go through a second machine, drawn below in the same rounds.
 
 Statuses: 0 done, 2 the command line is wrong, 3 the machine's file is wrong, 4 a line is faulty, the
 image is wrong or a stream failed, 5 there is too little memory.
@@ -269,7 +281,7 @@ Example:
 pub(crate) const SHOW_NOTES: &str =
     "Reads a trace from standard input ('kroft run --help' lists its lines) and applies its events, 10000
 at most, to a new machine. Lines that only show something are passed over. Lines as 'run' and 'drive'
-write them, with ' -> ' and an answer, are read too: an answer that isn't the machine's is told.
+write them, with ' -> ' and an answer, are read too: an answer that isn't the machine's is marked.
 Writes a page of HTML, which needs no other file and no network: the machine before the first
 event and behind each, with what the event changed, and why, in words. Left and right, Home and
 End step through it, and the space bar plays.
@@ -316,8 +328,8 @@ Blank lines and lines that begin with # are passed over. A line has at most 768 
 may have any number of lines.
 
 An operation is open from its request to its response, and took effect somewhere between. Loads and
-stores have numbers of their own, free again after the response.
-  flat      it took effect at its request, so a load is owed what stands there then
+stores are numbered apart; a number is free again after the response.
+  flat      it took effect at its request, so a load returns what stands there then
   atomic    there is one moment for it between request and response, in each aligned unit of bytes
             that it touches, and a load gets what stands there at its moment
   regular   each byte of a load is one that a store left there, and that was not overwritten before
@@ -334,7 +346,7 @@ With --format json what is found is an object; it doesn't go with --values.
 
 Statuses: 0 the history is one of the law, 1 it isn't (or, with --all-answered, operations are
 open), 2 the command line is wrong, 4 a line is faulty, the image can't be read or a stream failed,
-5 there is too little memory, 6 it can't be told.
+5 there is too little memory, 6 it can't tell.
 
 Example:
   $ printf 'load-request 7 0x1000 1\\nload-response 7 5a\\n' | kroft history

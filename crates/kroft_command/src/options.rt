@@ -15,15 +15,24 @@ pub(crate) const LATENCY: &str = "latency";
 /// Rounds between two begins of a bank.
 pub(crate) const BUSY: &str = "busy";
 
-/// A log's format, if a log takes a trace's place.
+/// A log's format, if a log takes a trace's place; of a sweep's figure, that its axis has factors.
 pub(crate) const LOG: &str = "log";
+
+/// A sheet's file, if what was handed in is graded.
+pub(crate) const SHEET: &str = "sheet";
 
 /// The name of the option for a figure.
 pub(crate) const SVG: &str = "svg";
 
+/// A figure of requests by rounds.
+pub(crate) const TIMELINE: &str = "timeline";
+
+/// The machine that it has below the first one.
+pub(crate) const BESIDE: &str = "beside";
+
 pub(crate) const FILE: &str = "file";
 
-// What stands behind an option.
+// What follows an option.
 #[derive(Clone, Copy)]
 enum Value {
     // Nothing: it is given or not.
@@ -81,7 +90,7 @@ pub(crate) const SHAPE: CommandOption = CommandOption {
     ..A_FILE
 };
 
-// It stands behind the command.
+// It follows the command.
 const MACHINE_FILE: CommandOption = CommandOption {
     name: MACHINE,
     help: "The TOML file with all numbers of a machine, in place of a shape file",
@@ -150,7 +159,7 @@ pub(crate) static CHECK: [CommandOption; 5] = [
 ];
 
 /// The image changes no counts. Without a latency no bank is busy.
-pub(crate) static SWEEP: [CommandOption; 7] = [
+pub(crate) static SWEEP: [CommandOption; 8] = [
     SHAPE,
     MACHINE_FILE,
     CommandOption {
@@ -163,12 +172,17 @@ pub(crate) static SWEEP: [CommandOption; 7] = [
         ..BUSY_BANKS
     },
     COUNTS_FORMAT,
-    // The figure has a column for each usual number, and no format.
     CommandOption {
         name: SVG,
         needs: &[LATENCY],
-        conflicts: &["format", REGISTERS],
+        conflicts: &["format"],
         help: "Draw the rounds by the number of registers, a line for each latency",
+        ..FLAG
+    },
+    CommandOption {
+        name: LOG,
+        needs: &[SVG],
+        help: "Draw the rounds by factors: lines that fall alike gain the same share, whatever the latency",
         ..FLAG
     },
     CommandOption {
@@ -193,10 +207,27 @@ pub(crate) static EXPLAIN: [CommandOption; 4] = [
 ];
 
 /// The options of `grade`.
-pub(crate) static GRADE: [CommandOption; 4] = [
+pub(crate) static GRADE: [CommandOption; 7] = [
     SHAPE,
     MACHINE_FILE,
     IMAGE,
+    CommandOption {
+        name: SHEET,
+        help: "The sheet that was given out: grade what was handed in, a point for each of its '?'",
+        ..A_FILE
+    },
+    CommandOption {
+        name: "strict",
+        conflicts: &[SHEET],
+        help: "Ask each accepted request for its class: hit, join or miss. With a sheet that is so",
+        ..FLAG
+    },
+    CommandOption {
+        name: "solve",
+        conflicts: &[SHEET, "strict", "format"],
+        help: "Write the sheet with its open answers filled in place of a grade",
+        ..FLAG
+    },
     CommandOption {
         help: "How the grade is written [default: text]",
         ..COUNTS_FORMAT
@@ -204,7 +235,7 @@ pub(crate) static GRADE: [CommandOption; 4] = [
 ];
 
 /// The options of `drive`.
-pub(crate) static DRIVE: [CommandOption; 10] = [
+pub(crate) static DRIVE: [CommandOption; 12] = [
     SHAPE,
     MACHINE_FILE,
     IMAGE,
@@ -225,7 +256,7 @@ pub(crate) static DRIVE: [CommandOption; 10] = [
     CommandOption {
         name: "all",
         needs: &["summary"],
-        help: "Count more: by kind and set, rounds by registers in use and loads owed, loads by wait",
+        help: "Count more: by kind and set, rounds by registers in use and by loads outstanding, loads by wait",
         ..FLAG
     },
     CommandOption {
@@ -234,10 +265,22 @@ pub(crate) static DRIVE: [CommandOption; 10] = [
     },
     CommandOption {
         name: SVG,
-        needs: &["summary"],
         conflicts: &["format"],
-        help: "Draw the rounds that were lost, a bar for each cause",
+        help: "With --summary, draw the rounds that were lost, a bar for each cause",
         ..FLAG
+    },
+    CommandOption {
+        name: TIMELINE,
+        needs: &[SVG],
+        conflicts: &["summary"],
+        help: "Draw the first 16 requests by rounds: asked, accepted, answered",
+        ..FLAG
+    },
+    CommandOption {
+        name: BESIDE,
+        needs: &[TIMELINE],
+        help: "Draw the same requests below, through the machine of this TOML file",
+        ..A_FILE
     },
 ];
 

@@ -1,6 +1,6 @@
 //! The program over a reader and two writers.
 
-ghost use Rattle.std.specs.Prelude.{◌≡◌, ◌≤◌, ℕ, None, Ok, IfOk, IfErr, OnOk, Result};
+ghost use Rattle.std.specs.Prelude.{◌≡◌, ◌≤◌, ℕ, None, Ok, IfOk, IfErr, OnOk, Result, length};
 ghost use Rattle.shape_files.specs.MachineFile.{bad_machine};
 ghost use Rattle.toml.specs.Parse.{parse_document};
 ghost use Rattle.shape_files.specs.MachineFile.{TextSays};
@@ -11,21 +11,28 @@ ghost use Rattle.kroft_command.specs.Tool.{IsInRange};
 ghost use Rattle.kroft_command.specs.Told.{EndsBy};
 ghost use Rattle.kroft_command.specs.Program.{Works, TellsWords, Performs, IsDone};
 ghost use Rattle.kroft_command.specs.Program.{IsMachineOf, IsUnread, ShapeTextFails, MachineTextFails, MachineFails, IsImageOf, ImageFails};
-ghost use Rattle.kroft_command.specs.Program.{HasRoom, LacksRoom};
+ghost use Rattle.kroft_command.specs.Program.{GradesByFile, HasRoom, IsSheet, IsSheetFault, LacksRoom, grade_format};
+ghost use Rattle.kroft_command.specs.Program.{IsBesideOf, BesideFails, HasRoomBeside, LacksRoomBeside};
+ghost use Rattle.kroft_jobs.specs.Following.{IsGood};
+ghost use Rattle.kroft_jobs.specs.Words.{MAX_LINES};
 
 use crate::command_line::{CommandLine, ImageName, MachineName, Task, read_words};
 use crate::fault::{LongImage, ToolFault};
-use crate::tasks::{answer, check_by, drive, explain, grade, history, requests, run, show, sweep};
+use crate::figures::draw_timeline;
+use crate::tasks::{
+    answer, check_by, drive, explain, grade_by, grade_or_solve, history, requests, run, show, sweep,
+};
 use clap::error::ErrorKind;
 use flat_model::Image;
-use kroft_jobs::JobFault;
+use kroft_jobs::{JobFault, Question, read_questions};
+use named_fields::Format;
 use register_sweeps::Sizes;
 use shape_files::{ToolShape, read_machine, read_shape};
 use std::alloc::Global;
 use std::io;
 use std::rt::Files;
 use std::thread::Threads;
-use trace_text::{Sink, Source};
+use trace_text::{Sink, Source, TraceFault};
 
 /// Does what the words ask for, and returns the status.
 ///
@@ -102,9 +109,70 @@ fn perform<R: AllocGlobal + Files + Threads + Sync, I: Source, O: Sink, E: Sink>
         errors.old errors.new input.old input.new output.old output.new result }
 {
     let sizes = sizes_of(rt, asked.machine)?;
+    let beside = beside_of(rt, asked.beside)?;
     let image = image_of(rt, asked.image)?;
     find_room(asked.task, &sizes, &image)?;
-    complete(rt, asked.task, &sizes, &image, input, output, errors)
+    find_room_beside(asked.task, &beside, &image)?;
+    match asked.sheet {
+        Some(path) => hand_in(rt, path, asked.task, &sizes, &image, input, output),
+        None => complete(
+            rt, asked.task, &sizes, &beside, &image, input, output, errors,
+        ),
+    }
+}
+
+// Only a grade is by a sheet.
+fn grade_format(task: Task) -> Format
+    ensures { result ≡ grade_format task }
+{
+    match task {
+        Task::Grade { format, .. } => format,
+        _ => Format::Text,
+    }
+}
+
+// Grades what was handed in by the sheet of this file.
+#[tactic(auto, unfolding(crate::specs::Program::GradesByFile))]
+fn hand_in<R: AllocGlobal + Files, I: Source, O: Sink>(
+    rt: &R,
+    path: &str,
+    task: Task,
+    sizes: &Sizes,
+    image: &Image,
+    input: &mut I,
+    output: &mut O,
+) -> Result<u8, ToolFault>
+    requires sizes { bad_machine sizes.now ≡ None }
+    ensures few { IfOk result (λ status. status ≤ 1) }
+    ensures ends { GradesByFile I.gave I.failed O.took O.refused O.unflushed (grade_format task) sizes.now image.now input.old input.new
+        output.old output.new result }
+{
+    let bytes = file_bytes(rt, path, ToolFault::SheetUnreadable)?;
+    let questions = questions_of(rt.alloc(), bytes.as_slice())?;
+    let format = grade_format(task);
+    grade_by(
+        rt.alloc(),
+        sizes,
+        format,
+        questions.as_slice(),
+        image,
+        input,
+        output,
+    )
+}
+
+// The questions that a sheet's bytes ask.
+fn questions_of(alloc: Global, bytes: &[u8]) -> Result<Vec<Question>, ToolFault>
+    ensures asks { IfOk result (λ questions. IsSheet questions.items) }
+    ensures few { IfOk result (λ questions. length questions.items ≤ MAX_LINES) }
+    ensures fault { IfErr result IsSheetFault }
+{
+    let mut rest = bytes;
+    match read_questions(alloc, &mut rest) {
+        Ok(questions) => Ok(questions),
+        Err(TraceFault::OutOfMemory) => Err(ToolFault::Job(JobFault::OutOfMemory)),
+        Err(fault) => Err(ToolFault::Sheet(fault)),
+    }
 }
 
 // Does the task on a machine or a history, over an image.
@@ -113,6 +181,7 @@ fn complete<R: AllocGlobal + Threads + Sync, I: Source, O: Sink, E: Sink>(
     rt: &R,
     task: Task,
     sizes: &Sizes,
+    beside: &Option<Sizes>,
     image: &Image,
     input: &mut I,
     output: &mut O,
@@ -120,9 +189,10 @@ fn complete<R: AllocGlobal + Threads + Sync, I: Source, O: Sink, E: Sink>(
 ) -> Result<u8, ToolFault>
     requires range { IsInRange task }
     requires sizes { bad_machine sizes.now ≡ None }
+    requires beside { IsGood beside.now }
     ensures few { IfOk result (λ status. status ≤ 6) }
-    ensures ends { IsDone I.gave I.failed O.took O.refused O.unflushed E.took E.refused E.unflushed task sizes.now image.now
-        errors.old errors.new input.old input.new output.old output.new result }
+    ensures ends { IsDone I.gave I.failed O.took O.refused O.unflushed E.took E.refused E.unflushed task sizes.now beside.now
+        image.now errors.old errors.new input.old input.new output.old output.new result }
 {
     let alloc = rt.alloc();
     match task {
@@ -135,9 +205,11 @@ fn complete<R: AllocGlobal + Threads + Sync, I: Source, O: Sink, E: Sink>(
             timings,
             registers,
             form,
-        } => sweep(rt, sizes, &registers, &timings, form, input, output),
+        } => sweep(rt, sizes, &registers, &timings, form, input, output, errors),
         Task::Explain { format } => explain(alloc, sizes, format, image, input, output),
-        Task::Grade { format } => grade(alloc, sizes, format, image, input, output),
+        Task::Grade { format, work } => {
+            grade_or_solve(alloc, sizes, format, work, image, input, output)
+        }
         Task::Drive {
             from,
             timing,
@@ -146,6 +218,9 @@ fn complete<R: AllocGlobal + Threads + Sync, I: Source, O: Sink, E: Sink>(
             form,
         } => drive(
             alloc, sizes, image, from, timing, summary, all, form, input, output, errors,
+        ),
+        Task::Timeline { from, timing } => draw_timeline(
+            alloc, sizes, beside, image, from, timing, input, output, errors,
         ),
         Task::Requests { from, words } => requests(alloc, from, words, input, output),
         Task::Show { form } => show(alloc, sizes, image, form, input, output),
@@ -169,6 +244,18 @@ fn sizes_of<R: AllocGlobal + Files>(rt: &R, name: MachineName<'_>) -> Result<Siz
             let text = text_of(rt, path, ToolFault::MachineUnreadable)?;
             machine_said(rt.alloc(), text.as_str())
         }
+    }
+}
+
+// The machine beside the first one.
+fn beside_of<R: AllocGlobal + Files>(rt: &R, path: Option<&str>) -> Result<Option<Sizes>, ToolFault>
+    ensures sizes { IfOk result (IsBesideOf path.entry) }
+    ensures good { IfOk result IsGood }
+    ensures fault { IfErr result (BesideFails path.entry) }
+{
+    match path {
+        Some(path) => Ok(Some(sizes_of(rt, MachineName::Machine(path))?)),
+        None => Ok(None),
     }
 }
 
@@ -220,16 +307,26 @@ fn image_of<R: AllocGlobal + Files>(rt: &R, name: ImageName<'_>) -> Result<Image
 }
 
 // As of a text.
-fn image_bytes<R: AllocGlobal + Files>(rt: &R, path: &str) -> Result<Vec<u8>, ToolFault>
-    ensures { IfErr result (IsUnread faults.ImageUnreadable) }
+fn file_bytes<R: AllocGlobal + Files>(
+    rt: &R,
+    path: &str,
+    unreadable: ToolFault,
+) -> Result<Vec<u8>, ToolFault>
+    ensures { IfErr result (IsUnread unreadable) }
 {
     match std::fs::read(rt, path) {
         Ok(bytes) => Ok(bytes),
         Err(error) if error.kind() == io::ErrorKind::OutOfMemory => {
             Err(ToolFault::Job(JobFault::OutOfMemory))
         }
-        Err(_) => Err(ToolFault::ImageUnreadable),
+        Err(_) => Err(unreadable),
     }
+}
+
+fn image_bytes<R: AllocGlobal + Files>(rt: &R, path: &str) -> Result<Vec<u8>, ToolFault>
+    ensures { IfErr result (IsUnread faults.ImageUnreadable) }
+{
+    file_bytes(rt, path, ToolFault::ImageUnreadable)
 }
 
 // Whether the image fits. A history's memory has no end.
@@ -243,5 +340,15 @@ fn find_room(task: Task, sizes: &Sizes, image: &Image) -> Result<(), ToolFault>
         Task::History(_) => Ok(()),
         _ if bytes <= memory => Ok(()),
         _ => Err(ToolFault::LongImage(LongImage { bytes, memory })),
+    }
+}
+
+fn find_room_beside(task: Task, beside: &Option<Sizes>, image: &Image) -> Result<(), ToolFault>
+    ensures ok { OnOk result (HasRoomBeside task beside.now image.now) }
+    ensures fault { IfErr result (LacksRoomBeside task beside.now image.now) }
+{
+    match beside {
+        Some(sizes) => find_room(task, sizes, image),
+        None => Ok(()),
     }
 }

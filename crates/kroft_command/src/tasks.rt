@@ -1,35 +1,36 @@
 //! Each task: its job, and what is written of its end.
 
-ghost use Rattle.std.specs.Prelude.{◌≡◌, ◌≤◌, [], ◌++◌, map, None, IfOk, IfErr, OnOk, OnErr};
+ghost use Rattle.std.specs.Prelude.{◌≡◌, ◌≤◌, [], ◌++◌, length, map, None, IfOk, IfErr, OnOk, OnErr};
 ghost use Rattle.std.specs.List.{All, AllByRecursion, flat_map};
 ghost use Rattle.std.specs.String.{string_bytes};
-ghost use Rattle.kroft_jobs.specs.Words.{MAX_WORDS, MOST_LATENCY};
+ghost use Rattle.kroft_jobs.specs.Words.{MAX_LINES, MAX_WORDS, MOST_LATENCY};
 ghost use Rattle.shape_files.specs.MachineFile.{bad_machine};
 ghost use Rattle.history_text.specs.Answers.{verdict_status as history_status};
-ghost use Rattle.result_figures.specs.Sweeps.{told};
 ghost use Rattle.result_formats.specs.Counts.{rounds_in, latency_in, pumps_in};
 ghost use Rattle.kroft_jobs.specs.Jobs.{swept};
 ghost use Rattle.kroft_jobs.specs.Writing.{IsPut, IsCut};
 ghost use Rattle.kroft_command.specs.Tool.{IsTimely, timings_in, registers_in, line, write_fault};
-ghost use Rattle.kroft_command.specs.Program.{Runs, Checks, ChecksAnswered, checks_by, ExplainsRun, Grades, Draws, WritesRequests};
+ghost use Rattle.kroft_command.specs.Program.{Runs, Checks, ChecksAnswered, checks_by, ExplainsRun, Draws, WritesRequests};
+ghost use Rattle.kroft_command.specs.Program.{Grades, GradesBy, Solves, works_on_sheet};
 ghost use Rattle.kroft_command.specs.Program.{access_in};
-ghost use Rattle.kroft_command.specs.Program.{Drives, WritesRun, PutsCounts, PutsDetails, DrawsCounts, counts_by};
-ghost use Rattle.kroft_command.specs.Program.{Sweeps, SweepsRegisters, SweepsRounds, SweepsLatencies, DrawsSweep, sweeps_lines};
+ghost use Rattle.kroft_command.specs.Program.{Drives, WritesRun, PutsCounts, PutsDetails, counts_by};
+ghost use Rattle.kroft_command.specs.Program.{Sweeps, SweepsRegisters, SweepsRounds, SweepsLatencies, sweeps_lines};
 ghost use Rattle.kroft_command.specs.Program.{latency_lines, swept_rows};
 ghost use Rattle.kroft_command.specs.Program.{FollowsHistory, JudgesHistory, WritesHistory, PutsVerdict};
 
-use crate::command_line::{CountForm, HistoryTask, LogName, Registers, Timings};
+use crate::command_line::{CountForm, HistoryTask, LogName, Registers, SheetWork, Timings};
 use crate::fault::ToolFault;
+use crate::figures::{draw_counts, draw_sweep};
 use access_logs::{Din, Lackey, LogFormat, write_requests};
 use flat_model::Image;
 use history_text::{HistoryEnd, judge_by_law, write_values_by_law};
 use kroft_jobs::{
-    AnsweredIn, CheckIn, LatencyRows, RequestText, Verdict, detail_requests, drive_requests,
-    put_text, serve, summarize_requests, sweep_in_rounds, sweep_latencies, sweep_registers,
+    AnsweredIn, CheckIn, LatencyRows, Marking, Question, RequestText, Verdict, detail_requests,
+    drive_requests, put_text, serve, summarize_requests, sweep_in_rounds, sweep_latencies,
+    sweep_registers,
 };
 use named_fields::{Format, VerdictFormat};
 use register_sweeps::{RoundsRow, Row, Sizes};
-use result_figures::{LossFigure, SweepFigure, SweepLine};
 use result_formats::{
     DetailsIn, ExplanationIn, LatencyHead, LatencyIn, PumpsHead, PumpsIn, RoundsHead, RoundsIn,
     TableHead, TableIn, history_in,
@@ -159,21 +160,82 @@ pub(crate) fn explain<I: Source, O: Sink>(
 
 /// Grades a sheet.
 #[tactic(auto, unfolding(crate::specs::Program::Grades))]
-pub(crate) fn grade<I: Source, O: Sink>(
+fn grade<I: Source, O: Sink>(
     alloc: Global,
     sizes: &Sizes,
     format: Format,
+    marking: Marking,
     image: &Image,
     input: &mut I,
     output: &mut O,
 ) -> Result<u8, ToolFault>
     requires sizes { bad_machine sizes.now ≡ None }
     ensures few { IfOk result (λ status. status ≤ 1) }
-    ensures ends { Grades I.gave I.failed O.took O.refused O.unflushed format sizes.now image.now input.old input.new output.old output.new
+    ensures ends { Grades I.gave I.failed O.took O.refused O.unflushed format marking sizes.now image.now input.old input.new
+        output.old output.new result }
+{
+    let score = kroft_jobs::grade(alloc, sizes, format, marking, image, input, output)?;
+    Ok(score.status())
+}
+
+// Fills a sheet.
+#[tactic(auto, unfolding(crate::specs::Program::Solves))]
+fn solve<I: Source, O: Sink>(
+    alloc: Global,
+    sizes: &Sizes,
+    image: &Image,
+    input: &mut I,
+    output: &mut O,
+) -> Result<u8, ToolFault>
+    requires sizes { bad_machine sizes.now ≡ None }
+    ensures few { IfOk result (λ status. status ≤ 1) }
+    ensures ends { Solves I.gave I.failed O.took O.refused O.unflushed sizes.now image.now input.old input.new output.old output.new
         result }
 {
-    let score = kroft_jobs::grade(alloc, sizes, format, image, input, output)?;
-    Ok(score.status())
+    kroft_jobs::solve(alloc, sizes, image, input, output)?;
+    Ok(0)
+}
+
+/// Grades a sheet, or fills it.
+pub(crate) fn grade_or_solve<I: Source, O: Sink>(
+    alloc: Global,
+    sizes: &Sizes,
+    format: Format,
+    work: SheetWork,
+    image: &Image,
+    input: &mut I,
+    output: &mut O,
+) -> Result<u8, ToolFault>
+    requires sizes { bad_machine sizes.now ≡ None }
+    ensures few { IfOk result (λ status. status ≤ 1) }
+    ensures ends { works_on_sheet I.gave I.failed O.took O.refused O.unflushed work format sizes.now image.now input.old input.new
+        output.old output.new result }
+{
+    match work {
+        SheetWork::Grade(marking) => grade(alloc, sizes, format, marking, image, input, output),
+        SheetWork::Solve => solve(alloc, sizes, image, input, output),
+    }
+}
+
+/// Grades what was handed in.
+#[tactic(auto, unfolding(crate::specs::Program::GradesBy))]
+pub(crate) fn grade_by<I: Source, O: Sink>(
+    alloc: Global,
+    sizes: &Sizes,
+    format: Format,
+    questions: &[Question],
+    image: &Image,
+    input: &mut I,
+    output: &mut O,
+) -> Result<u8, ToolFault>
+    requires sizes { bad_machine sizes.now ≡ None }
+    requires questions { length questions.now ≤ MAX_LINES }
+    ensures few { IfOk result (λ status. status ≤ 1) }
+    ensures ends { GradesBy I.gave I.failed O.took O.refused O.unflushed format questions.now sizes.now image.now input.old input.new
+        output.old output.new result }
+{
+    let marks = kroft_jobs::grade_by(alloc, sizes, format, questions, image, input, output)?;
+    Ok(marks.status())
 }
 
 // Writes the run, and tells if it is too long for a check.
@@ -244,29 +306,8 @@ fn put_details<I: Source, O: Sink>(
     answer(output, told.as_str(), 0)
 }
 
-// Drives them, and draws the counts.
-fn draw_counts<I: Source, O: Sink>(
-    alloc: Global,
-    sizes: &Sizes,
-    image: &Image,
-    from: RequestText,
-    timing: Timing,
-    input: &mut I,
-    output: &mut O,
-) -> Result<u8, ToolFault>
-    requires sizes { bad_machine sizes.now ≡ None }
-    requires latency { timing.latency ≤ MOST_LATENCY }
-    ensures few { IfOk result (λ status. status ≤ 1) }
-    ensures ends { DrawsCounts I.gave I.failed O.took O.refused O.unflushed from timing sizes.now image.now input.old input.new output.old
-        output.new result }
-{
-    let counted = summarize_requests(alloc, sizes, image, timing, from, input)?;
-    let figure = format!(in alloc; "{}", LossFigure(counted))?;
-    answer(output, figure.as_str(), 0)
-}
-
 // Drives them, and shows the counts.
-fn show_counts<I: Source, O: Sink>(
+fn show_counts<I: Source, O: Sink, E: Sink>(
     alloc: Global,
     sizes: &Sizes,
     image: &Image,
@@ -276,12 +317,13 @@ fn show_counts<I: Source, O: Sink>(
     form: CountForm,
     input: &mut I,
     output: &mut O,
+    errors: &mut E,
 ) -> Result<u8, ToolFault>
     requires sizes { bad_machine sizes.now ≡ None }
     requires latency { timing.latency ≤ MOST_LATENCY }
     ensures few { IfOk result (λ status. status ≤ 1) }
-    ensures ends { counts_by I.gave I.failed O.took O.refused O.unflushed form all from timing sizes.now image.now input.old input.new
-        output.old output.new result }
+    ensures ends { counts_by I.gave I.failed O.took O.refused O.unflushed E.took E.refused E.unflushed form all from timing
+        sizes.now image.now errors.old errors.new input.old input.new output.old output.new result }
 {
     match (form, all) {
         (CountForm::Lines(format), false) => {
@@ -290,7 +332,9 @@ fn show_counts<I: Source, O: Sink>(
         (CountForm::Lines(format), true) => {
             put_details(alloc, sizes, image, from, timing, format, input, output)
         }
-        (CountForm::Figure, _) => draw_counts(alloc, sizes, image, from, timing, input, output),
+        (CountForm::Figure(_), _) => {
+            draw_counts(alloc, sizes, image, from, timing, input, output, errors)
+        }
     }
 }
 
@@ -315,7 +359,9 @@ pub(crate) fn drive<I: Source, O: Sink, E: Sink>(
         sizes.now image.now errors.old errors.new input.old input.new output.old output.new result }
 {
     if summary {
-        show_counts(alloc, sizes, image, from, timing, all, form, input, output)
+        show_counts(
+            alloc, sizes, image, from, timing, all, form, input, output, errors,
+        )
     } else {
         write_run(alloc, sizes, image, from, timing, input, output, errors)
     }
@@ -564,44 +610,6 @@ fn put_latencies<R: AllocGlobal + Threads + Sync, I: Source, O: Sink>(
     answer(output, latencies.as_str(), 0)
 }
 
-fn lines_of_figure<'a>(
-    alloc: Global,
-    swept: &'a [LatencyRows],
-) -> Result<Vec<SweepLine<'a>>, AllocError>
-    ensures { IfOk result (λ lines. map told lines.items ≡ map swept_rows swept.now) }
-{
-    let mut lines = Vec::new(alloc);
-    for one in swept {
-        let rows = one.rows.as_slice();
-        lines.push(SweepLine {
-            latency: one.latency,
-            rows,
-        })?;
-    }
-    Ok(lines)
-}
-
-// Drives them so, and draws their rounds.
-fn draw_sweep<R: AllocGlobal + Threads + Sync, I: Source, O: Sink>(
-    rt: &R,
-    sizes: &Sizes,
-    registers: &[u32],
-    timings: &[Timing],
-    input: &mut I,
-    output: &mut O,
-) -> Result<u8, ToolFault>
-    requires { All IsTimely timings.now }
-    ensures few { IfOk result (λ status. status ≤ 1) }
-    ensures ends { DrawsSweep I.gave I.failed O.took O.refused O.unflushed timings.now
-        (swept sizes.now registers.now) input.old input.new output.old
-        output.new result }
-{
-    let rows = sweep_latencies(rt, rt.alloc(), sizes, registers, timings, input)?;
-    let lines = lines_of_figure(rt.alloc(), rows.as_slice())?;
-    let figure = format!(in rt.alloc(); "{}", SweepFigure(lines.as_slice()))?;
-    answer(output, figure.as_str(), 0)
-}
-
 // Serves the requests, or drives them if there are times.
 fn put_sweep<R: AllocGlobal + Threads + Sync, I: Source, O: Sink>(
     rt: &R,
@@ -626,7 +634,7 @@ fn put_sweep<R: AllocGlobal + Threads + Sync, I: Source, O: Sink>(
 }
 
 #[tactic(auto, unfolding(crate::specs::Program::Sweeps))]
-fn sweep_by<R: AllocGlobal + Threads + Sync, I: Source, O: Sink>(
+fn sweep_by<R: AllocGlobal + Threads + Sync, I: Source, O: Sink, E: Sink>(
     rt: &R,
     sizes: &Sizes,
     registers: &[u32],
@@ -634,20 +642,22 @@ fn sweep_by<R: AllocGlobal + Threads + Sync, I: Source, O: Sink>(
     form: CountForm,
     input: &mut I,
     output: &mut O,
+    errors: &mut E,
 ) -> Result<u8, ToolFault>
     requires timely { All IsTimely timings.now }
     ensures few { IfOk result (λ status. status ≤ 1) }
-    ensures ends { Sweeps I.gave I.failed O.took O.refused O.unflushed timings.now form
-        (swept sizes.now registers.now) input.old input.new output.old
-        output.new result }
+    ensures ends { Sweeps I.gave I.failed O.took O.refused O.unflushed E.took E.refused E.unflushed timings.now form sizes.now
+        registers.now errors.old errors.new input.old input.new output.old output.new result }
 {
     match form {
         CountForm::Lines(format) => put_sweep(rt, sizes, registers, timings, format, input, output),
-        CountForm::Figure => draw_sweep(rt, sizes, registers, timings, input, output),
+        CountForm::Figure(scale) => {
+            draw_sweep(rt, sizes, registers, timings, scale, input, output, errors)
+        }
     }
 }
 
-pub(crate) fn sweep<R: AllocGlobal + Threads + Sync, I: Source, O: Sink>(
+pub(crate) fn sweep<R: AllocGlobal + Threads + Sync, I: Source, O: Sink, E: Sink>(
     rt: &R,
     sizes: &Sizes,
     registers: &Registers,
@@ -655,12 +665,12 @@ pub(crate) fn sweep<R: AllocGlobal + Threads + Sync, I: Source, O: Sink>(
     form: CountForm,
     input: &mut I,
     output: &mut O,
+    errors: &mut E,
 ) -> Result<u8, ToolFault>
     requires { AllByRecursion IsTimely timings.now.all }
     ensures few { IfOk result (λ status. status ≤ 1) }
-    ensures ends { Sweeps I.gave I.failed O.took O.refused O.unflushed (timings_in timings.now) form
-        (swept sizes.now (registers_in registers.now)) input.old input.new
-        output.old output.new result }
+    ensures ends { Sweeps I.gave I.failed O.took O.refused O.unflushed E.took E.refused E.unflushed (timings_in timings.now) form
+        sizes.now (registers_in registers.now) errors.old errors.new input.old input.new output.old output.new result }
 {
     let registers = registers.as_slice();
     sweep_by(
@@ -671,5 +681,6 @@ pub(crate) fn sweep<R: AllocGlobal + Threads + Sync, I: Source, O: Sink>(
         form,
         input,
         output,
+        errors,
     )
 }

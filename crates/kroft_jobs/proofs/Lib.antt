@@ -2,3 +2,5 @@ pub mod Measured
 pub mod Driving
 pub mod Sweeping
 pub mod Owed
+pub mod Sheets
+pub mod Followed

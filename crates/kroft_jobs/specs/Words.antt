@@ -12,7 +12,7 @@ pub use Rattle.register_sweeps.specs.declared.rounds.RoundsRow.{RoundsRow}
 pub use Rattle.register_sweeps.specs.declared.sweeps.SweepFault.{SweepFault}
 -- of texts and files
 pub use Rattle.trace_text.specs.declared.check.CheckEnd.{CheckEnd}
-pub use Rattle.trace_text.specs.declared.fault.TheConstants.{MAX_LINE, MAX_PAIR}
+pub use Rattle.trace_text.specs.declared.fault.TheConstants.{MAX_LINE, MAX_LINES, MAX_PAIR}
 pub use Rattle.trace_text.specs.declared.fault.TraceFault.{TraceFault}
 pub use Rattle.trace_text.specs.declared.lines.LineFault.{LineFault}
 pub use Rattle.trace_text.specs.declared.serve.Counts.{Counts}
@@ -30,5 +30,7 @@ pub use Rattle.named_fields.specs.declared.format.Format.{Format}
 pub use Rattle.named_fields.specs.declared.format.VerdictFormat.{VerdictFormat}
 pub use Rattle.run_pictures.specs.declared.drawing.Form.{Form}
 pub use Rattle.run_pictures.specs.declared.show.ShowFault.{ShowFault}
+pub use Rattle.trace_sheets.specs.declared.handed.Question.{Question}
+pub use Rattle.trace_sheets.specs.declared.score.Marking.{Marking}
 pub use Rattle.trace_sheets.specs.declared.score.Score.{Score}
 pub use Rattle.result_formats.specs.declared.accesses.AccessCounts.{AccessCounts}

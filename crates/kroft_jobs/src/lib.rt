@@ -1,15 +1,18 @@
 //! What the program does with a trace, for a shape and an image that were read.
 //!
-//! Its caller is the command line: [`serve`] comes first, and then [`check`], [`explain`],
-//! [`drive_requests`] and the others. Each makes a new machine of numbers in their ranges.
-//! [`JobFault`] and the verdicts have the statuses. A fault of the input leaves the output
-//! untouched.
+//! - First call: [`serve`], which answers a trace; beside it stand [`check`], [`explain`],
+//!   [`drive_requests`], [`grade`], [`show`] and the sweeps.
+//! - Caller: `kroft_command`.
+//!
+//! Each makes a new machine of numbers in their ranges. [`JobFault`] and the verdicts have the
+//! statuses. A fault of the input leaves the output untouched.
 #![tactic(auto)]
 
 mod answered;
 mod asked;
 mod drive;
 mod fault;
+mod following;
 mod forms;
 mod grades;
 mod jobs;
@@ -22,11 +25,13 @@ pub use answered::{AnsweredVerdict, check_answered};
 pub use asked::RequestText;
 pub use drive::drive_requests;
 pub use fault::{FaultText, JobFault};
+pub use following::{FollowedRun, MOST_FOLLOWED, follow_requests};
 pub use forms::{AnsweredIn, CheckIn};
-pub use grades::grade;
+pub use grades::{grade, grade_by, solve};
 pub use jobs::{Verdict, check, explain, serve, sweep_registers};
 pub use pictures::show;
 pub use rounds::{
     CountedRun, LatencyRows, detail_requests, summarize_requests, sweep_in_rounds, sweep_latencies,
 };
+pub use trace_sheets::{Marking, Question, read_questions};
 pub use writing::put_text;

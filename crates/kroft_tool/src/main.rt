@@ -1,4 +1,10 @@
-//! The program: hands its words and streams to [`tool`], and ends with its status.
+//! The program: it hands its words and streams to [`tool`], and ends with its status.
+//!
+//! - First call: `main`.
+//! - Caller: the shell, by `./kroft`.
+//!
+//! Words that aren't UTF-8 end it with status 2, and want of memory with 5, before anything is read.
+//! A write is tried once: behind a failed one nothing is written.
 #![tactic(auto)]
 
 use kroft_command::{OneTryWriter, tool};

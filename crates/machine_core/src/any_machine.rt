@@ -1,4 +1,4 @@
-//! A machine whose text is told.
+//! A machine with its text.
 ghost use Rattle.std.specs.Prelude.{◌≡◌, Some};
 ghost use Rattle.flat_model.specs.Flat.{flat_step};
 ghost use Rattle.machine_core.specs.Machine.{MachineState};

@@ -1,5 +1,5 @@
 -- What the calls of a handle answer and leave, by the machine behind it.
-use Rattle.std.specs.Prelude.{⊤, ◌≡◌, ℕ, Bool, Option, Some, None, is_some, if◌then◌else◌}
+use Rattle.std.specs.Prelude.{⊤, ◌≡◌, ℕ, Option, Some, None, is_some, if◌then◌else◌}
 use Rattle.std.specs.Option.{option_map}
 use Rattle.machine_core.specs.Words.{Word, Event, Answer}
 use Rattle.flat_model.specs.Flat.{flat_step}
@@ -16,11 +16,11 @@ use Rattle.machine_handles.specs.Behind.{Standing, standing_with}
 -- where rounds are under way, and where the caller makes the events
 abbrev pub event_status : Option RoundsState → Option Event → ℕ
 event_status (Some r) event = 107
-event_status None None = 2
+event_status None None = 147
 event_status None (Some event) = 0
 
 abbrev pub apply_status : Option Standing → Option Event → ℕ
-apply_status None event = 3
+apply_status None event = 100
 apply_status (Some b) event = event_status b.rounds event
 
 abbrev pub apply_row : Option MachineState → Option Event → AnswerRow → AnswerRow
@@ -43,10 +43,10 @@ IsFlat m event = ⊤
 
 abbrev pub pump_status_of : Option RoundsState → MachineState → ℕ
 pump_status_of (Some r) m = 107
-pump_status_of None m = if is_some (pump_tells m) then 1 else 0
+pump_status_of None m = if is_some (pump_tells m) then 0 else 1
 
 abbrev pub pump_status : Option Standing → ℕ
-pump_status None = 3
+pump_status None = 100
 pump_status (Some b) = pump_status_of b.rounds b.state
 
 abbrev pub state_pumped : Option RoundsState → MachineState → MachineState
@@ -60,19 +60,14 @@ pumped b = option_map (λ b. standing_with b.rounds (state_pumped b.rounds b.sta
 
 -- 0, where there is a machine
 abbrev pub told_status : {X : Type 0} → Option X → ℕ
-told_status None = 3
+told_status None = 100
 told_status (Some x) = 0
 
--- 0 or 1, where there is a machine
-abbrev pub test_status : Option Bool → ℕ
-test_status None = 3
-test_status (Some holds) = if holds then 1 else 0
-
--- a thing that is there or isn't
+-- 0, where a thing is there, and 1, where it isn't
 abbrev pub found_status : {X : Type 0} → Option (Option X) → ℕ
-found_status None = 3
-found_status (Some None) = 0
-found_status (Some (Some x)) = 1
+found_status None = 100
+found_status (Some None) = 1
+found_status (Some (Some x)) = 0
 
 -- it as a row, or else the row that was there
 abbrev pub found_row : {X Y : Type 0} → (X → Y) → Y → Option (Option X) → Y

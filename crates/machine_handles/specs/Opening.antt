@@ -6,27 +6,26 @@ use Rattle.flat_model.specs.declared.ShapeField.TheVariants.{Replies, Ports, Jou
 use Rattle.machine_core.specs.Machine.{MachineState}
 use Rattle.machine_handles.specs.declared.views.ShapeRow.{ShapeRow}
 use Rattle.machine_handles.specs.declared.made.OpenFault.{OpenFault}
-use Rattle.machine_handles.specs.declared.made.OpenFault.TheVariants.{NoSuchMachine, BadShape, OutOfMemory, OpenAlready}
+use Rattle.machine_handles.specs.declared.made.OpenFault.TheVariants.{BadShape, OutOfMemory, OpenAlready}
 use Rattle.machine_handles.specs.Rows.{sizes_of}
 use Rattle.machine_handles.specs.Made.{fault_in}
 
 abbrev pub field_number : ShapeField → ℕ
-field_number BlockWords = 1
-field_number Ways = 2
-field_number Regs = 3
-field_number Depth = 4
-field_number Words = 5
-field_number Sets = 6
-field_number Banks = 7
-field_number BankQueue = 8
-field_number WriteQueue = 9
-field_number Replies = 10
-field_number Ports = 11
-field_number Journal = 12
-field_number Image = 13
+field_number BlockWords = 111
+field_number Ways = 112
+field_number Regs = 113
+field_number Depth = 114
+field_number Words = 115
+field_number Sets = 116
+field_number Banks = 117
+field_number BankQueue = 118
+field_number WriteQueue = 119
+field_number Replies = 120
+field_number Ports = 122
+field_number Journal = 123
+field_number Image = 121
 
 abbrev pub fault_number : OpenFault → ℕ
-fault_number NoSuchMachine = 100
 fault_number (BadShape field) = field_number field
 fault_number OutOfMemory = 101
 fault_number OpenAlready = 102

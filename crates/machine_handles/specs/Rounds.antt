@@ -98,13 +98,13 @@ IsDriven latency busy rows (Some s) = IsOverInTime (timing latency busy) s (requ
 -- ---- how C is told
 
 abbrev pub rounds_number : RoundsFault → ℕ
-rounds_number Closed = 3
-rounds_number NoRequest = 2
+rounds_number Closed = 100
 rounds_number OutOfMemory = 101
-rounds_number TooMany = 104
-rounds_number BadLatency = 105
 rounds_number NoRounds = 106
 rounds_number InRounds = 107
+rounds_number BadLatency = 131
+rounds_number TooMany = 132
+rounds_number NoRequest = 147
 
 -- C is told of a fault by its number, and of none by 0, where there was memory
 abbrev pub IsToldOfRounds : ℕ → Option RoundsFault → Type 0

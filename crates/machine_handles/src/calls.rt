@@ -6,12 +6,12 @@ ghost use Rattle.machine_core.specs.AnyMachine.{pump_leaves};
 ghost use Rattle.machine_handles.specs.Behind.{standing, standing_of, behind, idle, idle_in};
 ghost use Rattle.flat_judge.specs.Rows.{event_of};
 ghost use Rattle.machine_handles.specs.Rows as rows;
-ghost use Rattle.machine_handles.specs.Calls.{apply_status, apply_row, applied, IsFlat, pump_status, pumped, told_status, test_status};
+ghost use Rattle.machine_handles.specs.Calls.{apply_status, apply_row, applied, IsFlat, pump_status, pumped, told_status};
 ghost use Rattle.machine_handles.specs.Calls.{found_status, found_row, pumped_event, pumped_answer, same_word};
 
 use crate::handle::Handle;
 use crate::kept::Kept;
-use crate::status::{CLOSED, DONE, FOUND, IN_ROUNDS, NO_EVENT, NOT_THERE};
+use crate::status::{ABSENT, CLOSED, DONE, IN_ROUNDS, NO_EVENT};
 use crate::views::{FieldRow, RegisterRow, TargetRow, field_row, register_row, target_row};
 use flat_judge::{AnswerRow, EventRow, answer_row, event_row};
 use flat_model::{Answer, Event, Word};
@@ -100,40 +100,29 @@ fn pump_in(kept: &mut Kept, event: &mut EventRow, answer: &mut AnswerRow) -> u32
         Some((pumped, told)) => {
             *event = event_row(pumped);
             *answer = answer_row(told);
-            FOUND
+            DONE
         }
-        None => NOT_THERE,
+        None => ABSENT,
     }
 }
 
-/// What is on its way, weighed.
-#[tactic(auto, unfolding(machine_core::specs::AnyMachine::weight_of))]
-pub fn weight(alloc: Global, handle: &mut Handle, weight: &mut u64) -> u32
+/// What is on its way, weighed, and 1 in `settled` if memory has everything, else 0.
+#[tactic(auto, unfolding(machine_core::specs::AnyMachine::weight_of, machine_core::specs::AnyMachine::is_settled))]
+pub fn weight(alloc: Global, handle: &mut Handle, weight: &mut u64, settled: &mut u32) -> u32
     ensures status { result ≡ told_status (behind handle.old) }
     ensures weight { weight.new
         ≡ unwrap_or (option_map weight_of (behind handle.old)) weight.old }
+    ensures settled { settled.new
+        ≡ unwrap_or (option_map (λ m. rows.bit (is_settled m)) (behind handle.old)) settled.old }
     ensures same { standing handle.new ≡ standing handle.old }
 {
     let Some(kept) = handle.take(alloc) else {
         return CLOSED;
     };
     *weight = kept.as_ref().machine.weight();
+    *settled = u32::from(kept.as_ref().machine.settled());
     handle.keep(kept);
     DONE
-}
-
-/// Whether nothing is on its way to memory.
-#[tactic(auto, unfolding(machine_core::specs::AnyMachine::is_settled))]
-pub fn settled(alloc: Global, handle: &mut Handle) -> u32
-    ensures status { result ≡ test_status (option_map is_settled (behind handle.old)) }
-    ensures same { standing handle.new ≡ standing handle.old }
-{
-    let Some(kept) = handle.take(alloc) else {
-        return CLOSED;
-    };
-    let settled = kept.as_ref().machine.settled();
-    handle.keep(kept);
-    u32::from(settled)
 }
 
 /// The word of memory at `at`, as it stands in its bank.
@@ -153,9 +142,9 @@ pub fn bank_word(alloc: Global, handle: &mut Handle, at: u32, word: &mut Word) -
     match found {
         Some(stored) => {
             *word = stored;
-            FOUND
+            DONE
         }
-        None => NOT_THERE,
+        None => ABSENT,
     }
 }
 
@@ -177,9 +166,9 @@ pub fn register(alloc: Global, handle: &mut Handle, slot: u32, row: &mut Registe
     match found {
         Some(view) => {
             *row = register_row(&view);
-            FOUND
+            DONE
         }
-        None => NOT_THERE,
+        None => ABSENT,
     }
 }
 
@@ -201,9 +190,9 @@ pub fn field(alloc: Global, handle: &mut Handle, slot: u32, i: u32, row: &mut Fi
     match found {
         Some(view) => {
             *row = field_row(&view);
-            FOUND
+            DONE
         }
-        None => NOT_THERE,
+        None => ABSENT,
     }
 }
 
@@ -232,8 +221,8 @@ pub fn target(
     match found {
         Some(owed) => {
             *row = target_row(&owed);
-            FOUND
+            DONE
         }
-        None => NOT_THERE,
+        None => ABSENT,
     }
 }

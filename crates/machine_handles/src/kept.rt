@@ -1,4 +1,4 @@
-//! What stands behind an open handle.
+//! What an open handle keeps.
 ghost use Rattle.std.specs.Prelude.{◌≡◌, is_none};
 
 use machine_core::ShapedMachine;

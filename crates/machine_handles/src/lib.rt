@@ -1,9 +1,11 @@
 //! Machines behind handles, for callers in other languages.
 //!
-//! [`open_machine`] comes first; its caller is the C library. A [`Handle`] is a mark and a pointer;
-//! all zeros are a closed one. Each number, row and length has an answer. Events, answers and parts
-//! go as rows of plain numbers. `kroft.h` has each result, in the order of the checks. After a
-//! refusal all is as it was.
+//! - First call: [`open_machine`], and [`free_machine`] at the end.
+//! - Caller: `kroft_c`.
+//!
+//! A [`Handle`] is a mark and a pointer; all zeros are a closed one. Each number, row and length has
+//! an answer. Events, answers and parts go as rows of plain numbers. `kroft.h` has each result, in
+//! the order of the checks. After a refusal all is as it was.
 #![tactic(auto)]
 
 mod calls;
@@ -19,7 +21,7 @@ mod status;
 mod stepping;
 mod views;
 
-pub use calls::{apply, bank_word, field, pump, register, settled, target, weight};
+pub use calls::{apply, bank_word, field, pump, register, target, weight};
 pub use handle::Handle;
 pub use open::{free_machine, open_machine};
 pub use part_calls::{

@@ -1,6 +1,6 @@
 //! The machine that is opened.
 ghost use Rattle.std.specs.Prelude.{◌≡◌, None, IfOk, OnOk, IfErr, length};
-ghost use Rattle.machine_handles.specs.Made.{opened, fault_in, refused, why};
+ghost use Rattle.machine_handles.specs.Made.{opened, fault_in, why};
 ghost use Rattle.machine_handles.specs.Rows.{sizes_of};
 
 use crate::views::ShapeRow;
@@ -12,10 +12,7 @@ use thiserror::Error;
 /// Why a machine isn't opened.
 #[derive(Clone, Copy, Debug, Error)]
 pub enum OpenFault {
-    /// One of the first four numbers is out of its range.
-    #[error("there is no such machine")]
-    NoSuchMachine,
-    /// The first other one that is.
+    /// The first number that is out of its range.
     #[error("{}", MakeFault::BadShape(*.0))]
     BadShape(ShapeField),
     /// There was too little memory.
@@ -34,20 +31,9 @@ impl From<MakeFault> for OpenFault {
 
     fn from(fault: MakeFault) -> OpenFault {
         match fault {
-            MakeFault::BadShape(field) => refused(field),
+            MakeFault::BadShape(field) => OpenFault::BadShape(field),
             MakeFault::OutOfMemory => OpenFault::OutOfMemory,
         }
-    }
-}
-
-fn refused(field: ShapeField) -> OpenFault
-    ensures { result ≡ refused field }
-{
-    match field {
-        ShapeField::BlockWords | ShapeField::Ways | ShapeField::Regs | ShapeField::Depth => {
-            OpenFault::NoSuchMachine
-        }
-        other => OpenFault::BadShape(other),
     }
 }
 

@@ -14,8 +14,6 @@ use crate::views::ShapeRow;
 use flat_model::{ShapeField, Word};
 use std::alloc::Global;
 
-const NO_SUCH_MACHINE: u32 = 100;
-
 /// A machine is behind the handle already.
 const OPEN_ALREADY: u32 = 102;
 
@@ -94,7 +92,6 @@ fn fault_number(fault: OpenFault) -> u32
     ensures fault { result ≢ 0 }
 {
     match fault {
-        OpenFault::NoSuchMachine => NO_SUCH_MACHINE,
         OpenFault::BadShape(field) => field_number(field),
         OpenFault::OutOfMemory => OUT_OF_MEMORY,
         OpenFault::OpenAlready => OPEN_ALREADY,
@@ -106,18 +103,18 @@ fn field_number(field: ShapeField) -> u32
     ensures fault { result ≢ 0 }
 {
     match field {
-        ShapeField::BlockWords => 1,
-        ShapeField::Ways => 2,
-        ShapeField::Regs => 3,
-        ShapeField::Depth => 4,
-        ShapeField::Words => 5,
-        ShapeField::Sets => 6,
-        ShapeField::Banks => 7,
-        ShapeField::BankQueue => 8,
-        ShapeField::WriteQueue => 9,
-        ShapeField::Replies => 10,
-        ShapeField::Ports => 11,
-        ShapeField::Journal => 12,
-        ShapeField::Image => 13,
+        ShapeField::BlockWords => 111,
+        ShapeField::Ways => 112,
+        ShapeField::Regs => 113,
+        ShapeField::Depth => 114,
+        ShapeField::Words => 115,
+        ShapeField::Sets => 116,
+        ShapeField::Banks => 117,
+        ShapeField::BankQueue => 118,
+        ShapeField::WriteQueue => 119,
+        ShapeField::Replies => 120,
+        ShapeField::Ports => 122,
+        ShapeField::Journal => 123,
+        ShapeField::Image => 121,
     }
 }

@@ -11,7 +11,7 @@ use crate::parts::{
     bank_answer_of, command_of, frame_of, frame_word_of, lookup_of, queue_entry_of, reply_of,
     stack_entry_of,
 };
-use crate::status::{CLOSED, FOUND, NOT_THERE};
+use crate::status::{ABSENT, CLOSED, DONE};
 use flat_judge::AnswerRow;
 use std::alloc::Global;
 
@@ -23,9 +23,9 @@ fn tell<T: Copy>(found: Option<T>, row: &mut T) -> u32
     match found {
         Some(shown) => {
             *row = shown;
-            FOUND
+            DONE
         }
-        None => NOT_THERE,
+        None => ABSENT,
     }
 }
 

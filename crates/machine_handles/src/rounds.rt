@@ -19,9 +19,9 @@ use std::alloc::{AllocError, Global};
 const MOST_REQUESTS: usize = 16_777_216;
 
 /// More requests than that, or no more rounds.
-const TOO_MANY: u32 = 104;
+const TOO_MANY: u32 = 132;
 
-const BAD_LATENCY: u32 = 105;
+const BAD_LATENCY: u32 = 131;
 
 /// A run's counts. Rounds are a schedule, no hardware's time.
 #[repr(C)]
@@ -265,7 +265,7 @@ pub(crate) fn counts_row(table: &Table) -> CountsRow
     }
 }
 
-/// What C is told of a fault.
+/// What C gets of a fault.
 pub(crate) fn rounds_number(fault: RoundsFault) -> u32
     ensures number { result ≡ rounds_number fault }
     ensures fault { result ≢ 0 }

@@ -143,7 +143,7 @@ fn request_in(requests: &[EventRow]) -> Option<Event>
     requests.first().map(request_of)
 }
 
-// What is told of a round.
+// What a round reports.
 fn row_of(round: u64, report: &RoundReport) -> RoundRow
     ensures { result ≡ stepping.row_of round report.now }
 {

@@ -1,7 +1,11 @@
 //! Interleaved banks of memory: word `a` lies in bank `a % banks`, at place `a / banks`.
 //!
-//! [`Banks::new`] comes first; its caller is a machine. A bank serves commands first in, first out,
-//! and keeps its answers until they are taken, in any order. Nothing orders two banks.
+//! - First call: [`Banks::new`], with an image and a shape.
+//! - Caller: `machine_core`. A cache unit reaches banks by the trait [`Lines`] alone.
+//!
+//! A bank serves commands first in, first out ([`Banks::serve`]), and keeps its answers until they
+//! are taken, in any order ([`Banks::take_answer`]). Nothing orders two banks. Within a bank a read
+//! that follows a write of the same word returns what was written.
 #![tactic(auto)]
 
 ghost use Rattle.std.specs.Prelude.{◌≡◌, ◌≢◌, ℕ, ◌+◌, ◌<◌, List, [], ◌∷◌, ◌++◌};

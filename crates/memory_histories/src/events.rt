@@ -11,7 +11,7 @@ pub const MAX_LENGTH: usize = 64;
 ///
 /// An address is that of a byte. An operation has 1 to 64 bytes, in the order of memory, and none of
 /// them lies at 2^64 or beyond. A number is free again once its operation is answered, and loads and
-/// stores have numbers of their own.
+/// stores are numbered apart.
 #[derive(Clone, Copy, Debug)]
 pub enum HistoryEvent<'a> {
     /// A load of `length` bytes from `address` on is requested.

@@ -1,9 +1,12 @@
 //! Histories of a memory: which bytes a load may return, if only requests and responses are seen.
 //!
-//! By the regular law an operation takes effect between the two (`specs/Regular.antt`), and
-//! [`RegularMemory`] judges it; by the flat one at its request (`specs/Flat.antt`), and
-//! [`FlatHistory`] judges it. `new` comes first; the caller passes each event to `step`. After a
-//! fault all is as it was.
+//! - First call: [`RegularMemory::new`] or [`FlatHistory::new`], then `step` for each event.
+//! - Caller: `history_text` and `history_handles`.
+//!
+//! By the regular law an operation takes effect between its request and its response
+//! (`specs/Regular.antt`); by the flat law it does so at its request (`specs/Flat.antt`). After a
+//! fault all is as it was. [`RegularMemory::may_return`] is the set of bytes that an open load may
+//! return now.
 #![tactic(auto)]
 
 mod answered;

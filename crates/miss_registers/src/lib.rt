@@ -1,5 +1,12 @@
-//! The registers that keep what is known of missing blocks (MSHRs). [`RegisterTable`] has them; its
-//! caller is the cache unit.
+//! The registers that keep what is known of missing blocks (MSHRs).
+//!
+//! - First call: [`RegisterTable::new`]. A primary miss takes a register by
+//!   [`RegisterTable::allocate`]; a secondary miss finds it by [`RegisterTable::live_for`].
+//! - Caller: `cache_unit`.
+//!
+//! For each word a register keeps up to four targets (waiting loads), and the lanes that the arriving
+//! word must leave alone. [`RegisterTable::finish_word`] returns the loads when the word comes. Only
+//! `new` allocates.
 #![tactic(auto)]
 
 ghost use Rattle.std.specs.Prelude.{◌≡◌, ◌<◌, ◌≤◌, ◌++◌, [], ◌∷◌, length, slice_get};

@@ -7,7 +7,7 @@ pub enum Format {
     Text,
     /// A table: a line with the names, and a line of figures for each result.
     Csv,
-    /// Objects: one for each result, on a line of its own.
+    /// Objects: one for each result, on one line.
     Json,
 }
 

@@ -1,7 +1,12 @@
-//! Figures and texts with names, for other programs to read: as a row of a table (CSV) and as an object (JSON).
+//! Figures and texts with names, for other programs to read: as a row of a table (CSV) and as an
+//! object (JSON).
 //!
-//! [`Field`] is a [`Figure`] with its name; [`Header`], [`Values`] and [`Object`] write fields. A [`Format`] says how counts are
-//! written, and a [`VerdictFormat`] how a verdict is.
+//! - First call: a [`Field`], which is a [`Figure`] with its name. [`Header`], [`Values`] and
+//!   [`Object`] write fields.
+//! - Caller: `result_formats`, `trace_sheets` and the jobs.
+//!
+//! A [`Format`] says how counts are written, and a [`VerdictFormat`] how a verdict is. All are values
+//! with a `Display`, so nothing allocates.
 #![tactic(auto)]
 
 mod fields;

@@ -1,9 +1,11 @@
 //! Machines of the numbers that a file may say, and sweeps over them: what requests wait for with
 //! several numbers of registers.
 //!
-//! [`sweep`] comes first; its caller has a trace's requests. A thread makes each row.
+//! - First call: [`sweep`]. Its caller has a trace's requests, and a thread makes each row.
+//! - Caller: `kroft_jobs`, and who uses the library ([`sweep_row`] makes one row).
+//!
 //! [`sweep_machines`] takes machines of any numbers, and [`sweep_rounds`] drives them in rounds
-//! where these pump.
+//! where these pump. A [`SweepGate`] may stop a row before it begins.
 #![tactic(auto)]
 
 mod machines;

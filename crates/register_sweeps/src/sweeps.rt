@@ -1,4 +1,4 @@
-//! Sweeps: a row for each machine, by a thread of its own.
+//! Sweeps: a row for each machine, each by its own thread.
 
 ghost use Rattle.std.specs.Prelude.{⊤, ◌≡◌, ◌≢◌, ◌∷◌, [], ◌≤◌, ◌<◌, Bool, length, map, Some, None, Err, IfOk, IfErr, OnOk, true, false};
 ghost use Rattle.std.specs.List.{list_all};

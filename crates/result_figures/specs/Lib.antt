@@ -1,7 +1,6 @@
-pub mod Sizes
+pub mod Marks
 pub mod Scales
-pub mod Elements
-pub mod Looks
-pub mod Plots
 pub mod Sweeps
-pub mod Bars
+pub mod Losses
+pub mod Lives
+pub mod Timelines

@@ -1,138 +1,278 @@
-//! Where the parts of figures lie, in units of `WIDTH` a picture.
+//! Where marks lie, in units of which a figure is 1,280 wide, by how many marks there are.
+
+ghost use Rattle.std.specs.Prelude.{◌≤◌, ◌<◌, ◌^◌};
+
+use crate::mark::{Mark, Scale, Title};
 
 /// How wide each figure is. Text of 30 units is then as large on a screen as 24 points on a slide.
-pub const WIDTH: u128 = 1280;
+pub(crate) const WIDTH: u128 = 1280;
 
-/// A text that has room.
-pub const TEXT_SIZE: u128 = 30;
-
-/// How wide a character is taken to be, whatever the font.
-pub const CHARACTER: u128 = 20;
-
-/// A number's room behind its bar, beside its name or in the table: eight digits.
-pub const NUMBER_ROOM: u128 = 160;
+/// Where titles and notes begin.
+pub(crate) const MARGIN: u128 = 32;
 
 /// How far a text's base line lies below its middle.
-pub const TEXT_SINK: u128 = 10;
+pub(crate) const TEXT_SINK: u128 = 10;
 
-/// The left end of a sweep's plot.
-pub const PLOT_LEFT: u128 = 310;
+/// The left end of each axis.
+pub(crate) const LEFT: u128 = 310;
 
 /// The right end of a sweep's plot.
-pub const PLOT_RIGHT: u128 = 980;
+pub(crate) const PLOT_RIGHT: u128 = 980;
 
 /// The upper end of a sweep's plot.
-pub const PLOT_TOP: u128 = 80;
+pub(crate) const PLOT_TOP: u128 = 140;
 
 /// How high a sweep's plot is.
-pub const PLOT_HEIGHT: u128 = 420;
+pub(crate) const PLOT_HEIGHT: u128 = 420;
 
 /// The lower end of a sweep's plot.
-pub const PLOT_BOTTOM: u128 = PLOT_TOP + PLOT_HEIGHT;
+pub(crate) const PLOT_BOTTOM: u128 = PLOT_TOP + PLOT_HEIGHT;
 
-/// Where the rounds' numbers end.
-pub const TICKS_RIGHT: u128 = 296;
+/// Between two lines of a table or of notes.
+pub(crate) const TEXT_LINE: u128 = 44;
 
-/// Their room.
-pub const TICK_ROOM: u128 = 280;
+// From the first column to the last.
+const FIRST_COLUMN: u128 = 400;
 
-/// The rounds' axis's name.
-pub const ROUNDS_NAME: u128 = 46;
+const COLUMNS_WIDTH: u128 = 540;
 
-/// Where the column of one register lies.
-pub const FIRST_COLUMN: u128 = 400;
+// Of notes of times, side by side.
+const TIMES: u32 = 4;
 
-/// From a column to that of twice the registers.
-pub const COLUMN_WIDTH: u128 = 180;
+/// Where marks lie: what was counted of them.
+#[derive(Clone, Copy)]
+pub(crate) struct Layout {
+    pub(crate) title: Title,
+    pub(crate) scale: Scale,
+    // The numbers at the ends of the axis.
+    pub(crate) least: u128,
+    pub(crate) most: u128,
+    pub(crate) columns: u32,
+    pub(crate) lines: u32,
+    pub(crate) rows: u32,
+    pub(crate) times: u32,
+    pub(crate) omissions: u32,
+}
 
-/// Where a line is tied to its name.
-pub const TIE_LEFT: u128 = 960;
+/// Where bars lie.
+#[derive(Clone, Copy)]
+pub(crate) struct Bars {
+    pub(crate) width: u128,
+    // The middle of the first row, and the distance of two.
+    pub(crate) first: u128,
+    pub(crate) line: u128,
+    pub(crate) height: u128,
+    // Of a number of the axis.
+    pub(crate) room: u128,
+    pub(crate) name: &'static str,
+}
 
-/// Where the tie ends.
-pub const TIE_RIGHT: u128 = 1020;
+const LOSS_BARS: Bars = Bars {
+    width: 420,
+    first: 110,
+    line: 62,
+    height: 38,
+    room: 130,
+    name: "lost rounds",
+};
 
-/// Where the names of lines begin.
-pub const NAMES_LEFT: u128 = 1030;
+const ROUND_BARS: Bars = Bars {
+    width: 750,
+    first: 160,
+    line: 44,
+    height: 26,
+    room: 118,
+    name: "rounds",
+};
 
-/// A name's room: twelve characters.
-pub const NAME_ROOM: u128 = 240;
+const EVENT_BARS: Bars = Bars {
+    name: "events",
+    ..ROUND_BARS
+};
 
-/// The least distance of two names.
-pub const NAMES_APART: u128 = 40;
+impl Layout {
+    /// Of no marks.
+    pub(crate) fn new() -> Layout {
+        Layout {
+            title: Title::Registers,
+            scale: Scale::Linear,
+            least: u128::MAX,
+            most: 0,
+            columns: 0,
+            lines: 0,
+            rows: 0,
+            times: 0,
+            omissions: 0,
+        }
+    }
 
-/// The table's head: the numbers of registers.
-pub const TABLE_HEAD: u128 = PLOT_BOTTOM + 44;
+    /// One mark more.
+    pub(crate) fn add(&mut self, mark: &Mark) {
+        match *mark {
+            Mark::Title(title) => self.title = title,
+            Mark::Axis(scale) => self.scale = scale,
+            Mark::Tick(value) => {
+                self.least = self.least.min(value);
+                self.most = self.most.max(value);
+            }
+            Mark::Column(_) => self.columns = self.columns.saturating_add(1),
+            Mark::Line(_) => self.lines = self.lines.saturating_add(1),
+            Mark::Times(_) => self.times = self.times.saturating_add(1),
+            Mark::Omitted(_) => self.omissions = self.omissions.saturating_add(1),
+            Mark::Cause(_) | Mark::Request(_) => self.rows = self.rows.saturating_add(1),
+            Mark::Machine(_) if self.is_timeline() => self.rows = self.rows.saturating_add(1),
+            _ => {}
+        }
+    }
 
-/// Between two lines of the table.
-pub const TABLE_LINE: u128 = 44;
+    /// Whether its rows are requests.
+    pub(crate) fn is_timeline(&self) -> bool {
+        match self.title {
+            Title::Rounds | Title::Events => true,
+            Title::Registers | Title::Losses => false,
+        }
+    }
 
-/// Where the marks of the table lie.
-pub const TABLE_MARKS: u128 = 32;
+    /// Where its bars lie.
+    pub(crate) fn bars(&self) -> Bars {
+        match self.title {
+            Title::Registers | Title::Losses => LOSS_BARS,
+            Title::Rounds => ROUND_BARS,
+            Title::Events => EVENT_BARS,
+        }
+    }
 
-/// Where the names of the table begin.
-pub const TABLE_NAMES: u128 = 60;
+    /// How far along an axis of this length a value lies.
+    pub(crate) fn along(&self, value: u128, length: u128) -> u128
+        requires { length < 2 ^ 16 }
+        ensures { result ≤ length }
+    {
+        match self.scale {
+            Scale::Linear => share(value, self.most, length),
+            Scale::Logarithmic => {
+                let least = log2(self.least);
+                let whole = log2(self.most).saturating_sub(least);
+                share(log2(value).saturating_sub(least), whole, length)
+            }
+        }
+    }
 
-/// What is free below the table.
-pub const TABLE_FOOT: u128 = 28;
+    /// Where a column lies, and its numbers' room.
+    pub(crate) fn column(&self, place: u32) -> (u128, u128) {
+        if self.columns < 2 {
+            return (FIRST_COLUMN + COLUMNS_WIDTH / 2, 160);
+        }
+        let spaces = u128::from(self.columns) - 1;
+        let x = FIRST_COLUMN + COLUMNS_WIDTH * u128::from(place) / spaces;
+        (
+            x,
+            (COLUMNS_WIDTH / spaces).saturating_sub(8).max(8).min(160),
+        )
+    }
 
-/// Where the names of causes end.
-pub const CAUSES_RIGHT: u128 = 290;
+    /// The middle of a row.
+    pub(crate) fn row(&self, place: u32) -> u128
+        ensures { result < 2 ^ 64 }
+    {
+        let bars = self.bars();
+        bars.first.min(WIDTH) + bars.line.min(WIDTH) * u128::from(place)
+    }
 
-/// Where bars begin.
-pub const BARS_LEFT: u128 = 310;
+    /// Where the axis of bars lies.
+    pub(crate) fn axis(&self) -> u128
+        ensures { result < 2 ^ 64 }
+    {
+        self.row(self.rows).saturating_sub(self.bars().line / 4)
+    }
 
-/// How long the longest bar is.
-pub const BARS_WIDTH: u128 = 420;
+    /// The base line of a line of the table; 0 is its head.
+    pub(crate) fn table(&self, place: u32) -> u128
+        ensures { result < 2 ^ 64 }
+    {
+        PLOT_BOTTOM + TEXT_LINE + TEXT_LINE * u128::from(place)
+    }
 
-/// Where the axis of the bars ends.
-pub const BARS_RIGHT: u128 = BARS_LEFT + BARS_WIDTH;
+    // The base line of the first note.
+    fn foot(&self) -> u128
+        ensures { result < 2 ^ 65 }
+    {
+        match self.title {
+            Title::Registers => self.table(self.lines) + TEXT_LINE + 16,
+            _ => self.axis() + 2 * TEXT_LINE + 8,
+        }
+    }
 
-/// The upper end of the bars' plot.
-pub const BARS_UPPER: u128 = 16;
+    /// The base line of a note, counted from 0.
+    pub(crate) fn note(&self, place: u32) -> u128
+        ensures { result < 2 ^ 66 }
+    {
+        self.foot() + TEXT_LINE * u128::from(place)
+    }
 
-/// The first bar's middle.
-pub const BARS_TOP: u128 = 60;
+    // How many notes there are of a machine that has no rows.
+    fn machines(&self) -> u32
+        ensures { result ≤ 1 }
+    {
+        if self.is_timeline() { 0 } else { 1 }
+    }
 
-/// Between the middles of two bars.
-pub const BAR_LINE: u128 = 62;
+    /// Where times of memory are noted.
+    pub(crate) fn times_at(&self, place: u32) -> (u128, u128) {
+        let x = MARGIN + 304 * u128::from(place % TIMES);
+        (x, self.note(self.machines() + place / TIMES))
+    }
 
-/// How high a bar is.
-pub const BAR_HEIGHT: u128 = 38;
+    /// Which note an omission is.
+    pub(crate) fn omission_note(&self, place: u32) -> u32 {
+        let full = self.times / TIMES;
+        let times = if self.times % TIMES == 0 {
+            full
+        } else {
+            full + 1
+        };
+        place.saturating_add(self.machines() + times)
+    }
 
-/// From a bar to its number.
-pub const BAR_GAP: u128 = 12;
+    /// How high the figure is.
+    pub(crate) fn height(&self) -> u128
+        ensures { result < 2 ^ 67 }
+    {
+        self.note(self.omission_note(self.omissions))
+    }
+}
 
-/// Where the axis of the bars lies.
-pub const BARS_BOTTOM: u128 = 480;
+// A share of a length.
+fn share(part: u128, whole: u128, length: u128) -> u128
+    requires { length < 2 ^ 16 }
+    ensures { result ≤ length }
+{
+    let part = part.min(whole).min(MOST);
+    (part * length / whole.max(1)).min(length)
+}
 
-/// Where its numbers stand.
-pub const BAR_TICKS: u128 = 520;
+// No number of an axis is greater.
+const MOST: u128 = 1_000_000_000_000_000_000_000;
 
-/// 20 less than a third of the axis.
-pub const BAR_TICK_ROOM: u128 = BARS_WIDTH / 3 - 20;
+// 2^40, as the number that a mantissa begins with.
+const ONE: u128 = 1_099_511_627_776;
 
-/// Where its name stands.
-pub const BARS_NAME: u128 = 570;
-
-/// How high the figure of bars is.
-pub const BARS_FIGURE: u128 = 600;
-
-/// Where the names of counts begin.
-pub const COUNTS_LEFT: u128 = 920;
-
-/// Where counts end.
-pub const COUNTS_RIGHT: u128 = 1270;
-
-/// The style: lines are seen from the last row of seats.
-pub const STYLE: &str = "<style>
-text { font: 30px Arial, 'Liberation Sans', Helvetica, sans-serif; fill: #111; }
-.end { text-anchor: end; }
-.middle { text-anchor: middle; }
-.grid { stroke: #ccc; stroke-width: 2; }
-.axis { fill: none; stroke: #111; stroke-width: 3; }
-.line { fill: none; stroke-width: 6; }
-.tie { stroke-width: 3; stroke-dasharray: 6 6; }
-.mark { stroke: #fff; stroke-width: 2; }
-.bar { fill: #0072b2; }
-</style>
-";
+// The logarithm of a number to base 2, in 256ths.
+fn log2(value: u128) -> u128 {
+    let mut mantissa = value.max(1).min(MOST) * ONE;
+    let mut result: u128 = 0;
+    for _place in 0..80 {
+        if mantissa >= 2 * ONE {
+            mantissa /= 2;
+            result = result.saturating_add(1);
+        }
+    }
+    for _place in 0..8 {
+        mantissa = mantissa.saturating_mul(mantissa) / ONE;
+        result = result.saturating_mul(2);
+        if mantissa >= 2 * ONE {
+            mantissa /= 2;
+            result = result.saturating_add(1);
+        }
+    }
+    result
+}

@@ -1,11 +1,13 @@
 -- What became of a history, by names.
 use Rattle.std.specs.Prelude.{ℕ, Bool, true, false, Option, Some, None, List, [], ◌∷◌, ◌++◌, codes}
-use Rattle.atomic_histories.specs.Judge.{bytes_of}
+use Rattle.history_sessions.specs.Words.{bytes_of}
 use Rattle.named_fields.specs.Formats.{Named, named, absent, counted, counted_if, worded, written, bytes, verdict_in}
 use Rattle.named_fields.specs.declared.figures.Figure.TheVariants.{OfByte}
 use Rattle.named_fields.specs.declared.format.VerdictFormat.{VerdictFormat}
-use Rattle.history_text.specs.Answers.{bytes_in_set, alternatives_text, law_text, kind_text, end_text}
-use Rattle.history_text.specs.Choice.{name_of}
+use Rattle.history_sessions.specs.History.{name_of, law_text}
+use Rattle.history_sessions.specs.declared.judge.HistoryLaw.{HistoryLaw}
+use Rattle.history_sessions.specs.declared.judge.HistoryLaw.TheVariants.{Atomic}
+use Rattle.history_text.specs.Answers.{bytes_in_set, alternatives_text, kind_text, end_text}
 use Rattle.history_text.specs.declared.answers.Refusal.{Refusal}
 use Rattle.history_text.specs.declared.answers.OverwrittenByte.{OverwrittenByte}
 use Rattle.history_text.specs.declared.answers.RefusalCause.{RefusalCause}
@@ -13,8 +15,6 @@ use Rattle.history_text.specs.declared.answers.RefusalCause.TheVariants.{OutOfRa
 use Rattle.history_text.specs.declared.answers.RefusalCause.TheVariants.{WrongByte, NoMoment}
 use Rattle.history_text.specs.declared.answers.HistoryEnd.{HistoryEnd}
 use Rattle.history_text.specs.declared.answers.HistoryEnd.TheVariants.{OfLaw, Refused, Undecided}
-use Rattle.history_text.specs.declared.laws.HistoryLaw.{HistoryLaw}
-use Rattle.history_text.specs.declared.laws.HistoryLaw.TheVariants.{Atomic}
 
 -- ---- the law
 

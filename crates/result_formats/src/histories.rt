@@ -3,7 +3,8 @@
 ghost use Rattle.std.specs.Prelude.{◌≡◌, map, IfOk, string_bytes};
 ghost use Rattle.std.specs.Option.{option_copied};
 ghost use Rattle.named_fields.specs.Formats.{object_text, said};
-ghost use Rattle.history_text.specs.Answers.{law_text, kind_text};
+ghost use Rattle.history_sessions.specs.History.{law_text};
+ghost use Rattle.history_text.specs.Answers.{kind_text};
 ghost use Rattle.result_formats.specs.Histories as histories;
 
 use arrayvec::ArrayVec;
@@ -234,7 +235,7 @@ fn allowed_in(cause: Option<&RefusalCause>) -> ArrayVec<u8, 256>
     }
 }
 
-// Whether it is told which bytes the load may return.
+// Whether it says which bytes the load may return.
 fn is_wrong_byte(cause: Option<&RefusalCause>) -> bool
     ensures { result ≡ histories.is_wrong_byte (option_copied cause.entry) }
 {
@@ -244,7 +245,7 @@ fn is_wrong_byte(cause: Option<&RefusalCause>) -> bool
     }
 }
 
-// The bytes that it may return as a field, if they are told.
+// The bytes that it may return as a field, if it says them.
 fn may_field(is_told: bool, allowed: &[u8]) -> Field<'_>
     ensures { said result ≡ histories.may_told is_told allowed.now }
 {

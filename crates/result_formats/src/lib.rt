@@ -1,14 +1,16 @@
-//! What the program counts and finds, for other programs to read: figures with names, as a table (CSV) and as objects (JSON).
+//! What the program counts and finds, for other programs to read: figures with names, as a table
+//! (CSV) and as objects (JSON).
 //!
-//! [`TableIn`], [`RoundsIn`], [`LatencyIn`] and [`PumpsIn`] write a table of rounds and the rows of a sweep in a
-//! [`Format`](named_fields::Format), and [`DetailsIn`] the details of a run. The names are those of the text.
+//! - First call: [`TableIn`], [`RoundsIn`], [`LatencyIn`] or [`PumpsIn`] with a
+//!   [`Format`](named_fields::Format); [`DetailsIn`] has the details of a run.
+//! - Caller: `kroft_jobs` and `kroft_command`.
 //!
-//! Among a run's details are its accesses. The run tells what became of each request ([`round_driver::Outcome`]), and a
-//! log which requests are of one access ([`access_logs::AccessGroup`]). [`count_accesses`] counts the accesses by these:
-//! each is as its worst word.
+//! The names are those of the text. Among a run's details are its accesses: the run tells what became
+//! of each request ([`round_driver::Outcome`]), and a log which requests are of one access
+//! ([`access_logs::AccessGroup`]). [`count_accesses`] counts each as its worst word.
 //!
-//! [`ExplanationIn`] writes why a recorded run is none of flat memory, and [`history_in`] what became of a history, each
-//! without its line's end. The text is the one that people read, and the fields say what it says.
+//! [`ExplanationIn`] writes why a recorded run is none of flat memory, and [`history_in`] what became
+//! of a history, each without its line's end.
 #![tactic(auto)]
 
 mod accesses;

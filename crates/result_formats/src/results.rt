@@ -28,7 +28,7 @@ impl fmt::Display for TableIn {
     }
 }
 
-/// The names of a table's figures as a line of its own, if the format has one.
+/// The names of a table's figures as one line, if the format has one.
 #[derive(Clone, Copy)]
 pub struct TableHead(pub Format);
 
@@ -64,7 +64,7 @@ impl fmt::Display for RoundsIn {
     }
 }
 
-/// The names of such a row's figures as a line of its own, if the format has one.
+/// The names of such a row's figures as one line, if the format has one.
 #[derive(Clone, Copy)]
 pub struct RoundsHead(pub Format);
 
@@ -102,7 +102,7 @@ impl fmt::Display for LatencyIn {
     }
 }
 
-/// The names of such a row's figures as a line of its own, if the format has one.
+/// The names of such a row's figures as one line, if the format has one.
 #[derive(Clone, Copy)]
 pub struct LatencyHead(pub Format);
 
@@ -138,7 +138,7 @@ impl fmt::Display for PumpsIn {
     }
 }
 
-/// The names of such a row's figures as a line of its own, if the format has one.
+/// The names of such a row's figures as one line, if the format has one.
 #[derive(Clone, Copy)]
 pub struct PumpsHead(pub Format);
 

@@ -13,7 +13,7 @@ use std::fmt;
 pub enum By {
     /// Each number: 0, 1, 2, 3, ..
     Number,
-    /// Powers of two: 0, 1, 2 and 3, 4 to 7, .., of which each is told by its least number.
+    /// Powers of two: 0, 1, 2 and 3, 4 to 7, .., each named by its least number.
     Doubling,
 }
 

@@ -1,6 +1,12 @@
-//! A station on threads of its own: ports, a cache side and banks, joined by rings alone, without a lock. First
-//! call: [`run_threads`], which audits the journal too; [`run_and_renew`] and [`run_in_segments`] hand it out.
-//! The caller brings the scripts.
+//! A station on threads: ports, a cache side and banks, joined by rings alone, without a lock.
+//!
+//! - First call: [`run_threads`], which audits the journal too; [`run_and_renew`] and
+//!   [`run_in_segments`] hand it out.
+//! - Caller: who has a list of asks for each port; `station_tour` is the example.
+//!
+//! A thread serves each port, the cache side and each bank until its part is done, or a limit or a
+//! [`Gate`] ends it. A [`Run`] says how each thread ended, what each port took and what the audit
+//! found. Time and fairness aren't promised.
 #![tactic(auto)]
 
 mod bank_thread;

@@ -91,7 +91,7 @@ pub(crate) fn most_rounds(machine: &ShapedMachine, latency: u64, requests: usize
 ///
 /// `TraceFault::Write`: a write was refused or took no byte; a front of the run is written.
 /// `TraceFault::OutOfMemory`: too little memory for the lines of a round; the run before it is
-/// written. No other fault comes. The machine then stands behind the round whose lines weren't all
+/// written. No other fault comes. The machine is then as after the round whose lines weren't all
 /// written.
 pub fn drive_with<W: Sink>(
     alloc: Global,

@@ -1,7 +1,8 @@
 //! Requests driven through a machine in rounds: a schedule, and no hardware's time.
 //!
-//! [`drive`] writes a run, [`summarize`] and [`detail_with`] count it; their caller has all
-//! requests at hand. [`Rounds`] makes one round at a time for a caller who hasn't.
+//! - First call: [`drive`] writes a run; [`summarize`] and [`detail_with`] count it. [`Rounds`] makes
+//!   one round at a time for a caller who doesn't have all requests at hand.
+//! - Caller: `kroft_jobs`, `register_sweeps` and `machine_handles`.
 //!
 //! A round makes these steps. Each bank, by number, begins a waiting command if it isn't busy, and
 //! serves its oldest one begun `latency` rounds before. An answer arrives from the next bank that

@@ -1,4 +1,4 @@
-//! Events of a run as they are told.
+//! Events of a run as they are reported.
 
 use flat_model::{Answer, Event};
 use machine_core::Lookup;

@@ -18,7 +18,7 @@ use std::marker::Model;
 /// The most rounds that one [`Rounds`] makes: 2^48.
 pub const MOST_ROUNDS: u64 = 281_474_976_710_656;
 
-/// What is told of a round.
+/// What a round reports.
 #[derive(Clone, Copy, PartialEq, Eq, Debug)]
 pub struct RoundReport {
     /// The request that was offered, if any.

@@ -1,8 +1,9 @@
 //! The machine at each event of a trace, drawn.
 //!
-//! [`show_text`] comes first: it reads a trace or a recorded run, and applies its events to a
-//! machine. It draws that before the first and behind each, as a page of HTML, as lines for a
-//! terminal, or as a waveform. Its caller is `kroft_jobs`.
+//! - First call: [`show_text`] reads a trace or a recorded run, and applies its events to a machine.
+//!   It draws that before the first and behind each: as a page of HTML, as lines for a terminal, or
+//!   as a waveform ([`Form`]).
+//! - Caller: `kroft_jobs`.
 //!
 //! A picture is a row of [`Place`]s, each with its text: a register, a word of a frame, an entry of
 //! a queue. All of it is what a machine shows of its state. [`words_by`] says what a step did, or

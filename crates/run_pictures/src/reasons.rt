@@ -16,7 +16,7 @@ use std::alloc::{AllocError, Global};
 /// What an event did, or why it didn't, as a sentence without full stop.
 ///
 /// It speaks of the machine before the event: [`Before::new`] reads `before` there. `machine`
-/// stands behind the event, which it answered with `answer`. The sentence has the numbers that it
+/// has had the event, which it answered with `answer`. The sentence has the numbers that it
 /// rests on, as the block or the free places. `AllocError`: too little memory.
 pub fn words_by(
     alloc: Global,

@@ -79,7 +79,7 @@ impl From<TraceFault> for ShowFault {
 /// [`read_requests`](trace_text::read_requests).
 ///
 /// No event is applied before all are read, so after `Trace` and `TooManyEvents` the machine is as
-/// it was. After `OutOfMemory` it stands behind some first events.
+/// it was. After `OutOfMemory` it has had some first events.
 pub fn show_text<R: Source>(
     alloc: Global,
     reader: &mut R,

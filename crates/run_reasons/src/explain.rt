@@ -50,7 +50,7 @@ impl fmt::Display for Explanation {
 }
 
 impl Explaining {
-    // What is told where the reading stopped at a line.
+    // What is said where the reading stopped at a line.
     fn told(&self) -> Result<Explanation, TraceFault>
         ensures { result ≡ explained_by self.now.mismatch }
     {

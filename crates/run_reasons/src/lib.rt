@@ -1,8 +1,8 @@
 //! Why a recorded run is none of flat memory.
 //!
-//! [`explain_text`] comes first: it reads a served trace up to the first line that flat memory
-//! can't answer, and says why. Its callers are `kroft_jobs` and `result_formats`. [`Explainer`]
-//! does the same for a run that is in no text.
+//! - First call: [`explain_text`] reads a served trace up to the first line that flat memory can't
+//!   answer, and says why. [`Explainer`] does the same for a run that is in no text.
+//! - Caller: `kroft_jobs` and `result_formats`.
 //!
 //! For each byte the line of its last store is kept, and of each value it had the last overwriting.
 //! A byte has at most 256 values, so a run may be of any length. Words that stores left at words of

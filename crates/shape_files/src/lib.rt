@@ -1,8 +1,12 @@
-//! Files of a machine's numbers, each a TOML table of whole numbers. A shape file leaves the words
-//! of a block and the places of the stack fixed; a machine file has all numbers.
+//! Files of a machine's numbers, each a TOML table of whole numbers.
 //!
-//! [`read_shape`] and [`read_machine`] come first. The callers are `kroft_command` and
-//! `register_sweeps`.
+//! - First call: [`read_shape`] or [`read_machine`], over a file's text.
+//! - Caller: `kroft_command` and `register_sweeps`.
+//!
+//! A shape file leaves the words of a block and the places of the stack fixed, and each number it
+//! leaves out has a default ([`DEFAULT_SHAPE`]); a machine file has all numbers. A
+//! [`ShapeFault`] names the first key that is wrong. [`shape_of_table`] takes a table that is read
+//! already.
 #![tactic(auto)]
 
 mod machine_file;

@@ -32,7 +32,7 @@ pub const MACHINE_FIELDS: [ShapeField; 10] = [
     ShapeField::Replies,
 ];
 
-/// Bytes of an unknown key that are told at most.
+/// Bytes of an unknown key that are written at most.
 pub const MAX_TOLD_KEY: usize = 64;
 
 /// Why a machine file is refused.

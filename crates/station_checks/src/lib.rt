@@ -1,6 +1,11 @@
-//! What the ports of a tour ask, and what is found of a run behind it, with its texts. First [`ScriptParts`]
-//! draws the asks of a [`Plan`]; [`Findings`] and [`tell_story`] come behind the run. Its caller runs the
-//! station.
+//! What the ports of a tour ask, and what is found of a run behind it, with its texts.
+//!
+//! - First call: [`ScriptParts::new`] draws the asks of a [`Plan`]. [`Findings`] and [`tell_story`]
+//!   come behind the run.
+//! - Caller: `station_tour`, which runs the station between the two.
+//!
+//! [`Findings`] are what the audit found, whether the journal is a run of flat memory, and whether
+//! each port took what the journal says.
 #![tactic(auto)]
 
 mod checks;

@@ -1,4 +1,4 @@
-//! What a run is told by.
+//! The texts of a run.
 ghost use Rattle.std.specs.Prelude.{◌≡◌, ◌+◌, length, min, take, drop, flat_map, OnOk};
 ghost use Rattle.std.specs.List.{slice_get};
 ghost use Rattle.std.specs.Io.KnownBytes.{Appends};

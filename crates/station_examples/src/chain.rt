@@ -1,4 +1,4 @@
-//! A caller with threads of its own over the parts of a station. It has no script: the value that it took is
+//! A caller with its own threads over the parts of a station. It has no script: the value that it took is
 //! the address that it asks for next.
 ghost use Rattle.std.specs.Prelude.{◌≡◌, ℕ, ◌∷◌, [], List};
 ghost use Rattle.station_journal.specs.declared.asks.Told.{Told};

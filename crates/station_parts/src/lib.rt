@@ -1,8 +1,11 @@
-//! The parts of a station: ports, the cache side and bank sides, joined by rings. Its first call is
-//! [`station`].
+//! The parts of a station: ports, the cache side and bank sides, joined by rings.
 //!
-//! Its caller steps the parts, by hand or on threads. The cache side keeps a journal of what it did. [`audit`]
-//! has all parts in hand: the journal is then known to be a run of flat memory. [`renew`] hands it out.
+//! - First call: [`station`] makes them all.
+//! - Caller: who steps the parts by hand, or `ring_station`, which gives each a thread.
+//!
+//! The cache side keeps a journal of what it did. [`audit`] has all parts in hand: the journal is
+//! then known to be a run of flat memory. [`renew`] hands it out and begins a new one. A step with a
+//! [`Look`] may leave rings unread; without one it looks at all.
 #![tactic(auto)]
 
 mod asking;

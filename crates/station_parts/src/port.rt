@@ -15,7 +15,7 @@ pub const ASK_PLACES: usize = 16;
 /// Tellings in a port's ring, at most.
 pub const TELLING_PLACES: usize = 64;
 
-/// One who asks the cache over one ring, and is told over another.
+/// A requester: it asks over one ring and gets its verdicts and values over another.
 #[derive(Drop)]
 pub struct Port {
     pub(crate) asks: Producer<Ask>,

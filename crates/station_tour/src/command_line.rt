@@ -220,7 +220,7 @@ fn subcommands<'a>(alloc: Global) -> Result<Vec<Command<'a>>, AllocError> {
 // The command line without its arguments.
 fn base<'a>(alloc: Global) -> Result<Command<'a>, AllocError> {
     Command::new(alloc, NAME)
-        .version("0.1.0")
+        .version("0.2.0")
         .about("Ports on threads over one lockup-free cache, and an audit of what they were told")
         .after_help(NOTES)
         .no_binary_name(true)

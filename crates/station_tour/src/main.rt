@@ -1,5 +1,10 @@
 //! Stations: a tour of one, with what its ports were told and the audit found; a soak of many at
 //! random; and how many asks a second are served.
+//!
+//! - First call: `main`.
+//! - Caller: the shell, by `./kroft-station`, and `./test` for the soak.
+//!
+//! The tour writes what the run's findings are, and that is proved. Rates are measured only.
 #![tactic(auto)]
 
 ghost use Rattle.std.specs.Prelude.{◌≡◌, ◌≤◌, true, IfOk};

@@ -1,4 +1,4 @@
-//! A tour: a plan's ports on threads over one cache, and what is told of them. A long one is cut
+//! A tour: a plan's ports on threads over one cache, and their story. A long one is cut
 //! into segments; behind each the station is renewed.
 
 ghost use Rattle.std.specs.Prelude.{◌≡◌, ◌≤◌, ◌-◌, ◌/◌, max, min, true, length, vec_len, is_some, Some, IfOk, OnOk, IfNone};

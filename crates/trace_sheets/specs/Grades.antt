@@ -12,15 +12,18 @@ use Rattle.trace_text.specs.declared.lines.Line.TheVariants as line
 use Rattle.trace_text.specs.declared.lines.LineFault.{LineFault}
 use Rattle.named_fields.specs.declared.format.Format.{Format}
 use Rattle.run_pictures.specs.Words.{seen, words_by, step_words}
-use Rattle.trace_text.specs.Reading.{FirstLine, ReadInto, ReadWhole, ReadStops, ReadFails}
+use Rattle.trace_text.specs.Reading.{FirstLine}
 use Rattle.trace_text.specs.declared.fault.TheConstants.{MAX_PAIR}
 use Rattle.trace_text.specs.declared.fault.TraceFault.{TraceFault}
 use Rattle.trace_text.specs.declared.fault.TraceFault.TheVariants.{OutOfMemory}
+use Rattle.trace_sheets.specs.Ends.{SheetRead, SheetInto, SheetStops, SheetFails}
 use Rattle.trace_sheets.specs.Sheets.{is_open, is_prediction, without_blanks, SheetLine, sheet_line, sheet_fault}
 use Rattle.trace_sheets.specs.Forms.{answers_text, full_answer, full_text, told, grade_head, score_in}
 use Rattle.trace_sheets.specs.declared.grade.Grade.{Grade}
 use Rattle.trace_sheets.specs.declared.came.Came.{Came}
 use Rattle.trace_sheets.specs.declared.came.Came.TheVariants.{Answered, Shown}
+use Rattle.trace_sheets.specs.declared.score.Marking.{Marking}
+use Rattle.trace_sheets.specs.declared.score.Marking.TheVariants.{Lenient, Strict}
 use Rattle.trace_sheets.specs.declared.score.Mark.{Mark}
 use Rattle.trace_sheets.specs.declared.score.Mark.TheVariants.{Right, Wrong, Open}
 use Rattle.trace_sheets.specs.declared.score.Score.{Score}
@@ -43,13 +46,14 @@ why_of m line.Settled = None
 
 -- ---- a prediction
 
--- whether what is predicted is what came, in full or without what the request found
-abbrev pub is_right : Came → List ℕ → Bool
-is_right (Answered event answer before) said = same said (answer_text answer) || same said (full_answer answer before.found)
-is_right (Shown text) said = same said text
+-- whether what is predicted is what came, in full; or without what the request found, if that isn't asked
+abbrev pub is_right : Came → Marking → List ℕ → Bool
+is_right (Answered event answer before) Lenient said = same said (answer_text answer) || same said (full_answer answer before.found)
+is_right (Answered event answer before) Strict said = same said (full_answer answer before.found)
+is_right (Shown text) marking said = same said text
 
-abbrev pub mark_of : Came → List ℕ → Mark
-mark_of came said = if is_open said then Open else if is_right came said then Right else Wrong
+abbrev pub mark_of : Marking → Came → List ℕ → Mark
+mark_of marking came said = if is_open said then Open else if is_right came marking said then Right else Wrong
 
 -- Why it is told: why it came; or what may be predicted, if a prediction can't be read.
 abbrev pub why_for : MachineState → Line → List ℕ → Option (List ℕ)
@@ -67,8 +71,8 @@ pub record Asked : Type 0 where
 abbrev pub asked_of : ℕ → MachineState → List ℕ → Line → List ℕ → Asked
 asked_of n m text line said = record { number = n; text = text; said = said; came = came_of m line; why = why_for m line said }
 
-abbrev pub mark : Asked → Mark
-mark a = mark_of a.came a.said
+abbrev pub mark : Marking → Asked → Mark
+mark marking a = mark_of marking a.came a.said
 
 abbrev pub told_if : Mark → List ℕ → List ℕ
 told_if Right text = []
@@ -76,8 +80,8 @@ told_if Wrong text = text
 told_if Open text = []
 
 -- what is told of a prediction: nothing, unless it is wrong
-abbrev pub correction : Format → Asked → List ℕ
-correction format a = told_if (mark a) (told format a.number a.text a.said (full_text a.came) a.why)
+abbrev pub correction : Format → Marking → Asked → List ℕ
+correction format marking a = told_if (mark marking a) (told format a.number a.text a.said (full_text a.came) a.why)
 
 -- ---- a sheet
 
@@ -120,31 +124,31 @@ score_of [] = no_score
 score_of (mark ∷ marks) = with_mark (score_of marks) mark
 
 -- what is told of the wrong predictions, and how many are right, wrong and open
-pub record Graded (format : Format) (m : MachineState) (texts : List (List ℕ)) (m' : MachineState) (report : List ℕ)
-    (score : Score) : Type 0 where
+pub record Graded (format : Format) (marking : Marking) (m : MachineState) (texts : List (List ℕ)) (m' : MachineState)
+    (report : List ℕ) (score : Score) : Type 0 where
   pub state : m' ≡ after_texts m texts
-  pub told : report ≡ flat_map (correction format) (asked m texts)
-  pub marks : score ≡ score_of (map mark (asked m texts))
+  pub told : report ≡ flat_map (correction format marking) (asked m texts)
+  pub marks : score ≡ score_of (map (mark marking) (asked m texts))
 
 -- what becomes of a sheet: it is read to its end and graded, or it has a fault
-abbrev pub SheetEnds : {R : Type 0} (gave : R → List ℕ → R → Type 0) (failed : R → R → Type 0) (format : Format) (r r' : R)
-    (m m' : MachineState) → Result Grade TraceFault → Type 0
-SheetEnds gave failed format r r' m m' (Ok grade) =
-    (texts : List (List ℕ)) × ReadWhole gave sheet_fault MAX_PAIR r r' texts × Graded format m texts m' grade.report.items grade.score
-SheetEnds gave failed format r r' m m' (Err fault) = ReadFails gave failed sheet_fault MAX_PAIR r r' fault
+abbrev pub SheetEnds : {R : Type 0} (gave : R → List ℕ → R → Type 0) (failed : R → R → Type 0) (format : Format) (marking : Marking)
+    (r r' : R) (m m' : MachineState) → Result Grade TraceFault → Type 0
+SheetEnds gave failed format marking r r' m m' (Ok grade) =
+    (texts : List (List ℕ)) × SheetRead gave r r' texts × Graded format marking m texts m' grade.report.items grade.score
+SheetEnds gave failed format marking r r' m m' (Err fault) = SheetFails gave failed r r' fault
 
 -- Where the machine is left if memory is missing: where it stood, with nothing read; or behind a line that was read, of which
 -- a wrong prediction isn't told.
 abbrev pub LacksMemory : {R : Type 0} (gave : R → List ℕ → R → Type 0) (r r' : R) (m m' : MachineState) → Type 0
 LacksMemory gave r r' m m' = ((r' ≡ r) × (m' ≡ m)) ⊎
-    ((texts : List (List ℕ)) × (rest : List ℕ) × ReadInto gave sheet_fault MAX_PAIR r r' texts rest ×
+    ((texts : List (List ℕ)) × (rest : List ℕ) × SheetInto gave r r' texts rest ×
     FirstLine sheet_fault MAX_PAIR (λ text. m' ≡ after_texts m (texts ++ text ∷ [])) rest)
 
 -- Where a fault leaves the machine: behind the good lines before it, or where want of memory leaves it.
 abbrev pub LeavesBehind : {R : Type 0} (gave : R → List ℕ → R → Type 0) (failed : R → R → Type 0) (r r' : R) (m m' : MachineState)
     → TraceFault → Type 0
 LeavesBehind gave failed r r' m m' fault =
-    ((texts : List (List ℕ)) × ReadStops gave failed sheet_fault MAX_PAIR r r' texts fault × (m' ≡ after_texts m texts)) ⊎
+    ((texts : List (List ℕ)) × SheetStops gave failed r r' texts fault × (m' ≡ after_texts m texts)) ⊎
     ((fault ≡ OutOfMemory) × LacksMemory gave r r' m m')
 
 -- no prediction is wrong: what is open isn't
@@ -167,10 +171,11 @@ abbrev pub why_told : MachineState → Came → (is_readable : Bool) → Option 
 why_told m came is_readable = if is_readable then why_behind m came else Some (answers_text came)
 
 -- one line more, of this number, which says this
-abbrev pub GradesOne : Format → ℕ → MachineState → List ℕ → Option SheetLine → List ℕ → Score → MachineState → List ℕ → Score → Type 0
-GradesOne format number m text None report score m' report' score' = (m' ≡ m) × (report' ≡ report) × (score' ≡ score)
-GradesOne format number m text (Some (line, None)) report score m' report' score' =
+abbrev pub GradesOne : Format → Marking → ℕ → MachineState → List ℕ → Option SheetLine → List ℕ → Score → MachineState → List ℕ → Score
+    → Type 0
+GradesOne format marking number m text None report score m' report' score' = (m' ≡ m) × (report' ≡ report) × (score' ≡ score)
+GradesOne format marking number m text (Some (line, None)) report score m' report' score' =
     (m' ≡ after_line m line) × (report' ≡ report) × (score' ≡ score)
-GradesOne format number m text (Some (line, Some said)) report score m' report' score' =
+GradesOne format marking number m text (Some (line, Some said)) report score m' report' score' =
     let a = asked_of number m text line said in
-    (m' ≡ after_line m line) × (report' ≡ report ++ correction format a) × (score' ≡ with_mark score (mark a))
+    (m' ≡ after_line m line) × (report' ≡ report ++ correction format marking a) × (score' ≡ with_mark score (mark marking a))

@@ -4,7 +4,7 @@ ghost use Rattle.trace_sheets.specs.Sheets.{accepted_text as text_of_accepted};
 ghost use Rattle.trace_sheets.specs.Forms as forms;
 ghost use Rattle.trace_sheets.specs.Grades as grades;
 
-use crate::score::Mark;
+use crate::score::{Mark, Marking};
 use crate::sheet::is_open;
 use flat_model::{Answer, Event, Word};
 use machine_core::{Lookup, ShapedMachine};
@@ -49,12 +49,12 @@ impl Came {
     }
 
     // What a prediction of it is.
-    pub(crate) fn mark(&self, said: &[u8]) -> Mark
-        ensures { result ≡ grades.mark_of self.now said.now }
+    pub(crate) fn mark(&self, marking: Marking, said: &[u8]) -> Mark
+        ensures { result ≡ grades.mark_of marking self.now said.now }
     {
         if is_open(said) {
             Mark::Open
-        } else if self.is_right(said) {
+        } else if self.is_right(marking, said) {
             Mark::Right
         } else {
             Mark::Wrong
@@ -62,15 +62,18 @@ impl Came {
     }
 
     // Whether it is what is predicted.
-    fn is_right(&self, said: &[u8]) -> bool
-        ensures { result ≡ grades.is_right self.now said.now }
+    fn is_right(&self, marking: Marking, said: &[u8]) -> bool
+        ensures { result ≡ grades.is_right self.now marking said.now }
     {
-        match self {
-            Came::Answered { answer, before, .. } => {
+        match (self, marking) {
+            (Came::Answered { answer, before, .. }, Marking::Lenient) => {
                 said == answer_text(*answer).as_bytes()
                     || said == full_answer(*answer, before.found).as_bytes()
             }
-            Came::Shown(text) => said == text.as_bytes(),
+            (Came::Answered { answer, before, .. }, Marking::Strict) => {
+                said == full_answer(*answer, before.found).as_bytes()
+            }
+            (Came::Shown(text), _) => said == text.as_bytes(),
         }
     }
 }

@@ -1,6 +1,6 @@
 //! A sheet is graded.
 
-ghost use Rattle.std.specs.Prelude.{◌≡◌, ◌<◌, ◌≤◌, ◌++◌, ◌∷◌, [], if◌then◌else◌, Some, length, map, OnOk, IfErr};
+ghost use Rattle.std.specs.Prelude.{◌≡◌, ◌<◌, ◌≤◌, ◌+◌, ◌++◌, ◌∷◌, [], if◌then◌else◌, Some, length, map, OnOk, IfErr};
 ghost use Rattle.std.specs.Option.{option_map};
 ghost use Rattle.named_fields.specs.Formats.{said as what_is_said};
 ghost use Rattle.trace_text.specs.declared.fault.TheConstants.{BUFFER_LEN, MAX_LINES, MAX_PAIR};
@@ -12,14 +12,15 @@ ghost use Rattle.trace_sheets.specs.Grades as grades;
 ghost use Rattle.trace_sheets.specs.Grades.{Graded, LeavesBehind, SheetEnds, after_said, mark_of, no_score, told_if, with_mark};
 
 use crate::came::{Came, full_answer};
-use crate::score::{Mark, Score};
+use crate::ended::read_ended;
+use crate::score::{Mark, Marking, Score};
 use crate::sheet::{Said, is_printable, sheet_said, without_blanks};
 use machine_core::ShapedMachine;
 use named_fields::{Field, Format, Object};
 use run_pictures::words_by;
 use std::alloc::{AllocError, Global};
 use trace_text::{
-    BUFFER_LEN, Collector, Failed, LineText, MAX_PAIR, Source, TraceFault, Uncollected, read_lines,
+    BUFFER_LEN, Collector, Failed, LineText, MAX_PAIR, Source, TraceFault, Uncollected,
 };
 
 /// What becomes of a sheet.
@@ -40,6 +41,7 @@ pub const CORRECTION_FIELDS: usize = 9;
 pub(crate) struct Grading<'a> {
     pub(crate) alloc: Global,
     pub(crate) format: Format,
+    pub(crate) marking: Marking,
     pub(crate) machine: &'a mut ShapedMachine,
     pub(crate) report: &'a mut Vec<u8>,
     pub(crate) score: Score,
@@ -52,7 +54,7 @@ fn push_correction(
     is: &[u8],
     why: Option<&[u8]>,
 ) -> Result<(), AllocError>
-    requires { number ≤ MAX_LINES }
+    requires { number ≤ MAX_LINES + 1 }
     ensures { OnOk result (report.new.items ≡ report.old.items
         ++ (correction_text number text.now is.now (option_map (λ words. words.now) why.entry) ++ line_feed ∷ [])) }
 {
@@ -134,7 +136,7 @@ fn correction_fields<'b>(
 
 // Tells a wrong prediction in a format, in a line or two. A table has the score alone.
 #[tactic(auto, unfolding(crate::specs::Forms::told))]
-fn push_form<'b>(
+pub(crate) fn push_form<'b>(
     alloc: Global,
     format: Format,
     report: &mut Vec<u8>,
@@ -144,7 +146,7 @@ fn push_form<'b>(
     is: &'b [u8],
     why: Option<&'b [u8]>,
 ) -> Result<(), AllocError>
-    requires { number ≤ MAX_LINES }
+    requires { number ≤ MAX_LINES + 1 }
     ensures { OnOk result (report.new.items ≡ report.old.items
         ++ told format number text.now said.now is.now (option_map (λ words. words.now) why.entry)) }
 {
@@ -170,7 +172,7 @@ fn answers_text(came: &Came) -> &'static [u8]
     }
 }
 
-// Why a prediction is told: why its answer came, if it can be read.
+// What a wrong prediction is marked with: why its answer came, if it can be read.
 fn why_told<'b>(came: &Came, is_readable: bool, why: Option<&'b [u8]>) -> Option<&'b [u8]>
     ensures { option_map (λ words. words.now) result
         ≡ (if is_readable then option_map (λ words. words.now) why.entry else Some (forms.answers_text came.now)) }
@@ -182,8 +184,8 @@ fn why_told<'b>(came: &Came, is_readable: bool, why: Option<&'b [u8]>) -> Option
     }
 }
 
-// The same; the machine stands behind its line.
-fn push_told(
+// The same; the machine has had its line.
+pub(crate) fn push_told(
     alloc: Global,
     format: Format,
     report: &mut Vec<u8>,
@@ -194,7 +196,7 @@ fn push_told(
     is_readable: bool,
     came: &Came,
 ) -> Result<(), AllocError>
-    requires { number ≤ MAX_LINES }
+    requires { number ≤ MAX_LINES + 1 }
     ensures { OnOk result (report.new.items ≡ report.old.items
         ++ told format number text.now said.now (full_text came.now) (grades.why_told machine.now came.now is_readable)) }
 {
@@ -234,6 +236,39 @@ fn push_told(
     }
 }
 
+// Tells a prediction of this mark. The machine stands behind its line.
+pub(crate) fn push_mark(
+    alloc: Global,
+    format: Format,
+    report: &mut Vec<u8>,
+    machine: &ShapedMachine,
+    mark: Mark,
+    number: u64,
+    text: &[u8],
+    said: &[u8],
+    is_readable: bool,
+    came: &Came,
+) -> Result<(), AllocError>
+    requires { number ≤ MAX_LINES + 1 }
+    ensures { OnOk result (report.new.items ≡ report.old.items ++ told_if mark
+        (told format number text.now said.now (full_text came.now) (grades.why_told machine.now came.now is_readable))) }
+{
+    match mark {
+        Mark::Wrong => push_told(
+            alloc,
+            format,
+            report,
+            machine,
+            number,
+            text,
+            said,
+            is_readable,
+            came,
+        ),
+        Mark::Right | Mark::Open => Ok(()),
+    }
+}
+
 impl<'a> Grading<'a> {
     // The grade; its report is taken out.
     fn finished(&mut self) -> Grade
@@ -248,7 +283,7 @@ impl<'a> Grading<'a> {
         }
     }
 
-    // Marks a line's prediction by what came. The machine stands behind it.
+    // Marks a line's prediction by what came. The machine has had the line.
     fn mark(
         &mut self,
         number: u64,
@@ -260,29 +295,28 @@ impl<'a> Grading<'a> {
         requires number { number ≤ MAX_LINES }
         requires few { total self.old.score < MAX_LINES }
         ensures report { OnOk result (self.new.report.now.items ≡ self.old.report.now.items
-            ++ told_if (mark_of came.now said.now) (told self.old.format number text.now said.now
+            ++ told_if (mark_of self.old.marking came.now said.now) (told self.old.format number text.now said.now
             (full_text came.now) (grades.why_told self.old.machine.now came.now is_readable))) }
         ensures format { self.new.format ≡ self.old.format }
-        ensures score { self.new.score ≡ with_mark self.old.score (mark_of came.now said.now) }
+        ensures marking { self.new.marking ≡ self.old.marking }
+        ensures score { self.new.score ≡ with_mark self.old.score (mark_of self.old.marking came.now said.now) }
         ensures machine { self.new.machine ≡ self.old.machine }
         ensures same { self.new.report.ghost_name ≡ self.old.report.ghost_name }
     {
-        let mark = came.mark(said);
+        let mark = came.mark(self.marking, said);
         self.score.count(mark);
-        match mark {
-            Mark::Wrong => push_told(
-                self.alloc,
-                self.format,
-                self.report,
-                self.machine,
-                number,
-                text,
-                said,
-                is_readable,
-                came,
-            ),
-            Mark::Right | Mark::Open => Ok(()),
-        }
+        push_mark(
+            self.alloc,
+            self.format,
+            self.report,
+            self.machine,
+            mark,
+            number,
+            text,
+            said,
+            is_readable,
+            came,
+        )
     }
 }
 
@@ -293,7 +327,8 @@ impl<'a> Collector for Grading<'a> {
 
     ghost most_lines = { MAX_LINES };
 
-    ghost went = { λ s texts t. (t.format ≡ s.format) × Graded s.format s.machine.now texts t.machine.now t.report.now.items t.score };
+    ghost went = { λ s texts t. (t.format ≡ s.format) × (t.marking ≡ s.marking)
+        × Graded s.format s.marking s.machine.now texts t.machine.now t.report.now.items t.score };
 
     ghost stopped = { λ s text t. t.machine.now ≡ after_said s.machine.now (sheet_line text) };
 
@@ -339,9 +374,10 @@ impl<'a> Collector for Grading<'a> {
 ///
 /// A line is one of a trace, to 64 bytes, and may have ` -> ` and a prediction behind it, 768 bytes
 /// in all. Of an event that is an answer, `accepted hit`, `accepted join`, `accepted miss`, or `?`;
-/// of `reg`, `bank` and `settled` any printable text. An answer without its finding is right too.
-/// Another prediction is wrong, and the report says what may stand there. Blanks at a line's end
-/// say nothing, CR among them, nor do empty lines and those that begin with `#`.
+/// of `reg`, `bank` and `settled` any printable text. An answer without its finding is right too,
+/// if the marking is lenient. Another prediction is wrong, and the report says what may stand there. Blanks at a line's end
+/// say nothing, CR among them, nor do empty lines and those that begin with `#`. The last line may
+/// lack its LF.
 ///
 /// A fault gives no grade, and leaves the machine behind the lines before it: the first is
 /// answered, as by [`read_requests`](trace_text::read_requests). [`TraceFault::OutOfMemory`] may
@@ -353,10 +389,11 @@ impl<'a> Collector for Grading<'a> {
 pub fn grade_sheet<R: Source>(
     alloc: Global,
     format: Format,
+    marking: Marking,
     reader: &mut R,
     machine: &mut ShapedMachine,
 ) -> Result<Grade, TraceFault>
-    ensures ends { SheetEnds R.gave R.failed format reader.old reader.new machine.old machine.new
+    ensures ends { SheetEnds R.gave R.failed format marking reader.old reader.new machine.old machine.new
         result }
     ensures fault { IfErr result
         (LeavesBehind R.gave R.failed reader.old reader.new machine.old machine.new) }
@@ -366,6 +403,7 @@ pub fn grade_sheet<R: Source>(
     let mut grading = Grading {
         alloc,
         format,
+        marking,
         machine,
         report: &mut report,
         score: Score {
@@ -385,14 +423,14 @@ fn grade_through<R: Source>(
     requires room { length buffer.old ≡ BUFFER_LEN }
     requires report { grading.old.report.now.items ≡ [] }
     requires score { grading.old.score ≡ no_score }
-    ensures ends { SheetEnds R.gave R.failed grading.old.format reader.old reader.new grading.old.machine.now
+    ensures ends { SheetEnds R.gave R.failed grading.old.format grading.old.marking reader.old reader.new grading.old.machine.now
         grading.new.machine.now result }
     ensures fault { IfErr result
         (LeavesBehind R.gave R.failed reader.old reader.new grading.old.machine.now grading.new.machine.now) }
     ensures same_machine { grading.new.machine.ghost_name ≡ grading.old.machine.ghost_name }
     ensures same_report { grading.new.report.ghost_name ≡ grading.old.report.ghost_name }
 {
-    match read_lines(reader, grading, MAX_PAIR, buffer) {
+    match read_ended(reader, grading, buffer) {
         Ok(()) => Ok(grading.finished()),
         Err(stop) => Err(stop.fault_or(TraceFault::OutOfMemory)),
     }

@@ -11,10 +11,19 @@ use crate::grade::CORRECTION_FIELDS;
 use named_fields::{Field, Format, Header, Object, Values};
 use std::fmt;
 
+/// How the prediction of an accepted request is marked.
+#[derive(Clone, Copy, PartialEq, Eq, Debug)]
+pub enum Marking {
+    /// `accepted` fits whatever it found.
+    Lenient,
+    /// What it found is asked: a hit, a join or a miss.
+    Strict,
+}
+
 /// What a prediction is.
 #[derive(Clone, Copy, PartialEq, Eq, Debug)]
 pub enum Mark {
-    /// The machine's answer, with or without its finding.
+    /// The machine's answer, with its finding if that is asked.
     Right,
     /// It isn't.
     Wrong,
@@ -36,7 +45,7 @@ pub struct Score {
 impl Score {
     // Counts a mark.
     pub(crate) fn count(&mut self, mark: Mark)
-        requires { total self.old < MAX_LINES }
+        requires { total self.old < MAX_LINES + MAX_LINES }
         ensures { self.new ≡ with_mark self.old mark }
     {
         match mark {

@@ -83,7 +83,7 @@ fn left_out(text: &[u8], begun: &[u8]) -> Result<Said<'static>, LineFault>
 }
 
 // Whether no text is a prediction of this line that can be read.
-fn reads_nothing(line: Line) -> bool
+pub(crate) fn reads_nothing(line: Line) -> bool
     ensures { result ≡ is_prediction line [] }
 {
     match line {

@@ -1,13 +1,12 @@
 //! Traces as text, line by line.
 //!
-//! A line is a command and its fields, one space between them, and LF: `load 1 5`. In a served
-//! trace ` -> ` and the answer stand behind it. [`read_line`] comes first.
+//! - First call: [`read_line`] reads one line; [`serve_text`] serves a trace with a machine.
+//! - Caller: `kroft_jobs`, `run_reasons`, and all that reads a file by lines.
 //!
-//! [`serve_text`] serves a trace with a machine. [`check_text`] checks a served one against flat
+//! A line is a command and its fields, one space between them, and LF: `load 1 5`. In a served
+//! trace ` -> ` and the answer follow it. [`check_text`] checks a served one against flat
 //! memory. [`read_lines`] gives the lines of any text to a [`Collector`]. The pieces that a text
 //! comes in don't matter.
-//!
-//! Callers: `kroft_jobs`, `run_reasons`, and all that reads a file by lines.
 #![tactic(auto)]
 
 mod check;

@@ -38,7 +38,7 @@ pub enum LineFault {
     NotEnded,
 }
 
-/// What stands behind the line's number.
+/// What follows the line's number.
 impl fmt::Display for FaultText<'_, LineFault> {
     ghost output = { λ told. Some (line_fault_text told.0.now) };
 

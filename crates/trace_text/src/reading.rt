@@ -123,7 +123,7 @@ pub trait Collector {
         ensures miss { IfErr result (Misses stopped (fault_in text.now) self.old text.now self.new) }
         ensures same { (start : Self) → holds_same start self.old → holds_same start self.new };
 
-    /// What is due before the text's reader is waited for, and before a fault is told. [`Failed`] says
+    /// What is due before the text's reader is waited for, and before a fault is returned. [`Failed`] says
     /// that the collector stopped, all lines before taken: [`read_lines`] gives it no line more, and no
     /// pause.
     fn pause(&mut self) -> Result<(), Failed>
@@ -180,7 +180,7 @@ fn collect_ended<C: Collector>(
     Ok(rest.len())
 }
 
-// Makes a pause before a fault is told.
+// Makes a pause before a fault is returned.
 fn told<C: Collector>(collector: &mut C, fault: TraceFault) -> Stop
     ensures stop { AfterPause C.paused C.unpaused collector.old collector.new fault result }
     ensures same { (start : C) → C.holds_same start collector.old
@@ -193,7 +193,7 @@ fn told<C: Collector>(collector: &mut C, fault: TraceFault) -> Stop
 }
 
 /// Reads a text of at most `limit` lines, each of at most `most` bytes, LF not counted, up to its first
-/// end, through a buffer. The collector pauses before each read, and so at the end, and before a fault is told.
+/// end, through a buffer. The collector pauses before each read, and so at the end, and before a fault is returned.
 ///
 /// `most` is at most [`MAX_LINE_LIMIT`](crate::MAX_LINE_LIMIT), and the buffer has
 /// [`BUFFER_LEN`](crate::BUFFER_LEN) bytes. [`Stop::Fault`] is the first fault of the text or its

@@ -27,7 +27,7 @@ impl fmt::Display for Line {
     }
 }
 
-/// Without LF, as `load 1 5 -> accepted`. Nothing stands behind the arrow of a line that only shows
+/// Without LF, as `load 1 5 -> accepted`. Nothing follows the arrow of a line that only shows
 /// something.
 impl fmt::Display for Pair {
     ghost output = { λ pair. Some (pair_text pair) };

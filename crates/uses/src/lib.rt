@@ -1,6 +1,10 @@
-//! Small callers of the libraries, each proved from contracts alone. [`first_load`] drives a machine;
-//! [`count_lookups`] chooses its own order of memory; [`judge_line`] judges a recorded run as it comes;
-//! [`load_form`] and [`take_form`] tell what a unit owes.
+//! Small callers of the libraries, each proved from contracts alone.
+//!
+//! - First call: [`first_load`] drives a machine; copy it to begin a caller.
+//! - Caller: `worked_examples` runs them.
+//!
+//! [`count_lookups`] chooses its own order of memory; [`judge_line`] judges a recorded run as it
+//! comes; [`load_form`] and [`take_form`] put a unit's laws to use.
 #![tactic(auto)]
 
 mod forms;

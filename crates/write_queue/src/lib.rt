@@ -1,7 +1,11 @@
-//! Words that the cache has given up and that go to memory.
+//! Words that the cache has given up and that go to memory: first in, first out.
 //!
-//! [`WriteQueue::push`] takes one; its caller is the cache unit. A word may have several entries;
-//! in each lane the newest one's byte counts.
+//! - First call: [`WriteQueue::new`], then [`WriteQueue::push`] for each dirty word of a victim.
+//! - Caller: `cache_unit`, which sends [`WriteQueue::front`] to its bank and then pops it.
+//!
+//! A word may have several entries; in each lane the newest one's byte counts
+//! ([`WriteQueue::newest`]). The queue has room for whole blocks; the caller looks at
+//! [`WriteQueue::room`] before it pushes.
 #![tactic(auto)]
 
 ghost use Rattle.std.specs.List.{list_any};

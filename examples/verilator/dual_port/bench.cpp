@@ -123,7 +123,7 @@ private:
             for (int k = 0; k < 4; k++) bytes[k] = static_cast<uint8_t>(memory.answer_data >> (32 * p + 8 * k));
             kroft::HistoryVerdict said = history.load_response(number(p, tag), bytes, 4);
             judge(p, tag, said);
-            if (said.fault() == KROFT_WRONG_BYTE) tell_wrong_byte(p, tag, bytes);
+            if (said.fault() == KROFT_FAIL_WRONG_BYTE) tell_wrong_byte(p, tag, bytes);
             loads++;
         }
         table[p][tag].is_open = false;
@@ -153,7 +153,7 @@ private:
         auto open = history.open_loads();
         auto stores = history.open_stores();
         open.insert(open.end(), stores.begin(), stores.end());
-        for (const kroft_operation &lost : open) {
+        for (const kroft_history_operation &lost : open) {
             unsigned p = static_cast<unsigned>(lost.number / tags), tag = static_cast<unsigned>(lost.number % tags);
             const Request &it = table[p][tag];
             std::printf("cycle %llu: port %u, %s %u of word %u was requested and never answered\n", static_cast<unsigned long long>(it.cycle), p,

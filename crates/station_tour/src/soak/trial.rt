@@ -136,7 +136,7 @@ impl Trial {
         self.journal == MAX_ENTRIES && self.turns == MANY_TURNS
     }
 
-    /// How many threads the ports and the banks share, or `None` if each has one of its own, as in one of
+    /// How many threads the ports and the banks share, or `None` if each has its own, as in one of
     /// two draws.
     pub(crate) fn crew(&self, draws: &mut Draws) -> Option<Crew>
         ensures ports { IfSome result (λ crew. (1 ≤ crew.port_threads) × (crew.port_threads ≤ max 1 self.now.ports)) }

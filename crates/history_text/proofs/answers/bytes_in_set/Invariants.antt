@@ -1,6 +1,6 @@
 use Rattle.std.proofs.Common.{◌≡◌, ◌≤◌, length}
 use Rattle.std.specs.List.{filter, range_with_len}
-use Rattle.memory_histories.specs.Sets.{has}
+use Rattle.history_sessions.specs.Words.{has}
 use Rattle.history_text.proofs.answers.bytes_in_set.Given as goal
 
 -- those of the set that are smaller

@@ -1,12 +1,10 @@
 use Rattle.std.proofs.Common.{◌≡◌, ◌+◌, ◌∷◌, [], length, length-append, sym, subst, ap, arith}
-use Rattle.history_text.specs.Values.{AreSetsFrom}
-use Rattle.history_text.specs.Told.{law_begun}
+use Rattle.history_text.specs.Values.{IsReturned, AreSetsFrom}
 use Rattle.history_text.proofs.Written.{sets_more}
 use Rattle.history_text.proofs.values.sets_of.Goals as goal
 
 pub loop-place-preserved : goal.loop-place-preserved
-loop-place-preserved g c =
-    let j = g.J.HistoryJudge in
+loop-place-preserved c =
     let load = c.args.load in
     let place = c.loop-place.place in
     let sets = c.loop-place.sets.items in
@@ -16,8 +14,7 @@ loop-place-preserved g c =
     let same : place ≡ 0 + length sets = omega (arith, count) in
     record {
       count = omega (arith, ap length pushed, length-append sets (set ∷ []), count);
-      sets = λ start events w s. subst (AreSetsFrom (law_begun j.law start) events load 0) (sym pushed)
-          (sets_more (law_begun j.law start) events load 0 place sets set (c.loop-place.invariant.sets start events w s) same
-          (subst (λ a. (j.law start.judge).returns events load.number a set) c.byte_address.ensures
-          (c.in_ok-set.ensures.returns start.judge events s.taken)));
+      sets = λ s k. subst (AreSetsFrom s.history load 0) (sym pushed)
+          (sets_more s.history load 0 place sets set (c.loop-place.invariant.sets s k) same
+          (subst (λ a. IsReturned s.history load.number a set) c.byte_address.ensures (c.in_ok-set.ensures s k)));
     }

@@ -1,19 +1,14 @@
-use Rattle.std.proofs.Common.{sym, ◌∙◌, arith}
+use Rattle.std.proofs.Common.{sym, arith}
 use Rattle.std.proofs.lemmas.Result.{on_ok_weaker}
 use Rattle.history_text.proofs.reading.JudgingCollector.collect.Goals as goal
 
-pub judge-requires-clause-judged : goal.judge-requires-clause-judged
-judge-requires-clause-judged g c =
-    let went = c.requires.went in
-    (went.2.start, went.1, went.2.begun)
-
-pub judge-requires-clause-number : goal.judge-requires-clause-number
-judge-requires-clause-number g c =
+pub judge-requires : goal.judge-requires
+judge-requires c =
     let went = c.requires.went in
     omega (arith, went.3, went.2.begun.lines)
 
 pub returns-clause-kept : goal.returns-clause-kept
-returns-clause-kept g c =
+returns-clause-kept c =
     on_ok_weaker c.judge.result
     (λ ok start texts number were. record {
       start = were.start;

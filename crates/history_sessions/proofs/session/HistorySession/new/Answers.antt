@@ -1,0 +1,14 @@
+use Rattle.std.proofs.Common.{refl}
+use Rattle.history_sessions.proofs.session.HistorySession.new.Goals as goal
+
+pub returns : goal.returns
+returns c =
+    let none = c.in_ok-log.ensures.none_open refl in
+    record {
+      law = refl;
+      judge = c.in_ok-judge.ensures;
+      loads = none.loads;
+      stores = none.stores;
+      undecided = refl;
+      log = λ few. c.in_ok-log.ensures;
+    }

@@ -1,0 +1,7 @@
+use Rattle.kroft_command.proofs.Answering.{no_marks}
+use Rattle.kroft_command.proofs.figures.draw_counts.Goals as goal
+
+pub returns-in_err-marks-clause-ends : goal.returns-in_err-marks-clause-ends
+returns-in_err-marks-clause-ends g c =
+    no_marks g.O.Sink.took g.O.Sink.refused g.O.Sink.unflushed g.E.Sink.took g.E.Sink.refused g.E.Sink.unflushed _ _
+    c.args.errors.now c.args.output.now c.from_residual-in_err-marks.result c.from_residual-in_err-marks.ensures.1

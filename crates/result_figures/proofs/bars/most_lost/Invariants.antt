@@ -1,6 +1,0 @@
-use Rattle.std.proofs.Common.{◌≡◌, drop}
-use Rattle.result_figures.specs.Bars.{most_lost}
-use Rattle.result_figures.proofs.bars.most_lost.Given as goal
-
-abbrev pub invariant-loop-loss : goal.invariant-loop-loss
-invariant-loop-loss l = most_lost 0 l.losses ≡ most_lost l.most (drop l.loss-index l.losses)

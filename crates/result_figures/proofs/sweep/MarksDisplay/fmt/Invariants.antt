@@ -1,9 +1,0 @@
-use Rattle.std.proofs.Common.{take}
-use Rattle.std.specs.Fmt.{HasWritten, IsPlainFormatter}
-use Rattle.result_figures.specs.Sweeps.{marks_text}
-use Rattle.result_figures.proofs.sweep.MarksDisplay.fmt.Given as goal
-
-abbrev pub invariant-loop-row : goal.invariant-loop-row
-invariant-loop-row g l =
-    IsPlainFormatter l.initial.f
-    → HasWritten g.W.Write.write_str_gives l.initial.f (marks_text l.self.most l.self.mark.now (take l.row-index l.self.rows.now)) l.f
