@@ -9,7 +9,8 @@ ghost use Rattle.kroft_command.specs.Tool.{words_or_most, latency_in, ascends, i
 ghost use Rattle.kroft_command.specs.Tool.{AreInOrder, AreSwept, AreRows, HasUnit, IsJudged, IsAllowed, MayBegin};
 
 use crate::commands::{Subcommand, program, shown};
-use crate::options::{BESIDE, BUSY, FILE, LATENCY, LOG, MACHINE, REGISTERS, SHEET, SVG, TIMELINE};
+use crate::given::{format_of, latency_at, latency_count, registers_at, scale_of, text_of, verdict_format_of};
+use crate::options::{BESIDE, BUSY, FILE, LATENCY, MACHINE, REGISTERS, SHEET, SVG, TIMELINE};
 use access_logs::MAX_WORDS;
 use clap::error::ErrorKind;
 use clap::{ArgMatches, Error};
@@ -318,23 +319,6 @@ fn words_or_most(asked: Option<u32>) -> u32
     }
 }
 
-// How a verdict or an explanation is written.
-fn verdict_format_of(rest: &ArgMatches<'_>) -> VerdictFormat {
-    match rest.get_str("format") {
-        Some("json") => VerdictFormat::Json,
-        _ => VerdictFormat::Text,
-    }
-}
-
-// How counts and grades are written.
-fn format_of(rest: &ArgMatches<'_>) -> Format {
-    match rest.get_str("format") {
-        Some("csv") => Format::Csv,
-        Some("json") => Format::Json,
-        _ => Format::Text,
-    }
-}
-
 // A format beside a figure was refused.
 fn count_form_of(rest: &ArgMatches<'_>, scale: Scale) -> CountForm {
     if rest.get_flag(SVG) {
@@ -355,31 +339,12 @@ fn sheet_work_of(rest: &ArgMatches<'_>) -> SheetWork {
     }
 }
 
-// The latency at this place, or 0.
-fn latency_at(rest: &ArgMatches<'_>, place: usize) -> u64 {
-    match rest.get_many::<u64>(LATENCY) {
-        Some(mut given) => match given.nth(place) {
-            Some(Ok(latency)) => latency,
-            _ => 0,
-        },
-        None => 0,
-    }
-}
-
 // A greater latency was refused.
 fn timing_at(rest: &ArgMatches<'_>, place: usize) -> Timing
     ensures { result.latency ≤ MOST_LATENCY }
 {
     let latency = latency_at(rest, place).min(MOST_LATENCY);
     timing_with(latency, rest.get_one::<u64>(BUSY))
-}
-
-// How many latencies are asked for.
-fn latency_count(rest: &ArgMatches<'_>) -> usize {
-    match rest.get_raw(LATENCY) {
-        Some(given) => given.len(),
-        None => 0,
-    }
 }
 
 // The times of memory of a sweep.
@@ -411,17 +376,6 @@ fn check_task(rest: &ArgMatches<'_>) -> Task
     }
 }
 
-// The number at this place, or 0.
-fn registers_at(rest: &ArgMatches<'_>, place: usize) -> u32 {
-    match rest.get_many::<u32>(REGISTERS) {
-        Some(mut given) => match given.nth(place) {
-            Some(Ok(registers)) => registers,
-            _ => 0,
-        },
-        None => 0,
-    }
-}
-
 // The numbers of registers of a sweep.
 fn registers_of(rest: &ArgMatches<'_>) -> Registers {
     let mut all = [0; MOST_ROWS];
@@ -435,14 +389,6 @@ fn registers_of(rest: &ArgMatches<'_>) -> Registers {
     Registers { given, all }
 }
 
-fn scale_of(rest: &ArgMatches<'_>) -> Scale {
-    if rest.get_flag(LOG) {
-        Scale::Logarithmic
-    } else {
-        Scale::Linear
-    }
-}
-
 // What the words behind `sweep` ask for.
 fn sweep_task(rest: &ArgMatches<'_>) -> Task
     ensures { IsInRange result }
@@ -451,14 +397,6 @@ fn sweep_task(rest: &ArgMatches<'_>) -> Task
         timings: timings_of(rest),
         registers: registers_of(rest),
         form: count_form_of(rest, scale_of(rest)),
-    }
-}
-
-fn text_of(rest: &ArgMatches<'_>) -> RequestText {
-    match rest.get_str(LOG) {
-        Some("lackey") => RequestText::Lackey,
-        Some("din") => RequestText::Din,
-        _ => RequestText::Trace,
     }
 }
 

@@ -12,6 +12,7 @@ mod command_line;
 mod commands;
 mod fault;
 mod figures;
+mod given;
 mod notes;
 mod one_try;
 mod options;

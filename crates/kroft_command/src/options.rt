@@ -279,6 +279,7 @@ pub(crate) static DRIVE: [CommandOption; 12] = [
     CommandOption {
         name: BESIDE,
         needs: &[TIMELINE],
+        conflicts: &["summary"],
         help: "Draw the same requests below, through the machine of this TOML file",
         ..A_FILE
     },
