@@ -9,7 +9,9 @@ ghost use Rattle.kroft_command.specs.Tool.{words_or_most, latency_in, ascends, i
 ghost use Rattle.kroft_command.specs.Tool.{AreInOrder, AreSwept, AreRows, HasUnit, IsJudged, IsAllowed, MayBegin};
 
 use crate::commands::{Subcommand, program, shown};
-use crate::given::{format_of, latency_at, latency_count, registers_at, scale_of, text_of, verdict_format_of};
+use crate::given::{
+    format_of, latency_at, latency_count, registers_at, scale_of, text_of, verdict_format_of,
+};
 use crate::options::{BESIDE, BUSY, FILE, LATENCY, MACHINE, REGISTERS, SHEET, SVG, TIMELINE};
 use access_logs::MAX_WORDS;
 use clap::error::ErrorKind;
