@@ -1,5 +1,6 @@
 -- The signals of a waveform: what is asked and answered, and the machine's state.
-use Rattle.std.specs.Prelude.{◌≡◌, ℕ, Bool, true, false, not, List, [], ◌∷◌, ◌++◌, map, if◌then◌else◌, codes, decimal, length, Option, Some, None}
+use Rattle.std.specs.Prelude.{◌≡◌, ℕ, Bool, true, false, not, List, [], ◌∷◌, ◌++◌, map, if◌then◌else◌, codes, decimal}
+use Rattle.std.specs.Prelude.{length, Option, Some, None}
 use Rattle.std.specs.Fmt.{digits}
 use Rattle.std.specs.List.{flat_map, range_with_len, enumerate_from}
 use Rattle.std.specs.Option.{is_some}
@@ -226,9 +227,8 @@ change_text wave = if wave.is_changed then level_text wave.level ++ (codes "s" +
 -- all signals, and their first values
 abbrev pub opening_text : List Wave → List ℕ
 opening_text waves =
-    codes "$timescale 1 ns $end\n$scope module kroft $end\n"
-    ++ (flat_map declaration_text waves
-    ++ (codes "$upscope $end\n$enddefinitions $end\n#0\n$dumpvars\n" ++ (flat_map change_text waves ++ codes "$end\n")))
+    codes "$timescale 1 ns $end\n$scope module kroft $end\n" ++ flat_map declaration_text waves
+    ++ codes "$upscope $end\n$enddefinitions $end\n#0\n$dumpvars\n" ++ flat_map change_text waves ++ codes "$end\n"
 
 -- Before the first event: all signals are declared, and then stand their values.
 pub record WaveOpens (s : MachineState) (w : Waveform) : Type 0 where
@@ -238,4 +238,5 @@ pub record WaveOpens (s : MachineState) (w : Waveform) : Type 0 where
 -- The step of an event that was made, of this number: the values that changed stand behind the others.
 pub record WaveGoesOn (n : ℕ) (s : MachineState) (made : Made) (old new : Waveform) : Type 0 where
   pub waves : new.waves.items ≡ map (wave_behind made s) old.waves.items
-  pub text : string_bytes new.text ≡ string_bytes old.text ++ (codes "#" ++ (decimal n ++ (codes "\n" ++ flat_map change_text new.waves.items)))
+  pub text : string_bytes new.text ≡ string_bytes old.text
+      ++ (codes "#" ++ (decimal n ++ (codes "\n" ++ flat_map change_text new.waves.items)))

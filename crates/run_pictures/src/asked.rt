@@ -103,7 +103,8 @@ impl Collector for AskedSoFar {
     ghost holds_same = { λ s t. Unit {0} };
 
     fn collect(&mut self, _number: u64, text: &[u8]) -> Result<(), Uncollected> {
-        match asked_in(said(text)?) {
+        let pair = said(text)?;
+        match asked_in(pair) {
             Some(asked) => self.keep(asked),
             None => Ok(()),
         }

@@ -85,7 +85,10 @@ fn opening(alloc: Global, sizes: &Sizes, cells: &[Cell]) -> Result<String, Alloc
     let mut text = String::from_str(alloc, PAGE_HEAD)?;
     let words = sizes.block_words;
     let ways = sizes.ways;
-    write!(&mut text, "const blockWords = {words};\nconst ways = {ways};\nconst places = [\n")?;
+    write!(
+        &mut text,
+        "const blockWords = {words};\nconst ways = {ways};\nconst places = [\n"
+    )?;
     for cell in cells {
         let place = cell.place;
         write!(&mut text, "'{place}',\n")?;

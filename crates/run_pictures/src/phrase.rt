@@ -51,11 +51,17 @@ impl fmt::Display for Phrase {
             }
             Phrase::Taken { tag, word } => write!(f, "the load of tag {tag} is answered {word}"),
             Phrase::TooMany { free, dirty } => {
-                write!(f, "the write queue has {free} free places for {dirty} dirty words")
+                write!(
+                    f,
+                    "the write queue has {free} free places for {dirty} dirty words"
+                )
             }
             Phrase::Full { bank } => write!(f, "bank {bank} has no room for a command"),
             Phrase::Short { bank, room, reads } => {
-                write!(f, "bank {bank} has room for {room} commands, and is to be sent {reads}")
+                write!(
+                    f,
+                    "bank {bank} has room for {room} commands, and is to be sent {reads}"
+                )
             }
         }
     }

@@ -173,6 +173,10 @@ pub(crate) fn places_of(alloc: Global, sizes: &Sizes) -> Result<Vec<Place>, Allo
     push_all(&mut places, Place::Queue { place: 0 }, sizes.write_queue)?;
     push_banks(&mut places, sizes)?;
     push_all(&mut places, Place::Reply { place: 0 }, sizes.replies)?;
-    push_all(&mut places, Place::Memory { at: 0 }, sizes.words.min(MOST_MEMORY))?;
+    push_all(
+        &mut places,
+        Place::Memory { at: 0 },
+        sizes.words.min(MOST_MEMORY),
+    )?;
     Ok(places)
 }

@@ -92,7 +92,7 @@ fn is_among(owners: &[Owner], owner: Option<Owner>) -> bool
     ensures { result ≡ screens.is_among owners.now owner }
 {
     match owner {
-        Some(owner) => owners.iter().any(|other| *other == owner),
+        Some(owner) => owners.contains(&owner),
         None => false,
     }
 }

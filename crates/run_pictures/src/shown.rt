@@ -38,17 +38,29 @@ pub enum Shown {
     /// A free register.
     Free,
     /// A register with a frame, and how many words came.
-    Valid { block: u32, frame: u32, came: u32 },
+    Valid {
+        block: u32,
+        frame: u32,
+        came: u32,
+    },
     /// A register whose block lost its frame.
-    Obsolete { block: u32, came: u32 },
+    Obsolete {
+        block: u32,
+        came: u32,
+    },
     /// A word of a register.
     Field(Way),
     /// The same, with the bytes that were stored before it.
     Coded(Way, Lanes),
     /// A load that waits, and is owed nothing.
-    Load { tag: u16 },
+    Load {
+        tag: u16,
+    },
     /// A load, and the word that it is owed.
-    Owed { tag: u16, word: Word },
+    Owed {
+        tag: u16,
+        word: Word,
+    },
     /// The same, with the bytes that it has.
     Holding {
         tag: u16,
@@ -65,7 +77,11 @@ pub enum Shown {
     /// A word with bytes that memory doesn't have.
     Dirty(Word, Lanes),
     /// A word for a register.
-    Entry { slot: u32, i: u32, word: Word },
+    Entry {
+        slot: u32,
+        i: u32,
+        word: Word,
+    },
     /// Bytes of a word that wait to be written.
     Queued {
         at: u32,
@@ -74,7 +90,11 @@ pub enum Shown {
         word: Word,
     },
     /// A read for a register's word.
-    Read { place: u32, slot: u32, i: u32 },
+    Read {
+        place: u32,
+        slot: u32,
+        i: u32,
+    },
     /// A write of the lanes of a word.
     Write {
         place: u32,
@@ -82,7 +102,10 @@ pub enum Shown {
         word: Word,
     },
     /// A value that stands ready.
-    Value { tag: u16, word: Word },
+    Value {
+        tag: u16,
+        word: Word,
+    },
 }
 
 impl fmt::Display for Shown {

@@ -180,6 +180,7 @@ fn block_number(register: Option<RegisterView>) -> u32
     }
 }
 
+#[tactic(auto, using(trace_text::proofs::Ranges::flat_map_next))]
 fn push_registers(signals: &mut Vec<Signal>, sizes: &Sizes) -> Result<(), AllocError>
     ensures { OnOk result
         (signals.new.items ≡ signals.old.items ++ flat_map waves.register_signals (range_with_len 0 sizes.now.regs)) }
@@ -194,6 +195,7 @@ fn push_registers(signals: &mut Vec<Signal>, sizes: &Sizes) -> Result<(), AllocE
     Ok(())
 }
 
+#[tactic(auto, using(trace_text::proofs::Ranges::flat_map_next))]
 fn push_banks(signals: &mut Vec<Signal>, sizes: &Sizes) -> Result<(), AllocError>
     ensures { OnOk result
         (signals.new.items ≡ signals.old.items ++ flat_map waves.bank_signals (range_with_len 0 sizes.now.banks)) }
