@@ -22,8 +22,8 @@ pub fn show<I: Source>(
     requires sizes { bad_machine sizes.now ≡ None }
     ensures { Shows I.gave I.failed form image.now (machine_over image.now sizes.now) input.old input.new result }
 {
-    let Ok(mut machine) = new_machine(alloc, sizes, image) else {
+    let Ok(machine) = new_machine(alloc, sizes, image) else {
         return Err(ShowFault::OutOfMemory);
     };
-    show_text(alloc, input, &mut machine, image, form)
+    show_text(alloc, input, machine, image, form)
 }

@@ -1,6 +1,6 @@
 -- The events of a trace or of a recorded run, with the answers that were recorded.
-use Rattle.std.specs.Prelude.{◌≡◌, ℕ, ◌+◌, ◌<◌, ◌≤◌, Bool, if◌then◌else◌, nat_lt, Option, Some, None, Result, Ok, Err, List, ◌++◌, length}
-use Rattle.std.specs.Prelude.{Vec}
+use Rattle.std.specs.Prelude.{◌≡◌, ℕ, ◌<◌, ◌≤◌, Bool, if◌then◌else◌, nat_lt, Option, Some, None, Result, Ok, Err, List, [], ◌∷◌, ◌++◌}
+use Rattle.std.specs.Prelude.{length, Vec}
 use Rattle.std.specs.Global.{Global}
 use Rattle.std.specs.List.{flat_map}
 use Rattle.std.specs.Option.{option_to_list}
@@ -67,17 +67,17 @@ other_answer answer (Some recorded) = if is_same_answer answer recorded then Non
 
 -- ---- in the middle of a reading
 
--- what is asked in these lines is counted, and kept as long as it isn't too much
-pub record Gathered (texts : List (List ℕ)) (e : AskedSoFar) : Type 0 where
-  pub number : e.count ≡ length (all_asked texts)
-  pub kept : e.count ≤ MOST_EVENTS → e.asked.items ≡ all_asked texts
-
--- one more, if the line has one
-pub record GathersOne (old : AskedSoFar) (asked : Option Asked) (new : AskedSoFar) : Type 0 where
-  pub number : new.count ≡ old.count + length (option_to_list asked)
-  pub kept : new.count ≤ MOST_EVENTS → new.asked.items ≡ old.asked.items ++ option_to_list asked
-
 -- all that is asked, or nothing if that is too much
 abbrev pub KeepsFew : List Asked → Option (Vec Asked Global) → Type 0
 KeepsFew asked (Some kept) = (length asked ≤ MOST_EVENTS) × (kept.items ≡ asked)
 KeepsFew asked None = MOST_EVENTS < length asked
+
+-- what is asked in these lines
+pub record Gathered (texts : List (List ℕ)) (e : AskedSoFar) : Type 0 where
+  pub kept : KeepsFew (all_asked texts) e.kept
+
+-- one more is kept, if that isn't too much
+abbrev pub KeepsOne : Option (Vec Asked Global) → Asked → Option (Vec Asked Global) → Type 0
+KeepsOne None asked kept = kept ≡ None
+KeepsOne (Some old) asked None = MOST_EVENTS ≤ length old.items
+KeepsOne (Some old) asked (Some kept) = (length old.items < MOST_EVENTS) × (kept.items ≡ old.items ++ asked ∷ [])

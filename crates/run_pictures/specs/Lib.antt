@@ -1,12 +1,11 @@
-pub mod Numbered
+pub mod Phrases
 pub mod Layouts
 pub mod Places
 pub mod Asked
-pub mod Steps
 pub mod Cells
 pub mod Words
+pub mod Steps
 pub mod Pictures
-pub mod Pages
 pub mod Screens
 pub mod Waves
 pub mod Drawn

@@ -1,23 +1,26 @@
 -- The signals of a waveform: what is asked and answered, and the machine's state.
-use Rattle.std.specs.Prelude.{◌≡◌, ℕ, Bool, false, List, [], ◌∷◌, ◌++◌, map, if◌then◌else◌, codes, decimal, length, Option, Some, None}
-use Rattle.std.specs.Prelude.{slice_get}
+use Rattle.std.specs.Prelude.{◌≡◌, ℕ, Bool, true, false, not, List, [], ◌∷◌, ◌++◌, map, if◌then◌else◌, codes, decimal}
+use Rattle.std.specs.Prelude.{length, Option, Some, None}
 use Rattle.std.specs.Fmt.{digits}
-use Rattle.std.specs.List.{flat_map, range_with_len}
+use Rattle.std.specs.List.{flat_map, range_with_len, enumerate_from}
 use Rattle.std.specs.Option.{is_some}
 use Rattle.std.specs.String.{string_bytes}
-use Rattle.std.specs.Global.{Global}
-use Rattle.std.specs.declared.string.String.{String}
 use Rattle.machine_core.specs.Words.{Event, Load, Store, Prefetch, Evict, Drain, Serve, Arrive, Process, Take, Answer, Accepted, Moved}
 use Rattle.machine_core.specs.Words.{Value, Nothing, Refused, RegisterView, Sizes}
 use Rattle.flat_model.specs.Flat.{number}
 use Rattle.machine_core.specs.Banks.{bank_at}
 use Rattle.machine_core.specs.Machine.{MachineState}
 use Rattle.machine_core.specs.AnyMachine.{register_shown}
-use Rattle.run_pictures.specs.Pictures.{Texts, is_changed}
+use Rattle.run_pictures.specs.Cells.{is_valid}
 use Rattle.run_pictures.specs.declared.step.Made.{Made}
 use Rattle.run_pictures.specs.declared.waveform.Waveform.{Waveform}
 use Rattle.run_pictures.specs.declared.level.Level.{Level}
-use Rattle.run_pictures.specs.declared.level.Level.TheVariants.{Bit, Number, Kind, Unset}
+use Rattle.run_pictures.specs.declared.level.Level.TheVariants.{Bit, Number, Unset}
+use Rattle.run_pictures.specs.declared.level.Level.TheVariants as level
+use Rattle.run_pictures.specs.declared.level.Kind.{Kind}
+use Rattle.run_pictures.specs.declared.level.Kind.TheVariants as kind
+use Rattle.run_pictures.specs.contracts.level.LevelPartialEq.TheImpl as level_eq
+use Rattle.run_pictures.specs.declared.waveform.Wave.{Wave}
 use Rattle.run_pictures.specs.declared.signal.Signal.{Signal}
 use Rattle.run_pictures.specs.declared.signal.Signal.TheVariants.{EventKind, Tag, Address, AnswerKind, Cause, Differs, Valid, Obsolete}
 use Rattle.run_pictures.specs.declared.signal.Signal.TheVariants.{Block, Stack, Queue, Commands, Answers, Replies}
@@ -56,45 +59,62 @@ width_of signal = 32
 
 -- ---- values, as they stand in front of a signal
 
-abbrev pub bit_text : Bool → List ℕ
-bit_text is_set = if is_set then codes "1" else codes "0"
-
-abbrev pub number_text : ℕ → List ℕ
-number_text n = codes "b" ++ (digits 2 false n ++ codes " ")
-
--- a number, or that there is none
-abbrev pub known_text : Option ℕ → List ℕ
-known_text None = codes "bx "
-known_text (Some n) = number_text n
-
-abbrev pub kind_text : List ℕ → List ℕ
-kind_text kind = codes "s" ++ (kind ++ codes " ")
+abbrev pub kind_text : Kind → List ℕ
+kind_text kind.Start = codes "start"
+kind_text kind.Load = codes "load"
+kind_text kind.Store = codes "store"
+kind_text kind.Prefetch = codes "prefetch"
+kind_text kind.Evict = codes "evict"
+kind_text kind.Drain = codes "drain"
+kind_text kind.Serve = codes "serve"
+kind_text kind.Arrive = codes "arrive"
+kind_text kind.Process = codes "process"
+kind_text kind.Take = codes "take"
+kind_text kind.Unanswered = codes "none"
+kind_text kind.Accepted = codes "accepted"
+kind_text kind.Moved = codes "moved"
+kind_text kind.Value = codes "value"
+kind_text kind.Nothing = codes "nothing"
+kind_text kind.Refused = codes "refused"
 
 abbrev pub level_text : Level → List ℕ
-level_text (Bit is_set) = bit_text is_set
-level_text (Number n) = number_text n
-level_text (Kind kind) = kind_text kind.now
+level_text (Bit is_set) = if is_set then codes "1" else codes "0"
+level_text (Number n) = codes "b" ++ (digits 2 false n ++ codes " ")
+level_text (level.Kind kind) = codes "s" ++ (kind_text kind ++ codes " ")
 level_text Unset = codes "bx "
 
--- ---- what is asked and answered
+-- a number, or that there is none
+abbrev pub known : Option ℕ → Level
+known None = Unset
+known (Some n) = Number n
 
-abbrev pub event_kind : Event → List ℕ
-event_kind (Load tag at) = codes "load"
-event_kind (Store at word lanes) = codes "store"
-event_kind (Prefetch at) = codes "prefetch"
-event_kind (Evict block) = codes "evict"
-event_kind Drain = codes "drain"
-event_kind (Serve bank) = codes "serve"
-event_kind (Arrive bank place) = codes "arrive"
-event_kind (Process place) = codes "process"
-event_kind (Take place) = codes "take"
+-- ---- what is asked and answered, or before the first event
 
-abbrev pub answer_kind : Answer → List ℕ
-answer_kind Accepted = codes "accepted"
-answer_kind Moved = codes "moved"
-answer_kind (Value tag word) = codes "value"
-answer_kind Nothing = codes "nothing"
-answer_kind (Refused cause) = codes "refused"
+abbrev pub kind_of_event : Event → Kind
+kind_of_event (Load tag at) = kind.Load
+kind_of_event (Store at word lanes) = kind.Store
+kind_of_event (Prefetch at) = kind.Prefetch
+kind_of_event (Evict block) = kind.Evict
+kind_of_event Drain = kind.Drain
+kind_of_event (Serve bank) = kind.Serve
+kind_of_event (Arrive bank place) = kind.Arrive
+kind_of_event (Process place) = kind.Process
+kind_of_event (Take place) = kind.Take
+
+abbrev pub kind_of_answer : Answer → Kind
+kind_of_answer Accepted = kind.Accepted
+kind_of_answer Moved = kind.Moved
+kind_of_answer (Value tag word) = kind.Value
+kind_of_answer Nothing = kind.Nothing
+kind_of_answer (Refused cause) = kind.Refused
+
+abbrev pub event_kind : Option Made → Kind
+event_kind None = kind.Start
+event_kind (Some made) = kind_of_event made.event
+
+abbrev pub answer_kind : Option Made → Kind
+answer_kind None = kind.Unanswered
+answer_kind (Some made) = kind_of_answer made.answer
 
 -- the tag of a value
 abbrev pub value_tag : Answer → Option ℕ
@@ -118,16 +138,6 @@ abbrev pub cause_in : Answer → Option ℕ
 cause_in (Refused cause) = Some (number cause)
 cause_in answer = None
 
--- the same of an event that was made, or before the first one
-
-abbrev pub event_word : Option Made → List ℕ
-event_word None = codes "start"
-event_word (Some made) = event_kind made.event
-
-abbrev pub answer_word : Option Made → List ℕ
-answer_word None = codes "none"
-answer_word (Some made) = answer_kind made.answer
-
 abbrev pub tag_of : Option Made → Option ℕ
 tag_of None = None
 tag_of (Some made) = tag_in made.event made.answer
@@ -147,10 +157,6 @@ is_other (Some made) = is_some made.other
 
 -- ---- the machine
 
-abbrev pub is_valid : Option RegisterView → Bool
-is_valid None = false
-is_valid (Some r) = r.valid
-
 abbrev pub is_obsolete : Option RegisterView → Bool
 is_obsolete None = false
 is_obsolete (Some r) = r.obsolete
@@ -160,21 +166,21 @@ block_number None = 0
 block_number (Some r) = r.block
 
 -- a signal's value behind an event, or before the first one, in a machine of this state
-abbrev pub value_text : Option Made → MachineState → Signal → List ℕ
-value_text made s EventKind = kind_text (event_word made)
-value_text made s Tag = known_text (tag_of made)
-value_text made s Address = known_text (address_of made)
-value_text made s AnswerKind = kind_text (answer_word made)
-value_text made s Cause = known_text (cause_of made)
-value_text made s Differs = bit_text (is_other made)
-value_text made s (Valid slot) = bit_text (is_valid (register_shown s slot))
-value_text made s (Obsolete slot) = bit_text (is_obsolete (register_shown s slot))
-value_text made s (Block slot) = number_text (block_number (register_shown s slot))
-value_text made s Stack = number_text (length s.machine.cache.stack)
-value_text made s Queue = number_text (length s.machine.cache.queue)
-value_text made s (Commands bank) = number_text (length (bank_at s.machine.banks bank).queue)
-value_text made s (Answers bank) = number_text (length (bank_at s.machine.banks bank).answers)
-value_text made s Replies = number_text (length s.machine.cache.ready)
+abbrev pub level_at : Option Made → MachineState → Signal → Level
+level_at made s EventKind = level.Kind (event_kind made)
+level_at made s Tag = known (tag_of made)
+level_at made s Address = known (address_of made)
+level_at made s AnswerKind = level.Kind (answer_kind made)
+level_at made s Cause = known (cause_of made)
+level_at made s Differs = Bit (is_other made)
+level_at made s (Valid slot) = Bit (is_valid (register_shown s slot))
+level_at made s (Obsolete slot) = Bit (is_obsolete (register_shown s slot))
+level_at made s (Block slot) = Number (block_number (register_shown s slot))
+level_at made s Stack = Number (length s.machine.cache.stack)
+level_at made s Queue = Number (length s.machine.cache.queue)
+level_at made s (Commands bank) = Number (length (bank_at s.machine.banks bank).queue)
+level_at made s (Answers bank) = Number (length (bank_at s.machine.banks bank).answers)
+level_at made s Replies = Number (length s.machine.cache.ready)
 
 -- ---- all signals
 
@@ -194,54 +200,43 @@ signals_in z =
     event_signals ++ flat_map register_signals (range_with_len 0 z.regs) ++ Stack ∷ [] ++ Queue ∷ []
     ++ flat_map bank_signals (range_with_len 0 z.banks) ++ Replies ∷ []
 
-abbrev pub declaration_text : ℕ → Option Signal → List ℕ
-declaration_text k None = []
-declaration_text k (Some signal) =
-    codes "$var "
-    ++ (type_text signal
-    ++ (codes " "
-    ++ (decimal (width_of signal)
-    ++ (codes " s" ++ (decimal k ++ (codes " " ++ (name_text signal ++ codes " $end\n")))))))
-
--- the declaration of the signal of this number
-unfoldable pub declaration_at : List Signal → ℕ → List ℕ
-declaration_at signals k = declaration_text k (slice_get signals k)
-
-abbrev pub declarations_text : List Signal → List ℕ
-declarations_text signals =
-    codes "$timescale 1 ns $end\n$scope module kroft $end\n"
-    ++ (flat_map (declaration_at signals) (range_with_len 0 (length signals)) ++ codes "$upscope $end\n$enddefinitions $end\n")
-
 -- ---- waveforms
 
--- the value of the signal of this number
-abbrev pub value_line : ℕ → Option (String Global) → List ℕ
-value_line k None = []
-value_line k (Some value) = string_bytes value ++ (codes "s" ++ (decimal k ++ codes "\n"))
+-- a signal before the first event, by its number and itself
+abbrev pub first_wave : MachineState → (ℕ × Signal) → Wave
+first_wave s one = record { number = one.0; signal = one.1; level = level_at None s one.1; is_changed = true }
 
--- the same, if it changed
-unfoldable pub change_text : Texts → Texts → ℕ → List ℕ
-change_text before values k = if is_changed before values k then value_line k (slice_get values k) else []
+-- the same signal behind an event that was made, in a machine that stands so now
+abbrev pub wave_behind : Made → MachineState → Wave → Wave
+wave_behind made s wave =
+    let now = level_at (Some made) s wave.signal in
+    record { number = wave.number; signal = wave.signal; level = now; is_changed = not ((level_eq.ghosts).eq wave.level now) }
 
--- the changed values, in the order of the signals
-abbrev pub changes_text : Texts → Texts → List ℕ
-changes_text before values = flat_map (change_text before values) (range_with_len 0 (length values))
+abbrev pub declaration_text : Wave → List ℕ
+declaration_text wave =
+    codes "$var "
+    ++ (type_text wave.signal
+    ++ (codes " "
+    ++ (decimal (width_of wave.signal)
+    ++ (codes " s" ++ (decimal wave.number ++ (codes " " ++ (name_text wave.signal ++ codes " $end\n")))))))
 
-abbrev pub values_of : Option Made → MachineState → List Signal → List (List ℕ)
-values_of made s signals = map (value_text made s) signals
+-- a value, if it changed
+abbrev pub change_text : Wave → List ℕ
+change_text wave = if wave.is_changed then level_text wave.level ++ (codes "s" ++ (decimal wave.number ++ codes "\n")) else []
 
-abbrev pub step_text : ℕ → List ℕ → List ℕ
-step_text n changes = codes "#" ++ (decimal n ++ (codes "\n" ++ changes))
+-- all signals, and their first values
+abbrev pub opening_text : List Wave → List ℕ
+opening_text waves =
+    codes "$timescale 1 ns $end\n$scope module kroft $end\n" ++ flat_map declaration_text waves
+    ++ codes "$upscope $end\n$enddefinitions $end\n#0\n$dumpvars\n" ++ flat_map change_text waves ++ codes "$end\n"
 
 -- Before the first event: all signals are declared, and then stand their values.
 pub record WaveOpens (s : MachineState) (w : Waveform) : Type 0 where
-  pub signals : w.signals.items ≡ signals_in s.sizes
-  pub values : map string_bytes w.values.items ≡ values_of None s w.signals.items
-  pub text : string_bytes w.text ≡ declarations_text w.signals.items
-      ++ (codes "#0\n$dumpvars\n" ++ (changes_text [] w.values.items ++ codes "$end\n"))
+  pub waves : w.waves.items ≡ map (first_wave s) (enumerate_from 0 (signals_in s.sizes))
+  pub text : string_bytes w.text ≡ opening_text w.waves.items
 
 -- The step of an event that was made, of this number: the values that changed stand behind the others.
 pub record WaveGoesOn (n : ℕ) (s : MachineState) (made : Made) (old new : Waveform) : Type 0 where
-  pub signals : new.signals ≡ old.signals
-  pub values : map string_bytes new.values.items ≡ values_of (Some made) s new.signals.items
-  pub text : string_bytes new.text ≡ string_bytes old.text ++ step_text n (changes_text old.values.items new.values.items)
+  pub waves : new.waves.items ≡ map (wave_behind made s) old.waves.items
+  pub text : string_bytes new.text ≡ string_bytes old.text
+      ++ (codes "#" ++ (decimal n ++ (codes "\n" ++ flat_map change_text new.waves.items)))

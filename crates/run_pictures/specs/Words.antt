@@ -1,4 +1,4 @@
--- What a step did, or why it didn't, in words: a function of its event, its answer and the machine before it.
+-- What a step did, or why it didn't, in words.
 use Rattle.std.specs.Prelude.{ℕ, ◌-◌, ◌*◌, ◌+◌, ◌==◌, nat_lt, Bool, false, ◌&&◌, not, if◌then◌else◌, List, [], ◌++◌, codes, decimal, length}
 use Rattle.std.specs.Prelude.{Option, Some, None, slice_get}
 use Rattle.std.specs.List.{list_any, filter, find, range_with_len}
@@ -7,15 +7,16 @@ use Rattle.machine_core.specs.Words.{NotPresent, StackFull, Event, Load, Store, 
 use Rattle.machine_core.specs.Words.{Answer, Accepted, Moved, Value, Nothing, Refused, BankAnswer, Entry, Queued, Lookup, Hit, Join, Miss}
 use Rattle.machine_core.specs.Words.{Sizes}
 use Rattle.flat_model.specs.Causes.{cause_words}
-use Rattle.flat_model.specs.Texts.{word_text, lanes_text}
 use Rattle.flat_model.specs.Words.{has_any}
 use Rattle.machine_core.specs.Banks.{bank_at}
 use Rattle.machine_core.specs.Lookups.{lookup}
 use Rattle.machine_core.specs.Views.{frame_view, dirty_view, reply_view}
 use Rattle.machine_core.specs.Machine.{MachineState}
-use Rattle.machine_core.specs.AnyMachine.{answered}
+use Rattle.machine_core.specs.AnyMachine.{answered, after_event}
 use Rattle.run_pictures.specs.declared.before.Before.{Before}
 use Rattle.machine_core.specs.State.{block_of}
+use Rattle.run_pictures.specs.declared.phrase.Phrase.TheVariants.{Given, Sent, Taken, TooMany, Short}
+use Rattle.run_pictures.specs.Phrases.{text_of}
 use Rattle.run_pictures.specs.Layouts.{frames_in, set_in, set_of_frame, bank_in}
 use Rattle.run_pictures.specs.Cells.{is_pending}
 
@@ -85,31 +86,17 @@ accepted_words z event found = request_words (block_about z event) event found
 
 -- ---- what moved on
 
-abbrev pub drained_text : Lanes → ℕ → ℕ → List ℕ
-drained_text lanes at bank =
-    codes "the bytes " ++ (lanes_text lanes ++ (codes " of word " ++ (decimal at ++ (codes " go to bank " ++ decimal bank))))
-
 -- a word that leaves the write queue
-abbrev pub sent_words : Sizes → Queued → List ℕ
-sent_words z q = drained_text q.lanes q.at (bank_in z q.at)
-
 abbrev pub drained_words : Sizes → Option Queued → List ℕ
 drained_words z None = []
-drained_words z (Some q) = sent_words z q
+drained_words z (Some q) = text_of (Sent q.lanes q.at (bank_in z q.at))
 
 abbrev pub served_words : ℕ → List ℕ
 served_words bank = codes "bank " ++ (decimal bank ++ codes " serves its first command")
 
-abbrev pub arrived_text : ℕ → ℕ → ℕ → List ℕ
-arrived_text bank i slot =
-    codes "bank "
-    ++ (decimal bank
-    ++ (codes " gives word "
-    ++ (decimal i ++ (codes " of register " ++ (decimal slot ++ codes "'s block")))))
-
 abbrev pub arrived_words : ℕ → Option BankAnswer → List ℕ
 arrived_words bank None = []
-arrived_words bank (Some a) = arrived_text bank a.i a.slot
+arrived_words bank (Some a) = text_of (Given bank a.i a.slot)
 
 abbrev pub processed_words : Option Entry → List ℕ
 processed_words None = []
@@ -122,9 +109,6 @@ moved_words z before (Serve bank) = served_words bank
 moved_words z before (Arrive bank place) = arrived_words bank before.answer
 moved_words z before (Process place) = processed_words before.entry
 moved_words z before event = []
-
-abbrev pub taken_words : ℕ → Word → List ℕ
-taken_words tag word = codes "the load of tag " ++ (decimal tag ++ (codes " is answered " ++ word_text word))
 
 -- ---- why there was nothing to do
 
@@ -141,18 +125,15 @@ idle_words event = []
 abbrev pub word_outside : Sizes → ℕ → List ℕ
 word_outside z at = codes "word " ++ (decimal at ++ (codes " is outside memory, which has " ++ (decimal z.words ++ codes " words")))
 
-abbrev pub block_outside_text : ℕ → ℕ → List ℕ
-block_outside_text block blocks =
+abbrev pub block_outside : (block blocks : ℕ) → List ℕ
+block_outside block blocks =
     codes "block " ++ (decimal block ++ (codes " is outside memory, which has " ++ (decimal blocks ++ codes " blocks")))
-
-abbrev pub block_outside : Sizes → ℕ → List ℕ
-block_outside z block = block_outside_text block (block_of z z.words)
 
 abbrev pub outside_words : Sizes → Event → List ℕ
 outside_words z (Load tag at) = word_outside z at
 outside_words z (Store at word lanes) = word_outside z at
 outside_words z (Prefetch at) = word_outside z at
-outside_words z (Evict block) = block_outside z block
+outside_words z (Evict block) = block_outside block (block_of z z.words)
 outside_words z event = []
 
 abbrev pub has_tag : ℕ → Option Answer → Bool
@@ -223,14 +204,10 @@ victim s event = if count_that_may_go s event == 1 then first_that_may_go s even
 unfoldable pub free_places : MachineState → ℕ
 free_places s = s.sizes.write_queue - length s.machine.cache.queue
 
-abbrev pub free_text : ℕ → ℕ → List ℕ
-free_text free dirty =
-    codes "the write queue has " ++ (decimal free ++ (codes " free places for " ++ (decimal dirty ++ codes " dirty words")))
-
 abbrev pub queue_words_for : MachineState → Option ℕ → List ℕ
 queue_words_for s None =
     codes "the write queue has " ++ (decimal (free_places s) ++ codes " free places, too few for the victim's dirty words")
-queue_words_for s (Some frame) = free_text (free_places s) (dirty_count s frame)
+queue_words_for s (Some frame) = text_of (TooMany (free_places s) (dirty_count s frame))
 
 abbrev pub queue_words : MachineState → Event → List ℕ
 queue_words s event = queue_words_for s (victim s event)
@@ -257,19 +234,9 @@ is_short s block bank = nat_lt (room_at s bank) (reads_in s.sizes block bank)
 unfoldable pub short_bank : MachineState → ℕ → Option ℕ
 short_bank s block = find (λ bank. is_short s block bank) (range_with_len 0 s.sizes.banks)
 
-abbrev pub shortage_text : ℕ → ℕ → ℕ → List ℕ
-shortage_text bank room reads =
-    codes "bank "
-    ++ (decimal bank
-    ++ (codes " has room for "
-    ++ (decimal room ++ (codes " commands, and is to be sent " ++ decimal reads))))
-
-abbrev pub shortage_words : MachineState → ℕ → ℕ → List ℕ
-shortage_words s block bank = shortage_text bank (room_at s bank) (reads_in s.sizes block bank)
-
 abbrev pub short_words : MachineState → ℕ → Option ℕ → List ℕ
 short_words s block None = []
-short_words s block (Some bank) = shortage_words s block bank
+short_words s block (Some bank) = text_of (Short bank (room_at s bank) (reads_in s.sizes block bank))
 
 abbrev pub no_room_words : Sizes → Option Queued → List ℕ
 no_room_words z None = []
@@ -302,18 +269,14 @@ refused_words s event cause = limit_words s.sizes event cause
 
 -- ---- all words
 
--- by what is seen before the event, and the machine that a refusal leaves as it was
+-- by what is seen before the event, and the machine behind it, which a refusal leaves as it was
 abbrev pub words_by : Before → MachineState → Event → Answer → List ℕ
 words_by before s event Accepted = accepted_words s.sizes event before.found
 words_by before s event Moved = moved_words s.sizes before event
-words_by before s event (Value tag word) = taken_words tag word
+words_by before s event (Value tag word) = text_of (Taken tag word)
 words_by before s event Nothing = idle_words event
 words_by before s event (Refused cause) = refused_words s event cause
 
 -- what an event did to a machine of this state, or why it didn't
-abbrev pub words_of : MachineState → Event → Answer → List ℕ
-words_of s event answer = words_by (seen s event) s event answer
-
--- the words of an event's own answer
 unfoldable pub step_words : MachineState → Event → List ℕ
-step_words s event = words_of s event (answered s event)
+step_words s event = words_by (seen s event) (after_event s event) event (answered s event)

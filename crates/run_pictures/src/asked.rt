@@ -1,5 +1,5 @@
 //! Events of a trace or a recorded run.
-ghost use Rattle.std.specs.Prelude.{◌≡◌, ℕ, ◌<◌, List, OnOk, IfOk, IfErr};
+ghost use Rattle.std.specs.Prelude.{◌≡◌, ℕ, List, OnOk, IfOk, IfErr};
 ghost use Rattle.trace_text.specs.declared.fault.TheConstants.{MAX_LINE, MAX_LINES, MAX_PAIR};
 ghost use Rattle.trace_text.specs.Lines.{IsSaid};
 ghost use Rattle.trace_text.specs.Reading.{ReadWhole, ReadFails};
@@ -62,27 +62,25 @@ pub(crate) fn other_answer(answer: Answer, recorded: Option<Answer>) -> Option<A
     }
 }
 
-// All is counted, and kept as long as it isn't too much.
+// `None`: too much.
 #[derive(Drop)]
 pub(crate) struct AskedSoFar {
-    pub(crate) count: usize,
-    pub(crate) asked: Vec<Asked>,
+    pub(crate) kept: Option<Vec<Asked>>,
 }
 
 impl AskedSoFar {
-    fn gather(&mut self, asked: Option<Asked>) -> Result<(), Uncollected>
-        requires few { self.old.count < MAX_LINES }
-        ensures ok { OnOk result (all.GathersOne self.old asked self.new) }
+    fn keep(&mut self, asked: Asked) -> Result<(), Uncollected>
+        ensures ok { OnOk result (all.KeepsOne self.old.kept asked self.new.kept) }
         ensures err { IfErr result (λ miss. miss ≡ Uncollected.Halted) }
     {
-        let Some(asked) = asked else {
+        let Some(kept) = &mut self.kept else {
             return Ok(());
         };
-        self.count += 1;
-        if self.count > MOST_EVENTS {
+        if kept.len() >= MOST_EVENTS {
+            self.kept = None;
             return Ok(());
         }
-        self.asked.push(asked)?;
+        kept.push(asked)?;
         Ok(())
     }
 }
@@ -106,7 +104,10 @@ impl Collector for AskedSoFar {
 
     fn collect(&mut self, _number: u64, text: &[u8]) -> Result<(), Uncollected> {
         let pair = said(text)?;
-        self.gather(asked_in(pair))
+        match asked_in(pair) {
+            Some(asked) => self.keep(asked),
+            None => Ok(()),
+        }
     }
 
     fn pause(&mut self) -> Result<(), Failed> {
@@ -132,16 +133,11 @@ pub(crate) fn read_asked<R: Source>(
         (ReadFails R.gave R.failed all.said_fault MAX_PAIR reader.old reader.new) }
 {
     let mut so_far = AskedSoFar {
-        count: 0,
-        asked: Vec::new(alloc),
+        kept: Some(Vec::new(alloc)),
     };
     let mut buffer = vec![in alloc; 0u8; BUFFER_LEN]?;
     match read_lines(reader, &mut so_far, MAX_PAIR, &mut buffer) {
-        Ok(()) => {}
-        Err(stop) => return Err(stop.fault_or(TraceFault::OutOfMemory)),
+        Ok(()) => Ok(so_far.kept),
+        Err(stop) => Err(stop.fault_or(TraceFault::OutOfMemory)),
     }
-    if so_far.count > MOST_EVENTS {
-        return Ok(None);
-    }
-    Ok(Some(so_far.asked))
 }

@@ -1,165 +1,106 @@
-//! The text of each place of a picture.
-ghost use Rattle.std.specs.Prelude.{◌≡◌, IfOk, Option, Some};
-ghost use Rattle.std.specs.String.{string_bytes};
+//! What stands at each place of a picture.
+ghost use Rattle.std.specs.Prelude.{◌≡◌};
 ghost use Rattle.flat_model.specs.Memory.{shown};
 ghost use Rattle.run_pictures.specs.Cells as cells;
 
 use crate::place::Place;
+use crate::shown::{Shown, Way};
 use flat_model::{Answer, FlatMemory, Lanes, MAX_REGS, Word};
 use machine_core::{
     BankAnswer, Command, Entry, FieldView, Owed, Queued, RegisterView, ShapedMachine,
 };
-use std::alloc::{AllocError, Global};
-use trace_text::register_text as line_of_register;
 
-fn used_text(alloc: Global, register: RegisterView) -> Result<String, AllocError>
-    ensures { IfOk result (λ text. string_bytes text ≡ cells.used_text register) }
+fn register_seen(register: Option<RegisterView>) -> Shown
+    ensures { result ≡ cells.register_seen register }
 {
+    let Some(register) = register else {
+        return Shown::Nothing;
+    };
     let block = register.block;
     let frame = register.frame;
     let came = register.processed;
-    if register.obsolete {
-        format!(in alloc; "obsolete, block {block}, words came: {came}")
+    if !register.valid {
+        Shown::Free
+    } else if register.obsolete {
+        Shown::Obsolete { block, came }
     } else {
-        format!(in alloc; "valid, block {block}, frame {frame}, words came: {came}")
+        Shown::Valid { block, frame, came }
     }
 }
 
-fn register_text(alloc: Global, register: RegisterView) -> Result<String, AllocError>
-    ensures { IfOk result (λ text. string_bytes text ≡ cells.register_text register) }
+pub(crate) fn is_valid(register: Option<RegisterView>) -> bool
+    ensures { result ≡ cells.is_valid register }
 {
-    if register.valid {
-        used_text(alloc, register)
-    } else {
-        String::from_str(alloc, "free")
-    }
-}
-
-#[tactic(auto, unfolding(crate::specs::Cells::register_at, machine_core::specs::AnyMachine::register_shown))]
-fn register_at(alloc: Global, machine: &ShapedMachine, slot: u32) -> Result<String, AllocError>
-    ensures { IfOk result
-        (λ text. string_bytes text ≡ cells.register_at machine.now slot) }
-{
-    match machine.register(slot) {
-        Some(register) => register_text(alloc, register),
-        None => Ok(String::new(alloc)),
-    }
-}
-
-// As a trace shows it.
-fn line_at(alloc: Global, machine: &ShapedMachine, slot: u32) -> Result<String, AllocError>
-    ensures { IfOk result
-        (λ text. cells.IsLineAt machine.now slot (string_bytes text)) }
-{
-    let line = line_of_register(machine, slot);
-    match std::str::from_utf8(line.as_bytes()) {
-        Ok(text) => String::from_str(alloc, text),
-        // All of its bytes are ASCII.
-        Err(_) => Ok(String::new(alloc)),
-    }
-}
-
-#[tactic(auto, unfolding(crate::specs::Cells::is_used, machine_core::specs::AnyMachine::register_shown))]
-fn is_used(machine: &ShapedMachine, slot: u32) -> bool
-    ensures { result ≡ cells.is_used machine.now slot }
-{
-    match machine.register(slot) {
+    match register {
         Some(register) => register.valid,
         None => false,
     }
 }
 
-fn way_of(field: FieldView) -> &'static str
-    ensures { result.now ≡ cells.way_text field }
+fn way_of(field: FieldView) -> Way
+    ensures { result ≡ cells.way_of field }
 {
     if field.processed {
-        "processed"
+        Way::Processed
     } else if field.in_stack {
-        "in stack"
+        Way::InStack
     } else {
-        "missing"
+        Way::Missing
     }
 }
 
-fn field_text(alloc: Global, field: FieldView) -> Result<String, AllocError>
-    ensures { IfOk result (λ text. string_bytes text ≡ cells.field_text field) }
+fn with_code(way: Way, code: Lanes) -> Shown
+    ensures { result ≡ cells.with_code way code }
 {
-    let way = way_of(field);
-    let code = field.code;
     if code.has_any() {
-        format!(in alloc; "{way}, code {code}")
+        Shown::Coded(way, code)
     } else {
-        String::from_str(alloc, way)
+        Shown::Field(way)
     }
 }
 
-#[tactic(auto, unfolding(crate::specs::Cells::field_at, machine_core::specs::AnyMachine::field_shown))]
-fn field_at(alloc: Global, machine: &ShapedMachine, slot: u32, i: u32) -> Result<String, AllocError>
-    ensures { IfOk result
-        (λ text. string_bytes text ≡ cells.field_at machine.now slot i) }
+fn field_seen(is_used: bool, field: Option<FieldView>) -> Shown
+    ensures { result ≡ cells.field_seen is_used field }
 {
-    if !is_used(machine, slot) {
-        return Ok(String::new(alloc));
-    }
-    match machine.field(slot, i) {
-        Some(field) => field_text(alloc, field),
-        None => Ok(String::new(alloc)),
+    match field {
+        Some(field) if is_used => with_code(way_of(field), field.code),
+        _ => Shown::Nothing,
     }
 }
 
-fn owed_text(alloc: Global, load: Owed, word: Word) -> Result<String, AllocError>
-    ensures { IfOk result (λ text. string_bytes text ≡ cells.owed_text load word) }
+fn owed(load: Owed, due: Option<Word>) -> Shown
+    ensures { result ≡ cells.owed load due }
 {
     let tag = load.tag;
-    let held = load.held;
     let lanes = load.lanes;
-    if lanes.has_any() {
-        format!(in alloc; "tag {tag} is owed {word}, holds {lanes} {held}")
-    } else {
-        format!(in alloc; "tag {tag} is owed {word}")
-    }
-}
-
-fn load_text(alloc: Global, load: Owed, due: Option<Word>) -> Result<String, AllocError>
-    ensures { IfOk result (λ text. string_bytes text ≡ cells.load_text load due) }
-{
+    let held = load.held;
     match due {
-        Some(word) => owed_text(alloc, load, word),
-        None => {
-            let tag = load.tag;
-            format!(in alloc; "tag {tag}")
-        }
+        Some(word) if lanes.has_any() => Shown::Holding {
+            tag,
+            word,
+            lanes,
+            held,
+        },
+        Some(word) => Shown::Owed { tag, word },
+        None => Shown::Load { tag },
     }
 }
 
-#[tactic(auto, unfolding(crate::specs::Cells::is_awaited, machine_core::specs::AnyMachine::field_shown))]
-fn is_awaited(machine: &ShapedMachine, slot: u32, i: u32) -> bool
-    ensures { result ≡ cells.is_awaited machine.now slot i }
+fn is_awaited(is_used: bool, field: Option<FieldView>) -> bool
+    ensures { result ≡ cells.is_awaited is_used field }
 {
-    match machine.field(slot, i) {
-        Some(field) => is_used(machine, slot) && !field.processed,
+    match field {
+        Some(field) => is_used && !field.processed,
         None => false,
     }
 }
 
-#[tactic(auto, unfolding(crate::specs::Cells::load_at, machine_core::specs::AnyMachine::target_shown))]
-fn load_at(
-    alloc: Global,
-    machine: &ShapedMachine,
-    flat: &FlatMemory,
-    slot: u32,
-    i: u32,
-    place: u32,
-) -> Result<String, AllocError>
-    ensures { IfOk result
-        (λ text. string_bytes text ≡ cells.load_at machine.now (shown flat.now) slot i place) }
+fn load_seen(flat: &FlatMemory, is_awaited: bool, load: Option<Owed>) -> Shown
+    ensures { result ≡ cells.load_seen (shown flat.now) is_awaited load }
 {
-    if !is_awaited(machine, slot, i) {
-        return Ok(String::new(alloc));
-    }
-    match machine.target(slot, i, place) {
-        Some(load) => load_text(alloc, load, flat.due_word(load.tag)),
-        None => Ok(String::new(alloc)),
+    match load {
+        Some(load) if is_awaited => owed(load, flat.due_word(load.tag)),
+        _ => Shown::Nothing,
     }
 }
 
@@ -180,164 +121,144 @@ pub(crate) fn is_pending(machine: &ShapedMachine, block: u32) -> bool
     (0..MAX_REGS as u32).any(|slot| is_live_for(machine, slot, block))
 }
 
-fn block_text(alloc: Global, block: u32, pending: bool) -> Result<String, AllocError>
-    ensures { IfOk result (λ text. string_bytes text ≡ cells.block_text block pending) }
+fn frame_seen(machine: &ShapedMachine, block: Option<u32>) -> Shown
+    ensures { result ≡ cells.frame_seen machine.now block }
 {
-    if pending {
-        format!(in alloc; "block {block}, pending")
-    } else {
-        format!(in alloc; "block {block}")
+    match block {
+        Some(block) if is_pending(machine, block) => Shown::Pending(block),
+        Some(block) => Shown::Block(block),
+        None => Shown::Nothing,
     }
 }
 
-#[tactic(auto, unfolding(crate::specs::Cells::frame_at))]
-fn frame_at(alloc: Global, machine: &ShapedMachine, frame: u32) -> Result<String, AllocError>
-    ensures { IfOk result
-        (λ text. string_bytes text ≡ cells.frame_at machine.now frame) }
+fn cell_seen(word: Option<Word>, dirty: Option<Lanes>) -> Shown
+    ensures { result ≡ cells.cell_seen word dirty }
 {
-    match machine.frame_block(frame) {
-        Some(block) => block_text(alloc, block, is_pending(machine, block)),
-        None => Ok(String::new(alloc)),
+    match (word, dirty) {
+        (Some(word), Some(dirty)) if dirty.has_any() => Shown::Dirty(word, dirty),
+        (Some(word), Some(_)) => Shown::Word(word),
+        _ => Shown::Nothing,
     }
 }
 
-fn word_text(alloc: Global, word: Word, dirty: Lanes) -> Result<String, AllocError>
-    ensures { IfOk result (λ text. string_bytes text ≡ cells.word_text word dirty) }
-{
-    if dirty.has_any() {
-        format!(in alloc; "{word}, dirty {dirty}")
-    } else {
-        format!(in alloc; "{word}")
-    }
-}
-
-#[tactic(auto, unfolding(crate::specs::Cells::cell_at))]
-fn cell_at(alloc: Global, machine: &ShapedMachine, frame: u32, i: u32) -> Result<String, AllocError>
-    ensures { IfOk result
-        (λ text. string_bytes text ≡ cells.cell_at machine.now frame i) }
-{
-    match (machine.buffer_word(frame, i), machine.dirty(frame, i)) {
-        (Some(word), Some(dirty)) => word_text(alloc, word, dirty),
-        _ => Ok(String::new(alloc)),
-    }
-}
-
-fn entry_text(alloc: Global, entry: Option<Entry>) -> Result<String, AllocError>
-    ensures { IfOk result (λ text. string_bytes text ≡ cells.entry_text entry) }
+fn entry_seen(entry: Option<Entry>) -> Shown
+    ensures { result ≡ cells.entry_seen entry }
 {
     match entry {
-        Some(entry) => {
-            let slot = entry.slot;
-            let i = entry.i;
-            let word = entry.word;
-            format!(in alloc; "register {slot}, word {i}: {word}")
-        }
-        None => Ok(String::new(alloc)),
+        Some(Entry { slot, i, word }) => Shown::Entry { slot, i, word },
+        None => Shown::Nothing,
     }
 }
 
-fn queued_text(alloc: Global, queued: Option<Queued>) -> Result<String, AllocError>
-    ensures { IfOk result (λ text. string_bytes text ≡ cells.queued_text queued) }
+fn queued_seen(queued: Option<Queued>) -> Shown
+    ensures { result ≡ cells.queued_seen queued }
 {
     match queued {
-        Some(queued) => {
-            let at = queued.at;
-            let block = queued.block;
-            let lanes = queued.lanes;
-            let word = queued.word;
-            format!(in alloc; "word {at}, block {block}: {lanes} {word}")
-        }
-        None => Ok(String::new(alloc)),
+        Some(q) => Shown::Queued {
+            at: q.at,
+            block: q.block,
+            lanes: q.lanes,
+            word: q.word,
+        },
+        None => Shown::Nothing,
     }
 }
 
-fn asked_text(alloc: Global, command: Command) -> Result<String, AllocError>
-    ensures { IfOk result (λ text. string_bytes text ≡ cells.asked_text command) }
+fn command_seen(command: Option<Command>) -> Shown
+    ensures { result ≡ cells.command_seen command }
 {
     match command {
-        Command::Read { slot, i, place } => {
-            format!(in alloc; "read place {place}: register {slot}, word {i}")
-        }
-        Command::Write { place, word, lanes } => {
-            format!(in alloc; "write place {place}: {lanes} {word}")
-        }
+        Some(Command::Read { slot, i, place }) => Shown::Read { place, slot, i },
+        Some(Command::Write { place, word, lanes }) => Shown::Write { place, lanes, word },
+        None => Shown::Nothing,
     }
 }
 
-fn command_text(alloc: Global, command: Option<Command>) -> Result<String, AllocError>
-    ensures { IfOk result (λ text. string_bytes text ≡ cells.command_text command) }
-{
-    match command {
-        Some(command) => asked_text(alloc, command),
-        None => Ok(String::new(alloc)),
-    }
-}
-
-fn answer_text(alloc: Global, answer: Option<BankAnswer>) -> Result<String, AllocError>
-    ensures { IfOk result (λ text. string_bytes text ≡ cells.answer_text answer) }
+fn answer_seen(answer: Option<BankAnswer>) -> Shown
+    ensures { result ≡ cells.answer_seen answer }
 {
     match answer {
-        Some(answer) => {
-            let slot = answer.slot;
-            let i = answer.i;
-            let word = answer.word;
-            format!(in alloc; "register {slot}, word {i}: {word}")
-        }
-        None => Ok(String::new(alloc)),
+        Some(BankAnswer { slot, i, word }) => Shown::Entry { slot, i, word },
+        None => Shown::Nothing,
     }
 }
 
-fn value_text(alloc: Global, answer: Answer) -> Result<String, AllocError>
-    ensures { IfOk result (λ text. string_bytes text ≡ cells.value_text answer) }
-{
-    match answer {
-        Answer::Value { tag, word } => format!(in alloc; "tag {tag}: {word}"),
-        _ => Ok(String::new(alloc)),
-    }
-}
-
-fn reply_text(alloc: Global, reply: Option<Answer>) -> Result<String, AllocError>
-    ensures { IfOk result (λ text. string_bytes text ≡ cells.reply_text reply) }
+fn reply_seen(reply: Option<Answer>) -> Shown
+    ensures { result ≡ cells.reply_seen reply }
 {
     match reply {
-        Some(answer) => value_text(alloc, answer),
-        None => Ok(String::new(alloc)),
+        Some(Answer::Value { tag, word }) => Shown::Value { tag, word },
+        _ => Shown::Nothing,
     }
 }
 
-fn memory_text(alloc: Global, word: Option<Word>) -> Result<String, AllocError>
-    ensures { IfOk result (λ text. string_bytes text ≡ cells.memory_text word) }
+fn memory_seen(word: Option<Word>) -> Shown
+    ensures { result ≡ cells.memory_seen word }
 {
     match word {
-        Some(word) => format!(in alloc; "{word}"),
-        None => Ok(String::new(alloc)),
+        Some(word) => Shown::Word(word),
+        None => Shown::Nothing,
     }
 }
 
-/// The text of a place, empty for nothing. `flat` is what loads are owed. `AllocError`: too little
-/// memory.
-#[tactic(auto, unfolding(machine_core::specs::AnyMachine::bank_shown))]
-pub fn text_at(
-    alloc: Global,
-    machine: &ShapedMachine,
-    flat: &FlatMemory,
-    place: Place,
-) -> Result<String, AllocError>
-    ensures { IfOk result
-        (λ text. cells.IsTextAt machine.now (shown flat.now) place (string_bytes text)) }
+/// What stands at a place. `flat` is what loads are owed. A register's line is that of
+/// [`register_text`](trace_text::register_text), and nothing stands there.
+#[tactic(auto, unfolding(machine_core::specs::AnyMachine::register_shown, machine_core::specs::AnyMachine::field_shown, machine_core::specs::AnyMachine::target_shown, machine_core::specs::AnyMachine::bank_shown))]
+pub fn shown_at(machine: &ShapedMachine, flat: &FlatMemory, place: Place) -> Shown
+    ensures { result ≡ cells.shown_at machine.now (shown flat.now) place }
 {
     match place {
-        Place::Register { slot } => register_at(alloc, machine, slot),
-        Place::Line { slot } => line_at(alloc, machine, slot),
-        Place::Field { slot, i } => field_at(alloc, machine, slot, i),
-        Place::Load { slot, i, place } => load_at(alloc, machine, flat, slot, i, place),
-        Place::Frame { frame } => frame_at(alloc, machine, frame),
-        Place::Cell { frame, i } => cell_at(alloc, machine, frame, i),
-        Place::Stack { place } => entry_text(alloc, machine.stack_entry(place)),
-        Place::Queue { place } => queued_text(alloc, machine.queue_entry(place)),
-        Place::Command { bank, place } => command_text(alloc, machine.command_at(bank, place)),
-        Place::Answer { bank, place } => answer_text(alloc, machine.answer_at(bank, place)),
-        Place::Reply { place } => reply_text(alloc, machine.reply(place)),
-        Place::Memory { at } => memory_text(alloc, machine.bank_word(at)),
+        Place::Register { slot } => register_seen(machine.register(slot)),
+        Place::Line { .. } => Shown::Nothing,
+        Place::Field { slot, i } => {
+            field_seen(is_valid(machine.register(slot)), machine.field(slot, i))
+        }
+        Place::Load { slot, i, place } => {
+            let is_awaited = is_awaited(is_valid(machine.register(slot)), machine.field(slot, i));
+            load_seen(flat, is_awaited, machine.target(slot, i, place))
+        }
+        Place::Frame { frame } => frame_seen(machine, machine.frame_block(frame)),
+        Place::Cell { frame, i } => {
+            cell_seen(machine.buffer_word(frame, i), machine.dirty(frame, i))
+        }
+        Place::Stack { place } => entry_seen(machine.stack_entry(place)),
+        Place::Queue { place } => queued_seen(machine.queue_entry(place)),
+        Place::Command { bank, place } => command_seen(machine.command_at(bank, place)),
+        Place::Answer { bank, place } => answer_seen(machine.answer_at(bank, place)),
+        Place::Reply { place } => reply_seen(machine.reply(place)),
+        Place::Memory { at } => memory_seen(machine.bank_word(at)),
+    }
+}
+
+/// A place of a picture, what stands there, and whether the step changed it.
+#[derive(Clone, Copy)]
+pub(crate) struct Cell {
+    pub(crate) place: Place,
+    pub(crate) shown: Shown,
+    pub(crate) is_changed: bool,
+}
+
+impl Cell {
+    /// Before the first event.
+    pub(crate) fn first(machine: &ShapedMachine, flat: &FlatMemory, place: Place) -> Cell
+        ensures { result ≡ cells.first_cell machine.now (shown flat.now) place }
+    {
+        Cell {
+            place,
+            shown: shown_at(machine, flat, place),
+            is_changed: false,
+        }
+    }
+
+    /// The same place in a machine that stands so now.
+    pub(crate) fn behind(&self, machine: &ShapedMachine, flat: &FlatMemory) -> Cell
+        ensures { result ≡ cells.cell_behind machine.now (shown flat.now) self.now }
+    {
+        let shown = shown_at(machine, flat, self.place);
+        Cell {
+            place: self.place,
+            shown,
+            is_changed: self.shown != shown,
+        }
     }
 }

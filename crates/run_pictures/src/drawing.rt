@@ -1,8 +1,8 @@
 //! A run in one of three forms.
 
-ghost use Rattle.std.specs.Prelude.{◌≡◌, OnOk, IfOk};
+ghost use Rattle.std.specs.Prelude.{OnOk, IfOk};
 ghost use Rattle.std.specs.String.{string_bytes};
-ghost use Rattle.run_pictures.specs.Drawn.{Opens, Draws, whole_text};
+ghost use Rattle.run_pictures.specs.Drawn.{Opens, Draws, IsWritten};
 
 use crate::page::Page;
 use crate::screens::Screens;
@@ -51,24 +51,25 @@ impl Drawing {
         }
     }
 
+    // Screens have the whole machine there, or what changed.
     pub(crate) fn draw(
         &mut self,
         alloc: Global,
         machine: &ShapedMachine,
         step: &Step,
+        is_whole: bool,
     ) -> Result<(), AllocError>
-        ensures { OnOk result
-            (Draws step.now.number step.now.is_whole machine.now step.now.made (string_bytes step.now.words) self.old self.new) }
+        ensures { OnOk result (Draws is_whole machine.now step.now self.old self.new) }
     {
         match self {
             Drawing::Page(page) => page.draw(alloc, machine, step),
-            Drawing::Screens(screens) => screens.draw(alloc, machine, step),
+            Drawing::Screens(screens) => screens.draw(alloc, machine, step, is_whole),
             Drawing::Waveform(waveform) => waveform.draw(alloc, machine, step),
         }
     }
 
     pub(crate) fn finish(self) -> Result<String, AllocError>
-        ensures { IfOk result (λ text. string_bytes text ≡ whole_text self) }
+        ensures { IfOk result (λ text. IsWritten self (string_bytes text)) }
     {
         match self {
             Drawing::Page(page) => page.finish(),

@@ -1,14 +1,13 @@
 //! The walk of a machine over events, drawn.
 
-ghost use Rattle.std.specs.Prelude.{◌≡◌, length, OnOk, OnErr, IfOk};
+ghost use Rattle.std.specs.Prelude.{◌≡◌, length, OnOk, IfOk};
 ghost use Rattle.std.specs.String.{string_bytes};
 ghost use Rattle.machine_core.specs.AnyMachine.{after_event};
-ghost use Rattle.run_pictures.specs.Drawn.{DrawsEvent, Follows, IsDrawn, IsWithin, after_asked, is_whole};
+ghost use Rattle.run_pictures.specs.Drawn.{DrawsEvent, Follows, IsDrawn, is_whole};
 
-use crate::asked::{Asked, other_answer};
-use crate::before::Before;
+use crate::asked::Asked;
 use crate::drawing::{Drawing, Form};
-use crate::step::{Made, Step};
+use crate::step::Step;
 use flat_model::Image;
 use machine_core::ShapedMachine;
 use std::alloc::{AllocError, Global};
@@ -25,7 +24,6 @@ fn is_whole(count: usize, number: usize) -> bool
     number == count || number % WHOLE_EVERY == 0
 }
 
-#[tactic(auto, unfolding(machine_core::specs::AnyMachine::after_event))]
 fn draw_event(
     alloc: Global,
     machine: &mut ShapedMachine,
@@ -38,22 +36,8 @@ fn draw_event(
     ensures step { OnOk result
         (DrawsEvent count number machine.old asked drawing.old drawing.new) }
 {
-    let before = Before::new(machine, asked.event);
-    let answer = machine.apply(asked.event);
-    let made = Made {
-        event: asked.event,
-        answer,
-        other: other_answer(answer, asked.recorded),
-    };
-    let step = Step::new(
-        alloc,
-        machine,
-        number,
-        is_whole(count, number),
-        before,
-        made,
-    )?;
-    drawing.draw(alloc, machine, &step)
+    let step = Step::new(machine, number, asked);
+    drawing.draw(alloc, machine, &step, is_whole(count, number))
 }
 
 fn draw_events(
@@ -62,9 +46,7 @@ fn draw_events(
     all: &[Asked],
     drawing: &mut Drawing,
 ) -> Result<(), AllocError>
-    ensures follows { OnOk result (Follows (length all.now) 1 machine.old all.now drawing.old drawing.new) }
-    ensures behind { OnOk result (machine.new ≡ after_asked machine.old all.now) }
-    ensures within { OnErr result (IsWithin machine.old all.now machine.new) }
+    ensures { OnOk result (Follows (length all.now) 1 machine.old all.now drawing.old drawing.new) }
 {
     for (k, asked) in all.iter().enumerate() {
         draw_event(alloc, machine, all.len(), k + 1, *asked, drawing)?;
@@ -79,10 +61,8 @@ pub(crate) fn draw_run(
     form: Form,
     all: &[Asked],
 ) -> Result<String, AllocError>
-    ensures drawn { IfOk result
+    ensures { IfOk result
         (λ text. IsDrawn form image.now machine.old all.now (string_bytes text)) }
-    ensures behind { OnOk result (machine.new ≡ after_asked machine.old all.now) }
-    ensures within { OnErr result (IsWithin machine.old all.now machine.new) }
 {
     let mut drawing = Drawing::new(alloc, machine, image, form)?;
     draw_events(alloc, machine, all, &mut drawing)?;

@@ -1,56 +1,57 @@
 //! The picture of a machine, and what an event changes of it.
 
-ghost use Rattle.std.specs.Prelude.{◌≡◌, OnOk, IfOk, Some};
+ghost use Rattle.std.specs.Prelude.{◌≡◌, map, OnOk, IfOk, Some};
 ghost use Rattle.flat_model.specs.Memory.{shown};
 ghost use Rattle.flat_model.specs.Flat.{flat_step};
+ghost use Rattle.run_pictures.specs.Cells.{first_cell, cell_behind};
 ghost use Rattle.run_pictures.specs.Pictures as pictures;
 
-use crate::cells::text_at;
+use crate::cells::Cell;
 use crate::place::{Place, places_of};
-use flat_model::{Answer, Event, FlatMemory, Image};
+use crate::step::Made;
+use flat_model::{FlatMemory, Image};
 use machine_core::ShapedMachine;
 use std::alloc::{AllocError, Global};
 
 #[derive(Drop)]
 pub(crate) struct Film {
     flat: FlatMemory,
-    places: Vec<Place>,
-    texts: Vec<String>,
+    cells: Vec<Cell>,
 }
 
-fn texts_of(
+fn first_cells(
     alloc: Global,
     machine: &ShapedMachine,
     flat: &FlatMemory,
     places: &[Place],
-) -> Result<Vec<String>, AllocError>
-    ensures { IfOk result
-        (λ texts. pictures.IsPicture machine.now (shown flat.now) places.now texts.items) }
+) -> Result<Vec<Cell>, AllocError>
+    ensures { IfOk result (λ cells. cells.items ≡ map (first_cell machine.now (shown flat.now)) places.now) }
 {
-    let mut texts = Vec::with_capacity(alloc, places.len())?;
-    for place in places {
-        texts.push(text_at(alloc, machine, flat, *place)?)?;
-    }
-    Ok(texts)
+    places
+        .iter()
+        .map(|place| Cell::first(machine, flat, *place))
+        .collect(alloc)
 }
 
-#[tactic(auto, unfolding(crate::specs::Pictures::is_changed))]
-pub(crate) fn is_changed(before: &[String], after: &[String], k: usize) -> bool
-    ensures { result ≡ pictures.is_changed before.now after.now k }
+fn cells_behind(
+    alloc: Global,
+    machine: &ShapedMachine,
+    flat: &FlatMemory,
+    cells: &[Cell],
+) -> Result<Vec<Cell>, AllocError>
+    ensures { IfOk result (λ v. v.items ≡ map (cell_behind machine.now (shown flat.now)) cells.now) }
 {
-    let Some(new) = after.get(k) else {
-        return false;
-    };
-    match before.get(k) {
-        Some(old) => old.as_str() != new.as_str(),
-        None => !new.is_empty(),
-    }
+    cells
+        .iter()
+        .map(|cell| cell.behind(machine, flat))
+        .collect(alloc)
 }
 
-fn step_flat(flat: &mut FlatMemory, event: Event, answer: Answer) -> Result<(), AllocError>
-    ensures { OnOk result (flat_step (shown flat.old) event answer ≡ Some (shown flat.new)) }
+fn step_flat(flat: &mut FlatMemory, made: Made) -> Result<(), AllocError>
+    ensures { OnOk result (flat_step (shown flat.old) made.event made.answer ≡ Some (shown flat.new)) }
 {
-    flat.step(event, answer).map_err(|_fault| AllocError)
+    flat.step(made.event, made.answer)
+        .map_err(|_fault| AllocError)
 }
 
 impl Film {
@@ -64,40 +65,27 @@ impl Film {
         let sizes = machine.sizes();
         let places = places_of(alloc, sizes)?;
         let flat = image.flat_memory(alloc, sizes.words)?;
-        let texts = texts_of(alloc, machine, &flat, places.as_slice())?;
-        Ok(Film {
-            flat,
-            places,
-            texts,
-        })
+        let cells = first_cells(alloc, machine, &flat, places.as_slice())?;
+        Ok(Film { flat, cells })
     }
 
-    pub(crate) fn places(&self) -> &[Place]
-        ensures { result.now ≡ self.now.places.items }
+    pub(crate) fn cells(&self) -> &[Cell]
+        ensures { result.now ≡ self.now.cells.items }
     {
-        self.places.as_slice()
+        self.cells.as_slice()
     }
 
-    pub(crate) fn texts(&self) -> &[String]
-        ensures { result.now ≡ self.now.texts.items }
-    {
-        self.texts.as_slice()
-    }
-
-    /// Returns the texts of the picture before.
     pub(crate) fn advance(
         &mut self,
         alloc: Global,
         machine: &ShapedMachine,
-        event: Event,
-        answer: Answer,
-    ) -> Result<Vec<String>, AllocError>
-        ensures film { OnOk result
-            (pictures.GoesOn machine.now event answer self.old self.new) }
-        ensures before { IfOk result (λ before. before.items ≡ self.old.texts.items) }
+        made: Made,
+    ) -> Result<(), AllocError>
+        ensures { OnOk result
+            (pictures.GoesOn machine.now made self.old self.new) }
     {
-        step_flat(&mut self.flat, event, answer)?;
-        let texts = texts_of(alloc, machine, &self.flat, self.places.as_slice())?;
-        Ok(std::mem::replace(&mut self.texts, texts))
+        step_flat(&mut self.flat, made)?;
+        self.cells = cells_behind(alloc, machine, &self.flat, self.cells.as_slice())?;
+        Ok(())
     }
 }

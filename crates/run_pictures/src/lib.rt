@@ -5,9 +5,9 @@
 //!   as a waveform ([`Form`]).
 //! - Caller: `kroft_jobs`.
 //!
-//! A picture is a row of [`Place`]s, each with its text: a register, a word of a frame, an entry of
-//! a queue. All of it is what a machine shows of its state. [`words_by`] says what a step did, or
-//! why it didn't.
+//! A picture is a row of [`Place`]s, and [`Shown`] says what stands at each: a register, a word of a
+//! frame, an entry of a queue. All of it is what a machine shows of its state. [`words_by`] says what
+//! a step did, or why it didn't. How a page writes that is plain code.
 #![tactic(auto)]
 
 mod asked;
@@ -18,23 +18,26 @@ mod drawn;
 mod film;
 mod layout;
 mod level;
-mod numbered;
 mod page;
 mod page_parts;
+mod phrase;
 mod place;
 mod reasons;
 mod screens;
 mod shortage;
 mod show;
+mod shown;
 mod signal;
 mod step;
 mod waveform;
 
 pub use before::Before;
-pub use cells::text_at;
+pub use cells::shown_at;
 pub use drawing::Form;
 pub use drawn::{MOST_EVENTS, WHOLE_EVERY};
+pub use phrase::Phrase;
 pub use place::Place;
 pub use reasons::words_by;
 pub use show::{FaultText, ShowFault, show_text};
+pub use shown::{Shown, Way};
 pub use signal::Signal;

@@ -2,11 +2,9 @@
 ghost use Rattle.std.specs.Prelude.{◌≡◌, ◌*◌, ◌++◌, Some, OnOk, IfOk};
 ghost use Rattle.machine_core.specs.Words.{MAX_WAITING};
 ghost use Rattle.run_pictures.specs.Layouts.{fitted};
-ghost use Rattle.run_pictures.specs.Numbered.{text_of};
 ghost use Rattle.run_pictures.specs.Places as spots;
 
 use crate::layout::{answers_in, frames_in};
-use crate::numbered::Numbered;
 use machine_core::{MAX_WAITING, Sizes};
 use std::alloc::{AllocError, Global};
 use std::fmt;
@@ -45,184 +43,119 @@ pub enum Place {
 
 /// The place's name in a page: a letter, and its numbers with a point between them.
 impl fmt::Display for Place {
-    ghost use Rattle.run_pictures.specs.Places.{name_text};
-
-    ghost output = { λ place. Some (name_text place) };
-
     fn fmt<W: fmt::Write>(&self, f: &mut fmt::Formatter<W>) -> fmt::Result {
-        let name = name_of(*self);
-        write!(f, "{name}")
+        match *self {
+            Place::Register { slot } => write!(f, "r{slot}"),
+            Place::Line { slot } => write!(f, "g{slot}"),
+            Place::Field { slot, i } => write!(f, "w{slot}.{i}"),
+            Place::Load { slot, i, place } => write!(f, "l{slot}.{i}.{place}"),
+            Place::Frame { frame } => write!(f, "f{frame}"),
+            Place::Cell { frame, i } => write!(f, "c{frame}.{i}"),
+            Place::Stack { place } => write!(f, "s{place}"),
+            Place::Queue { place } => write!(f, "q{place}"),
+            Place::Command { bank, place } => write!(f, "m{bank}.{place}"),
+            Place::Answer { bank, place } => write!(f, "a{bank}.{place}"),
+            Place::Reply { place } => write!(f, "v{place}"),
+            Place::Memory { at } => write!(f, "b{at}"),
+        }
     }
 }
 
-fn name_of(place: Place) -> Numbered
-    ensures { text_of result ≡ spots.name_text place }
-{
-    match place {
-        Place::Register { slot } => Numbered::One("r", slot),
-        Place::Line { slot } => Numbered::One("g", slot),
-        Place::Field { slot, i } => Numbered::Two("w", slot, ".", i),
-        Place::Load { slot, i, place } => Numbered::Three("l", slot, ".", i, ".", place),
-        Place::Frame { frame } => Numbered::One("f", frame),
-        Place::Cell { frame, i } => Numbered::Two("c", frame, ".", i),
-        Place::Stack { place } => Numbered::One("s", place),
-        Place::Queue { place } => Numbered::One("q", place),
-        Place::Command { bank, place } => Numbered::Two("m", bank, ".", place),
-        Place::Answer { bank, place } => Numbered::Two("a", bank, ".", place),
-        Place::Reply { place } => Numbered::One("v", place),
-        Place::Memory { at } => Numbered::One("b", at),
+impl Place {
+    // The place of this kind with this last number.
+    fn nth(self, n: u32) -> Place
+        ensures { result ≡ spots.nth self n }
+    {
+        match self {
+            Place::Register { .. } => Place::Register { slot: n },
+            Place::Line { .. } => Place::Line { slot: n },
+            Place::Field { slot, .. } => Place::Field { slot, i: n },
+            Place::Load { slot, i, .. } => Place::Load { slot, i, place: n },
+            Place::Frame { .. } => Place::Frame { frame: n },
+            Place::Cell { frame, .. } => Place::Cell { frame, i: n },
+            Place::Stack { .. } => Place::Stack { place: n },
+            Place::Queue { .. } => Place::Queue { place: n },
+            Place::Command { bank, .. } => Place::Command { bank, place: n },
+            Place::Answer { bank, .. } => Place::Answer { bank, place: n },
+            Place::Reply { .. } => Place::Reply { place: n },
+            Place::Memory { .. } => Place::Memory { at: n },
+        }
     }
 }
 
-fn push_loads(places: &mut Vec<Place>, slot: u32, i: u32) -> Result<(), AllocError>
-    ensures { OnOk result (places.new.items ≡ places.old.items ++ spots.of_each (spots.load_place slot i) MAX_WAITING) }
+// So many places of a kind.
+#[tactic(auto, using(trace_text::proofs::Ranges::flat_map_next))]
+fn push_all(places: &mut Vec<Place>, first: Place, count: u32) -> Result<(), AllocError>
+    ensures { OnOk result (places.new.items ≡ places.old.items ++ spots.all first count) }
 {
-    for place in 0..MAX_WAITING as u32 {
-        places.push(Place::Load { slot, i, place })?;
+    for n in 0..count {
+        places.push(first.nth(n))?;
     }
     Ok(())
 }
 
+// A word of a register, and the loads that may wait for it.
 fn push_field(places: &mut Vec<Place>, slot: u32, i: u32) -> Result<(), AllocError>
     ensures { OnOk result (places.new.items ≡ places.old.items ++ spots.field_places slot i) }
 {
+    let place = 0;
     places.push(Place::Field { slot, i })?;
-    push_loads(places, slot, i)
+    push_all(places, Place::Load { slot, i, place }, MAX_WAITING as u32)
 }
 
-fn push_fields(places: &mut Vec<Place>, sizes: &Sizes, slot: u32) -> Result<(), AllocError>
-    ensures { OnOk result (places.new.items ≡ places.old.items ++ spots.of_each (spots.field_places slot) sizes.now.block_words) }
+#[tactic(auto, using(trace_text::proofs::Ranges::flat_map_next))]
+fn push_register(places: &mut Vec<Place>, words: u32, slot: u32) -> Result<(), AllocError>
+    ensures { OnOk result (places.new.items ≡ places.old.items ++ spots.register_places words slot) }
 {
-    for i in 0..sizes.block_words {
+    places.push(Place::Register { slot })?;
+    places.push(Place::Line { slot })?;
+    for i in 0..words {
         push_field(places, slot, i)?;
     }
     Ok(())
 }
 
-fn push_register(places: &mut Vec<Place>, sizes: &Sizes, slot: u32) -> Result<(), AllocError>
-    ensures { OnOk result (places.new.items ≡ places.old.items ++ spots.register_places sizes.now slot) }
-{
-    places.push(Place::Register { slot })?;
-    places.push(Place::Line { slot })?;
-    push_fields(places, sizes, slot)
-}
-
+#[tactic(auto, using(trace_text::proofs::Ranges::flat_map_next))]
 fn push_registers(places: &mut Vec<Place>, sizes: &Sizes) -> Result<(), AllocError>
-    ensures { OnOk result (places.new.items ≡ places.old.items ++ spots.of_each (spots.register_places sizes.now) sizes.now.regs) }
+    ensures { OnOk result (places.new.items ≡ places.old.items ++ spots.all_registers sizes.now) }
 {
     for slot in 0..sizes.regs {
-        push_register(places, sizes, slot)?;
+        push_register(places, sizes.block_words, slot)?;
     }
     Ok(())
 }
 
-fn push_cells(places: &mut Vec<Place>, sizes: &Sizes, frame: u32) -> Result<(), AllocError>
-    ensures { OnOk result (places.new.items ≡ places.old.items ++ spots.of_each (spots.cell_place frame) sizes.now.block_words) }
-{
-    for i in 0..sizes.block_words {
-        places.push(Place::Cell { frame, i })?;
-    }
-    Ok(())
-}
-
-fn push_frame(places: &mut Vec<Place>, sizes: &Sizes, frame: u32) -> Result<(), AllocError>
-    ensures { OnOk result (places.new.items ≡ places.old.items ++ spots.frame_places sizes.now frame) }
+fn push_frame(places: &mut Vec<Place>, words: u32, frame: u32) -> Result<(), AllocError>
+    ensures { OnOk result (places.new.items ≡ places.old.items ++ spots.frame_places words frame) }
 {
     places.push(Place::Frame { frame })?;
-    push_cells(places, sizes, frame)
+    push_all(places, Place::Cell { frame, i: 0 }, words)
 }
 
+#[tactic(auto, using(trace_text::proofs::Ranges::flat_map_next))]
 fn push_frames(places: &mut Vec<Place>, sizes: &Sizes) -> Result<(), AllocError>
-    ensures { OnOk result
-        (places.new.items
-        ≡ places.old.items
-        ++ spots.of_each (spots.frame_places sizes.now) (fitted (sizes.now.sets * sizes.now.ways))) }
+    ensures { OnOk result (places.new.items ≡ places.old.items ++ spots.all_frames sizes.now) }
 {
     for frame in 0..frames_in(sizes) {
-        push_frame(places, sizes, frame)?;
+        push_frame(places, sizes.block_words, frame)?;
     }
     Ok(())
 }
 
-fn push_stack(places: &mut Vec<Place>, sizes: &Sizes) -> Result<(), AllocError>
-    ensures { OnOk result (places.new.items ≡ places.old.items ++ spots.of_each spots.stack_place sizes.now.depth) }
-{
-    for place in 0..sizes.depth {
-        places.push(Place::Stack { place })?;
-    }
-    Ok(())
-}
-
-fn push_queue(places: &mut Vec<Place>, sizes: &Sizes) -> Result<(), AllocError>
-    ensures { OnOk result (places.new.items ≡ places.old.items ++ spots.of_each spots.queue_place sizes.now.write_queue) }
-{
-    for place in 0..sizes.write_queue {
-        places.push(Place::Queue { place })?;
-    }
-    Ok(())
-}
-
-fn push_commands(places: &mut Vec<Place>, sizes: &Sizes, bank: u32) -> Result<(), AllocError>
-    ensures { OnOk result (places.new.items ≡ places.old.items ++ spots.of_each (spots.command_place bank) sizes.now.bank_queue) }
-{
-    for place in 0..sizes.bank_queue {
-        places.push(Place::Command { bank, place })?;
-    }
-    Ok(())
-}
-
-fn push_answers(places: &mut Vec<Place>, sizes: &Sizes, bank: u32) -> Result<(), AllocError>
-    ensures { OnOk result
-        (places.new.items
-        ≡ places.old.items
-        ++ spots.of_each (spots.answer_place bank) (fitted (sizes.now.regs * sizes.now.block_words))) }
-{
-    for place in 0..answers_in(sizes) {
-        places.push(Place::Answer { bank, place })?;
-    }
-    Ok(())
-}
-
+// The registers ask for each word of their blocks once.
 fn push_bank(places: &mut Vec<Place>, sizes: &Sizes, bank: u32) -> Result<(), AllocError>
     ensures { OnOk result (places.new.items ≡ places.old.items ++ spots.bank_places sizes.now bank) }
 {
-    push_commands(places, sizes, bank)?;
-    push_answers(places, sizes, bank)
+    push_all(places, Place::Command { bank, place: 0 }, sizes.bank_queue)?;
+    push_all(places, Place::Answer { bank, place: 0 }, answers_in(sizes))
 }
 
+#[tactic(auto, using(trace_text::proofs::Ranges::flat_map_next))]
 fn push_banks(places: &mut Vec<Place>, sizes: &Sizes) -> Result<(), AllocError>
-    ensures { OnOk result (places.new.items ≡ places.old.items ++ spots.of_each (spots.bank_places sizes.now) sizes.now.banks) }
+    ensures { OnOk result (places.new.items ≡ places.old.items ++ spots.all_banks sizes.now) }
 {
     for bank in 0..sizes.banks {
         push_bank(places, sizes, bank)?;
-    }
-    Ok(())
-}
-
-fn push_replies(places: &mut Vec<Place>, sizes: &Sizes) -> Result<(), AllocError>
-    ensures { OnOk result (places.new.items ≡ places.old.items ++ spots.of_each spots.reply_place sizes.now.replies) }
-{
-    for place in 0..sizes.replies {
-        places.push(Place::Reply { place })?;
-    }
-    Ok(())
-}
-
-fn memory_shown(words: u32) -> u32
-    ensures { result ≡ spots.memory_shown words }
-{
-    if words > MOST_MEMORY {
-        MOST_MEMORY
-    } else {
-        words
-    }
-}
-
-fn push_memory(places: &mut Vec<Place>, sizes: &Sizes) -> Result<(), AllocError>
-    ensures { OnOk result (places.new.items ≡ places.old.items ++ spots.of_each spots.memory_place (spots.memory_shown sizes.now.words)) }
-{
-    for at in 0..memory_shown(sizes.words) {
-        places.push(Place::Memory { at })?;
     }
     Ok(())
 }
@@ -236,10 +169,14 @@ pub(crate) fn places_of(alloc: Global, sizes: &Sizes) -> Result<Vec<Place>, Allo
     let mut places = Vec::new(alloc);
     push_registers(&mut places, sizes)?;
     push_frames(&mut places, sizes)?;
-    push_stack(&mut places, sizes)?;
-    push_queue(&mut places, sizes)?;
+    push_all(&mut places, Place::Stack { place: 0 }, sizes.depth)?;
+    push_all(&mut places, Place::Queue { place: 0 }, sizes.write_queue)?;
     push_banks(&mut places, sizes)?;
-    push_replies(&mut places, sizes)?;
-    push_memory(&mut places, sizes)?;
+    push_all(&mut places, Place::Reply { place: 0 }, sizes.replies)?;
+    push_all(
+        &mut places,
+        Place::Memory { at: 0 },
+        sizes.words.min(MOST_MEMORY),
+    )?;
     Ok(places)
 }

@@ -1,46 +1,31 @@
 //! What an event did, or why it didn't, in words.
 
-ghost use Rattle.std.specs.Prelude.{◌≡◌, IfOk};
-ghost use Rattle.std.specs.String.{string_bytes};
-ghost use Rattle.run_pictures.specs.Numbered.{text_of};
+ghost use Rattle.std.specs.Prelude.{◌≡◌};
+ghost use Rattle.run_pictures.specs.Phrases.{text_of};
 ghost use Rattle.run_pictures.specs.Words as words;
 
 use crate::before::Before;
 use crate::layout::{bank_in, block_in, set_in};
-use crate::numbered::Numbered;
+use crate::phrase::Phrase;
 use crate::shortage::{bank_full, queue_full};
-use flat_model::{Answer, Cause, Event, Word};
+use flat_model::{Answer, Cause, Event};
 use machine_core::{BankAnswer, Entry, Lookup, Queued, ShapedMachine, Sizes};
-use std::alloc::{AllocError, Global};
 
 /// What an event did, or why it didn't, as a sentence without full stop.
 ///
 /// It speaks of the machine before the event: [`Before::new`] reads `before` there. `machine`
 /// has had the event, which it answered with `answer`. The sentence has the numbers that it
-/// rests on, as the block or the free places. `AllocError`: too little memory.
-pub fn words_by(
-    alloc: Global,
-    machine: &ShapedMachine,
-    before: Before,
-    event: Event,
-    answer: Answer,
-) -> Result<String, AllocError>
-    ensures { IfOk result
-        (λ text. string_bytes text ≡ words.words_by before machine.now event answer) }
+/// rests on, as the block or the free places.
+pub fn words_by(machine: &ShapedMachine, before: Before, event: Event, answer: Answer) -> Phrase
+    ensures { text_of result ≡ words.words_by before machine.now event answer }
 {
     match answer {
-        Answer::Accepted => { written(alloc, accepted(machine.sizes(), event, before.found)) }
-        Answer::Moved => moved(alloc, machine.sizes(), before, event),
-        Answer::Value { tag, word } => taken(alloc, tag, word),
-        Answer::Nothing => written(alloc, idle(event)),
-        Answer::Refused(cause) => refused(alloc, machine, event, cause),
+        Answer::Accepted => accepted(machine.sizes(), event, before.found),
+        Answer::Moved => moved(machine.sizes(), before, event),
+        Answer::Value { tag, word } => Phrase::Taken { tag, word },
+        Answer::Nothing => idle(event),
+        Answer::Refused(cause) => refused(machine, event, cause),
     }
-}
-
-fn written(alloc: Global, sentence: Numbered) -> Result<String, AllocError>
-    ensures { IfOk result (λ text. string_bytes text ≡ text_of sentence) }
-{
-    format!(in alloc; "{sentence}")
 }
 
 // Block 0 for events without one.
@@ -56,27 +41,27 @@ pub(crate) fn block_about(sizes: &Sizes, event: Event) -> u32
     }
 }
 
-fn accepted(sizes: &Sizes, event: Event, found: Option<Lookup>) -> Numbered
+fn accepted(sizes: &Sizes, event: Event, found: Option<Lookup>) -> Phrase
     ensures { text_of result ≡ words.accepted_words sizes.now event found }
 {
     match event {
-        Event::Evict { block } => Numbered::Between("the frame of block ", block, " is given up"),
+        Event::Evict { block } => Phrase::Between("the frame of block ", block, " is given up"),
         _ => requested(block_about(sizes, event), event, found),
     }
 }
 
-fn requested(block: u32, event: Event, found: Option<Lookup>) -> Numbered
+fn requested(block: u32, event: Event, found: Option<Lookup>) -> Phrase
     ensures { text_of result ≡ words.request_words block event found }
 {
     match found {
-        Some(Lookup::Hit) => Numbered::Word(hit(event)),
-        Some(Lookup::Join) => Numbered::Word(joined(event)),
-        Some(Lookup::Miss) => Numbered::Between(
+        Some(Lookup::Hit) => Phrase::Word(hit(event)),
+        Some(Lookup::Join) => Phrase::Word(joined(event)),
+        Some(Lookup::Miss) => Phrase::Between(
             "a miss: a register is taken, and block ",
             block,
             "'s words are asked for",
         ),
-        None => Numbered::Word(""),
+        None => Phrase::Word(""),
     }
 }
 
@@ -100,144 +85,121 @@ fn joined(event: Event) -> &'static str
     }
 }
 
-fn moved(alloc: Global, sizes: &Sizes, before: Before, event: Event) -> Result<String, AllocError>
-    ensures { IfOk result
-        (λ text. string_bytes text ≡ words.moved_words sizes.now before event) }
+fn moved(sizes: &Sizes, before: Before, event: Event) -> Phrase
+    ensures { text_of result ≡ words.moved_words sizes.now before event }
 {
     match event {
-        Event::Drain => drained(alloc, sizes, before.front),
-        Event::Serve { bank } => format!(in alloc; "bank {bank} serves its first command"),
-        Event::Arrive { bank, .. } => arrived(alloc, bank, before.answer),
-        Event::Process { .. } => written(alloc, processed(before.entry)),
-        _ => Ok(String::new(alloc)),
+        Event::Drain => drained(sizes, before.front),
+        Event::Serve { bank } => Phrase::Between("bank ", bank, " serves its first command"),
+        Event::Arrive { bank, .. } => arrived(bank, before.answer),
+        Event::Process { .. } => processed(before.entry),
+        _ => Phrase::Word(""),
     }
 }
 
-fn drained(alloc: Global, sizes: &Sizes, front: Option<Queued>) -> Result<String, AllocError>
-    ensures { IfOk result (λ text. string_bytes text ≡ words.drained_words sizes.now front) }
+fn drained(sizes: &Sizes, front: Option<Queued>) -> Phrase
+    ensures { text_of result ≡ words.drained_words sizes.now front }
 {
     match front {
-        Some(front) => sent(alloc, sizes, front),
-        None => Ok(String::new(alloc)),
+        Some(front) => Phrase::Sent {
+            lanes: front.lanes,
+            at: front.at,
+            bank: bank_in(sizes, u64::from(front.at)),
+        },
+        None => Phrase::Word(""),
     }
 }
 
-fn sent(alloc: Global, sizes: &Sizes, front: Queued) -> Result<String, AllocError>
-    ensures { IfOk result (λ text. string_bytes text ≡ words.sent_words sizes.now front) }
-{
-    let at = front.at;
-    let lanes = front.lanes;
-    let bank = bank_in(sizes, u64::from(at));
-    format!(in alloc; "the bytes {lanes} of word {at} go to bank {bank}")
-}
-
-fn arrived(alloc: Global, bank: u32, answer: Option<BankAnswer>) -> Result<String, AllocError>
-    ensures { IfOk result (λ text. string_bytes text ≡ words.arrived_words bank answer) }
+fn arrived(bank: u32, answer: Option<BankAnswer>) -> Phrase
+    ensures { text_of result ≡ words.arrived_words bank answer }
 {
     match answer {
-        Some(answer) => {
-            let slot = answer.slot;
-            let i = answer.i;
-            format!(in alloc; "bank {bank} gives word {i} of register {slot}'s block")
-        }
-        None => Ok(String::new(alloc)),
+        Some(BankAnswer { slot, i, .. }) => Phrase::Given { bank, i, slot },
+        None => Phrase::Word(""),
     }
 }
 
-fn processed(entry: Option<Entry>) -> Numbered
+fn processed(entry: Option<Entry>) -> Phrase
     ensures { text_of result ≡ words.processed_words entry }
 {
     match entry {
-        Some(entry) => Numbered::Around(
+        Some(entry) => Phrase::Around(
             "word ",
             entry.i,
             " of register ",
             entry.slot,
             "'s block has come: its loads are answered",
         ),
-        None => Numbered::Word(""),
+        None => Phrase::Word(""),
     }
 }
 
-fn taken(alloc: Global, tag: u16, word: Word) -> Result<String, AllocError>
-    ensures { IfOk result
-        (λ text. string_bytes text ≡ words.taken_words tag word) }
-{
-    format!(in alloc; "the load of tag {tag} is answered {word}")
-}
-
-fn idle(event: Event) -> Numbered
+fn idle(event: Event) -> Phrase
     ensures { text_of result ≡ words.idle_words event }
 {
     match event {
-        Event::Drain => Numbered::Word("the write queue is empty"),
-        Event::Serve { bank } => Numbered::One("no command waits at bank ", bank),
+        Event::Drain => Phrase::Word("the write queue is empty"),
+        Event::Serve { bank } => Phrase::One("no command waits at bank ", bank),
         Event::Arrive { bank, place } => {
-            Numbered::Two("no answer stands at place ", place, " of bank ", bank)
+            Phrase::Two("no answer stands at place ", place, " of bank ", bank)
         }
         Event::Process { place } => {
-            Numbered::Between("no word stands at place ", place, " of the input stack")
+            Phrase::Between("no word stands at place ", place, " of the input stack")
         }
-        Event::Take { place } => Numbered::One("no value stands ready at place ", place),
-        _ => Numbered::Word(""),
+        Event::Take { place } => Phrase::One("no value stands ready at place ", place),
+        _ => Phrase::Word(""),
     }
 }
 
-fn refused(
-    alloc: Global,
-    machine: &ShapedMachine,
-    event: Event,
-    cause: Cause,
-) -> Result<String, AllocError>
-    ensures { IfOk result
-        (λ text. string_bytes text ≡ words.refused_words machine.now event cause) }
+fn refused(machine: &ShapedMachine, event: Event, cause: Cause) -> Phrase
+    ensures { text_of result ≡ words.refused_words machine.now event cause }
 {
     match cause {
-        Cause::TagInUse => written(alloc, in_use(machine, event)),
-        Cause::QueueFull => queue_full(alloc, machine, event),
-        Cause::BankFull => bank_full(alloc, machine, event),
-        _ => written(alloc, limited(machine.sizes(), event, cause)),
+        Cause::TagInUse => in_use(machine, event),
+        Cause::QueueFull => queue_full(machine, event),
+        Cause::BankFull => bank_full(machine, event),
+        _ => limited(machine.sizes(), event, cause),
     }
 }
 
 // What the machine's numbers alone explain.
-fn limited(sizes: &Sizes, event: Event, cause: Cause) -> Numbered
+fn limited(sizes: &Sizes, event: Event, cause: Cause) -> Phrase
     ensures { text_of result ≡ words.limit_words sizes.now event cause }
 {
     match cause {
         Cause::OutOfRange => outside(sizes, event),
-        Cause::RepliesFull => Numbered::One(
+        Cause::RepliesFull => Phrase::One(
             "the limit of outstanding loads is reached: ",
             sizes.replies,
         ),
-        Cause::NoRegister => Numbered::One("all registers are in use: ", sizes.regs),
-        Cause::SetPending => Numbered::Between(
+        Cause::NoRegister => Phrase::One("all registers are in use: ", sizes.regs),
+        Cause::SetPending => Phrase::Between(
             "every way of set ",
             set_in(sizes, block_about(sizes, event)),
             " waits for words",
         ),
-        Cause::NotPresent => Numbered::One("no frame holds block ", block_about(sizes, event)),
-        Cause::StackFull => Numbered::Between("the input stack is full: ", sizes.depth, " words"),
-        _ => Numbered::Word(cause.words()),
+        Cause::NotPresent => Phrase::One("no frame holds block ", block_about(sizes, event)),
+        Cause::StackFull => Phrase::Between("the input stack is full: ", sizes.depth, " words"),
+        _ => Phrase::Word(cause.words()),
     }
 }
 
-fn outside(sizes: &Sizes, event: Event) -> Numbered
+fn outside(sizes: &Sizes, event: Event) -> Phrase
     ensures { text_of result ≡ words.outside_words sizes.now event }
 {
     match event {
         Event::Load { at, .. } | Event::Store { at, .. } | Event::Prefetch { at } => {
             word_outside(sizes, at)
         }
-        Event::Evict { block } => block_outside(sizes, block),
-        _ => Numbered::Word(""),
+        Event::Evict { block } => block_outside(block, block_in(sizes, sizes.words)),
+        _ => Phrase::Word(""),
     }
 }
 
-fn word_outside(sizes: &Sizes, at: u32) -> Numbered
+fn word_outside(sizes: &Sizes, at: u32) -> Phrase
     ensures { text_of result ≡ words.word_outside sizes.now at }
 {
-    Numbered::Around(
+    Phrase::Around(
         "word ",
         at,
         " is outside memory, which has ",
@@ -246,14 +208,14 @@ fn word_outside(sizes: &Sizes, at: u32) -> Numbered
     )
 }
 
-fn block_outside(sizes: &Sizes, block: u32) -> Numbered
-    ensures { text_of result ≡ words.block_outside sizes.now block }
+fn block_outside(block: u32, blocks: u32) -> Phrase
+    ensures { text_of result ≡ words.block_outside block blocks }
 {
-    Numbered::Around(
+    Phrase::Around(
         "block ",
         block,
         " is outside memory, which has ",
-        block_in(sizes, sizes.words),
+        blocks,
         " blocks",
     )
 }
@@ -276,25 +238,25 @@ fn has_value(machine: &ShapedMachine, tag: u16) -> bool
 }
 
 #[tactic(auto, unfolding(crate::specs::Words::tag_words))]
-fn tag_taken(machine: &ShapedMachine, tag: u16) -> Numbered
+fn tag_taken(machine: &ShapedMachine, tag: u16) -> Phrase
     ensures { text_of result ≡ words.tag_words machine.now tag }
 {
     if has_value(machine, tag) {
-        Numbered::Between(
+        Phrase::Between(
             "the value of tag ",
             u32::from(tag),
             " stands ready, and wasn't taken",
         )
     } else {
-        Numbered::Between("a load of tag ", u32::from(tag), " waits for its word")
+        Phrase::Between("a load of tag ", u32::from(tag), " waits for its word")
     }
 }
 
-fn in_use(machine: &ShapedMachine, event: Event) -> Numbered
+fn in_use(machine: &ShapedMachine, event: Event) -> Phrase
     ensures { text_of result ≡ words.in_use_words machine.now event }
 {
     match event {
         Event::Load { tag, .. } => tag_taken(machine, tag),
-        _ => Numbered::Word(""),
+        _ => Phrase::Word(""),
     }
 }

@@ -1,36 +1,31 @@
 //! What there was too little room for, in words.
 
-ghost use Rattle.std.specs.Prelude.{◌≡◌, IfOk};
-ghost use Rattle.std.specs.String.{string_bytes};
+ghost use Rattle.std.specs.Prelude.{◌≡◌};
+ghost use Rattle.run_pictures.specs.Phrases.{text_of};
 ghost use Rattle.run_pictures.specs.Words as words;
 
 use crate::cells::is_pending;
 use crate::layout::{bank_in, frames_in, set_in, set_of_frame};
+use crate::phrase::Phrase;
 use crate::reasons::block_about;
 use flat_model::Event;
 use machine_core::{Queued, ShapedMachine, Sizes};
-use std::alloc::{AllocError, Global};
 
 /// Why an event was refused that would have queued dirty words.
-pub(crate) fn queue_full(
-    alloc: Global,
-    machine: &ShapedMachine,
-    event: Event,
-) -> Result<String, AllocError>
-    ensures { IfOk result
-        (λ text. string_bytes text ≡ words.queue_words machine.now event) }
+pub(crate) fn queue_full(machine: &ShapedMachine, event: Event) -> Phrase
+    ensures { text_of result ≡ words.queue_words machine.now event }
 {
     let free = free_places(machine);
     match victim(machine, event) {
-        Some(frame) => {
-            let dirty = dirty_count(machine, frame);
-            format!(in alloc; "the write queue has {free} free places for {dirty} dirty words")
-        }
-        None => {
-            format!(in alloc;
-                "the write queue has {free} free places, too few for the victim's dirty words"
-            )
-        }
+        Some(frame) => Phrase::TooMany {
+            free,
+            dirty: dirty_count(machine, frame),
+        },
+        None => Phrase::Between(
+            "the write queue has ",
+            free,
+            " free places, too few for the victim's dirty words",
+        ),
     }
 }
 
@@ -117,54 +112,37 @@ fn victim(machine: &ShapedMachine, event: Event) -> Option<u32>
     }
 }
 
-pub(crate) fn bank_full(
-    alloc: Global,
-    machine: &ShapedMachine,
-    event: Event,
-) -> Result<String, AllocError>
-    ensures { IfOk result
-        (λ text. string_bytes text ≡ words.bank_words machine.now event) }
+pub(crate) fn bank_full(machine: &ShapedMachine, event: Event) -> Phrase
+    ensures { text_of result ≡ words.bank_words machine.now event }
 {
     match event {
-        Event::Drain => no_room(alloc, machine.sizes(), machine.queue_entry(0)),
-        _ => bank_short(alloc, machine, block_about(machine.sizes(), event)),
+        Event::Drain => no_room(machine.sizes(), machine.queue_entry(0)),
+        _ => bank_short(machine, block_about(machine.sizes(), event)),
     }
 }
 
-fn no_room(alloc: Global, sizes: &Sizes, front: Option<Queued>) -> Result<String, AllocError>
-    ensures { IfOk result (λ text. string_bytes text ≡ words.no_room_words sizes.now front) }
+fn no_room(sizes: &Sizes, front: Option<Queued>) -> Phrase
+    ensures { text_of result ≡ words.no_room_words sizes.now front }
 {
     match front {
-        Some(front) => {
-            let bank = bank_in(sizes, u64::from(front.at));
-            format!(in alloc; "bank {bank} has no room for a command")
-        }
-        None => Ok(String::new(alloc)),
+        Some(front) => Phrase::Full {
+            bank: bank_in(sizes, u64::from(front.at)),
+        },
+        None => Phrase::Word(""),
     }
 }
 
-fn bank_short(alloc: Global, machine: &ShapedMachine, block: u32) -> Result<String, AllocError>
-    ensures { IfOk result
-        (λ text. string_bytes text ≡ words.short_words machine.now block (words.short_bank machine.now block)) }
+fn bank_short(machine: &ShapedMachine, block: u32) -> Phrase
+    ensures { text_of result ≡ words.short_words machine.now block (words.short_bank machine.now block) }
 {
     match short_bank(machine, block) {
-        Some(bank) => shortage(alloc, machine, block, bank),
-        None => Ok(String::new(alloc)),
+        Some(bank) => Phrase::Short {
+            bank,
+            room: room_at(machine, bank),
+            reads: reads_in(machine.sizes(), block, bank),
+        },
+        None => Phrase::Word(""),
     }
-}
-
-fn shortage(
-    alloc: Global,
-    machine: &ShapedMachine,
-    block: u32,
-    bank: u32,
-) -> Result<String, AllocError>
-    ensures { IfOk result
-        (λ text. string_bytes text ≡ words.shortage_words machine.now block bank) }
-{
-    let room = room_at(machine, bank);
-    let reads = reads_in(machine.sizes(), block, bank);
-    format!(in alloc; "bank {bank} has room for {room} commands, and is to be sent {reads}")
 }
 
 fn lies_in(sizes: &Sizes, block: u32, bank: u32, i: u32) -> bool

@@ -1,7 +1,7 @@
 //! A trace or a recorded run, drawn.
 
 ghost use Rattle.std.specs.Prelude.{Some};
-ghost use Rattle.run_pictures.specs.Drawn.{Leaves, Shows};
+ghost use Rattle.run_pictures.specs.Drawn.{Shows};
 ghost use Rattle.run_pictures.specs.Faults.{show_fault_text};
 
 use crate::asked::read_asked;
@@ -77,21 +77,18 @@ impl From<TraceFault> for ShowFault {
 /// [`read_pair`](trace_text::read_pair) reads has the trace's fault, or the run's if it has more
 /// than 64 bytes. `Trace` goes before `TooManyEvents` and `OutOfMemory`, in the order of
 /// [`read_requests`](trace_text::read_requests).
-///
-/// No event is applied before all are read, so after `Trace` and `TooManyEvents` the machine is as
-/// it was. After `OutOfMemory` it has had some first events.
 pub fn show_text<R: Source>(
     alloc: Global,
     reader: &mut R,
-    machine: &mut ShapedMachine,
+    machine: ShapedMachine,
     image: &Image,
     form: Form,
 ) -> Result<String, ShowFault>
-    ensures shows { Shows R.gave R.failed form image.now machine.old reader.old reader.new result }
-    ensures machine { Leaves R.gave reader.old reader.new machine.old machine.new result }
+    ensures { Shows R.gave R.failed form image.now machine reader.old reader.new result }
 {
     let Some(all) = read_asked(alloc, reader)? else {
         return Err(ShowFault::TooManyEvents);
     };
-    Ok(draw_run(alloc, machine, image, form, all.as_slice())?)
+    let mut machine = machine;
+    Ok(draw_run(alloc, &mut machine, image, form, all.as_slice())?)
 }

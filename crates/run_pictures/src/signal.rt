@@ -1,11 +1,10 @@
 //! The signals of a waveform.
 ghost use Rattle.std.specs.Prelude.{◌≡◌, ◌++◌, Some, OnOk, IfOk};
 ghost use Rattle.std.specs.List.{flat_map, range_with_len};
-ghost use Rattle.run_pictures.specs.Numbered.{text_of};
 ghost use Rattle.run_pictures.specs.Waves as waves;
 
-use crate::level::Level;
-use crate::numbered::Numbered;
+use crate::cells::is_valid;
+use crate::level::{Kind, Level};
 use crate::step::Made;
 use flat_model::{Answer, Event};
 use machine_core::{RegisterView, ShapedMachine, Sizes};
@@ -51,29 +50,22 @@ impl fmt::Display for Signal {
     ghost output = { λ signal. Some (waves.name_text signal) };
 
     fn fmt<W: fmt::Write>(&self, f: &mut fmt::Formatter<W>) -> fmt::Result {
-        let name = name_of(*self);
-        write!(f, "{name}")
-    }
-}
-
-fn name_of(signal: Signal) -> Numbered
-    ensures { text_of result ≡ waves.name_text signal }
-{
-    match signal {
-        Signal::EventKind => Numbered::Word("event"),
-        Signal::Tag => Numbered::Word("tag"),
-        Signal::Address => Numbered::Word("address"),
-        Signal::AnswerKind => Numbered::Word("answer"),
-        Signal::Cause => Numbered::Word("cause"),
-        Signal::Differs => Numbered::Word("differs"),
-        Signal::Valid { slot } => Numbered::Between("reg", slot, "_valid"),
-        Signal::Obsolete { slot } => Numbered::Between("reg", slot, "_obsolete"),
-        Signal::Block { slot } => Numbered::Between("reg", slot, "_block"),
-        Signal::Stack => Numbered::Word("input_stack"),
-        Signal::Queue => Numbered::Word("write_queue"),
-        Signal::Commands { bank } => Numbered::Between("bank", bank, "_commands"),
-        Signal::Answers { bank } => Numbered::Between("bank", bank, "_answers"),
-        Signal::Replies => Numbered::Word("ready"),
+        match *self {
+            Signal::EventKind => f.write_str("event"),
+            Signal::Tag => f.write_str("tag"),
+            Signal::Address => f.write_str("address"),
+            Signal::AnswerKind => f.write_str("answer"),
+            Signal::Cause => f.write_str("cause"),
+            Signal::Differs => f.write_str("differs"),
+            Signal::Valid { slot } => write!(f, "reg{slot}_valid"),
+            Signal::Obsolete { slot } => write!(f, "reg{slot}_obsolete"),
+            Signal::Block { slot } => write!(f, "reg{slot}_block"),
+            Signal::Stack => f.write_str("input_stack"),
+            Signal::Queue => f.write_str("write_queue"),
+            Signal::Commands { bank } => write!(f, "bank{bank}_commands"),
+            Signal::Answers { bank } => write!(f, "bank{bank}_answers"),
+            Signal::Replies => f.write_str("ready"),
+        }
     }
 }
 
@@ -103,13 +95,13 @@ impl Signal {
     /// What it stands at behind an event that was made, or before the first one, in a machine of this state.
     #[tactic(auto, unfolding(machine_core::specs::AnyMachine::register_shown))]
     pub(crate) fn level(self, machine: &ShapedMachine, made: Option<Made>) -> Level
-        ensures { waves.level_text result ≡ waves.value_text made machine.now self }
+        ensures { result ≡ waves.level_at made machine.now self }
     {
         match self {
-            Signal::EventKind => Level::Kind(event_word(made)),
+            Signal::EventKind => Level::Kind(Kind::of_event(made)),
             Signal::Tag => Level::known(tag_of(made)),
             Signal::Address => Level::known(address_of(made)),
-            Signal::AnswerKind => Level::Kind(answer_word(made)),
+            Signal::AnswerKind => Level::Kind(Kind::of_answer(made)),
             Signal::Cause => Level::known(cause_of(made)),
             Signal::Differs => Level::Bit(is_other(made)),
             Signal::Valid { slot } => Level::Bit(is_valid(machine.register(slot))),
@@ -121,52 +113,6 @@ impl Signal {
             Signal::Answers { bank } => Level::Number(machine.answers(bank)),
             Signal::Replies => Level::Number(machine.replies_len()),
         }
-    }
-}
-
-fn event_word(made: Option<Made>) -> &'static str
-    ensures { result.now ≡ waves.event_word made }
-{
-    match made {
-        Some(made) => event_kind(made.event),
-        None => "start",
-    }
-}
-
-fn event_kind(event: Event) -> &'static str
-    ensures { result.now ≡ waves.event_kind event }
-{
-    match event {
-        Event::Load { .. } => "load",
-        Event::Store { .. } => "store",
-        Event::Prefetch { .. } => "prefetch",
-        Event::Evict { .. } => "evict",
-        Event::Drain => "drain",
-        Event::Serve { .. } => "serve",
-        Event::Arrive { .. } => "arrive",
-        Event::Process { .. } => "process",
-        Event::Take { .. } => "take",
-    }
-}
-
-fn answer_word(made: Option<Made>) -> &'static str
-    ensures { result.now ≡ waves.answer_word made }
-{
-    match made {
-        Some(made) => answer_kind(made.answer),
-        None => "none",
-    }
-}
-
-fn answer_kind(answer: Answer) -> &'static str
-    ensures { result.now ≡ waves.answer_kind answer }
-{
-    match answer {
-        Answer::Accepted => "accepted",
-        Answer::Moved => "moved",
-        Answer::Value { .. } => "value",
-        Answer::Nothing => "nothing",
-        Answer::Refused(_) => "refused",
     }
 }
 
@@ -216,15 +162,6 @@ fn is_other(made: Option<Made>) -> bool
     }
 }
 
-fn is_valid(register: Option<RegisterView>) -> bool
-    ensures { result ≡ waves.is_valid register }
-{
-    match register {
-        Some(register) => register.valid,
-        None => false,
-    }
-}
-
 fn is_obsolete(register: Option<RegisterView>) -> bool
     ensures { result ≡ waves.is_obsolete register }
 {
@@ -243,53 +180,28 @@ fn block_number(register: Option<RegisterView>) -> u32
     }
 }
 
-fn push_event(signals: &mut Vec<Signal>) -> Result<(), AllocError>
-    ensures { OnOk result (signals.new.items ≡ signals.old.items ++ waves.event_signals) }
-{
-    signals.extend_from_slice(&[
-        Signal::EventKind,
-        Signal::Tag,
-        Signal::Address,
-        Signal::AnswerKind,
-        Signal::Cause,
-        Signal::Differs,
-    ])?;
-    Ok(())
-}
-
-fn push_register(signals: &mut Vec<Signal>, slot: u32) -> Result<(), AllocError>
-    ensures { OnOk result (signals.new.items ≡ signals.old.items ++ waves.register_signals slot) }
-{
-    signals.push(Signal::Valid { slot })?;
-    signals.push(Signal::Obsolete { slot })?;
-    signals.push(Signal::Block { slot })?;
-    Ok(())
-}
-
+#[tactic(auto, using(trace_text::proofs::Ranges::flat_map_next))]
 fn push_registers(signals: &mut Vec<Signal>, sizes: &Sizes) -> Result<(), AllocError>
     ensures { OnOk result
         (signals.new.items ≡ signals.old.items ++ flat_map waves.register_signals (range_with_len 0 sizes.now.regs)) }
 {
     for slot in 0..sizes.regs {
-        push_register(signals, slot)?;
+        signals.extend_from_slice(&[
+            Signal::Valid { slot },
+            Signal::Obsolete { slot },
+            Signal::Block { slot },
+        ])?;
     }
     Ok(())
 }
 
-fn push_bank(signals: &mut Vec<Signal>, bank: u32) -> Result<(), AllocError>
-    ensures { OnOk result (signals.new.items ≡ signals.old.items ++ waves.bank_signals bank) }
-{
-    signals.push(Signal::Commands { bank })?;
-    signals.push(Signal::Answers { bank })?;
-    Ok(())
-}
-
+#[tactic(auto, using(trace_text::proofs::Ranges::flat_map_next))]
 fn push_banks(signals: &mut Vec<Signal>, sizes: &Sizes) -> Result<(), AllocError>
     ensures { OnOk result
         (signals.new.items ≡ signals.old.items ++ flat_map waves.bank_signals (range_with_len 0 sizes.now.banks)) }
 {
     for bank in 0..sizes.banks {
-        push_bank(signals, bank)?;
+        signals.extend_from_slice(&[Signal::Commands { bank }, Signal::Answers { bank }])?;
     }
     Ok(())
 }
@@ -299,7 +211,14 @@ pub(crate) fn signals_of(alloc: Global, sizes: &Sizes) -> Result<Vec<Signal>, Al
     ensures { IfOk result (λ signals. signals.items ≡ waves.signals_in sizes.now) }
 {
     let mut signals = Vec::new(alloc);
-    push_event(&mut signals)?;
+    signals.extend_from_slice(&[
+        Signal::EventKind,
+        Signal::Tag,
+        Signal::Address,
+        Signal::AnswerKind,
+        Signal::Cause,
+        Signal::Differs,
+    ])?;
     push_registers(&mut signals, sizes)?;
     signals.push(Signal::Stack)?;
     signals.push(Signal::Queue)?;

@@ -1,33 +1,15 @@
 //! One step of a run that is drawn.
 
-ghost use Rattle.std.specs.Prelude.{◌≡◌, IfOk, Some};
-ghost use Rattle.std.specs.String.{string_bytes};
-ghost use Rattle.run_pictures.specs.Steps.{other_text};
-ghost use Rattle.run_pictures.specs.Words.{words_by};
+ghost use Rattle.machine_core.specs.AnyMachine.{after_event};
+ghost use Rattle.std.specs.Prelude.{◌≡◌};
+ghost use Rattle.run_pictures.specs.Steps.{IsStep};
 
+use crate::asked::{Asked, other_answer};
 use crate::before::Before;
+use crate::phrase::Phrase;
 use crate::reasons::words_by;
 use flat_model::{Answer, Event};
 use machine_core::ShapedMachine;
-use std::alloc::{AllocError, Global};
-use std::fmt;
-
-/// A recorded answer, if it isn't the machine's. Written as the answer, or as nothing.
-#[derive(Clone, Copy)]
-pub(crate) struct Other {
-    pub(crate) answer: Option<Answer>,
-}
-
-impl fmt::Display for Other {
-    ghost output = { λ other. Some (other_text other.answer) };
-
-    fn fmt<W: fmt::Write>(&self, f: &mut fmt::Formatter<W>) -> fmt::Result {
-        match self.answer {
-            Some(answer) => write!(f, "{answer}"),
-            None => Ok(()),
-        }
-    }
-}
 
 /// An event that was made.
 #[derive(Clone, Copy)]
@@ -35,44 +17,38 @@ pub(crate) struct Made {
     pub(crate) event: Event,
     /// The machine's answer.
     pub(crate) answer: Answer,
-    /// If it isn't the machine's.
+    /// The recorded answer, if it isn't the machine's.
     pub(crate) other: Option<Answer>,
 }
 
 /// One step of a run: an event that was made.
-#[derive(Drop)]
+#[derive(Clone, Copy)]
 pub(crate) struct Step {
     /// Its number, counted from 1.
     pub(crate) number: usize,
-    /// Whether screens have the whole machine there, and not only what changed.
-    pub(crate) is_whole: bool,
     /// The event, with its answer.
     pub(crate) made: Made,
-    /// What it did, or why it didn't, in words.
-    pub(crate) words: String,
+    /// What it did, or why it didn't.
+    pub(crate) words: Phrase,
 }
 
 impl Step {
-    pub(crate) fn new(
-        alloc: Global,
-        machine: &ShapedMachine,
-        number: usize,
-        is_whole: bool,
-        before: Before,
-        made: Made,
-    ) -> Result<Step, AllocError>
-        ensures number { IfOk result (λ step. step.number ≡ number) }
-        ensures whole { IfOk result (λ step. step.is_whole ≡ is_whole) }
-        ensures made { IfOk result (λ step. step.made ≡ made) }
-        ensures words { IfOk result
-            (λ step. string_bytes step.words ≡ words_by before machine.now made.event made.answer) }
+    /// A machine is asked.
+    #[tactic(auto, unfolding(machine_core::specs::AnyMachine::after_event, machine_core::specs::AnyMachine::answered, crate::specs::Words::step_words))]
+    pub(crate) fn new(machine: &mut ShapedMachine, number: usize, asked: Asked) -> Step
+        ensures state { machine.new ≡ after_event machine.old asked.event }
+        ensures step { IsStep number machine.old asked result }
     {
-        let words = words_by(alloc, machine, before, made.event, made.answer)?;
-        Ok(Step {
+        let before = Before::new(machine, asked.event);
+        let answer = machine.apply(asked.event);
+        Step {
             number,
-            is_whole,
-            made,
-            words,
-        })
+            made: Made {
+                event: asked.event,
+                answer,
+                other: other_answer(answer, asked.recorded),
+            },
+            words: words_by(machine, before, asked.event, answer),
+        }
     }
 }

@@ -1,159 +1,137 @@
 //! A waveform of a machine, as a value change dump (VCD).
 
-ghost use Rattle.std.specs.Prelude.{◌≡◌, ◌++◌, [], codes, length, map, slice_get, OnOk, IfOk};
-ghost use Rattle.std.specs.List.{flat_map, range_with_len};
+ghost use Rattle.std.specs.Prelude.{◌≡◌, ◌++◌, map, OnOk, IfOk};
+ghost use Rattle.std.specs.List.{flat_map, enumerate_from};
 ghost use Rattle.std.specs.String.{string_bytes};
-ghost use Rattle.run_pictures.specs.Waves as waves;
+ghost use Rattle.run_pictures.specs.Waves as dump;
 
-use crate::film::is_changed;
+use crate::level::Level;
 use crate::signal::{Signal, signals_of};
 use crate::step::{Made, Step};
 use machine_core::ShapedMachine;
 use std::alloc::{AllocError, Global};
 
-fn signal_at(signals: &[Signal], k: usize) -> Option<Signal>
-    ensures { result ≡ slice_get signals.now k }
-{
-    match signals.get(k) {
-        Some(signal) => Some(*signal),
-        None => None,
-    }
+/// A signal, its value, and whether the step changed it.
+#[derive(Clone, Copy)]
+pub(crate) struct Wave {
+    /// Its place in the order of declaration.
+    pub(crate) number: usize,
+    pub(crate) signal: Signal,
+    pub(crate) level: Level,
+    pub(crate) is_changed: bool,
 }
 
-#[tactic(auto, unfolding(crate::specs::Waves::declaration_at))]
-fn push_declaration(wave: &mut String, signals: &[Signal], k: usize) -> Result<(), AllocError>
-    ensures { OnOk result
-        (string_bytes wave.new ≡ string_bytes wave.old ++ waves.declaration_at signals.now k) }
-{
-    match signal_at(signals, k) {
-        Some(signal) => {
-            let kind = signal.type_word();
-            let width = signal.width();
-            write!(wave, "$var {kind} {width} s{k} {signal} $end\n")
+impl Wave {
+    fn first(machine: &ShapedMachine, number: usize, signal: Signal) -> Wave
+        ensures { result ≡ dump.first_wave machine.now (number, signal) }
+    {
+        Wave {
+            number,
+            signal,
+            level: signal.level(machine, None),
+            is_changed: true,
         }
-        None => Ok(()),
+    }
+
+    fn behind(&self, machine: &ShapedMachine, made: Made) -> Wave
+        ensures { result ≡ dump.wave_behind made machine.now self.now }
+    {
+        let level = self.signal.level(machine, Some(made));
+        Wave {
+            level,
+            is_changed: self.level != level,
+            ..*self
+        }
     }
 }
 
-fn push_each_declaration(wave: &mut String, signals: &[Signal]) -> Result<(), AllocError>
-    ensures { OnOk result
-        (string_bytes wave.new
-        ≡ string_bytes wave.old
-        ++ flat_map (waves.declaration_at signals.now) (range_with_len 0 (length signals.now))) }
-{
-    for k in 0..signals.len() {
-        push_declaration(wave, signals, k)?;
-    }
-    Ok(())
-}
-
-fn declarations(alloc: Global, signals: &[Signal]) -> Result<String, AllocError>
-    ensures { IfOk result (λ wave. string_bytes wave ≡ waves.declarations_text signals.now) }
-{
-    let mut wave = String::from_str(alloc, "$timescale 1 ns $end\n$scope module kroft $end\n")?;
-    push_each_declaration(&mut wave, signals)?;
-    wave.push_str("$upscope $end\n$enddefinitions $end\n")?;
-    Ok(wave)
-}
-
-fn values_of(
+fn first_waves(
     alloc: Global,
     machine: &ShapedMachine,
-    made: Option<Made>,
     signals: &[Signal],
-) -> Result<Vec<String>, AllocError>
-    ensures { IfOk result
-        (λ values. map string_bytes values.items ≡ waves.values_of made machine.now signals.now) }
+) -> Result<Vec<Wave>, AllocError>
+    ensures { IfOk result (λ v. v.items ≡ map (dump.first_wave machine.now) (enumerate_from 0 signals.now)) }
 {
-    let mut values = Vec::with_capacity(alloc, signals.len())?;
-    for signal in signals {
-        values.push(value_text(alloc, machine, made, *signal)?)?;
-    }
-    Ok(values)
+    signals
+        .iter()
+        .enumerate()
+        .map(|(number, signal)| Wave::first(machine, number, *signal))
+        .collect(alloc)
 }
 
-fn value_text(
+fn waves_behind(
     alloc: Global,
     machine: &ShapedMachine,
-    made: Option<Made>,
-    signal: Signal,
-) -> Result<String, AllocError>
-    ensures { IfOk result
-        (λ value. string_bytes value ≡ waves.value_text made machine.now signal) }
+    made: Made,
+    waves: &[Wave],
+) -> Result<Vec<Wave>, AllocError>
+    ensures { IfOk result (λ v. v.items ≡ map (dump.wave_behind made machine.now) waves.now) }
 {
-    let level = signal.level(machine, made);
-    format!(in alloc; "{level}")
+    waves
+        .iter()
+        .map(|wave| wave.behind(machine, made))
+        .collect(alloc)
 }
 
-fn push_value(wave: &mut String, values: &[String], k: usize) -> Result<(), AllocError>
+fn push_declarations(text: &mut String, waves: &[Wave]) -> Result<(), AllocError>
     ensures { OnOk result
-        (string_bytes wave.new ≡ string_bytes wave.old ++ waves.value_line k (slice_get values.now k)) }
+        (string_bytes text.new ≡ string_bytes text.old ++ flat_map dump.declaration_text waves.now) }
 {
-    match values.get(k) {
-        Some(value) => write!(wave, "{value}s{k}\n"),
-        None => Ok(()),
-    }
-}
-
-#[tactic(auto, unfolding(crate::specs::Waves::change_text))]
-fn push_change(
-    wave: &mut String,
-    before: &[String],
-    values: &[String],
-    k: usize,
-) -> Result<(), AllocError>
-    ensures { OnOk result
-        (string_bytes wave.new ≡ string_bytes wave.old ++ waves.change_text before.now values.now k) }
-{
-    if is_changed(before, values, k) {
-        push_value(wave, values, k)
-    } else {
-        Ok(())
-    }
-}
-
-fn push_changes(wave: &mut String, before: &[String], values: &[String]) -> Result<(), AllocError>
-    ensures { OnOk result
-        (string_bytes wave.new ≡ string_bytes wave.old ++ waves.changes_text before.now values.now) }
-{
-    for k in 0..values.len() {
-        push_change(wave, before, values, k)?;
+    for wave in waves {
+        let signal = wave.signal;
+        let kind = signal.type_word();
+        let width = signal.width();
+        let number = wave.number;
+        write!(text, "$var {kind} {width} s{number} {signal} $end\n")?;
     }
     Ok(())
 }
 
-fn opening_text(alloc: Global, signals: &[Signal], values: &[String]) -> Result<String, AllocError>
-    ensures { IfOk result
-        (λ text. string_bytes text
-        ≡ waves.declarations_text signals.now
-        ++ (codes "#0\n$dumpvars\n" ++ (waves.changes_text [] values.now ++ codes "$end\n"))) }
+fn push_change(text: &mut String, wave: &Wave) -> Result<(), AllocError>
+    ensures { OnOk result (string_bytes text.new ≡ string_bytes text.old ++ dump.change_text wave.now) }
 {
-    let mut text = declarations(alloc, signals)?;
-    text.push_str("#0\n$dumpvars\n")?;
-    push_changes(&mut text, &[], values)?;
+    if !wave.is_changed {
+        return Ok(());
+    }
+    let level = wave.level;
+    let number = wave.number;
+    write!(text, "{level}s{number}\n")
+}
+
+fn push_changes(text: &mut String, waves: &[Wave]) -> Result<(), AllocError>
+    ensures { OnOk result (string_bytes text.new ≡ string_bytes text.old ++ flat_map dump.change_text waves.now) }
+{
+    for wave in waves {
+        push_change(text, wave)?;
+    }
+    Ok(())
+}
+
+fn opening_text(alloc: Global, waves: &[Wave]) -> Result<String, AllocError>
+    ensures { IfOk result (λ text. string_bytes text ≡ dump.opening_text waves.now) }
+{
+    let mut text = String::from_str(alloc, "$timescale 1 ns $end\n$scope module kroft $end\n")?;
+    push_declarations(&mut text, waves)?;
+    text.push_str("$upscope $end\n$enddefinitions $end\n#0\n$dumpvars\n")?;
+    push_changes(&mut text, waves)?;
     text.push_str("$end\n")?;
     Ok(text)
 }
 
 #[derive(Drop)]
 pub(crate) struct Waveform {
-    signals: Vec<Signal>,
-    values: Vec<String>,
+    waves: Vec<Wave>,
     text: String,
 }
 
 impl Waveform {
     pub(crate) fn new(alloc: Global, machine: &ShapedMachine) -> Result<Waveform, AllocError>
-        ensures { IfOk result (λ wave. waves.WaveOpens machine.now wave) }
+        ensures { IfOk result (λ wave. dump.WaveOpens machine.now wave) }
     {
         let signals = signals_of(alloc, machine.sizes())?;
-        let values = values_of(alloc, machine, None, signals.as_slice())?;
-        let text = opening_text(alloc, signals.as_slice(), values.as_slice())?;
-        Ok(Waveform {
-            signals,
-            values,
-            text,
-        })
+        let waves = first_waves(alloc, machine, signals.as_slice())?;
+        let text = opening_text(alloc, waves.as_slice())?;
+        Ok(Waveform { waves, text })
     }
 
     pub(crate) fn draw(
@@ -163,15 +141,12 @@ impl Waveform {
         step: &Step,
     ) -> Result<(), AllocError>
         ensures { OnOk result
-            (waves.WaveGoesOn step.now.number machine.now step.now.made self.old self.new) }
+            (dump.WaveGoesOn step.now.number machine.now step.now.made self.old self.new) }
     {
-        let signals = self.signals.as_slice();
-        let values = values_of(alloc, machine, Some(step.made), signals)?;
+        self.waves = waves_behind(alloc, machine, step.made, self.waves.as_slice())?;
         let number = step.number;
         write!(&mut self.text, "#{number}\n")?;
-        push_changes(&mut self.text, self.values.as_slice(), values.as_slice())?;
-        self.values = values;
-        Ok(())
+        push_changes(&mut self.text, self.waves.as_slice())
     }
 
     pub(crate) fn finish(self) -> String

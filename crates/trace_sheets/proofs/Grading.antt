@@ -5,7 +5,6 @@ use Rattle.std.proofs.Common.{append-nil, append_assoc, refl, sym, ◌∙◌, ap
 use Rattle.std.specs.List.{flat_map}
 use Rattle.std.proofs.lemmas.Grind.{flat_map-append}
 use Rattle.machine_core.specs.Machine.{MachineState}
-use Rattle.run_pictures.proofs.Words.{words_behind}
 use Rattle.trace_text.specs.Collecting.{Reads}
 use Rattle.trace_text.specs.Texts.{after_line}
 use Rattle.trace_text.specs.declared.fault.TheConstants.{MAX_PAIR}
@@ -57,8 +56,8 @@ asked_more n m (t ∷ ts) text =
 
 -- what the machine behind a line tells of the one before it
 pub why_same : (m : MachineState) (l : Line) → why_behind (after_line m l) (came_of m l) ≡ why_of m l
-unfolding after_line
-why_same m (line.Event event) = ap Some (words_behind m event)
+unfolding after_line step_words
+why_same m (line.Event event) = refl
 why_same m (line.Register slot) = refl
 why_same m (line.Bank at) = refl
 why_same m line.Settled = refl

@@ -207,7 +207,8 @@ pub(crate) fn push_told(
             before,
         } => {
             let is = full_answer(*answer, before.found);
-            let words = words_by(alloc, machine, *before, *event, *answer)?;
+            let phrase = words_by(machine, *before, *event, *answer);
+            let words = format!(in alloc; "{phrase}")?;
             let why = why_told(came, is_readable, Some(words.as_bytes()));
             push_form(
                 alloc,

@@ -1,9 +1,9 @@
-use Rattle.std.proofs.Common.{◌≡◌, ◌++◌}
-use Rattle.std.specs.List.{flat_map, range_with_len}
+use Rattle.std.proofs.Common.{◌≡◌, ◌++◌, take}
+use Rattle.std.specs.List.{flat_map}
 use Rattle.std.specs.String.{string_bytes}
 use Rattle.run_pictures.specs.Waves.{change_text}
 use Rattle.run_pictures.proofs.waveform.push_changes.Given as goal
 
--- the values of the signals so far that changed stand behind the text
-abbrev pub invariant-loop-k : goal.invariant-loop-k
-invariant-loop-k l = string_bytes l.wave ≡ string_bytes l.initial.wave ++ flat_map (change_text l.before l.values) (range_with_len 0 l.k)
+-- the changes so far
+abbrev pub invariant-loop-wave : goal.invariant-loop-wave
+invariant-loop-wave l = string_bytes l.text ≡ string_bytes l.initial.text ++ flat_map change_text (take l.wave-index l.waves)

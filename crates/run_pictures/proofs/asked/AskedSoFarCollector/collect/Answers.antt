@@ -1,14 +1,13 @@
-use Rattle.std.proofs.Common.{arith}
+use Rattle.std.proofs.Common.{sym, ◌∙◌}
 use Rattle.trace_text.proofs.Held.{on_ok}
-use Rattle.run_pictures.proofs.Recorded.{asked_few, gathered_more}
+use Rattle.run_pictures.proofs.Recorded.{gathered_none, gathered_one}
 use Rattle.run_pictures.proofs.asked.AskedSoFarCollector.collect.Goals as goal
 
-pub gather-requires : goal.gather-requires
-gather-requires c =
-    let went = c.requires.went in
-    omega (arith, went.2.number, asked_few went.1, went.3, c.requires.few)
+pub returns-in-Some-clause-kept : goal.returns-in-Some-clause-kept
+returns-in-Some-clause-kept c =
+    on_ok c.keep.result (λ one start texts number held. gathered_one c.args.self.now c.keep.new.self c.in-Some.asked texts c.args.text.now
+    c.in_ok-pair.pair c.in_ok-pair.ensures.pair (sym c.asked_in.ensures ∙ c.in-Some.is) one held) c.keep.ensures.ok
 
-pub returns-clause-kept : goal.returns-clause-kept
-returns-clause-kept c =
-    on_ok c.gather.result (λ one start texts number held. gathered_more c.args.self.now c.gather.new.self c.asked_in.result
-    c.in_ok-pair.pair texts c.args.text.now c.asked_in.ensures c.in_ok-pair.ensures.pair one held) c.gather.ensures.ok
+pub returns-in-None-clause-kept : goal.returns-in-None-clause-kept
+returns-in-None-clause-kept c = λ start texts number held. gathered_none c.args.self.now texts c.args.text.now c.in_ok-pair.pair
+    c.in_ok-pair.ensures.pair (sym c.asked_in.ensures ∙ c.in-None.is) held

@@ -1,9 +1,0 @@
-use Rattle.std.specs.Prelude.{Some}
-use Rattle.std.specs.String.{string_bytes}
-use Rattle.run_pictures.specs.Cells as cells
-use Rattle.run_pictures.proofs.Texts.{text_at_same}
-use Rattle.run_pictures.proofs.cells.answer_text.Goals as goal
-
-pub returns-in-Some : goal.returns-in-Some
-returns-in-Some c = text_at_same cells.answer_text c.format.result string_bytes c.args.answer (Some c.in-Some.answer) c.in-Some.is
-    c.format.ensures.ok

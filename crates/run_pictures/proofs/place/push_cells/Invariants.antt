@@ -1,7 +1,0 @@
-use Rattle.std.proofs.Common.{◌≡◌, ◌++◌}
-use Rattle.run_pictures.specs.Places.{of_each, cell_place}
-use Rattle.run_pictures.proofs.place.push_cells.Given as goal
-
--- the places so far stand behind the others
-abbrev pub invariant-loop-i : goal.invariant-loop-i
-invariant-loop-i l = l.places.items ≡ l.initial.places.items ++ of_each (cell_place l.frame) l.i

@@ -1,7 +1,0 @@
-use Rattle.std.proofs.Common.{◌≡◌, ◌++◌}
-use Rattle.run_pictures.specs.Places.{of_each, reply_place}
-use Rattle.run_pictures.proofs.place.push_replies.Given as goal
-
--- the places so far stand behind the others
-abbrev pub invariant-loop-place : goal.invariant-loop-place
-invariant-loop-place l = l.places.items ≡ l.initial.places.items ++ of_each reply_place l.place
