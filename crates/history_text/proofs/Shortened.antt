@@ -1,5 +1,5 @@
 -- What a reader gives whose bytes are known is what stood before it.
-use Rattle.std.proofs.Common.{◌≡◌, ℕ, Option, Some, None, Result, Ok, Err, IfOk, List, [], ◌∷◌, ◌++◌, append_assoc, refl, sym, ◌∙◌, ap, subst}
+use Rattle.std.proofs.Common.{◌≡◌, ℕ, Result, Ok, Err, IfOk, List, [], ◌∷◌, ◌++◌, append_assoc, sym, ◌∙◌, ap, subst}
 use Rattle.std.specs.List.{FoldsTo, concat}
 use Rattle.history_sessions.specs.Session.{Session}
 use Rattle.trace_text.specs.Streams.{Came}
@@ -16,12 +16,13 @@ module _ {R : Type 0} (gave : R → List ℕ → R → Type 0) (failed : R → R
   moved : (pieces : List (List ℕ)) (r r' : R) → FoldsTo (Came gave) r pieces r' → left r ≡ concat pieces ++ left r'
   moved [] r r' e = ap left e
   moved (piece ∷ pieces) r r' (next, came, steps) =
-      gives r piece next came.0 ∙ (ap (λ more. piece ++ more) (moved pieces next r' steps) ∙ sym (append_assoc piece (concat pieces) (left r')))
+      gives r piece next came.0
+      ∙ (ap (λ more. piece ++ more) (moved pieces next r' steps) ∙ sym (append_assoc piece (concat pieces) (left r')))
 
   -- so what it gave up to a refused line is the front of that
   pub refused_text : (start : Session) (r r' : R) (refusal : Refusal) → Judges gave failed start r r' (Ok (history.Refused refusal))
       → IsRefusedText start (left r) refusal
-  refused_text start r r' refusal (texts, rest, into, of_law, line, more, ends, good, told) =
+  refused_text start r r' refusal (texts, rest, into, of_law, (line, more, ends, good, told)) =
       let front : left r ≡ into.so_far.bytes ++ left into.last =
       moved into.so_far.read.pieces r into.last into.so_far.read.steps ∙ ap (λ bytes. bytes ++ left into.last) into.so_far.read.whole in
       let piece : left into.last ≡ into.piece ++ left r' = gives into.last into.piece r' into.gives.0 in
@@ -40,6 +41,6 @@ module _ {R : Type 0} (gave : R → List ℕ → R → Type 0) (failed : R → R
 
   pub judged_text : (start : Session) (r r' : R) (result : Result HistoryEnd TraceFault) → Judges gave failed start r r' result
       → IfOk result (λ end. (refusal : Refusal) → end ≡ history.Refused refusal → IsRefusedText start (left r) refusal)
-  judged_text start r r' (Ok end) judges refusal is =
-      refused_text start r r' refusal (subst (λ e. Judges gave failed start r r' (Ok e)) is judges)
+  judged_text start r r' (Ok end) judges =
+      λ refusal is. refused_text start r r' refusal (subst (λ e. Judges gave failed start r r' (Ok e)) is judges)
   judged_text start r r' (Err f) judges = tt

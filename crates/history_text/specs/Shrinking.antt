@@ -11,6 +11,8 @@ use Rattle.history_text.specs.declared.answers.Refusal.{Refusal}
 use Rattle.history_text.specs.declared.answers.RefusalCause.{RefusalCause}
 use Rattle.history_text.specs.declared.answers.RefusalCause.TheVariants.{OutOfRange, NoByteEnabled, NumberInUse, NotOpen, WrongLength}
 use Rattle.history_text.specs.declared.answers.RefusalCause.TheVariants.{WrongByte, NoMoment}
+use Rattle.history_text.specs.declared.shrinking.Wrong.{Wrong}
+use Rattle.history_text.specs.declared.shrinking.Wrong.TheVariants as wrong
 use Rattle.history_text.specs.Histories.{AreOfLaw, LineEnds, Judges}
 
 -- These bytes are lines of a history of the law, and behind them one that makes it none, of which this is told.
@@ -22,27 +24,25 @@ pub record IsRefusedText (start : Session) (bytes : List ℕ) (refusal : Refusal
   pub of_law : AreOfLaw start texts
   pub ends : LineEnds start texts line (history.Refused refusal)
 
--- The same is wrong, at the same byte.
-abbrev pub IsSameCause : RefusalCause → RefusalCause → Type 0
-IsSameCause (OutOfRange address n) (OutOfRange there m) = (there ≡ address) × (m ≡ n)
-IsSameCause NoByteEnabled NoByteEnabled = Unit {0}
-IsSameCause NumberInUse NumberInUse = Unit {0}
-IsSameCause NotOpen NotOpen = Unit {0}
-IsSameCause (WrongLength requested returned) (WrongLength wanted got) = (wanted ≡ requested) × (got ≡ returned)
-IsSameCause (WrongByte address returned allowed sources overwritten) (WrongByte there got may from by) =
-    (there ≡ address) × (got ≡ returned)
-IsSameCause (NoMoment address overwritten) (NoMoment there by) = there ≡ address
-IsSameCause cause other = ⊥
+-- what is wrong, and where; not what else might have been there
+abbrev pub what_is_wrong : RefusalCause → Wrong
+what_is_wrong (OutOfRange address n) = wrong.Range address n
+what_is_wrong NoByteEnabled = wrong.Enables
+what_is_wrong NumberInUse = wrong.NumberInUse
+what_is_wrong NotOpen = wrong.NotOpen
+what_is_wrong (WrongLength requested returned) = wrong.Length requested returned
+what_is_wrong (WrongByte address returned allowed sources overwritten) = wrong.Byte address returned
+what_is_wrong (NoMoment address overwritten) = wrong.Unit address
 
--- It is wrong of the same operation. The lines may have other numbers.
-pub record IsSameAnswer (refusal again : Refusal) : Type 0 where
-  pub kind : again.kind ≡ refusal.kind
-  pub number : again.number ≡ refusal.number
-  pub cause : IsSameCause refusal.cause again.cause
+-- The same is wrong of the same operation. Their lines may have other numbers.
+abbrev pub AreAlike : Refusal → Refusal → Type 0
+AreAlike refusal other =
+    (refusal.kind ≡ other.kind) × (refusal.number ≡ other.number) × (what_is_wrong refusal.cause ≡ what_is_wrong other.cause)
 
 -- What is written of a history that ends so: a history that the law refuses for the same answer, or nothing.
 abbrev pub IsShort : Session → HistoryEnd → List ℕ → Type 0
-IsShort start (history.Refused refusal) bytes = (again : Refusal) × IsRefusedText start bytes again × IsSameAnswer refusal again
+IsShort start (history.Refused refusal) bytes =
+    (again : Refusal) × IsRefusedText start bytes again × AreAlike again refusal
 IsShort start end bytes = bytes ≡ []
 
 -- Why nothing is: the history can't be judged, or not be read a second time as it was read first, or memory is missing.

@@ -166,8 +166,15 @@ impl Gathering {
         }
     }
 
-    // Stops behind the refused line.
-    fn end_at(&mut self, line: u64) -> Result<(), Uncollected> {
+    // What a line says is kept, if it is needed. Behind the refused line nothing is.
+    fn keep(&mut self, line: u64, event: Option<OwnedEvent>) -> Result<(), Uncollected>
+        ensures { IfErr result (λ miss. miss ≡ Uncollected.Halted) }
+    {
+        if let Some(event) = event {
+            if self.take(line, event).is_err() {
+                return Err(Uncollected::Halted);
+            }
+        }
         if line < self.last {
             return Ok(());
         }
@@ -194,12 +201,8 @@ impl Collector for Gathering {
     ghost holds_same = { λ s t. Unit {0} };
 
     fn collect(&mut self, number: u64, text: &[u8]) -> Result<(), Uncollected> {
-        if let Some(event) = read_history_line(text)? {
-            if self.take(number, event).is_err() {
-                return Err(Uncollected::Halted);
-            }
-        }
-        self.end_at(number)
+        let event = read_history_line(text)?;
+        self.keep(number, event)
     }
 
     fn pause(&mut self) -> Result<(), Failed> {

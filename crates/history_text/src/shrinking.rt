@@ -5,7 +5,7 @@ ghost use Rattle.std.specs.String.{string_bytes};
 ghost use Rattle.history_sessions.specs.Session.{session_opening};
 ghost use Rattle.trace_text.specs.declared.fault.TraceFault.TheVariants.{OutOfMemory, Read};
 ghost use Rattle.history_text.specs.Histories.{Judges};
-ghost use Rattle.history_text.specs.Shrinking.{IsRefusedText, IsSameCause, IsSameAnswer, IsShort, ShrinkFails};
+ghost use Rattle.history_text.specs.Shrinking.{IsRefusedText, what_is_wrong, AreAlike, IsShort, ShrinkFails};
 ghost use Rattle.history_text.specs.declared.answers.HistoryEnd.TheVariants as history;
 ghost use Rattle.history_text.specs.declared.answers.Refusal.{Refusal as RefusalValue};
 
@@ -53,7 +53,7 @@ struct Enables {
 
 impl Enables {
     fn has(self, place: usize) -> bool {
-        place < 64 && self.enables >> place & 1 == 1
+        place < 64 && (self.enables >> place) % 2 == 1
     }
 
     fn has_all(self) -> bool {
@@ -221,56 +221,109 @@ fn judge_text(
     judge_by_law(alloc, &mut reader, law, image, rest)
 }
 
-// Whether the same is wrong, at the same byte.
-fn is_same_cause(cause: &RefusalCause, other: &RefusalCause) -> bool
-    ensures { result ≡ true → IsSameCause cause.now other.now }
+// What is wrong, and where; not what else might have been there.
+#[derive(Clone, Copy)]
+enum Wrong {
+    Range { address: u64, length: u64 },
+    Enables,
+    NumberInUse,
+    NotOpen,
+    Length { requested: u64, returned: u64 },
+    Byte { address: u64, returned: u8 },
+    Unit { address: u64 },
+}
+
+fn wrong_of(cause: &RefusalCause) -> Wrong
+    ensures { result ≡ what_is_wrong cause.now }
 {
-    match (cause, other) {
-        (RefusalCause::NoByteEnabled, RefusalCause::NoByteEnabled) => true,
-        (RefusalCause::NumberInUse, RefusalCause::NumberInUse) => true,
-        (RefusalCause::NotOpen, RefusalCause::NotOpen) => true,
+    match cause {
+        RefusalCause::OutOfRange { address, length } => Wrong::Range {
+            address: *address,
+            length: *length,
+        },
+        RefusalCause::NoByteEnabled => Wrong::Enables,
+        RefusalCause::NumberInUse => Wrong::NumberInUse,
+        RefusalCause::NotOpen => Wrong::NotOpen,
+        RefusalCause::WrongLength {
+            requested,
+            returned,
+        } => Wrong::Length {
+            requested: *requested,
+            returned: *returned,
+        },
+        RefusalCause::WrongByte {
+            address,
+            returned,
+            ..
+        } => Wrong::Byte {
+            address: *address,
+            returned: *returned,
+        },
+        RefusalCause::NoMoment { address, .. } => Wrong::Unit { address: *address },
+    }
+}
+
+fn is_same(wrong: Wrong, other: Wrong) -> bool
+    ensures { result ≡ true → wrong ≡ other }
+{
+    match (wrong, other) {
         (
-            RefusalCause::OutOfRange { address, length },
-            RefusalCause::OutOfRange {
+            Wrong::Range { address, length },
+            Wrong::Range {
                 address: there,
                 length: long,
             },
         ) => address == there && length == long,
+        (Wrong::Enables, Wrong::Enables) => true,
+        (Wrong::NumberInUse, Wrong::NumberInUse) => true,
+        (Wrong::NotOpen, Wrong::NotOpen) => true,
         (
-            RefusalCause::WrongLength {
+            Wrong::Length {
                 requested,
                 returned,
             },
-            RefusalCause::WrongLength {
+            Wrong::Length {
                 requested: wanted,
                 returned: got,
             },
         ) => requested == wanted && returned == got,
         (
-            RefusalCause::WrongByte {
-                address,
-                returned,
-                ..
-            },
-            RefusalCause::WrongByte {
+            Wrong::Byte { address, returned },
+            Wrong::Byte {
                 address: there,
                 returned: got,
-                ..
             },
         ) => address == there && returned == got,
-        (RefusalCause::NoMoment { address, .. }, RefusalCause::NoMoment { address: there, .. }) =>
-            address == there,
+        (Wrong::Unit { address }, Wrong::Unit { address: there }) => address == there,
         _ => false,
     }
 }
 
-// Whether two refusals are of the same operation, for the same at the same byte.
-fn is_same_answer(refusal: &Refusal, other: &Refusal) -> bool
-    ensures { result ≡ true → IsSameAnswer refusal.now other.now }
+// Whether the same is wrong of the same operation.
+fn are_alike(refusal: &Refusal, other: &Refusal) -> bool
+    ensures { result ≡ true → AreAlike refusal.now other.now }
 {
     refusal.kind == other.kind
         && refusal.number == other.number
-        && is_same_cause(&refusal.cause, &other.cause)
+        && is_same(wrong_of(&refusal.cause), wrong_of(&other.cause))
+}
+
+// Whether a text is refused for the same as this.
+fn is_refused_alike(
+    alloc: Global,
+    text: &str,
+    law: HistoryLaw,
+    image: &[u8],
+    rest: Rest,
+    refusal: &Refusal,
+) -> Result<bool, AllocError>
+    ensures { IfOk result (λ is. is ≡ true → IsShort (session_opening law image.now rest) (history.Refused refusal.now) text.now) }
+{
+    match judge_text(alloc, text.as_bytes(), law, image, rest) {
+        Ok(HistoryEnd::Refused(again)) => Ok(are_alike(&again, refusal)),
+        Err(TraceFault::OutOfMemory) => Err(AllocError),
+        _ => Ok(false),
+    }
 }
 
 // Of a history that is refused so, what is written.
@@ -287,10 +340,10 @@ fn shrunk<R: Source>(
 {
     let kept = gather(alloc, reader, law, refusal)?;
     let text = text_of(alloc, law, image, rest, &refusal.cause, &kept)?;
-    match judge_text(alloc, text.as_bytes(), law, image, rest) {
-        Ok(HistoryEnd::Refused(again)) if is_same_answer(refusal, &again) => Ok(text),
-        Err(TraceFault::OutOfMemory) => Err(TraceFault::OutOfMemory),
-        _ => Err(TraceFault::Read),
+    if is_refused_alike(alloc, text.as_str(), law, image, rest, refusal)? {
+        Ok(text)
+    } else {
+        Err(TraceFault::Read)
     }
 }
 

@@ -264,5 +264,5 @@ impl UnitOperation {
 
 // Whether a store enables its byte at a place.
 fn is_enabled(enables: u64, place: u64) -> bool {
-    place < 64 && enables >> place & 1 == 1
+    place < 64 && (enables >> place) % 2 == 1
 }

@@ -77,7 +77,8 @@ use Rattle.kroft_command.specs.declared.command_line.MachineName.TheVariants as 
 use Rattle.kroft_command.specs.declared.command_line.SheetWork.TheVariants as sheet
 use Rattle.kroft_command.specs.declared.command_line.Task.TheVariants as task
 use Rattle.kroft_command.specs.declared.fault.ToolFault.TheVariants.{CommandLine as Words, Job, MachineUnreadable, ImageUnreadable}
-use Rattle.kroft_command.specs.declared.fault.ToolFault.TheVariants.{LongImage as TooLong, SheetUnreadable, Sheet as SheetFault, HistoryUnreadable}
+use Rattle.kroft_command.specs.declared.fault.ToolFault.TheVariants.{LongImage as TooLong, SheetUnreadable, Sheet as SheetFault}
+use Rattle.kroft_command.specs.declared.fault.ToolFault.TheVariants.{HistoryUnreadable}
 use Rattle.named_fields.specs.declared.format.Format.TheVariants.{Text}
 use Rattle.kroft_command.specs.Tool.{IsInRange, IsAllowed, MayBegin, timings_in, registers_in, line, write_fault, no_memory, of_machine}
 use Rattle.kroft_command.specs.Tool.{of_trace, of_show, of_log}
@@ -193,6 +194,10 @@ IsSheetFault fault = (fault ≡ no_memory) ⊎ ((f : TraceFault) × (fault ≡ S
 abbrev pub SheetFileFails : ToolFault → Type 0
 SheetFileFails fault = IsUnread SheetUnreadable fault ⊎ IsSheetFault fault
 
+-- Why a file's history can't be judged: it can't be read, or has a fault, or memory is missing.
+abbrev pub HistoryFileFails : ToolFault → Type 0
+HistoryFileFails fault = IsUnread HistoryUnreadable fault ⊎ ((f : TraceFault) × (fault ≡ of_trace f))
+
 -- only a grade is by a sheet
 abbrev pub grade_format : Task → Format
 grade_format (task.Grade format work) = format
@@ -271,11 +276,10 @@ module _ {W : Type 0} (took : W → List ℕ → W → Type 0) (refused unflushe
       (λ fault. (f : TraceFault) × (judged ≡ Err f) × (fault ≡ of_trace f))
 
   -- The history of a file is judged, and if its law refuses it, a short one is put, which the law refuses for the same answer.
-  unfoldable pub ShrinksHistory : (how : HistoryTask) (image : List ℕ) → Written W
+  abbrev pub ShrinksHistory : (how : HistoryTask) (image : List ℕ) → Written W
   ShrinksHistory how image =
       Answers (λ text status. (end : HistoryEnd) × IsShort (history_from how image) end text
-      × (status ≡ history_status how.all_answered end))
-      (λ fault. IsUnread HistoryUnreadable fault ⊎ ((f : TraceFault) × (fault ≡ of_trace f)))
+      × (status ≡ history_status how.all_answered end)) HistoryFileFails
 
   -- Words that are no task: what they ask for is put, or they are refused, and then nothing is written.
   abbrev pub TellsWords : (said : Error) → Written W
@@ -557,7 +561,8 @@ module _ {R W E : Type 0} (gave : R → List ℕ → R → Type 0) (failed : R �
       Silently (judges_or_shrinks gave failed took refused unflushed shrink how (bytes_of image))
 
   -- The same with a sheet's file, by which what was handed in is graded.
-  abbrev pub IsDoneBy : (sheet shrink : Option (Bor (List ℕ))) → Task → (sizes : Sizes) (beside : Option Sizes) (image : Image) → Telling R W E
+  abbrev pub IsDoneBy : (sheet shrink : Option (Bor (List ℕ))) → Task → (sizes : Sizes) (beside : Option Sizes) (image : Image)
+      → Telling R W E
   IsDoneBy None shrink task sizes beside image = IsDone task shrink sizes beside image
   IsDoneBy (Some path) shrink task sizes beside image =
       Silently (GradesByFile gave failed took refused unflushed (grade_format task) sizes image)

@@ -2,6 +2,7 @@
 
 ghost use Rattle.std.specs.Prelude.{◌≡◌, ◌≤◌, ℕ, None, Ok, IfOk, IfErr, OnOk, Result, length};
 ghost use Rattle.shape_files.specs.MachineFile.{bad_machine};
+ghost use Rattle.std.specs.String.{string_bytes};
 ghost use Rattle.toml.specs.Parse.{parse_document};
 ghost use Rattle.shape_files.specs.MachineFile.{TextSays};
 ghost use Rattle.shape_files.specs.ShapeFile.{bad_field as bad_shape, text_says};
@@ -12,7 +13,8 @@ ghost use Rattle.kroft_command.specs.Told.{EndsBy};
 ghost use Rattle.kroft_command.specs.Program.{Works, TellsWords, Performs, IsDone};
 ghost use Rattle.kroft_command.specs.Program.{IsMachineOf, IsUnread, ShapeTextFails, MachineTextFails, MachineFails, IsImageOf, ImageFails};
 ghost use Rattle.kroft_command.specs.Program.{GradesByFile, HasRoom, IsSheet, IsSheetFault, LacksRoom, grade_format};
-ghost use Rattle.kroft_command.specs.Program.{ShrinksHistory, judges_or_shrinks};
+ghost use Rattle.history_text.specs.Shrinking.{IsShort};
+ghost use Rattle.kroft_command.specs.Program.{HistoryFileFails, ShrinksHistory, history_from, judges_or_shrinks};
 ghost use Rattle.kroft_command.specs.Program.{IsBesideOf, BesideFails, HasRoomBeside, LacksRoomBeside};
 ghost use Rattle.kroft_jobs.specs.Following.{IsGood};
 ghost use Rattle.kroft_jobs.specs.Words.{MAX_LINES};
@@ -26,7 +28,7 @@ use crate::tasks::{
 };
 use clap::error::ErrorKind;
 use flat_model::Image;
-use history_text::shrink_by_law;
+use history_text::{ShrunkHistory, shrink_by_law};
 use kroft_jobs::{JobFault, Question, read_questions};
 use named_fields::Format;
 use register_sweeps::Sizes;
@@ -260,7 +262,6 @@ fn judge_or_shrink<R: AllocGlobal + Files, I: Source, O: Sink>(
 }
 
 // Makes a short history of that in a file.
-#[tactic(auto, unfolding(crate::specs::Program::ShrinksHistory))]
 fn shrink_file<R: AllocGlobal + Files, O: Sink>(
     rt: &R,
     how: HistoryTask,
@@ -271,10 +272,30 @@ fn shrink_file<R: AllocGlobal + Files, O: Sink>(
     ensures few { IfOk result (λ status. status ≤ 6) }
     ensures ends { ShrinksHistory O.took O.refused O.unflushed how image.now output.old output.new result }
 {
-    let mut file = history_file(rt, path)?;
-    let mut again = history_file(rt, path)?;
-    let shrunk = shrink_by_law(rt.alloc(), &mut file, &mut again, how.law, image, how.rest)?;
+    let shrunk = shrunk_from(rt, how, path, image)?;
     answer(output, shrunk.text.as_str(), status_of(how, &shrunk.end))
+}
+
+// What the history in a file is, and a short one of it.
+fn shrunk_from<R: AllocGlobal + Files>(
+    rt: &R,
+    how: HistoryTask,
+    path: &str,
+    image: &[u8],
+) -> Result<ShrunkHistory, ToolFault>
+    ensures short { IfOk result (λ shrunk. IsShort (history_from how image.now) shrunk.end (string_bytes shrunk.text)) }
+    ensures fault { IfErr result HistoryFileFails }
+{
+    let mut reader = history_file(rt, path)?;
+    let mut again = history_file(rt, path)?;
+    Ok(shrink_by_law(
+        rt.alloc(),
+        &mut reader,
+        &mut again,
+        how.law,
+        image,
+        how.rest,
+    )?)
 }
 
 // A file that is read as it is asked for.
