@@ -1,4 +1,4 @@
-use Rattle.std.proofs.Common.{ℕ, List, subst}
+use Rattle.std.proofs.Common.{subst}
 use Rattle.history_sessions.specs.Session.{session_opening}
 use Rattle.history_text.specs.Shrinking.{IsRefusedText}
 use Rattle.history_text.proofs.shrinking.is_refused_alike.Goals as goal
