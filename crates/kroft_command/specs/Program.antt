@@ -466,7 +466,7 @@ module _ {R W : Type 0} (gave : R → List ℕ → R → Type 0) (failed : R →
 
   -- A file's history is read in place of the input, if it is to be made short.
   abbrev pub judges_or_shrinks : Option (Bor (List ℕ)) → (how : HistoryTask) (image : List ℕ) → Ending R W
-  judges_or_shrinks None how = FollowsHistory how
+  judges_or_shrinks None how image input input' output output' result = FollowsHistory how image input input' output output' result
   judges_or_shrinks (Some path) how image input input' output output' result =
       (input' ≡ input) × ShrinksHistory took refused unflushed how image output output' result
 

@@ -346,7 +346,7 @@ With --format json what is found is an object; it doesn't go with --values.
 With --shrink the history is read from that file, twice. If it is refused, a short one is written that
 is refused for the same answer. A comment has the number of each line, and each operation has its bytes
 of one unit alone. Of any other history nothing is written. The status is as without it.
-It goes with neither of these two.
+It goes with neither --values nor --format.
 
 Statuses: 0 the history is one of the law, 1 it isn't (or, with --all-answered, operations are
 open), 2 the command line is wrong, 4 a line is faulty, a file can't be read or a stream failed, 5
