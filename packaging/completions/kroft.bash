@@ -23,6 +23,7 @@ _kroft() {
     *:--words) COMPREPLY=($(compgen -W '' -- "$word")); return ;;
     *:--law) COMPREPLY=($(compgen -W 'flat atomic regular' -- "$word")); return ;;
     *:--unit) COMPREPLY=($(compgen -W '1 2 4 8' -- "$word")); return ;;
+    *:--shrink) mapfile -t COMPREPLY < <(compgen -f -- "$word"); compopt -o filenames 2>/dev/null; return ;;
   esac
   case $command in
     run) k='--shape --machine --image -h --help' ;;
@@ -33,7 +34,7 @@ _kroft() {
     drive) k='--shape --machine --image --log --latency --busy --summary --all --format --svg --timeline --beside -h --help' ;;
     requests) k='--from --words -h --help' ;;
     show) k='--shape --machine --image --text --vcd -h --help' ;;
-    history) k='--law --unit --image --unknown --all-answered --values --format -h --help' ;;
+    history) k='--law --unit --image --unknown --all-answered --values --shrink --format -h --help' ;;
     *) k='run check sweep explain grade drive requests show history --shape -h --help -V --version' ;;
   esac
   COMPREPLY=($(compgen -W "$k" -- "$word"))

@@ -72,5 +72,6 @@ complete -c kroft -n '__fish_seen_subcommand_from history' -l image -r -F -d 'Th
 complete -c kroft -n '__fish_seen_subcommand_from history' -l unknown -d 'Memory may have had anything before the first store'
 complete -c kroft -n '__fish_seen_subcommand_from history' -l all-answered -d 'End with status 1 if operations are open at the end'
 complete -c kroft -n '__fish_seen_subcommand_from history' -l values -d 'Write each line, and behind a load\'s response what it may have returned'
+complete -c kroft -n '__fish_seen_subcommand_from history' -l shrink -r -F -d 'Read the history in this file, and if it is refused write a short one that is, for the same answer'
 complete -c kroft -n '__fish_seen_subcommand_from history' -l format -x -a 'text json' -d 'How the verdict is written [default: text]'
 complete -c kroft -n '__fish_seen_subcommand_from history' -l help -s h -d 'Print help'

@@ -5,3 +5,4 @@ pub mod Notes
 pub mod Refusals
 pub mod Histories
 pub mod Values
+pub mod Shrinking

@@ -44,7 +44,7 @@ pub(crate) fn byte_address(load: OpenOperation, place: u64) -> u64
 }
 
 // What the operation of an event is.
-fn kind_of(event: &OwnedEvent) -> OperationKind
+pub(crate) fn kind_of(event: &OwnedEvent) -> OperationKind
     ensures { result ≡ kind_seen (seen event.now) }
 {
     match event {
@@ -54,7 +54,7 @@ fn kind_of(event: &OwnedEvent) -> OperationKind
 }
 
 // Its number.
-fn number_of(event: &OwnedEvent) -> u64
+pub(crate) fn number_of(event: &OwnedEvent) -> u64
     ensures { result ≡ number_seen (seen event.now) }
 {
     match event {

@@ -25,6 +25,7 @@ use Rattle.access_logs.specs.Formats.{lackey_access, din_access}
 use Rattle.access_logs.specs.Logs as logs
 use Rattle.history_text.specs.Answers.{verdict_status as history_status}
 use Rattle.history_text.specs.Histories.{Judges}
+use Rattle.history_text.specs.Shrinking.{IsShort}
 use Rattle.history_sessions.specs.Session.{Session, session_opening}
 use Rattle.history_text.specs.Values.{Writes}
 use Rattle.history_text.specs.declared.answers.HistoryEnd.{HistoryEnd}
@@ -77,6 +78,7 @@ use Rattle.kroft_command.specs.declared.command_line.SheetWork.TheVariants as sh
 use Rattle.kroft_command.specs.declared.command_line.Task.TheVariants as task
 use Rattle.kroft_command.specs.declared.fault.ToolFault.TheVariants.{CommandLine as Words, Job, MachineUnreadable, ImageUnreadable}
 use Rattle.kroft_command.specs.declared.fault.ToolFault.TheVariants.{LongImage as TooLong, SheetUnreadable, Sheet as SheetFault}
+use Rattle.kroft_command.specs.declared.fault.ToolFault.TheVariants.{HistoryUnreadable}
 use Rattle.named_fields.specs.declared.format.Format.TheVariants.{Text}
 use Rattle.kroft_command.specs.Tool.{IsInRange, IsAllowed, MayBegin, timings_in, registers_in, line, write_fault, no_memory, of_machine}
 use Rattle.kroft_command.specs.Tool.{of_trace, of_show, of_log}
@@ -192,6 +194,10 @@ IsSheetFault fault = (fault ≡ no_memory) ⊎ ((f : TraceFault) × (fault ≡ S
 abbrev pub SheetFileFails : ToolFault → Type 0
 SheetFileFails fault = IsUnread SheetUnreadable fault ⊎ IsSheetFault fault
 
+-- Why a file's history can't be judged: it can't be read, or has a fault, or memory is missing.
+abbrev pub HistoryFileFails : ToolFault → Type 0
+HistoryFileFails fault = IsUnread HistoryUnreadable fault ⊎ ((f : TraceFault) × (fault ≡ of_trace f))
+
 -- only a grade is by a sheet
 abbrev pub grade_format : Task → Format
 grade_format (task.Grade format work) = format
@@ -268,6 +274,12 @@ module _ {W : Type 0} (took : W → List ℕ → W → Type 0) (refused unflushe
       Answers (λ text status. (end : HistoryEnd) × (judged ≡ Ok end) × (text ≡ line (history_in how.format how.law end))
       × (status ≡ history_status how.all_answered end))
       (λ fault. (f : TraceFault) × (judged ≡ Err f) × (fault ≡ of_trace f))
+
+  -- The history of a file is judged, and if its law refuses it, a short one is put, which the law refuses for the same answer.
+  abbrev pub ShrinksHistory : (how : HistoryTask) (image : List ℕ) → Written W
+  ShrinksHistory how image =
+      Answers (λ text status. (end : HistoryEnd) × IsShort (history_from how image) end text
+      × (status ≡ history_status how.all_answered end)) HistoryFileFails
 
   -- Words that are no task: what they ask for is put, or they are refused, and then nothing is written.
   abbrev pub TellsWords : (said : Error) → Written W
@@ -452,6 +464,12 @@ module _ {R W : Type 0} (gave : R → List ℕ → R → Type 0) (failed : R →
   unfoldable pub FollowsHistory : (how : HistoryTask) (image : List ℕ) → Ending R W
   FollowsHistory how = judges_or_writes how.values how
 
+  -- A file's history is read in place of the input, if it is to be made short.
+  abbrev pub judges_or_shrinks : Option (Bor (List ℕ)) → (how : HistoryTask) (image : List ℕ) → Ending R W
+  judges_or_shrinks None how image input input' output output' result = FollowsHistory how image input input' output output' result
+  judges_or_shrinks (Some path) how image input input' output output' result =
+      (input' ≡ input) × ShrinksHistory took refused unflushed how image output output' result
+
 -- What holds of an output, of an input and of the errors, too.
 abbrev pub Telling : Type 0 → Type 0 → Type 0 → Type 1
 Telling R W E = (errors errors' : E) → Ending R W
@@ -525,27 +543,29 @@ module _ {R W E : Type 0} (gave : R → List ℕ → R → Type 0) (failed : R �
   -- ---- the whole program
 
   -- What becomes of each task.
-  unfoldable pub IsDone : Task → (sizes : Sizes) (beside : Option Sizes) (image : Image) → Telling R W E
-  IsDone task.Run sizes beside image = Silently (Runs gave failed took refused unflushed sizes image)
-  IsDone (task.Check all_answered format) sizes beside image =
+  unfoldable pub IsDone : Task → (shrink : Option (Bor (List ℕ))) → (sizes : Sizes) (beside : Option Sizes) (image : Image) → Telling R W E
+  IsDone task.Run shrink sizes beside image = Silently (Runs gave failed took refused unflushed sizes image)
+  IsDone (task.Check all_answered format) shrink sizes beside image =
       Silently (checks_by gave failed took refused unflushed all_answered format sizes image)
-  IsDone (task.Sweep timings registers form) sizes beside image =
+  IsDone (task.Sweep timings registers form) shrink sizes beside image =
       Sweeps (timings_in timings) form sizes (registers_in registers)
-  IsDone (task.Explain format) sizes beside image = Silently (ExplainsRun gave failed took refused unflushed format sizes image)
-  IsDone (task.Grade format work) sizes beside image =
+  IsDone (task.Explain format) shrink sizes beside image = Silently (ExplainsRun gave failed took refused unflushed format sizes image)
+  IsDone (task.Grade format work) shrink sizes beside image =
       Silently (works_on_sheet gave failed took refused unflushed work format sizes image)
-  IsDone (task.Drive from timing summary all form) sizes beside image = Drives from timing summary all form sizes image
-  IsDone (task.Timeline from timing) sizes beside image = DrawsTimeline from timing sizes beside image
-  IsDone (task.Requests log words) sizes beside image =
+  IsDone (task.Drive from timing summary all form) shrink sizes beside image = Drives from timing summary all form sizes image
+  IsDone (task.Timeline from timing) shrink sizes beside image = DrawsTimeline from timing sizes beside image
+  IsDone (task.Requests log words) shrink sizes beside image =
       Silently (WritesRequests gave failed took refused unflushed (access_in log) words)
-  IsDone (task.Show form) sizes beside image = Silently (Draws gave failed took refused unflushed form sizes image)
-  IsDone (task.History how) sizes beside image =
-      Silently (FollowsHistory gave failed took refused unflushed how (bytes_of image))
+  IsDone (task.Show form) shrink sizes beside image = Silently (Draws gave failed took refused unflushed form sizes image)
+  IsDone (task.History how) shrink sizes beside image =
+      Silently (judges_or_shrinks gave failed took refused unflushed shrink how (bytes_of image))
 
   -- The same with a sheet's file, by which what was handed in is graded.
-  abbrev pub IsDoneBy : Option (Bor (List ℕ)) → Task → (sizes : Sizes) (beside : Option Sizes) (image : Image) → Telling R W E
-  IsDoneBy None task sizes beside image = IsDone task sizes beside image
-  IsDoneBy (Some path) task sizes beside image = Silently (GradesByFile gave failed took refused unflushed (grade_format task) sizes image)
+  abbrev pub IsDoneBy : (sheet shrink : Option (Bor (List ℕ))) → Task → (sizes : Sizes) (beside : Option Sizes) (image : Image)
+      → Telling R W E
+  IsDoneBy None shrink task sizes beside image = IsDone task shrink sizes beside image
+  IsDoneBy (Some path) shrink task sizes beside image =
+      Silently (GradesByFile gave failed took refused unflushed (grade_format task) sizes image)
 
   -- The files that are named are read, and the task is done with what they say. Or one can't be read, or the image is too
   -- long, and nothing is done.
@@ -553,7 +573,7 @@ module _ {R W E : Type 0} (gave : R → List ℕ → R → Type 0) (failed : R �
   Performs asked errors errors' input input' output output' result =
       ((sizes : Sizes) × (beside : Option Sizes) × (image : Image) × IsMachineOf asked.machine sizes × IsBesideOf asked.beside beside
       × IsImageOf asked.image image × HasRoom asked.task sizes image × HasRoomBeside asked.task beside image
-      × IsDoneBy asked.sheet asked.task sizes beside image errors errors' input input' output output' result)
+      × IsDoneBy asked.sheet asked.shrink asked.task sizes beside image errors errors' input input' output output' result)
       ⊎ ((fault : ToolFault) × (result ≡ Err fault) × (input' ≡ input) × (output' ≡ output) × (errors' ≡ errors)
       × (MachineFails asked.machine fault ⊎ (BesideFails asked.beside fault ⊎ (ImageFails asked.image fault ⊎ ImageIsTooLong asked fault))))
 

@@ -27,7 +27,7 @@ use Rattle.trace_text.specs.declared.fault.TraceFault.TheVariants.{Write}
 use Rattle.kroft_jobs.specs.Jobs as jobs
 use Rattle.kroft_jobs.specs.declared.fault.JobFault.TheVariants.{Trace, OutOfMemory}
 use Rattle.kroft_command.specs.declared.fault.ToolFault.TheVariants.{CommandLine, Job, Machine, MachineUnreadable, NoRoom, ImageUnreadable}
-use Rattle.kroft_command.specs.declared.fault.ToolFault.TheVariants.{LongImage as TooLong, SheetUnreadable, Sheet}
+use Rattle.kroft_command.specs.declared.fault.ToolFault.TheVariants.{LongImage as TooLong, SheetUnreadable, Sheet, HistoryUnreadable}
 
 -- times of memory that there may be
 abbrev pub IsTimely : Timing → Type 0
@@ -145,6 +145,7 @@ status_of (Machine fault) = 3
 status_of MachineUnreadable = 3
 status_of SheetUnreadable = 4
 status_of (Sheet fault) = 4
+status_of HistoryUnreadable = 4
 status_of (NoRoom fault) = 4
 status_of ImageUnreadable = 4
 status_of (TooLong image) = 4
@@ -166,6 +167,7 @@ fault_text (Machine fault) = Some (machine_fault_text fault)
 fault_text MachineUnreadable = Some (codes "machine: file not readable")
 fault_text SheetUnreadable = Some (codes "sheet: file not readable")
 fault_text (Sheet fault) = Some (codes "sheet: " ++ trace_fault_text fault)
+fault_text HistoryUnreadable = Some (codes "history: file not readable")
 fault_text (NoRoom fault) = Some (no_room_text fault)
 fault_text ImageUnreadable = Some (codes "image: file not readable")
 fault_text (TooLong image) = Some (long_image_text image)

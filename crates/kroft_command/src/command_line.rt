@@ -12,7 +12,9 @@ use crate::commands::{Subcommand, program, shown};
 use crate::given::{
     format_of, latency_at, latency_count, registers_at, scale_of, text_of, verdict_format_of,
 };
-use crate::options::{BESIDE, BUSY, FILE, LATENCY, MACHINE, REGISTERS, SHEET, SVG, TIMELINE};
+use crate::options::{
+    BESIDE, BUSY, FILE, LATENCY, MACHINE, REGISTERS, SHEET, SHRINK, SVG, TIMELINE,
+};
 use access_logs::MAX_WORDS;
 use clap::error::ErrorKind;
 use clap::{ArgMatches, Error};
@@ -279,6 +281,8 @@ pub(crate) struct CommandLine<'a> {
     pub image: ImageName<'a>,
     /// The sheet by which what was handed in is graded.
     pub sheet: Option<&'a str>,
+    /// The history of which a short one is made.
+    pub shrink: Option<&'a str>,
 }
 
 /// The latency unless given.
@@ -651,6 +655,7 @@ struct Asked<'a> {
     beside: Option<&'a str>,
     image: ImageName<'a>,
     sheet: Option<&'a str>,
+    shrink: Option<&'a str>,
     file: Option<&'a str>,
 }
 
@@ -677,6 +682,7 @@ fn asked_for<'a>(subcommand: Subcommand, matches: &ArgMatches<'a>) -> Asked<'a>
                 beside: beside_of(subcommand, rest),
                 image: image_of(rest),
                 sheet: rest.get_str(SHEET),
+                shrink: rest.get_str(SHRINK),
                 file: rest.get_str(FILE),
             }
         }
@@ -688,6 +694,7 @@ fn asked_for<'a>(subcommand: Subcommand, matches: &ArgMatches<'a>) -> Asked<'a>
             beside: None,
             image: ImageName::Zeros,
             sheet: None,
+            shrink: None,
             file: None,
         },
     }
@@ -719,6 +726,7 @@ fn allowed<'a>(
     ensures beside { IfOk result (λ told. told.beside ≡ asked.entry.beside) }
     ensures image { IfOk result (λ told. told.image ≡ asked.entry.image) }
     ensures sheet { IfOk result (λ told. told.sheet ≡ asked.entry.sheet) }
+    ensures shrink { IfOk result (λ told. told.shrink ≡ asked.entry.shrink) }
 {
     let why = file_conflict(asked).or(conflict(asked.task, asked.before));
     match why.or(image_conflict(asked.task, asked.image)) {
@@ -729,6 +737,7 @@ fn allowed<'a>(
             beside: asked.beside,
             image: asked.image,
             sheet: asked.sheet,
+            shrink: asked.shrink,
         }),
     }
 }

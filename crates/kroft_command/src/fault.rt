@@ -30,6 +30,8 @@ pub enum ToolFault {
     SheetUnreadable,
     /// A line of the sheet that was given out is faulty.
     Sheet(TraceFault),
+    /// The file of a history can't be read.
+    HistoryUnreadable,
     /// A log touches a page for which there is no room.
     NoRoom(NoRoom),
     /// The image of memory can't be read.
@@ -62,6 +64,7 @@ impl fmt::Display for FaultText<'_> {
             ToolFault::MachineUnreadable => f.write_str("machine: file not readable"),
             ToolFault::SheetUnreadable => f.write_str("sheet: file not readable"),
             ToolFault::Sheet(fault) => write!(f, "sheet: {}", trace_text::FaultText(fault)),
+            ToolFault::HistoryUnreadable => f.write_str("history: file not readable"),
             ToolFault::NoRoom(fault) => write!(f, "{}", access_logs::FaultText(fault)),
             ToolFault::ImageUnreadable => f.write_str("image: file not readable"),
             ToolFault::LongImage(image) => write!(
@@ -83,6 +86,7 @@ impl ToolFault {
             ToolFault::Job(fault) => fault.status(),
             ToolFault::Machine(_) | ToolFault::MachineUnreadable => 3,
             ToolFault::SheetUnreadable | ToolFault::Sheet(_) | ToolFault::NoRoom(_) => 4,
+            ToolFault::HistoryUnreadable => 4,
             ToolFault::ImageUnreadable | ToolFault::LongImage(_) => 4,
         }
     }

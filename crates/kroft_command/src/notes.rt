@@ -343,10 +343,14 @@ undecided: ', why, and in which unit.
 With --values each line is written as well, and behind the response of an open load ' ->' and a space
 and a set for each byte: the bytes that it may be with a | between them, or ?? if it may be any.
 With --format json what is found is an object; it doesn't go with --values.
+With --shrink the history is read from that file, twice. If it is refused, a short one is written that
+is refused for the same answer. A comment has the number of each line, and each operation has its bytes
+of one unit alone. Of any other history nothing is written. The status is as without it.
+It goes with neither --values nor --format.
 
 Statuses: 0 the history is one of the law, 1 it isn't (or, with --all-answered, operations are
-open), 2 the command line is wrong, 4 a line is faulty, the image can't be read or a stream failed,
-5 there is too little memory, 6 it can't tell.
+open), 2 the command line is wrong, 4 a line is faulty, a file can't be read or a stream failed, 5
+there is too little memory, 6 it can't tell.
 
 Example:
   $ printf 'load-request 7 0x1000 1\\nload-response 7 5a\\n' | kroft history

@@ -21,6 +21,9 @@ pub(crate) const LOG: &str = "log";
 /// A sheet's file, if what was handed in is graded.
 pub(crate) const SHEET: &str = "sheet";
 
+/// A history's file, if a short one is made of it.
+pub(crate) const SHRINK: &str = "shrink";
+
 /// The name of the option for a figure.
 pub(crate) const SVG: &str = "svg";
 
@@ -321,7 +324,7 @@ pub(crate) static SHOW: [CommandOption; 5] = [
 ];
 
 /// The options of `history`. It knows no shape.
-pub(crate) static HISTORY: [CommandOption; 7] = [
+pub(crate) static HISTORY: [CommandOption; 8] = [
     CommandOption {
         name: "law",
         value_name: "LAW",
@@ -356,6 +359,12 @@ pub(crate) static HISTORY: [CommandOption; 7] = [
         name: "values",
         help: "Write each line, and behind a load's response what it may have returned",
         ..FLAG
+    },
+    CommandOption {
+        name: SHRINK,
+        conflicts: &["values", "format"],
+        help: "Read the history in this file, and if it is refused write a short one that is, for the same answer",
+        ..A_FILE
     },
     VERDICT_FORMAT,
 ];

@@ -2,6 +2,7 @@
 
 ghost use Rattle.std.specs.Prelude.{◌≡◌, ◌≤◌, ℕ, None, Ok, IfOk, IfErr, OnOk, Result, length};
 ghost use Rattle.shape_files.specs.MachineFile.{bad_machine};
+ghost use Rattle.std.specs.String.{string_bytes};
 ghost use Rattle.toml.specs.Parse.{parse_document};
 ghost use Rattle.shape_files.specs.MachineFile.{TextSays};
 ghost use Rattle.shape_files.specs.ShapeFile.{bad_field as bad_shape, text_says};
@@ -12,18 +13,22 @@ ghost use Rattle.kroft_command.specs.Told.{EndsBy};
 ghost use Rattle.kroft_command.specs.Program.{Works, TellsWords, Performs, IsDone};
 ghost use Rattle.kroft_command.specs.Program.{IsMachineOf, IsUnread, ShapeTextFails, MachineTextFails, MachineFails, IsImageOf, ImageFails};
 ghost use Rattle.kroft_command.specs.Program.{GradesByFile, HasRoom, IsSheet, IsSheetFault, LacksRoom, grade_format};
+ghost use Rattle.history_text.specs.Shrinking.{IsShort};
+ghost use Rattle.kroft_command.specs.Program.{HistoryFileFails, ShrinksHistory, history_from, judges_or_shrinks};
 ghost use Rattle.kroft_command.specs.Program.{IsBesideOf, BesideFails, HasRoomBeside, LacksRoomBeside};
 ghost use Rattle.kroft_jobs.specs.Following.{IsGood};
 ghost use Rattle.kroft_jobs.specs.Words.{MAX_LINES};
 
-use crate::command_line::{CommandLine, ImageName, MachineName, Task, read_words};
+use crate::command_line::{CommandLine, HistoryTask, ImageName, MachineName, Task, read_words};
 use crate::fault::{LongImage, ToolFault};
 use crate::figures::draw_timeline;
 use crate::tasks::{
-    answer, check_by, drive, explain, grade_by, grade_or_solve, history, requests, run, show, sweep,
+    answer, check_by, drive, explain, grade_by, grade_or_solve, history, requests, run, show,
+    status_of, sweep,
 };
 use clap::error::ErrorKind;
 use flat_model::Image;
+use history_text::{ShrunkHistory, shrink_by_law};
 use kroft_jobs::{JobFault, Question, read_questions};
 use named_fields::Format;
 use register_sweeps::Sizes;
@@ -116,7 +121,15 @@ fn perform<R: AllocGlobal + Files + Threads + Sync, I: Source, O: Sink, E: Sink>
     match asked.sheet {
         Some(path) => hand_in(rt, path, asked.task, &sizes, &image, input, output),
         None => complete(
-            rt, asked.task, &sizes, &beside, &image, input, output, errors,
+            rt,
+            asked.task,
+            asked.shrink,
+            &sizes,
+            &beside,
+            &image,
+            input,
+            output,
+            errors,
         ),
     }
 }
@@ -177,9 +190,10 @@ fn questions_of(alloc: Global, bytes: &[u8]) -> Result<Vec<Question>, ToolFault>
 
 // Does the task on a machine or a history, over an image.
 #[tactic(auto, unfolding(crate::specs::Program::IsDone))]
-fn complete<R: AllocGlobal + Threads + Sync, I: Source, O: Sink, E: Sink>(
+fn complete<R: AllocGlobal + Files + Threads + Sync, I: Source, O: Sink, E: Sink>(
     rt: &R,
     task: Task,
+    shrink: Option<&str>,
     sizes: &Sizes,
     beside: &Option<Sizes>,
     image: &Image,
@@ -191,7 +205,7 @@ fn complete<R: AllocGlobal + Threads + Sync, I: Source, O: Sink, E: Sink>(
     requires sizes { bad_machine sizes.now ≡ None }
     requires beside { IsGood beside.now }
     ensures few { IfOk result (λ status. status ≤ 6) }
-    ensures ends { IsDone I.gave I.failed O.took O.refused O.unflushed E.took E.refused E.unflushed task sizes.now beside.now
+    ensures ends { IsDone I.gave I.failed O.took O.refused O.unflushed E.took E.refused E.unflushed task shrink.entry sizes.now beside.now
         image.now errors.old errors.new input.old input.new output.old output.new result }
 {
     let alloc = rt.alloc();
@@ -224,7 +238,76 @@ fn complete<R: AllocGlobal + Threads + Sync, I: Source, O: Sink, E: Sink>(
         ),
         Task::Requests { from, words } => requests(alloc, from, words, input, output),
         Task::Show { form } => show(alloc, sizes, image, form, input, output),
-        Task::History(how) => history(alloc, how, image.bytes(), input, output),
+        Task::History(how) => judge_or_shrink(rt, how, shrink, image.bytes(), input, output),
+    }
+}
+
+// Judges a history, or makes a short one of that in a file.
+fn judge_or_shrink<R: AllocGlobal + Files, I: Source, O: Sink>(
+    rt: &R,
+    how: HistoryTask,
+    shrink: Option<&str>,
+    image: &[u8],
+    input: &mut I,
+    output: &mut O,
+) -> Result<u8, ToolFault>
+    ensures few { IfOk result (λ status. status ≤ 6) }
+    ensures ends { judges_or_shrinks I.gave I.failed O.took O.refused O.unflushed shrink.entry how image.now input.old input.new
+        output.old output.new result }
+{
+    match shrink {
+        None => history(rt.alloc(), how, image, input, output),
+        Some(path) => shrink_file(rt, how, path, image, output),
+    }
+}
+
+// Makes a short history of that in a file.
+fn shrink_file<R: AllocGlobal + Files, O: Sink>(
+    rt: &R,
+    how: HistoryTask,
+    path: &str,
+    image: &[u8],
+    output: &mut O,
+) -> Result<u8, ToolFault>
+    ensures few { IfOk result (λ status. status ≤ 6) }
+    ensures ends { ShrinksHistory O.took O.refused O.unflushed how image.now output.old output.new result }
+{
+    let shrunk = shrunk_from(rt, how, path, image)?;
+    answer(output, shrunk.text.as_str(), status_of(how, &shrunk.end))
+}
+
+// What the history in a file is, and a short one of it.
+fn shrunk_from<R: AllocGlobal + Files>(
+    rt: &R,
+    how: HistoryTask,
+    path: &str,
+    image: &[u8],
+) -> Result<ShrunkHistory, ToolFault>
+    ensures short { IfOk result (λ shrunk. IsShort (history_from how image.now) shrunk.end (string_bytes shrunk.text)) }
+    ensures fault { IfErr result HistoryFileFails }
+{
+    let mut reader = history_file(rt, path)?;
+    let mut again = history_file(rt, path)?;
+    Ok(shrink_by_law(
+        rt.alloc(),
+        &mut reader,
+        &mut again,
+        how.law,
+        image,
+        how.rest,
+    )?)
+}
+
+// A file that is read as it is asked for.
+fn history_file<R: AllocGlobal + Files>(rt: &R, path: &str) -> Result<R::File, ToolFault>
+    ensures { IfErr result (IsUnread faults.HistoryUnreadable) }
+{
+    match std::fs::File::open(rt, path) {
+        Ok(file) => Ok(file),
+        Err(error) if error.kind() == io::ErrorKind::OutOfMemory => {
+            Err(ToolFault::Job(JobFault::OutOfMemory))
+        }
+        Err(_) => Err(ToolFault::HistoryUnreadable),
     }
 }
 

@@ -438,7 +438,7 @@ fn put_verdict<O: Sink>(
 }
 
 // The status of its end.
-fn status_of(how: HistoryTask, end: &HistoryEnd) -> u8
+pub(crate) fn status_of(how: HistoryTask, end: &HistoryEnd) -> u8
     ensures status { result ≡ history_status how.all_answered end.now }
     ensures few { result ≤ 6 }
 {

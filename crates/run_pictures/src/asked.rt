@@ -16,7 +16,9 @@ use trace_text::{
 /// An event, with the answer that was recorded.
 #[derive(Clone, Copy, PartialEq, Eq, Debug)]
 pub struct Asked {
+    /// The event.
     pub event: Event,
+    /// What was recorded; a trace has none.
     pub recorded: Option<Answer>,
 }
 
@@ -50,8 +52,9 @@ fn asked_in(pair: Pair) -> Option<Asked>
     }
 }
 
+/// The recorded answer, if it isn't written as the machine's is.
 #[tactic(auto, unfolding(crate::specs::Asked::other_answer))]
-pub(crate) fn other_answer(answer: Answer, recorded: Option<Answer>) -> Option<Answer>
+pub fn other_answer(answer: Answer, recorded: Option<Answer>) -> Option<Answer>
     ensures { result ≡ all.other_answer answer recorded }
 {
     let recorded = recorded?;
@@ -121,7 +124,7 @@ impl Collector for AskedSoFar {
 /// A line that neither [`read_line`] nor [`read_pair`] reads has the trace's fault, or the run's if
 /// it has more than 64 bytes. The text is read to its end, so a faulty line goes before too many
 /// events.
-pub(crate) fn read_asked<R: Source>(
+pub fn read_asked<R: Source>(
     alloc: Global,
     reader: &mut R,
 ) -> Result<Option<Vec<Asked>>, TraceFault>

@@ -3,7 +3,7 @@
 //! - First call: [`show_text`] reads a trace or a recorded run, and applies its events to a machine.
 //!   It draws that before the first and behind each: as a page of HTML, as lines for a terminal, or
 //!   as a waveform ([`Form`]).
-//! - Caller: `kroft_jobs`.
+//! - Caller: `kroft_jobs`, which reads by [`read_asked`] too.
 //!
 //! A picture is a row of [`Place`]s, and [`Shown`] says what stands at each: a register, a word of a
 //! frame, an entry of a queue. All of it is what a machine shows of its state. [`words_by`] says what
@@ -31,6 +31,7 @@ mod signal;
 mod step;
 mod waveform;
 
+pub use asked::{Asked, other_answer, read_asked};
 pub use before::Before;
 pub use cells::shown_at;
 pub use drawing::Form;

@@ -5,6 +5,7 @@ use Rattle.std.proofs.Common.{append-nil, append_assoc, refl, sym, ◌∙◌, ap
 use Rattle.std.specs.List.{flat_map}
 use Rattle.std.proofs.lemmas.Grind.{flat_map-append}
 use Rattle.machine_core.specs.Machine.{MachineState}
+use Rattle.run_pictures.specs.Words.{step_words}
 use Rattle.trace_text.specs.Collecting.{Reads}
 use Rattle.trace_text.specs.Texts.{after_line}
 use Rattle.trace_text.specs.declared.fault.TheConstants.{MAX_PAIR}
